@@ -1,0 +1,99 @@
+-- S-expressions as values, and their canonical text (RFC 9804).
+use Rattle.std.specs.Prelude.{◌≡◌, ℕ, suc, ◌+◌, ◌≤◌, ◌<◌, max, List, [], ◌∷◌, ◌++◌, length, take, map, sum, Option, Some, None, Bool, cond, ◌==◌, slice_get, nat_lt, if◌then◌else◌}
+use Rattle.std.specs.Int.Digits.{digits_of}
+
+mutual
+  -- An octet string, with a display hint or without one (sections 4 and 5), or a list (section 4.7). Octets
+  -- are plain numbers: that each is below 256 is a fact about a text.
+  pub data Value : Type 0 where
+    string : Option (List ℕ) → List ℕ → Value
+    list : Values → Value
+
+  -- the members of a list, in order
+  pub data Values : Type 0 where
+    none : Values
+    more : Value → Values → Values
+
+-- ---- members as a list, and back
+
+abbrev pub members : Values → List Value
+members none = []
+members (more v vs) = v ∷ members vs
+
+abbrev pub values : List Value → Values
+values [] = none
+values (v ∷ vs) = more v (values vs)
+
+-- a string without display hint
+abbrev pub plain : List ℕ → Value
+plain octets = string None octets
+
+-- the list with these members
+abbrev pub group : List Value → Value
+group vs = list (values vs)
+
+-- ---- the canonical text (section 6.1)
+
+-- a number in decimal, with no leading zero; 0 is "0"
+unfoldable pub decimal : ℕ → List ℕ
+decimal n = if n == 0 then 48 ∷ [] else map (λ digit. 48 + digit) (digits_of 10 n)
+
+-- the verbatim form of a string: its length, a colon, its octets
+unfoldable pub verbatim : List ℕ → List ℕ
+verbatim octets = decimal (length octets) ++ 58 ∷ octets
+
+abbrev mutual
+  -- the one canonical text of a value: [ hint ] string, or ( members )
+  pub canon : Value → List ℕ
+  canon (string None octets) = verbatim octets
+  canon (string (Some hint) octets) = 91 ∷ (verbatim hint ++ 93 ∷ verbatim octets)
+  canon (list vs) = 40 ∷ (canons vs ++ 41 ∷ [])
+
+  pub canons : Values → List ℕ
+  canons none = []
+  canons (more v vs) = canon v ++ canons vs
+
+-- ---- measures
+
+abbrev mutual
+  -- how many lists are open at once, at the deepest place
+  pub depth : Value → ℕ
+  depth (string hint octets) = 0
+  depth (list vs) = suc (depths vs)
+
+  pub depths : Values → ℕ
+  depths none = 0
+  depths (more v vs) = max (depth v) (depths vs)
+
+abbrev mutual
+  -- the nodes: the value and its parts, in the order in which they begin in the canonical text. A list stands
+  -- before its members, and a display hint is no node.
+  pub nodes : Value → List Value
+  nodes (string hint octets) = string hint octets ∷ []
+  nodes (list vs) = list vs ∷ nodes_all vs
+
+  pub nodes_all : Values → List Value
+  nodes_all none = []
+  nodes_all (more v vs) = nodes v ++ nodes_all vs
+
+-- node n, from 0
+abbrev pub node : Value → ℕ → Option Value
+node v n = slice_get (nodes v) n
+
+-- how many nodes
+abbrev pub size : Value → ℕ
+size v = length (nodes v)
+
+abbrev pub size_all : List Value → ℕ
+size_all [] = 0
+size_all (v ∷ vs) = size v + size_all vs
+
+-- ---- limits of what is read
+
+abbrev pub IsShallow : Value → Type 0
+IsShallow v = depth v ≤ 64
+
+-- a text of at most 1 MiB, of a value of depth at most 64
+pub record IsWithinLimits (v : Value) : Type 0 where
+  pub short : length (canon v) ≤ 1048576
+  pub shallow : IsShallow v
