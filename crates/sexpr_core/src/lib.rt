@@ -1,5 +1,14 @@
 //! S-expressions (RFC 9804).
 #![tactic(auto)]
 
+mod document;
 pub mod fault;
+mod handle;
 mod layout;
+mod siblings;
+mod tree;
+
+pub use document::{Doc, NodeId};
+pub use handle::{Form, Node};
+pub use siblings::Members;
+pub use tree::{Atom, Sexp};
