@@ -6,3 +6,4 @@ pub mod Places
 pub mod Form
 pub mod FormValue
 pub mod Tree
+pub mod Parts

@@ -5,6 +5,7 @@ mod document;
 pub mod fault;
 mod handle;
 mod layout;
+mod numbers;
 mod siblings;
 mod tree;
 
