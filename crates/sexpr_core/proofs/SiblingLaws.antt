@@ -187,8 +187,7 @@ member_by v n k (list vs) lt e below =
     let at = size_all (take k (members vs)) in
     let whole : nodes v ≡ row ++ (nodes_all vs ++ p.after) = p.parts ∙ sym (append_assoc p.before (list vs ∷ []) (nodes_all vs ++ p.after)) in
     let row_len : n + 1 ≡ length row = omega (arith, length-append p.before (list vs ∷ []), p.begins) in
-    let inside : at < length (nodes_all vs) = omega (arith, length-nodes_all vs, size_all-take-lt (members vs) k below) in
-    (
+    let inside : at < length (nodes_all vs) = omega (arith, length-nodes_all vs, size_all-take-lt (members vs) k below) in (
       omega (arith, ap length whole, length-append row (nodes_all vs ++ p.after), length-append (nodes_all vs) p.after),
       rw (whole, row_len) (get_or-append-add row (nodes_all vs ++ p.after) at (plain [])) ∙ get_or_append_left (nodes_all vs) p.after (plain []) at inside ∙ member_first vs k (plain []) below,
     )

@@ -15,7 +15,7 @@ overflow_add-number-in-loop c =
     let m = member_of c.args.self.now c.args.n c.loop.counter c.requires.known (omega (arith, c.requires.has_it)) in
     let last = member_of c.args.self.now c.args.n (c.loop.counter + 1) c.requires.known (omega (arith, c.requires.has_it)) in
     let step : c.loop.number + c.record-number.result.size ≡ member_number c.args.n (c.loop.counter + 1) (node_at c.args.self.now c.args.n) =
-        rw (c.loop.invariant, size_is _ _ _ c.record-number.ensures.place, c.loop.invariant) (sym m.next) in
+    rw (c.loop.invariant, size_is _ _ _ c.record-number.ensures.place, c.loop.invariant) (sym m.next) in
     omega (arith, last.within, c.record-number.ensures.countable)
 
 pub loop-preserved : goal.loop-preserved
