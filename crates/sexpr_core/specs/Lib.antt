@@ -1,2 +1,3 @@
 pub mod Value
 pub mod Layout
+pub mod Prefix
