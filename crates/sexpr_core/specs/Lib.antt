@@ -1,3 +1,4 @@
 pub mod Value
 pub mod Layout
 pub mod Prefix
+pub mod Texts
