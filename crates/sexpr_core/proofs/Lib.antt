@@ -1,3 +1,4 @@
 pub mod Prefix
 pub mod Decimal
 pub mod Texts
+pub mod Faults

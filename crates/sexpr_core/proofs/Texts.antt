@@ -1,6 +1,6 @@
 -- No canonical text is a prefix of another's, and what follows from that for each sort of text.
 use Rattle.std.proofs.Common.{◌≡◌, ℕ, suc, ◌+◌, ◌<◌, ◌≤◌, max, List, [], ◌∷◌, ◌++◌, length, Option, Some, None, refl, sym, ◌∙◌, ap, subst, arith, append_assoc, length-append, replicate}
-use Rattle.std.proofs.lemmas.List.{length-replicate}
+use Rattle.std.proofs.lemmas.List.{length-replicate, append-nil}
 use Rattle.std.proofs.lemmas.List.{append_cancel_left}
 use Rattle.sexpr_core.specs.Value.{Value, Values, string, list, none, more, decimal, verbatim, canon, canons, depth, depths}
 use Rattle.sexpr_core.specs.Prefix.{Begins}
@@ -14,7 +14,7 @@ pub verbatim_is : (octets : List ℕ) → verbatim octets ≡ decimal (length oc
 unfolding verbatim
 verbatim_is octets = refl
 
-colon_no_digit : IsDigit 58 → ⊥
+pub colon_no_digit : IsDigit 58 → ⊥
 colon_no_digit h = omega (arith, h.1)
 
 -- what a verbatim string begins with is a digit
@@ -115,9 +115,6 @@ mutual
       (ap (λ k. more k vs) p.0 ∙ ap (more w) r.0, r.1)
 
 -- ---- strings
-
-pub hinted_octets : IsHinted ((verbatim [] ++ 93 ∷ verbatim []))
-hinted_octets = record { hint = []; octets = []; is = refl }
 
 verbatim_text : (octets : List ℕ) → IsVerbatim (verbatim octets)
 verbatim_text octets = record { octets = octets; is = refl }
@@ -353,4 +350,74 @@ closed_within t x y is e =
     let h : suc (depths p.0) ≤ 0 = subst (λ k. depth k ≤ 0) p.1 is.fits in
     omega arith
 
--- ---- a member, where none of its octets is a closing parenthesis
+-- ---- members, where the next octet is no closing parenthesis
+
+filled_back : (vs : Values) (t x y : List ℕ) (c : ℕ) → (c ≡ 41 → ⊥) → t ≡ canons vs ++ 41 ∷ [] → c ∷ x ≡ t ++ y → (v : Value) × (ws : Values) × (vs ≡ more v ws)
+filled_back none t x y c h is e =
+    let q : c ∷ x ≡ 41 ∷ y = e ∙ ap (λ s. s ++ y) is in
+    absurd (h cc)
+filled_back (more v ws) t x y c h is e = (v, ws, refl)
+
+pub From-filled : (c : ℕ) → (c ≡ 41 → ⊥) → From c IsMembers IsFilled
+From-filled c h = record {
+  on = λ t is. record { items = more is.first is.others; is = is.is };
+  back = λ t x y is e.
+    let p = filled_back is.items t x y c h is.is e in
+    record { first = p.0; others = p.1; is = is.is ∙ ap (λ k. canons k ++ 41 ∷ []) p.2 }
+}
+
+pub From-filled_within : (room c : ℕ) → (c ≡ 41 → ⊥) → From c (IsMembersWithin room) (IsFilledWithin room)
+From-filled_within room c h = record {
+  on = λ t is. record { items = more is.first is.others; fits = is.fits; is = is.is };
+  back = λ t x y is e.
+    let p = filled_back is.items t x y c h is.is e in
+    record {
+      first = p.0;
+      others = p.1;
+      fits = subst (λ k. depths k ≤ room) p.2 is.fits;
+      is = is.is ∙ ap (λ k. canons k ++ 41 ∷ []) p.2
+    }
+}
+
+one_member : (v : Value) (a : List ℕ) → a ≡ canon v → a ++ 41 ∷ [] ≡ canons (more v none) ++ 41 ∷ []
+one_member v a is = ap (λ t. t ++ 41 ∷ []) (is ∙ sym (append-nil (canon v)))
+
+first_member : (v : Value) (vs : Values) (t : List ℕ) → t ≡ canons (more v vs) ++ 41 ∷ [] → t ≡ canon v ++ (canons vs ++ 41 ∷ [])
+first_member v vs t is = is ∙ append_assoc (canon v) (canons vs) (41 ∷ [])
+
+pub Opens-filled : Opens IsFilled IsCanon
+Opens-filled = record {
+  on = λ a is. record {
+    rest = 41 ∷ [];
+    whole = record { first = is.value; others = none; is = one_member is.value a is.is }
+  };
+  back = λ t is. record {
+    first = canon is.first;
+    rest = canons is.others ++ 41 ∷ [];
+    is = record { value = is.first; is = refl };
+    whole = first_member is.first is.others t is.is
+  }
+}
+
+pub Opens-filled_within : (room : ℕ) → Opens (IsFilledWithin room) (IsCanonWithin room)
+Opens-filled_within room = record {
+  on = λ a is. record {
+    rest = 41 ∷ [];
+    whole = record {
+      first = is.value;
+      others = none;
+      fits = let h : depth is.value ≤ room = is.fits in omega arith;
+      is = one_member is.value a is.is
+    }
+  };
+  back = λ t is. record {
+    first = canon is.first;
+    rest = canons is.others ++ 41 ∷ [];
+    is = record {
+      value = is.first;
+      fits = let h : max (depth is.first) (depths is.others) ≤ room = is.fits in omega arith;
+      is = refl
+    };
+    whole = first_member is.first is.others t is.is
+  }
+}
