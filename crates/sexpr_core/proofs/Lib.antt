@@ -2,3 +2,4 @@ pub mod Prefix
 pub mod Decimal
 pub mod Texts
 pub mod Faults
+pub mod Steps

@@ -2,3 +2,4 @@ pub mod Value
 pub mod Layout
 pub mod Prefix
 pub mod Texts
+pub mod Reading

@@ -3,3 +3,4 @@
 
 pub mod fault;
 mod layout;
+mod parser;
