@@ -1,9 +1,9 @@
 //! The reader of canonical form (RFC 9804, section 6.1).
 
-ghost use Rattle.std.specs.Prelude.{◌≡◌, ℕ, ◌+◌, ◌<◌, ◌≤◌, [], ◌∷◌, length, drop, MatchOption, MatchResult};
+ghost use Rattle.std.specs.Prelude.{◌≡◌, ℕ, ◌+◌, ◌<◌, ◌≤◌, ◌≢◌, [], ◌∷◌, length, drop, MatchOption, MatchResult};
 ghost use Rattle.sexpr_core.specs.Prefix.{FaultAt};
-ghost use Rattle.sexpr_core.specs.Texts.{IsLength, IsVerbatim, IsClosing, IsHinted};
-ghost use Rattle.sexpr_core.specs.Reading.{StandsAt, ReadsLength, ReadsVerbatim, ReadsString};
+ghost use Rattle.sexpr_core.specs.Texts.{IsCanon, IsCanonWithin, IsMembers, IsMembersWithin, IsLength, IsVerbatim, IsClosing};
+ghost use Rattle.sexpr_core.specs.Reading.{StandsAt, ReadsLength, ReadsVerbatim, ReadsString, ReadsValue, ReadsMembers};
 
 use crate::fault::FormFault;
 use crate::layout::{Record, Shape};
@@ -25,6 +25,13 @@ struct Length {
 #[derive(Clone, Copy)]
 struct Piece {
     body: usize,
+    end: usize,
+}
+
+/// How many members a list has, and where its closing parenthesis has ended.
+#[derive(Clone, Copy)]
+struct Members {
+    parts: usize,
     end: usize,
 }
 
@@ -89,4 +96,116 @@ fn read_verbatim(text: &[u8], at: usize) -> Result<Piece, FormFault>
         return Err(FormFault::Short);
     }
     Ok(Piece { body: read.end, end: read.end + read.number })
+}
+
+/// The closing bracket of a hint and the string behind it.
+fn read_closing(text: &[u8], at: usize) -> Result<Piece, FormFault>
+    requires short { length text.now ≤ 1048576 }
+    requires begins { at ≤ length text.now }
+    ensures { MatchResult result
+        (λ read. StandsAt text.now at 93 × ReadsVerbatim text.now (at + 1) read.body read.end)
+        (λ fault. FaultAt IsClosing IsClosing at (drop at text.now) fault) }
+{
+    let Some(octet) = octet_at(text, at) else {
+        return Err(FormFault::Short);
+    };
+    if octet != b']' {
+        return Err(FormFault::Bad(at));
+    }
+    let read = read_verbatim(text, at + 1)?;
+    Ok(read)
+}
+
+/// A string with a hint, from its opening bracket on.
+fn read_hinted(text: &[u8], at: usize) -> Result<Record, FormFault>
+    requires short { length text.now ≤ 1048576 }
+    requires begins { StandsAt text.now at 91 }
+    ensures { MatchResult result
+        (λ read. ReadsString text.now at read)
+        (λ fault. (room : ℕ) → FaultAt IsCanon (IsCanonWithin room) at (drop at text.now) fault) }
+{
+    let hint = read_verbatim(text, at + 1)?;
+    let string = read_closing(text, hint.end)?;
+    let shape = Shape::Hinted { hint: hint.body, hint_end: hint.end, body: string.body };
+    Ok(Record { start: at, end: string.end, size: 1, shape })
+}
+
+/// A string, of whose text the first octet is known.
+fn read_string(text: &[u8], at: usize, octet: u8) -> Result<Record, FormFault>
+    requires short { length text.now ≤ 1048576 }
+    requires begins { StandsAt text.now at octet }
+    requires no_list { octet ≢ 40 }
+    ensures { MatchResult result
+        (λ read. ReadsString text.now at read)
+        (λ fault. (room : ℕ) → FaultAt IsCanon (IsCanonWithin room) at (drop at text.now) fault) }
+{
+    if octet == b'[' {
+        return read_hinted(text, at);
+    }
+    if octet < b'0' || octet > b'9' {
+        return Err(FormFault::Bad(at));
+    }
+    let read = read_verbatim(text, at)?;
+    Ok(Record { start: at, end: read.end, size: 1, shape: Shape::Plain { body: read.body } })
+}
+
+/// A value, whose records go behind those of the nodes before it. At most `room` lists may open in it.
+#[cycle(reading)]
+fn read_value(text: &[u8], at: usize, room: usize, nodes: &mut Vec<Record>) -> Result<usize, FormFault>
+    requires short { length text.now ≤ 1048576 }
+    requires begins { at ≤ length text.now }
+    ensures { MatchResult result
+        (λ to. ReadsValue room text.now at to nodes.old.items nodes.new.items)
+        (λ fault. FaultAt IsCanon (IsCanonWithin room) at (drop at text.now) fault) }
+{
+    let Some(octet) = octet_at(text, at) else {
+        return Err(FormFault::Short);
+    };
+    if octet == b'(' {
+        return read_list(text, at, room, nodes);
+    }
+    let read = read_string(text, at, octet)?;
+    nodes.push(read)?;
+    Ok(read.end)
+}
+
+/// A list, from its opening parenthesis on.
+#[cycle(reading)]
+fn read_list(text: &[u8], at: usize, room: usize, nodes: &mut Vec<Record>) -> Result<usize, FormFault>
+    requires short { length text.now ≤ 1048576 }
+    requires begins { StandsAt text.now at 40 }
+    ensures { MatchResult result
+        (λ to. ReadsValue room text.now at to nodes.old.items nodes.new.items)
+        (λ fault. FaultAt IsCanon (IsCanonWithin room) at (drop at text.now) fault) }
+{
+    if room == 0 {
+        return Err(FormFault::TooDeep);
+    }
+    let index = nodes.len();
+    nodes.push(Record { start: at, end: at, size: 1, shape: Shape::List { parts: 0 } })?;
+    let read = read_members(text, at + 1, room - 1, nodes)?;
+    let size = nodes.len() - index;
+    nodes[index] = Record { start: at, end: read.end, size, shape: Shape::List { parts: read.parts } };
+    Ok(read.end)
+}
+
+/// The members of a list and its closing parenthesis.
+#[cycle(reading)]
+fn read_members(text: &[u8], at: usize, room: usize, nodes: &mut Vec<Record>) -> Result<Members, FormFault>
+    requires short { length text.now ≤ 1048576 }
+    requires begins { at ≤ length text.now }
+    ensures { MatchResult result
+        (λ read. ReadsMembers room text.now at read.parts read.end nodes.old.items nodes.new.items)
+        (λ fault. FaultAt IsMembers (IsMembersWithin room) at (drop at text.now) fault) }
+{
+    let mut parts = 0;
+    let mut i = at;
+    while let Some(octet) = octet_at(text, i) {
+        if octet == b')' {
+            return Ok(Members { parts, end: i + 1 });
+        }
+        i = read_value(text, i, room, nodes)?;
+        parts += 1;
+    }
+    Err(FormFault::Short)
 }
