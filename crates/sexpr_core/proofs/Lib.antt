@@ -3,3 +3,4 @@ pub mod Decimal
 pub mod Texts
 pub mod Faults
 pub mod Steps
+pub mod Whole

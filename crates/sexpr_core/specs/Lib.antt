@@ -3,3 +3,4 @@ pub mod Layout
 pub mod Prefix
 pub mod Texts
 pub mod Reading
+pub mod Refusal

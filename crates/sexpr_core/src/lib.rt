@@ -2,5 +2,6 @@
 #![tactic(auto)]
 
 pub mod fault;
+pub mod laws;
 mod layout;
 mod parser;

@@ -1,9 +1,14 @@
 //! The reader of canonical form (RFC 9804, section 6.1).
 
-ghost use Rattle.std.specs.Prelude.{◌≡◌, ℕ, ◌+◌, ◌<◌, ◌≤◌, ◌≢◌, [], ◌∷◌, length, drop, MatchOption, MatchResult};
+ghost use Rattle.std.specs.Prelude.{◌≡◌, ℕ, ◌+◌, ◌<◌, ◌≤◌, ◌≢◌, ◌↔◌, [], ◌∷◌, length, drop, MatchOption, MatchResult, IfOk, IfErr, IsErrOf, IsOkUnless};
+ghost use Rattle.sexpr_core.specs.Value.{Value, canon, IsWithinLimits};
+ghost use Rattle.sexpr_core.specs.Layout.{records};
+ghost use Rattle.sexpr_core.specs.Refusal.{Refused};
 ghost use Rattle.sexpr_core.specs.Prefix.{FaultAt};
 ghost use Rattle.sexpr_core.specs.Texts.{IsCanon, IsCanonWithin, IsMembers, IsMembersWithin, IsLength, IsVerbatim, IsClosing};
 ghost use Rattle.sexpr_core.specs.Reading.{StandsAt, ReadsLength, ReadsVerbatim, ReadsString, ReadsValue, ReadsMembers};
+
+use std::alloc::Global;
 
 use crate::fault::FormFault;
 use crate::layout::{Record, Shape};
@@ -208,4 +213,23 @@ fn read_members(text: &[u8], at: usize, room: usize, nodes: &mut Vec<Record>) ->
         parts += 1;
     }
     Err(FormFault::Short)
+}
+
+/// Reads a text that is one value in canonical form, and gives the records of its nodes in order.
+pub(crate) fn parse(alloc: Global, text: &[u8]) -> Result<Vec<Record>, FormFault>
+    ensures read { IfOk result (λ nodes.
+        (v : Value) × IsWithinLimits v × (text.now ≡ canon v) × (nodes.items ≡ records 0 v)) }
+    ensures only { (v : Value) → IsWithinLimits v → text.now ≡ canon v → IsOkUnless result FormFault.Memory }
+    ensures too_long { IsErrOf result FormFault.TooLong ↔ (1048576 < length text.now) }
+    ensures refused { IfErr result (λ fault. Refused text.now fault) }
+{
+    if text.len() > MOST_OCTETS {
+        return Err(FormFault::TooLong);
+    }
+    let mut nodes = Vec::new(alloc);
+    let end = read_value(text, 0, MOST_LISTS, &mut nodes)?;
+    if end < text.len() {
+        return Err(FormFault::Trailing(end));
+    }
+    Ok(nodes)
 }
