@@ -1,0 +1,4 @@
+//! The guard: what `spki` does with the octets that it reads.
+#![tactic(auto)]
+
+pub mod metered;
