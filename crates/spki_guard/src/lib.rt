@@ -2,3 +2,4 @@
 #![tactic(auto)]
 
 pub mod metered;
+pub mod reading;
