@@ -3,3 +3,4 @@
 
 pub mod metered;
 pub mod reading;
+pub mod writing;
