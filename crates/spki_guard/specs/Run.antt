@@ -30,3 +30,11 @@ pub record IsCutOff {W : Type 0} (contents : W → Option (List ℕ)) (old new :
   pub front : SendsFront (contents (inner_of old)) (contents (inner_of new)) output rest
   pub faulty : IsFaulty new (length output + 2097152)
   pub asks : new.asks ≤ length output + 2097152
+
+-- the exit status
+abbrev pub code_of : Status → ℕ
+code_of status.Done = 0
+code_of status.No = 1
+code_of status.Refused = 2
+code_of status.ReadFault = 3
+code_of status.WriteFault = 3

@@ -40,6 +40,20 @@ impl<T> Metered<T> {
         }
     }
 
+    /// Begins to count anew.
+    pub fn restart(&mut self)
+        ensures asks { self.new.asks ≡ 0 }
+        ensures faults { self.new.faults ≡ 0 }
+        ensures ended { self.new.ended ≡ false }
+        ensures flushed { self.new.flushed ≡ false }
+        ensures inner { inner_of self.new ≡ inner_of self.old }
+    {
+        self.asks = 0;
+        self.faults = 0;
+        self.ended = false;
+        self.flushed = false;
+    }
+
     /// The reader or the writer inside.
     pub fn into_inner(self) -> T
         ensures { result ≡ inner_of self }
