@@ -1,5 +1,5 @@
 //! What is replied to what a reader gives.
-ghost use Rattle.std.specs.Prelude.{◌≡◌, ◌<◌, ◌≤◌, ◌⊎◌, max, IfNone, IfSome};
+ghost use Rattle.std.specs.Prelude.{◌≡◌, ◌<◌, ◌≤◌, ◌⊎◌, max, IfNone, IfSome, OnSome};
 ghost use Rattle.spki_guard.specs.Metered.{inner_of};
 ghost use Rattle.spki_guard.specs.Reply.{IsReply, verdict_of, octets_of};
 
@@ -51,6 +51,7 @@ pub(crate) fn reply_to<R: Read>(
 ) -> Option<Reply>
     ensures asks { reader.new.asks ≤ max reader.old.asks READER_ASKS }
     ensures fault { IfNone result ((0 < reader.new.faults) ⊎ (READER_ASKS ≤ reader.new.asks)) }
+    ensures no_fault { OnSome result (reader.new.faults ≡ reader.old.faults) }
     ensures reply { IfSome result (λ reply. IsReply command (R.remaining (inner_of reader.old)) reader.new.ended
         (verdict_of reply) (octets_of reply)) }
 {

@@ -1,5 +1,5 @@
 //! A command from the octets that are read to those that are written.
-ghost use Rattle.std.specs.Prelude.{◌≡◌, ℕ, ◌+◌, ◌≤◌, List, length, IsTrue};
+ghost use Rattle.std.specs.Prelude.{◌≡◌, ℕ, ◌≤◌, ◌⊎◌, List, IsTrue};
 ghost use Rattle.std.specs.Io.KnownBytes.{Keeps};
 ghost use Rattle.spki_guard.specs.declared.answer.Verdict.{Verdict};
 ghost use Rattle.spki_guard.specs.Metered.{inner_of};
@@ -65,7 +65,11 @@ pub fn run<R: Read, W: Write>(
     writer: &mut Metered<W>,
 ) -> Status
     ensures reader_asks { reader.new.asks ≤ READER_ASKS }
+    ensures ended_at_done { result ≡ Status.Done → IsTrue reader.new.ended }
+    ensures ended_at_no { result ≡ Status.No → IsTrue reader.new.ended }
     ensures read_fault { result ≡ Status.ReadFault → IsFaulty reader.new READER_ASKS }
+    ensures no_read_fault { (result ≡ Status.ReadFault) ⊎ (reader.new.faults ≡ 0) }
+    ensures no_write_fault { (result ≡ Status.WriteFault) ⊎ (writer.new.faults ≡ 0) }
     ensures unwritten { result ≡ Status.ReadFault → (writer.new.asks ≡ 0)
         × Keeps (W.contents (inner_of writer.old)) (W.contents (inner_of writer.new)) }
 
@@ -91,6 +95,7 @@ fn send<W: Write>(writer: &mut Metered<W>, reply: &Reply) -> Status
     ensures read_fault { result ≡ Status.ReadFault → ⊥ }
     ensures written { (verdict : Verdict) → result ≡ status_of verdict → (verdict ≡ verdict_of reply.now)
         × IsWritten W.contents writer.old writer.new (octets_of reply.now) }
+    ensures no_fault { (result ≡ Status.WriteFault) ⊎ (writer.new.faults ≡ writer.old.faults) }
     ensures write_fault { result ≡ Status.WriteFault
         → IsCutOff W.contents writer.old writer.new (octets_of reply.now) }
 {
