@@ -1,15 +1,13 @@
 -- What is replied to what a reader gives.
-use Rattle.std.specs.Prelude.{◌≡◌, ℕ, ◌<◌, ◌≤◌, ◌⊎◌, List, length, Option, IfSome, Bool, IsTrue, codes}
+use Rattle.std.specs.Prelude.{◌≡◌, ℕ, ◌<◌, ◌≤◌, ◌⊎◌, List, length, Option, IfSome, Bool, IsTrue}
 use Rattle.spki_guard.specs.declared.command.Command.{Command}
 use Rattle.spki_guard.specs.declared.answer.Verdict.{Verdict}
 use Rattle.spki_guard.specs.declared.answer.Verdict.TheVariants.{Refused}
 use Rattle.spki_guard.specs.declared.reply.Reply.{Reply}
 use Rattle.spki_guard.specs.declared.reply.Reply.TheVariants.{Answered, TooLong, Memory}
-use Rattle.spki_guard.specs.Lines.{refused_part, refused_memory}
+use Rattle.sexpr_core.specs.declared.fault.FormFault.TheVariants as form
+use Rattle.spki_guard.specs.Lines.{refused_form, refused_memory}
 use Rattle.spki_guard.specs.Answer.{IsAnswer}
-
-abbrev pub refused_too_long : List ℕ
-refused_too_long = refused_part (codes "form") (codes "TooLong")
 
 -- The text came to its end, and this is the answer to it. Known is what the reader had, where it tells that.
 pub record AnswersText (command : Command) (known : Option (List ℕ)) (ended : Bool) (verdict : Verdict) (output : List ℕ) : Type 0 where
@@ -23,7 +21,7 @@ pub record AnswersText (command : Command) (known : Option (List ℕ)) (ended : 
 pub record RefusesLong (known : Option (List ℕ)) (verdict : Verdict) (output : List ℕ) : Type 0 where
   pub long : IfSome known (λ octets. 1048576 < length octets)
   pub refused : verdict ≡ Refused
-  pub line : output ≡ refused_too_long
+  pub line : output ≡ refused_form form.TooLong
 
 -- memory ran out
 pub record RefusesForMemory (verdict : Verdict) (output : List ℕ) : Type 0 where
@@ -45,5 +43,5 @@ verdict_of Memory = Refused
 
 abbrev pub octets_of : Reply → List ℕ
 octets_of (Answered answer) = answer.output.items
-octets_of TooLong = refused_too_long
+octets_of TooLong = refused_form form.TooLong
 octets_of Memory = refused_memory

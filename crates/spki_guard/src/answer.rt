@@ -3,7 +3,8 @@ ghost use Rattle.std.specs.Prelude.{◌≡◌, IfOk};
 ghost use Rattle.spki_guard.specs.Answer.{IsAnswer};
 
 use crate::command::Command;
-use crate::lines::push_refused_part;
+use crate::lines::push_refused_form;
+use sexpr_core::fault::FormFault;
 use std::alloc::{AllocError, Global};
 
 /// What was found out.
@@ -32,7 +33,7 @@ pub fn answer_text(alloc: Global, command: Command, text: &[u8]) -> Result<Answe
     let Command::Check = command;
     let _whole = text;
     let mut output = Vec::new(alloc);
-    push_refused_part(alloc, &mut output, "form", "Short")?;
+    push_refused_form(alloc, &mut output, FormFault::Short)?;
     Ok(Answer {
         verdict: Verdict::Refused,
         output,
