@@ -1,8 +1,8 @@
 //! Tags without members (RFC 2693, section 6.3.1).
 
-ghost use Rattle.std.specs.Prelude.{◌≡◌, IfOk};
+ghost use Rattle.std.specs.Prelude.{◌≡◌, ℕ, List, IfOk};
 ghost use Rattle.spki_tag.specs.Leaves.{ordering_of, limit_of, leaf_tag};
-ghost use Rattle.spki_tag.specs.Request.{string};
+ghost use Rattle.spki_tag.specs.Request.{Requests, string, list};
 ghost use Rattle.spki_tag.specs.Tag.{contains, is_ordered, is_within, is_above, is_below};
 
 use crate::moment::{is_date, is_time};
@@ -103,6 +103,18 @@ impl Leaf {
             Leaf::Range(ordering, low, up) => {
                 is_ordered(*ordering, octets) && is_above(low, octets) && is_below(up, octets)
             }
+        }
+    }
+
+    /// Whether a request that is a list is in the tag.
+    pub(crate) fn holds_lists(&self) -> bool
+        ensures { (head : List ℕ) (further : Requests) → result ≡ contains (leaf_tag self.now) (list head further) }
+    {
+        match self {
+            Leaf::Star => true,
+            Leaf::String(_) => false,
+            Leaf::Prefix(_) => false,
+            Leaf::Range(_, _, _) => false,
         }
     }
 
