@@ -1,14 +1,15 @@
 -- Which tags are written as a value.
-use Rattle.std.proofs.Common.{◌≡◌, ℕ, ◌+◌, ◌≤◌, ◌<◌, true, false, List, [], ◌∷◌, ◌++◌, map, Option, Some, refl, sym, ap, ◌∙◌, subst, arith}
+use Rattle.std.proofs.Common.{◌≡◌, ℕ, ◌+◌, ◌≤◌, ◌<◌, true, false, List, [], ◌∷◌, ◌++◌, map, Option, Some, refl, sym, ap, ◌∙◌, subst, arith, append_assoc}
 use Rattle.std.specs.Prelude.{codes}
-use Rattle.std.proofs.lemmas.List.{map_push}
+use Rattle.std.proofs.lemmas.List.{map_push, append-nil}
 use Rattle.sexpr_core.specs.Value as value
-use Rattle.sexpr_core.specs.Value.{Value, Values, plain, values}
+use Rattle.sexpr_core.specs.Value.{Value, Values, plain, values, group}
 use Rattle.spki_tag.specs.declared.fault.TagFault.{TagFault}
 use Rattle.spki_tag.specs.declared.fault.TagFault.TheVariants as faults
 use Rattle.spki_tag.specs.Request.{IsHead}
+use Rattle.spki_tag.proofs.Weight.{weight, weights, weight_le-weights}
 use Rattle.spki_tag.specs.Tag.{Tag, Tags, tags, star, string, prefix, range, list, set, none, more, IsTag, AreTags, tag_value, tag_values, nodes, nodes_all, is_normal, each_normal, is_nothing, IsNormalTag}
-use Rattle.spki_tag.specs.Read.{IsPlain, ArePlain, RulesOut, ReadsAs, IsNoTagAfter, AreNoTagsAfter, IsRead, AreRead, most_read}
+use Rattle.spki_tag.specs.Read.{IsPlain, ArePlain, RulesOut, ReadsAs, IsNoTagAfter, AreNoTagsAfter, IsRead, AreRead, IsNoHead, IsHinted, most_read}
 
 -- ---- the forms
 
@@ -255,3 +256,97 @@ memory_refused fault used v e w k few spelled r = subst (λ f. RulesOut f (IsPla
 
 pub memory_refused_all : (fault : TagFault) (used : ℕ) (vs : List Value) → fault ≡ faults.Memory → AreNoTagsAfter used fault vs
 memory_refused_all fault used vs e ws k few spelled r = subst (λ f. RulesOut f (ArePlain ws)) e r
+
+-- ---- what is behind the star
+
+pub starred_hinted : (used : ℕ) (v : Value) (further vs : List Value) → further ≡ v ∷ vs → IsHinted v → IsNoTagAfter used faults.Hint (group (plain (codes "*") ∷ further))
+starred_hinted used v further vs e h =
+    subst (λ us. IsNoTagAfter used faults.Hint (group (plain (codes "*") ∷ us))) (sym e)
+    (subst (λ x. IsNoTagAfter used faults.Hint (group (plain (codes "*") ∷ x ∷ vs))) (sym h.2) (hinted_form_refused used h.0 h.1 (values vs)))
+
+pub starred_other : (used : ℕ) (v : Value) (further vs : List Value) → further ≡ v ∷ vs → IsNoTagAfter used faults.UnknownStar (group (plain (codes "*") ∷ further))
+starred_other used v further vs e =
+    subst (λ us. IsNoTagAfter used faults.UnknownStar (group (plain (codes "*") ∷ us))) (sym e) (form_refused used v (values vs))
+
+-- ---- heads
+
+pub no_head_refused : (used : ℕ) (fault : TagFault) (v : Value) (vs : List Value) → IsNoHead fault v → IsNoTagAfter used fault (group (v ∷ vs))
+no_head_refused used faults.ListHead v vs h = subst (λ x. IsNoTagAfter used faults.ListHead (group (x ∷ vs))) (sym h.1) (headed_refused used h.0 (values vs))
+no_head_refused used faults.Hint v vs h = subst (λ x. IsNoTagAfter used faults.Hint (group (x ∷ vs))) (sym h.2) (hinted_head_refused used h.0 h.1 (values vs))
+no_head_refused used faults.EmptyList v vs h = absurd h
+no_head_refused used faults.UnknownStar v vs h = absurd h
+no_head_refused used faults.RangeOrdering v vs h = absurd h
+no_head_refused used faults.RangeLimit v vs h = absurd h
+no_head_refused used faults.TooManyNodes v vs h = absurd h
+no_head_refused used faults.StarInRequest v vs h = absurd h
+no_head_refused used faults.Memory v vs h = absurd h
+
+-- ---- the loop over the members
+
+-- the members so far were read as plain tags, and these are left
+pub record IsReadSoFar (used : ℕ) (vs : List Value) (ts : List Tag) (counted : ℕ) (left : List Value) : Type 0 where
+  pub plain : ArePlain (tags ts)
+  pub written : AreTags (tags ts)
+  pub spelled : map tag_value ts ++ left ≡ vs
+  pub sum : counted ≡ used + nodes_all (tags ts)
+  pub few : counted ≤ most_read
+
+pub so_far_start : (used : ℕ) (vs : List Value) → used ≤ most_read → IsReadSoFar used vs [] used vs
+so_far_start used vs few = record { plain = tt; written = tt; spelled = refl; sum = omega arith; few = few }
+
+pub so_far_push : (used counted after : ℕ) (vs left further : List Value) (ts : List Tag) (v : Value) (t : Tag) → IsReadSoFar used vs ts counted left → left ≡ v ∷ further → IsRead counted v t after
+    → IsReadSoFar used vs (ts ++ t ∷ []) after further
+so_far_push used counted after vs left further ts v t so_far e r = record {
+  plain = ArePlain-push ts t so_far.plain r.plain;
+  written = AreTags-push ts t so_far.written r.written;
+  spelled =
+      ap (λ (us : List Value). us ++ further) (map_push tag_value ts t) ∙ append_assoc (map tag_value ts) (tag_value t ∷ []) further
+      ∙ ap (λ (x : Value). map tag_value ts ++ x ∷ further) r.spelled ∙ ap (λ (us : List Value). map tag_value ts ++ us) (sym e) ∙ so_far.spelled;
+  sum = omega (arith, r.counted, so_far.sum, nodes_all-push ts t);
+  few = r.few;
+}
+
+pub so_far_end : (used counted : ℕ) (vs left : List Value) (ts : List Tag) → IsReadSoFar used vs ts counted left → left ≡ [] → AreRead used vs ts counted
+so_far_end used counted vs left ts so_far e = record {
+  plain = so_far.plain;
+  written = so_far.written;
+  spelled = sym (append-nil (map tag_value ts)) ∙ ap (λ (us : List Value). map tag_value ts ++ us) (sym e) ∙ so_far.spelled;
+  counted = so_far.sum;
+  few = so_far.few;
+}
+
+pub so_far_refused : (fault : TagFault) (used counted : ℕ) (vs left further : List Value) (ts : List Tag) (v : Value) → IsReadSoFar used vs ts counted left → left ≡ v ∷ further → IsNoTagAfter counted fault v
+    → AreNoTagsAfter used fault vs
+so_far_refused fault used counted vs left further ts v so_far e refused =
+    subst (AreNoTagsAfter used fault) (ap (λ (us : List Value). map tag_value ts ++ us) (sym e) ∙ so_far.spelled)
+    (member_refused fault used counted ts v further so_far.plain so_far.written so_far.sum refused)
+
+-- a list of members that were read
+pub list_is_read : (used after : ℕ) (head : List ℕ) (vs : List Value) (ts : List Tag) → IsHead head → AreRead (used + 2) vs ts after → IsRead used (group (plain head ∷ vs)) (list head (tags ts)) after
+list_is_read used after head vs ts h r = record {
+  plain = r.plain;
+  written = (h, r.written);
+  spelled = ap (λ us. value.list (value.more (plain head) us)) (tag_values-tags ts ∙ ap values r.spelled);
+  counted = omega (arith, r.counted);
+  few = r.few;
+}
+
+pub list_is_in_normal_form : (used after : ℕ) (head : List ℕ) (vs : List Value) (ts : List Tag) → IsHead head → AreRead (used + 2) vs ts after → IsNormalTag (list head (tags ts))
+list_is_in_normal_form used after head vs ts h r = list_is_normal head ts h r.plain r.written (omega (arith, r.counted, r.few))
+
+pub string_is_read : (used : ℕ) (octets : List ℕ) → used < most_read → IsRead used (plain octets) (string octets) (used + 1)
+string_is_read used octets room = record { plain = tt; written = tt; spelled = refl; counted = refl; few = omega arith }
+
+pub star_is_read : (used : ℕ) (further : List Value) → used < most_read → further ≡ [] → IsRead used (group (plain (codes "*") ∷ further)) star (used + 1)
+star_is_read used further room e = record { plain = tt; written = tt; spelled = ap (λ us. group (plain (codes "*") ∷ us)) (sym e); counted = refl; few = omega arith }
+
+pub list_no_head : (used : ℕ) (fault : TagFault) (members : List Value) (v : Value) (vs : List Value) → members ≡ v ∷ vs → IsNoHead fault v → IsNoTagAfter used fault (group members)
+list_no_head used fault members v vs e h = subst (λ us. IsNoTagAfter used fault (group us)) (sym e) (no_head_refused used fault v vs h)
+
+pub list_empty : (used : ℕ) (members : List Value) → members ≡ [] → IsNoTagAfter used faults.EmptyList (group members)
+list_empty used members e = subst (λ us. IsNoTagAfter used faults.EmptyList (group us)) (sym e) (empty_refused used)
+
+-- a member that is left weighs no more than all
+pub so_far_weight : (used counted : ℕ) (vs left further : List Value) (ts : List Tag) (v : Value) → IsReadSoFar used vs ts counted left → left ≡ v ∷ further → weight v ≤ weights (values vs)
+so_far_weight used counted vs left further ts v so_far e =
+    subst (λ us. weight v ≤ weights (values us)) (ap (λ (us : List Value). map tag_value ts ++ us) (sym e) ∙ so_far.spelled) (weight_le-weights (map tag_value ts) v further)

@@ -1,8 +1,9 @@
 -- What a reading of a tag means.
-use Rattle.std.specs.Prelude.{◌≡◌, ℕ, ◌+◌, ◌≤◌, List, Bool, true, map}
+use Rattle.std.specs.Prelude.{◌≡◌, ℕ, ◌+◌, ◌≤◌, List, Bool, true, map, Some}
 use Rattle.spki_tag.specs.declared.fault.TagFault.{TagFault}
 use Rattle.spki_tag.specs.declared.fault.TagFault.TheVariants as faults
-use Rattle.sexpr_core.specs.Value.{Value, values}
+use Rattle.sexpr_core.specs.Value.{Value, Values, values}
+use Rattle.sexpr_core.specs.Value as value
 use Rattle.spki_tag.specs.Request.{Request, Requests, IsRequest, AreRequests, request_value, request_values}
 use Rattle.spki_tag.specs.Tag.{Tag, Tags, star, string, prefix, range, list, set, none, more, IsTag, AreTags, tags, tag_value, tag_values, contains, nodes, nodes_all, is_normal}
 
@@ -85,3 +86,18 @@ IsNoRequest fault v = (g : Request) → IsRequest g → request_value g ≡ v �
 -- the same of the members of a list
 abbrev pub AreNoRequests : TagFault → List Value → Type 0
 AreNoRequests fault vs = (gs : Requests) → AreRequests gs → request_values gs ≡ values vs → fault ≡ faults.Memory
+
+abbrev pub IsHinted : Value → Type 0
+IsHinted v = (hint octets : List ℕ) × (v ≡ value.string (Some hint) octets)
+
+-- why a value is no head: it is a list, or it has a display hint
+abbrev pub IsNoHead : TagFault → Value → Type 0
+IsNoHead faults.ListHead v = (us : Values) × (v ≡ value.list us)
+IsNoHead faults.Hint v = IsHinted v
+IsNoHead faults.EmptyList v = ⊥
+IsNoHead faults.UnknownStar v = ⊥
+IsNoHead faults.RangeOrdering v = ⊥
+IsNoHead faults.RangeLimit v = ⊥
+IsNoHead faults.TooManyNodes v = ⊥
+IsNoHead faults.StarInRequest v = ⊥
+IsNoHead faults.Memory v = ⊥

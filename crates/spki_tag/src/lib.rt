@@ -5,6 +5,7 @@ mod fault;
 mod holding;
 mod leaf;
 mod moment;
+mod reading;
 mod request;
 mod tag;
 

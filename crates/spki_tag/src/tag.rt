@@ -53,6 +53,25 @@ impl Tag {
         }
     }
 
+    /// A string.
+    pub(crate) fn string(octets: Vec<u8>) -> Tag
+        ensures { result ≡ spec.string octets.items }
+    {
+        Tag {
+            node: Node::Leaf(Leaf::String(octets)),
+        }
+    }
+
+    /// A list of a head and further tags.
+    pub(crate) fn list(head: Vec<u8>, further: Vec<Tag>) -> Tag
+        requires { spec.IsNormalTag (spec.list head.items (spec.tags further.items)) }
+        ensures { result ≡ spec.list head.items (spec.tags further.items) }
+    {
+        Tag {
+            node: Node::List(head, further),
+        }
+    }
+
     /// Whether this is `(* set)`, the tag that contains no request. Another tag may contain none too, as a range
     /// whose limits exclude each other.
     pub fn is_nothing(&self) -> bool
