@@ -1,0 +1,4 @@
+pub mod Members
+pub mod Spelling
+pub mod Asking
+pub mod Weight

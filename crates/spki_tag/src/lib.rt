@@ -1,0 +1,15 @@
+//! Authorization tags and requests (RFC 2693, section 6.3.1).
+#![tactic(auto)]
+
+mod fault;
+mod holding;
+mod leaf;
+mod moment;
+mod reading;
+mod request;
+mod tag;
+
+pub use fault::TagFault;
+pub use moment::{is_date, is_time};
+pub use request::Ground;
+pub use tag::Tag;
