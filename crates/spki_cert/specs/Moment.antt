@@ -1,5 +1,5 @@
 -- Moments as they are written.
-use Rattle.std.specs.Prelude.{ℕ, ◌+◌, ◌-◌, ◌*◌, Bool, true, false, ◌&&◌, List, [], ◌∷◌, nat_le, ◌==◌}
+use Rattle.std.specs.Prelude.{ℕ, ◌+◌, ◌-◌, ◌*◌, Bool, true, false, ◌&&◌, List, [], ◌∷◌, nat_le, ◌==◌, length, take, drop, slice_index}
 
 -- a decimal digit, as its octet
 abbrev pub is_digit : ℕ → Bool
@@ -15,9 +15,12 @@ is_time (h1 ∷ h2 ∷ c1 ∷ m1 ∷ m2 ∷ c2 ∷ s1 ∷ s2 ∷ []) =
     is_between 0 23 h1 h2 && (c1 == 58) && is_between 0 59 m1 m2 && (c2 == 58) && is_between 0 60 s1 s2
 is_time _ = false
 
--- YYYY-MM-DD_HH:MM:SS: any year of four digits, month 01 to 12, day 01 to 31, and no calendar check
+-- YYYY-MM-DD: any year of four digits, month 01 to 12, day 01 to 31, and no calendar check
+abbrev pub is_day : List ℕ → Bool
+is_day (y1 ∷ y2 ∷ y3 ∷ y4 ∷ c1 ∷ m1 ∷ m2 ∷ c2 ∷ d1 ∷ d2 ∷ []) =
+    is_digit y1 && is_digit y2 && is_digit y3 && is_digit y4 && (c1 == 45) && is_between 1 12 m1 m2 && (c2 == 45) && is_between 1 31 d1 d2
+is_day _ = false
+
+-- YYYY-MM-DD_HH:MM:SS
 abbrev pub is_date : List ℕ → Bool
-is_date (y1 ∷ y2 ∷ y3 ∷ y4 ∷ d1 ∷ m1 ∷ m2 ∷ d2 ∷ n1 ∷ n2 ∷ u ∷ time) =
-    is_digit y1 && is_digit y2 && is_digit y3 && is_digit y4 && (d1 == 45) && is_between 1 12 m1 m2 && (d2 == 45)
-    && is_between 1 31 n1 n2 && (u == 95) && is_time time
-is_date _ = false
+is_date s = (length s == 19) && is_day (take 10 s) && (slice_index s 10 == 95) && is_time (drop 11 s)

@@ -4,6 +4,7 @@
 mod date;
 mod hash;
 mod key;
+mod limit;
 mod octets;
 mod principal;
 mod window;
