@@ -1,10 +1,14 @@
 //! S-expressions (RFC 9804).
 #![tactic(auto)]
 
-ghost use Rattle.std.specs.Prelude.{◌≡◌};
+mod document;
+pub mod fault;
+mod handle;
+mod layout;
+mod siblings;
+mod tree;
 
-pub fn echo(x: usize) -> usize
-    ensures { result ≡ x }
-{
-    x
-}
+pub use document::{Doc, NodeId};
+pub use handle::{Form, Node};
+pub use siblings::Members;
+pub use tree::{Atom, Sexp};
