@@ -1,13 +1,39 @@
 //! Laws of derivations.
 
-ghost use Rattle.std.specs.Prelude.{◌≡◌, List, ◌∷◌};
-ghost use Rattle.spki_reduce.specs.Outside.{Policy};
+ghost use Rattle.std.specs.Prelude.{◌≡◌, ℕ, List, ◌∷◌};
+ghost use Rattle.spki_reduce.specs.Outside.{Policy, Request};
 ghost use Rattle.spki_reduce.specs.Tuples.{Tuple};
 ghost use Rattle.spki_reduce.specs.Derivation.{Tree, leaves, Derives, from_left};
+ghost use Rattle.spki_reduce.specs.Supports.{Supports};
 
-/// Whatever a derivation derives from its leaves, the tree over the same leaves that is bracketed from the left
-/// derives too (RFC 2693, section 6.3).
+/// What is derived in any bracketing is derived when the same tuples are taken in turn, from the left
+/// (RFC 2693, sections 6.3 and 6.4). So a derivation may be looked for in that bracketing alone.
+///
+/// The converse does not hold: see `other_bracketings`.
 pub fn any_bracketing()
-    ensures { (policy : Policy) (tree : Tree) (root first : Tuple) (rest : List Tuple) → Derives policy tree root → leaves tree ≡ first ∷ rest → Derives policy (from_left first rest) root }
+    ensures leaves {
+        (first : Tuple) (rest : List Tuple) → leaves (from_left first rest) ≡ first ∷ rest
+    }
+    ensures derives {
+        (policy : Policy) (tree : Tree) (root first : Tuple) (rest : List Tuple) →
+        Derives policy tree root → leaves tree ≡ first ∷ rest →
+        Derives policy (from_left first rest) root
+    }
+    ensures supports {
+        (policy : Policy) (tree : Tree) (holder : List ℕ) (request : Request) (moment : List ℕ)
+        (first : Tuple) (rest : List Tuple) →
+        Supports policy tree holder request moment → leaves tree ≡ first ∷ rest →
+        Supports policy (from_left first rest) holder request moment
+    }
+{
+}
+
+/// Two derivations from the same tuples, in whatever bracketing, have the same root.
+pub fn one_root()
+    ensures {
+        (policy : Policy) (tree other : Tree) (root another : Tuple) →
+        leaves tree ≡ leaves other → Derives policy tree root → Derives policy other another →
+        root ≡ another
+    }
 {
 }
