@@ -10,25 +10,29 @@ use Rattle.spki_reduce.specs.Supports.{Supports}
 
 -- a (b c) is (a b) c, by what the tuples are
 delegate-delegate : (policy : Policy) (a b c m r : FiveTuple) → Delegate policy b c m → Delegate policy a m r → Delegate policy a b (delegated a b) × Delegate policy (delegated a b) c r
-delegate-delegate policy a b c m r h k =
-    (record { holder = k.holder; issued = sym (ap (λ (t : FiveTuple). t.issuer) h.result_is) ∙ k.issued; whole = k.whole; named = k.named; allowed = k.allowed; result_is = refl },
-     record { holder = h.holder; issued = h.issued; whole = h.whole; named = h.named; allowed = h.allowed; result_is = simp append_assoc (k.result_is ∙ ap (delegated a) h.result_is) })
+delegate-delegate policy a b c m r h k = (
+  record { holder = k.holder; issued = sym (ap (λ (t : FiveTuple). t.issuer) h.result_is) ∙ k.issued; whole = k.whole; named = k.named; allowed = k.allowed; result_is = refl },
+  record { holder = h.holder; issued = h.issued; whole = h.whole; named = h.named; allowed = h.allowed; result_is = simp append_assoc (k.result_is ∙ ap (delegated a) h.result_is) },
+)
 
 delegate-resolve : (policy : Policy) (a b : FiveTuple) (c : FourTuple) (m r : FiveTuple) → Resolve policy b c m → Delegate policy a m r → Delegate policy a b (delegated a b) × Resolve policy (delegated a b) c r
-delegate-resolve policy a b c m r h k =
-    (record { holder = k.holder; issued = sym (ap (λ (t : FiveTuple). t.issuer) h.result_is) ∙ k.issued; whole = k.whole; named = k.named; allowed = k.allowed; result_is = refl },
-     record { rest = h.rest; named = h.named; name = h.name; result_is = simp append_assoc (k.result_is ∙ ap (delegated a) h.result_is) })
+delegate-resolve policy a b c m r h k = (
+  record { holder = k.holder; issued = sym (ap (λ (t : FiveTuple). t.issuer) h.result_is) ∙ k.issued; whole = k.whole; named = k.named; allowed = k.allowed; result_is = refl },
+  record { rest = h.rest; named = h.named; name = h.name; result_is = simp append_assoc (k.result_is ∙ ap (delegated a) h.result_is) },
+)
 
 -- a definition whose subject has names behind the resolved one
 resolve-link : (policy : Policy) (a : FiveTuple) (b c m : FourTuple) (r : FiveTuple) → (h : Link policy b c m) → (k : Resolve policy a m r) → Resolve policy a b (resolved a b k.rest) × Resolve policy (resolved a b k.rest) c r
-resolve-link policy a b c m r h k =
-    (record { rest = k.rest; named = rw (← ap (λ (t : FourTuple). t.key) h.result_is) k.named; name = k.name ∙ ap (λ (t : FourTuple). t.name ∷ k.rest) h.result_is; result_is = refl },
-     record { rest = h.rest ++ k.rest; named = h.named; name = ap (λ ns. ns ++ k.rest) h.name; result_is = simp append_assoc (simp append_assoc at (k.result_is ∙ ap (λ (t : FourTuple). resolved a t k.rest) h.result_is)) })
+resolve-link policy a b c m r h k = (
+  record { rest = k.rest; named = rw (← ap (λ (t : FourTuple). t.key) h.result_is) k.named; name = k.name ∙ ap (λ (t : FourTuple). t.name ∷ k.rest) h.result_is; result_is = refl },
+  record { rest = h.rest ++ k.rest; named = h.named; name = ap (λ ns. ns ++ k.rest) h.name; result_is = simp append_assoc (simp append_assoc at (k.result_is ∙ ap (λ (t : FourTuple). resolved a t k.rest) h.result_is)) },
+)
 
 link-link : (policy : Policy) (a b c m r : FourTuple) → (h : Link policy b c m) → (k : Link policy a m r) → Link policy a b (linked a b k.rest) × Link policy (linked a b k.rest) c r
-link-link policy a b c m r h k =
-    (record { rest = k.rest; named = rw (← ap (λ (t : FourTuple). t.key) h.result_is) k.named; name = k.name ∙ ap (λ (t : FourTuple). t.name ∷ k.rest) h.result_is; result_is = refl },
-     record { rest = h.rest ++ k.rest; named = h.named; name = ap (λ ns. ns ++ k.rest) h.name; result_is = simp append_assoc (simp append_assoc at (k.result_is ∙ ap (λ (t : FourTuple). linked a t k.rest) h.result_is)) })
+link-link policy a b c m r h k = (
+  record { rest = k.rest; named = rw (← ap (λ (t : FourTuple). t.key) h.result_is) k.named; name = k.name ∙ ap (λ (t : FourTuple). t.name ∷ k.rest) h.result_is; result_is = refl },
+  record { rest = h.rest ++ k.rest; named = h.named; name = ap (λ ns. ns ++ k.rest) h.name; result_is = simp append_assoc (simp append_assoc at (k.result_is ∙ ap (λ (t : FourTuple). linked a t k.rest) h.result_is)) },
+)
 
 pub regrouped : (policy : Policy) (a b c m r : Tuple) → Joins policy b c m → Joins policy a m r → (x : Tuple) × Joins policy a b x × Joins policy x c r
 regrouped policy (five a) (five b) (five c) (five m) (five r) h k = let e = delegate-delegate policy a b c m r h k in (five (delegated a b), e.0, e.1)

@@ -1,1 +1,3 @@
 pub mod Bracketing
+pub mod Examples
+pub mod Between

@@ -7,13 +7,13 @@ use Rattle.spki_reduce.specs.Tuples.{FiveTuple, FourTuple, Tuple, key, five, fou
 -- what a delegated authorization says: from the left issuer to the right subject
 abbrev pub delegated : FiveTuple → FiveTuple → FiveTuple
 delegated left right = record {
-    issuer = left.issuer;
-    principal = right.principal;
-    names = right.names;
-    delegation = right.delegation;
-    tags = left.tags ++ right.tags;
-    windows = left.windows ++ right.windows
-  }
+  issuer = left.issuer;
+  principal = right.principal;
+  names = right.names;
+  delegation = right.delegation;
+  tags = left.tags ++ right.tags;
+  windows = left.windows ++ right.windows;
+}
 
 -- Two authorizations (section 6.3): the left subject is the right issuer, and the left one may delegate.
 pub record Delegate (policy : Policy) (left right result : FiveTuple) : Type 0 where
@@ -27,10 +27,10 @@ pub record Delegate (policy : Policy) (left right result : FiveTuple) : Type 0 w
 -- an authorization whose subject's first name was resolved, with the names that are left
 abbrev pub resolved : FiveTuple → FourTuple → List (List ℕ) → FiveTuple
 resolved left right rest = record left {
-    principal = right.principal;
-    names = right.names ++ rest;
-    windows = left.windows ++ right.windows
-  }
+  principal = right.principal;
+  names = right.names ++ rest;
+  windows = left.windows ++ right.windows;
+}
 
 -- An authorization and a name's definition (section 6.4): the left subject begins with the name that the
 -- right one defines. The names behind it come behind those of the definition's subject.
@@ -43,10 +43,10 @@ pub record Resolve (policy : Policy) (left : FiveTuple) (right : FourTuple) (res
 -- a name's definition whose subject's first name was resolved
 abbrev pub linked : FourTuple → FourTuple → List (List ℕ) → FourTuple
 linked left right rest = record left {
-    principal = right.principal;
-    names = right.names ++ rest;
-    windows = left.windows ++ right.windows
-  }
+  principal = right.principal;
+  names = right.names ++ rest;
+  windows = left.windows ++ right.windows;
+}
 
 -- Two definitions of names (section 6.4): as an authorization and a definition, and the left name is kept.
 pub record Link (policy : Policy) (left right result : FourTuple) : Type 0 where

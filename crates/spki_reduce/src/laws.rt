@@ -11,29 +11,27 @@ ghost use Rattle.spki_reduce.specs.Supports.{Supports};
 ///
 /// The converse does not hold: see `other_bracketings`.
 pub fn any_bracketing()
-    ensures leaves {
-        (first : Tuple) (rest : List Tuple) → leaves (from_left first rest) ≡ first ∷ rest
-    }
-    ensures derives {
-        (policy : Policy) (tree : Tree) (root first : Tuple) (rest : List Tuple) →
+    ensures leaves { (first : Tuple) (rest : List Tuple) → leaves (from_left first rest) ≡ first ∷ rest }
+    ensures derives { (policy : Policy) (tree : Tree) (root first : Tuple) (rest : List Tuple) →
         Derives policy tree root → leaves tree ≡ first ∷ rest →
-        Derives policy (from_left first rest) root
-    }
-    ensures supports {
-        (policy : Policy) (tree : Tree) (holder : List ℕ) (request : Request) (moment : List ℕ)
+        Derives policy (from_left first rest) root }
+    ensures supports { (policy : Policy) (tree : Tree) (holder : List ℕ) (request : Request) (moment : List ℕ)
         (first : Tuple) (rest : List Tuple) →
         Supports policy tree holder request moment → leaves tree ≡ first ∷ rest →
-        Supports policy (from_left first rest) holder request moment
-    }
-{
-}
+        Supports policy (from_left first rest) holder request moment }
+{}
 
 /// Two derivations from the same tuples, in whatever bracketing, have the same root.
 pub fn one_root()
-    ensures {
-        (policy : Policy) (tree other : Tree) (root another : Tuple) →
+    ensures { (policy : Policy) (tree other : Tree) (root another : Tuple) →
         leaves tree ≡ leaves other → Derives policy tree root → Derives policy other another →
-        root ≡ another
-    }
-{
-}
+        root ≡ another }
+{}
+
+/// Some derivation has the leaves of no derivation in another bracketing: a name's definition that stands between
+/// two authorizations is for the left one, and never takes the right one.
+pub fn other_bracketings()
+    ensures { (policy : Policy) → (tree other : Tree) × (root : Tuple) ×
+        (leaves other ≡ leaves tree) × Derives policy tree root ×
+        ((another : Tuple) → ¬ Derives policy other another) }
+{}

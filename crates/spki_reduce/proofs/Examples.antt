@@ -1,0 +1,64 @@
+-- The definitions at the values of worked examples.
+use Rattle.std.proofs.Common.{◌≡◌, ℕ, List, [], ◌∷◌, ◌++◌, Bool, true, false, None, refl, sym, codes}
+use Rattle.spki_reduce.specs.Outside.{Policy, Open, Principal, Key, Tag, star, Request, asked, Window}
+use Rattle.spki_reduce.specs.Tuples.{FiveTuple, FourTuple, Tuple, own, key, five, four}
+use Rattle.spki_reduce.specs.Rules.{Joins}
+use Rattle.spki_reduce.specs.Derivation.{Tree, leaf, join, leaves, Derives, from_left}
+use Rattle.spki_reduce.specs.Supports.{Supports}
+use Rattle.spki_reduce.proofs.Bracketing.{bracketed}
+
+-- the keys a, b and c
+abbrev ka : List ℕ
+ka = codes "(10:public-key(4:test1:a))"
+
+abbrev kb : List ℕ
+kb = codes "(10:public-key(4:test1:b))"
+
+abbrev kc : List ℕ
+kc = codes "(10:public-key(4:test1:c))"
+
+abbrev always : Window
+always = record { not_before = None; not_after = None }
+
+-- ---- linked-names
+
+-- (entry (name KA friends bob) (tag (*)))
+abbrev entry : FiveTuple
+entry = record { issuer = own; principal = Key ka; names = codes "friends" ∷ codes "bob" ∷ []; delegation = false; tags = star ∷ []; windows = always ∷ [] }
+
+-- (cert (issuer (name KA friends)) (subject KB))
+abbrev friends : FourTuple
+friends = record { key = ka; name = codes "friends"; principal = Key kb; names = []; windows = always ∷ [] }
+
+-- (cert (issuer (name KB bob)) (subject KC))
+abbrev bob : FourTuple
+bob = record { key = kb; name = codes "bob"; principal = Key kc; names = []; windows = always ∷ [] }
+
+-- the entry with its first name resolved, and with both
+abbrev partly : FiveTuple
+partly = record { issuer = own; principal = Key kb; names = codes "bob" ∷ []; delegation = false; tags = star ∷ []; windows = always ∷ always ∷ [] }
+
+abbrev wholly : FiveTuple
+wholly = record { issuer = own; principal = Key kc; names = []; delegation = false; tags = star ∷ []; windows = always ∷ always ∷ always ∷ [] }
+
+linked_names : (request : Request) (moment : List ℕ) → Supports Open (from_left (five entry) (four friends ∷ four bob ∷ [])) kc request moment
+linked_names request moment = record {
+  root = wholly;
+  derived = (five partly, four bob, (five entry, four friends, refl, refl, record { rest = codes "bob" ∷ []; named = refl; name = refl; result_is = refl }), refl, record { rest = []; named = refl; name = refl; result_is = refl });
+  grants = record { issuer = refl; whole = refl; named = refl; asked = refl; timely = refl };
+}
+
+-- what two leaves become
+two : (a b r : Tuple) → Derives Open (join (leaf a) (leaf b)) r → Joins Open a b r
+two a b r d = rw (← d.2, ← d.3) d.4
+
+-- the entry's principal is not the key whose name bob is
+misfit : (r : Tuple) → Joins Open (five entry) (four bob) r → ⊥
+misfit (five r) h = let e : false ≡ true = h.named in cc
+misfit (four r) h = h
+
+-- With the two certificates in the other order there is no derivation, in no bracketing.
+linked_names-swapped : (tree : Tree) (root : Tuple) → leaves tree ≡ five entry ∷ four bob ∷ four friends ∷ [] → Derives Open tree root → ⊥
+linked_names-swapped tree root e d =
+    let left = bracketed Open tree root _ _ d e in
+    misfit left.0 (two (five entry) (four bob) left.0 left.2)
