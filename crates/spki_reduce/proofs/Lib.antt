@@ -1,3 +1,4 @@
 pub mod Bracketing
 pub mod Examples
 pub mod Between
+pub mod Parts

@@ -1,5 +1,5 @@
 -- The tuples of an authorization computation (RFC 2693, section 6).
-use Rattle.std.specs.Prelude.{ℕ, List, Bool}
+use Rattle.std.specs.Prelude.{ℕ, List, [], Bool}
 use Rattle.spki_reduce.specs.Outside.{Principal, Tag, Window}
 
 -- Who speaks: the keeper of an access list, whom the standard calls Self, or a key, by its canonical octets
@@ -30,3 +30,12 @@ pub record FourTuple : Type 0 where
 pub data Tuple : Type 0 where
   five : FiveTuple → Tuple
   four : FourTuple → Tuple
+
+-- what a tuple restricts: a definition has no tag
+abbrev pub tags_of : Tuple → List Tag
+tags_of (five t) = t.tags
+tags_of (four t) = []
+
+abbrev pub windows_of : Tuple → List Window
+windows_of (five t) = t.windows
+windows_of (four t) = t.windows

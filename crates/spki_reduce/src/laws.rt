@@ -1,8 +1,8 @@
 //! Laws of derivations.
 
-ghost use Rattle.std.specs.Prelude.{◌≡◌, ℕ, List, ◌∷◌};
+ghost use Rattle.std.specs.Prelude.{◌≡◌, ℕ, List, ◌∷◌, flat_map};
 ghost use Rattle.spki_reduce.specs.Outside.{Policy, Request};
-ghost use Rattle.spki_reduce.specs.Tuples.{Tuple};
+ghost use Rattle.spki_reduce.specs.Tuples.{Tuple, tags_of, windows_of};
 ghost use Rattle.spki_reduce.specs.Derivation.{Tree, leaves, Derives, from_left};
 ghost use Rattle.spki_reduce.specs.Supports.{Supports};
 
@@ -34,4 +34,13 @@ pub fn other_bracketings()
     ensures { (policy : Policy) → (tree other : Tree) × (root : Tuple) ×
         (leaves other ≡ leaves tree) × Derives policy tree root ×
         ((another : Tuple) → ¬ Derives policy other another) }
+{}
+
+/// No restriction is lost: the root of a derivation has the tags and the windows of all leaves, in their order
+/// (RFC 2693, sections 6.3.1 and 6.3.2).
+pub fn every_restriction()
+    ensures tags { (policy : Policy) (tree : Tree) (root : Tuple) → Derives policy tree root →
+        tags_of root ≡ flat_map tags_of (leaves tree) }
+    ensures windows { (policy : Policy) (tree : Tree) (root : Tuple) → Derives policy tree root →
+        windows_of root ≡ flat_map windows_of (leaves tree) }
 {}
