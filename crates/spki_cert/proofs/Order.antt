@@ -1,0 +1,150 @@
+-- Moments are in order, and what follows for windows.
+use Rattle.std.proofs.Common.{◌≡◌, ℕ, Bool, true, false, cond, ◌&&◌, List, Option, Some, None, refl, sym, ap, ◌∙◌, subst, arith, rules}
+use Rattle.std.specs.Prelude.{IfSome, IfNone, codes}
+use Rattle.std.specs.Cmp.Lexicographic.{slice_cmp}
+use Rattle.std.specs.declared.cmp.Ordering.{Ordering}
+use Rattle.std.specs.declared.cmp.Ordering.TheVariants.{Less, Equal, Greater}
+use Rattle.std.specs.Ordering.{nat_cmp, is_le, is_gt, ordering_reverse}
+use Rattle.std.proofs.lemmas.Cmp.{nat_list_cmp_total, upto as goes_on, tied_itself}
+use Rattle.spki_cert.specs.declared.window.Window.{Window}
+use Rattle.spki_cert.specs.Moment.{is_date}
+use Rattle.spki_cert.specs.Time.{upto, is_from, is_until, within, later, earlier, in_order, between, meet_of, IsLimit, IsMeet, Overlap, AreApart}
+
+le_or_gt : (o : Ordering) → is_le o ≡ true → is_gt o ≡ false
+le_or_gt Less e = refl
+le_or_gt Equal e = refl
+le_or_gt Greater e = absurd cc
+
+gt_or_le : (o : Ordering) → is_gt o ≡ false → is_le o ≡ true
+gt_or_le Less e = refl
+gt_or_le Equal e = refl
+gt_or_le Greater e = absurd cc
+
+turned : (o : Ordering) → is_le o ≡ false → is_le (ordering_reverse o) ≡ true
+turned Less e = absurd cc
+turned Equal e = absurd cc
+turned Greater e = refl
+
+pub upto-self : (s : List ℕ) → upto s s ≡ true
+upto-self s = ap is_le (tied_itself nat_list_cmp_total s)
+
+pub upto-then : (s t u : List ℕ) → upto s t ≡ true → upto t u ≡ true → upto s u ≡ true
+upto-then s t u h k =
+    gt_or_le (slice_cmp nat_cmp s u) (goes_on nat_list_cmp_total s t u (le_or_gt (slice_cmp nat_cmp s t) h) (le_or_gt (slice_cmp nat_cmp t u) k))
+
+pub upto-turned : (s t : List ℕ) → upto s t ≡ false → upto t s ≡ true
+upto-turned s t h = ap is_le (nat_list_cmp_total.antisymm t s) ∙ turned (slice_cmp nat_cmp s t) h
+
+-- ---- tests
+
+-- a test that holds wherever another does is all that a conjunction adds
+narrower : (p q : Bool) → (q ≡ true → p ≡ true) → q ≡ (p && q)
+narrower true q h = refl
+narrower false true h = absurd (let e : false ≡ true = h refl in cc)
+narrower false false h = refl
+
+swapped : (p q : Bool) → (p && q) ≡ (q && p)
+swapped true true = refl
+swapped true false = refl
+swapped false true = refl
+swapped false false = refl
+
+regrouped : (p q r s : Bool) → ((p && q) && (r && s)) ≡ ((p && r) && (q && s))
+regrouped true true r s = refl
+regrouped true false true s = refl
+regrouped true false false s = refl
+regrouped false q true s = refl
+regrouped false q false s = refl
+
+and_true : (p q : Bool) → (p && q) ≡ true → (p ≡ true) × (q ≡ true)
+and_true true q e = (refl, e)
+and_true false q e = absurd cc
+
+-- ---- limits
+
+from-chosen : (s r t : List ℕ) (b : Bool) → upto s r ≡ b → upto (cond b r s) t ≡ (upto s t && upto r t)
+from-chosen s r t true e = narrower (upto s t) (upto r t) (λ h. upto-then s r t e h)
+from-chosen s r t false e = narrower (upto r t) (upto s t) (λ h. upto-then r s t (upto-turned s r e) h) ∙ swapped (upto r t) (upto s t)
+
+and-true-right : (p : Bool) → p ≡ (p && true)
+and-true-right true = refl
+and-true-right false = refl
+
+is_from-later : (p q : Option (List ℕ)) (t : List ℕ) → is_from (later p q) t ≡ (is_from p t && is_from q t)
+is_from-later None q t = refl
+is_from-later (Some s) None t = and-true-right (upto s t)
+is_from-later (Some s) (Some r) t = from-chosen s r t (upto s r) refl
+
+until-chosen : (s r t : List ℕ) (b : Bool) → upto s r ≡ b → upto t (cond b s r) ≡ (upto t s && upto t r)
+until-chosen s r t true e = narrower (upto t r) (upto t s) (λ h. upto-then t s r h e) ∙ swapped (upto t r) (upto t s)
+until-chosen s r t false e = narrower (upto t s) (upto t r) (λ h. upto-then t r s h (upto-turned s r e))
+
+is_until-earlier : (p q : Option (List ℕ)) (t : List ℕ) → is_until (earlier p q) t ≡ (is_until p t && is_until q t)
+is_until-earlier None q t = refl
+is_until-earlier (Some s) None t = and-true-right (upto t s)
+is_until-earlier (Some s) (Some r) t = until-chosen s r t (upto s r) refl
+
+-- ---- windows
+
+-- the window of the later not-before and the earlier not-after, in order or not
+abbrev inner : Window → Window → Window
+inner v w = record { not_before = later v.not_before w.not_before; not_after = earlier v.not_after w.not_after }
+
+within-inner : (v w : Window) → IsMeet v w (inner v w)
+within-inner v w t =
+    (λ i. is_from-later v.not_before w.not_before t i && is_until-earlier v.not_after w.not_after t i)
+    ∙ regrouped (is_from v.not_before t) (is_from w.not_before t) (is_until v.not_after t) (is_until w.not_after t)
+
+-- a first and a last moment round a third are in order
+in_order-around : (p q : Option (List ℕ)) (t : List ℕ) → is_from p t ≡ true → is_until q t ≡ true → in_order p q ≡ true
+in_order-around None q t h k = refl
+in_order-around (Some s) None t h k = refl
+in_order-around (Some s) (Some r) t h k = upto-then s t r h k
+
+-- between limits in order there is a moment
+moment-between : (p q : Option (List ℕ)) → IsLimit p → IsLimit q → in_order p q ≡ true → (t : List ℕ) × (is_date t ≡ true) × (is_from p t ≡ true) × (is_until q t ≡ true)
+moment-between None None d e h = (codes "0000-01-01_00:00:00", refl, refl, refl)
+moment-between None (Some r) d e h = (r, e, refl, upto-self r)
+moment-between (Some s) None d e h = (s, d, upto-self s, refl)
+moment-between (Some s) (Some r) d e h = (s, d, upto-self s, h)
+
+none-apart : (v w : Window) → in_order (inner v w).not_before (inner v w).not_after ≡ false → AreApart v w
+none-apart v w h t a = by (within t w) refl
+  where
+    by : (b : Bool) → within t w ≡ b → b ≡ false
+    by true e =
+      let m : within t (inner v w) ≡ true = within-inner v w t ∙ (λ i. a i && e i) in
+      let p = and_true (is_from (inner v w).not_before t) (is_until (inner v w).not_after t) m in
+      let o = in_order-around (inner v w).not_before (inner v w).not_after t p.0 p.1 in
+      absurd (let x : true ≡ false = sym o ∙ h in cc)
+    by false e = refl
+
+some-overlaps : (v w : Window) → IsLimit (inner v w).not_before → IsLimit (inner v w).not_after → in_order (inner v w).not_before (inner v w).not_after ≡ true → Overlap v w
+some-overlaps v w d e h =
+    let m = moment-between (inner v w).not_before (inner v w).not_after d e h in
+    let k : within m.0 (inner v w) ≡ true = λ i. m.2 i && m.3 i in
+    let p = and_true (within m.0 v) (within m.0 w) (sym (within-inner v w m.0) ∙ k) in
+    (m.0, m.1, p.0, p.1)
+
+-- ---- what a meet promises
+
+pub meet-moments : (v w : Window) (r : Option Window) → r ≡ meet_of v w → IfSome r (λ met. IsMeet v w met)
+meet-moments v w r e = subst (λ (x : Option Window). IfSome x (λ met. IsMeet v w met)) (sym e) (by (in_order (inner v w).not_before (inner v w).not_after))
+  where
+    by : (b : Bool) → IfSome (cond b (Some (inner v w)) None) (λ met. IsMeet v w met)
+    by true = within-inner v w
+    by false = tt
+
+pub meet-some : (v w : Window) (r : Option Window) → IsLimit (later v.not_before w.not_before) → IsLimit (earlier v.not_after w.not_after) → r ≡ meet_of v w → IfSome r (λ _. Overlap v w)
+meet-some v w r d l e = subst (λ (x : Option Window). IfSome x (λ _. Overlap v w)) (sym e) (by (in_order (inner v w).not_before (inner v w).not_after) refl)
+  where
+    by : (b : Bool) → in_order (inner v w).not_before (inner v w).not_after ≡ b → IfSome (cond b (Some (inner v w)) None) (λ _. Overlap v w)
+    by true h = some-overlaps v w d l h
+    by false h = tt
+
+pub meet-none : (v w : Window) (r : Option Window) → r ≡ meet_of v w → IfNone r (AreApart v w)
+meet-none v w r e = subst (λ (x : Option Window). IfNone x (AreApart v w)) (sym e) (by (in_order (inner v w).not_before (inner v w).not_after) refl)
+  where
+    by : (b : Bool) → in_order (inner v w).not_before (inner v w).not_after ≡ b → IfNone (cond b (Some (inner v w)) None) (AreApart v w)
+    by true h = tt
+    by false h = none-apart v w h

@@ -1,0 +1,53 @@
+//! Hash algorithms (FIPS 180-4).
+
+ghost use Rattle.std.specs.Prelude.{◌≡◌, ◌↔◌, IsTrue};
+ghost use Rattle.spki_cert.specs.Naming.{digest_of, is_digest};
+
+use sha1::Sha1 as Sha1Hasher;
+use sha2::{Digest, Sha256 as Sha256Hasher, Sha512 as Sha512Hasher};
+
+/// An algorithm whose digests are read.
+#[derive(Clone, Copy, Debug, PartialEq, Eq)]
+pub enum HashAlg {
+    /// SHA-1, with digests of 20 octets.
+    Sha1,
+    /// SHA-256, with digests of 32 octets.
+    Sha256,
+    /// SHA-512, with digests of 64 octets.
+    Sha512,
+}
+
+impl HashAlg {
+    /// Whether the digest is that of the octets. Takes no memory.
+    pub fn fits(&self, digest: &[u8], octets: &[u8]) -> bool
+        ensures is_test { result ≡ is_digest self.now digest.now octets.now }
+        ensures exact { IsTrue result ↔ (digest_of self.now octets.now ≡ digest.now) }
+    {
+        match self {
+            HashAlg::Sha1 => fits_sha1(digest, octets),
+            HashAlg::Sha256 => fits_sha256(digest, octets),
+            HashAlg::Sha512 => fits_sha512(digest, octets),
+        }
+    }
+}
+
+fn fits_sha1(digest: &[u8], octets: &[u8]) -> bool
+    ensures { result ≡ is_digest HashAlg.Sha1 digest.now octets.now }
+{
+    let made = Sha1Hasher::digest(octets);
+    made.as_slice() == digest
+}
+
+fn fits_sha256(digest: &[u8], octets: &[u8]) -> bool
+    ensures { result ≡ is_digest HashAlg.Sha256 digest.now octets.now }
+{
+    let made = Sha256Hasher::digest(octets);
+    made.as_slice() == digest
+}
+
+fn fits_sha512(digest: &[u8], octets: &[u8]) -> bool
+    ensures { result ≡ is_digest HashAlg.Sha512 digest.now octets.now }
+{
+    let made = Sha512Hasher::digest(octets);
+    made.as_slice() == digest
+}

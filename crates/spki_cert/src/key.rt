@@ -1,0 +1,49 @@
+//! Keys.
+
+ghost use Rattle.std.specs.Prelude.{◌≡◌, ◌↔◌, ℕ, List, IsTrue};
+
+use std::marker::Model;
+
+/// A public key, known by its canonical octets. Two keys are the same if these are.
+#[derive(Debug, Drop)]
+pub struct Key<'a> {
+    octets: &'a [u8],
+}
+
+impl<'a> Model for Key<'a> {
+    ghost Value = { List ℕ };
+
+    ghost view = { λ k. k.octets.now };
+}
+
+impl<'a> Key<'a> {
+    /// The key with these canonical octets.
+    pub fn new(octets: &'a [u8]) -> Key<'a>
+        ensures { result ≡ octets.now }
+    {
+        Key { octets }
+    }
+
+    /// Its canonical octets.
+    pub fn as_slice(&self) -> &'a [u8]
+        ensures { result.now ≡ self.now }
+    {
+        self.octets
+    }
+
+    /// The same key once more, which takes no memory.
+    pub fn share(&self) -> Key<'a>
+        ensures { result ≡ self.now }
+    {
+        Key {
+            octets: self.octets,
+        }
+    }
+
+    /// Whether this is the same key.
+    pub fn same(&self, other: &Key) -> bool
+        ensures { IsTrue result ↔ (self.now ≡ other.now) }
+    {
+        self.octets == other.octets
+    }
+}

@@ -1,0 +1,62 @@
+//! The limits of a window.
+
+ghost use Rattle.std.specs.Prelude.{◌≡◌};
+ghost use Rattle.spki_cert.specs.Time.{is_from, is_until, later, earlier, in_order, IsLimit};
+
+use crate::date::Date;
+
+pub fn is_from(limit: Option<Date>, moment: &Date) -> bool
+    ensures { result ≡ is_from limit moment.now }
+{
+    match limit {
+        Some(first) => first.upto(moment),
+        None => true,
+    }
+}
+
+pub fn is_until(limit: Option<Date>, moment: &Date) -> bool
+    ensures { result ≡ is_until limit moment.now }
+{
+    match limit {
+        Some(last) => moment.upto(&last),
+        None => true,
+    }
+}
+
+pub fn later(one: Option<Date>, other: Option<Date>) -> Option<Date>
+    ensures { result ≡ later one other }
+{
+    match (one, other) {
+        (None, found) => found,
+        (Some(s), None) => Some(s),
+        (Some(s), Some(t)) => Some(if s.upto(&t) { t } else { s }),
+    }
+}
+
+pub fn earlier(one: Option<Date>, other: Option<Date>) -> Option<Date>
+    ensures { result ≡ earlier one other }
+{
+    match (one, other) {
+        (None, found) => found,
+        (Some(s), None) => Some(s),
+        (Some(s), Some(t)) => Some(if s.upto(&t) { s } else { t }),
+    }
+}
+
+pub fn is_in_order(first: &Option<Date>, last: &Option<Date>) -> bool
+    ensures { result ≡ in_order first.now last.now }
+{
+    match (first, last) {
+        (None, _) => true,
+        (Some(_), None) => true,
+        (Some(s), Some(t)) => s.upto(t),
+    }
+}
+
+pub fn known(limit: &Option<Date>)
+    ensures { IsLimit limit.now }
+{
+    if let Some(date) = limit {
+        date.known();
+    }
+}

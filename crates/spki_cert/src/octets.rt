@@ -1,0 +1,50 @@
+//! Octets as they stand in a text.
+
+ghost use Rattle.std.specs.Prelude.{◌≡◌, ◌↔◌, ℕ, List, IsTrue};
+
+use std::marker::Model;
+
+/// Octets of a text that was read: a digest, a name, or the canonical form of a certificate or of a
+/// signature's value.
+#[derive(Debug, Drop)]
+pub struct Octets<'a> {
+    octets: &'a [u8],
+}
+
+impl<'a> Model for Octets<'a> {
+    ghost Value = { List ℕ };
+
+    ghost view = { λ o. o.octets.now };
+}
+
+impl<'a> Octets<'a> {
+    /// The octets of a slice.
+    pub fn new(octets: &'a [u8]) -> Octets<'a>
+        ensures { result ≡ octets.now }
+    {
+        Octets { octets }
+    }
+
+    /// The octets as a slice.
+    pub fn as_slice(&self) -> &'a [u8]
+        ensures { result.now ≡ self.now }
+    {
+        self.octets
+    }
+
+    /// The same octets once more, which takes no memory.
+    pub fn share(&self) -> Octets<'a>
+        ensures { result ≡ self.now }
+    {
+        Octets {
+            octets: self.octets,
+        }
+    }
+
+    /// Whether these are the same octets.
+    pub fn same(&self, other: &Octets) -> bool
+        ensures { IsTrue result ↔ (self.now ≡ other.now) }
+    {
+        self.octets == other.octets
+    }
+}

@@ -1,0 +1,64 @@
+//! Principals, and which keys they name (RFC 2693, sections 2.5 and 4.1).
+
+ghost use Rattle.std.specs.Prelude.{◌≡◌};
+
+use crate::hash::HashAlg;
+use crate::key::Key;
+use crate::octets::Octets;
+
+/// What is asked of a hash that is to name a key.
+#[derive(Clone, Copy, Debug, PartialEq, Eq)]
+pub enum Policy {
+    /// The hashes of all three algorithms name keys.
+    Open,
+    /// A SHA-1 hash names no key.
+    Strict,
+}
+
+/// A key, or the hash of one.
+#[derive(Debug, Drop)]
+pub enum Principal<'a> {
+    /// The key itself.
+    Key(Key<'a>),
+    /// The digest of a key's canonical octets.
+    Hash {
+        /// The algorithm.
+        alg: HashAlg,
+        /// The digest.
+        digest: Octets<'a>,
+    },
+}
+
+impl<'a> Principal<'a> {
+    ghost use Rattle.spki_cert.specs.Naming.{names};
+
+    /// Whether the principal names the key: a key names the key with the same octets, and a hash each key
+    /// whose canonical octets have its digest, but a SHA-1 hash none under the strict policy. Takes no memory.
+    pub fn names(&self, key: &Key, policy: Policy) -> bool
+        ensures { result ≡ names policy self.now key.now }
+    {
+        match self {
+            Principal::Key(own) => own.same(key),
+            Principal::Hash { alg, digest } => {
+                policy.admits(*alg) && alg.fits(digest.as_slice(), key.as_slice())
+            }
+        }
+    }
+}
+
+impl Policy {
+    ghost use Rattle.spki_cert.specs.Naming.{admits};
+
+    /// Whether hashes of the algorithm may name keys.
+    pub fn admits(self, alg: HashAlg) -> bool
+        ensures { result ≡ admits self alg }
+    {
+        match self {
+            Policy::Open => true,
+            Policy::Strict => match alg {
+                HashAlg::Sha1 => false,
+                HashAlg::Sha256 | HashAlg::Sha512 => true,
+            },
+        }
+    }
+}
