@@ -1,6 +1,7 @@
 -- A derivation may be bracketed from the left.
 use Rattle.std.proofs.Common.{◌≡◌, ℕ, List, [], ◌∷◌, ◌++◌, refl, sym, ◌∙◌, ap, append_assoc, append-nil, IsTrue}
-use Rattle.spki_reduce.specs.Outside.{Policy, Request}
+use Rattle.spki_cert.specs.declared.principal.Policy.{Policy}
+use Rattle.spki_tag.specs.Request.{Request}
 use Rattle.spki_reduce.specs.Tuples.{FiveTuple, FourTuple, Tuple, five, four}
 use Rattle.spki_reduce.specs.Rules.{Delegate, Resolve, Link, Joins, delegated, resolved, linked}
 use Rattle.spki_reduce.specs.Derivation.{Tree, leaf, join, leaves, Derives, extended, from_left}

@@ -1,6 +1,12 @@
 -- The definitions at the values of worked examples.
 use Rattle.std.proofs.Common.{◌≡◌, ℕ, List, [], ◌∷◌, ◌++◌, Bool, true, false, None, refl, sym, codes}
-use Rattle.spki_reduce.specs.Outside.{Policy, Open, Principal, Key, Tag, star, Request, asked, Window}
+use Rattle.spki_cert.specs.declared.principal.Policy.{Policy}
+use Rattle.spki_cert.specs.declared.principal.Policy.TheVariants.{Open}
+use Rattle.spki_cert.specs.declared.principal.Principal.{Principal}
+use Rattle.spki_cert.specs.declared.principal.Principal.TheVariants.{Key}
+use Rattle.spki_tag.specs.Tag.{Tag, star}
+use Rattle.spki_tag.specs.Request.{Request}
+use Rattle.spki_cert.specs.declared.window.Window.{Window}
 use Rattle.spki_reduce.specs.Tuples.{FiveTuple, FourTuple, Tuple, own, key, five, four}
 use Rattle.spki_reduce.specs.Rules.{Joins}
 use Rattle.spki_reduce.specs.Derivation.{Tree, leaf, join, leaves, Derives, from_left}

@@ -1,6 +1,6 @@
 -- Derivations: trees whose inner nodes are the rules of reduction (RFC 2693, sections 6.3 and 6.4).
 use Rattle.std.specs.Prelude.{◌≡◌, List, [], ◌∷◌, ◌++◌}
-use Rattle.spki_reduce.specs.Outside.{Policy}
+use Rattle.spki_cert.specs.declared.principal.Policy.{Policy}
 use Rattle.spki_reduce.specs.Tuples.{Tuple}
 use Rattle.spki_reduce.specs.Rules.{Joins}
 

@@ -1,5 +1,4 @@
 -- Reduction of tuples (RFC 2693, section 6).
-pub mod Outside
 pub mod Tuples
 pub mod Rules
 pub mod Derivation

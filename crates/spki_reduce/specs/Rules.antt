@@ -1,7 +1,8 @@
 -- The rules by which two tuples become one (RFC 2693, sections 6.3 and 6.4). Which keys a principal names
 -- depends on the policy.
 use Rattle.std.specs.Prelude.{◌≡◌, ℕ, List, [], ◌∷◌, ◌++◌, IsTrue}
-use Rattle.spki_reduce.specs.Outside.{Policy, names}
+use Rattle.spki_cert.specs.declared.principal.Policy.{Policy}
+use Rattle.spki_cert.specs.Naming.{names}
 use Rattle.spki_reduce.specs.Tuples.{FiveTuple, FourTuple, Tuple, key, five, four}
 
 -- what a delegated authorization says: from the left issuer to the right subject

@@ -1,7 +1,11 @@
 -- What a derivation grants (RFC 2693, section 6.3).
 use Rattle.std.specs.Prelude.{◌≡◌, ℕ, List, [], IsTrue}
 use Rattle.std.specs.List.{list_all}
-use Rattle.spki_reduce.specs.Outside.{Policy, Request, names, contains, within}
+use Rattle.spki_cert.specs.declared.principal.Policy.{Policy}
+use Rattle.spki_tag.specs.Request.{Request}
+use Rattle.spki_cert.specs.Naming.{names}
+use Rattle.spki_tag.specs.Tag.{contains}
+use Rattle.spki_cert.specs.Time.{within}
 use Rattle.spki_reduce.specs.Tuples.{FiveTuple, own, five}
 use Rattle.spki_reduce.specs.Derivation.{Tree, Derives}
 

@@ -1,6 +1,8 @@
 -- The tuples of an authorization computation (RFC 2693, section 6).
 use Rattle.std.specs.Prelude.{ℕ, List, [], Bool}
-use Rattle.spki_reduce.specs.Outside.{Principal, Tag, Window}
+use Rattle.spki_cert.specs.declared.principal.Principal.{Principal}
+use Rattle.spki_tag.specs.Tag.{Tag}
+use Rattle.spki_cert.specs.declared.window.Window.{Window}
 
 -- Who speaks: the keeper of an access list, whom the standard calls Self, or a key, by its canonical octets
 -- (section 6.1).

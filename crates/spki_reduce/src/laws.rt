@@ -1,7 +1,8 @@
 //! Laws of derivations.
 
 ghost use Rattle.std.specs.Prelude.{◌≡◌, ℕ, List, ◌∷◌, flat_map};
-ghost use Rattle.spki_reduce.specs.Outside.{Policy, Request};
+ghost use Rattle.spki_cert.specs.declared.principal.Policy.{Policy};
+ghost use Rattle.spki_tag.specs.Request.{Request};
 ghost use Rattle.spki_reduce.specs.Tuples.{Tuple, tags_of, windows_of};
 ghost use Rattle.spki_reduce.specs.Derivation.{Tree, leaves, Derives, from_left};
 ghost use Rattle.spki_reduce.specs.Supports.{Supports};
