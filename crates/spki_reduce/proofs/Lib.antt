@@ -2,3 +2,4 @@ pub mod Bracketing
 pub mod Examples
 pub mod Between
 pub mod Parts
+pub mod Policies

@@ -2,6 +2,7 @@
 
 ghost use Rattle.std.specs.Prelude.{◌≡◌, ℕ, List, ◌∷◌, flat_map};
 ghost use Rattle.spki_cert.specs.declared.principal.Policy.{Policy};
+ghost use Rattle.spki_cert.specs.declared.principal.Policy.TheVariants.{Open, Strict};
 ghost use Rattle.spki_tag.specs.Request.{Request};
 ghost use Rattle.spki_reduce.specs.Tuples.{Tuple, tags_of, windows_of};
 ghost use Rattle.spki_reduce.specs.Derivation.{Tree, leaves, Derives, from_left};
@@ -44,4 +45,11 @@ pub fn every_restriction()
         tags_of root ≡ flat_map tags_of (leaves tree) }
     ensures windows { (policy : Policy) (tree : Tree) (root : Tuple) → Derives policy tree root →
         windows_of root ≡ flat_map windows_of (leaves tree) }
+{}
+
+/// What is derived or supported under the strict policy is so under the open one.
+pub fn strict_implies_open()
+    ensures derives { (tree : Tree) (root : Tuple) → Derives Strict tree root → Derives Open tree root }
+    ensures supports { (tree : Tree) (holder : List ℕ) (request : Request) (moment : List ℕ) →
+        Supports Strict tree holder request moment → Supports Open tree holder request moment }
 {}
