@@ -1,7 +1,6 @@
 -- A name's definition between two authorizations.
-use Rattle.std.proofs.Common.{◌≡◌, ℕ, List, [], ◌∷◌, true, refl}
+use Rattle.std.proofs.Common.{◌≡◌, [], ◌∷◌, true, refl}
 use Rattle.spki_cert.specs.declared.principal.Policy.{Policy}
-use Rattle.spki_cert.specs.declared.principal.Principal.{Principal}
 use Rattle.spki_cert.specs.declared.principal.Principal.TheVariants.{Key}
 use Rattle.spki_reduce.specs.Tuples.{FiveTuple, FourTuple, Tuple, own, key, five, four}
 use Rattle.spki_reduce.specs.Rules.{Joins, delegated, resolved}

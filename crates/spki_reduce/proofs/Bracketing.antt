@@ -1,5 +1,5 @@
 -- A derivation may be bracketed from the left.
-use Rattle.std.proofs.Common.{◌≡◌, ℕ, List, [], ◌∷◌, ◌++◌, refl, sym, ◌∙◌, ap, append_assoc, append-nil, IsTrue}
+use Rattle.std.proofs.Common.{◌≡◌, ℕ, List, [], ◌∷◌, ◌++◌, refl, sym, ◌∙◌, ap, append_assoc, append-nil}
 use Rattle.spki_cert.specs.declared.principal.Policy.{Policy}
 use Rattle.spki_tag.specs.Request.{Request}
 use Rattle.spki_reduce.specs.Tuples.{FiveTuple, FourTuple, Tuple, five, four}
@@ -152,3 +152,7 @@ one_root policy tree other r s e d f =
 pub supported : (policy : Policy) (tree : Tree) (holder : List ℕ) (request : Request) (moment : List ℕ) (first : Tuple) (rest : List Tuple) → Supports policy tree holder request moment → leaves tree ≡ first ∷ rest → Supports policy (from_left first rest) holder request moment
 supported policy tree holder request moment first rest s e =
     record { root = s.root; derived = bracketed policy tree (five s.root) first rest s.derived e; grants = s.grants }
+
+-- one tuple more
+pub from_left-more : (first last : Tuple) (rest : List Tuple) → from_left first (rest ++ last ∷ []) ≡ join (from_left first rest) (leaf last)
+from_left-more first last rest = extended-append (leaf first) rest (last ∷ [])

@@ -1,5 +1,5 @@
 -- A root has the tags and the windows of all leaves.
-use Rattle.std.proofs.Common.{◌≡◌, List, [], ◌++◌, refl, sym, ◌∙◌, ap, append-nil, flat_map}
+use Rattle.std.proofs.Common.{◌≡◌, ◌++◌, refl, sym, ◌∙◌, ap, append-nil, flat_map}
 use Rattle.std.proofs.lemmas.Grind.{flat_map-append}
 use Rattle.spki_cert.specs.declared.principal.Policy.{Policy}
 use Rattle.spki_reduce.specs.Tuples.{FiveTuple, FourTuple, Tuple, five, four, tags_of, windows_of}

@@ -1,7 +1,6 @@
 -- What the strict policy allows, the open one allows.
 use Rattle.std.proofs.Common.{◌≡◌, ℕ, List, false, true, IsTrue}
 use Rattle.spki_cert.specs.declared.hash.HashAlg.TheVariants.{Sha1, Sha256, Sha512}
-use Rattle.spki_cert.specs.declared.principal.Policy.{Policy}
 use Rattle.spki_cert.specs.declared.principal.Policy.TheVariants.{Open, Strict}
 use Rattle.spki_cert.specs.declared.principal.Principal.{Principal}
 use Rattle.spki_cert.specs.declared.principal.Principal.TheVariants.{Key, Hash}
@@ -12,7 +11,7 @@ use Rattle.spki_reduce.specs.Rules.{Joins}
 use Rattle.spki_reduce.specs.Derivation.{Tree, leaf, join, Derives}
 use Rattle.spki_reduce.specs.Supports.{Supports}
 
-named_openly : (principal : Principal) (holder : List ℕ) → IsTrue (names Strict principal holder) → IsTrue (names Open principal holder)
+pub named_openly : (principal : Principal) (holder : List ℕ) → IsTrue (names Strict principal holder) → IsTrue (names Open principal holder)
 named_openly (Key octets) holder h = h
 named_openly (Hash Sha1 digest) holder h = let e : false ≡ true = h in cc
 named_openly (Hash Sha256 digest) holder h = h
