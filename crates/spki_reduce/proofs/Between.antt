@@ -23,7 +23,9 @@ middle = resolved entry definition []
 refused : (policy : Policy) (a b r : Tuple) → a ≡ four definition → b ≡ five certificate → Joins policy a b r → ⊥
 refused policy a b r e f h = rw (e, f) at h
 
-pub only_from_left : (policy : Policy) → (tree other : Tree) × (root : Tuple) × (leaves other ≡ leaves tree) × Derives policy tree root × ((another : Tuple) → ¬ Derives policy other another)
+pub only_from_left : (policy : Policy)
+    → (tree other : Tree) × (root : Tuple) × (leaves other ≡ leaves tree) × Derives policy tree root
+    × ((another : Tuple) → ¬ Derives policy other another)
 only_from_left policy = (
   join (join (leaf (five entry)) (leaf (four definition))) (leaf (five certificate)),
   join (leaf (five entry)) (join (leaf (four definition)) (leaf (five certificate))),

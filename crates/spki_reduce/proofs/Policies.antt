@@ -11,16 +11,34 @@ use Rattle.spki_reduce.specs.Rules.{Joins}
 use Rattle.spki_reduce.specs.Derivation.{Tree, leaf, join, Derives}
 use Rattle.spki_reduce.specs.Supports.{Supports}
 
-pub named_openly : (principal : Principal) (holder : List ℕ) → IsTrue (names Strict principal holder) → IsTrue (names Open principal holder)
+pub named_openly : (principal : Principal) (holder : List ℕ) → IsTrue (names Strict principal holder)
+    → IsTrue (names Open principal holder)
 named_openly (Key octets) holder h = h
 named_openly (Hash Sha1 digest) holder h = let e : false ≡ true = h in cc
 named_openly (Hash Sha256 digest) holder h = h
 named_openly (Hash Sha512 digest) holder h = h
 
 joined_openly : (a b r : Tuple) → Joins Strict a b r → Joins Open a b r
-joined_openly (five a) (five b) (five r) h = record { holder = h.holder; issued = h.issued; whole = h.whole; named = named_openly a.principal h.holder h.named; allowed = h.allowed; result_is = h.result_is }
-joined_openly (five a) (four b) (five r) h = record { rest = h.rest; named = named_openly a.principal b.key h.named; name = h.name; result_is = h.result_is }
-joined_openly (four a) (four b) (four r) h = record { rest = h.rest; named = named_openly a.principal b.key h.named; name = h.name; result_is = h.result_is }
+joined_openly (five a) (five b) (five r) h = record {
+  holder = h.holder;
+  issued = h.issued;
+  whole = h.whole;
+  named = named_openly a.principal h.holder h.named;
+  allowed = h.allowed;
+  result_is = h.result_is;
+}
+joined_openly (five a) (four b) (five r) h = record {
+  rest = h.rest;
+  named = named_openly a.principal b.key h.named;
+  name = h.name;
+  result_is = h.result_is;
+}
+joined_openly (four a) (four b) (four r) h = record {
+  rest = h.rest;
+  named = named_openly a.principal b.key h.named;
+  name = h.name;
+  result_is = h.result_is;
+}
 joined_openly (five a) (five b) (four r) h = absurd h
 joined_openly (five a) (four b) (four r) h = absurd h
 joined_openly (four a) (five b) r h = absurd h
@@ -31,7 +49,8 @@ derived_openly (leaf t) root d = d
 derived_openly (join left right) root d =
     (d.0, d.1, derived_openly left d.0 d.2, derived_openly right d.1 d.3, joined_openly d.0 d.1 root d.4)
 
-pub supported_openly : (tree : Tree) (holder : List ℕ) (request : Request) (moment : List ℕ) → Supports Strict tree holder request moment → Supports Open tree holder request moment
+pub supported_openly : (tree : Tree) (holder : List ℕ) (request : Request) (moment : List ℕ) → Supports Strict tree holder request moment
+    → Supports Open tree holder request moment
 supported_openly tree holder request moment s = record {
   root = s.root;
   derived = derived_openly tree (five s.root) s.derived;
