@@ -1,0 +1,211 @@
+-- A derivation may be bracketed from the left, and its leaves determine its root.
+use Rattle.std.proofs.Common.{◌≡◌, ℕ, List, [], ◌∷◌, ◌++◌, refl, sym, ◌∙◌, ap, append_assoc, append-nil}
+use Rattle.spki_cert.specs.declared.principal.Policy.{Policy}
+use Rattle.spki_tag.specs.Request.{Request}
+use Rattle.spki_reduce.specs.Tuples.{FiveTuple, FourTuple, Tuple, five, four}
+use Rattle.spki_reduce.specs.Rules.{Delegate, Resolve, Link, Joins, delegated, resolved, linked}
+use Rattle.spki_reduce.specs.Derivation.{Tree, leaf, join, leaves, Derives, extended, from_left}
+use Rattle.spki_reduce.specs.Supports.{Supports}
+
+-- ---- lists
+
+head : (x y : Tuple) (xs ys : List Tuple) → x ∷ xs ≡ y ∷ ys → x ≡ y
+head x y xs ys e = cc
+
+tail : (x y : Tuple) (xs ys : List Tuple) → x ∷ xs ≡ y ∷ ys → xs ≡ ys
+tail x y xs ys e = cc
+
+same_rest : (names rest others : List (List ℕ)) (name : List ℕ) → names ≡ name ∷ rest → names ≡ name ∷ others → rest ≡ others
+same_rest names rest others name e f = cc
+
+-- ---- the leaves of trees
+
+extended-append : (tree : Tree) (xs ys : List Tuple) → extended tree (xs ++ ys) ≡ extended (extended tree xs) ys
+extended-append tree [] ys = refl
+extended-append tree (x ∷ xs) ys = extended-append (join tree (leaf x)) xs ys
+
+extended-leaves : (tree : Tree) (ts : List Tuple) → leaves (extended tree ts) ≡ leaves tree ++ ts
+extended-leaves tree [] = sym (append-nil (leaves tree))
+extended-leaves tree (t ∷ ts) = extended-leaves (join tree (leaf t)) ts ∙ append_assoc (leaves tree) (t ∷ []) ts
+
+pub from_left-leaves : (first : Tuple) (rest : List Tuple) → leaves (from_left first rest) ≡ first ∷ rest
+from_left-leaves first rest = extended-leaves (leaf first) rest
+
+-- one tuple more
+pub from_left-more : (first last : Tuple) (rest : List Tuple) → from_left first (rest ++ last ∷ []) ≡ join (from_left first rest) (leaf last)
+from_left-more first last rest = extended-append (leaf first) rest (last ∷ [])
+
+-- the leftmost leaf, and the others
+abbrev first_of : Tree → Tuple
+first_of (leaf t) = t
+first_of (join left right) = first_of left
+
+abbrev others : Tree → List Tuple
+others (leaf t) = []
+others (join left right) = others left ++ leaves right
+
+leaves-is : (tree : Tree) → leaves tree ≡ first_of tree ∷ others tree
+leaves-is (leaf t) = refl
+leaves-is (join left right) = ap (λ ts. ts ++ leaves right) (leaves-is left)
+
+module _ (policy : Policy) where
+  -- ---- two rules: a (b c) is (a b) c
+
+  delegate-delegate : (a b c m r : FiveTuple) → Delegate policy b c m → Delegate policy a m r
+      → Delegate policy a b (delegated a b) × Delegate policy (delegated a b) c r
+  delegate-delegate a b c m r h k = (
+    record {
+      holder = k.holder;
+      issued = sym (ap (λ (t : FiveTuple). t.issuer) h.result_is) ∙ k.issued;
+      whole = k.whole;
+      named = k.named;
+      allowed = k.allowed;
+      result_is = refl;
+    },
+    record {
+      holder = h.holder;
+      issued = h.issued;
+      whole = h.whole;
+      named = h.named;
+      allowed = h.allowed;
+      result_is = simp append_assoc (k.result_is ∙ ap (delegated a) h.result_is);
+    },
+  )
+
+  delegate-resolve : (a b : FiveTuple) (c : FourTuple) (m r : FiveTuple) → Resolve policy b c m → Delegate policy a m r
+      → Delegate policy a b (delegated a b) × Resolve policy (delegated a b) c r
+  delegate-resolve a b c m r h k = (
+    record {
+      holder = k.holder;
+      issued = sym (ap (λ (t : FiveTuple). t.issuer) h.result_is) ∙ k.issued;
+      whole = k.whole;
+      named = k.named;
+      allowed = k.allowed;
+      result_is = refl;
+    },
+    record {
+      rest = h.rest;
+      named = h.named;
+      name = h.name;
+      result_is = simp append_assoc (k.result_is ∙ ap (delegated a) h.result_is);
+    },
+  )
+
+  resolve-link : (a : FiveTuple) (b c m : FourTuple) (r : FiveTuple) → Link policy b c m → (k : Resolve policy a m r)
+      → Resolve policy a b (resolved a b k.rest) × Resolve policy (resolved a b k.rest) c r
+  resolve-link a b c m r h k =
+      let made = k.result_is ∙ ap (λ (t : FourTuple). resolved a t k.rest) h.result_is in (
+        record {
+          rest = k.rest;
+          named = rw (← ap (λ (t : FourTuple). t.key) h.result_is) k.named;
+          name = k.name ∙ ap (λ (t : FourTuple). t.name ∷ k.rest) h.result_is;
+          result_is = refl;
+        },
+        record {
+          rest = h.rest ++ k.rest;
+          named = h.named;
+          name = ap (λ ns. ns ++ k.rest) h.name;
+          result_is = simp append_assoc (simp append_assoc at made);
+        },
+      )
+
+  link-link : (a b c m r : FourTuple) → Link policy b c m → (k : Link policy a m r)
+      → Link policy a b (linked a b k.rest) × Link policy (linked a b k.rest) c r
+  link-link a b c m r h k =
+      let made = k.result_is ∙ ap (λ (t : FourTuple). linked a t k.rest) h.result_is in (
+        record {
+          rest = k.rest;
+          named = rw (← ap (λ (t : FourTuple). t.key) h.result_is) k.named;
+          name = k.name ∙ ap (λ (t : FourTuple). t.name ∷ k.rest) h.result_is;
+          result_is = refl;
+        },
+        record {
+          rest = h.rest ++ k.rest;
+          named = h.named;
+          name = ap (λ ns. ns ++ k.rest) h.name;
+          result_is = simp append_assoc (simp append_assoc at made);
+        },
+      )
+
+  regrouped : (a b c m r : Tuple) → Joins policy b c m → Joins policy a m r → (x : Tuple) × Joins policy a b x × Joins policy x c r
+  regrouped (five a) (five b) (five c) (five m) (five r) h k = let e = delegate-delegate a b c m r h k in (five (delegated a b), e.0, e.1)
+  regrouped (five a) (five b) (five c) (five m) (four r) h k = absurd k
+  regrouped (four a) (five b) (five c) (five m) r h k = absurd k
+  regrouped a (five b) (five c) (four m) r h k = absurd h
+  regrouped (five a) (five b) (four c) (five m) (five r) h k = let e = delegate-resolve a b c m r h k in (five (delegated a b), e.0, e.1)
+  regrouped (five a) (five b) (four c) (five m) (four r) h k = absurd k
+  regrouped (four a) (five b) (four c) (five m) r h k = absurd k
+  regrouped a (five b) (four c) (four m) r h k = absurd h
+  regrouped a (four b) (five c) m r h k = absurd h
+  regrouped a (four b) (four c) (five m) r h k = absurd h
+  regrouped (five a) (four b) (four c) (four m) (five r) h k = let e = resolve-link a b c m r h k in (five (resolved a b k.rest), e.0, e.1)
+  regrouped (five a) (four b) (four c) (four m) (four r) h k = absurd k
+  regrouped (four a) (four b) (four c) (four m) (four r) h k = let e = link-link a b c m r h k in (four (linked a b k.rest), e.0, e.1)
+  regrouped (four a) (four b) (four c) (four m) (five r) h k = absurd k
+
+  -- ---- whole trees
+
+  -- what joins two derivations joins the left one with each leaf of the right one in turn
+  behind : (tree right : Tree) (a b r : Tuple) → Derives policy tree a → Derives policy right b → Joins policy a b r
+      → Derives policy (extended tree (leaves right)) r
+  behind tree (leaf t) a b r da db j = (a, b, da, db, j)
+  behind tree (join m n) a b r da db j =
+      let g = regrouped a db.0 db.1 b r db.4 j in
+      let first = behind tree m a db.0 g.0 da db.2 g.1 in
+      let second = behind (extended tree (leaves m)) n g.0 db.1 r first db.3 g.2 in
+      rw extended-append second
+
+  leftmost : (tree : Tree) (root : Tuple) → Derives policy tree root → Derives policy (from_left (first_of tree) (others tree)) root
+  leftmost (leaf t) root d = d
+  leftmost (join left right) root d =
+      let first = leftmost left d.0 d.2 in
+      rw extended-append (behind (from_left (first_of left) (others left)) right d.0 d.1 root first d.3 d.4)
+
+  pub bracketed : (tree : Tree) (root first : Tuple) (rest : List Tuple) → Derives policy tree root → leaves tree ≡ first ∷ rest
+      → Derives policy (from_left first rest) root
+  bracketed tree root first rest d e =
+      let both : first_of tree ∷ others tree ≡ first ∷ rest = sym (leaves-is tree) ∙ e in
+      let x = head _ _ _ _ both in
+      let xs = tail _ _ _ _ both in
+      rw (← x, ← xs) (leftmost tree root d)
+
+  pub supported : (tree : Tree) (holder : List ℕ) (request : Request) (moment : List ℕ) (first : Tuple) (rest : List Tuple)
+      → Supports policy tree holder request moment → leaves tree ≡ first ∷ rest
+      → Supports policy (from_left first rest) holder request moment
+  supported tree holder request moment first rest s e =
+      record { root = s.root; derived = bracketed tree (five s.root) first rest s.derived e; grants = s.grants }
+
+  -- ---- one root
+
+  same_resolve : (a : FiveTuple) (b : FourTuple) (r s : FiveTuple) → Resolve policy a b r → Resolve policy a b s → r ≡ s
+  same_resolve a b r s h k =
+      h.result_is ∙ ap (resolved a b) (same_rest a.names h.rest k.rest b.name h.name k.name) ∙ sym k.result_is
+
+  same_link : (a b r s : FourTuple) → Link policy a b r → Link policy a b s → r ≡ s
+  same_link a b r s h k =
+      h.result_is ∙ ap (linked a b) (same_rest a.names h.rest k.rest b.name h.name k.name) ∙ sym k.result_is
+
+  same_join : (a b r s : Tuple) → Joins policy a b r → Joins policy a b s → r ≡ s
+  same_join (five a) (five b) (five r) (five s) h k = ap five (h.result_is ∙ sym k.result_is)
+  same_join (five a) (four b) (five r) (five s) h k = ap five (same_resolve a b r s h k)
+  same_join (four a) (four b) (four r) (four s) h k = ap four (same_link a b r s h k)
+  same_join (five a) (five b) (four r) s h k = absurd h
+  same_join (five a) (four b) (four r) s h k = absurd h
+  same_join (four a) (five b) r s h k = absurd h
+  same_join (four a) (four b) (five r) s h k = absurd h
+  same_join (five a) (five b) (five r) (four s) h k = absurd k
+  same_join (five a) (four b) (five r) (four s) h k = absurd k
+  same_join (four a) (four b) (four r) (five s) h k = absurd k
+
+  same_tree : (tree : Tree) (r s : Tuple) → Derives policy tree r → Derives policy tree s → r ≡ s
+  same_tree (leaf t) r s d e = d ∙ sym e
+  same_tree (join left right) r s d e =
+      let x : d.0 ≡ e.0 = same_tree left d.0 e.0 d.2 e.2 in
+      let y : d.1 ≡ e.1 = same_tree right d.1 e.1 d.3 e.3 in
+      same_join e.0 e.1 r s (rw (← x, ← y) d.4) e.4
+
+  pub one_root : (tree other : Tree) (r s : Tuple) → leaves tree ≡ leaves other → Derives policy tree r → Derives policy other s → r ≡ s
+  one_root tree other r s e d f =
+      let left = bracketed tree r _ _ d (leaves-is tree) in
+      let right = bracketed other s _ _ f (sym e ∙ leaves-is tree) in
+      same_tree (from_left (first_of tree) (others tree)) r s left right

@@ -1,0 +1,5 @@
+pub mod Bracketing
+pub mod Examples
+pub mod Between
+pub mod Parts
+pub mod Policies

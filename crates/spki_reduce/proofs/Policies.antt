@@ -1,0 +1,64 @@
+-- What the strict policy allows, the open one allows.
+use Rattle.std.proofs.Common.{◌≡◌, ℕ, List, false, true, IsTrue}
+use Rattle.spki_cert.specs.declared.hash.HashAlg.TheVariants.{Sha1, Sha256, Sha512}
+use Rattle.spki_cert.specs.declared.principal.Policy.TheVariants.{Open, Strict}
+use Rattle.spki_cert.specs.declared.principal.Principal.{Principal}
+use Rattle.spki_cert.specs.declared.principal.Principal.TheVariants.{Key, Hash}
+use Rattle.spki_cert.specs.Naming.{names}
+use Rattle.spki_tag.specs.Request.{Request}
+use Rattle.spki_reduce.specs.Tuples.{Tuple, five, four}
+use Rattle.spki_reduce.specs.Rules.{Joins}
+use Rattle.spki_reduce.specs.Derivation.{Tree, leaf, join, Derives}
+use Rattle.spki_reduce.specs.Supports.{Supports}
+
+pub named_openly : (principal : Principal) (holder : List ℕ) → IsTrue (names Strict principal holder)
+    → IsTrue (names Open principal holder)
+named_openly (Key octets) holder h = h
+named_openly (Hash Sha1 digest) holder h = let e : false ≡ true = h in cc
+named_openly (Hash Sha256 digest) holder h = h
+named_openly (Hash Sha512 digest) holder h = h
+
+joined_openly : (a b r : Tuple) → Joins Strict a b r → Joins Open a b r
+joined_openly (five a) (five b) (five r) h = record {
+  holder = h.holder;
+  issued = h.issued;
+  whole = h.whole;
+  named = named_openly a.principal h.holder h.named;
+  allowed = h.allowed;
+  result_is = h.result_is;
+}
+joined_openly (five a) (four b) (five r) h = record {
+  rest = h.rest;
+  named = named_openly a.principal b.key h.named;
+  name = h.name;
+  result_is = h.result_is;
+}
+joined_openly (four a) (four b) (four r) h = record {
+  rest = h.rest;
+  named = named_openly a.principal b.key h.named;
+  name = h.name;
+  result_is = h.result_is;
+}
+joined_openly (five a) (five b) (four r) h = absurd h
+joined_openly (five a) (four b) (four r) h = absurd h
+joined_openly (four a) (five b) r h = absurd h
+joined_openly (four a) (four b) (five r) h = absurd h
+
+pub derived_openly : (tree : Tree) (root : Tuple) → Derives Strict tree root → Derives Open tree root
+derived_openly (leaf t) root d = d
+derived_openly (join left right) root d =
+    (d.0, d.1, derived_openly left d.0 d.2, derived_openly right d.1 d.3, joined_openly d.0 d.1 root d.4)
+
+pub supported_openly : (tree : Tree) (holder : List ℕ) (request : Request) (moment : List ℕ) → Supports Strict tree holder request moment
+    → Supports Open tree holder request moment
+supported_openly tree holder request moment s = record {
+  root = s.root;
+  derived = derived_openly tree (five s.root) s.derived;
+  grants = record {
+    issuer = s.grants.issuer;
+    whole = s.grants.whole;
+    named = named_openly s.root.principal holder s.grants.named;
+    asked = s.grants.asked;
+    timely = s.grants.timely;
+  };
+}

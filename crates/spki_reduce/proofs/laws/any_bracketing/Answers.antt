@@ -1,0 +1,5 @@
+use Rattle.spki_reduce.proofs.Bracketing.{bracketed, from_left-leaves, supported}
+use Rattle.spki_reduce.proofs.laws.any_bracketing.Goals as goal
+
+pub returns : goal.returns
+returns c = record { leaves = from_left-leaves; derives = bracketed; supports = supported }

@@ -1,0 +1,5 @@
+use Rattle.spki_reduce.proofs.Bracketing.{one_root}
+use Rattle.spki_reduce.proofs.laws.one_root.Goals as goal
+
+pub returns : goal.returns
+returns c = one_root

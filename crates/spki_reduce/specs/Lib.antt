@@ -1,0 +1,5 @@
+-- Reduction of tuples (RFC 2693, section 6).
+pub mod Tuples
+pub mod Rules
+pub mod Derivation
+pub mod Supports

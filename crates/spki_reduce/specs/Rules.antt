@@ -1,0 +1,64 @@
+-- The rules by which two tuples become one (RFC 2693, sections 6.3 and 6.4). Which keys a principal names
+-- depends on the policy.
+use Rattle.std.specs.Prelude.{◌≡◌, ℕ, List, [], ◌∷◌, ◌++◌, IsTrue}
+use Rattle.spki_cert.specs.declared.principal.Policy.{Policy}
+use Rattle.spki_cert.specs.Naming.{names}
+use Rattle.spki_reduce.specs.Tuples.{FiveTuple, FourTuple, Tuple, key, five, four}
+
+-- what a delegated authorization says: from the left issuer to the right subject
+abbrev pub delegated : FiveTuple → FiveTuple → FiveTuple
+delegated left right = record {
+  issuer = left.issuer;
+  principal = right.principal;
+  names = right.names;
+  delegation = right.delegation;
+  tags = left.tags ++ right.tags;
+  windows = left.windows ++ right.windows;
+}
+
+-- Two authorizations (section 6.3): the left subject is the right issuer, and the left one may delegate.
+pub record Delegate (policy : Policy) (left right result : FiveTuple) : Type 0 where
+  pub holder : List ℕ
+  pub issued : right.issuer ≡ key holder
+  pub whole : left.names ≡ []
+  pub named : IsTrue (names policy left.principal holder)
+  pub allowed : IsTrue left.delegation
+  pub result_is : result ≡ delegated left right
+
+-- an authorization whose subject's first name was resolved, with the names that are left
+abbrev pub resolved : FiveTuple → FourTuple → List (List ℕ) → FiveTuple
+resolved left right rest = record left {
+  principal = right.principal;
+  names = right.names ++ rest;
+  windows = left.windows ++ right.windows;
+}
+
+-- An authorization and a name's definition (section 6.4): the left subject begins with the name that the
+-- right one defines. The names behind it come behind those of the definition's subject.
+pub record Resolve (policy : Policy) (left : FiveTuple) (right : FourTuple) (result : FiveTuple) : Type 0 where
+  pub rest : List (List ℕ)
+  pub named : IsTrue (names policy left.principal right.key)
+  pub name : left.names ≡ right.name ∷ rest
+  pub result_is : result ≡ resolved left right rest
+
+-- a name's definition whose subject's first name was resolved
+abbrev pub linked : FourTuple → FourTuple → List (List ℕ) → FourTuple
+linked left right rest = record left {
+  principal = right.principal;
+  names = right.names ++ rest;
+  windows = left.windows ++ right.windows;
+}
+
+-- Two definitions of names (section 6.4): as an authorization and a definition, and the left name is kept.
+pub record Link (policy : Policy) (left right result : FourTuple) : Type 0 where
+  pub rest : List (List ℕ)
+  pub named : IsTrue (names policy left.principal right.key)
+  pub name : left.names ≡ right.name ∷ rest
+  pub result_is : result ≡ linked left right rest
+
+-- Two tuples become a third by one of the rules. A definition never takes an authorization behind it.
+abbrev pub Joins : Policy → Tuple → Tuple → Tuple → Type 0
+Joins policy (five left) (five right) (five result) = Delegate policy left right result
+Joins policy (five left) (four right) (five result) = Resolve policy left right result
+Joins policy (four left) (four right) (four result) = Link policy left right result
+Joins policy _ _ _ = ⊥

@@ -1,0 +1,34 @@
+//! Why a reduction was refused.
+
+ghost use Rattle.std.specs.Prelude.{◌≡◌};
+ghost use Rattle.spki_reduce.specs.declared.fault.ReduceFault.TheVariants.{Memory};
+
+use std::alloc::{AllocError, AllocFailed};
+use thiserror::Error;
+
+/// Why tuples were not reduced, though they may join.
+#[derive(Clone, Copy, Debug, PartialEq, Eq, Error)]
+pub enum ReduceFault {
+    /// The product of the nodes of two tags is over 1,000,000.
+    #[error("the tags are too large")]
+    TooLarge,
+    /// Memory was refused.
+    #[error("out of memory")]
+    Memory,
+}
+
+impl From<AllocError> for ReduceFault {
+    ghost from_gives = { λ _ fault. fault ≡ Memory };
+
+    fn from(_error: AllocError) -> ReduceFault {
+        ReduceFault::Memory
+    }
+}
+
+impl<T: Drop> From<AllocFailed<T>> for ReduceFault {
+    ghost from_gives = { λ _ fault. fault ≡ Memory };
+
+    fn from(_error: AllocFailed<T>) -> ReduceFault {
+        ReduceFault::Memory
+    }
+}

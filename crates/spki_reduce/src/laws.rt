@@ -1,0 +1,55 @@
+//! Laws of derivations.
+
+ghost use Rattle.std.specs.Prelude.{◌≡◌, ℕ, List, ◌∷◌, flat_map};
+ghost use Rattle.spki_cert.specs.declared.principal.Policy.{Policy};
+ghost use Rattle.spki_cert.specs.declared.principal.Policy.TheVariants.{Open, Strict};
+ghost use Rattle.spki_tag.specs.Request.{Request};
+ghost use Rattle.spki_reduce.specs.Tuples.{Tuple, tags_of, windows_of};
+ghost use Rattle.spki_reduce.specs.Derivation.{Tree, leaves, Derives, from_left};
+ghost use Rattle.spki_reduce.specs.Supports.{Supports};
+
+/// What is derived in any bracketing is derived when the same tuples are taken in turn, from the left
+/// (RFC 2693, sections 6.3 and 6.4). So a derivation may be looked for in that bracketing alone.
+///
+/// The converse does not hold: see `other_bracketings`.
+pub fn any_bracketing()
+    ensures leaves { (first : Tuple) (rest : List Tuple) → leaves (from_left first rest) ≡ first ∷ rest }
+    ensures derives { (policy : Policy) (tree : Tree) (root first : Tuple) (rest : List Tuple) →
+        Derives policy tree root → leaves tree ≡ first ∷ rest →
+        Derives policy (from_left first rest) root }
+    ensures supports { (policy : Policy) (tree : Tree) (holder : List ℕ) (request : Request) (moment : List ℕ)
+        (first : Tuple) (rest : List Tuple) →
+        Supports policy tree holder request moment → leaves tree ≡ first ∷ rest →
+        Supports policy (from_left first rest) holder request moment }
+{}
+
+/// Two derivations from the same tuples, in whatever bracketing, have the same root.
+pub fn one_root()
+    ensures { (policy : Policy) (tree other : Tree) (root another : Tuple) →
+        leaves tree ≡ leaves other → Derives policy tree root → Derives policy other another →
+        root ≡ another }
+{}
+
+/// Some derivation has the leaves of no derivation in another bracketing: a name's definition that stands between
+/// two authorizations is for the left one, and never takes the right one.
+pub fn other_bracketings()
+    ensures { (policy : Policy) → (tree other : Tree) × (root : Tuple) ×
+        (leaves other ≡ leaves tree) × Derives policy tree root ×
+        ((another : Tuple) → ¬ Derives policy other another) }
+{}
+
+/// No restriction is lost: the root of a derivation has the tags and the windows of all leaves, in their order
+/// (RFC 2693, sections 6.3.1 and 6.3.2).
+pub fn every_restriction()
+    ensures tags { (policy : Policy) (tree : Tree) (root : Tuple) → Derives policy tree root →
+        tags_of root ≡ flat_map tags_of (leaves tree) }
+    ensures windows { (policy : Policy) (tree : Tree) (root : Tuple) → Derives policy tree root →
+        windows_of root ≡ flat_map windows_of (leaves tree) }
+{}
+
+/// What is derived or supported under the strict policy is so under the open one.
+pub fn strict_implies_open()
+    ensures derives { (tree : Tree) (root : Tuple) → Derives Strict tree root → Derives Open tree root }
+    ensures supports { (tree : Tree) (holder : List ℕ) (request : Request) (moment : List ℕ) →
+        Supports Strict tree holder request moment → Supports Open tree holder request moment }
+{}
