@@ -2,7 +2,7 @@
 ghost use Rattle.std.specs.Prelude.{◌≡◌, ◌++◌, OnOk, OnErr};
 ghost use Rattle.spki_guard.specs.Lines.{yes_entry, no_line, refused_part, refused_item, refused_tag, refused_at, refused_form};
 
-use sexpr_core::fault::FormFault;
+use sexpr_core::FormFault;
 use std::alloc::{AllocError, Global};
 
 /// Puts `yes entry N` behind what is written; `entry` is counted from 1.
