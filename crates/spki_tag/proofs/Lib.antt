@@ -1,4 +1,4 @@
 pub mod Members
 pub mod Spelling
-pub mod Asking
+pub mod Requests
 pub mod Weight

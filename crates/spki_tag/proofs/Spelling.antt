@@ -350,3 +350,16 @@ list_empty used members e = subst (λ us. IsNoTagAfter used faults.EmptyList (gr
 pub so_far_weight : (used counted : ℕ) (vs left further : List Value) (ts : List Tag) (v : Value) → IsReadSoFar used vs ts counted left → left ≡ v ∷ further → weight v ≤ weights (values vs)
 so_far_weight used counted vs left further ts v so_far e =
     subst (λ us. weight v ≤ weights (values us)) (ap (λ (us : List Value). map tag_value ts ++ us) (sym e) ∙ so_far.spelled) (weight_le-weights (map tag_value ts) v further)
+
+-- ---- writing
+
+-- a list is written by its head and its members
+pub list_written : (head : List ℕ) (ts : List Tag) (v : Value) (front out : List Value) → v ≡ group out → out ≡ front ++ map tag_value ts → front ≡ plain head ∷ [] → v ≡ tag_value (list head (tags ts))
+list_written head ts v front out e f g =
+    e ∙ ap group (f ∙ ap (λ (us : List Value). us ++ map tag_value ts) g) ∙ ap (λ us. value.list (value.more (plain head) us)) (sym (tag_values-tags ts))
+
+-- a set is written by the star, its word and its members
+pub set_written : (ts : List Tag) (v : Value) (front out : List Value) → v ≡ group out → out ≡ front ++ map tag_value ts → front ≡ plain (codes "*") ∷ plain (codes "set") ∷ [] → v ≡ tag_value (set (tags ts))
+set_written ts v front out e f g =
+    e ∙ ap group (f ∙ ap (λ (us : List Value). us ++ map tag_value ts) g)
+    ∙ ap (λ us. value.list (value.more (plain (codes "*")) (value.more (plain (codes "set")) us))) (sym (tag_values-tags ts))

@@ -4,7 +4,7 @@ use Rattle.spki_tag.specs.declared.fault.TagFault.{TagFault}
 use Rattle.spki_tag.specs.declared.fault.TagFault.TheVariants as faults
 use Rattle.sexpr_core.specs.Value.{Value, Values, values}
 use Rattle.sexpr_core.specs.Value as value
-use Rattle.spki_tag.specs.Request.{Request, Requests, IsRequest, AreRequests, request_value, request_values}
+use Rattle.spki_tag.specs.Request.{Request, Requests, requests, IsRequest, AreRequests, request_value, request_values}
 use Rattle.spki_tag.specs.Tag.{Tag, Tags, star, string, prefix, range, list, set, none, more, IsTag, AreTags, tags, tag_value, tag_values, contains, nodes, nodes_all, is_normal}
 
 -- the most nodes that a tag has where it is read
@@ -86,6 +86,11 @@ IsNoRequest fault v = (g : Request) → IsRequest g → request_value g ≡ v �
 -- the same of the members of a list
 abbrev pub AreNoRequests : TagFault → List Value → Type 0
 AreNoRequests fault vs = (gs : Requests) → AreRequests gs → request_values gs ≡ values vs → fault ≡ faults.Memory
+
+-- the members of a list were read as requests
+pub record AreAsked (vs : List Value) (gs : List Request) : Type 0 where
+  pub asked : AreRequests (requests gs)
+  pub spelled : map request_value gs ≡ vs
 
 abbrev pub IsHinted : Value → Type 0
 IsHinted v = (hint octets : List ℕ) × (v ≡ value.string (Some hint) octets)

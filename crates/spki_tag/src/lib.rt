@@ -1,6 +1,7 @@
 //! Authorization tags and requests (RFC 2693, section 6.3.1).
 #![tactic(auto)]
 
+mod asking;
 mod fault;
 mod holding;
 mod leaf;
@@ -8,6 +9,7 @@ mod moment;
 mod reading;
 mod request;
 mod tag;
+mod writing;
 
 pub use fault::TagFault;
 pub use moment::{is_date, is_time};
