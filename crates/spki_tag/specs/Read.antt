@@ -51,7 +51,11 @@ RulesOut faults.TooManyNodes P = Unit {0}
 RulesOut faults.StarInRequest P = Unit {0}
 RulesOut faults.Memory P = ⊥
 
--- Why there is no tag: with so many nodes counted before, none that the fault rules out is written as the value.
+-- Why there is no tag: none of at most 1,024 nodes that the fault rules out is written as the value.
+abbrev pub IsNoTag : TagFault → Value → Type 0
+IsNoTag fault v = (w : Tag) → IsTag w → nodes w ≤ most_read → tag_value w ≡ v → RulesOut fault (IsPlain w) → ⊥
+
+-- the same with so many nodes counted before
 abbrev pub IsNoTagAfter : ℕ → TagFault → Value → Type 0
 IsNoTagAfter used fault v = (w : Tag) → IsTag w → used + nodes w ≤ most_read → tag_value w ≡ v → RulesOut fault (IsPlain w) → ⊥
 
@@ -59,9 +63,6 @@ IsNoTagAfter used fault v = (w : Tag) → IsTag w → used + nodes w ≤ most_re
 abbrev pub AreNoTagsAfter : ℕ → TagFault → List Value → Type 0
 AreNoTagsAfter used fault vs =
     (ws : Tags) → AreTags ws → used + nodes_all ws ≤ most_read → tag_values ws ≡ values vs → RulesOut fault (ArePlain ws) → ⊥
-
-abbrev pub IsNoTag : TagFault → Value → Type 0
-IsNoTag fault v = IsNoTagAfter 0 fault v
 
 -- A value was read as a plain tag, with so many nodes counted before and after it.
 pub record IsRead (used : ℕ) (v : Value) (t : Tag) (after : ℕ) : Type 0 where

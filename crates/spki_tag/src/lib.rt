@@ -4,6 +4,7 @@
 mod asking;
 mod fault;
 mod holding;
+mod laws;
 mod leaf;
 mod moment;
 mod reading;
@@ -12,6 +13,7 @@ mod tag;
 mod writing;
 
 pub use fault::TagFault;
+pub use laws::{one_request, one_tag, readings_agree};
 pub use moment::{is_date, is_time};
 pub use request::Ground;
 pub use tag::Tag;
