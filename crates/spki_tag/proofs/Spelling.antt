@@ -7,6 +7,7 @@ use Rattle.sexpr_core.specs.Value.{Value, Values, plain, values, group}
 use Rattle.spki_tag.specs.declared.fault.TagFault.{TagFault}
 use Rattle.spki_tag.specs.declared.fault.TagFault.TheVariants as faults
 use Rattle.spki_tag.specs.Request.{IsHead}
+use Rattle.spki_tag.proofs.OneTag.{tag_only}
 use Rattle.spki_tag.proofs.Weight.{weight, weights, weight_le-weights}
 use Rattle.spki_tag.specs.Tag.{Tag, Tags, tags, star, string, prefix, range, list, set, none, more, IsTag, AreTags, tag_value, tag_values, nodes, nodes_all, is_normal, each_normal, is_nothing, IsNormalTag}
 use Rattle.spki_tag.specs.Read.{IsPlain, ArePlain, RulesOut, ReadsAs, IsNoTagAfter, AreNoTagsAfter, IsRead, AreRead, IsNoHead, IsHinted, most_read}
@@ -75,44 +76,6 @@ form_is_not_plain (prefix s) v vs h p e = p
 form_is_not_plain (range ordering low up) v vs h p e = p
 form_is_not_plain (list head ws) v vs h p e = h.0 cc
 form_is_not_plain (set ws) v vs h p e = p
-
--- ---- a plain tag is the only one that is written so
-
-star_only : (w : Tag) → IsTag w → tag_value w ≡ tag_value star → w ≡ star
-star_only star h e = refl
-star_only (string s) h e = absurd cc
-star_only (prefix s) h e = absurd cc
-star_only (range ordering low up) h e = absurd cc
-star_only (list head ws) h e = absurd (h.0 cc)
-star_only (set ws) h e = absurd cc
-
-string_only : (octets : List ℕ) (w : Tag) → tag_value w ≡ plain octets → w ≡ string octets
-string_only octets star e = absurd cc
-string_only octets (string s) e = ap string cc
-string_only octets (prefix s) e = absurd cc
-string_only octets (range ordering low up) e = absurd cc
-string_only octets (list head ws) e = absurd cc
-string_only octets (set ws) e = absurd cc
-
-mutual
-  pub plain_only : (t w : Tag) → IsPlain t → IsTag t → IsTag w → tag_value w ≡ tag_value t → w ≡ t
-  plain_only star w p h k e = star_only w k e
-  plain_only (string octets) w p h k e = string_only octets w e
-  plain_only (prefix octets) w p h k e = absurd p
-  plain_only (range ordering low up) w p h k e = absurd p
-  plain_only (list head ts) w p h k e =
-      let s = list_shape w head (tag_values ts) h.0 e in
-      s.1 ∙ ap (list head) (plain_all ts s.0 p h.1 (subst IsTag s.1 k).1 s.2)
-  plain_only (set members) w p h k e = absurd p
-
-  plain_all : (ts ws : Tags) → ArePlain ts → AreTags ts → AreTags ws → tag_values ws ≡ tag_values ts → ws ≡ ts
-  plain_all none none p h k e = refl
-  plain_all none (more w ws) p h k e = absurd cc
-  plain_all (more t ts) none p h k e = absurd cc
-  plain_all (more t ts) (more w ws) p h k e =
-      let a : w ≡ t = plain_only t w p.0 h.0 k.0 cc in
-      let b : ws ≡ ts = plain_all ts ws p.1 h.1 k.1 cc in
-      cc
 
 -- ---- plain tags are in normal form
 
@@ -183,21 +146,21 @@ RulesOut-less faults.TooManyNodes P Q f r = r
 RulesOut-less faults.StarInRequest P Q f r = r
 RulesOut-less faults.Memory P Q f r = r
 
--- Behind members that were read as plain tags, tags that are written as the whole list go on as the rest.
-rest_of : (fault : TagFault) (ts : List Tag) (rest : List Value) (ws : Tags) → ArePlain (tags ts) → AreTags (tags ts) → AreTags ws → RulesOut fault (ArePlain ws) → tag_values ws ≡ values (map tag_value ts ++ rest)
+-- Behind members that were read, tags that are written as the whole list go on as the rest.
+rest_of : (fault : TagFault) (ts : List Tag) (rest : List Value) (ws : Tags) → AreTags (tags ts) → AreTags ws → RulesOut fault (ArePlain ws) → tag_values ws ≡ values (map tag_value ts ++ rest)
     → (us : Tags) × AreTags us × RulesOut fault (ArePlain us) × (tag_values us ≡ values rest) × (nodes_all (tags ts) + nodes_all us ≡ nodes_all ws)
-rest_of fault [] rest ws p h k r e = (ws, k, r, e, omega arith)
-rest_of fault (t ∷ ts) rest none p h k r e = absurd cc
-rest_of fault (t ∷ ts) rest (more w ws) p h k r e =
-    let same : w ≡ t = plain_only t w p.0 h.0 k.0 cc in
-    let others = rest_of fault ts rest ws p.1 h.1 k.1 (RulesOut-less fault (ArePlain (more w ws)) (ArePlain ws) (λ x. x.1) r) cc in
+rest_of fault [] rest ws h k r e = (ws, k, r, e, omega arith)
+rest_of fault (t ∷ ts) rest none h k r e = absurd cc
+rest_of fault (t ∷ ts) rest (more w ws) h k r e =
+    let same : w ≡ t = tag_only t w h.0 k.0 cc in
+    let others = rest_of fault ts rest ws h.1 k.1 (RulesOut-less fault (ArePlain (more w ws)) (ArePlain ws) (λ x. x.1) r) cc in
     (others.0, others.1, others.2, others.3, omega (arith, others.4, ap nodes same))
 
 -- a member that is no tag
-pub member_refused : (fault : TagFault) (used before : ℕ) (ts : List Tag) (v : Value) (vs : List Value) → ArePlain (tags ts) → AreTags (tags ts) → before ≡ used + nodes_all (tags ts)
+pub member_refused : (fault : TagFault) (used before : ℕ) (ts : List Tag) (v : Value) (vs : List Value) → AreTags (tags ts) → before ≡ used + nodes_all (tags ts)
     → IsNoTagAfter before fault v → AreNoTagsAfter used fault (map tag_value ts ++ v ∷ vs)
-member_refused fault used before ts v vs p h counted refused ws k few e r =
-    first_refused (rest_of fault ts (v ∷ vs) ws p h k r e)
+member_refused fault used before ts v vs h counted refused ws k few e r =
+    first_refused (rest_of fault ts (v ∷ vs) ws h k r e)
   where
     first_refused : (us : Tags) × AreTags us × RulesOut fault (ArePlain us) × (tag_values us ≡ values (v ∷ vs)) × (nodes_all (tags ts) + nodes_all us ≡ nodes_all ws) → ⊥
     first_refused (none, written, ruled, spelled, sum) = cc
@@ -319,7 +282,7 @@ pub so_far_refused : (fault : TagFault) (used counted : ℕ) (vs left further : 
     → AreNoTagsAfter used fault vs
 so_far_refused fault used counted vs left further ts v so_far e refused =
     subst (AreNoTagsAfter used fault) (ap (λ (us : List Value). map tag_value ts ++ us) (sym e) ∙ so_far.spelled)
-    (member_refused fault used counted ts v further so_far.plain so_far.written so_far.sum refused)
+    (member_refused fault used counted ts v further so_far.written so_far.sum refused)
 
 -- a list of members that were read
 pub list_is_read : (used after : ℕ) (head : List ℕ) (vs : List Value) (ts : List Tag) → IsHead head → AreRead (used + 2) vs ts after → IsRead used (group (plain head ∷ vs)) (list head (tags ts)) after
@@ -350,3 +313,16 @@ list_empty used members e = subst (λ us. IsNoTagAfter used faults.EmptyList (gr
 pub so_far_weight : (used counted : ℕ) (vs left further : List Value) (ts : List Tag) (v : Value) → IsReadSoFar used vs ts counted left → left ≡ v ∷ further → weight v ≤ weights (values vs)
 so_far_weight used counted vs left further ts v so_far e =
     subst (λ us. weight v ≤ weights (values us)) (ap (λ (us : List Value). map tag_value ts ++ us) (sym e) ∙ so_far.spelled) (weight_le-weights (map tag_value ts) v further)
+
+-- ---- writing
+
+-- a list is written by its head and its members
+pub list_written : (head : List ℕ) (ts : List Tag) (v : Value) (front out : List Value) → v ≡ group out → out ≡ front ++ map tag_value ts → front ≡ plain head ∷ [] → v ≡ tag_value (list head (tags ts))
+list_written head ts v front out e f g =
+    e ∙ ap group (f ∙ ap (λ (us : List Value). us ++ map tag_value ts) g) ∙ ap (λ us. value.list (value.more (plain head) us)) (sym (tag_values-tags ts))
+
+-- a set is written by the star, its word and its members
+pub set_written : (ts : List Tag) (v : Value) (front out : List Value) → v ≡ group out → out ≡ front ++ map tag_value ts → front ≡ plain (codes "*") ∷ plain (codes "set") ∷ [] → v ≡ tag_value (set (tags ts))
+set_written ts v front out e f g =
+    e ∙ ap group (f ∙ ap (λ (us : List Value). us ++ map tag_value ts) g)
+    ∙ ap (λ us. value.list (value.more (plain (codes "*")) (value.more (plain (codes "set")) us))) (sym (tag_values-tags ts))

@@ -4,7 +4,7 @@ use Rattle.spki_tag.specs.declared.fault.TagFault.{TagFault}
 use Rattle.spki_tag.specs.declared.fault.TagFault.TheVariants as faults
 use Rattle.sexpr_core.specs.Value.{Value, Values, values}
 use Rattle.sexpr_core.specs.Value as value
-use Rattle.spki_tag.specs.Request.{Request, Requests, IsRequest, AreRequests, request_value, request_values}
+use Rattle.spki_tag.specs.Request.{Request, Requests, requests, IsRequest, AreRequests, request_value, request_values}
 use Rattle.spki_tag.specs.Tag.{Tag, Tags, star, string, prefix, range, list, set, none, more, IsTag, AreTags, tags, tag_value, tag_values, contains, nodes, nodes_all, is_normal}
 
 -- the most nodes that a tag has where it is read
@@ -51,7 +51,11 @@ RulesOut faults.TooManyNodes P = Unit {0}
 RulesOut faults.StarInRequest P = Unit {0}
 RulesOut faults.Memory P = ⊥
 
--- Why there is no tag: with so many nodes counted before, none that the fault rules out is written as the value.
+-- Why there is no tag: none of at most 1,024 nodes that the fault rules out is written as the value.
+abbrev pub IsNoTag : TagFault → Value → Type 0
+IsNoTag fault v = (w : Tag) → IsTag w → nodes w ≤ most_read → tag_value w ≡ v → RulesOut fault (IsPlain w) → ⊥
+
+-- the same with so many nodes counted before
 abbrev pub IsNoTagAfter : ℕ → TagFault → Value → Type 0
 IsNoTagAfter used fault v = (w : Tag) → IsTag w → used + nodes w ≤ most_read → tag_value w ≡ v → RulesOut fault (IsPlain w) → ⊥
 
@@ -59,9 +63,6 @@ IsNoTagAfter used fault v = (w : Tag) → IsTag w → used + nodes w ≤ most_re
 abbrev pub AreNoTagsAfter : ℕ → TagFault → List Value → Type 0
 AreNoTagsAfter used fault vs =
     (ws : Tags) → AreTags ws → used + nodes_all ws ≤ most_read → tag_values ws ≡ values vs → RulesOut fault (ArePlain ws) → ⊥
-
-abbrev pub IsNoTag : TagFault → Value → Type 0
-IsNoTag fault v = IsNoTagAfter 0 fault v
 
 -- A value was read as a plain tag, with so many nodes counted before and after it.
 pub record IsRead (used : ℕ) (v : Value) (t : Tag) (after : ℕ) : Type 0 where
@@ -86,6 +87,11 @@ IsNoRequest fault v = (g : Request) → IsRequest g → request_value g ≡ v �
 -- the same of the members of a list
 abbrev pub AreNoRequests : TagFault → List Value → Type 0
 AreNoRequests fault vs = (gs : Requests) → AreRequests gs → request_values gs ≡ values vs → fault ≡ faults.Memory
+
+-- the members of a list were read as requests
+pub record AreAsked (vs : List Value) (gs : List Request) : Type 0 where
+  pub asked : AreRequests (requests gs)
+  pub spelled : map request_value gs ≡ vs
 
 abbrev pub IsHinted : Value → Type 0
 IsHinted v = (hint octets : List ℕ) × (v ≡ value.string (Some hint) octets)
