@@ -1,12 +1,13 @@
 -- The members of a list are the siblings behind its node.
-use Rattle.std.proofs.Common.{◌≡◌, ◌≢◌, ℕ, zero, suc, ◌+◌, ◌-◌, ◌<◌, ◌≤◌, List, [], ◌∷◌, ◌++◌, length, get_or, take, drop, refl, sym, ap, subst, ◌∙◌, append_assoc, length-append, arith, inl, inr}
+use Rattle.std.proofs.Common.{◌≡◌, ◌≢◌, ℕ, zero, suc, ◌+◌, ◌-◌, ◌<◌, ◌≤◌, List, [], ◌∷◌, ◌++◌, length, get_or, take, drop, refl, sym, ap, subst, ◌∙◌, append_assoc, add-one, length-append, arith, inl, inr}
 use Rattle.std.specs.Prelude.{slice_range}
 use Rattle.std.proofs.lemmas.Bool.{cases_lt}
-use Rattle.std.proofs.lemmas.List.{take_at, drop_at, append-nil, get_or_append_left, get_or-append_right, length-take, length-take-le, drop-drop, drop-take, length-drop, get_or-drop, get_or-take}
-use Rattle.sexpr_core.specs.Value.{Value, string, list, Values, none, more, members, values, group, plain, size, nodes, nodes_all}
+use Rattle.std.proofs.lemmas.List.{take_at, drop_at, append-nil, get_or_append_left, get_or-append_right, get_or-append-add, length-take, length-take-le, drop-drop, drop-take, length-drop, get_or-drop, get_or-take}
+use Rattle.sexpr_core.specs.Value.{Value, string, list, Values, none, more, members, values, group, plain, size, size_all, nodes, nodes_all}
 use Rattle.sexpr_core.specs.Labels.{values-members, members-values}
 use Rattle.sexpr_core.specs.Places.{IsList, node_at}
 use Rattle.sexpr_core.specs.Form.{siblings, siblings_between, AreSiblings}
+use Rattle.sexpr_core.specs.Parts.{members_of, member_number}
 
 -- the nodes of the n-th of a row stand behind it
 record IsPart (row : List Value) (n : ℕ) (v : Value) : Type 0 where
@@ -150,3 +151,48 @@ split v from to k a apart wide =
 -- none are left exactly at the end
 pub at_end : (v : Value) (from to : ℕ) → from ≡ to → siblings_between v from to ≡ []
 at_end v from to e = let none_left : to - from ≡ 0 = omega arith in rw none_left refl
+
+-- ---- a member by its number
+
+size_all-take : (vs : List Value) (k : ℕ) (d : Value) → k < length vs → size_all (take (k + 1) vs) ≡ size_all (take k vs) + size (get_or vs k d)
+size_all-take [] k d lt = absurd (omega arith)
+size_all-take (v ∷ vs) zero d lt = omega arith
+size_all-take (v ∷ vs) (suc k) d lt = rw add-one (omega (arith, rw add-one at (size_all-take vs k d (omega arith))))
+
+length-nodes_all : (vs : Values) → length (nodes_all vs) ≡ size_all (members vs)
+length-nodes_all none = refl
+length-nodes_all (more v vs) = omega (arith, length-append (nodes v) (nodes_all vs), length-nodes_all vs)
+
+size_all-take-lt : (vs : List Value) (k : ℕ) → k < length vs → size_all (take k vs) < size_all vs
+size_all-take-lt [] k lt = absurd (omega arith)
+size_all-take-lt (v ∷ vs) zero lt = omega (arith, ap length (nodes-first v))
+size_all-take-lt (v ∷ vs) (suc k) lt = omega (arith, size_all-take-lt vs k (omega arith))
+
+member_first : (vs : Values) (k : ℕ) (d : Value) → k < length (members vs) → get_or (nodes_all vs) (size_all (take k (members vs))) d ≡ get_or (members vs) k d
+member_first none k d lt = absurd (omega arith)
+member_first (more v vs) zero d lt = ap (λ (row : List Value). get_or (row ++ nodes_all vs) 0 d) (nodes-first v)
+member_first (more v vs) (suc k) d lt =
+    get_or-append-add (nodes v) (nodes_all vs) (size_all (take k (members vs))) d ∙ member_first vs k d (omega arith)
+
+-- where member k of node n stands
+pub record IsMember (v : Value) (n k : ℕ) : Type 0 where
+  pub within : member_number n k (node_at v n) < size v
+  pub next : member_number n (k + 1) (node_at v n) ≡ member_number n k (node_at v n) + size (node_at v (member_number n k (node_at v n)))
+
+member_by : (v : Value) (n k : ℕ) (w : Value) → n < size v → node_at v n ≡ w → k < length (members_of w) → (member_number n k w < size v) × (node_at v (member_number n k w) ≡ get_or (members_of w) k (plain []))
+member_by v n k (string hint octets) lt e below = absurd (omega arith)
+member_by v n k (list vs) lt e below =
+    let p = subst (λ (w : Value). IsPart (nodes v) n w) e (part v n (plain []) lt) in
+    let row = p.before ++ list vs ∷ [] in
+    let at = size_all (take k (members vs)) in
+    let whole : nodes v ≡ row ++ (nodes_all vs ++ p.after) = p.parts ∙ sym (append_assoc p.before (list vs ∷ []) (nodes_all vs ++ p.after)) in
+    let row_len : n + 1 ≡ length row = omega (arith, length-append p.before (list vs ∷ []), p.begins) in
+    let inside : at < length (nodes_all vs) = omega (arith, length-nodes_all vs, size_all-take-lt (members vs) k below) in (
+      omega (arith, ap length whole, length-append row (nodes_all vs ++ p.after), length-append (nodes_all vs) p.after),
+      rw (whole, row_len) (get_or-append-add row (nodes_all vs ++ p.after) at (plain [])) ∙ get_or_append_left (nodes_all vs) p.after (plain []) at inside ∙ member_first vs k (plain []) below,
+    )
+
+pub member_of : (v : Value) (n k : ℕ) → n < size v → k < length (members_of (node_at v n)) → IsMember v n k
+member_of v n k lt below =
+    let m = member_by v n k (node_at v n) lt refl below in
+    record { within = m.0; next = rw m.1 (omega (arith, size_all-take (members_of (node_at v n)) k (plain []) below)) }

@@ -4,6 +4,7 @@ ghost use Rattle.std.specs.Prelude.{◌≡◌, ◌<◌, ◌≤◌, length, slice
 ghost use Rattle.sexpr_core.specs.Value.{canon, size};
 ghost use Rattle.sexpr_core.specs.Places.{node_at};
 ghost use Rattle.sexpr_core.specs.FormValue.{form_value};
+ghost use Rattle.sexpr_core.specs.Parts.{part_count};
 
 use crate::document::{Doc, NodeId};
 use crate::layout::Shape;
@@ -89,6 +90,17 @@ impl<'d, 'a> Node<'d, 'a> {
                 body: piece(text, body, record.end),
             },
             Shape::List { .. } => Form::List(Members::of(self.document, self.number)),
+        }
+    }
+
+    /// How many members the node has, if it is a list.
+    pub(crate) fn part_count(&self) -> Option<usize>
+        ensures { result ≡ part_count self.now }
+    {
+        match self.document.record(self.number).shape {
+            Shape::Plain { .. } => None,
+            Shape::Hinted { .. } => None,
+            Shape::List { parts } => Some(parts),
         }
     }
 

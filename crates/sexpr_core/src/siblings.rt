@@ -74,3 +74,22 @@ impl<'d, 'a> Members<'d, 'a> {
         Some((first, others))
     }
 }
+
+impl<'d, 'a> Iterator for Members<'d, 'a> {
+    type Item = Node<'d, 'a>;
+
+    ghost next_gives = { YieldsFirst (λ s. s) };
+
+    ghost remaining = { item_count (λ s. s) };
+
+    fn next(&mut self) -> Option<Node<'d, 'a>> {
+        if self.from == self.to {
+            return None;
+        }
+        let document = self.document;
+        let from = self.from;
+        let size = document.record(from).size;
+        self.from = from + size;
+        Some(Node::at(document, from))
+    }
+}
