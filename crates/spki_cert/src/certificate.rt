@@ -1,4 +1,4 @@
-//! Certificates, signatures and sequences.
+//! Certificates, signatures and the items of a sequence.
 
 use crate::entry::Subject;
 use crate::hash::HashAlg;
@@ -8,10 +8,10 @@ use crate::principal::Principal;
 use crate::window::Window;
 use spki_tag::Tag;
 
-/// An authorization certificate (RFC 2693, section 6.1): what an issuer gives to a subject.
+/// An authorization certificate (RFC 2693, sections 3.3 and 6.1).
 #[derive(Drop)]
 pub struct AuthCert<'a> {
-    /// Who gives it, as written.
+    /// Who gives.
     pub issuer: Principal<'a>,
     /// Who is given it.
     pub subject: Subject<'a>,
@@ -21,42 +21,42 @@ pub struct AuthCert<'a> {
     pub tag: Tag,
     /// When.
     pub window: Window,
-    /// The certificate in canonical form, which is what is signed.
+    /// The certificate's canonical octets.
     pub octets: Octets<'a>,
 }
 
-/// A name certificate (RFC 2693, section 6.2): what a name in the issuer's name space stands for.
+/// A name certificate: what a principal means by a name (RFC 2693, section 6.2).
 #[derive(Drop)]
 pub struct NameCert<'a> {
-    /// Whose name it is, as written.
+    /// Whose name it is.
     pub issuer: Principal<'a>,
     /// The name.
     pub name: Octets<'a>,
-    /// What it stands for.
+    /// What it means.
     pub subject: Subject<'a>,
     /// When.
     pub window: Window,
-    /// The certificate in canonical form, which is what is signed.
+    /// The certificate's canonical octets.
     pub octets: Octets<'a>,
 }
 
-/// A signature of the certificate before it.
+/// A signature of a certificate.
 #[derive(Drop)]
 pub struct Signature<'a> {
     /// The algorithm of the digest.
     pub alg: HashAlg,
-    /// The digest of the certificate, as the signer states it.
+    /// The digest of what is signed.
     pub digest: Octets<'a>,
     /// Who signed.
     pub signer: Principal<'a>,
-    /// The signature's value, in canonical form.
+    /// The canonical octets of the signature's value.
     pub value: Octets<'a>,
 }
 
 /// An item of a sequence.
 #[derive(Drop)]
 pub enum SeqItem<'a> {
-    /// A key.
+    /// A key that is shown.
     Key(Key<'a>),
     /// `(do hash alg)`, which has no effect.
     DoHash(HashAlg),
@@ -64,6 +64,6 @@ pub enum SeqItem<'a> {
     Auth(AuthCert<'a>),
     /// A name certificate.
     Name(NameCert<'a>),
-    /// The signature of a certificate.
+    /// The signature of the certificate before it.
     Signature(Signature<'a>),
 }
