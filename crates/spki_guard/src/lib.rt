@@ -1,11 +1,21 @@
 //! The guard: what `spki` does with the octets that it reads.
 #![tactic(auto)]
 
-pub mod answer;
-pub mod command;
+mod answer;
+mod command;
 pub mod lines;
-pub mod metered;
-pub mod reading;
+mod metered;
+mod reading;
 mod reply;
-pub mod run;
-pub mod writing;
+mod running;
+mod writing;
+
+pub use answer::{Answer, Verdict, answer_text};
+pub use command::Command;
+pub use metered::Metered;
+pub use reading::{READER_ASKS, TEXT_OCTETS, TextFault, read_text};
+pub use running::{Status, run};
+pub use writing::{WRITER_ASKS, WriteFault, write_whole};
+
+#[cfg(test)]
+mod tests;
