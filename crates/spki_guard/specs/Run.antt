@@ -3,8 +3,8 @@ use Rattle.std.specs.Prelude.{◌≡◌, ℕ, ◌+◌, ◌<◌, ◌≤◌, ◌�
 use Rattle.std.specs.Io.KnownBytes.{Appends}
 use Rattle.spki_guard.specs.declared.answer.Verdict.{Verdict}
 use Rattle.spki_guard.specs.declared.answer.Verdict.TheVariants.{Done, No, Refused}
-use Rattle.spki_guard.specs.declared.running.Status.{Status}
-use Rattle.spki_guard.specs.declared.running.Status.TheVariants as status
+use Rattle.spki_guard.specs.declared.run.Status.{Status}
+use Rattle.spki_guard.specs.declared.run.Status.TheVariants as status
 use Rattle.spki_guard.specs.declared.metered.Metered.{Metered}
 use Rattle.spki_guard.specs.Metered.{inner_of}
 use Rattle.spki_guard.specs.Sent.{SendsFront}

@@ -1,5 +1,7 @@
 //! What no clause says: that runs come to an answer, and how ends that fail show.
-use super::*;
+use crate::command::Command;
+use crate::metered::Metered;
+use crate::run::{Status, run};
 use std::io;
 use std::io::{Error, ErrorKind, Read, Write};
 use std::test::*;
