@@ -7,3 +7,7 @@ pub mod Form
 pub mod FormValue
 pub mod Tree
 pub mod Parts
+pub mod Prefix
+pub mod Texts
+pub mod Reading
+pub mod Refusal
