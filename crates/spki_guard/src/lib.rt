@@ -9,3 +9,6 @@ pub mod reading;
 mod reply;
 pub mod run;
 pub mod writing;
+
+#[cfg(test)]
+mod tests;
