@@ -90,8 +90,8 @@ decimal_digit (suc k) h =
     let q : suc k / 10 ≡ 0 = omega arith in
     let r : suc k % 10 ≡ suc k = omega arith in
     let e : digits_of 10 (suc k) ≡ suc k ∷ [] =
-      digits_of_step 10 (suc k) (omega arith) (omega arith)
-        ∙ ap (λ n. digits_of 10 n ++ (suc k % 10 ∷ [])) q ∙ ap (λ n. n ∷ []) r in
+    digits_of_step 10 (suc k) (omega arith) (omega arith)
+    ∙ ap (λ n. digits_of 10 n ++ (suc k % 10 ∷ [])) q ∙ ap (λ n. n ∷ []) r in
     decimal_suc k ∙ ap (map digit_of) e
 
 pub decimal_more : (n d : ℕ) → 0 < n → d < 10 → decimal (n * 10 + d) ≡ decimal n ++ (48 + d) ∷ []
@@ -100,10 +100,10 @@ decimal_more n d p low =
     let q : (n * 10 + d) / 10 ≡ n = omega arith in
     let r : (n * 10 + d) % 10 ≡ d = omega arith in
     let e : digits_of 10 (n * 10 + d) ≡ digits_of 10 n ++ (d ∷ []) =
-      digits_of_step 10 (n * 10 + d) (omega arith) (omega arith)
-        ∙ ap (λ k. digits_of 10 k ++ ((n * 10 + d) % 10 ∷ [])) q ∙ ap (λ k. digits_of 10 n ++ (k ∷ [])) r in
+    digits_of_step 10 (n * 10 + d) (omega arith) (omega arith)
+    ∙ ap (λ k. digits_of 10 k ++ ((n * 10 + d) % 10 ∷ [])) q ∙ ap (λ k. digits_of 10 n ++ (k ∷ [])) r in
     decimal_some (n * 10 + d) (omega arith) ∙ ap (map digit_of) e
-      ∙ map-append digit_of (digits_of 10 n) (d ∷ []) ∙ ap (λ s. s ++ ((48 + d) ∷ [])) (sym (decimal_some n p))
+    ∙ map-append digit_of (digits_of 10 n) (d ∷ []) ∙ ap (λ s. s ++ ((48 + d) ∷ [])) (sym (decimal_some n p))
 
 -- ---- one number for a text
 
@@ -133,7 +133,7 @@ decimal_same zero (suc n) e = absurd (decimal_leads (suc n) [] (omega arith) (sy
 decimal_same (suc m) zero e = absurd (decimal_leads (suc m) [] (omega arith) (e ∙ decimal_zero))
 decimal_same (suc m) (suc n) e =
     same_from_digits_of 10 (suc m) (suc n) (omega arith)
-      (map_same (digits_of 10 (suc m)) (digits_of 10 (suc n)) (sym (decimal_suc m) ∙ e ∙ decimal_suc n))
+    (map_same (digits_of 10 (suc m)) (digits_of 10 (suc n)) (sym (decimal_suc m) ∙ e ∙ decimal_suc n))
 
 -- behind "0" stands no digit
 pub zero_ends : (n c : ℕ) (x y : List ℕ) → decimal 0 ++ c ∷ x ≡ decimal n ++ 58 ∷ y → c ≡ 58

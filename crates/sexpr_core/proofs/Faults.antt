@@ -1,15 +1,15 @@
 -- What each step of the reader says of the text where it stops.
-use Rattle.std.proofs.Common.{◌≡◌, ℕ, zero, suc, ◌+◌, ◌-◌, ◌<◌, ◌≤◌, List, [], ◌∷◌, ◌++◌, length, take, replicate, Option, Some, None, refl, sym, ◌∙◌, ap, subst, arith, append_assoc, length-append, append-nil, add-one}
+use Rattle.std.proofs.Common.{◌≡◌, ℕ, suc, ◌+◌, ◌-◌, ◌<◌, ◌≤◌, List, [], ◌∷◌, ◌++◌, length, take, replicate, Some, None, refl, sym, ◌∙◌, ap, subst, arith, append_assoc, length-append, append-nil, add-one}
 use Rattle.std.proofs.lemmas.List.{length-replicate}
 use Rattle.std.proofs.Math.Seq.{take-append-add, take-append_seam}
 use Rattle.sexpr_core.specs.declared.fault.FormFault.{FormFault}
-use Rattle.sexpr_core.specs.declared.fault.FormFault.TheVariants.{TooLong, TooDeep, Short, Bad, Trailing, Memory}
-use Rattle.sexpr_core.specs.Value.{Value, Values, string, list, none, more, decimal, verbatim, canon, canons, depth, depths}
-use Rattle.sexpr_core.specs.Prefix.{Front, Barred, IsBad, IsDeep, FaultAt}
+use Rattle.sexpr_core.specs.declared.fault.FormFault.TheVariants.{TooDeep, Short, Bad}
+use Rattle.sexpr_core.specs.Value.{Value, Values, string, list, none, decimal, verbatim, canon, canons, depths}
+use Rattle.sexpr_core.specs.Prefix.{Front, Barred, FaultAt}
 use Rattle.sexpr_core.specs.Texts.{IsCanon, IsCanonWithin, IsMembers, IsMembersWithin, IsFilled, IsFilledWithin, IsVerbatim, IsHinted, IsClosing, IsLength}
 use Rattle.sexpr_core.proofs.Prefix.{FaultAt-head, FaultAt-tail, FaultAt-from, FaultAt-first, Front-none}
 use Rattle.sexpr_core.proofs.Decimal.{IsDigit, AreDigits-decimal, parts_agree, zero_ends, decimal_starts}
-use Rattle.sexpr_core.proofs.Texts.{verbatim_is, verbatim_differs, colon_no_digit, canon_differs, Opens-verbatim, Opens-hinted, Behind-hint, Behind-closing, Behind-bracket, Behind-bracket_within, From-digit, From-digit_within, Behind-members, Behind-members_within, Behind-open, Behind-open_within, closed_within, From-filled, From-filled_within, Opens-filled, Opens-filled_within}
+use Rattle.sexpr_core.proofs.Texts.{verbatim_is, verbatim_differs, colon_no_digit, Opens-verbatim, Opens-hinted, Behind-hint, Behind-closing, Behind-bracket, Behind-bracket_within, From-digit, From-digit_within, Behind-members, Behind-members_within, Behind-open, Behind-open_within, closed_within, From-filled, From-filled_within, Opens-filled, Opens-filled_within}
 
 some_append : (xs ys : List ℕ) → 0 < length ys → 0 < length (xs ++ ys)
 some_append xs ys h = omega (arith, length-append xs ys)
@@ -35,7 +35,7 @@ pub length_short : (at n : ℕ) (xs : List ℕ) → xs ≡ decimal n ++ [] → F
 length_short at n xs e = record {
   rest = 58 ∷ [];
   some = omega arith;
-  whole = record { number = n; is = ap (λ t. t ++ 58 ∷ []) (e ∙ append-nil (decimal n)) }
+  whole = record { number = n; is = ap (λ t. t ++ 58 ∷ []) (e ∙ append-nil (decimal n)) };
 }
 
 -- the octet c can't stand behind the digits of n
@@ -46,23 +46,23 @@ length_stop : (at n c : ℕ) (xs ys : List ℕ) → xs ≡ decimal n ++ c ∷ ys
 unfolding CannotFollow
 length_stop at n c xs ys e never =
     let before : take (length (decimal n)) xs ≡ decimal n =
-      ap (take (length (decimal n))) e ∙ take-append_seam (decimal n) (c ∷ ys) in
+    ap (take (length (decimal n))) e ∙ take-append_seam (decimal n) (c ∷ ys) in
     let here : take (suc (length (decimal n))) xs ≡ decimal n ++ c ∷ [] =
-      ap (take (suc (length (decimal n)))) e
-        ∙ ap (λ k. take k (decimal n ++ c ∷ ys)) (sym (add-one (length (decimal n))))
-        ∙ take-append-add (decimal n) (c ∷ ys) 1 in
+    ap (take (suc (length (decimal n)))) e
+    ∙ ap (λ k. take k (decimal n ++ c ∷ ys)) (sym (add-one (length (decimal n))))
+    ∙ take-append-add (decimal n) (c ∷ ys) 1 in
     record {
       place = length (decimal n);
       offset = refl;
       within = omega (arith, ap length e, length-append (decimal n) (c ∷ ys));
       before = subst (λ s. Front IsLength s) (sym before)
-        (record { rest = 58 ∷ []; some = omega arith; whole = record { number = n; is = refl } });
+          (record { rest = 58 ∷ []; some = omega arith; whole = record { number = n; is = refl } });
       stops = subst (λ s. Barred IsLength s) (sym here) (record {
         bars = λ t rest after is q.
-          never is.number rest after
+            never is.number rest after
             (sym (append_assoc (decimal n) (c ∷ []) rest) ∙ q ∙ ap (λ s. s ++ after) is.is
-              ∙ append_assoc (decimal is.number) (58 ∷ []) after)
-      })
+            ∙ append_assoc (decimal is.number) (58 ∷ []) after);
+      });
     }
 
 pub length_bad : (at n c : ℕ) (xs ys : List ℕ) → xs ≡ decimal n ++ c ∷ ys → (IsDigit c → ⊥) → (c ≡ 58 → ⊥) → FaultAt IsLength IsLength at xs (Bad (at + length (decimal n)))
@@ -89,10 +89,10 @@ verbatim_short at n xs ys e h =
       whole = record {
         octets = ys ++ replicate (n - length ys) 0;
         is = ap (λ t. t ++ replicate (n - length ys) 0) e
-          ∙ append_assoc (decimal n) (58 ∷ ys) (replicate (n - length ys) 0)
-          ∙ ap (λ k. decimal k ++ 58 ∷ (ys ++ replicate (n - length ys) 0)) (sym whole)
-          ∙ sym (verbatim_is (ys ++ replicate (n - length ys) 0))
-      }
+            ∙ append_assoc (decimal n) (58 ∷ ys) (replicate (n - length ys) 0)
+            ∙ ap (λ k. decimal k ++ 58 ∷ (ys ++ replicate (n - length ys) 0)) (sym whole)
+            ∙ sym (verbatim_is (ys ++ replicate (n - length ys) 0));
+      };
     }
 
 verbatim_none : (octets : List ℕ) → 0 < length (verbatim octets)
@@ -120,8 +120,8 @@ hint_fault at xs e h = FaultAt-head IsHinted IsVerbatim IsHinted IsVerbatim at x
 pub hinted_fault : (at to : ℕ) (hint xs ys : List ℕ) (e : FormFault) → xs ≡ verbatim hint ++ ys → to ≡ at + length (verbatim hint) → FaultAt IsClosing IsClosing to ys e → FaultAt IsHinted IsHinted at xs e
 hinted_fault at to hint xs ys e q p h =
     subst (λ s. FaultAt IsHinted IsHinted at s e) (sym q)
-      (FaultAt-tail IsHinted IsClosing IsHinted IsClosing at (verbatim hint) ys e (Behind-hint hint) (Behind-hint hint)
-        (subst (λ k. FaultAt IsClosing IsClosing k ys e) p h))
+    (FaultAt-tail IsHinted IsClosing IsHinted IsClosing at (verbatim hint) ys e (Behind-hint hint) (Behind-hint hint)
+    (subst (λ k. FaultAt IsClosing IsClosing k ys e) p h))
 
 -- ---- a value
 
@@ -150,7 +150,7 @@ list_deep at ys = record {
   place = 0;
   within = omega arith;
   before = record { rest = 41 ∷ []; some = omega arith; whole = record { value = list none; is = refl } };
-  stops = record { bars = λ t rest after is e. closed_within t rest after is e }
+  stops = record { bars = λ t rest after is e. closed_within t rest after is e };
 }
 
 pub list_fault : (room at : ℕ) (ys : List ℕ) (e : FormFault) → FaultAt IsMembers (IsMembersWithin room) (at + 1) ys e → FaultAt IsCanon (IsCanonWithin (suc room)) at (40 ∷ ys) e
@@ -162,9 +162,9 @@ list_fault room at ys e h =
 behind_members : (room at to : ℕ) (vs : Values) (xs ys : List ℕ) (e : FormFault) → depths vs ≤ room → xs ≡ canons vs ++ ys → to ≡ at + length (canons vs) → FaultAt IsMembers (IsMembersWithin room) to ys e → FaultAt IsMembers (IsMembersWithin room) at xs e
 behind_members room at to vs xs ys e fits q p h =
     subst (λ s. FaultAt IsMembers (IsMembersWithin room) at s e) (sym q)
-      (FaultAt-tail IsMembers IsMembers (IsMembersWithin room) (IsMembersWithin room) at (canons vs) ys e
-        (Behind-members vs) (Behind-members_within room vs fits)
-        (subst (λ k. FaultAt IsMembers (IsMembersWithin room) k ys e) p h))
+    (FaultAt-tail IsMembers IsMembers (IsMembersWithin room) (IsMembersWithin room) at (canons vs) ys e
+    (Behind-members vs) (Behind-members_within room vs fits)
+    (subst (λ k. FaultAt IsMembers (IsMembersWithin room) k ys e) p h))
 
 pub members_short : (room at : ℕ) (vs : Values) (xs : List ℕ) → depths vs ≤ room → xs ≡ canons vs ++ [] → FaultAt IsMembers (IsMembersWithin room) at xs Short
 members_short room at vs xs fits q = behind_members room at (at + length (canons vs)) vs xs [] Short fits q refl
@@ -173,4 +173,4 @@ members_short room at vs xs fits q = behind_members room at (at + length (canons
 pub member_fault : (room at to c : ℕ) (vs : Values) (xs ys : List ℕ) (e : FormFault) → depths vs ≤ room → xs ≡ canons vs ++ c ∷ ys → to ≡ at + length (canons vs) → (c ≡ 41 → ⊥) → FaultAt IsCanon (IsCanonWithin room) to (c ∷ ys) e → FaultAt IsMembers (IsMembersWithin room) at xs e
 member_fault room at to c vs xs ys e fits q p nc h = behind_members room at to vs xs (c ∷ ys) e fits q p
     (FaultAt-from IsMembers IsFilled (IsMembersWithin room) (IsFilledWithin room) to c ys e (From-filled c nc) (From-filled_within room c nc)
-      (FaultAt-head IsFilled IsCanon (IsFilledWithin room) (IsCanonWithin room) to (c ∷ ys) e Opens-filled (Opens-filled_within room) h))
+    (FaultAt-head IsFilled IsCanon (IsFilledWithin room) (IsCanonWithin room) to (c ∷ ys) e Opens-filled (Opens-filled_within room) h))

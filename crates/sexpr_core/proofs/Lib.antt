@@ -1,3 +1,6 @@
+pub mod TableLaws
+pub mod PlaceLaws
+pub mod SiblingLaws
 pub mod Prefix
 pub mod Decimal
 pub mod Texts

@@ -1,10 +1,10 @@
 -- How a fault in a part of a text is a fault of the whole.
-use Rattle.std.proofs.Common.{◌≡◌, ℕ, suc, ◌+◌, ◌<◌, List, [], ◌∷◌, ◌++◌, length, take, refl, sym, ◌∙◌, ap, subst, arith, append_assoc, length-append, add-suc}
+use Rattle.std.proofs.Common.{◌≡◌, ℕ, suc, ◌+◌, ◌<◌, List, [], ◌∷◌, ◌++◌, length, take, sym, ◌∙◌, ap, subst, arith, append_assoc, length-append, add-suc}
 use Rattle.std.proofs.lemmas.List.{append_cancel_left}
 use Rattle.std.proofs.Math.Seq.{take-append-add}
 use Rattle.sexpr_core.specs.declared.fault.FormFault.{FormFault}
 use Rattle.sexpr_core.specs.declared.fault.FormFault.TheVariants.{TooLong, TooDeep, Short, Bad, Trailing, Memory}
-use Rattle.sexpr_core.specs.Prefix.{Begins, Front, Barred, IsBad, IsDeep, FaultAt}
+use Rattle.sexpr_core.specs.Prefix.{Begins, Front, Barred, FaultAt}
 
 -- a text that begins with one of U
 pub record Headed (U : List ℕ → Type 0) (t : List ℕ) : Type 0 where
@@ -42,15 +42,15 @@ Front-head S V xs o f =
     record {
       rest = f.rest ++ b.rest;
       some = let p : 0 < length f.rest = f.some in omega (arith, length-append f.rest b.rest);
-      whole = subst S (append_assoc xs f.rest b.rest) b.whole
+      whole = subst S (append_assoc xs f.rest b.rest) b.whole;
     }
 
 Barred-head : (T U : List ℕ → Type 0) (xs : List ℕ) → Opens T U → Barred U xs → Barred T xs
 Barred-head T U xs o h = record {
   bars = λ t rest after is e.
-    let p : Headed U t = o.back t is in
-    h.bars p.first rest (p.rest ++ after) p.is
-      (e ∙ ap (λ s. s ++ after) p.whole ∙ append_assoc p.first p.rest after)
+      let p : Headed U t = o.back t is in
+      h.bars p.first rest (p.rest ++ after) p.is
+      (e ∙ ap (λ s. s ++ after) p.whole ∙ append_assoc p.first p.rest after);
 }
 
 pub FaultAt-head : (T U S V : List ℕ → Type 0) (at : ℕ) (xs : List ℕ) (e : FormFault) → Opens T U → Opens S V → FaultAt U V at xs e → FaultAt T S at xs e
@@ -59,7 +59,7 @@ FaultAt-head T U S V at xs TooDeep o p h = record {
   place = h.place;
   within = h.within;
   before = Front-head T U (take (suc h.place) xs) o h.before;
-  stops = Barred-head S V (take (suc h.place) xs) p h.stops
+  stops = Barred-head S V (take (suc h.place) xs) p h.stops;
 }
 FaultAt-head T U S V at xs Short o p h = Front-head S V xs p h
 FaultAt-head T U S V at xs (Bad k) o p h = record {
@@ -67,7 +67,7 @@ FaultAt-head T U S V at xs (Bad k) o p h = record {
   offset = h.offset;
   within = h.within;
   before = Front-head S V (take h.place xs) p h.before;
-  stops = Barred-head T U (take (suc h.place) xs) o h.stops
+  stops = Barred-head T U (take (suc h.place) xs) o h.stops;
 }
 FaultAt-head T U S V at xs (Trailing k) o p h = h
 FaultAt-head T U S V at xs Memory o p h = h
@@ -78,17 +78,17 @@ Front-tail : (S V : List ℕ → Type 0) (a ys : List ℕ) → Behind S V a → 
 Front-tail S V a ys o f = record {
   rest = f.rest;
   some = f.some;
-  whole = subst S (sym (append_assoc a ys f.rest)) (o.on (ys ++ f.rest) f.whole)
+  whole = subst S (sym (append_assoc a ys f.rest)) (o.on (ys ++ f.rest) f.whole);
 }
 
 Barred-tail : (T U : List ℕ → Type 0) (a ys : List ℕ) → Behind T U a → Barred U ys → Barred T (a ++ ys)
 Barred-tail T U a ys o h = record {
   bars = λ t rest after is e.
-    let e2 : a ++ (ys ++ rest) ≡ t ++ after = sym (append_assoc a ys rest) ∙ e in
-    let p : Tailed U a t = o.back t (ys ++ rest) after is e2 in
-    let e3 : a ++ (ys ++ rest) ≡ a ++ (p.rest ++ after) =
+      let e2 : a ++ (ys ++ rest) ≡ t ++ after = sym (append_assoc a ys rest) ∙ e in
+      let p : Tailed U a t = o.back t (ys ++ rest) after is e2 in
+      let e3 : a ++ (ys ++ rest) ≡ a ++ (p.rest ++ after) =
       e2 ∙ ap (λ s. s ++ after) p.whole ∙ append_assoc a p.rest after in
-    h.bars p.rest rest after p.is (append_cancel_left a (ys ++ rest) (p.rest ++ after) e3)
+      h.bars p.rest rest after p.is (append_cancel_left a (ys ++ rest) (p.rest ++ after) e3);
 }
 
 more_taken : (a ys : List ℕ) (j : ℕ) → take (suc (length a + j)) (a ++ ys) ≡ a ++ take (suc j) ys
@@ -100,7 +100,7 @@ FaultAt-tail T U S V at a ys TooDeep o p h = record {
   place = length a + h.place;
   within = let w : h.place < length ys = h.within in omega (arith, length-append a ys);
   before = subst (λ s. Front T s) (sym (more_taken a ys h.place)) (Front-tail T U a (take (suc h.place) ys) o h.before);
-  stops = subst (λ s. Barred S s) (sym (more_taken a ys h.place)) (Barred-tail S V a (take (suc h.place) ys) p h.stops)
+  stops = subst (λ s. Barred S s) (sym (more_taken a ys h.place)) (Barred-tail S V a (take (suc h.place) ys) p h.stops);
 }
 FaultAt-tail T U S V at a ys Short o p h = Front-tail S V a ys p h
 FaultAt-tail T U S V at a ys (Bad k) o p h = record {
@@ -108,7 +108,7 @@ FaultAt-tail T U S V at a ys (Bad k) o p h = record {
   offset = let w : k ≡ at + length a + h.place = h.offset in omega arith;
   within = let w : h.place < length ys = h.within in omega (arith, length-append a ys);
   before = subst (λ s. Front S s) (sym (take-append-add a ys h.place)) (Front-tail S V a (take h.place ys) p h.before);
-  stops = subst (λ s. Barred T s) (sym (more_taken a ys h.place)) (Barred-tail T U a (take (suc h.place) ys) o h.stops)
+  stops = subst (λ s. Barred T s) (sym (more_taken a ys h.place)) (Barred-tail T U a (take (suc h.place) ys) o h.stops);
 }
 FaultAt-tail T U S V at a ys (Trailing k) o p h = h
 FaultAt-tail T U S V at a ys Memory o p h = h
@@ -127,7 +127,7 @@ FaultAt-from T U S V at c ys TooDeep o p h = record {
   place = h.place;
   within = h.within;
   before = Front-from T U c (take (suc h.place) (c ∷ ys)) o h.before;
-  stops = Barred-from S V c (take h.place ys) p h.stops
+  stops = Barred-from S V c (take h.place ys) p h.stops;
 }
 FaultAt-from T U S V at c ys Short o p h = Front-from S V c (c ∷ ys) p h
 FaultAt-from T U S V at c ys (Bad k) o p h = record {
@@ -135,7 +135,7 @@ FaultAt-from T U S V at c ys (Bad k) o p h = record {
   offset = h.offset;
   within = h.within;
   before = Front-from S V c (take h.place (c ∷ ys)) p h.before;
-  stops = Barred-from T U c (take h.place ys) o h.stops
+  stops = Barred-from T U c (take h.place ys) o h.stops;
 }
 FaultAt-from T U S V at c ys (Trailing k) o p h = h
 FaultAt-from T U S V at c ys Memory o p h = h
@@ -153,5 +153,5 @@ FaultAt-first T S at c ys front never = record {
   offset = omega arith;
   within = omega arith;
   before = front;
-  stops = record { bars = λ t rest after is e. never t rest after is e }
+  stops = record { bars = λ t rest after is e. never t rest after is e };
 }

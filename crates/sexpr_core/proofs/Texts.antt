@@ -1,12 +1,10 @@
 -- No canonical text is a prefix of another's, and what follows from that for each sort of text.
-use Rattle.std.proofs.Common.{◌≡◌, ℕ, suc, ◌+◌, ◌<◌, ◌≤◌, max, List, [], ◌∷◌, ◌++◌, length, Option, Some, None, refl, sym, ◌∙◌, ap, subst, arith, append_assoc, length-append, replicate}
+use Rattle.std.proofs.Common.{◌≡◌, ℕ, suc, ◌≤◌, max, List, [], ◌∷◌, ◌++◌, length, Some, None, refl, sym, ◌∙◌, ap, subst, arith, append_assoc, replicate}
 use Rattle.std.proofs.lemmas.List.{length-replicate, append-nil}
-use Rattle.std.proofs.lemmas.List.{append_cancel_left}
 use Rattle.sexpr_core.specs.Value.{Value, Values, string, list, none, more, decimal, verbatim, canon, canons, depth, depths}
-use Rattle.sexpr_core.specs.Prefix.{Begins}
 use Rattle.sexpr_core.specs.Texts.{IsCanon, IsCanonWithin, IsMembers, IsMembersWithin, IsFilled, IsFilledWithin, IsVerbatim, IsHinted, IsClosing, IsLength}
-use Rattle.sexpr_core.proofs.Prefix.{Headed, Tailed, Opens, Behind, From}
-use Rattle.sexpr_core.proofs.Decimal.{IsDigit, AreDigits, AreDigits-decimal, StartsWithDigit, decimal_starts, SameParts, parts_agree, decimal_same}
+use Rattle.sexpr_core.proofs.Prefix.{Tailed, Opens, Behind, From}
+use Rattle.sexpr_core.proofs.Decimal.{IsDigit, AreDigits-decimal, decimal_starts, parts_agree, decimal_same}
 
 -- ---- first octets
 
@@ -22,7 +20,7 @@ pub verbatim_begins : (octets x y : List ℕ) (c : ℕ) → verbatim octets ++ x
 verbatim_begins octets x y c e =
     let s = decimal_starts (length octets) in
     let q : (s.digit ∷ s.rest ++ 58 ∷ octets) ++ x ≡ c ∷ y =
-      ap (λ t. (t ++ 58 ∷ octets) ++ x) (sym s.is) ∙ ap (λ t. t ++ x) (sym (verbatim_is octets)) ∙ e in
+    ap (λ t. (t ++ 58 ∷ octets) ++ x) (sym s.is) ∙ ap (λ t. t ++ x) (sym (verbatim_is octets)) ∙ e in
     let d : s.digit ≡ c = cc in
     subst IsDigit d s.low
 
@@ -45,10 +43,10 @@ octets_one (c ∷ a) (d ∷ b) x y l e =
 pub verbatim_one : (a b x y : List ℕ) → verbatim a ++ x ≡ verbatim b ++ y → (a ≡ b) × (x ≡ y)
 verbatim_one a b x y e =
     let q : decimal (length a) ++ 58 ∷ (a ++ x) ≡ decimal (length b) ++ 58 ∷ (b ++ y) =
-      sym (ap (λ t. t ++ x) (verbatim_is a) ∙ append_assoc (decimal (length a)) (58 ∷ a) x)
-        ∙ e ∙ (ap (λ t. t ++ y) (verbatim_is b) ∙ append_assoc (decimal (length b)) (58 ∷ b) y) in
+    sym (ap (λ t. t ++ x) (verbatim_is a) ∙ append_assoc (decimal (length a)) (58 ∷ a) x)
+    ∙ e ∙ (ap (λ t. t ++ y) (verbatim_is b) ∙ append_assoc (decimal (length b)) (58 ∷ b) y) in
     let p = parts_agree (decimal (length a)) (decimal (length b)) (a ++ x) (b ++ y) 58 58
-      (AreDigits-decimal (length a)) (AreDigits-decimal (length b)) colon_no_digit colon_no_digit q in
+    (AreDigits-decimal (length a)) (AreDigits-decimal (length b)) colon_no_digit colon_no_digit q in
     octets_one a b x y (decimal_same (length a) (length b) p.heads) p.tails
 
 no_bracket : IsDigit 91 → ⊥
@@ -66,7 +64,7 @@ no_close h = omega (arith, h.0)
 hinted_one : (g h a b x y : List ℕ) → (verbatim g ++ 93 ∷ verbatim a) ++ x ≡ (verbatim h ++ 93 ∷ verbatim b) ++ y → (g ≡ h) × (a ≡ b) × (x ≡ y)
 hinted_one g h a b x y e =
     let q : verbatim g ++ (93 ∷ (verbatim a ++ x)) ≡ verbatim h ++ (93 ∷ (verbatim b ++ y)) =
-      sym (append_assoc (verbatim g) (93 ∷ verbatim a) x) ∙ e ∙ append_assoc (verbatim h) (93 ∷ verbatim b) y in
+    sym (append_assoc (verbatim g) (93 ∷ verbatim a) x) ∙ e ∙ append_assoc (verbatim h) (93 ∷ verbatim b) y in
     let p = verbatim_one g h (93 ∷ (verbatim a ++ x)) (93 ∷ (verbatim b ++ y)) q in
     let r : 93 ∷ (verbatim a ++ x) ≡ 93 ∷ (verbatim b ++ y) = p.1 in
     let k = verbatim_one a b x y cc in
@@ -97,7 +95,7 @@ mutual
   canon_one (list vs) (list ws) x y e =
       let q : (canons vs ++ 41 ∷ []) ++ x ≡ (canons ws ++ 41 ∷ []) ++ y = cc in
       let r : canons vs ++ 41 ∷ x ≡ canons ws ++ 41 ∷ y =
-        sym (append_assoc (canons vs) (41 ∷ []) x) ∙ q ∙ append_assoc (canons ws) (41 ∷ []) y in
+      sym (append_assoc (canons vs) (41 ∷ []) x) ∙ q ∙ append_assoc (canons ws) (41 ∷ []) y in
       let p = canons_one vs ws x y r in
       (ap list p.0, p.1)
 
@@ -109,7 +107,7 @@ mutual
       absurd (canon_differs v (canons vs ++ 41 ∷ x) y (sym (append_assoc (canon v) (canons vs) (41 ∷ x)) ∙ e))
   canons_one (more v vs) (more w ws) x y e =
       let q : canon v ++ (canons vs ++ 41 ∷ x) ≡ canon w ++ (canons ws ++ 41 ∷ y) =
-        sym (append_assoc (canon v) (canons vs) (41 ∷ x)) ∙ e ∙ append_assoc (canon w) (canons ws) (41 ∷ y) in
+      sym (append_assoc (canon v) (canons vs) (41 ∷ x)) ∙ e ∙ append_assoc (canon w) (canons ws) (41 ∷ y) in
       let p = canon_one v w (canons vs ++ 41 ∷ x) (canons ws ++ 41 ∷ y) q in
       let r = canons_one vs ws x y p.1 in
       (ap (λ k. more k vs) p.0 ∙ ap (more w) r.0, r.1)
@@ -122,55 +120,55 @@ verbatim_text octets = record { octets = octets; is = refl }
 pub Opens-verbatim : Opens IsVerbatim IsLength
 Opens-verbatim = record {
   on = λ a is.
-    let octets : List ℕ = replicate is.number 0 in
-    record {
-      rest = octets;
-      whole = record {
-        octets = octets;
-        is = ap (λ t. t ++ octets) is.is ∙ append_assoc (decimal is.number) (58 ∷ []) octets
-          ∙ ap (λ n. decimal n ++ 58 ∷ octets) (sym (length-replicate is.number 0)) ∙ sym (verbatim_is octets)
-      }
-    };
+      let octets : List ℕ = replicate is.number 0 in
+      record {
+        rest = octets;
+        whole = record {
+          octets = octets;
+          is = ap (λ t. t ++ octets) is.is ∙ append_assoc (decimal is.number) (58 ∷ []) octets
+              ∙ ap (λ n. decimal n ++ 58 ∷ octets) (sym (length-replicate is.number 0)) ∙ sym (verbatim_is octets);
+        };
+      };
   back = λ t is. record {
     first = decimal (length is.octets) ++ 58 ∷ [];
     rest = is.octets;
     is = record { number = length is.octets; is = refl };
-    whole = is.is ∙ verbatim_is is.octets ∙ sym (append_assoc (decimal (length is.octets)) (58 ∷ []) is.octets)
-  }
+    whole = is.is ∙ verbatim_is is.octets ∙ sym (append_assoc (decimal (length is.octets)) (58 ∷ []) is.octets);
+  };
 }
 
 pub Opens-hinted : Opens IsHinted IsVerbatim
 Opens-hinted = record {
   on = λ a is. record {
     rest = 93 ∷ verbatim [];
-    whole = record { hint = is.octets; octets = []; is = ap (λ t. t ++ 93 ∷ verbatim []) is.is }
+    whole = record { hint = is.octets; octets = []; is = ap (λ t. t ++ 93 ∷ verbatim []) is.is };
   };
   back = λ t is. record {
     first = verbatim is.hint;
     rest = 93 ∷ verbatim is.octets;
     is = verbatim_text is.hint;
-    whole = is.is
-  }
+    whole = is.is;
+  };
 }
 
 pub Behind-hint : (hint : List ℕ) → Behind IsHinted IsClosing (verbatim hint)
 Behind-hint hint = record {
   on = λ b is. record { hint = hint; octets = is.octets; is = ap (λ t. verbatim hint ++ t) is.is };
   back = λ t x y is e.
-    let q : verbatim hint ++ x ≡ verbatim is.hint ++ (93 ∷ verbatim is.octets ++ y) =
+      let q : verbatim hint ++ x ≡ verbatim is.hint ++ (93 ∷ verbatim is.octets ++ y) =
       e ∙ ap (λ s. s ++ y) is.is ∙ append_assoc (verbatim is.hint) (93 ∷ verbatim is.octets) y in
-    let p = verbatim_one hint is.hint x (93 ∷ verbatim is.octets ++ y) q in
-    record {
-      rest = 93 ∷ verbatim is.octets;
-      is = record { octets = is.octets; is = refl };
-      whole = is.is ∙ ap (λ k. verbatim k ++ 93 ∷ verbatim is.octets) (sym p.0)
-    }
+      let p = verbatim_one hint is.hint x (93 ∷ verbatim is.octets ++ y) q in
+      record {
+        rest = 93 ∷ verbatim is.octets;
+        is = record { octets = is.octets; is = refl };
+        whole = is.is ∙ ap (λ k. verbatim k ++ 93 ∷ verbatim is.octets) (sym p.0);
+      };
 }
 
 pub Behind-closing : Behind IsClosing IsVerbatim (93 ∷ [])
 Behind-closing = record {
   on = λ b is. record { octets = is.octets; is = ap (λ t. 93 ∷ t) is.is };
-  back = λ t x y is e. record { rest = verbatim is.octets; is = verbatim_text is.octets; whole = is.is }
+  back = λ t x y is e. record { rest = verbatim is.octets; is = verbatim_text is.octets; whole = is.is };
 }
 
 -- ---- values by their first octets
@@ -184,7 +182,7 @@ hinted_back (string None a) t x y is e = tailed_string a t x y 91 IsHinted no_br
 hinted_back (string (Some h) a) t x y is e = record {
   rest = verbatim h ++ 93 ∷ verbatim a;
   is = record { hint = h; octets = a; is = refl };
-  whole = is
+  whole = is;
 }
 hinted_back (list vs) t x y is e =
     let q : 91 ∷ x ≡ 40 ∷ ((canons vs ++ 41 ∷ []) ++ y) = e ∙ ap (λ s. s ++ y) is in
@@ -193,13 +191,13 @@ hinted_back (list vs) t x y is e =
 pub Behind-bracket : Behind IsCanon IsHinted (91 ∷ [])
 Behind-bracket = record {
   on = λ b is. record { value = string (Some is.hint) is.octets; is = ap (λ t. 91 ∷ t) is.is };
-  back = λ t x y is e. hinted_back is.value t x y is.is e
+  back = λ t x y is e. hinted_back is.value t x y is.is e;
 }
 
 pub Behind-bracket_within : (room : ℕ) → Behind (IsCanonWithin room) IsHinted (91 ∷ [])
 Behind-bracket_within room = record {
   on = λ b is. record { value = string (Some is.hint) is.octets; fits = omega arith; is = ap (λ t. 91 ∷ t) is.is };
-  back = λ t x y is e. hinted_back is.value t x y is.is e
+  back = λ t x y is e. hinted_back is.value t x y is.is e;
 }
 
 plain_back : (v : Value) (t x y : List ℕ) (c : ℕ) → IsDigit c → t ≡ canon v → c ∷ x ≡ t ++ y → IsVerbatim t
@@ -214,13 +212,13 @@ plain_back (list vs) t x y c low is e =
 pub From-digit : (c : ℕ) → IsDigit c → From c IsCanon IsVerbatim
 From-digit c low = record {
   on = λ t is. record { value = string None is.octets; is = is.is };
-  back = λ t x y is e. plain_back is.value t x y c low is.is e
+  back = λ t x y is e. plain_back is.value t x y c low is.is e;
 }
 
 pub From-digit_within : (room c : ℕ) → IsDigit c → From c (IsCanonWithin room) IsVerbatim
 From-digit_within room c low = record {
   on = λ t is. record { value = string None is.octets; fits = omega arith; is = is.is };
-  back = λ t x y is e. plain_back is.value t x y c low is.is e
+  back = λ t x y is e. plain_back is.value t x y c low is.is e;
 }
 
 -- ---- lists
@@ -255,7 +253,7 @@ canons_rest (more v vs) none x y e =
     absurd (canon_differs v (canons vs ++ x) y (sym (append_assoc (canon v) (canons vs) x) ∙ e))
 canons_rest (more v vs) (more w ws) x y e =
     let q : canon v ++ (canons vs ++ x) ≡ canon w ++ (canons ws ++ 41 ∷ y) =
-      sym (append_assoc (canon v) (canons vs) x) ∙ e ∙ append_assoc (canon w) (canons ws) (41 ∷ y) in
+    sym (append_assoc (canon v) (canons vs) x) ∙ e ∙ append_assoc (canon w) (canons ws) (41 ∷ y) in
     let p = canon_one v w (canons vs ++ x) (canons ws ++ 41 ∷ y) q in
     let r : Rest vs ws = canons_rest vs ws x y p.1 in
     record { rest = r.rest; is = ap (λ k. more k ws) (sym p.0) ∙ ap (more v) r.is }
@@ -263,7 +261,7 @@ canons_rest (more v vs) (more w ws) x y e =
 members_on : (vs ws : Values) (b : List ℕ) → b ≡ canons ws ++ 41 ∷ [] → canons vs ++ b ≡ canons (join vs ws) ++ 41 ∷ []
 members_on vs ws b is =
     ap (λ t. canons vs ++ t) is ∙ sym (append_assoc (canons vs) (canons ws) (41 ∷ []))
-      ∙ ap (λ t. t ++ 41 ∷ []) (sym (canons-join vs ws))
+    ∙ ap (λ t. t ++ 41 ∷ []) (sym (canons-join vs ws))
 
 members_rest : (vs ws : Values) (t x y : List ℕ) → t ≡ canons ws ++ 41 ∷ [] → canons vs ++ x ≡ t ++ y → Rest vs ws
 members_rest vs ws t x y is e =
@@ -277,12 +275,12 @@ pub Behind-members : (vs : Values) → Behind IsMembers IsMembers (canons vs)
 Behind-members vs = record {
   on = λ b is. record { items = join vs is.items; is = members_on vs is.items b is.is };
   back = λ t x y is e.
-    let r = members_rest vs is.items t x y is.is e in
-    record {
-      rest = canons r.rest ++ 41 ∷ [];
-      is = record { items = r.rest; is = refl };
-      whole = members_whole vs is.items r.rest t is.is r.is
-    }
+      let r = members_rest vs is.items t x y is.is e in
+      record {
+        rest = canons r.rest ++ 41 ∷ [];
+        is = record { items = r.rest; is = refl };
+        whole = members_whole vs is.items r.rest t is.is r.is;
+      };
 }
 
 pub Behind-members_within : (room : ℕ) (vs : Values) → depths vs ≤ room → Behind (IsMembersWithin room) (IsMembersWithin room) (canons vs)
@@ -290,19 +288,19 @@ Behind-members_within room vs h = record {
   on = λ b is. record {
     items = join vs is.items;
     fits = depths-join room vs is.items h is.fits;
-    is = members_on vs is.items b is.is
+    is = members_on vs is.items b is.is;
   };
   back = λ t x y is e.
-    let r = members_rest vs is.items t x y is.is e in
-    record {
-      rest = canons r.rest ++ 41 ∷ [];
-      is = record {
-        items = r.rest;
-        fits = depths_rest room vs r.rest (subst (λ k. depths k ≤ room) r.is is.fits);
-        is = refl
+      let r = members_rest vs is.items t x y is.is e in
+      record {
+        rest = canons r.rest ++ 41 ∷ [];
+        is = record {
+          items = r.rest;
+          fits = depths_rest room vs r.rest (subst (λ k. depths k ≤ room) r.is is.fits);
+          is = refl;
+        };
+        whole = members_whole vs is.items r.rest t is.is r.is;
       };
-      whole = members_whole vs is.items r.rest t is.is r.is
-    }
 }
 
 -- a list behind its opening parenthesis
@@ -318,12 +316,12 @@ pub Behind-open : Behind IsCanon IsMembers (40 ∷ [])
 Behind-open = record {
   on = λ b is. record { value = list is.items; is = ap (λ t. 40 ∷ t) is.is };
   back = λ t x y is e.
-    let p = list_back is.value t x y is.is e in
-    record {
-      rest = canons p.0 ++ 41 ∷ [];
-      is = record { items = p.0; is = refl };
-      whole = is.is ∙ ap canon p.1
-    }
+      let p = list_back is.value t x y is.is e in
+      record {
+        rest = canons p.0 ++ 41 ∷ [];
+        is = record { items = p.0; is = refl };
+        whole = is.is ∙ ap canon p.1;
+      };
 }
 
 pub Behind-open_within : (room : ℕ) → Behind (IsCanonWithin (suc room)) (IsMembersWithin room) (40 ∷ [])
@@ -331,16 +329,16 @@ Behind-open_within room = record {
   on = λ b is. record {
     value = list is.items;
     fits = let h : depths is.items ≤ room = is.fits in omega arith;
-    is = ap (λ t. 40 ∷ t) is.is
+    is = ap (λ t. 40 ∷ t) is.is;
   };
   back = λ t x y is e.
-    let p = list_back is.value t x y is.is e in
-    let h : suc (depths p.0) ≤ suc room = subst (λ k. depth k ≤ suc room) p.1 is.fits in
-    record {
-      rest = canons p.0 ++ 41 ∷ [];
-      is = record { items = p.0; fits = omega arith; is = refl };
-      whole = is.is ∙ ap canon p.1
-    }
+      let p = list_back is.value t x y is.is e in
+      let h : suc (depths p.0) ≤ suc room = subst (λ k. depth k ≤ suc room) p.1 is.fits in
+      record {
+        rest = canons p.0 ++ 41 ∷ [];
+        is = record { items = p.0; fits = omega arith; is = refl };
+        whole = is.is ∙ ap canon p.1;
+      };
 }
 
 -- where no list may open
@@ -362,21 +360,21 @@ pub From-filled : (c : ℕ) → (c ≡ 41 → ⊥) → From c IsMembers IsFilled
 From-filled c h = record {
   on = λ t is. record { items = more is.first is.others; is = is.is };
   back = λ t x y is e.
-    let p = filled_back is.items t x y c h is.is e in
-    record { first = p.0; others = p.1; is = is.is ∙ ap (λ k. canons k ++ 41 ∷ []) p.2 }
+      let p = filled_back is.items t x y c h is.is e in
+      record { first = p.0; others = p.1; is = is.is ∙ ap (λ k. canons k ++ 41 ∷ []) p.2 };
 }
 
 pub From-filled_within : (room c : ℕ) → (c ≡ 41 → ⊥) → From c (IsMembersWithin room) (IsFilledWithin room)
 From-filled_within room c h = record {
   on = λ t is. record { items = more is.first is.others; fits = is.fits; is = is.is };
   back = λ t x y is e.
-    let p = filled_back is.items t x y c h is.is e in
-    record {
-      first = p.0;
-      others = p.1;
-      fits = subst (λ k. depths k ≤ room) p.2 is.fits;
-      is = is.is ∙ ap (λ k. canons k ++ 41 ∷ []) p.2
-    }
+      let p = filled_back is.items t x y c h is.is e in
+      record {
+        first = p.0;
+        others = p.1;
+        fits = subst (λ k. depths k ≤ room) p.2 is.fits;
+        is = is.is ∙ ap (λ k. canons k ++ 41 ∷ []) p.2;
+      };
 }
 
 one_member : (v : Value) (a : List ℕ) → a ≡ canon v → a ++ 41 ∷ [] ≡ canons (more v none) ++ 41 ∷ []
@@ -389,14 +387,14 @@ pub Opens-filled : Opens IsFilled IsCanon
 Opens-filled = record {
   on = λ a is. record {
     rest = 41 ∷ [];
-    whole = record { first = is.value; others = none; is = one_member is.value a is.is }
+    whole = record { first = is.value; others = none; is = one_member is.value a is.is };
   };
   back = λ t is. record {
     first = canon is.first;
     rest = canons is.others ++ 41 ∷ [];
     is = record { value = is.first; is = refl };
-    whole = first_member is.first is.others t is.is
-  }
+    whole = first_member is.first is.others t is.is;
+  };
 }
 
 pub Opens-filled_within : (room : ℕ) → Opens (IsFilledWithin room) (IsCanonWithin room)
@@ -407,8 +405,8 @@ Opens-filled_within room = record {
       first = is.value;
       others = none;
       fits = let h : depth is.value ≤ room = is.fits in omega arith;
-      is = one_member is.value a is.is
-    }
+      is = one_member is.value a is.is;
+    };
   };
   back = λ t is. record {
     first = canon is.first;
@@ -416,8 +414,8 @@ Opens-filled_within room = record {
     is = record {
       value = is.first;
       fits = let h : max (depth is.first) (depths is.others) ≤ room = is.fits in omega arith;
-      is = refl
+      is = refl;
     };
-    whole = first_member is.first is.others t is.is
-  }
+    whole = first_member is.first is.others t is.is;
+  };
 }

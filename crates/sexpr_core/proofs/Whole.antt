@@ -1,10 +1,10 @@
 -- From a value read at the beginning of a text to what is said of the whole text.
-use Rattle.std.proofs.Common.{◌≡◌, ℕ, suc, ◌+◌, ◌-◌, ◌<◌, ◌≤◌, List, [], ◌∷◌, ◌++◌, length, take, drop, refl, sym, ◌∙◌, ap, subst, arith, append-nil, add-one, length-drop}
+use Rattle.std.proofs.Common.{◌≡◌, ℕ, suc, ◌+◌, ◌<◌, ◌≤◌, List, [], ◌++◌, length, take, drop, refl, sym, ◌∙◌, ap, subst, arith, append-nil, length-drop}
 use Rattle.std.proofs.lemmas.List.{take-append-drop, take_at, drop_all}
 use Rattle.sexpr_core.specs.declared.fault.FormFault.{FormFault}
 use Rattle.sexpr_core.specs.declared.fault.FormFault.TheVariants.{TooLong, TooDeep, Short, Bad, Trailing, Memory}
 use Rattle.sexpr_core.specs.declared.layout.Record.{Record}
-use Rattle.sexpr_core.specs.Value.{Value, canon, depth, IsWithinLimits}
+use Rattle.sexpr_core.specs.Value.{Value, canon, IsWithinLimits}
 use Rattle.sexpr_core.specs.Layout.{records}
 use Rattle.sexpr_core.specs.Prefix.{Begins, Front, Barred, FaultAt}
 use Rattle.sexpr_core.specs.Texts.{IsCanon, IsCanonWithin}
@@ -27,10 +27,11 @@ refused text Short h = h
 refused text (Bad k) h =
     let e : h.place ≡ k = let o : k ≡ 0 + h.place = h.offset in omega arith in
     let f : suc h.place ≡ k + 1 = omega arith in
-    let w : h.place < length text = h.within in
-    (omega arith,
-     subst (λ n. Front IsShallowText (take n text)) e h.before,
-     subst (λ n. Begins IsCanon (take n text) → ⊥) f (barred_begins IsCanon (take (suc h.place) text) h.stops))
+    let w : h.place < length text = h.within in (
+      omega arith,
+      subst (λ n. Front IsShallowText (take n text)) e h.before,
+      subst (λ n. Begins IsCanon (take n text) → ⊥) f (barred_begins IsCanon (take (suc h.place) text) h.stops),
+    )
 refused text (Trailing k) h = absurd h
 refused text Memory h = h
 
@@ -47,17 +48,19 @@ whole_length text to old new r =
 
 pub trailing : (text : List ℕ) (to : ℕ) (old new : List Record) → ReadsValue 64 text 0 to old new → to < length text → Refused text (Trailing to)
 trailing text to old new r h =
-    let l : to ≡ length (canon r.value) = whole_length text to old new r in
-    (h, record {
-      value = r.value;
-      fits = r.fits;
-      is = ap (take to) r.spelled ∙ take_at (canon r.value) (drop to text) to (sym l)
-    })
+    let l : to ≡ length (canon r.value) = whole_length text to old new r in (
+      h,
+      record {
+        value = r.value;
+        fits = r.fits;
+        is = ap (take to) r.spelled ∙ take_at (canon r.value) (drop to text) to (sym l);
+      },
+    )
 
 pub read_whole : (text : List ℕ) (to : ℕ) (new : List Record) → length text ≤ 1048576 → ReadsValue 64 text 0 to [] new → length text ≤ to → (v : Value) × IsWithinLimits v × (text ≡ canon v) × (new ≡ records 0 v)
 read_whole text to new short r h =
     let e : text ≡ canon r.value =
-      r.spelled ∙ ap (λ t. canon r.value ++ t) (drop_all to text h) ∙ append-nil (canon r.value) in
+    r.spelled ∙ ap (λ t. canon r.value ++ t) (drop_all to text h) ∙ append-nil (canon r.value) in
     (r.value, record { short = omega (arith, ap length e); shallow = r.fits }, e, r.placed)
 
 -- ---- a canonical text within the limits is refused only for want of memory
@@ -70,12 +73,12 @@ only_memory text TooLong v w q h = let s : length (canon v) ≤ 1048576 = w.shor
 only_memory text TooDeep v w q h =
     absurd (h.2 (record {
       rest = drop h.0 text;
-      whole = record { value = v; fits = w.shallow; is = part text v h.0 q }
+      whole = record { value = v; fits = w.shallow; is = part text v h.0 q };
     }))
 only_memory text Short v w q h =
     let s : IsShallowText (text ++ h.rest) = h.whole in
     let e : canon v ++ h.rest ≡ canon s.value ++ [] =
-      ap (λ t. t ++ h.rest) (sym q) ∙ s.is ∙ sym (append-nil (canon s.value)) in
+    ap (λ t. t ++ h.rest) (sym q) ∙ s.is ∙ sym (append-nil (canon s.value)) in
     let p = canon_one v s.value h.rest [] e in
     let some : 0 < length h.rest = h.some in
     absurd (omega (arith, ap length p.1))
@@ -84,7 +87,7 @@ only_memory text (Bad k) v w q h =
 only_memory text (Trailing k) v w q h =
     let s : IsShallowText (take k text) = h.1 in
     let e : canon v ++ [] ≡ canon s.value ++ drop k text =
-      append-nil (canon v) ∙ sym (part text v k q) ∙ ap (λ t. t ++ drop k text) s.is in
+    append-nil (canon v) ∙ sym (part text v k q) ∙ ap (λ t. t ++ drop k text) s.is in
     let p = canon_one v s.value [] (drop k text) e in
     let l : k < length text = h.0 in
     absurd (omega (arith, ap length p.1, length-drop k text))

@@ -25,14 +25,14 @@ abbrev mutual
         start = at;
         end = at + length (canon (string hint octets));
         size = 1;
-        shape = shape at hint octets
+        shape = shape at hint octets;
       } ∷ []
   records at (list vs) =
       record {
         start = at;
         end = at + length (canon (list vs));
         size = size (list vs);
-        shape = Group (length (members vs))
+        shape = Group (length (members vs));
       } ∷ records_all (at + 1) vs
 
   -- those of a list's members, the first of which begins there

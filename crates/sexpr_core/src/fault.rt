@@ -4,7 +4,6 @@ ghost use Rattle.std.specs.Prelude.{◌≡◌};
 ghost use Rattle.sexpr_core.specs.declared.fault.FormFault.TheVariants.{Memory};
 
 use std::alloc::{AllocError, AllocFailed};
-
 use thiserror::Error;
 
 /// Why a text was refused. A text is read from the left, and the first fault met is answered.

@@ -7,5 +7,4 @@ ghost use Rattle.sexpr_core.specs.Value.{Value, canon};
 /// value alone, and goes on in one way (RFC 9804, section 6.1).
 pub fn one_text()
     ensures { (v w : Value) (x y : List ℕ) → canon v ++ x ≡ canon w ++ y → (v ≡ w) × (x ≡ y) }
-{
-}
+{}

@@ -17,9 +17,17 @@ pub(crate) struct Record {
 #[derive(Clone, Copy, Debug)]
 pub(crate) enum Shape {
     /// A string without hint, whose octets begin at `body` and go to the node's end.
-    Plain { body: usize },
+    Plain {
+        body: usize,
+    },
     /// A string with a hint, whose octets lie from `hint` to `hint_end`.
-    Hinted { hint: usize, hint_end: usize, body: usize },
+    Hinted {
+        hint: usize,
+        hint_end: usize,
+        body: usize,
+    },
     /// A list with so many members.
-    List { parts: usize },
+    List {
+        parts: usize,
+    },
 }

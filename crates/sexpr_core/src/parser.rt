@@ -8,10 +8,9 @@ ghost use Rattle.sexpr_core.specs.Prefix.{FaultAt};
 ghost use Rattle.sexpr_core.specs.Texts.{IsCanon, IsCanonWithin, IsMembers, IsMembersWithin, IsLength, IsVerbatim, IsClosing};
 ghost use Rattle.sexpr_core.specs.Reading.{StandsAt, ReadsLength, ReadsVerbatim, ReadsString, ReadsValue, ReadsMembers};
 
-use std::alloc::Global;
-
 use crate::fault::FormFault;
 use crate::layout::{Record, Shape};
+use std::alloc::Global;
 
 /// The most octets that a text may have.
 pub const MOST_OCTETS: usize = 1_048_576;
@@ -44,7 +43,11 @@ fn octet_at(text: &[u8], at: usize) -> Option<u8>
     requires { at ≤ length text.now }
     ensures { MatchOption result (drop at text.now ≡ []) (λ octet. StandsAt text.now at octet) }
 {
-    if at < text.len() { Some(text[at]) } else { None }
+    if at < text.len() {
+        Some(text[at])
+    } else {
+        None
+    }
 }
 
 fn first_digit(text: &[u8], at: usize) -> Result<usize, FormFault>
@@ -100,7 +103,10 @@ fn read_verbatim(text: &[u8], at: usize) -> Result<Piece, FormFault>
     if read.number > text.len() - read.end {
         return Err(FormFault::Short);
     }
-    Ok(Piece { body: read.end, end: read.end + read.number })
+    Ok(Piece {
+        body: read.end,
+        end: read.end + read.number,
+    })
 }
 
 /// The closing bracket of a hint and the string behind it.
@@ -131,8 +137,17 @@ fn read_hinted(text: &[u8], at: usize) -> Result<Record, FormFault>
 {
     let hint = read_verbatim(text, at + 1)?;
     let string = read_closing(text, hint.end)?;
-    let shape = Shape::Hinted { hint: hint.body, hint_end: hint.end, body: string.body };
-    Ok(Record { start: at, end: string.end, size: 1, shape })
+    let shape = Shape::Hinted {
+        hint: hint.body,
+        hint_end: hint.end,
+        body: string.body,
+    };
+    Ok(Record {
+        start: at,
+        end: string.end,
+        size: 1,
+        shape,
+    })
 }
 
 /// A string, of whose text the first octet is known.
@@ -151,12 +166,22 @@ fn read_string(text: &[u8], at: usize, octet: u8) -> Result<Record, FormFault>
         return Err(FormFault::Bad(at));
     }
     let read = read_verbatim(text, at)?;
-    Ok(Record { start: at, end: read.end, size: 1, shape: Shape::Plain { body: read.body } })
+    Ok(Record {
+        start: at,
+        end: read.end,
+        size: 1,
+        shape: Shape::Plain { body: read.body },
+    })
 }
 
 /// A value, whose records go behind those of the nodes before it. At most `room` lists may open in it.
 #[cycle(reading)]
-fn read_value(text: &[u8], at: usize, room: usize, nodes: &mut Vec<Record>) -> Result<usize, FormFault>
+fn read_value(
+    text: &[u8],
+    at: usize,
+    room: usize,
+    nodes: &mut Vec<Record>,
+) -> Result<usize, FormFault>
     requires short { length text.now ≤ 1048576 }
     requires begins { at ≤ length text.now }
     ensures { MatchResult result
@@ -176,7 +201,12 @@ fn read_value(text: &[u8], at: usize, room: usize, nodes: &mut Vec<Record>) -> R
 
 /// A list, from its opening parenthesis on.
 #[cycle(reading)]
-fn read_list(text: &[u8], at: usize, room: usize, nodes: &mut Vec<Record>) -> Result<usize, FormFault>
+fn read_list(
+    text: &[u8],
+    at: usize,
+    room: usize,
+    nodes: &mut Vec<Record>,
+) -> Result<usize, FormFault>
     requires short { length text.now ≤ 1048576 }
     requires begins { StandsAt text.now at 40 }
     ensures { MatchResult result
@@ -187,16 +217,31 @@ fn read_list(text: &[u8], at: usize, room: usize, nodes: &mut Vec<Record>) -> Re
         return Err(FormFault::TooDeep);
     }
     let index = nodes.len();
-    nodes.push(Record { start: at, end: at, size: 1, shape: Shape::List { parts: 0 } })?;
+    nodes.push(Record {
+        start: at,
+        end: at,
+        size: 1,
+        shape: Shape::List { parts: 0 },
+    })?;
     let read = read_members(text, at + 1, room - 1, nodes)?;
     let size = nodes.len() - index;
-    nodes[index] = Record { start: at, end: read.end, size, shape: Shape::List { parts: read.parts } };
+    nodes[index] = Record {
+        start: at,
+        end: read.end,
+        size,
+        shape: Shape::List { parts: read.parts },
+    };
     Ok(read.end)
 }
 
 /// The members of a list and its closing parenthesis.
 #[cycle(reading)]
-fn read_members(text: &[u8], at: usize, room: usize, nodes: &mut Vec<Record>) -> Result<Members, FormFault>
+fn read_members(
+    text: &[u8],
+    at: usize,
+    room: usize,
+    nodes: &mut Vec<Record>,
+) -> Result<Members, FormFault>
     requires short { length text.now ≤ 1048576 }
     requires begins { at ≤ length text.now }
     ensures { MatchResult result

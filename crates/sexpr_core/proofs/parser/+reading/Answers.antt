@@ -1,6 +1,6 @@
 use Rattle.std.proofs.Common.{arith}
 use Rattle.std.proofs.lemmas.Result.{err_from_is_err_and}
-use Rattle.sexpr_core.proofs.Steps.{value_none, string_value, deep_list, in_list, list_read, no_members, more_members, members_end, members_read, in_member}
+use Rattle.sexpr_core.proofs.Steps.{value_none, string_value, deep_list, in_list, list_read, no_members, more_members, members_end, in_member}
 use Rattle.sexpr_core.proofs.parser.+reading.Goals as goal
 
 pub read_list-returns-then-room-eq0 : goal.read_list-returns-then-room-eq0
@@ -14,8 +14,8 @@ read_list-returns-in_err-read t c =
 pub read_list-returns : goal.read_list-returns
 read_list-returns t c =
     list_read _ _ _ _ _ _ _ _ _ _ _ _ (omega arith) c.requires.begins
-      (omega (arith, c.args.nodes.now.ok.0)) c.in_ok-push.ensures.items c.in_ok-read.ensures
-      (omega (arith, c.read_members.new.nodes.ok.0))
+    (omega (arith, c.args.nodes.now.ok.0)) c.in_ok-push.ensures.items c.in_ok-read.ensures
+    (omega (arith, c.read_members.new.nodes.ok.0))
 
 pub read_members-loop-octet-init : goal.read_members-loop-octet-init
 read_members-loop-octet-init t c = no_members _ _ _ _ c.requires.begins
@@ -24,7 +24,7 @@ pub read_members-returns-in_err-i : goal.read_members-returns-in_err-i
 read_members-returns-in_err-i t c =
     let p = err_from_is_err_and c.from_residual.result c.from_residual.ensures.1 in
     rw (p.1, p.2)
-      (in_member _ _ _ _ _ _ _ _ _ c.requires.begins c.loop-octet.invariant c.in-Some.ensures c.if-octet-eq41.false c.in_err-i.ensures)
+    (in_member _ _ _ _ _ _ _ _ _ c.requires.begins c.loop-octet.invariant c.in-Some.ensures c.if-octet-eq41.false c.in_err-i.ensures)
 
 pub read_members-loop-octet-preserved : goal.read_members-loop-octet-preserved
 read_members-loop-octet-preserved t c =

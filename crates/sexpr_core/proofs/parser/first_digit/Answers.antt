@@ -9,6 +9,6 @@ returns-in-None c = first_ended _ c.in-None.ensures
 pub returns-else-octet-ge48 : goal.returns-else-octet-ge48
 returns-else-octet-ge48 c = first_bad _ _ _ c.in-Some.ensures
     (λ h. elim c.else-octet-ge48.branch [
-        else-octet-ge48-via-then-octet-ge48+else-octet-le57 w ↦ omega (arith, h.1)
+      | else-octet-ge48-via-then-octet-ge48+else-octet-le57 w ↦ omega (arith, h.1)
       | else-octet-ge48-via-else-octet-ge48 w ↦ omega (arith, h.0)
     ])

@@ -1,4 +1,3 @@
-use Rattle.std.proofs.Common.{arith}
 use Rattle.std.proofs.lemmas.Result.{err_from_is_err_and}
 use Rattle.sexpr_core.proofs.Whole.{refused, trailing, only_memory}
 use Rattle.sexpr_core.proofs.parser.parse.Goals as goal

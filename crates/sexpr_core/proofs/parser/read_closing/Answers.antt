@@ -1,4 +1,3 @@
-use Rattle.std.proofs.Common.{arith}
 use Rattle.std.proofs.lemmas.Result.{err_from_is_err_and}
 use Rattle.sexpr_core.proofs.Steps.{closing_none, closing_other, closing_on}
 use Rattle.sexpr_core.proofs.parser.read_closing.Goals as goal

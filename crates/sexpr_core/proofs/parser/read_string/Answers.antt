@@ -7,7 +7,7 @@ use Rattle.sexpr_core.proofs.parser.read_string.Goals.{then-octet-lt48-via-then-
 pub returns-then-octet-lt48 : goal.returns-then-octet-lt48
 returns-then-octet-lt48 c = λ room. string_bad room _ _ _ c.requires.begins
     (λ h. elim c.then-octet-lt48.branch [
-        then-octet-lt48-via-then-octet-lt48 w ↦ omega (arith, h.0)
+      | then-octet-lt48-via-then-octet-lt48 w ↦ omega (arith, h.0)
       | then-octet-lt48-via-else-octet-lt48+then-octet-gt57 w ↦ omega (arith, h.1)
     ]) c.if-octet-eq91.false c.requires.no_list
 
