@@ -9,5 +9,5 @@ pub mod Tree
 pub mod Parts
 pub mod Prefix
 pub mod Texts
-pub mod Refusal
 pub mod Reading
+pub mod Refusal

@@ -1,11 +1,15 @@
 //! A canonical text with a table of its nodes.
 
-ghost use Rattle.std.specs.Prelude.{◌≡◌, ◌<◌, ◌^◌};
-ghost use Rattle.sexpr_core.specs.Value.{canon, size, node};
+ghost use Rattle.std.specs.Prelude.{◌≡◌, ◌<◌, ◌^◌, ◌↔◌, length, IfOk, IfErr, IsErrOf, IsOkUnless};
+ghost use Rattle.sexpr_core.specs.Value.{Value, canon, size, node, IsWithinLimits};
+ghost use Rattle.sexpr_core.specs.Refusal.{Refused};
 ghost use Rattle.sexpr_core.specs.Places.{IsPlace, node_at};
 
+use crate::fault::FormFault;
 use crate::handle::Node;
 use crate::layout::Record;
+use crate::parser::parse;
+use std::alloc::Global;
 use std::marker::Model;
 
 /// The number of a node in its document. Nodes are numbered from 0 in the order in which they begin in the
@@ -36,6 +40,19 @@ impl<'a> Model for Doc<'a> {
 }
 
 impl<'a> Doc<'a> {
+    /// Reads a text that is one value in canonical form (RFC 9804, section 6.1), of at most `MOST_OCTETS` octets and
+    /// with at most `MOST_LISTS` lists open at once. It takes time linear in the octets, and looks at no octet of
+    /// a string's body. The first fault from the left is the answer; `FormFault` says what each means.
+    pub fn open(alloc: Global, text: &'a [u8]) -> Result<Doc<'a>, FormFault>
+        ensures read { IfOk result (λ document. (text.entry.now ≡ canon document) × IsWithinLimits document) }
+        ensures only { (v : Value) → IsWithinLimits v → text.entry.now ≡ canon v → IsOkUnless result FormFault.Memory }
+        ensures too_long { IsErrOf result FormFault.TooLong ↔ (1048576 < length text.entry.now) }
+        ensures refused { IfErr result (λ fault. Refused text.entry.now fault) }
+    {
+        let table = parse(alloc, text)?;
+        Ok(Doc { text, table })
+    }
+
     /// The document's value itself, as a node.
     pub fn top<'d>(&'d self) -> Node<'d, 'a>
         ensures { result ≡ self.now }

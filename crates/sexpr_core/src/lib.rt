@@ -1,10 +1,10 @@
-//! S-expressions (RFC 9804).
+//! S-expressions (RFC 9804): canonical form, read into documents, and owned trees.
 #![tactic(auto)]
 
 mod document;
-pub mod fault;
+mod fault;
 mod handle;
-pub mod laws;
+mod laws;
 mod layout;
 mod numbers;
 mod parser;
@@ -12,6 +12,9 @@ mod siblings;
 mod tree;
 
 pub use document::{Doc, NodeId};
+pub use fault::FormFault;
 pub use handle::{Form, Node};
+pub use laws::one_text;
+pub use parser::{MOST_LISTS, MOST_OCTETS};
 pub use siblings::Members;
 pub use tree::{Atom, Sexp};

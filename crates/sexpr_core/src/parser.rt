@@ -34,7 +34,7 @@ struct Piece {
 
 /// How many members a list has, and where its closing parenthesis has ended.
 #[derive(Clone, Copy)]
-struct Members {
+struct ListEnd {
     parts: usize,
     end: usize,
 }
@@ -241,7 +241,7 @@ fn read_members(
     at: usize,
     room: usize,
     nodes: &mut Vec<Record>,
-) -> Result<Members, FormFault>
+) -> Result<ListEnd, FormFault>
     requires short { length text.now ≤ 1048576 }
     requires begins { at ≤ length text.now }
     ensures { MatchResult result
@@ -252,7 +252,7 @@ fn read_members(
     let mut i = at;
     while let Some(octet) = octet_at(text, i) {
         if octet == b')' {
-            return Ok(Members { parts, end: i + 1 });
+            return Ok(ListEnd { parts, end: i + 1 });
         }
         i = read_value(text, i, room, nodes)?;
         parts += 1;
