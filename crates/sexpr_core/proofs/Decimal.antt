@@ -71,7 +71,9 @@ pub record SameParts (xs ys x y : List ℕ) (c d : ℕ) : Type 0 where
   pub marks : c ≡ d
   pub tails : x ≡ y
 
-pub parts_agree : (xs ys x y : List ℕ) (c d : ℕ) → AreDigits xs → AreDigits ys → (IsDigit c → ⊥) → (IsDigit d → ⊥) → xs ++ c ∷ x ≡ ys ++ d ∷ y → SameParts xs ys x y c d
+pub parts_agree :
+    (xs ys x y : List ℕ) (c d : ℕ) → AreDigits xs → AreDigits ys → (IsDigit c → ⊥) → (IsDigit d → ⊥) →
+    xs ++ c ∷ x ≡ ys ++ d ∷ y → SameParts xs ys x y c d
 parts_agree [] [] x y c d h k nc nd e = record { heads = refl; marks = cc; tails = cc }
 parts_agree [] (b ∷ ys) x y c d h k nc nd e = let q : b ≡ c = cc in absurd (nc (subst IsDigit q k.0))
 parts_agree (a ∷ xs) [] x y c d h k nc nd e = let q : a ≡ d = cc in absurd (nd (subst IsDigit q h.0))

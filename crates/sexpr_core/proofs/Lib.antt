@@ -7,3 +7,4 @@ pub mod Texts
 pub mod Faults
 pub mod Steps
 pub mod Whole
+pub mod Examples

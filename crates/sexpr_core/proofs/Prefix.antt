@@ -53,7 +53,9 @@ Barred-head T U xs o h = record {
       (e ∙ ap (λ s. s ++ after) p.whole ∙ append_assoc p.first p.rest after);
 }
 
-pub FaultAt-head : (T U S V : List ℕ → Type 0) (at : ℕ) (xs : List ℕ) (e : FormFault) → Opens T U → Opens S V → FaultAt U V at xs e → FaultAt T S at xs e
+pub FaultAt-head :
+    (T U S V : List ℕ → Type 0) (at : ℕ) (xs : List ℕ) (e : FormFault) → Opens T U → Opens S V →
+    FaultAt U V at xs e → FaultAt T S at xs e
 FaultAt-head T U S V at xs TooLong o p h = h
 FaultAt-head T U S V at xs TooDeep o p h = record {
   place = h.place;
@@ -94,7 +96,9 @@ Barred-tail T U a ys o h = record {
 more_taken : (a ys : List ℕ) (j : ℕ) → take (suc (length a + j)) (a ++ ys) ≡ a ++ take (suc j) ys
 more_taken a ys j = ap (λ n. take n (a ++ ys)) (sym (add-suc (length a) j)) ∙ take-append-add a ys (suc j)
 
-pub FaultAt-tail : (T U S V : List ℕ → Type 0) (at : ℕ) (a ys : List ℕ) (e : FormFault) → Behind T U a → Behind S V a → FaultAt U V (at + length a) ys e → FaultAt T S at (a ++ ys) e
+pub FaultAt-tail :
+    (T U S V : List ℕ → Type 0) (at : ℕ) (a ys : List ℕ) (e : FormFault) → Behind T U a → Behind S V a →
+    FaultAt U V (at + length a) ys e → FaultAt T S at (a ++ ys) e
 FaultAt-tail T U S V at a ys TooLong o p h = h
 FaultAt-tail T U S V at a ys TooDeep o p h = record {
   place = length a + h.place;
@@ -121,7 +125,9 @@ Front-from T U c xs o f = record { rest = f.rest; some = f.some; whole = o.on (x
 Barred-from : (T U : List ℕ → Type 0) (c : ℕ) (ys : List ℕ) → From c T U → Barred U (c ∷ ys) → Barred T (c ∷ ys)
 Barred-from T U c ys o h = record { bars = λ t rest after is e. h.bars t rest after (o.back t (ys ++ rest) after is e) e }
 
-pub FaultAt-from : (T U S V : List ℕ → Type 0) (at c : ℕ) (ys : List ℕ) (e : FormFault) → From c T U → From c S V → FaultAt U V at (c ∷ ys) e → FaultAt T S at (c ∷ ys) e
+pub FaultAt-from :
+    (T U S V : List ℕ → Type 0) (at c : ℕ) (ys : List ℕ) (e : FormFault) → From c T U → From c S V →
+    FaultAt U V at (c ∷ ys) e → FaultAt T S at (c ∷ ys) e
 FaultAt-from T U S V at c ys TooLong o p h = h
 FaultAt-from T U S V at c ys TooDeep o p h = record {
   place = h.place;
@@ -147,7 +153,9 @@ pub Front-none : (T : List ℕ → Type 0) (t : List ℕ) → 0 < length t → T
 Front-none T t some is = record { rest = t; some = some; whole = is }
 
 -- no text of T begins with the octet
-pub FaultAt-first : (T S : List ℕ → Type 0) (at c : ℕ) (ys : List ℕ) → Front S [] → ((t x y : List ℕ) → T t → c ∷ x ≡ t ++ y → ⊥) → FaultAt T S at (c ∷ ys) (Bad at)
+pub FaultAt-first :
+    (T S : List ℕ → Type 0) (at c : ℕ) (ys : List ℕ) → Front S [] →
+    ((t x y : List ℕ) → T t → c ∷ x ≡ t ++ y → ⊥) → FaultAt T S at (c ∷ ys) (Bad at)
 FaultAt-first T S at c ys front never = record {
   place = 0;
   offset = omega arith;

@@ -61,7 +61,9 @@ no_open h = omega (arith, h.0)
 pub no_close : IsDigit 41 → ⊥
 no_close h = omega (arith, h.0)
 
-hinted_one : (g h a b x y : List ℕ) → (verbatim g ++ 93 ∷ verbatim a) ++ x ≡ (verbatim h ++ 93 ∷ verbatim b) ++ y → (g ≡ h) × (a ≡ b) × (x ≡ y)
+hinted_one :
+    (g h a b x y : List ℕ) → (verbatim g ++ 93 ∷ verbatim a) ++ x ≡ (verbatim h ++ 93 ∷ verbatim b) ++ y →
+    (g ≡ h) × (a ≡ b) × (x ≡ y)
 hinted_one g h a b x y e =
     let q : verbatim g ++ (93 ∷ (verbatim a ++ x)) ≡ verbatim h ++ (93 ∷ (verbatim b ++ y)) =
     sym (append_assoc (verbatim g) (93 ∷ verbatim a) x) ∙ e ∙ append_assoc (verbatim h) (93 ∷ verbatim b) y in
@@ -173,7 +175,9 @@ Behind-closing = record {
 
 -- ---- values by their first octets
 
-tailed_string : (octets t x y : List ℕ) (c : ℕ) (U : List ℕ → Type 0) → (IsDigit c → ⊥) → t ≡ verbatim octets → c ∷ x ≡ t ++ y → Tailed U (c ∷ []) t
+tailed_string :
+    (octets t x y : List ℕ) (c : ℕ) (U : List ℕ → Type 0) → (IsDigit c → ⊥) → t ≡ verbatim octets →
+    c ∷ x ≡ t ++ y → Tailed U (c ∷ []) t
 tailed_string octets t x y c U h is e =
     absurd (verbatim_differs octets y x c h (ap (λ s. s ++ y) (sym is) ∙ sym e))
 
@@ -267,7 +271,9 @@ members_rest : (vs ws : Values) (t x y : List ℕ) → t ≡ canons ws ++ 41 ∷
 members_rest vs ws t x y is e =
     canons_rest vs ws x y (e ∙ ap (λ s. s ++ y) is ∙ append_assoc (canons ws) (41 ∷ []) y)
 
-members_whole : (vs ws rest : Values) (t : List ℕ) → t ≡ canons ws ++ 41 ∷ [] → ws ≡ join vs rest → t ≡ canons vs ++ (canons rest ++ 41 ∷ [])
+members_whole :
+    (vs ws rest : Values) (t : List ℕ) → t ≡ canons ws ++ 41 ∷ [] → ws ≡ join vs rest →
+    t ≡ canons vs ++ (canons rest ++ 41 ∷ [])
 members_whole vs ws rest t is e =
     is ∙ ap (λ k. canons k ++ 41 ∷ []) e ∙ sym (members_on vs rest (canons rest ++ 41 ∷ []) refl)
 
@@ -283,7 +289,9 @@ Behind-members vs = record {
       };
 }
 
-pub Behind-members_within : (room : ℕ) (vs : Values) → depths vs ≤ room → Behind (IsMembersWithin room) (IsMembersWithin room) (canons vs)
+pub Behind-members_within :
+    (room : ℕ) (vs : Values) → depths vs ≤ room →
+    Behind (IsMembersWithin room) (IsMembersWithin room) (canons vs)
 Behind-members_within room vs h = record {
   on = λ b is. record {
     items = join vs is.items;
@@ -350,7 +358,9 @@ closed_within t x y is e =
 
 -- ---- members, where the next octet is no closing parenthesis
 
-filled_back : (vs : Values) (t x y : List ℕ) (c : ℕ) → (c ≡ 41 → ⊥) → t ≡ canons vs ++ 41 ∷ [] → c ∷ x ≡ t ++ y → (v : Value) × (ws : Values) × (vs ≡ more v ws)
+filled_back :
+    (vs : Values) (t x y : List ℕ) (c : ℕ) → (c ≡ 41 → ⊥) → t ≡ canons vs ++ 41 ∷ [] → c ∷ x ≡ t ++ y →
+    (v : Value) × (ws : Values) × (vs ≡ more v ws)
 filled_back none t x y c h is e =
     let q : c ∷ x ≡ 41 ∷ y = e ∙ ap (λ s. s ++ y) is in
     absurd (h cc)
@@ -380,7 +390,9 @@ From-filled_within room c h = record {
 one_member : (v : Value) (a : List ℕ) → a ≡ canon v → a ++ 41 ∷ [] ≡ canons (more v none) ++ 41 ∷ []
 one_member v a is = ap (λ t. t ++ 41 ∷ []) (is ∙ sym (append-nil (canon v)))
 
-first_member : (v : Value) (vs : Values) (t : List ℕ) → t ≡ canons (more v vs) ++ 41 ∷ [] → t ≡ canon v ++ (canons vs ++ 41 ∷ [])
+first_member :
+    (v : Value) (vs : Values) (t : List ℕ) → t ≡ canons (more v vs) ++ 41 ∷ [] →
+    t ≡ canon v ++ (canons vs ++ 41 ∷ [])
 first_member v vs t is = is ∙ append_assoc (canon v) (canons vs) (41 ∷ [])
 
 pub Opens-filled : Opens IsFilled IsCanon

@@ -40,13 +40,17 @@ never_long text e h q = subst (λ k. FaultAt IsCanon (IsCanonWithin 64) 0 text k
 
 -- ---- a whole value
 
-pub whole_length : (text : List ℕ) (to : ℕ) (old new : List Record) (r : ReadsValue 64 text 0 to old new) → to ≡ length (canon r.value)
+pub whole_length :
+    (text : List ℕ) (to : ℕ) (old new : List Record) (r : ReadsValue 64 text 0 to old new) →
+    to ≡ length (canon r.value)
 whole_length text to old new r =
     let k : to ≤ length text = r.within in
     let l : to ≡ 0 + length (canon r.value) = read_length text (canon r.value) 0 to (omega arith) k r.spelled in
     omega arith
 
-pub trailing : (text : List ℕ) (to : ℕ) (old new : List Record) → ReadsValue 64 text 0 to old new → to < length text → Refused text (Trailing to)
+pub trailing :
+    (text : List ℕ) (to : ℕ) (old new : List Record) → ReadsValue 64 text 0 to old new → to < length text →
+    Refused text (Trailing to)
 trailing text to old new r h =
     let l : to ≡ length (canon r.value) = whole_length text to old new r in (
       h,
@@ -57,7 +61,9 @@ trailing text to old new r h =
       },
     )
 
-pub read_whole : (text : List ℕ) (to : ℕ) (new : List Record) → length text ≤ 1048576 → ReadsValue 64 text 0 to [] new → length text ≤ to → (v : Value) × IsWithinLimits v × (text ≡ canon v) × (new ≡ records 0 v)
+pub read_whole :
+    (text : List ℕ) (to : ℕ) (new : List Record) → length text ≤ 1048576 → ReadsValue 64 text 0 to [] new →
+    length text ≤ to → (v : Value) × IsWithinLimits v × (text ≡ canon v) × (new ≡ records 0 v)
 read_whole text to new short r h =
     let e : text ≡ canon r.value =
     r.spelled ∙ ap (λ t. canon r.value ++ t) (drop_all to text h) ∙ append-nil (canon r.value) in
@@ -68,7 +74,9 @@ read_whole text to new short r h =
 part : (text : List ℕ) (v : Value) (n : ℕ) → text ≡ canon v → take n text ++ drop n text ≡ canon v
 part text v n e = take-append-drop n text ∙ e
 
-pub only_memory : (text : List ℕ) (e : FormFault) (v : Value) → IsWithinLimits v → text ≡ canon v → Refused text e → e ≡ Memory
+pub only_memory :
+    (text : List ℕ) (e : FormFault) (v : Value) → IsWithinLimits v → text ≡ canon v → Refused text e →
+    e ≡ Memory
 only_memory text TooLong v w q h = let s : length (canon v) ≤ 1048576 = w.short in absurd (omega (arith, ap length q))
 only_memory text TooDeep v w q h =
     absurd (h.2 (record {
