@@ -21,7 +21,9 @@ fn read_request(alloc: Global, value: &Node<'_, '_>) -> Result<Ground, TagFault>
     match value.form() {
         Form::List(members) => read_asked(alloc, members),
         Form::String {
-            hint: None, body, ..
+            hint: None,
+            body,
+            ..
         } => Ok(Ground::string(Vec::from_slice(alloc, body)?)),
         Form::String { hint: Some(_), .. } => Err(TagFault::Hint),
     }
@@ -49,11 +51,7 @@ fn read_asked(alloc: Global, members: Members<'_, '_>) -> Result<Ground, TagFaul
 
 /// Reads a list with this head, which isn't `*`, and these members behind it as a request.
 #[cycle(ask)]
-fn read_further(
-    alloc: Global,
-    head: &[u8],
-    further: Members<'_, '_>,
-) -> Result<Ground, TagFault>
+fn read_further(alloc: Global, head: &[u8], further: Members<'_, '_>) -> Result<Ground, TagFault>
     requires { IsHead head.now }
     ensures request { IfOk result (λ g. IsRequest g) }
     ensures read { IfOk result (λ g. request_value g ≡ group (plain head.now ∷ further.entry)) }
