@@ -1,5 +1,5 @@
 -- The members of a tag one after the other, as loops visit them.
-use Rattle.std.proofs.Common.{◌≡◌, ℕ, zero, suc, ◌+◌, ◌≤◌, ◌<◌, Bool, true, false, List, [], ◌∷◌, length, get_or, refl, ap, ◌∙◌, arith, ◌&&◌}
+use Rattle.std.proofs.Common.{◌≡◌, ℕ, zero, suc, ◌≤◌, ◌<◌, Bool, true, false, List, [], ◌∷◌, length, get_or, refl, ap, ◌∙◌, arith, ◌&&◌}
 use Rattle.spki_tag.specs.Request.{Request, requests}
 use Rattle.spki_tag.specs.Tag.{Tag, tags, contains, contain_each, nodes, nodes_all}
 

@@ -1,11 +1,10 @@
 -- One tag is written as a value.
-use Rattle.std.proofs.Common.{◌≡◌, ℕ, Bool, true, false, List, [], ◌∷◌, ◌++◌, Option, Some, None, refl, sym, ap, ◌∙◌, subst}
+use Rattle.std.proofs.Common.{◌≡◌, ℕ, Bool, true, false, List, ◌++◌, Option, Some, None, refl, sym, ap}
 use Rattle.std.specs.Prelude.{codes, if◌then◌else◌}
 use Rattle.std.specs.Str.{bytes_eq}
 use Rattle.std.specs.Cmp.Lexicographic.{other_text}
-use Rattle.sexpr_core.specs.Value as value
-use Rattle.sexpr_core.specs.Value.{Value, Values, plain, values}
-use Rattle.spki_tag.specs.Tag.{Tag, Tags, Limit, Ordering, alpha, time, date, star, string, prefix, range, list, set, none, more, IsTag, AreTags, tag_value, tag_values, ordering_name, limit_values, low_values, up_values, starred}
+use Rattle.sexpr_core.specs.Value.{Values, values}
+use Rattle.spki_tag.specs.Tag.{Tag, Tags, Limit, Ordering, alpha, time, date, star, string, prefix, range, list, set, none, more, IsTag, AreTags, tag_value, tag_values, ordering_name, low_values, up_values, starred}
 
 -- two words that are not the same
 apart : (a b : List ℕ) → false ≡ bytes_eq a b → a ≡ b → ⊥

@@ -1,12 +1,12 @@
 -- Which requests are written as a value.
-use Rattle.std.proofs.Common.{◌≡◌, ℕ, ◌<◌, List, [], ◌∷◌, ◌++◌, map, Option, Some, refl, sym, ap, ◌∙◌, subst, append_assoc, ◌≤◌}
+use Rattle.std.proofs.Common.{◌≡◌, ℕ, List, [], ◌∷◌, ◌++◌, map, Some, refl, sym, ap, ◌∙◌, subst, append_assoc, ◌≤◌}
 use Rattle.std.proofs.lemmas.List.{map_push, append-nil}
 use Rattle.std.specs.Prelude.{codes}
 use Rattle.sexpr_core.specs.Value as value
 use Rattle.sexpr_core.specs.Value.{Value, Values, plain, values, group}
 use Rattle.spki_tag.specs.declared.fault.TagFault.{TagFault}
 use Rattle.spki_tag.specs.declared.fault.TagFault.TheVariants as faults
-use Rattle.spki_tag.specs.Request.{Request, Requests, requests, string, list, none, more, IsRequest, AreRequests, IsHead, request_value, request_values}
+use Rattle.spki_tag.specs.Request.{Request, Requests, requests, string, list, none, more, IsRequest, AreRequests, request_value, request_values}
 use Rattle.spki_tag.specs.Read.{IsNoRequest, AreNoRequests, AreAsked, IsNoHead}
 use Rattle.spki_tag.proofs.Weight.{weight, weights, weight_le-weights}
 

@@ -1,5 +1,5 @@
 -- What a reading of a tag means.
-use Rattle.std.specs.Prelude.{◌≡◌, ℕ, ◌+◌, ◌≤◌, List, Bool, true, map, Some}
+use Rattle.std.specs.Prelude.{◌≡◌, ℕ, ◌+◌, ◌≤◌, List, true, map, Some}
 use Rattle.spki_tag.specs.declared.fault.TagFault.{TagFault}
 use Rattle.spki_tag.specs.declared.fault.TagFault.TheVariants as faults
 use Rattle.sexpr_core.specs.Value.{Value, Values, values}
