@@ -8,7 +8,8 @@ use Rattle.spki_tag.specs.declared.request.Ground.TheDeep.{deep-Ask}
 use Rattle.spki_tag.specs.Request.{Request, requests, request_size, requests_size}
 use Rattle.spki_tag.specs.Asks.{ask_request}
 
-pub most_le-requests_size : (gs : List Request) → most (λ g. request_size g + 1) gs ≤ requests_size (requests gs) + 1
+pub most_le-requests_size : (gs : List Request)
+    → most (λ g. request_size g + 1) gs ≤ requests_size (requests gs) + 1
 most_le-requests_size [] = omega arith
 most_le-requests_size (g ∷ gs) = omega (arith, most_le-requests_size gs)
 

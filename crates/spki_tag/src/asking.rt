@@ -3,7 +3,8 @@
 ghost use Rattle.std.specs.Prelude.{◌≡◌, ◌∷◌, IfOk, IfErr, IfSome, IsSome};
 ghost use Rattle.sexpr_core.specs.Value.{plain, group, node};
 ghost use Rattle.spki_tag.specs.Request.{IsHead, IsRequest, request_value};
-ghost use Rattle.spki_tag.specs.Read.{AreAsked, IsNoRequest, AreNoRequests};
+ghost use Rattle.spki_tag.specs.Read.{IsNoRequest};
+ghost use Rattle.spki_tag.specs.Steps.{AreAsked, AreNoRequests};
 
 use crate::fault::TagFault;
 use crate::reading::head_of;
@@ -20,11 +21,7 @@ fn read_request(alloc: Global, value: &Node<'_, '_>) -> Result<Ground, TagFault>
 {
     match value.form() {
         Form::List(members) => read_asked(alloc, members),
-        Form::String {
-            hint: None,
-            body,
-            ..
-        } => Ok(Ground::string(Vec::from_slice(alloc, body)?)),
+        Form::String { hint: None, body } => Ok(Ground::string(Vec::from_slice(alloc, body)?)),
         Form::String { hint: Some(_), .. } => Err(TagFault::Hint),
     }
 }

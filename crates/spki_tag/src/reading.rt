@@ -4,7 +4,8 @@ ghost use Rattle.std.specs.Prelude.{◌≡◌, ◌+◌, ◌≤◌, ◌<◌, ◌�
 ghost use Rattle.std.specs.Bool.{OnTrue};
 ghost use Rattle.sexpr_core.specs.Value.{plain, group, node};
 ghost use Rattle.spki_tag.specs.Request.{IsHead};
-ghost use Rattle.spki_tag.specs.Read.{ReadsAs, IsRead, AreRead, IsNoTag, IsNoTagAfter, AreNoTagsAfter, IsNoHead, IsHinted, most_read};
+ghost use Rattle.spki_tag.specs.Read.{ReadsAs, IsNoTag, most_read};
+ghost use Rattle.spki_tag.specs.Steps.{IsRead, AreRead, IsNoTagAfter, AreNoTagsAfter, IsNoHead, IsHinted};
 
 use crate::fault::TagFault;
 use crate::tag::Tag;
@@ -21,11 +22,7 @@ pub(crate) fn head_of<'a>(first: &Node<'_, 'a>) -> Result<&'a [u8], TagFault>
 {
     match first.form() {
         Form::List(_) => Err(TagFault::ListHead),
-        Form::String {
-            hint: None,
-            body,
-            ..
-        } => Ok(body),
+        Form::String { hint: None, body } => Ok(body),
         Form::String { hint: Some(_), .. } => Err(TagFault::Hint),
     }
 }
@@ -70,11 +67,10 @@ fn read_tag(alloc: Global, value: &Node<'_, '_>, used: usize) -> Result<(Tag, us
     }
     match value.form() {
         Form::List(members) => read_list(alloc, members, used),
-        Form::String {
-            hint: None,
-            body,
-            ..
-        } => Ok((Tag::string(Vec::from_slice(alloc, body)?), used + 1)),
+        Form::String { hint: None, body } => Ok((
+            Tag::string(Vec::from_slice(alloc, body)?),
+            used + 1,
+        )),
         Form::String { hint: Some(_), .. } => Err(TagFault::Hint),
     }
 }
