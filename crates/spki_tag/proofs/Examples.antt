@@ -1,11 +1,11 @@
 -- The definitions at worked examples.
-use Rattle.std.proofs.Common.{◌≡◌, ℕ, true, false, List, [], ◌∷◌, ◌++◌, Option, Some, None, refl}
+use Rattle.std.proofs.Common.{◌≡◌, ℕ, true, false, List, [], ◌∷◌, Option, Some, None, refl}
 use Rattle.std.specs.Prelude.{codes}
 use Rattle.sexpr_core.specs.Value.{canon, verbatim, decimal}
 use Rattle.spki_tag.specs.Time.{is_time, is_date}
 use Rattle.spki_tag.specs.Request as request
 use Rattle.spki_tag.specs.Request.{Request, Requests}
-use Rattle.spki_tag.specs.Tag.{Tag, Tags, Limit, alpha, time, date, star, string, prefix, range, list, set, tags, contains, is_normal, nodes, ldepth, tag_value}
+use Rattle.spki_tag.specs.Tag.{Tag, Limit, alpha, time, date, star, string, prefix, range, list, set, tags, contains, is_normal, nodes, ldepth, tag_value}
 
 abbrev ask : List ℕ → Request
 ask octets = request.string octets

@@ -1,11 +1,10 @@
 -- One tag is written as a value.
-use Rattle.std.proofs.Common.{◌≡◌, ℕ, Bool, true, false, List, [], ◌∷◌, ◌++◌, Option, Some, None, refl, sym, ap, ◌∙◌, subst}
+use Rattle.std.proofs.Common.{◌≡◌, ℕ, Bool, true, false, List, ◌++◌, Option, Some, None, refl, sym, ap}
 use Rattle.std.specs.Prelude.{codes, if◌then◌else◌}
 use Rattle.std.specs.Str.{bytes_eq}
 use Rattle.std.specs.Cmp.Lexicographic.{other_text}
-use Rattle.sexpr_core.specs.Value as value
-use Rattle.sexpr_core.specs.Value.{Value, Values, plain, values}
-use Rattle.spki_tag.specs.Tag.{Tag, Tags, Limit, Ordering, alpha, time, date, star, string, prefix, range, list, set, none, more, IsTag, AreTags, tag_value, tag_values, ordering_name, limit_values, low_values, up_values, starred}
+use Rattle.sexpr_core.specs.Value.{Values, values}
+use Rattle.spki_tag.specs.Tag.{Tag, Tags, Limit, Ordering, alpha, time, date, star, string, prefix, range, list, set, none, more, IsTag, AreTags, tag_value, tag_values, ordering_name, low_values, up_values, starred}
 
 -- two words that are not the same
 apart : (a b : List ℕ) → false ≡ bytes_eq a b → a ≡ b → ⊥
@@ -55,7 +54,9 @@ up_only None (Some m) e = absurd cc
 up_only (Some k) None e = absurd cc
 up_only (Some k) (Some m) e = same_limit k m (up_word_only k.strict m.strict cc) cc
 
-limits_only : (low up low' up' : Option Limit) → values (low_values low ++ up_values up) ≡ values (low_values low' ++ up_values up') → (low ≡ low') × (up ≡ up')
+limits_only : (low up low' up' : Option Limit)
+    → values (low_values low ++ up_values up) ≡ values (low_values low' ++ up_values up')
+    → (low ≡ low') × (up ≡ up')
 limits_only None up None up' e = (refl, up_only up up' e)
 limits_only None None (Some m) up' e = absurd cc
 limits_only None (Some u) (Some m) up' e = absurd (low_is_not_up m.strict u.strict (sym cc))
@@ -63,7 +64,8 @@ limits_only (Some k) up None None e = absurd cc
 limits_only (Some k) up None (Some u) e = absurd (low_is_not_up k.strict u.strict cc)
 limits_only (Some k) up (Some m) up' e = (same_limit k m (low_word_only k.strict m.strict cc) cc, up_only up up' cc)
 
-same_range : (o p : Ordering) (low up low' up' : Option Limit) → o ≡ p → (low ≡ low') × (up ≡ up') → range o low up ≡ range p low' up'
+same_range : (o p : Ordering) (low up low' up' : Option Limit) → o ≡ p → (low ≡ low') × (up ≡ up')
+    → range o low up ≡ range p low' up'
 same_range o p low up low' up' e f = let a = f.0 in let b = f.1 in cc
 
 -- ---- tags

@@ -1,5 +1,5 @@
 -- Each member of a request is smaller than the request.
-use Rattle.std.specs.Prelude.{ℕ, ◌+◌, ◌≤◌, max, List, [], ◌∷◌}
+use Rattle.std.specs.Prelude.{◌+◌, ◌≤◌, max, List, [], ◌∷◌}
 use Rattle.std.proofs.Common.{arith}
 use denote.Param.Weighed.{most}
 use Rattle.spki_tag.specs.declared.request.Ask.{Ask}
@@ -8,7 +8,8 @@ use Rattle.spki_tag.specs.declared.request.Ground.TheDeep.{deep-Ask}
 use Rattle.spki_tag.specs.Request.{Request, requests, request_size, requests_size}
 use Rattle.spki_tag.specs.Asks.{ask_request}
 
-pub most_le-requests_size : (gs : List Request) → most (λ g. request_size g + 1) gs ≤ requests_size (requests gs) + 1
+pub most_le-requests_size : (gs : List Request)
+    → most (λ g. request_size g + 1) gs ≤ requests_size (requests gs) + 1
 most_le-requests_size [] = omega arith
 most_le-requests_size (g ∷ gs) = omega (arith, most_le-requests_size gs)
 

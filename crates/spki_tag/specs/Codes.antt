@@ -1,6 +1,6 @@
 -- Tags and requests as lists of labels, by which they are told apart: a value and its members, the members
 -- before it and from the last to the first.
-use Rattle.std.specs.Prelude.{◌≡◌, ℕ, zero, suc, List, [], ◌∷◌, Option, Some, None, Bool, refl}
+use Rattle.std.specs.Prelude.{◌≡◌, ℕ, zero, suc, List, [], ◌∷◌, Option, None, Bool, refl}
 use Rattle.std.proofs.Common.{ap, ◌∙◌}
 use Rattle.std.specs.Coded.{Coded, code_by, coded×, coded_ℕ, coded_bool, coded_list, coded_option}
 use Rattle.spki_tag.specs.Request as request
@@ -83,7 +83,8 @@ first_tag (none ∷ below) = star
 first_tag (more t ts ∷ below) = t
 
 mutual
-  pub made-tag : (t : Tag) (rest : List Label) (top : Tags) (below : List Tags) → tags_made (tag_labels t rest) (top ∷ below) ≡ tags_made rest (more t top ∷ below)
+  pub made-tag : (t : Tag) (rest : List Label) (top : Tags) (below : List Tags)
+      → tags_made (tag_labels t rest) (top ∷ below) ≡ tags_made rest (more t top ∷ below)
   made-tag star rest top below = refl
   made-tag (string octets) rest top below = refl
   made-tag (prefix octets) rest top below = refl
@@ -93,7 +94,8 @@ mutual
   made-tag (list head further) rest top below = made-tags further (label 4 head ∷ rest) (top ∷ below)
   made-tag (set members) rest top below = made-tags members (label 5 [] ∷ rest) (top ∷ below)
 
-  pub made-tags : (ts : Tags) (rest : List Label) (below : List Tags) → tags_made (tags_labels ts rest) (none ∷ below) ≡ tags_made rest (ts ∷ below)
+  pub made-tags : (ts : Tags) (rest : List Label) (below : List Tags)
+      → tags_made (tags_labels ts rest) (none ∷ below) ≡ tags_made rest (ts ∷ below)
   made-tags none rest below = refl
   made-tags (more t ts) rest below = made-tags ts (tag_labels t rest) below ∙ made-tag t rest ts below
 
@@ -135,11 +137,13 @@ first_request (request.none ∷ below) = request.string []
 first_request (request.more g gs ∷ below) = g
 
 mutual
-  pub made-request : (g : Request) (rest : List (ℕ × List ℕ)) (top : Requests) (below : List Requests) → requests_made (request_labels g rest) (top ∷ below) ≡ requests_made rest (request.more g top ∷ below)
+  pub made-request : (g : Request) (rest : List (ℕ × List ℕ)) (top : Requests) (below : List Requests)
+      → requests_made (request_labels g rest) (top ∷ below) ≡ requests_made rest (request.more g top ∷ below)
   made-request (request.string octets) rest top below = refl
   made-request (request.list head further) rest top below = made-requests further ((2, head) ∷ rest) (top ∷ below)
 
-  pub made-requests : (gs : Requests) (rest : List (ℕ × List ℕ)) (below : List Requests) → requests_made (requests_labels gs rest) (request.none ∷ below) ≡ requests_made rest (gs ∷ below)
+  pub made-requests : (gs : Requests) (rest : List (ℕ × List ℕ)) (below : List Requests)
+      → requests_made (requests_labels gs rest) (request.none ∷ below) ≡ requests_made rest (gs ∷ below)
   made-requests request.none rest below = refl
   made-requests (request.more g gs) rest below = made-requests gs (request_labels g rest) below ∙ made-request g rest gs below
 

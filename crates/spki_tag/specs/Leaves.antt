@@ -1,5 +1,5 @@
 -- What a leaf is seen as.
-use Rattle.std.specs.Prelude.{ℕ, Option, Some, None}
+use Rattle.std.specs.Prelude.{Option, Some, None}
 use Rattle.spki_tag.specs.declared.leaf.RangeOrdering.{RangeOrdering}
 use Rattle.spki_tag.specs.declared.leaf.RangeOrdering.TheVariants as orderings
 use Rattle.spki_tag.specs.declared.leaf.Limit as source

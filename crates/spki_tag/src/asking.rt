@@ -3,7 +3,8 @@
 ghost use Rattle.std.specs.Prelude.{◌≡◌, ◌∷◌, IfOk, IfErr, IfSome, IsSome};
 ghost use Rattle.sexpr_core.specs.Value.{plain, group, node};
 ghost use Rattle.spki_tag.specs.Request.{IsHead, IsRequest, request_value};
-ghost use Rattle.spki_tag.specs.Read.{AreAsked, IsNoRequest, AreNoRequests};
+ghost use Rattle.spki_tag.specs.Read.{IsNoRequest};
+ghost use Rattle.spki_tag.specs.Steps.{AreAsked, AreNoRequests};
 
 use crate::fault::TagFault;
 use crate::reading::head_of;
@@ -20,9 +21,7 @@ fn read_request(alloc: Global, value: &Node<'_, '_>) -> Result<Ground, TagFault>
 {
     match value.form() {
         Form::List(members) => read_asked(alloc, members),
-        Form::String {
-            hint: None, body, ..
-        } => Ok(Ground::string(Vec::from_slice(alloc, body)?)),
+        Form::String { hint: None, body } => Ok(Ground::string(Vec::from_slice(alloc, body)?)),
         Form::String { hint: Some(_), .. } => Err(TagFault::Hint),
     }
 }
@@ -49,11 +48,7 @@ fn read_asked(alloc: Global, members: Members<'_, '_>) -> Result<Ground, TagFaul
 
 /// Reads a list with this head, which isn't `*`, and these members behind it as a request.
 #[cycle(ask)]
-fn read_further(
-    alloc: Global,
-    head: &[u8],
-    further: Members<'_, '_>,
-) -> Result<Ground, TagFault>
+fn read_further(alloc: Global, head: &[u8], further: Members<'_, '_>) -> Result<Ground, TagFault>
     requires { IsHead head.now }
     ensures request { IfOk result (λ g. IsRequest g) }
     ensures read { IfOk result (λ g. request_value g ≡ group (plain head.now ∷ further.entry)) }

@@ -20,14 +20,14 @@ pub(crate) enum RangeOrdering {
 }
 
 /// A limit of a range, which the range leaves out where it is strict.
-#[derive(Drop)]
+#[derive(Debug, Drop)]
 pub(crate) struct Limit {
     pub(crate) strict: bool,
     pub(crate) octets: Vec<u8>,
 }
 
 /// A tag without members.
-#[derive(Drop)]
+#[derive(Debug, Drop)]
 pub(crate) enum Leaf {
     /// `(*)`.
     Star,

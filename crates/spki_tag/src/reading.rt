@@ -4,7 +4,8 @@ ghost use Rattle.std.specs.Prelude.{◌≡◌, ◌+◌, ◌≤◌, ◌<◌, ◌�
 ghost use Rattle.std.specs.Bool.{OnTrue};
 ghost use Rattle.sexpr_core.specs.Value.{plain, group, node};
 ghost use Rattle.spki_tag.specs.Request.{IsHead};
-ghost use Rattle.spki_tag.specs.Read.{ReadsAs, IsRead, AreRead, IsNoTag, IsNoTagAfter, AreNoTagsAfter, IsNoHead, IsHinted, most_read};
+ghost use Rattle.spki_tag.specs.Read.{ReadsAs, IsNoTag, most_read};
+ghost use Rattle.spki_tag.specs.Steps.{IsRead, AreRead, IsNoTagAfter, AreNoTagsAfter, IsNoHead, IsHinted};
 
 use crate::fault::TagFault;
 use crate::tag::Tag;
@@ -21,9 +22,7 @@ pub(crate) fn head_of<'a>(first: &Node<'_, 'a>) -> Result<&'a [u8], TagFault>
 {
     match first.form() {
         Form::List(_) => Err(TagFault::ListHead),
-        Form::String {
-            hint: None, body, ..
-        } => Ok(body),
+        Form::String { hint: None, body } => Ok(body),
         Form::String { hint: Some(_), .. } => Err(TagFault::Hint),
     }
 }
@@ -59,11 +58,7 @@ fn read_starred(further: Members<'_, '_>, used: usize) -> Result<(Tag, usize), T
 
 /// Reads a value as a tag, of which so many nodes were counted before, and answers how many are counted then.
 #[cycle(read)]
-fn read_tag(
-    alloc: Global,
-    value: &Node<'_, '_>,
-    used: usize,
-) -> Result<(Tag, usize), TagFault>
+fn read_tag(alloc: Global, value: &Node<'_, '_>, used: usize) -> Result<(Tag, usize), TagFault>
     ensures read { IfOk result (λ p. IsRead used value.now p.0 p.1) }
     ensures refused { IfErr result (λ fault. IsNoTagAfter used fault value.now) }
 {
@@ -72,20 +67,17 @@ fn read_tag(
     }
     match value.form() {
         Form::List(members) => read_list(alloc, members, used),
-        Form::String {
-            hint: None, body, ..
-        } => Ok((Tag::string(Vec::from_slice(alloc, body)?), used + 1)),
+        Form::String { hint: None, body } => Ok((
+            Tag::string(Vec::from_slice(alloc, body)?),
+            used + 1,
+        )),
         Form::String { hint: Some(_), .. } => Err(TagFault::Hint),
     }
 }
 
 /// Reads a list of these members as a tag.
 #[cycle(read)]
-fn read_list(
-    alloc: Global,
-    members: Members<'_, '_>,
-    used: usize,
-) -> Result<(Tag, usize), TagFault>
+fn read_list(alloc: Global, members: Members<'_, '_>, used: usize) -> Result<(Tag, usize), TagFault>
     requires { used < most_read }
     ensures read { IfOk result (λ p. IsRead used (group members.entry) p.0 p.1) }
     ensures refused { IfErr result (λ fault. IsNoTagAfter used fault (group members.entry)) }

@@ -8,13 +8,13 @@ use std::marker::Model;
 /// A request: what is asked for. It is a string, or a list of a head that isn't `*` and further requests, without
 /// display hints (RFC 2693, section 6.3.1).
 #[cycle(ground)]
-#[derive(Drop)]
+#[derive(Debug, Drop)]
 pub struct Ground {
     pub(crate) node: Ask,
 }
 
 #[cycle(ground)]
-#[derive(Drop)]
+#[derive(Debug, Drop)]
 pub(crate) enum Ask {
     String(Vec<u8>),
     List(Vec<u8>, Vec<Ground>),

@@ -9,13 +9,13 @@ use std::marker::Model;
 
 /// A tag: a set of requests, in normal form and of at most 1,000,000 nodes (RFC 2693, section 6.3.1).
 #[cycle(tag)]
-#[derive(Drop)]
+#[derive(Debug, Drop)]
 pub struct Tag {
     pub(crate) node: Node,
 }
 
 #[cycle(tag)]
-#[derive(Drop)]
+#[derive(Debug, Drop)]
 pub(crate) enum Node {
     Leaf(Leaf),
     List(Vec<u8>, Vec<Tag>),
@@ -88,7 +88,8 @@ impl Tag {
     /// nodes of their members, among which a list's head is.
     #[cycle(nodes)]
     pub fn nodes(&self) -> usize
-        ensures { result ≡ spec.nodes self.now }
+        ensures count { result ≡ spec.nodes self.now }
+        ensures normal { spec.IsNormalTag self.now }
     {
         match &self.node {
             Node::Leaf(_) => 1,

@@ -1,6 +1,6 @@
-use Rattle.std.proofs.Common.{◌≡◌, ℕ, ◌+◌, ◌*◌, ◌≤◌, length, drop}
+use Rattle.std.proofs.Common.{◌≡◌, ◌+◌, ◌*◌, drop}
 use Rattle.spki_tag.specs.Request.{requests}
-use Rattle.spki_tag.specs.Tag.{tags, contains, contain_each, some_contains, nodes, nodes_all}
+use Rattle.spki_tag.specs.Tag.{tags, contain_each, some_contains, nodes, nodes_all}
 use Rattle.spki_tag.proofs.+holds.Given as goal
 
 abbrev pub invariant-holding::each_holds-loop-i : goal.invariant-holding::each_holds-loop-i

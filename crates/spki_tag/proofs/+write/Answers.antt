@@ -10,9 +10,9 @@ pub tag::Tag::write-returns-in_ok-push_each-in-List : goal.tag::Tag::write-retur
 tag::Tag::write-returns-in_ok-push_each-in-List t c =
     let ts = c.in-List.further.items in
     let head : map sexp_value c.push.new.self.items ≡ plain c.in-List.head.items ∷ [] =
-        rw (c.in_ok-push-in-List.ensures.items, c.new-out.ensures.items, c.in_ok-plain-in-List.ensures, c.as_slice.ensures.value) refl in
+    rw (c.in_ok-push-in-List.ensures.items, c.new-out.ensures.items, c.in_ok-plain-in-List.ensures, c.as_slice.ensures.value) refl in
     let out : map sexp_value c.push_each.new.out.items ≡ map sexp_value c.push.new.self.items ++ map tag_value ts =
-        c.in_ok-push_each-in-List.ensures ∙ ap (λ us. map sexp_value c.push.new.self.items ++ map tag_value us) c.deref.ensures.value in
+    c.in_ok-push_each-in-List.ensures ∙ ap (λ us. map sexp_value c.push.new.self.items ++ map tag_value us) c.deref.ensures.value in
     rw (← c.self.view_is, c.in-List.is)
     (list_written c.in-List.head.items ts (sexp_value c.list.result) (map sexp_value c.push.new.self.items) (map sexp_value c.push_each.new.out.items) c.list.ensures out head)
 
@@ -21,7 +21,7 @@ tag::Tag::write-returns-in_ok-push_each-in-Set t c =
     let ts = c.in-Set.members.items in
     let front = c.in_ok-out-in-Set.out.items in
     let out : map sexp_value c.push_each-in-Set.new.out.items ≡ map sexp_value front ++ map tag_value ts =
-        c.in_ok-push_each-in-Set.ensures ∙ ap (λ us. map sexp_value front ++ map tag_value us) c.deref-in-Set.ensures.value in
+    c.in_ok-push_each-in-Set.ensures ∙ ap (λ us. map sexp_value front ++ map tag_value us) c.deref-in-Set.ensures.value in
     rw (← c.self.view_is, c.in-Set.is)
     (set_written ts (sexp_value c.list-in-Set.result) (map sexp_value front) (map sexp_value c.push_each-in-Set.new.out.items) c.list-in-Set.ensures out c.in_ok-out-in-Set.ensures)
 

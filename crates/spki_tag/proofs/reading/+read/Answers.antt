@@ -2,7 +2,7 @@ use Rattle.std.proofs.Common.{subst, arith}
 use Rattle.std.proofs.lemmas.Result.{err_from_is_err_and}
 use Rattle.sexpr_core.specs.Value.{values}
 use Rattle.spki_tag.specs.declared.fault.TagFault.TheVariants as faults
-use Rattle.spki_tag.specs.Read.{IsNoTagAfter}
+use Rattle.spki_tag.specs.Steps.{IsNoTagAfter}
 use Rattle.spki_tag.proofs.Spelling.{list_no_head, list_empty, so_far_weight, so_far_refused, so_far_push, no_room, no_room_for_head, list_refused, list_is_in_normal_form, list_is_read, hinted_refused}
 use Rattle.spki_tag.proofs.reading.+read.Goals as goal
 

@@ -1,4 +1,4 @@
-use Rattle.std.proofs.Common.{◌≡◌, ℕ, ◌+◌, ◌*◌, ◌≤◌, length, take}
+use Rattle.std.proofs.Common.{◌≡◌, ◌+◌, ◌*◌, take}
 use Rattle.spki_tag.specs.Tag.{tags, nodes, nodes_all}
 use Rattle.spki_tag.proofs.tag.+copy.Given as goal
 

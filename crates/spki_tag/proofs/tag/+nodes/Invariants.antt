@@ -1,4 +1,4 @@
-use Rattle.std.proofs.Common.{◌≡◌, ℕ, ◌+◌, ◌*◌, ◌≤◌, length, drop}
+use Rattle.std.proofs.Common.{◌≡◌, ◌+◌, ◌*◌, drop}
 use Rattle.spki_tag.specs.Tag.{tags, nodes, nodes_all}
 use Rattle.spki_tag.proofs.tag.+nodes.Given as goal
 
