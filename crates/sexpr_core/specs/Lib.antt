@@ -1,2 +1,13 @@
 pub mod Value
+pub mod Labels
 pub mod Layout
+pub mod Table
+pub mod Places
+pub mod Form
+pub mod FormValue
+pub mod Tree
+pub mod Parts
+pub mod Prefix
+pub mod Texts
+pub mod Reading
+pub mod Refusal

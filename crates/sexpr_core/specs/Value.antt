@@ -1,5 +1,5 @@
 -- S-expressions as values, and their canonical text (RFC 9804).
-use Rattle.std.specs.Prelude.{◌≡◌, ℕ, suc, ◌+◌, ◌≤◌, ◌<◌, max, List, [], ◌∷◌, ◌++◌, length, take, map, sum, Option, Some, None, Bool, cond, ◌==◌, slice_get, nat_lt, if◌then◌else◌}
+use Rattle.std.specs.Prelude.{ℕ, suc, ◌+◌, ◌≤◌, max, List, [], ◌∷◌, ◌++◌, length, map, Option, Some, None, ◌==◌, slice_get, if◌then◌else◌}
 use Rattle.std.specs.Int.Digits.{digits_of}
 
 mutual

@@ -1,10 +1,20 @@
-//! S-expressions (RFC 9804).
+//! S-expressions (RFC 9804): canonical form, read into documents, and owned trees.
 #![tactic(auto)]
 
-ghost use Rattle.std.specs.Prelude.{◌≡◌};
+mod document;
+mod fault;
+mod handle;
+mod laws;
+mod layout;
+mod numbers;
+mod parser;
+mod siblings;
+mod tree;
 
-pub fn echo(x: usize) -> usize
-    ensures { result ≡ x }
-{
-    x
-}
+pub use document::{Doc, NodeId};
+pub use fault::FormFault;
+pub use handle::{Form, Node};
+pub use laws::one_text;
+pub use parser::{MOST_LISTS, MOST_OCTETS};
+pub use siblings::Members;
+pub use tree::{Atom, Sexp};

@@ -7,7 +7,7 @@ use Rattle.std.specs.declared.cmp.Ordering.TheVariants.{Less, Equal, Greater}
 use Rattle.std.specs.Ordering.{nat_cmp, is_le, is_gt, ordering_reverse}
 use Rattle.std.proofs.lemmas.Cmp.{nat_list_cmp_total, upto as goes_on, tied_itself}
 use Rattle.spki_cert.specs.declared.window.Window.{Window}
-use Rattle.spki_cert.specs.Moment.{is_date}
+use Rattle.spki_tag.specs.Time.{is_time, is_date}
 use Rattle.spki_cert.specs.Time.{upto, is_from, is_until, within, later, earlier, in_order, between, meet_of, IsLimit, IsMeet, Overlap, AreApart}
 
 le_or_gt : (o : Ordering) → is_le o ≡ true → is_gt o ≡ false
@@ -103,6 +103,7 @@ in_order-around (Some s) (Some r) t h k = upto-then s t r h k
 
 -- between limits in order there is a moment
 moment-between : (p q : Option (List ℕ)) → IsLimit p → IsLimit q → in_order p q ≡ true → (t : List ℕ) × (is_date t ≡ true) × (is_from p t ≡ true) × (is_until q t ≡ true)
+unfolding is_date is_time
 moment-between None None d e h = (codes "0000-01-01_00:00:00", refl, refl, refl)
 moment-between None (Some r) d e h = (r, e, refl, upto-self r)
 moment-between (Some s) None d e h = (s, d, upto-self s, refl)
@@ -113,10 +114,10 @@ none-apart v w h t a = by (within t w) refl
   where
     by : (b : Bool) → within t w ≡ b → b ≡ false
     by true e =
-      let m : within t (inner v w) ≡ true = within-inner v w t ∙ (λ i. a i && e i) in
-      let p = and_true (is_from (inner v w).not_before t) (is_until (inner v w).not_after t) m in
-      let o = in_order-around (inner v w).not_before (inner v w).not_after t p.0 p.1 in
-      absurd (let x : true ≡ false = sym o ∙ h in cc)
+        let m : within t (inner v w) ≡ true = within-inner v w t ∙ (λ i. a i && e i) in
+        let p = and_true (is_from (inner v w).not_before t) (is_until (inner v w).not_after t) m in
+        let o = in_order-around (inner v w).not_before (inner v w).not_after t p.0 p.1 in
+        absurd (let x : true ≡ false = sym o ∙ h in cc)
     by false e = refl
 
 some-overlaps : (v w : Window) → IsLimit (inner v w).not_before → IsLimit (inner v w).not_after → in_order (inner v w).not_before (inner v w).not_after ≡ true → Overlap v w

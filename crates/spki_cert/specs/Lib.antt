@@ -1,3 +1,6 @@
 pub mod Naming
-pub mod Moment
 pub mod Time
+pub mod Shapes
+pub mod Readings
+pub mod Entries
+pub mod Fields

@@ -1,6 +1,8 @@
 //! Hash algorithms (FIPS 180-4).
 
-ghost use Rattle.std.specs.Prelude.{◌≡◌, ◌↔◌, IsTrue};
+ghost use Rattle.std.specs.Prelude.{◌≡◌, ◌≢◌, ◌↔◌, IsTrue, MatchOption};
+ghost use Rattle.spki_cert.specs.declared.hash.HashAlg.{HashAlg};
+ghost use Rattle.spki_cert.specs.Readings.{alg_name, digest_len};
 ghost use Rattle.spki_cert.specs.Naming.{digest_of, is_digest};
 
 use sha1::Sha1 as Sha1Hasher;
@@ -18,6 +20,32 @@ pub enum HashAlg {
 }
 
 impl HashAlg {
+    /// The algorithm with this name: `sha1`, `sha256` or `sha512`.
+    pub fn named(name: &[u8]) -> Option<HashAlg>
+        ensures { MatchOption result ((alg : HashAlg) → name.now ≢ alg_name alg) (λ alg. name.now ≡ alg_name alg) }
+    {
+        if name == b"sha1".as_slice() {
+            Some(HashAlg::Sha1)
+        } else if name == b"sha256".as_slice() {
+            Some(HashAlg::Sha256)
+        } else if name == b"sha512".as_slice() {
+            Some(HashAlg::Sha512)
+        } else {
+            None
+        }
+    }
+
+    /// How many octets its digests have.
+    pub fn digest_len(&self) -> usize
+        ensures { result ≡ digest_len self.now }
+    {
+        match self {
+            HashAlg::Sha1 => 20,
+            HashAlg::Sha256 => 32,
+            HashAlg::Sha512 => 64,
+        }
+    }
+
     /// Whether the digest is that of the octets. Takes no memory.
     pub fn fits(&self, digest: &[u8], octets: &[u8]) -> bool
         ensures is_test { result ≡ is_digest self.now digest.now octets.now }

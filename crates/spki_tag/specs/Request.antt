@@ -1,6 +1,6 @@
 -- Requests: what is asked for, and what a tag contains or does not (RFC 2693, section 6.3.1).
-use Rattle.std.specs.Prelude.{◌≢◌, ℕ, ◌+◌, ◌<◌, List, [], ◌∷◌, codes}
-use Rattle.std.specs.List.{AllByRecursion}
+use Rattle.std.specs.Prelude.{◌≢◌, ℕ, ◌+◌, ◌<◌, List, [], ◌∷◌, All, codes}
+
 use Rattle.sexpr_core.specs.Value as value
 use Rattle.sexpr_core.specs.Value.{Value, Values, plain}
 
@@ -21,7 +21,7 @@ requests (g ∷ gs) = more g (requests gs)
 
 -- octets are numbers below 256
 abbrev pub AreOctets : List ℕ → Type 0
-AreOctets octets = AllByRecursion (λ octet. octet < 256) octets
+AreOctets octets = All (λ octet. octet < 256) octets
 
 -- What a plain list begins with: any string but the star, which begins the other tags.
 abbrev pub IsHead : List ℕ → Type 0

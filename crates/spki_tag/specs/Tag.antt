@@ -68,15 +68,18 @@ ordering_name alpha = codes "alpha"
 ordering_name time = codes "time"
 ordering_name date = codes "date"
 
+-- a limit behind its word, of which there is one for a strict limit and one for another
+abbrev pub limit_values : List ℕ → List ℕ → Option Limit → List Value
+limit_values above from None = []
+limit_values above from (Some limit) = plain (if limit.strict then above else from) ∷ plain limit.octets ∷ []
+
 -- g s, above s; ge s, at least s
 abbrev pub low_values : Option Limit → List Value
-low_values None = []
-low_values (Some limit) = plain (if limit.strict then codes "g" else codes "ge") ∷ plain limit.octets ∷ []
+low_values limit = limit_values (codes "g") (codes "ge") limit
 
 -- l s, below s; le s, at most s
 abbrev pub up_values : Option Limit → List Value
-up_values None = []
-up_values (Some limit) = plain (if limit.strict then codes "l" else codes "le") ∷ plain limit.octets ∷ []
+up_values limit = limit_values (codes "l") (codes "le") limit
 
 -- a list that begins with the star and a word
 abbrev pub starred : List ℕ → Values → Value

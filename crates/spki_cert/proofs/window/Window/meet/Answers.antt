@@ -14,9 +14,9 @@ returns-clause-moments c = meet-moments c.args.self.now c.args.other.now c.windo
 pub returns-clause-some : goal.returns-clause-some
 returns-clause-some c =
     meet-some c.args.self.now c.args.other.now c.window_between.result
-      (subst IsLimit c.later-first.ensures c.window_between.ensures.first_is_date)
-      (subst IsLimit c.earlier-last.ensures c.window_between.ensures.last_is_date)
-      (found c)
+    (subst IsLimit c.later-first.ensures c.window_between.ensures.first_is_date)
+    (subst IsLimit c.earlier-last.ensures c.window_between.ensures.last_is_date)
+    (found c)
 
 pub returns-clause-none : goal.returns-clause-none
 returns-clause-none c = meet-none c.args.self.now c.args.other.now c.window_between.result (found c)

@@ -1,0 +1,176 @@
+-- What each step of the reader says of the text where it stops.
+use Rattle.std.proofs.Common.{◌≡◌, ℕ, suc, ◌+◌, ◌-◌, ◌<◌, ◌≤◌, List, [], ◌∷◌, ◌++◌, length, take, replicate, Some, None, refl, sym, ◌∙◌, ap, subst, arith, append_assoc, length-append, append-nil, add-one}
+use Rattle.std.proofs.lemmas.List.{length-replicate}
+use Rattle.std.proofs.Math.Seq.{take-append-add, take-append_seam}
+use Rattle.sexpr_core.specs.declared.fault.FormFault.{FormFault}
+use Rattle.sexpr_core.specs.declared.fault.FormFault.TheVariants.{TooDeep, Short, Bad}
+use Rattle.sexpr_core.specs.Value.{Value, Values, string, list, none, decimal, verbatim, canon, canons, depths}
+use Rattle.sexpr_core.specs.Prefix.{Front, Barred, FaultAt}
+use Rattle.sexpr_core.specs.Texts.{IsCanon, IsCanonWithin, IsMembers, IsMembersWithin, IsFilled, IsFilledWithin, IsVerbatim, IsHinted, IsClosing, IsLength}
+use Rattle.sexpr_core.proofs.Prefix.{FaultAt-head, FaultAt-tail, FaultAt-from, FaultAt-first, Front-none}
+use Rattle.sexpr_core.proofs.Decimal.{IsDigit, AreDigits-decimal, parts_agree, zero_ends, decimal_starts}
+use Rattle.sexpr_core.proofs.Texts.{verbatim_is, verbatim_differs, colon_no_digit, Opens-verbatim, Opens-hinted, Behind-hint, Behind-closing, Behind-bracket, Behind-bracket_within, From-digit, From-digit_within, Behind-members, Behind-members_within, Behind-open, Behind-open_within, closed_within, From-filled, From-filled_within, Opens-filled, Opens-filled_within}
+
+some_append : (xs ys : List ℕ) → 0 < length ys → 0 < length (xs ++ ys)
+some_append xs ys h = omega (arith, length-append xs ys)
+
+-- ---- a length
+
+pub length_ended : (at : ℕ) → FaultAt IsLength IsLength at [] Short
+length_ended at =
+    Front-none IsLength (decimal 0 ++ 58 ∷ []) (some_append (decimal 0) (58 ∷ []) (omega arith)) (record { number = 0; is = refl })
+
+length_begins : (n x y : _) (c : ℕ) → c ∷ x ≡ decimal n ++ y → IsDigit c
+length_begins n x y c e =
+    let s = decimal_starts n in
+    let q : c ∷ x ≡ s.digit ∷ (s.rest ++ y) = e ∙ ap (λ t. t ++ y) s.is in
+    let d : s.digit ≡ c = cc in
+    subst IsDigit d s.low
+
+pub length_first : (at c : ℕ) (ys : List ℕ) → (IsDigit c → ⊥) → FaultAt IsLength IsLength at (c ∷ ys) (Bad at)
+length_first at c ys h = FaultAt-first IsLength IsLength at c ys (length_ended at)
+    (λ t x y is e. h (length_begins is.number x (58 ∷ [] ++ y) c (e ∙ ap (λ s. s ++ y) is.is ∙ append_assoc (decimal is.number) (58 ∷ []) y)))
+
+pub length_short : (at n : ℕ) (xs : List ℕ) → xs ≡ decimal n ++ [] → FaultAt IsLength IsLength at xs Short
+length_short at n xs e = record {
+  rest = 58 ∷ [];
+  some = omega arith;
+  whole = record { number = n; is = ap (λ t. t ++ 58 ∷ []) (e ∙ append-nil (decimal n)) };
+}
+
+-- the octet c can't stand behind the digits of n
+CannotFollow : ℕ → ℕ → Type 0
+CannotFollow n c = (m : ℕ) (x y : List ℕ) → decimal n ++ c ∷ x ≡ decimal m ++ 58 ∷ y → ⊥
+
+length_stop : (at n c : ℕ) (xs ys : List ℕ) → xs ≡ decimal n ++ c ∷ ys → CannotFollow n c → FaultAt IsLength IsLength at xs (Bad (at + length (decimal n)))
+unfolding CannotFollow
+length_stop at n c xs ys e never =
+    let before : take (length (decimal n)) xs ≡ decimal n =
+    ap (take (length (decimal n))) e ∙ take-append_seam (decimal n) (c ∷ ys) in
+    let here : take (suc (length (decimal n))) xs ≡ decimal n ++ c ∷ [] =
+    ap (take (suc (length (decimal n)))) e
+    ∙ ap (λ k. take k (decimal n ++ c ∷ ys)) (sym (add-one (length (decimal n))))
+    ∙ take-append-add (decimal n) (c ∷ ys) 1 in
+    record {
+      place = length (decimal n);
+      offset = refl;
+      within = omega (arith, ap length e, length-append (decimal n) (c ∷ ys));
+      before = subst (λ s. Front IsLength s) (sym before)
+          (record { rest = 58 ∷ []; some = omega arith; whole = record { number = n; is = refl } });
+      stops = subst (λ s. Barred IsLength s) (sym here) (record {
+        bars = λ t rest after is q.
+            never is.number rest after
+            (sym (append_assoc (decimal n) (c ∷ []) rest) ∙ q ∙ ap (λ s. s ++ after) is.is
+            ∙ append_assoc (decimal is.number) (58 ∷ []) after);
+      });
+    }
+
+pub length_bad : (at n c : ℕ) (xs ys : List ℕ) → xs ≡ decimal n ++ c ∷ ys → (IsDigit c → ⊥) → (c ≡ 58 → ⊥) → FaultAt IsLength IsLength at xs (Bad (at + length (decimal n)))
+unfolding CannotFollow
+length_bad at n c xs ys e nd nc = length_stop at n c xs ys e
+    (λ m x y q. nc (parts_agree (decimal n) (decimal m) x y c 58 (AreDigits-decimal n) (AreDigits-decimal m) nd colon_no_digit q).marks)
+
+pub length_zero : (at c : ℕ) (xs ys : List ℕ) → xs ≡ decimal 0 ++ c ∷ ys → (c ≡ 58 → ⊥) → FaultAt IsLength IsLength at xs (Bad (at + length (decimal 0)))
+unfolding CannotFollow
+length_zero at c xs ys e nc = length_stop at 0 c xs ys e (λ m x y q. nc (zero_ends m c x y q))
+
+-- ---- a string in verbatim form
+
+pub verbatim_fault : (at : ℕ) (xs : List ℕ) (e : FormFault) → FaultAt IsLength IsLength at xs e → FaultAt IsVerbatim IsVerbatim at xs e
+verbatim_fault at xs e h = FaultAt-head IsVerbatim IsLength IsVerbatim IsLength at xs e Opens-verbatim Opens-verbatim h
+
+pub verbatim_short : (at n : ℕ) (xs ys : List ℕ) → xs ≡ decimal n ++ 58 ∷ ys → length ys < n → FaultAt IsVerbatim IsVerbatim at xs Short
+verbatim_short at n xs ys e h =
+    let l : length (replicate {A = ℕ} (n - length ys) 0) ≡ n - length ys = length-replicate (n - length ys) 0 in
+    let whole : length (ys ++ replicate (n - length ys) 0) ≡ n = omega (arith, length-append ys (replicate (n - length ys) 0)) in
+    record {
+      rest = replicate (n - length ys) 0;
+      some = omega arith;
+      whole = record {
+        octets = ys ++ replicate (n - length ys) 0;
+        is = ap (λ t. t ++ replicate (n - length ys) 0) e
+            ∙ append_assoc (decimal n) (58 ∷ ys) (replicate (n - length ys) 0)
+            ∙ ap (λ k. decimal k ++ 58 ∷ (ys ++ replicate (n - length ys) 0)) (sym whole)
+            ∙ sym (verbatim_is (ys ++ replicate (n - length ys) 0));
+      };
+    }
+
+verbatim_none : (octets : List ℕ) → 0 < length (verbatim octets)
+verbatim_none octets =
+    subst (λ t. 0 < length t) (sym (verbatim_is octets)) (some_append (decimal (length octets)) (58 ∷ octets) (omega arith))
+
+-- ---- behind a hint
+
+pub closing_ended : (at : ℕ) → FaultAt IsClosing IsClosing at [] Short
+closing_ended at = Front-none IsClosing (93 ∷ verbatim []) (omega arith) (record { octets = []; is = refl })
+
+pub closing_first : (at c : ℕ) (ys : List ℕ) → (c ≡ 93 → ⊥) → FaultAt IsClosing IsClosing at (c ∷ ys) (Bad at)
+closing_first at c ys h = FaultAt-first IsClosing IsClosing at c ys (closing_ended at)
+    (λ t x y is e. let q : c ∷ x ≡ 93 ∷ (verbatim is.octets ++ y) = e ∙ ap (λ s. s ++ y) is.is in h cc)
+
+pub closing_fault : (at : ℕ) (ys : List ℕ) (e : FormFault) → FaultAt IsVerbatim IsVerbatim (at + 1) ys e → FaultAt IsClosing IsClosing at (93 ∷ ys) e
+closing_fault at ys e h =
+    FaultAt-tail IsClosing IsVerbatim IsClosing IsVerbatim at (93 ∷ []) ys e Behind-closing Behind-closing h
+
+-- ---- a hinted string behind its bracket
+
+pub hint_fault : (at : ℕ) (xs : List ℕ) (e : FormFault) → FaultAt IsVerbatim IsVerbatim at xs e → FaultAt IsHinted IsHinted at xs e
+hint_fault at xs e h = FaultAt-head IsHinted IsVerbatim IsHinted IsVerbatim at xs e Opens-hinted Opens-hinted h
+
+pub hinted_fault : (at to : ℕ) (hint xs ys : List ℕ) (e : FormFault) → xs ≡ verbatim hint ++ ys → to ≡ at + length (verbatim hint) → FaultAt IsClosing IsClosing to ys e → FaultAt IsHinted IsHinted at xs e
+hinted_fault at to hint xs ys e q p h =
+    subst (λ s. FaultAt IsHinted IsHinted at s e) (sym q)
+    (FaultAt-tail IsHinted IsClosing IsHinted IsClosing at (verbatim hint) ys e (Behind-hint hint) (Behind-hint hint)
+    (subst (λ k. FaultAt IsClosing IsClosing k ys e) p h))
+
+-- ---- a value
+
+pub value_ended : (room at : ℕ) → FaultAt IsCanon (IsCanonWithin room) at [] Short
+value_ended room at = Front-none (IsCanonWithin room) (verbatim []) (verbatim_none []) (record { value = string None []; fits = omega arith; is = refl })
+
+value_never : (v : Value) (c : ℕ) (x y : List ℕ) → (IsDigit c → ⊥) → (c ≡ 91 → ⊥) → (c ≡ 40 → ⊥) → c ∷ x ≡ canon v ++ y → ⊥
+value_never (string None a) c x y nd nb np e = verbatim_differs a y x c nd (sym e)
+value_never (string (Some h) a) c x y nd nb np e = nb cc
+value_never (list vs) c x y nd nb np e = np cc
+
+pub value_first : (room at c : ℕ) (ys : List ℕ) → (IsDigit c → ⊥) → (c ≡ 91 → ⊥) → (c ≡ 40 → ⊥) → FaultAt IsCanon (IsCanonWithin room) at (c ∷ ys) (Bad at)
+value_first room at c ys nd nb np = FaultAt-first IsCanon (IsCanonWithin room) at c ys (value_ended room at)
+    (λ t x y is e. value_never is.value c x y nd nb np (e ∙ ap (λ s. s ++ y) is.is))
+
+pub plain_fault : (room at c : ℕ) (ys : List ℕ) (e : FormFault) → IsDigit c → FaultAt IsVerbatim IsVerbatim at (c ∷ ys) e → FaultAt IsCanon (IsCanonWithin room) at (c ∷ ys) e
+plain_fault room at c ys e low h =
+    FaultAt-from IsCanon IsVerbatim (IsCanonWithin room) IsVerbatim at c ys e (From-digit c low) (From-digit_within room c low) h
+
+pub bracket_fault : (room at : ℕ) (ys : List ℕ) (e : FormFault) → FaultAt IsHinted IsHinted (at + 1) ys e → FaultAt IsCanon (IsCanonWithin room) at (91 ∷ ys) e
+bracket_fault room at ys e h =
+    FaultAt-tail IsCanon IsHinted (IsCanonWithin room) IsHinted at (91 ∷ []) ys e Behind-bracket (Behind-bracket_within room) h
+
+pub list_deep : (at : ℕ) (ys : List ℕ) → FaultAt IsCanon (IsCanonWithin 0) at (40 ∷ ys) TooDeep
+list_deep at ys = record {
+  place = 0;
+  within = omega arith;
+  before = record { rest = 41 ∷ []; some = omega arith; whole = record { value = list none; is = refl } };
+  stops = record { bars = λ t rest after is e. closed_within t rest after is e };
+}
+
+pub list_fault : (room at : ℕ) (ys : List ℕ) (e : FormFault) → FaultAt IsMembers (IsMembersWithin room) (at + 1) ys e → FaultAt IsCanon (IsCanonWithin (suc room)) at (40 ∷ ys) e
+list_fault room at ys e h =
+    FaultAt-tail IsCanon IsMembers (IsCanonWithin (suc room)) (IsMembersWithin room) at (40 ∷ []) ys e Behind-open (Behind-open_within room) h
+
+-- ---- members
+
+behind_members : (room at to : ℕ) (vs : Values) (xs ys : List ℕ) (e : FormFault) → depths vs ≤ room → xs ≡ canons vs ++ ys → to ≡ at + length (canons vs) → FaultAt IsMembers (IsMembersWithin room) to ys e → FaultAt IsMembers (IsMembersWithin room) at xs e
+behind_members room at to vs xs ys e fits q p h =
+    subst (λ s. FaultAt IsMembers (IsMembersWithin room) at s e) (sym q)
+    (FaultAt-tail IsMembers IsMembers (IsMembersWithin room) (IsMembersWithin room) at (canons vs) ys e
+    (Behind-members vs) (Behind-members_within room vs fits)
+    (subst (λ k. FaultAt IsMembers (IsMembersWithin room) k ys e) p h))
+
+pub members_short : (room at : ℕ) (vs : Values) (xs : List ℕ) → depths vs ≤ room → xs ≡ canons vs ++ [] → FaultAt IsMembers (IsMembersWithin room) at xs Short
+members_short room at vs xs fits q = behind_members room at (at + length (canons vs)) vs xs [] Short fits q refl
+    (Front-none (IsMembersWithin room) (41 ∷ []) (omega arith) (record { items = none; fits = omega arith; is = refl }))
+
+pub member_fault : (room at to c : ℕ) (vs : Values) (xs ys : List ℕ) (e : FormFault) → depths vs ≤ room → xs ≡ canons vs ++ c ∷ ys → to ≡ at + length (canons vs) → (c ≡ 41 → ⊥) → FaultAt IsCanon (IsCanonWithin room) to (c ∷ ys) e → FaultAt IsMembers (IsMembersWithin room) at xs e
+member_fault room at to c vs xs ys e fits q p nc h = behind_members room at to vs xs (c ∷ ys) e fits q p
+    (FaultAt-from IsMembers IsFilled (IsMembersWithin room) (IsFilledWithin room) to c ys e (From-filled c nc) (From-filled_within room c nc)
+    (FaultAt-head IsFilled IsCanon (IsFilledWithin room) (IsCanonWithin room) to (c ∷ ys) e Opens-filled (Opens-filled_within room) h))

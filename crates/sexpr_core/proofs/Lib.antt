@@ -1,0 +1,9 @@
+pub mod TableLaws
+pub mod PlaceLaws
+pub mod SiblingLaws
+pub mod Prefix
+pub mod Decimal
+pub mod Texts
+pub mod Faults
+pub mod Steps
+pub mod Whole

@@ -1,0 +1,157 @@
+-- How a fault in a part of a text is a fault of the whole.
+use Rattle.std.proofs.Common.{◌≡◌, ℕ, suc, ◌+◌, ◌<◌, List, [], ◌∷◌, ◌++◌, length, take, sym, ◌∙◌, ap, subst, arith, append_assoc, length-append, add-suc}
+use Rattle.std.proofs.lemmas.List.{append_cancel_left}
+use Rattle.std.proofs.Math.Seq.{take-append-add}
+use Rattle.sexpr_core.specs.declared.fault.FormFault.{FormFault}
+use Rattle.sexpr_core.specs.declared.fault.FormFault.TheVariants.{TooLong, TooDeep, Short, Bad, Trailing, Memory}
+use Rattle.sexpr_core.specs.Prefix.{Begins, Front, Barred, FaultAt}
+
+-- a text that begins with one of U
+pub record Headed (U : List ℕ → Type 0) (t : List ℕ) : Type 0 where
+  pub first : List ℕ
+  pub rest : List ℕ
+  pub is : U first
+  pub whole : t ≡ first ++ rest
+
+-- a text that is these octets and then one of U
+pub record Tailed (U : List ℕ → Type 0) (a t : List ℕ) : Type 0 where
+  pub rest : List ℕ
+  pub is : U rest
+  pub whole : t ≡ a ++ rest
+
+-- the texts of T begin with those of U, and each of these begins one of T
+pub record Opens (T U : List ℕ → Type 0) : Type 0 where
+  pub on : (a : List ℕ) → U a → Begins T a
+  pub back : (t : List ℕ) → T t → Headed U t
+
+-- behind the octets a, the texts of T go on with those of U
+pub record Behind (T U : List ℕ → Type 0) (a : List ℕ) : Type 0 where
+  pub on : (b : List ℕ) → U b → T (a ++ b)
+  pub back : (t x y : List ℕ) → T t → a ++ x ≡ t ++ y → Tailed U a t
+
+-- the texts of T that begin with the octet c are those of U
+pub record From (c : ℕ) (T U : List ℕ → Type 0) : Type 0 where
+  pub on : (t : List ℕ) → U t → T t
+  pub back : (t x y : List ℕ) → T t → c ∷ x ≡ t ++ y → U t
+
+-- ---- a fault in the first part
+
+Front-head : (S V : List ℕ → Type 0) (xs : List ℕ) → Opens S V → Front V xs → Front S xs
+Front-head S V xs o f =
+    let b : Begins S (xs ++ f.rest) = o.on (xs ++ f.rest) f.whole in
+    record {
+      rest = f.rest ++ b.rest;
+      some = let p : 0 < length f.rest = f.some in omega (arith, length-append f.rest b.rest);
+      whole = subst S (append_assoc xs f.rest b.rest) b.whole;
+    }
+
+Barred-head : (T U : List ℕ → Type 0) (xs : List ℕ) → Opens T U → Barred U xs → Barred T xs
+Barred-head T U xs o h = record {
+  bars = λ t rest after is e.
+      let p : Headed U t = o.back t is in
+      h.bars p.first rest (p.rest ++ after) p.is
+      (e ∙ ap (λ s. s ++ after) p.whole ∙ append_assoc p.first p.rest after);
+}
+
+pub FaultAt-head : (T U S V : List ℕ → Type 0) (at : ℕ) (xs : List ℕ) (e : FormFault) → Opens T U → Opens S V → FaultAt U V at xs e → FaultAt T S at xs e
+FaultAt-head T U S V at xs TooLong o p h = h
+FaultAt-head T U S V at xs TooDeep o p h = record {
+  place = h.place;
+  within = h.within;
+  before = Front-head T U (take (suc h.place) xs) o h.before;
+  stops = Barred-head S V (take (suc h.place) xs) p h.stops;
+}
+FaultAt-head T U S V at xs Short o p h = Front-head S V xs p h
+FaultAt-head T U S V at xs (Bad k) o p h = record {
+  place = h.place;
+  offset = h.offset;
+  within = h.within;
+  before = Front-head S V (take h.place xs) p h.before;
+  stops = Barred-head T U (take (suc h.place) xs) o h.stops;
+}
+FaultAt-head T U S V at xs (Trailing k) o p h = h
+FaultAt-head T U S V at xs Memory o p h = h
+
+-- ---- a fault behind a whole part
+
+Front-tail : (S V : List ℕ → Type 0) (a ys : List ℕ) → Behind S V a → Front V ys → Front S (a ++ ys)
+Front-tail S V a ys o f = record {
+  rest = f.rest;
+  some = f.some;
+  whole = subst S (sym (append_assoc a ys f.rest)) (o.on (ys ++ f.rest) f.whole);
+}
+
+Barred-tail : (T U : List ℕ → Type 0) (a ys : List ℕ) → Behind T U a → Barred U ys → Barred T (a ++ ys)
+Barred-tail T U a ys o h = record {
+  bars = λ t rest after is e.
+      let e2 : a ++ (ys ++ rest) ≡ t ++ after = sym (append_assoc a ys rest) ∙ e in
+      let p : Tailed U a t = o.back t (ys ++ rest) after is e2 in
+      let e3 : a ++ (ys ++ rest) ≡ a ++ (p.rest ++ after) =
+      e2 ∙ ap (λ s. s ++ after) p.whole ∙ append_assoc a p.rest after in
+      h.bars p.rest rest after p.is (append_cancel_left a (ys ++ rest) (p.rest ++ after) e3);
+}
+
+more_taken : (a ys : List ℕ) (j : ℕ) → take (suc (length a + j)) (a ++ ys) ≡ a ++ take (suc j) ys
+more_taken a ys j = ap (λ n. take n (a ++ ys)) (sym (add-suc (length a) j)) ∙ take-append-add a ys (suc j)
+
+pub FaultAt-tail : (T U S V : List ℕ → Type 0) (at : ℕ) (a ys : List ℕ) (e : FormFault) → Behind T U a → Behind S V a → FaultAt U V (at + length a) ys e → FaultAt T S at (a ++ ys) e
+FaultAt-tail T U S V at a ys TooLong o p h = h
+FaultAt-tail T U S V at a ys TooDeep o p h = record {
+  place = length a + h.place;
+  within = let w : h.place < length ys = h.within in omega (arith, length-append a ys);
+  before = subst (λ s. Front T s) (sym (more_taken a ys h.place)) (Front-tail T U a (take (suc h.place) ys) o h.before);
+  stops = subst (λ s. Barred S s) (sym (more_taken a ys h.place)) (Barred-tail S V a (take (suc h.place) ys) p h.stops);
+}
+FaultAt-tail T U S V at a ys Short o p h = Front-tail S V a ys p h
+FaultAt-tail T U S V at a ys (Bad k) o p h = record {
+  place = length a + h.place;
+  offset = let w : k ≡ at + length a + h.place = h.offset in omega arith;
+  within = let w : h.place < length ys = h.within in omega (arith, length-append a ys);
+  before = subst (λ s. Front S s) (sym (take-append-add a ys h.place)) (Front-tail S V a (take h.place ys) p h.before);
+  stops = subst (λ s. Barred T s) (sym (more_taken a ys h.place)) (Barred-tail T U a (take (suc h.place) ys) o h.stops);
+}
+FaultAt-tail T U S V at a ys (Trailing k) o p h = h
+FaultAt-tail T U S V at a ys Memory o p h = h
+
+-- ---- a choice by the first octet
+
+Front-from : (T U : List ℕ → Type 0) (c : ℕ) (xs : List ℕ) → From c T U → Front U xs → Front T xs
+Front-from T U c xs o f = record { rest = f.rest; some = f.some; whole = o.on (xs ++ f.rest) f.whole }
+
+Barred-from : (T U : List ℕ → Type 0) (c : ℕ) (ys : List ℕ) → From c T U → Barred U (c ∷ ys) → Barred T (c ∷ ys)
+Barred-from T U c ys o h = record { bars = λ t rest after is e. h.bars t rest after (o.back t (ys ++ rest) after is e) e }
+
+pub FaultAt-from : (T U S V : List ℕ → Type 0) (at c : ℕ) (ys : List ℕ) (e : FormFault) → From c T U → From c S V → FaultAt U V at (c ∷ ys) e → FaultAt T S at (c ∷ ys) e
+FaultAt-from T U S V at c ys TooLong o p h = h
+FaultAt-from T U S V at c ys TooDeep o p h = record {
+  place = h.place;
+  within = h.within;
+  before = Front-from T U c (take (suc h.place) (c ∷ ys)) o h.before;
+  stops = Barred-from S V c (take h.place ys) p h.stops;
+}
+FaultAt-from T U S V at c ys Short o p h = Front-from S V c (c ∷ ys) p h
+FaultAt-from T U S V at c ys (Bad k) o p h = record {
+  place = h.place;
+  offset = h.offset;
+  within = h.within;
+  before = Front-from S V c (take h.place (c ∷ ys)) p h.before;
+  stops = Barred-from T U c (take h.place ys) o h.stops;
+}
+FaultAt-from T U S V at c ys (Trailing k) o p h = h
+FaultAt-from T U S V at c ys Memory o p h = h
+
+-- ---- faults at the first octet
+
+-- a text of T, which is not empty, has no octet yet
+pub Front-none : (T : List ℕ → Type 0) (t : List ℕ) → 0 < length t → T t → Front T []
+Front-none T t some is = record { rest = t; some = some; whole = is }
+
+-- no text of T begins with the octet
+pub FaultAt-first : (T S : List ℕ → Type 0) (at c : ℕ) (ys : List ℕ) → Front S [] → ((t x y : List ℕ) → T t → c ∷ x ≡ t ++ y → ⊥) → FaultAt T S at (c ∷ ys) (Bad at)
+FaultAt-first T S at c ys front never = record {
+  place = 0;
+  offset = omega arith;
+  within = omega arith;
+  before = front;
+  stops = record { bars = λ t rest after is e. never t rest after is e };
+}

@@ -1,0 +1,94 @@
+-- From a value read at the beginning of a text to what is said of the whole text.
+use Rattle.std.proofs.Common.{◌≡◌, ℕ, suc, ◌+◌, ◌<◌, ◌≤◌, List, [], ◌++◌, length, take, drop, refl, sym, ◌∙◌, ap, subst, arith, append-nil, length-drop}
+use Rattle.std.proofs.lemmas.List.{take-append-drop, take_at, drop_all}
+use Rattle.sexpr_core.specs.declared.fault.FormFault.{FormFault}
+use Rattle.sexpr_core.specs.declared.fault.FormFault.TheVariants.{TooLong, TooDeep, Short, Bad, Trailing, Memory}
+use Rattle.sexpr_core.specs.declared.layout.Record.{Record}
+use Rattle.sexpr_core.specs.Value.{Value, canon, IsWithinLimits}
+use Rattle.sexpr_core.specs.Layout.{records}
+use Rattle.sexpr_core.specs.Prefix.{Begins, Front, Barred, FaultAt}
+use Rattle.sexpr_core.specs.Texts.{IsCanon, IsCanonWithin}
+use Rattle.sexpr_core.specs.Reading.{ReadsValue}
+use Rattle.sexpr_core.specs.Refusal.{IsShallowText, Refused}
+use Rattle.sexpr_core.proofs.Texts.{canon_one}
+use Rattle.sexpr_core.proofs.Steps.{read_length}
+
+front_begins : (T : List ℕ → Type 0) (xs : List ℕ) → Front T xs → Begins T xs
+front_begins T xs f = record { rest = f.rest; whole = f.whole }
+
+barred_begins : (T : List ℕ → Type 0) (xs : List ℕ) → Barred T xs → Begins T xs → ⊥
+barred_begins T xs h b = h.bars (xs ++ b.rest) b.rest [] b.whole (sym (append-nil (xs ++ b.rest)))
+
+pub refused : (text : List ℕ) (e : FormFault) → FaultAt IsCanon (IsCanonWithin 64) 0 text e → Refused text e
+refused text TooLong h = absurd h
+refused text TooDeep h =
+    (suc h.place, front_begins IsCanon (take (suc h.place) text) h.before, barred_begins IsShallowText (take (suc h.place) text) h.stops)
+refused text Short h = h
+refused text (Bad k) h =
+    let e : h.place ≡ k = let o : k ≡ 0 + h.place = h.offset in omega arith in
+    let f : suc h.place ≡ k + 1 = omega arith in
+    let w : h.place < length text = h.within in (
+      omega arith,
+      subst (λ n. Front IsShallowText (take n text)) e h.before,
+      subst (λ n. Begins IsCanon (take n text) → ⊥) f (barred_begins IsCanon (take (suc h.place) text) h.stops),
+    )
+refused text (Trailing k) h = absurd h
+refused text Memory h = h
+
+pub never_long : (text : List ℕ) (e : FormFault) → FaultAt IsCanon (IsCanonWithin 64) 0 text e → e ≡ TooLong → ⊥
+never_long text e h q = subst (λ k. FaultAt IsCanon (IsCanonWithin 64) 0 text k) q h
+
+-- ---- a whole value
+
+pub whole_length : (text : List ℕ) (to : ℕ) (old new : List Record) (r : ReadsValue 64 text 0 to old new) → to ≡ length (canon r.value)
+whole_length text to old new r =
+    let k : to ≤ length text = r.within in
+    let l : to ≡ 0 + length (canon r.value) = read_length text (canon r.value) 0 to (omega arith) k r.spelled in
+    omega arith
+
+pub trailing : (text : List ℕ) (to : ℕ) (old new : List Record) → ReadsValue 64 text 0 to old new → to < length text → Refused text (Trailing to)
+trailing text to old new r h =
+    let l : to ≡ length (canon r.value) = whole_length text to old new r in (
+      h,
+      record {
+        value = r.value;
+        fits = r.fits;
+        is = ap (take to) r.spelled ∙ take_at (canon r.value) (drop to text) to (sym l);
+      },
+    )
+
+pub read_whole : (text : List ℕ) (to : ℕ) (new : List Record) → length text ≤ 1048576 → ReadsValue 64 text 0 to [] new → length text ≤ to → (v : Value) × IsWithinLimits v × (text ≡ canon v) × (new ≡ records 0 v)
+read_whole text to new short r h =
+    let e : text ≡ canon r.value =
+    r.spelled ∙ ap (λ t. canon r.value ++ t) (drop_all to text h) ∙ append-nil (canon r.value) in
+    (r.value, record { short = omega (arith, ap length e); shallow = r.fits }, e, r.placed)
+
+-- ---- a canonical text within the limits is refused only for want of memory
+
+part : (text : List ℕ) (v : Value) (n : ℕ) → text ≡ canon v → take n text ++ drop n text ≡ canon v
+part text v n e = take-append-drop n text ∙ e
+
+pub only_memory : (text : List ℕ) (e : FormFault) (v : Value) → IsWithinLimits v → text ≡ canon v → Refused text e → e ≡ Memory
+only_memory text TooLong v w q h = let s : length (canon v) ≤ 1048576 = w.short in absurd (omega (arith, ap length q))
+only_memory text TooDeep v w q h =
+    absurd (h.2 (record {
+      rest = drop h.0 text;
+      whole = record { value = v; fits = w.shallow; is = part text v h.0 q };
+    }))
+only_memory text Short v w q h =
+    let s : IsShallowText (text ++ h.rest) = h.whole in
+    let e : canon v ++ h.rest ≡ canon s.value ++ [] =
+    ap (λ t. t ++ h.rest) (sym q) ∙ s.is ∙ sym (append-nil (canon s.value)) in
+    let p = canon_one v s.value h.rest [] e in
+    let some : 0 < length h.rest = h.some in
+    absurd (omega (arith, ap length p.1))
+only_memory text (Bad k) v w q h =
+    absurd (h.2 (record { rest = drop (k + 1) text; whole = record { value = v; is = part text v (k + 1) q } }))
+only_memory text (Trailing k) v w q h =
+    let s : IsShallowText (take k text) = h.1 in
+    let e : canon v ++ [] ≡ canon s.value ++ drop k text =
+    append-nil (canon v) ∙ sym (part text v k q) ∙ ap (λ t. t ++ drop k text) s.is in
+    let p = canon_one v s.value [] (drop k text) e in
+    let l : k < length text = h.0 in
+    absurd (omega (arith, ap length p.1, length-drop k text))
+only_memory text Memory v w q h = refl

@@ -1,0 +1,24 @@
+use Rattle.std.proofs.Common.{◌+◌, ◌≡◌, sym, arith}
+use Rattle.sexpr_core.specs.Places.{node_at}
+use Rattle.sexpr_core.specs.Parts.{member_number}
+use Rattle.sexpr_core.proofs.PlaceLaws.{size_is}
+use Rattle.sexpr_core.proofs.SiblingLaws.{member_of}
+use Rattle.sexpr_core.proofs.document.Doc.member_number.Goals as goal
+
+pub record-number-requires : goal.record-number-requires
+record-number-requires c =
+    let m = member_of c.args.self.now c.args.n c.loop.counter c.requires.known (omega (arith, c.requires.has_it)) in
+    rw c.loop.invariant m.within
+
+pub overflow_add-number-in-loop : goal.overflow_add-number-in-loop
+overflow_add-number-in-loop c =
+    let m = member_of c.args.self.now c.args.n c.loop.counter c.requires.known (omega (arith, c.requires.has_it)) in
+    let last = member_of c.args.self.now c.args.n (c.loop.counter + 1) c.requires.known (omega (arith, c.requires.has_it)) in
+    let step : c.loop.number + c.record-number.result.size ≡ member_number c.args.n (c.loop.counter + 1) (node_at c.args.self.now c.args.n) =
+    rw (c.loop.invariant, size_is _ _ _ c.record-number.ensures.place, c.loop.invariant) (sym m.next) in
+    omega (arith, last.within, c.record-number.ensures.countable)
+
+pub loop-preserved : goal.loop-preserved
+loop-preserved c =
+    let m = member_of c.args.self.now c.args.n c.loop.counter c.requires.known (omega (arith, c.requires.has_it)) in
+    rw (size_is _ _ _ c.record-number.ensures.place, c.loop.invariant) (sym m.next)

@@ -1,0 +1,23 @@
+use Rattle.std.proofs.Common.{ap, subst, ◌≡◌, ◌∙◌, arith, length}
+use Rattle.sexpr_core.specs.Value.{Value, size, canon}
+use Rattle.sexpr_core.specs.Places.{IsPlace, node_at}
+use Rattle.sexpr_core.proofs.TableLaws.{table_length, table_place}
+use Rattle.sexpr_core.proofs.document.Doc.record.Goals as goal
+
+pub index-requires : goal.index-requires
+index-requires c =
+    let table = c.self.inside.table in
+    let long : length table.items ≡ size c.args.self.now = table_length _ _ _ c.self.invariant ∙ ap size c.self.view_is in
+    omega (arith, table.ok.0)
+
+pub returns-clause-countable : goal.returns-clause-countable
+returns-clause-countable c =
+    let table = c.self.inside.table in
+    let long : length table.items ≡ size c.args.self.now = table_length _ _ _ c.self.invariant ∙ ap size c.self.view_is in
+    omega (arith, table.ok.0)
+
+pub returns-clause-place : goal.returns-clause-place
+returns-clause-place c =
+    let here : (v : Value) → v ≡ c.args.self.now → IsPlace (canon v) c.index.result.now (node_at v c.args.n) → IsPlace (canon c.args.self.now) c.index.result.now (node_at c.args.self.now c.args.n) =
+    λ v e p. subst (λ (w : Value). IsPlace (canon w) c.index.result.now (node_at w c.args.n)) e p in
+    here _ c.self.view_is (rw c.index.ensures (table_place _ _ _ c.args.n c.index.result.now c.self.invariant (rw c.self.view_is c.requires)))

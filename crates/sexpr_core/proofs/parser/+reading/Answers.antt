@@ -1,0 +1,46 @@
+use Rattle.std.proofs.Common.{arith}
+use Rattle.std.proofs.lemmas.Result.{err_from_is_err_and}
+use Rattle.sexpr_core.proofs.Steps.{value_none, string_value, deep_list, in_list, list_read, no_members, more_members, members_end, in_member}
+use Rattle.sexpr_core.proofs.parser.+reading.Goals as goal
+
+pub read_list-returns-then-room-eq0 : goal.read_list-returns-then-room-eq0
+read_list-returns-then-room-eq0 t c = deep_list _ _ _ c.if-room-eq0.true c.requires.begins
+
+pub read_list-returns-in_err-read : goal.read_list-returns-in_err-read
+read_list-returns-in_err-read t c =
+    let p = err_from_is_err_and c.from_residual-in_err-read.result c.from_residual-in_err-read.ensures.1 in
+    rw (p.1, p.2) (in_list _ _ _ _ _ (omega arith) c.requires.begins c.in_err-read.ensures)
+
+pub read_list-returns : goal.read_list-returns
+read_list-returns t c =
+    list_read _ _ _ _ _ _ _ _ _ _ _ _ (omega arith) c.requires.begins
+    (omega (arith, c.args.nodes.now.ok.0)) c.in_ok-push.ensures.items c.in_ok-read.ensures
+    (omega (arith, c.read_members.new.nodes.ok.0))
+
+pub read_members-loop-octet-init : goal.read_members-loop-octet-init
+read_members-loop-octet-init t c = no_members _ _ _ _ c.requires.begins
+
+pub read_members-returns-in_err-i : goal.read_members-returns-in_err-i
+read_members-returns-in_err-i t c =
+    let p = err_from_is_err_and c.from_residual.result c.from_residual.ensures.1 in
+    rw (p.1, p.2)
+    (in_member _ _ _ _ _ _ _ _ _ c.requires.begins c.loop-octet.invariant c.in-Some.ensures c.if-octet-eq41.false c.in_err-i.ensures)
+
+pub read_members-loop-octet-preserved : goal.read_members-loop-octet-preserved
+read_members-loop-octet-preserved t c =
+    more_members _ _ _ _ _ _ _ _ _ c.requires.begins c.loop-octet.invariant c.in_ok-i.ensures
+
+pub read_members-returns : goal.read_members-returns
+read_members-returns t c =
+    members_end _ c.args.text.now _ _ c.loop-octet.i _ _ c.loop-octet.invariant c.in_default.ensures
+
+pub read_value-returns-in_default : goal.read_value-returns-in_default
+read_value-returns-in_default t c = value_none _ c.args.text.now c.args.at c.in_default.ensures
+
+pub read_value-returns-in_err-read : goal.read_value-returns-in_err-read
+read_value-returns-in_err-read t c =
+    let p = err_from_is_err_and c.from_residual.result c.from_residual.ensures.1 in
+    rw (p.1, p.2) (c.in_err-read.ensures c.args.room)
+
+pub read_value-returns : goal.read_value-returns
+read_value-returns t c = string_value _ _ _ _ _ _ c.requires.begins c.in_ok-read.ensures c.in_ok-push.ensures.items

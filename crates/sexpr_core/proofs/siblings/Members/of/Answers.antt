@@ -1,0 +1,20 @@
+use Rattle.std.proofs.Common.{arith}
+use Rattle.sexpr_core.proofs.PlaceLaws.{size_is}
+use Rattle.sexpr_core.proofs.SiblingLaws.{list_of}
+use Rattle.sexpr_core.proofs.siblings.Members.of.Goals as goal
+
+pub overflow_add-result : goal.overflow_add-result
+overflow_add-result c = omega arith
+
+pub overflow_add-result-2 : goal.overflow_add-result-2
+overflow_add-result-2 c =
+    let l = list_of _ c.args.n _ c.requires.known c.requires.listed (size_is _ _ _ c.record-size.ensures.place) in
+    omega (arith, l.fits)
+
+pub invariant_of-result : goal.invariant_of-result
+invariant_of-result c =
+    (list_of _ c.args.n _ c.requires.known c.requires.listed (size_is _ _ _ c.record-size.ensures.place)).siblings_of
+
+pub returns : goal.returns
+returns c =
+    (list_of _ c.args.n _ c.requires.known c.requires.listed (size_is _ _ _ c.record-size.ensures.place)).list_is

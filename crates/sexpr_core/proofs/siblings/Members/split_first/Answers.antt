@@ -1,0 +1,18 @@
+use Rattle.std.proofs.Common.{sym, ◌∙◌, arith}
+use Rattle.sexpr_core.proofs.PlaceLaws.{size_is}
+use Rattle.sexpr_core.proofs.SiblingLaws.{split}
+use Rattle.sexpr_core.proofs.siblings.Members.split_first.Goals as goal
+
+pub overflow_add-others : goal.overflow_add-others
+overflow_add-others c =
+    let s = split _ c.self.inside.from c.self.inside.to _ c.self.invariant c.if-self.false (size_is _ _ _ c.record-size.ensures.place) in
+    omega (arith, s.others.ordered, s.others.within, c.record-size.ensures.countable)
+
+pub invariant_of-others : goal.invariant_of-others
+invariant_of-others c =
+    (split _ c.self.inside.from c.self.inside.to _ c.self.invariant c.if-self.false (size_is _ _ _ c.record-size.ensures.place)).others
+
+pub returns : goal.returns
+returns c =
+    let s = split _ c.self.inside.from c.self.inside.to _ c.self.invariant c.if-self.false (size_is _ _ _ c.record-size.ensures.place) in
+    sym c.self.view_is ∙ rw c.at-first.ensures s.first_is

@@ -1,0 +1,23 @@
+use Rattle.std.proofs.Common.{sym, ◌∙◌, rules, arith}
+use Rattle.sexpr_core.proofs.PlaceLaws.{size_is}
+use Rattle.sexpr_core.proofs.SiblingLaws.{split}
+use Rattle.sexpr_core.proofs.siblings.MembersIterator.next.Goals as goal
+
+pub overflow_add-self : goal.overflow_add-self
+overflow_add-self c =
+    let s = split _ c.self.inside.from c.self.inside.to _ c.self.invariant c.if-self.false (size_is _ _ _ c.record-size.ensures.place) in
+    omega (arith, s.others.ordered, s.others.within, c.record-size.ensures.countable)
+
+pub invariant_of-self : goal.invariant_of-self
+invariant_of-self c =
+    (split _ c.self.inside.from c.self.inside.to _ c.self.invariant c.if-self.false (size_is _ _ _ c.record-size.ensures.place)).others
+
+pub returns-clause-steps : goal.returns-clause-steps
+returns-clause-steps c =
+    let s = split _ c.self.inside.from c.self.inside.to _ c.self.invariant c.if-self.false (size_is _ _ _ c.record-size.ensures.place) in
+    sym c.self.view_is ∙ rw c.at.ensures s.first_is
+
+pub returns-clause-goes : goal.returns-clause-goes
+returns-clause-goes c =
+    let s = split _ c.self.inside.from c.self.inside.to _ c.self.invariant c.if-self.false (size_is _ _ _ c.record-size.ensures.place) in
+    rw (← c.self.view_is, s.first_is) (search rules)

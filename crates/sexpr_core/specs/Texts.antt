@@ -1,0 +1,57 @@
+-- The sorts of texts that a reader of canonical form looks for (RFC 9804, section 6.1).
+use Rattle.std.specs.Prelude.{◌≡◌, ℕ, ◌≤◌, List, [], ◌∷◌, ◌++◌}
+use Rattle.sexpr_core.specs.Value.{Value, Values, more, decimal, verbatim, canon, canons, depth, depths}
+
+-- the canonical text of a value
+pub record IsCanon (t : List ℕ) : Type 0 where
+  pub value : Value
+  pub is : t ≡ canon value
+
+-- that of a value in which at most so many lists are open at once
+pub record IsCanonWithin (room : ℕ) (t : List ℕ) : Type 0 where
+  pub value : Value
+  pub fits : depth value ≤ room
+  pub is : t ≡ canon value
+
+-- the members of a list and its closing parenthesis
+pub record IsMembers (t : List ℕ) : Type 0 where
+  pub items : Values
+  pub is : t ≡ canons items ++ 41 ∷ []
+
+pub record IsMembersWithin (room : ℕ) (t : List ℕ) : Type 0 where
+  pub items : Values
+  pub fits : depths items ≤ room
+  pub is : t ≡ canons items ++ 41 ∷ []
+
+-- the same where there is a member
+pub record IsFilled (t : List ℕ) : Type 0 where
+  pub first : Value
+  pub others : Values
+  pub is : t ≡ canons (more first others) ++ 41 ∷ []
+
+pub record IsFilledWithin (room : ℕ) (t : List ℕ) : Type 0 where
+  pub first : Value
+  pub others : Values
+  pub fits : depths (more first others) ≤ room
+  pub is : t ≡ canons (more first others) ++ 41 ∷ []
+
+-- a string in verbatim form
+pub record IsVerbatim (t : List ℕ) : Type 0 where
+  pub octets : List ℕ
+  pub is : t ≡ verbatim octets
+
+-- a hinted string behind its opening bracket
+pub record IsHinted (t : List ℕ) : Type 0 where
+  pub hint : List ℕ
+  pub octets : List ℕ
+  pub is : t ≡ verbatim hint ++ 93 ∷ verbatim octets
+
+-- a hinted string behind its hint
+pub record IsClosing (t : List ℕ) : Type 0 where
+  pub octets : List ℕ
+  pub is : t ≡ 93 ∷ verbatim octets
+
+-- a length and its colon
+pub record IsLength (t : List ℕ) : Type 0 where
+  pub number : ℕ
+  pub is : t ≡ decimal number ++ 58 ∷ []

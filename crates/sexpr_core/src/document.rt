@@ -1,0 +1,96 @@
+//! A canonical text with a table of its nodes.
+
+ghost use Rattle.std.specs.Prelude.{◌≡◌, ◌<◌, ◌^◌, ◌↔◌, length, IfOk, IfErr, IsErrOf, IsOkUnless};
+ghost use Rattle.sexpr_core.specs.Value.{Value, canon, size, node, IsWithinLimits};
+ghost use Rattle.sexpr_core.specs.Refusal.{Refused};
+ghost use Rattle.sexpr_core.specs.Places.{IsPlace, node_at};
+
+use crate::fault::FormFault;
+use crate::handle::Node;
+use crate::layout::Record;
+use crate::parser::parse;
+use std::alloc::Global;
+use std::marker::Model;
+
+/// The number of a node in its document. Nodes are numbered from 0 in the order in which they begin in the
+/// canonical text; a list stands before its members, and a display hint is no node.
+#[derive(Clone, Copy, Debug, PartialEq, Eq)]
+pub struct NodeId(pub usize);
+
+/// A canonical text (RFC 9804, section 6.1) with a table of its nodes. In a contract it is its value.
+#[derive(Debug, Drop)]
+pub struct Doc<'a> {
+    text: &'a [u8],
+    table: Vec<Record>,
+}
+
+impl<'a> Model for Doc<'a> {
+    ghost use Rattle.sexpr_core.specs.Value as sexpr;
+    ghost use Rattle.sexpr_core.specs.Labels.{value_code};
+
+    ghost Value = { sexpr.Value };
+
+    ghost coded = { value_code };
+
+    ghost use Rattle.sexpr_core.specs.Table.{table_value, IsTable};
+
+    ghost view = { λ d. table_value d.text.now d.table.items };
+
+    ghost invariant = { λ d. IsTable d.text.now d.table.items (table_value d.text.now d.table.items) };
+}
+
+impl<'a> Doc<'a> {
+    /// Reads a text that is one value in canonical form (RFC 9804, section 6.1), of at most `MOST_OCTETS` octets and
+    /// with at most `MOST_LISTS` lists open at once. It takes time linear in the octets, and looks at no octet of
+    /// a string's body. The first fault from the left is the answer; `FormFault` says what each means.
+    pub fn open(alloc: Global, text: &'a [u8]) -> Result<Doc<'a>, FormFault>
+        ensures read { IfOk result (λ document. (text.entry.now ≡ canon document) × IsWithinLimits document) }
+        ensures only { (v : Value) → IsWithinLimits v → text.entry.now ≡ canon v → IsOkUnless result FormFault.Memory }
+        ensures too_long { IsErrOf result FormFault.TooLong ↔ (1048576 < length text.entry.now) }
+        ensures refused { IfErr result (λ fault. Refused text.entry.now fault) }
+    {
+        let table = parse(alloc, text)?;
+        Ok(Doc { text, table })
+    }
+
+    /// The document's value itself, as a node.
+    pub fn top<'d>(&'d self) -> Node<'d, 'a>
+        ensures { result ≡ self.now }
+    {
+        Node::at(self, 0)
+    }
+
+    /// The node with this number; None where the document has no such node.
+    pub fn node<'d>(&'d self, n: NodeId) -> Option<Node<'d, 'a>>
+        ensures { result ≡ node self.now n.0 }
+    {
+        if n.0 < self.node_count() {
+            Some(Node::at(self, n.0))
+        } else {
+            None
+        }
+    }
+
+    /// The whole text.
+    pub(crate) fn text(&self) -> &'a [u8]
+        ensures { result.now ≡ canon self.now }
+    {
+        self.text
+    }
+
+    /// The record of a node.
+    pub(crate) fn record(&self, n: usize) -> Record
+        requires { n < size self.now }
+        ensures place { IsPlace (canon self.now) result (node_at self.now n) }
+        ensures countable { size self.now < 2 ^ 64 }
+    {
+        self.table[n]
+    }
+
+    /// How many nodes there are.
+    pub(crate) fn node_count(&self) -> usize
+        ensures { result ≡ size self.now }
+    {
+        self.table.len()
+    }
+}

@@ -1,0 +1,82 @@
+//! What a document's nodes are, asked by their numbers. A number that the document doesn't have gives None.
+
+ghost use Rattle.std.specs.Prelude.{◌≡◌, ◌<◌, ◌^◌, length, option_map};
+ghost use Rattle.std.specs.Option.{option_copied};
+ghost use Rattle.sexpr_core.specs.Value.{canon, node, size};
+ghost use Rattle.sexpr_core.specs.Places.{node_at};
+ghost use Rattle.sexpr_core.specs.Parts.{of_node, part_count, part_number, member_number, members_of, body_of, hint_of};
+
+use crate::document::{Doc, NodeId};
+use crate::handle::Form;
+
+impl<'a> Doc<'a> {
+    /// The document's value itself.
+    pub fn root(&self) -> NodeId
+        ensures { result.0 ≡ 0 }
+    {
+        NodeId(0)
+    }
+
+    /// How many members a list has; None for a string.
+    pub fn parts(&self, n: NodeId) -> Option<usize>
+        ensures { result ≡ of_node part_count self.now n.0 }
+    {
+        let node = self.node(n)?;
+        node.part_count()
+    }
+
+    /// The number of member i of a list, counted from 0; None for a string, and where there are no more than i
+    /// members. It takes a step for each member before that one: to go over all members use `Node::form`.
+    pub fn part(&self, n: NodeId, i: usize) -> Option<NodeId>
+        ensures { option_map (λ m. m.0) result ≡ of_node (part_number n.0 i) self.now n.0 }
+    {
+        let parts = self.parts(n)?;
+        if i >= parts {
+            return None;
+        }
+        Some(NodeId(self.member_number(n.0, i)))
+    }
+
+    /// The number of member i of node n.
+    fn member_number(&self, n: usize, i: usize) -> usize
+        requires known { n < size self.now }
+        requires has_it { i < length (members_of (node_at self.now n)) }
+        ensures { result ≡ member_number n i (node_at self.now n) }
+    {
+        let count = self.node_count();
+        prove!(n < count);
+        let mut number = n + 1;
+        for _ in 0..i {
+            number += self.record(number).size;
+        }
+        number
+    }
+
+    /// The octets of a string; None for a list.
+    pub fn body(&self, n: NodeId) -> Option<&'a [u8]>
+        ensures { option_copied result ≡ of_node body_of self.now n.0 }
+    {
+        match self.node(n)?.form() {
+            Form::String { body, .. } => Some(body),
+            Form::List(_) => None,
+        }
+    }
+
+    /// The display hint of a string that has one.
+    pub fn hint(&self, n: NodeId) -> Option<&'a [u8]>
+        ensures { option_copied result ≡ of_node hint_of self.now n.0 }
+    {
+        match self.node(n)?.form() {
+            Form::String { hint, .. } => hint,
+            Form::List(_) => None,
+        }
+    }
+
+    /// The canonical text of a node, as it stands in the document.
+    pub fn slice(&self, n: NodeId) -> Option<&'a [u8]>
+        ensures { option_copied result ≡ option_map canon (node self.now n.0) }
+    {
+        let node = self.node(n)?;
+        Some(node.slice())
+    }
+}

@@ -1,0 +1,280 @@
+//! The reader of canonical form (RFC 9804, section 6.1).
+
+ghost use Rattle.std.specs.Prelude.{◌≡◌, ℕ, ◌+◌, ◌<◌, ◌≤◌, ◌≢◌, ◌↔◌, [], ◌∷◌, length, drop, MatchOption, MatchResult, IfOk, IfErr, IsErrOf, IsOkUnless};
+ghost use Rattle.sexpr_core.specs.Value.{Value, canon, IsWithinLimits};
+ghost use Rattle.sexpr_core.specs.Layout.{records};
+ghost use Rattle.sexpr_core.specs.Refusal.{Refused};
+ghost use Rattle.sexpr_core.specs.Prefix.{FaultAt};
+ghost use Rattle.sexpr_core.specs.Texts.{IsCanon, IsCanonWithin, IsMembers, IsMembersWithin, IsLength, IsVerbatim, IsClosing};
+ghost use Rattle.sexpr_core.specs.Reading.{StandsAt, ReadsLength, ReadsVerbatim, ReadsString, ReadsValue, ReadsMembers};
+
+use crate::fault::FormFault;
+use crate::layout::{Record, Shape};
+use std::alloc::Global;
+
+/// The most octets that a text may have.
+pub const MOST_OCTETS: usize = 1_048_576;
+
+/// The most lists that may be open at once.
+pub const MOST_LISTS: usize = 64;
+
+/// A length as it stands before a string, at most one past the most octets, and where its colon has ended.
+#[derive(Clone, Copy)]
+struct Length {
+    number: usize,
+    end: usize,
+}
+
+/// Where the octets of a string in verbatim form begin and end.
+#[derive(Clone, Copy)]
+struct Piece {
+    body: usize,
+    end: usize,
+}
+
+/// How many members a list has, and where its closing parenthesis has ended.
+#[derive(Clone, Copy)]
+struct ListEnd {
+    parts: usize,
+    end: usize,
+}
+
+fn octet_at(text: &[u8], at: usize) -> Option<u8>
+    requires { at ≤ length text.now }
+    ensures { MatchOption result (drop at text.now ≡ []) (λ octet. StandsAt text.now at octet) }
+{
+    if at < text.len() {
+        Some(text[at])
+    } else {
+        None
+    }
+}
+
+fn first_digit(text: &[u8], at: usize) -> Result<usize, FormFault>
+    requires { at ≤ length text.now }
+    ensures { MatchResult result
+        (λ digit. (digit < 10) × StandsAt text.now at (48 + digit))
+        (λ fault. FaultAt IsLength IsLength at (drop at text.now) fault) }
+{
+    match octet_at(text, at) {
+        None => Err(FormFault::Short),
+        Some(octet) => {
+            if octet >= b'0' && octet <= b'9' {
+                Ok((octet - b'0') as usize)
+            } else {
+                Err(FormFault::Bad(at))
+            }
+        }
+    }
+}
+
+/// A decimal length without leading zero, and the colon behind it. A length of any size is read, since a text
+/// may go on for as long; past the most octets it stays one past them.
+fn read_length(text: &[u8], at: usize) -> Result<Length, FormFault>
+    requires { at ≤ length text.now }
+    ensures { MatchResult result
+        (λ read. ReadsLength text.now at read.number read.end)
+        (λ fault. FaultAt IsLength IsLength at (drop at text.now) fault) }
+{
+    let mut number = first_digit(text, at)?;
+    let mut i = at + 1;
+    while let Some(octet) = octet_at(text, i) {
+        if octet == b':' {
+            return Ok(Length { number, end: i + 1 });
+        }
+        if number == 0 || octet < b'0' || octet > b'9' {
+            return Err(FormFault::Bad(i));
+        }
+        number = (number * 10 + (octet - b'0') as usize).min(MOST_OCTETS + 1);
+        i += 1;
+    }
+    Err(FormFault::Short)
+}
+
+/// A string in verbatim form. Its octets are not looked at.
+fn read_verbatim(text: &[u8], at: usize) -> Result<Piece, FormFault>
+    requires short { length text.now ≤ 1048576 }
+    requires begins { at ≤ length text.now }
+    ensures { MatchResult result
+        (λ read. ReadsVerbatim text.now at read.body read.end)
+        (λ fault. FaultAt IsVerbatim IsVerbatim at (drop at text.now) fault) }
+{
+    let read = read_length(text, at)?;
+    if read.number > text.len() - read.end {
+        return Err(FormFault::Short);
+    }
+    Ok(Piece {
+        body: read.end,
+        end: read.end + read.number,
+    })
+}
+
+/// The closing bracket of a hint and the string behind it.
+fn read_closing(text: &[u8], at: usize) -> Result<Piece, FormFault>
+    requires short { length text.now ≤ 1048576 }
+    requires begins { at ≤ length text.now }
+    ensures { MatchResult result
+        (λ read. StandsAt text.now at 93 × ReadsVerbatim text.now (at + 1) read.body read.end)
+        (λ fault. FaultAt IsClosing IsClosing at (drop at text.now) fault) }
+{
+    let Some(octet) = octet_at(text, at) else {
+        return Err(FormFault::Short);
+    };
+    if octet != b']' {
+        return Err(FormFault::Bad(at));
+    }
+    let read = read_verbatim(text, at + 1)?;
+    Ok(read)
+}
+
+/// A string with a hint, from its opening bracket on.
+fn read_hinted(text: &[u8], at: usize) -> Result<Record, FormFault>
+    requires short { length text.now ≤ 1048576 }
+    requires begins { StandsAt text.now at 91 }
+    ensures { MatchResult result
+        (λ read. ReadsString text.now at read)
+        (λ fault. (room : ℕ) → FaultAt IsCanon (IsCanonWithin room) at (drop at text.now) fault) }
+{
+    let hint = read_verbatim(text, at + 1)?;
+    let string = read_closing(text, hint.end)?;
+    let shape = Shape::Hinted {
+        hint: hint.body,
+        hint_end: hint.end,
+        body: string.body,
+    };
+    Ok(Record {
+        start: at,
+        end: string.end,
+        size: 1,
+        shape,
+    })
+}
+
+/// A string, of whose text the first octet is known.
+fn read_string(text: &[u8], at: usize, octet: u8) -> Result<Record, FormFault>
+    requires short { length text.now ≤ 1048576 }
+    requires begins { StandsAt text.now at octet }
+    requires no_list { octet ≢ 40 }
+    ensures { MatchResult result
+        (λ read. ReadsString text.now at read)
+        (λ fault. (room : ℕ) → FaultAt IsCanon (IsCanonWithin room) at (drop at text.now) fault) }
+{
+    if octet == b'[' {
+        return read_hinted(text, at);
+    }
+    if octet < b'0' || octet > b'9' {
+        return Err(FormFault::Bad(at));
+    }
+    let read = read_verbatim(text, at)?;
+    Ok(Record {
+        start: at,
+        end: read.end,
+        size: 1,
+        shape: Shape::Plain { body: read.body },
+    })
+}
+
+/// A value, whose records go behind those of the nodes before it. At most `room` lists may open in it.
+#[cycle(reading)]
+fn read_value(
+    text: &[u8],
+    at: usize,
+    room: usize,
+    nodes: &mut Vec<Record>,
+) -> Result<usize, FormFault>
+    requires short { length text.now ≤ 1048576 }
+    requires begins { at ≤ length text.now }
+    ensures { MatchResult result
+        (λ to. ReadsValue room text.now at to nodes.old.items nodes.new.items)
+        (λ fault. FaultAt IsCanon (IsCanonWithin room) at (drop at text.now) fault) }
+{
+    let Some(octet) = octet_at(text, at) else {
+        return Err(FormFault::Short);
+    };
+    if octet == b'(' {
+        return read_list(text, at, room, nodes);
+    }
+    let read = read_string(text, at, octet)?;
+    nodes.push(read)?;
+    Ok(read.end)
+}
+
+/// A list, from its opening parenthesis on.
+#[cycle(reading)]
+fn read_list(
+    text: &[u8],
+    at: usize,
+    room: usize,
+    nodes: &mut Vec<Record>,
+) -> Result<usize, FormFault>
+    requires short { length text.now ≤ 1048576 }
+    requires begins { StandsAt text.now at 40 }
+    ensures { MatchResult result
+        (λ to. ReadsValue room text.now at to nodes.old.items nodes.new.items)
+        (λ fault. FaultAt IsCanon (IsCanonWithin room) at (drop at text.now) fault) }
+{
+    if room == 0 {
+        return Err(FormFault::TooDeep);
+    }
+    let index = nodes.len();
+    nodes.push(Record {
+        start: at,
+        end: at,
+        size: 1,
+        shape: Shape::List { parts: 0 },
+    })?;
+    let read = read_members(text, at + 1, room - 1, nodes)?;
+    let size = nodes.len() - index;
+    nodes[index] = Record {
+        start: at,
+        end: read.end,
+        size,
+        shape: Shape::List { parts: read.parts },
+    };
+    Ok(read.end)
+}
+
+/// The members of a list and its closing parenthesis.
+#[cycle(reading)]
+fn read_members(
+    text: &[u8],
+    at: usize,
+    room: usize,
+    nodes: &mut Vec<Record>,
+) -> Result<ListEnd, FormFault>
+    requires short { length text.now ≤ 1048576 }
+    requires begins { at ≤ length text.now }
+    ensures { MatchResult result
+        (λ read. ReadsMembers room text.now at read.parts read.end nodes.old.items nodes.new.items)
+        (λ fault. FaultAt IsMembers (IsMembersWithin room) at (drop at text.now) fault) }
+{
+    let mut parts = 0;
+    let mut i = at;
+    while let Some(octet) = octet_at(text, i) {
+        if octet == b')' {
+            return Ok(ListEnd { parts, end: i + 1 });
+        }
+        i = read_value(text, i, room, nodes)?;
+        parts += 1;
+    }
+    Err(FormFault::Short)
+}
+
+/// Reads a text that is one value in canonical form, and gives the records of its nodes in order.
+pub(crate) fn parse(alloc: Global, text: &[u8]) -> Result<Vec<Record>, FormFault>
+    ensures read { IfOk result (λ nodes.
+        (v : Value) × IsWithinLimits v × (text.now ≡ canon v) × (nodes.items ≡ records 0 v)) }
+    ensures only { (v : Value) → IsWithinLimits v → text.now ≡ canon v → IsOkUnless result FormFault.Memory }
+    ensures too_long { IsErrOf result FormFault.TooLong ↔ (1048576 < length text.now) }
+    ensures refused { IfErr result (λ fault. Refused text.now fault) }
+{
+    if text.len() > MOST_OCTETS {
+        return Err(FormFault::TooLong);
+    }
+    let mut nodes = Vec::new(alloc);
+    let end = read_value(text, 0, MOST_LISTS, &mut nodes)?;
+    if end < text.len() {
+        return Err(FormFault::Trailing(end));
+    }
+    Ok(nodes)
+}

@@ -1,0 +1,95 @@
+//! The members of a list, one after another.
+
+ghost use Rattle.std.specs.Prelude.{◌≡◌, ◌<◌, ◌∷◌, [], MatchOption, IsTrue, ◌↔◌};
+ghost use Rattle.std.specs.Iterator.{YieldsFirst, item_count};
+ghost use Rattle.sexpr_core.specs.Value.{list, size, values};
+ghost use Rattle.sexpr_core.specs.Places.{IsList, node_at};
+
+use crate::document::Doc;
+use crate::handle::Node;
+use std::marker::Model;
+
+/// The members of a list that are still to come. In a contract it is the list of their values.
+#[derive(Debug, Drop)]
+pub struct Members<'d, 'a> {
+    document: &'d Doc<'a>,
+    from: usize,
+    to: usize,
+}
+
+impl<'d, 'a> Model for Members<'d, 'a> {
+    ghost use Rattle.std.specs.Prelude.{List};
+    ghost use Rattle.std.specs.Coded.{coded_list};
+    ghost use Rattle.sexpr_core.specs.Value as sexpr;
+    ghost use Rattle.sexpr_core.specs.Labels.{value_code};
+
+    ghost Value = { List sexpr.Value };
+
+    ghost coded = { coded_list value_code };
+
+    ghost use Rattle.sexpr_core.specs.Form.{siblings_between, AreSiblings};
+
+    ghost view = { λ m. siblings_between m.document.now m.from m.to };
+
+    ghost invariant = { λ m. AreSiblings m.document.now m.from m.to (siblings_between m.document.now m.from m.to) };
+}
+
+impl<'d, 'a> Members<'d, 'a> {
+    /// The members of node n, a list.
+    pub(crate) fn of(document: &'d Doc<'a>, n: usize) -> Members<'d, 'a>
+        requires known { n < size document.now }
+        requires listed { IsList (node_at document.now n) }
+        ensures { node_at document.now n ≡ list (values result) }
+    {
+        let size = document.record(n).size;
+        Members {
+            document,
+            from: n + 1,
+            to: n + size,
+        }
+    }
+
+    /// Whether no member is left.
+    pub fn is_empty(&self) -> bool
+        ensures { IsTrue result ↔ (self.now ≡ []) }
+    {
+        self.from == self.to
+    }
+
+    /// The next member and those behind it; None where none is left.
+    pub fn split_first(self) -> Option<(Node<'d, 'a>, Members<'d, 'a>)>
+        ensures { MatchOption result (self.entry ≡ []) (λ p. self.entry ≡ p.0 ∷ p.1) }
+    {
+        if self.from == self.to {
+            return None;
+        }
+        let Members { document, from, to } = self;
+        let size = document.record(from).size;
+        let first = Node::at(document, from);
+        let others = Members {
+            document,
+            from: from + size,
+            to,
+        };
+        Some((first, others))
+    }
+}
+
+impl<'d, 'a> Iterator for Members<'d, 'a> {
+    type Item = Node<'d, 'a>;
+
+    ghost next_gives = { YieldsFirst (λ s. s) };
+
+    ghost remaining = { item_count (λ s. s) };
+
+    fn next(&mut self) -> Option<Node<'d, 'a>> {
+        if self.from == self.to {
+            return None;
+        }
+        let document = self.document;
+        let from = self.from;
+        let size = document.record(from).size;
+        self.from = from + size;
+        Some(Node::at(document, from))
+    }
+}

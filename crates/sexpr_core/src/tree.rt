@@ -1,0 +1,42 @@
+//! S-expressions as owned trees.
+
+ghost use Rattle.std.specs.Prelude.{◌≡◌, map, IfOk};
+ghost use Rattle.sexpr_core.specs.Value.{plain, group};
+ghost use Rattle.sexpr_core.specs.Tree.{sexp_value};
+
+use std::alloc::{AllocError, Global};
+
+/// An S-expression (RFC 9804, section 2): an octet string or a list.
+#[derive(Debug, Drop)]
+pub enum Sexp {
+    /// An octet string.
+    Atom(Atom),
+    /// A list of its members.
+    List(Vec<Sexp>),
+}
+
+/// An octet string, with or without a display hint (RFC 9804, sections 4 and 5).
+#[derive(Debug, Drop)]
+pub struct Atom {
+    /// The display hint, itself octets.
+    pub hint: Option<Vec<u8>>,
+    /// The octets.
+    pub body: Vec<u8>,
+}
+
+impl Sexp {
+    /// A copy of the octets as a string without display hint.
+    pub fn plain(alloc: Global, octets: &[u8]) -> Result<Sexp, AllocError>
+        ensures { IfOk result (λ s. sexp_value s ≡ plain octets.now) }
+    {
+        let body = Vec::from_slice(alloc, octets)?;
+        Ok(Sexp::Atom(Atom { hint: None, body }))
+    }
+
+    /// The list with these members.
+    pub fn list(members: Vec<Sexp>) -> Sexp
+        ensures { sexp_value result ≡ group (map sexp_value members.items) }
+    {
+        Sexp::List(members)
+    }
+}

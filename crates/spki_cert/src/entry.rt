@@ -1,0 +1,28 @@
+//! Subjects and entries.
+
+use crate::octets::Octets;
+use crate::principal::Principal;
+use crate::window::Window;
+use spki_tag::Tag;
+
+/// Who is given an authorization (RFC 2693, section 6): a principal, or a name that is defined by one.
+#[derive(Drop)]
+pub struct Subject<'a> {
+    /// The principal itself, or the one that defines the first name.
+    pub principal: Principal<'a>,
+    /// The names behind it; none where the principal itself is the subject.
+    pub names: Vec<Octets<'a>>,
+}
+
+/// An entry of an access list (RFC 2693, section 5): what its owner gives to a subject.
+#[derive(Drop)]
+pub struct Entry<'a> {
+    /// Who is given it.
+    pub subject: Subject<'a>,
+    /// Whether the subject may pass it on.
+    pub propagate: bool,
+    /// What is given.
+    pub tag: Tag,
+    /// When.
+    pub window: Window,
+}

@@ -1,0 +1,64 @@
+//! Why a structure is refused.
+
+use spki_tag::TagFault;
+use thiserror::Error;
+
+/// What is wrong with a structure. It is read from the left, and the first fault met is answered.
+#[derive(Clone, Copy, Debug, PartialEq, Eq, Error)]
+pub enum CertFaultKind {
+    /// The value has none of the forms that are read.
+    #[error("not of a form that is read")]
+    Shape,
+    /// A version other than 0.
+    #[error("unknown version")]
+    UnknownVersion,
+    /// A hash algorithm that isn't read, md5 among them.
+    #[error("unknown hash algorithm")]
+    HashAlg,
+    /// A digest whose length isn't that of its algorithm's digests.
+    #[error("digest of a wrong length")]
+    DigestLength,
+    /// A key with `(uri ..)` behind it.
+    #[error("a key with uris")]
+    KeyUris,
+    /// A subject headed `k-of-n`.
+    #[error("a threshold subject")]
+    Threshold,
+    /// A subject headed `keyholder`.
+    #[error("a keyholder subject")]
+    Keyholder,
+    /// A validity headed `online`.
+    #[error("an online test")]
+    Online,
+    /// A relative name as an entry's subject.
+    #[error("a relative name in an entry")]
+    RelativeInEntry,
+    /// A limit that isn't a date.
+    #[error("not a date")]
+    BadDate,
+    /// A certificate that no signature follows.
+    #[error("a certificate without signature")]
+    UnsignedCert,
+    /// A signature that follows no certificate.
+    #[error("a signature without certificate")]
+    StraySignature,
+    /// An operation other than `hash`.
+    #[error("unknown operation")]
+    UnknownOp,
+    /// A tag that isn't read.
+    #[error("tag: {0}")]
+    Tag(TagFault),
+    /// Memory was refused.
+    #[error("out of memory")]
+    Memory,
+}
+
+/// A structure that is refused.
+#[derive(Clone, Copy, Debug, PartialEq, Eq, Error)]
+#[error("item {item}: {kind}")]
+pub struct CertFault {
+    /// The number of the entry or item, from 1; 0 for the outer list and where there are no items.
+    pub item: usize,
+    /// What is wrong.
+    pub kind: CertFaultKind,
+}
