@@ -209,3 +209,17 @@ module _ (policy : Policy) where
       let left = bracketed tree r _ _ d (leaves-is tree) in
       let right = bracketed other s _ _ f (sym e ∙ leaves-is tree) in
       same_tree (from_left (first_of tree) (others tree)) r s left right
+
+  -- ---- fronts
+
+  extended_from : (tree : Tree) (ts : List Tuple) (root : Tuple) → Derives policy (extended tree ts) root
+      → (begun : Tuple) × Derives policy tree begun
+  extended_from tree [] root d = (root, d)
+  extended_from tree (t ∷ ts) root d = let e = extended_from (join tree (leaf t)) ts root d in (e.1.0, e.1.2)
+
+  pub front : (tree : Tree) (root first : Tuple) (before after : List Tuple) → Derives policy tree root
+      → leaves tree ≡ first ∷ (before ++ after) → (begun : Tuple) × Derives policy (from_left first before) begun
+  front tree root first before after d e =
+      let left = bracketed tree root first (before ++ after) d e in
+      let parted = rw extended-append at left in
+      extended_from (from_left first before) after root parted

@@ -1,6 +1,6 @@
 //! Laws of derivations.
 
-ghost use Rattle.std.specs.Prelude.{◌≡◌, ℕ, List, ◌∷◌, flat_map};
+ghost use Rattle.std.specs.Prelude.{◌≡◌, ℕ, List, ◌∷◌, ◌++◌, flat_map};
 ghost use Rattle.spki_cert.specs.declared.principal.Policy.{Policy};
 ghost use Rattle.spki_cert.specs.declared.principal.Policy.TheVariants.{Open, Strict};
 ghost use Rattle.spki_tag.specs.Request.{Request};
@@ -52,4 +52,12 @@ pub fn strict_implies_open()
     ensures derives { (tree : Tree) (root : Tuple) → Derives Strict tree root → Derives Open tree root }
     ensures supports { (tree : Tree) (holder : List ℕ) (request : Request) (moment : List ℕ) →
         Supports Strict tree holder request moment → Supports Open tree holder request moment }
+{}
+
+/// Where tuples in their order have a derivation, so have the first of them. So what doesn't join what stands before
+/// it ends every chain that it is in.
+pub fn fronts()
+    ensures { (policy : Policy) (tree : Tree) (root first : Tuple) (before after : List Tuple) →
+        Derives policy tree root → leaves tree ≡ first ∷ (before ++ after) →
+        (begun : Tuple) × Derives policy (from_left first before) begun }
 {}

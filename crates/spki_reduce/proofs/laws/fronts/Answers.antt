@@ -1,0 +1,5 @@
+use Rattle.spki_reduce.proofs.Bracketing.{front}
+use Rattle.spki_reduce.proofs.laws.fronts.Goals as goal
+
+pub returns : goal.returns
+returns c = front
