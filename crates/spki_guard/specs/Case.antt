@@ -1,7 +1,10 @@
 -- Which case a value is: an access list, what was accepted, what was shown, and what is asked.
-use Rattle.std.specs.Prelude.{◌≡◌, ◌≢◌, ℕ, List, [], ◌∷◌, codes}
-use Rattle.sexpr_core.specs.Value.{Value, plain, group}
+use Rattle.std.specs.Prelude.{◌≡◌, ◌≢◌, ◌⊎◌, ℕ, List, [], ◌∷◌, codes}
+use Rattle.sexpr_core.specs.declared.fault.FormFault.TheVariants as form_faults
+use Rattle.sexpr_core.specs.Value.{Value, plain, group, canon, IsWithinLimits}
+use Rattle.sexpr_core.specs.Refusal.{Refused}
 use Rattle.spki_tag.specs.Request.{Request, IsRequest, request_value}
+use Rattle.spki_tag.specs.declared.fault.TagFault.{TagFault}
 use Rattle.spki_tag.specs.declared.fault.TagFault.TheVariants as tag_faults
 use Rattle.spki_cert.specs.declared.entry.Entry.{Entry}
 use Rattle.spki_cert.specs.declared.fault.CertFault.{CertFault}
@@ -87,9 +90,9 @@ abbrev pub PartRefused : Parts → CaseFault → Type 0
 PartRefused p (faults.Acl fault) = (fault.kind ≢ kinds.Memory) × IsNoAcl (acl_value p) × AclRefused (acl_value p) fault.item
 PartRefused p (faults.Accepted fault) = ReadsAcl p × IsUnreadAt p.rows fault
 PartRefused p (faults.Sequence fault) = ReadsRows p × IsUnreadAt p.items fault
-PartRefused p (faults.Key kind) = ReadsItems p × ((key : List ℕ) → KeyOf p.key key → ⊥)
+PartRefused p (faults.Key fault) = (fault.item ≡ 0) × ReadsItems p × ((key : List ℕ) → KeyOf p.key key → ⊥)
 PartRefused p (faults.Request fault) = ReadsKey p × (fault ≢ tag_faults.Memory) × ((g : Request) → RequestOf p.request g → ⊥)
-PartRefused p (faults.At kind) = ReadsRequest p × ((date : List ℕ) → DateOf p.at date → ⊥)
+PartRefused p (faults.At fault) = (fault.item ≡ 0) × ReadsRequest p × ((date : List ℕ) → DateOf p.at date → ⊥)
 PartRefused p faults.Shape = ⊥
 PartRefused p faults.Memory = ⊥
 PartRefused p (faults.Form fault) = ⊥
@@ -102,6 +105,41 @@ ValueRefused v (faults.Form fault) = ⊥
 ValueRefused v (faults.Acl fault) = (p : Parts) × (v ≡ case_value p) × PartRefused p (faults.Acl fault)
 ValueRefused v (faults.Accepted fault) = (p : Parts) × (v ≡ case_value p) × PartRefused p (faults.Accepted fault)
 ValueRefused v (faults.Sequence fault) = (p : Parts) × (v ≡ case_value p) × PartRefused p (faults.Sequence fault)
-ValueRefused v (faults.Key kind) = (p : Parts) × (v ≡ case_value p) × PartRefused p (faults.Key kind)
+ValueRefused v (faults.Key fault) = (p : Parts) × (v ≡ case_value p) × PartRefused p (faults.Key fault)
 ValueRefused v (faults.Request fault) = (p : Parts) × (v ≡ case_value p) × PartRefused p (faults.Request fault)
-ValueRefused v (faults.At kind) = (p : Parts) × (v ≡ case_value p) × PartRefused p (faults.At kind)
+ValueRefused v (faults.At fault) = (p : Parts) × (v ≡ case_value p) × PartRefused p (faults.At fault)
+
+-- a fault of an access list, and of a request, as one of the case
+abbrev pub IsAclFault : CertFault → CaseFault → Type 0
+IsAclFault fault outer = (outer ≡ faults.Memory) ⊎ ((fault.kind ≢ kinds.Memory) × (outer ≡ faults.Acl fault))
+
+abbrev pub IsRequestFault : TagFault → CaseFault → Type 0
+IsRequestFault fault outer = (outer ≡ faults.Memory) ⊎ ((fault ≢ tag_faults.Memory) × (outer ≡ faults.Request fault))
+
+-- ---- texts
+
+-- the text is the canonical form, within the limits, of a value that is the case
+pub record IsCaseText (text : List ℕ) (c : Case) : Type 0 where
+  pub value : Value
+  pub within : IsWithinLimits value
+  pub written : text ≡ canon value
+  pub case_is : CaseOf value c
+
+-- the text is that of a value that is refused so
+pub record IsNoCaseText (text : List ℕ) (fault : CaseFault) : Type 0 where
+  pub value : Value
+  pub within : IsWithinLimits value
+  pub written : text ≡ canon value
+  pub refused : ValueRefused value fault
+
+-- What a refusal says of a text: its form is refused so, or its value is.
+abbrev pub TextRefused : List ℕ → CaseFault → Type 0
+TextRefused text faults.Memory = Unit {0}
+TextRefused text (faults.Form fault) = (fault ≢ form_faults.Memory) × Refused text fault
+TextRefused text faults.Shape = IsNoCaseText text faults.Shape
+TextRefused text (faults.Acl fault) = IsNoCaseText text (faults.Acl fault)
+TextRefused text (faults.Accepted fault) = IsNoCaseText text (faults.Accepted fault)
+TextRefused text (faults.Sequence fault) = IsNoCaseText text (faults.Sequence fault)
+TextRefused text (faults.Key fault) = IsNoCaseText text (faults.Key fault)
+TextRefused text (faults.Request fault) = IsNoCaseText text (faults.Request fault)
+TextRefused text (faults.At fault) = IsNoCaseText text (faults.At fault)

@@ -4,3 +4,8 @@ pub mod Lines
 pub mod Answer
 pub mod Reply
 pub mod Run
+pub mod Accepted
+pub mod Case
+pub mod Parts
+pub mod Shown
+pub mod Granted

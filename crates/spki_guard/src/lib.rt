@@ -2,13 +2,13 @@
 #![tactic(auto)]
 
 pub mod answer;
+pub mod case;
 pub mod command;
 pub mod lines;
 pub mod metered;
+mod parts;
 pub mod reading;
 mod reply;
 pub mod run;
+pub mod verifier;
 pub mod writing;
-
-#[cfg(test)]
-mod tests;

@@ -1,7 +1,7 @@
 //! Who judges signatures.
 
-ghost use Rattle.std.specs.Prelude.{◌≡◌, ◌↔◌, ℕ, List, IsTrue, IfOk};
-ghost use Rattle.spki_guard.specs.Accepted.{IsAccepted};
+ghost use Rattle.std.specs.Prelude.{◌≡◌, ◌↔◌, ℕ, List, IsTrue, IsOk, IfOk};
+ghost use Rattle.spki_guard.specs.Accepted.{IsAccepted, is_row_of};
 
 use spki_cert::{HashAlg, Key, Octets};
 use std::alloc::{AllocError, Global};
@@ -52,7 +52,7 @@ impl<'a> Verifier for AcceptedTable<'a> {
 
 /// Whether the row is of this key, this message and this value.
 fn row_accepts(row: &Row, key: &Key, message: &[u8], value: &[u8]) -> bool
-    ensures { result ≡ row_accepts_lem key.now message.now value.now row.now }
+    ensures { result ≡ is_row_of key.now message.now value.now row.now }
 {
     row.key.same(key) && HashAlg::Sha256.fits(row.digest.as_slice(), message) && row.value.as_slice() == value
 }
