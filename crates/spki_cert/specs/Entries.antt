@@ -1,5 +1,5 @@
--- Which entries and access lists a value is (RFC 2693, section 5; the forms are those of the SPKI working
--- group's structure draft).
+-- Which entries and access lists a value is (RFC 2693, section 3.4; the forms are those of the SPKI
+-- working group's structure draft).
 use Rattle.std.specs.Prelude.{◌≡◌, ℕ, ◌+◌, ◌≤◌, Bool, true, false, ◌⊎◌, List, [], ◌∷◌, ◌++◌, length, Option, Some, None, Contains, codes, if◌then◌else◌}
 use Rattle.std.specs.Str.{bytes_eq}
 use Rattle.std.specs.List.{AllByRecursion, AllZip, list_any}
@@ -16,7 +16,7 @@ use Rattle.spki_tag.specs.Time.{is_date}
 use Rattle.spki_cert.specs.Readings.{KeyOf, HashOf}
 use Rattle.spki_cert.specs.Shapes.{IsNotHeaded}
 
--- ---- subjects (sections 2.1, 2.5 and 2.6)
+-- ---- subjects (sections 2.5, 2.6 and 2.8)
 
 -- a key, or the hash of one
 abbrev pub PrincipalOf : Value → Principal → Type 0

@@ -1,4 +1,4 @@
--- Which keys a principal names (RFC 2693, section 2.5 and 4.1; the digests are those of FIPS 180-4).
+-- Which keys a principal names (RFC 2693, section 2.5; the digests are those of FIPS 180-4).
 use Rattle.std.specs.Prelude.{ℕ, Bool, true, false, ◌&&◌, List}
 use Rattle.std.specs.Str.{bytes_eq}
 use Rattle.sha1.specs.Sha1.{sha1}

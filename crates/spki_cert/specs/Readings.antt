@@ -1,4 +1,4 @@
--- Which structure a value is (RFC 2693; the forms are those of the SPKI working group's structure draft).
+-- Which key, hash or date a value is. The forms are those of the SPKI working group's structure draft.
 use Rattle.std.specs.Prelude.{◌≡◌, ℕ, List, [], ◌∷◌, length, Option, Some, None, true, codes}
 use Rattle.sexpr_core.specs.Value.{Value, plain, group, canon}
 use Rattle.spki_cert.specs.declared.hash.HashAlg.{HashAlg}
@@ -9,7 +9,7 @@ use Rattle.spki_tag.specs.Time.{is_date}
 abbrev pub IsAlgorithm : Value → Type 0
 IsAlgorithm v = (alg : List ℕ) × (parts : List Value) × (v ≡ group (plain alg ∷ parts))
 
--- (public-key (alg part ..)), whose octets are its canonical form (RFC 2693, section 2.1)
+-- (public-key (alg part ..)), whose octets are its canonical form (RFC 2693, section 2.5)
 pub record KeyOf (v : Value) (octets : List ℕ) : Type 0 where
   pub body : Value
   pub algorithm : IsAlgorithm body

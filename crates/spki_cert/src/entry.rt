@@ -5,7 +5,7 @@ use crate::principal::Principal;
 use crate::window::Window;
 use spki_tag::Tag;
 
-/// Who is given an authorization (RFC 2693, section 6): a principal, or a name that is defined by one.
+/// Who is given an authorization (RFC 2693, section 6.1): a principal, or a name that is defined by one.
 #[derive(Drop)]
 pub struct Subject<'a> {
     /// The principal itself, or the one that defines the first name.
@@ -14,7 +14,7 @@ pub struct Subject<'a> {
     pub names: Vec<Octets<'a>>,
 }
 
-/// An entry of an access list (RFC 2693, section 5): what its owner gives to a subject.
+/// An entry of an access list (RFC 2693, section 3.4): what its owner gives to a subject.
 #[derive(Drop)]
 pub struct Entry<'a> {
     /// Who is given it.

@@ -4,7 +4,7 @@ ghost use Rattle.std.specs.Prelude.{◌≡◌, ◌↔◌, ℕ, List, IsTrue};
 
 use std::marker::Model;
 
-/// A public key, known by its canonical octets. Two keys are the same if these are.
+/// A public key, known by its canonical octets (RFC 2693, section 2.5). Two keys are the same if these are.
 #[derive(Debug, Drop)]
 pub struct Key<'a> {
     octets: &'a [u8],
@@ -18,7 +18,7 @@ impl<'a> Model for Key<'a> {
 
 impl<'a> Key<'a> {
     /// The key with these canonical octets.
-    pub fn new(octets: &'a [u8]) -> Key<'a>
+    pub(crate) fn new(octets: &'a [u8]) -> Key<'a>
         ensures { result ≡ octets.now }
     {
         Key { octets }

@@ -2,6 +2,7 @@
 #![tactic(auto)]
 
 mod acl;
+mod certificate;
 mod date;
 mod entry;
 mod fault;
@@ -16,6 +17,7 @@ pub mod shape;
 mod window;
 
 pub use acl::{acl_of, read_acl};
+pub use certificate::{AuthCert, NameCert, SeqItem, Signature};
 pub use date::Date;
 pub use entry::{Entry, Subject};
 pub use fault::{CertFault, CertFaultKind};

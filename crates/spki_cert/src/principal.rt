@@ -1,4 +1,4 @@
-//! Principals, and which keys they name (RFC 2693, sections 2.5 and 4.1).
+//! Principals, and which keys they name (RFC 2693, section 2.5).
 
 ghost use Rattle.std.specs.Prelude.{◌≡◌};
 

@@ -1,0 +1,128 @@
+-- Worked examples: what the definitions say of values that are written out.
+use Rattle.std.proofs.Common.{◌≡◌, ℕ, Bool, true, false, List, [], ◌∷◌, Option, Some, None, inl, inr, refl, sym, ap, ◌∙◌, arith}
+use Rattle.std.specs.Prelude.{codes, Vec}
+use Rattle.std.specs.declared.alloc.Global.{Global}
+use Rattle.sexpr_core.specs.Value.{Value, plain, group, canon, verbatim, decimal}
+use Rattle.spki_tag.specs.Tag as tags
+use Rattle.spki_tag.specs.Read.{ReadsAs}
+use Rattle.spki_tag.specs.Time.{is_time, is_date}
+use Rattle.spki_cert.specs.declared.hash.HashAlg.{HashAlg}
+use Rattle.spki_cert.specs.declared.hash.HashAlg.TheVariants.{Sha1, Sha256, Sha512}
+use Rattle.spki_cert.specs.declared.principal.Policy.TheVariants.{Open, Strict}
+use Rattle.spki_cert.specs.declared.principal.Principal.TheVariants.{Key, Hash}
+use Rattle.spki_cert.specs.declared.window.Window.{Window}
+use Rattle.spki_cert.specs.declared.entry.Entry.{Entry}
+use Rattle.spki_cert.specs.Naming.{names}
+use Rattle.spki_cert.specs.Time.{within, meet_of}
+use Rattle.spki_cert.specs.Readings.{KeyOf, HashOf, DateOf}
+use Rattle.spki_cert.specs.Entries.{is_headed, WindowOf, FieldsOf, propagate, tag, tag_field, propagate_field, limit_field, EntryOf, NameOf, IsReadEntry}
+
+-- (public-key (test a))
+abbrev ka_body : Value
+ka_body = group (plain (codes "test") ∷ plain (codes "a") ∷ [])
+
+abbrev ka : Value
+ka = group (plain (codes "public-key") ∷ ka_body ∷ [])
+
+abbrev ka_octets : List ℕ
+ka_octets = codes "(10:public-key(4:test1:a))"
+
+ka_is_key : KeyOf ka ka_octets
+unfolding verbatim decimal
+ka_is_key = record { body = ka_body; algorithm = (codes "test", plain (codes "a") ∷ [], refl); written = refl; canonical = refl }
+
+-- (public-key (test a) (uri x)) is no key
+key_with_uris : (octets : List ℕ) → KeyOf (group (plain (codes "public-key") ∷ ka_body ∷ group (plain (codes "uri") ∷ plain (codes "x") ∷ []) ∷ [])) octets → ⊥
+key_with_uris octets read = let e = read.written in absurd cc
+
+-- a key names itself, and a sha1 hash names no key under the strict policy
+ka_names_itself : names Strict (Key ka_octets) ka_octets ≡ true
+ka_names_itself = refl
+
+strict_names : (digest octets : List ℕ) → names Strict (Hash Sha1 digest) octets ≡ false
+strict_names digest octets = refl
+
+-- ---- dates and windows
+
+last_of_february : DateOf (plain (codes "2024-02-31_00:00:00")) (codes "2024-02-31_00:00:00")
+unfolding is_date is_time
+last_of_february = record { written = refl; date = refl }
+
+no_month : is_date (codes "2024-13-01_00:00:00") ≡ false
+unfolding is_date is_time
+no_month = refl
+
+abbrev june : List ℕ
+june = codes "2024-06-01_00:00:00"
+
+abbrev from_june : Window
+from_june = record { not_before = Some june; not_after = None }
+
+abbrev to_june : Window
+to_june = record { not_before = None; not_after = Some june }
+
+-- both limits are within a window, and what is met is that moment
+in_june : (within june from_june ≡ true) × (within june to_june ≡ true)
+in_june = (refl, refl)
+
+after_june : within (codes "2024-06-01_00:00:01") to_june ≡ false
+after_june = refl
+
+met_in_june : meet_of to_june from_june ≡ Some (record { not_before = Some june; not_after = Some june })
+met_in_june = refl
+
+never_met : meet_of to_june (record { not_before = Some (codes "2024-06-01_00:00:01"); not_after = None }) ≡ None
+never_met = refl
+
+-- ---- the fields of an entry
+
+-- (valid (not-before d))
+valid_from_june : WindowOf (group (plain (codes "valid") ∷ limit_field (codes "not-before") june ∷ []) ∷ []) from_june
+valid_from_june = record {
+  one_valid = omega arith;
+  one_way = inr refl;
+  first = (refl, (0, omega arith, refl));
+  last = refl;
+}
+
+-- (valid) beside (not-before d) is both ways at once
+both_ways : (w : Window) → WindowOf (group (plain (codes "valid") ∷ []) ∷ limit_field (codes "not-before") june ∷ []) w → ⊥
+both_ways w read = elim read.one_way [ inl e ↦ absurd (omega arith) | inr e ↦ absurd (omega arith) ]
+
+-- (ftp host)
+abbrev ftp_host : tags.Tag
+ftp_host = tags.list (codes "ftp") (tags.more (tags.string (codes "host")) tags.none)
+
+abbrev ftp_value : Value
+ftp_value = group (plain (codes "ftp") ∷ plain (codes "host") ∷ [])
+
+-- the entry of the first run: (entry (public-key (test a)) (tag (ftp host)))
+first_run : (no_names : Vec (List ℕ) Global) → no_names.items ≡ [] → ReadsAs ftp_value ftp_host → EntryOf (group (plain (codes "entry") ∷ ka ∷ tag_field ftp_value ∷ [])) (record { subject = record { principal = Key ka_octets; names = no_names }; propagate = false; tag = ftp_host; window = record { not_before = None; not_after = None } })
+first_run no_names none reads = record {
+  subject = ka;
+  fields = tag_field ftp_value ∷ [];
+  written = refl;
+  subject_is = inl (ka_is_key, none);
+  fields_are = record {
+    each = (tag ftp_value refl, tt);
+    one_propagate = omega arith;
+    propagates_is = refl;
+    one_tag = refl;
+    tag_value = ftp_value;
+    tag_stands = (0, omega arith, refl);
+    tag_is = reads;
+    one_comment = omega arith;
+    window_is = record { one_valid = omega arith; one_way = inl refl; first = refl; last = refl };
+  };
+}
+
+-- (name (public-key (test a)) friends bob)
+friends_bob : NameOf (group (plain (codes "name") ∷ ka ∷ plain (codes "friends") ∷ plain (codes "bob") ∷ [])) (Key ka_octets) (codes "friends" ∷ codes "bob" ∷ [])
+friends_bob = record {
+  owner = ka;
+  owner_is = ka_is_key;
+  first = codes "friends";
+  others = codes "bob" ∷ [];
+  names_are = refl;
+  written = refl;
+}
