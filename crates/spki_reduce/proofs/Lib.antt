@@ -3,3 +3,4 @@ pub mod Examples
 pub mod Between
 pub mod Parts
 pub mod Policies
+pub mod Granting

@@ -3,3 +3,5 @@ pub mod Tuples
 pub mod Rules
 pub mod Derivation
 pub mod Supports
+pub mod Views
+pub mod Test

@@ -1,5 +1,7 @@
 //! What the reduction of tuples gives (RFC 2693, sections 6.3 and 6.4).
 
+use crate::tuple::Five;
+
 /// Why two tuples don't join, where several reasons hold the first of them.
 #[derive(Clone, Copy, Debug, PartialEq, Eq)]
 pub enum Cause {
@@ -22,4 +24,18 @@ pub enum Joined<T> {
     Done(T),
     /// They don't join.
     Stopped(Cause),
+}
+
+/// What a chain of tuples becomes, taken from the left.
+#[derive(Drop)]
+pub enum Fold<'a> {
+    /// The one authorization that they become.
+    Done(Five<'a>),
+    /// A step of the chain doesn't join what those before it became.
+    Stopped {
+        /// The step, from 1.
+        step: usize,
+        /// Why it doesn't.
+        cause: Cause,
+    },
 }

@@ -1,0 +1,50 @@
+//! Tuples (RFC 2693, sections 6.1 and 6.2).
+
+use spki_cert::{Key, Octets, Subject, Window};
+use spki_tag::Tag;
+
+/// Who speaks in an authorization.
+#[derive(Drop)]
+pub enum Issuer<'a> {
+    /// The keeper of the access list, whom RFC 2693 calls Self.
+    Own,
+    /// The holder of a key.
+    Key(Key<'a>),
+}
+
+/// An authorization, from its issuer to its subject: a 5-tuple (section 6.1).
+#[derive(Drop)]
+pub struct Five<'a> {
+    /// Who authorizes.
+    pub issuer: Issuer<'a>,
+    /// Who is authorized.
+    pub subject: Subject<'a>,
+    /// Whether the subject may authorize others in turn: RFC 2693's delegation.
+    pub propagate: bool,
+    /// The requests that it is for.
+    pub tag: Tag,
+    /// The moments that it is for.
+    pub window: Window,
+}
+
+/// A definition of a name, in the name space of a key: a 4-tuple (section 6.2).
+#[derive(Drop)]
+pub struct Four<'a> {
+    /// The key whose name it is.
+    pub key: Key<'a>,
+    /// The name.
+    pub name: Octets<'a>,
+    /// Whom it names.
+    pub subject: Subject<'a>,
+    /// The moments that it is for.
+    pub window: Window,
+}
+
+/// What a certificate adds to a chain.
+#[derive(Drop)]
+pub enum Step<'a> {
+    /// An authorization certificate's 5-tuple.
+    Auth(Five<'a>),
+    /// A name certificate's 4-tuple.
+    Name(Four<'a>),
+}
