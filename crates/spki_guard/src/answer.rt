@@ -4,7 +4,7 @@ ghost use Rattle.spki_guard.specs.Answer.{IsAnswer};
 
 use crate::command::Command;
 use crate::lines::push_refused_form;
-use sexpr_core::fault::FormFault;
+use sexpr_core::FormFault;
 use std::alloc::{AllocError, Global};
 
 /// What was found out.
