@@ -3,6 +3,8 @@ use Rattle.std.specs.Prelude.{ℕ, List, [], ◌∷◌, ◌++◌, codes}
 use Rattle.sexpr_core.specs.declared.fault.FormFault.{FormFault}
 use Rattle.sexpr_core.specs.declared.fault.FormFault.TheVariants.{TooLong, TooDeep, Short, Bad, Trailing, Memory}
 use Rattle.sexpr_core.specs.Value.{decimal}
+use Rattle.spki_tag.specs.declared.fault.TagFault.{TagFault}
+use Rattle.spki_tag.specs.declared.fault.TagFault.TheVariants as tag
 
 abbrev pub line : List (List ℕ) → List ℕ
 line [] = 10 ∷ []
@@ -52,3 +54,15 @@ refused_form Short = refused_part (codes "form") (codes "Short")
 refused_form (Bad at) = refused_at (codes "Bad") at
 refused_form (Trailing at) = refused_at (codes "Trailing") at
 refused_form Memory = refused_memory
+
+-- the name of a fault of a tag or a request
+abbrev pub tag_kind : TagFault → List ℕ
+tag_kind tag.EmptyList = codes "EmptyList"
+tag_kind tag.ListHead = codes "ListHead"
+tag_kind tag.Hint = codes "Hint"
+tag_kind tag.UnknownStar = codes "UnknownStar"
+tag_kind tag.RangeOrdering = codes "RangeOrdering"
+tag_kind tag.RangeLimit = codes "RangeLimit"
+tag_kind tag.TooManyNodes = codes "TooManyNodes"
+tag_kind tag.StarInRequest = codes "StarInRequest"
+tag_kind tag.Memory = codes "Memory"

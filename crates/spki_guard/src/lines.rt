@@ -1,8 +1,9 @@
 //! The lines that are written, put behind what is there.
 ghost use Rattle.std.specs.Prelude.{◌≡◌, ◌++◌, OnOk, OnErr};
-ghost use Rattle.spki_guard.specs.Lines.{yes_entry, no_line, refused_part, refused_item, refused_tag, refused_at, refused_form};
+ghost use Rattle.spki_guard.specs.Lines.{yes_entry, no_line, refused_part, refused_item, refused_tag, refused_at, refused_form, tag_kind};
 
 use sexpr_core::FormFault;
+use spki_tag::TagFault;
 use std::alloc::{AllocError, Global};
 
 /// Puts `yes entry N` behind what is written; `entry` is counted from 1.
@@ -86,6 +87,23 @@ pub fn push_refused_tag(
     ensures err { OnErr result (out.new.items ≡ out.old.items) }
 {
     push(out, format!(in alloc; "refused {part} {item} Tag {kind}\n")?.as_bytes())
+}
+
+/// The name of a fault of a tag or a request.
+pub fn tag_kind(fault: TagFault) -> &'static str
+    ensures { result.now ≡ tag_kind fault }
+{
+    match fault {
+        TagFault::EmptyList => "EmptyList",
+        TagFault::ListHead => "ListHead",
+        TagFault::Hint => "Hint",
+        TagFault::UnknownStar => "UnknownStar",
+        TagFault::RangeOrdering => "RangeOrdering",
+        TagFault::RangeLimit => "RangeLimit",
+        TagFault::TooManyNodes => "TooManyNodes",
+        TagFault::StarInRequest => "StarInRequest",
+        TagFault::Memory => "Memory",
+    }
 }
 
 /// Puts `refused form KIND AT` behind what is written; `at` is an offset.

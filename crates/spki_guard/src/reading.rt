@@ -4,12 +4,10 @@ ghost use Rattle.std.specs.Io.KnownBytes.{Consumes, Keeps, IsAtEnd};
 ghost use Rattle.spki_guard.specs.Metered.{counted, inner_of};
 
 use crate::metered::{Metered, is_interrupted};
+use sexpr_core::MOST_OCTETS;
 use std::alloc::Global;
 use std::io::Read;
 use thiserror::Error;
-
-/// The most octets of a text that is read.
-pub const TEXT_OCTETS: usize = 1_048_576;
 
 /// The most asks of a reader.
 pub const READER_ASKS: u64 = 2_097_152;
@@ -66,20 +64,20 @@ fn read_piece<R: Read>(
     text: &mut Vec<u8>,
 ) -> Result<bool, TextFault>
     requires room { 0 < length buffer.old }
-    requires short { vec_len text.old ≤ TEXT_OCTETS }
+    requires short { vec_len text.old ≤ MOST_OCTETS }
     ensures asks { reader.new.asks ≡ counted reader.old.asks }
     ensures fault { IsErrOf result TextFault.Read → reader.new.faults ≡ counted reader.old.faults }
     ensures no_fault { IsErrOf result TextFault.Read ⊎ (reader.new.faults ≡ reader.old.faults) }
-    ensures short { OnOk result (vec_len text.new ≤ TEXT_OCTETS) }
+    ensures short { OnOk result (vec_len text.new ≤ MOST_OCTETS) }
     ensures octets { OnOk result ((octets : List ℕ) × (text.new.items ≡ text.old.items ++ octets)
         × Consumes (R.remaining (inner_of reader.old)) (R.remaining (inner_of reader.new)) octets) }
     ensures end { IfOk result (λ ended. IsTrue ended
         → IsAtEnd (R.remaining (inner_of reader.new)) × IsTrue reader.new.ended) }
     ensures too_long { IsErrOf result TextFault.TooLong → ((octets : List ℕ)
-        × (length (text.old.items ++ octets) ≡ TEXT_OCTETS + 1)
+        × (length (text.old.items ++ octets) ≡ MOST_OCTETS + 1)
         × Consumes (R.remaining (inner_of reader.old)) (R.remaining (inner_of reader.new)) octets) }
 {
-    let wanted = buffer.len().min(TEXT_OCTETS + 1 - text.len());
+    let wanted = buffer.len().min(MOST_OCTETS + 1 - text.len());
     let piece = &mut buffer[..wanted];
     match ask(reader, piece)? {
         None => Ok(false),
@@ -93,16 +91,16 @@ fn read_piece<R: Read>(
 
 /// Puts octets behind the text.
 fn append(text: &mut Vec<u8>, octets: &[u8]) -> Result<(), TextFault>
-    requires short { vec_len text.old ≤ TEXT_OCTETS }
-    requires wanted { vec_len text.old + length octets.now ≤ TEXT_OCTETS + 1 }
-    ensures ok { OnOk result ((vec_len text.new ≤ TEXT_OCTETS) × (text.new.items ≡ text.old.items ++ octets.now)) }
-    ensures too_long { IsErrOf result TextFault.TooLong → length (text.old.items ++ octets.now) ≡ TEXT_OCTETS + 1 }
+    requires short { vec_len text.old ≤ MOST_OCTETS }
+    requires wanted { vec_len text.old + length octets.now ≤ MOST_OCTETS + 1 }
+    ensures ok { OnOk result ((vec_len text.new ≤ MOST_OCTETS) × (text.new.items ≡ text.old.items ++ octets.now)) }
+    ensures too_long { IsErrOf result TextFault.TooLong → length (text.old.items ++ octets.now) ≡ MOST_OCTETS + 1 }
     ensures not_read { IsErrOf result TextFault.Read → ⊥ }
 {
     if text.extend_from_slice(octets).is_err() {
         return Err(TextFault::Memory);
     }
-    if text.len() > TEXT_OCTETS {
+    if text.len() > MOST_OCTETS {
         return Err(TextFault::TooLong);
     }
     Ok(())
@@ -118,8 +116,8 @@ pub fn read_text<R: Read>(alloc: Global, reader: &mut Metered<R>) -> Result<Vec<
     ensures octets { IfOk result (λ text.
         Consumes (R.remaining (inner_of reader.old)) (R.remaining (inner_of reader.new)) text.items) }
     ensures end { OnOk result (IsAtEnd (R.remaining (inner_of reader.new)) × IsTrue reader.new.ended) }
-    ensures short { IfOk result (λ text. vec_len text ≤ TEXT_OCTETS) }
-    ensures too_long { IsErrOf result TextFault.TooLong → ((octets : List ℕ) × (length octets ≡ TEXT_OCTETS + 1)
+    ensures short { IfOk result (λ text. vec_len text ≤ MOST_OCTETS) }
+    ensures too_long { IsErrOf result TextFault.TooLong → ((octets : List ℕ) × (length octets ≡ MOST_OCTETS + 1)
         × Consumes (R.remaining (inner_of reader.old)) (R.remaining (inner_of reader.new)) octets) }
     ensures asks { reader.new.asks ≤ max reader.old.asks READER_ASKS }
     ensures fault { IsErrOf result TextFault.Read
