@@ -1,22 +1,14 @@
 -- Which entry of a case grants what is asked (RFC 2693, section 6.3).
 use Rattle.std.specs.Prelude.{◌≡◌, ℕ, suc, ◌<◌, List, [], ◌∷◌, Some, slice_get}
 use Rattle.spki_cert.specs.declared.entry.Entry.{Entry}
-use Rattle.spki_reduce.specs.Tuples.{FiveTuple, Tuple, own, five}
+use Rattle.spki_reduce.specs.Tuples.{Tuple, five}
+use Rattle.spki_reduce.specs.Views.{entry_tuple}
 use Rattle.spki_reduce.specs.Derivation.{Tree, leaves}
 use Rattle.spki_reduce.specs.Supports.{Supports}
 use Rattle.spki_guard.specs.declared.case.Case.{Case}
+use Rattle.spki_guard.specs.declared.decide.Decision.{Decision}
+use Rattle.spki_guard.specs.declared.decide.Decision.TheVariants.{Yes, No}
 use Rattle.spki_guard.specs.Shown.{Shown}
-
--- what an entry says, whose issuer is the keeper of the list
-abbrev pub entry_tuple : Entry → FiveTuple
-entry_tuple entry = record {
-  issuer = own;
-  principal = entry.subject.principal;
-  names = entry.subject.names.items;
-  delegation = entry.propagate;
-  tags = entry.tag ∷ [];
-  windows = entry.window ∷ [];
-}
 
 -- Entry n, counted from 1, grants what is asked: each certificate stands, and some derivation from the entry and all
 -- certificates in their order, bracketed in any way, supports the key, the request and the moment.
@@ -39,3 +31,7 @@ pub record IsFirstGranted (accepted : List ℕ → List ℕ → List ℕ → Typ
 -- no entry grants
 abbrev pub NoneGranted : (List ℕ → List ℕ → List ℕ → Type 0) → Case → Type 0
 NoneGranted accepted c = (n : ℕ) → Granted accepted c n → ⊥
+
+abbrev pub IsDecision : (List ℕ → List ℕ → List ℕ → Type 0) → Case → Decision → Type 0
+IsDecision accepted c (Yes n) = IsFirstGranted accepted c n
+IsDecision accepted c No = NoneGranted accepted c

@@ -9,3 +9,4 @@ pub mod Case
 pub mod Parts
 pub mod Shown
 pub mod Granted
+pub mod Alone

@@ -5,6 +5,10 @@ use Rattle.sexpr_core.specs.declared.fault.FormFault.TheVariants.{TooLong, TooDe
 use Rattle.sexpr_core.specs.Value.{decimal}
 use Rattle.spki_tag.specs.declared.fault.TagFault.{TagFault}
 use Rattle.spki_tag.specs.declared.fault.TagFault.TheVariants as tag
+use Rattle.spki_cert.specs.declared.fault.CertFaultKind.{CertFaultKind}
+use Rattle.spki_cert.specs.declared.fault.CertFaultKind.TheVariants as kind
+use Rattle.spki_guard.specs.declared.case.CaseFault.{CaseFault}
+use Rattle.spki_guard.specs.declared.case.CaseFault.TheVariants as faults
 
 abbrev pub line : List (List ℕ) → List ℕ
 line [] = 10 ∷ []
@@ -66,3 +70,51 @@ tag_kind tag.RangeLimit = codes "RangeLimit"
 tag_kind tag.TooManyNodes = codes "TooManyNodes"
 tag_kind tag.StarInRequest = codes "StarInRequest"
 tag_kind tag.Memory = codes "Memory"
+
+-- the name of a fault of a structure
+abbrev pub kind_name : CertFaultKind → List ℕ
+kind_name kind.Shape = codes "Shape"
+kind_name kind.UnknownVersion = codes "UnknownVersion"
+kind_name kind.HashAlg = codes "HashAlg"
+kind_name kind.DigestLength = codes "DigestLength"
+kind_name kind.KeyUris = codes "KeyUris"
+kind_name kind.Threshold = codes "Threshold"
+kind_name kind.Keyholder = codes "Keyholder"
+kind_name kind.Online = codes "Online"
+kind_name kind.RelativeInEntry = codes "RelativeInEntry"
+kind_name kind.BadDate = codes "BadDate"
+kind_name kind.UnsignedCert = codes "UnsignedCert"
+kind_name kind.StraySignature = codes "StraySignature"
+kind_name kind.UnknownOp = codes "UnknownOp"
+kind_name (kind.Tag fault) = codes "Tag"
+kind_name kind.Memory = codes "Memory"
+
+-- a fault of an entry, a row or an item of a part
+abbrev pub refused_in : List ℕ → ℕ → CertFaultKind → List ℕ
+refused_in part n (kind.Tag fault) = refused_tag part n (tag_kind fault)
+refused_in part n kind.Shape = refused_item part n (codes "Shape")
+refused_in part n kind.UnknownVersion = refused_item part n (codes "UnknownVersion")
+refused_in part n kind.HashAlg = refused_item part n (codes "HashAlg")
+refused_in part n kind.DigestLength = refused_item part n (codes "DigestLength")
+refused_in part n kind.KeyUris = refused_item part n (codes "KeyUris")
+refused_in part n kind.Threshold = refused_item part n (codes "Threshold")
+refused_in part n kind.Keyholder = refused_item part n (codes "Keyholder")
+refused_in part n kind.Online = refused_item part n (codes "Online")
+refused_in part n kind.RelativeInEntry = refused_item part n (codes "RelativeInEntry")
+refused_in part n kind.BadDate = refused_item part n (codes "BadDate")
+refused_in part n kind.UnsignedCert = refused_item part n (codes "UnsignedCert")
+refused_in part n kind.StraySignature = refused_item part n (codes "StraySignature")
+refused_in part n kind.UnknownOp = refused_item part n (codes "UnknownOp")
+refused_in part n kind.Memory = refused_memory
+
+-- a fault of a case
+abbrev pub refused_case : CaseFault → List ℕ
+refused_case (faults.Form fault) = refused_form fault
+refused_case faults.Shape = refused_part (codes "case") (codes "Shape")
+refused_case (faults.Acl fault) = refused_in (codes "acl") fault.item fault.kind
+refused_case (faults.Accepted fault) = refused_in (codes "accepted") fault.item fault.kind
+refused_case (faults.Sequence fault) = refused_in (codes "sequence") fault.item fault.kind
+refused_case (faults.Key fault) = refused_part (codes "key") (kind_name fault.kind)
+refused_case (faults.Request fault) = refused_part (codes "request") (tag_kind fault)
+refused_case (faults.At fault) = refused_part (codes "at") (kind_name fault.kind)
+refused_case faults.Memory = refused_memory

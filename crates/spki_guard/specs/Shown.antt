@@ -3,13 +3,12 @@ use Rattle.std.specs.Prelude.{◌≡◌, ℕ, List, [], ◌∷◌, Option, Some,
 use Rattle.spki_cert.specs.declared.principal.Policy.{Policy}
 use Rattle.spki_cert.specs.declared.principal.Principal.{Principal}
 use Rattle.spki_cert.specs.declared.principal.Principal.TheVariants as principal
-use Rattle.spki_cert.specs.declared.certificate.AuthCert.{AuthCert}
-use Rattle.spki_cert.specs.declared.certificate.NameCert.{NameCert}
 use Rattle.spki_cert.specs.declared.certificate.Signature.{Signature}
 use Rattle.spki_cert.specs.declared.certificate.SeqItem.{SeqItem}
 use Rattle.spki_cert.specs.declared.certificate.SeqItem.TheVariants as item
 use Rattle.spki_cert.specs.Naming.{names, digest_of}
-use Rattle.spki_reduce.specs.Tuples.{FiveTuple, FourTuple, Tuple, key, five, four}
+use Rattle.spki_reduce.specs.Tuples.{Tuple, five, four}
+use Rattle.spki_reduce.specs.Views.{auth_tuple, name_tuple}
 
 -- the keys of a sequence, in order
 abbrev pub keys_of : List SeqItem → List (List ℕ)
@@ -44,27 +43,6 @@ pub record Stands (policy : Policy) (accepted : List ℕ → List ℕ → List �
   pub signer : IsTrue (names policy signature.signer holder)
   pub accepts : accepted holder octets signature.value
 
--- what an authorization certificate says with this issuer key
-abbrev pub authorization : List ℕ → AuthCert → FiveTuple
-authorization holder cert = record {
-  issuer = key holder;
-  principal = cert.subject.principal;
-  names = cert.subject.names.items;
-  delegation = cert.propagate;
-  tags = cert.tag ∷ [];
-  windows = cert.window ∷ [];
-}
-
--- what a name certificate says with this issuer key
-abbrev pub definition : List ℕ → NameCert → FourTuple
-definition holder cert = record {
-  key = holder;
-  name = cert.name;
-  principal = cert.subject.principal;
-  names = cert.subject.names.items;
-  windows = cert.window ∷ [];
-}
-
 -- These are the tuples of all certificates among the items, in order, and each certificate stands.
 abbrev pub ShowsIn : Policy → (List ℕ → List ℕ → List ℕ → Type 0) → List (List ℕ) → List SeqItem → List Tuple → Type 0
 ShowsIn policy accepted keys [] tuples = tuples ≡ []
@@ -73,10 +51,10 @@ ShowsIn policy accepted keys (item.DoHash alg ∷ items) tuples = ShowsIn policy
 ShowsIn policy accepted keys (item.Signature signature ∷ items) tuples = ShowsIn policy accepted keys items tuples
 ShowsIn policy accepted keys (item.Auth cert ∷ items) tuples =
     (holder : List ℕ) × (later : List Tuple) × Stands policy accepted keys cert.issuer cert.octets items holder
-    × (tuples ≡ five (authorization holder cert) ∷ later) × ShowsIn policy accepted keys items later
+    × (tuples ≡ five (auth_tuple holder cert) ∷ later) × ShowsIn policy accepted keys items later
 ShowsIn policy accepted keys (item.Name cert ∷ items) tuples =
     (holder : List ℕ) × (later : List Tuple) × Stands policy accepted keys cert.issuer cert.octets items holder
-    × (tuples ≡ four (definition holder cert) ∷ later) × ShowsIn policy accepted keys items later
+    × (tuples ≡ four (name_tuple holder cert) ∷ later) × ShowsIn policy accepted keys items later
 
 -- those of a whole sequence, whose keys are all shown
 abbrev pub Shown : Policy → (List ℕ → List ℕ → List ℕ → Type 0) → List SeqItem → List Tuple → Type 0

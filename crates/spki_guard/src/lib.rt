@@ -4,6 +4,7 @@
 pub mod answer;
 pub mod case;
 pub mod command;
+pub mod decide;
 pub mod lines;
 pub mod metered;
 mod parts;

@@ -1,8 +1,10 @@
 //! The lines that are written, put behind what is there.
 ghost use Rattle.std.specs.Prelude.{◌≡◌, ◌++◌, OnOk, OnErr};
-ghost use Rattle.spki_guard.specs.Lines.{yes_entry, no_line, refused_part, refused_item, refused_tag, refused_at, refused_form, tag_kind};
+ghost use Rattle.spki_guard.specs.Lines.{yes_entry, no_line, refused_part, refused_item, refused_tag, refused_at, refused_form, refused_in, refused_case, tag_kind, kind_name};
 
+use crate::case::CaseFault;
 use sexpr_core::FormFault;
+use spki_cert::{CertFault, CertFaultKind};
 use spki_tag::TagFault;
 use std::alloc::{AllocError, Global};
 
@@ -103,6 +105,68 @@ pub fn tag_kind(fault: TagFault) -> &'static str
         TagFault::TooManyNodes => "TooManyNodes",
         TagFault::StarInRequest => "StarInRequest",
         TagFault::Memory => "Memory",
+    }
+}
+
+/// The name of a fault of a structure.
+pub fn kind_name(kind: CertFaultKind) -> &'static str
+    ensures { result.now ≡ kind_name kind }
+{
+    match kind {
+        CertFaultKind::Shape => "Shape",
+        CertFaultKind::UnknownVersion => "UnknownVersion",
+        CertFaultKind::HashAlg => "HashAlg",
+        CertFaultKind::DigestLength => "DigestLength",
+        CertFaultKind::KeyUris => "KeyUris",
+        CertFaultKind::Threshold => "Threshold",
+        CertFaultKind::Keyholder => "Keyholder",
+        CertFaultKind::Online => "Online",
+        CertFaultKind::RelativeInEntry => "RelativeInEntry",
+        CertFaultKind::BadDate => "BadDate",
+        CertFaultKind::UnsignedCert => "UnsignedCert",
+        CertFaultKind::StraySignature => "StraySignature",
+        CertFaultKind::UnknownOp => "UnknownOp",
+        CertFaultKind::Tag(_) => "Tag",
+        CertFaultKind::Memory => "Memory",
+    }
+}
+
+/// Puts the line of a fault in a part that has entries, rows or items behind what is written.
+fn push_refused_in(
+    alloc: Global,
+    out: &mut Vec<u8>,
+    part: &str,
+    fault: CertFault,
+) -> Result<(), AllocError>
+    ensures ok { OnOk result (out.new.items ≡ out.old.items ++ refused_in part.now fault.item fault.kind) }
+    ensures err { OnErr result (out.new.items ≡ out.old.items) }
+{
+    match fault.kind {
+        CertFaultKind::Tag(met) => push_refused_tag(alloc, out, part, fault.item, tag_kind(met)),
+        CertFaultKind::Memory => push(out, b"refused Memory\n"),
+        kind => push_refused_item(alloc, out, part, fault.item, kind_name(kind)),
+    }
+}
+
+/// Puts the line of a case's fault behind what is written; of want of memory it is `refused Memory`.
+pub fn push_refused_case(
+    alloc: Global,
+    out: &mut Vec<u8>,
+    fault: CaseFault,
+) -> Result<(), AllocError>
+    ensures ok { OnOk result (out.new.items ≡ out.old.items ++ refused_case fault) }
+    ensures err { OnErr result (out.new.items ≡ out.old.items) }
+{
+    match fault {
+        CaseFault::Form(met) => push_refused_form(alloc, out, met),
+        CaseFault::Shape => push_refused_part(alloc, out, "case", "Shape"),
+        CaseFault::Acl(met) => push_refused_in(alloc, out, "acl", met),
+        CaseFault::Accepted(met) => push_refused_in(alloc, out, "accepted", met),
+        CaseFault::Sequence(met) => push_refused_in(alloc, out, "sequence", met),
+        CaseFault::Key(met) => push_refused_part(alloc, out, "key", kind_name(met.kind)),
+        CaseFault::Request(met) => push_refused_part(alloc, out, "request", tag_kind(met)),
+        CaseFault::At(met) => push_refused_part(alloc, out, "at", kind_name(met.kind)),
+        CaseFault::Memory => push(out, b"refused Memory\n"),
     }
 }
 

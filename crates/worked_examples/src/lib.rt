@@ -3,3 +3,13 @@
 
 #[cfg(test)]
 mod canonical_form;
+#[cfg(test)]
+mod cases;
+#[cfg(test)]
+mod ends;
+#[cfg(test)]
+mod structures;
+#[cfg(test)]
+mod tags;
+#[cfg(test)]
+mod texts;
