@@ -1,0 +1,13 @@
+-- What a reply tells.
+use Rattle.std.proofs.Common.{◌≡◌, ℕ, List, Option, Bool, IsTrue, inl, inr}
+use Rattle.spki_guard.specs.declared.command.Command.{Command}
+use Rattle.spki_guard.specs.declared.answer.Verdict.{Verdict}
+use Rattle.spki_guard.specs.declared.answer.Verdict.TheVariants.{Refused}
+use Rattle.spki_guard.specs.Reply.{IsReply}
+
+-- the text came to its end, unless this is a refusal
+pub ended_unless_refused : (command : Command) (known : Option (List ℕ)) (ended : Bool) (verdict : Verdict) (output : List ℕ)
+    → IsReply command known ended verdict output → ¬ (verdict ≡ Refused) → IsTrue ended
+ended_unless_refused command known ended verdict output (inl reply) other = reply.at_end
+ended_unless_refused command known ended verdict output (inr (inl reply)) other = absurd (other reply.refused)
+ended_unless_refused command known ended verdict output (inr (inr reply)) other = absurd (other reply.refused)

@@ -1,0 +1,129 @@
+//! The lines that are written, put behind what is there.
+ghost use Rattle.std.specs.Prelude.{◌≡◌, ◌++◌, OnOk, OnErr};
+ghost use Rattle.spki_guard.specs.Lines.{yes_entry, no_line, refused_part, refused_item, refused_tag, refused_at, refused_form, tag_kind};
+
+use sexpr_core::FormFault;
+use spki_tag::TagFault;
+use std::alloc::{AllocError, Global};
+
+/// Puts `yes entry N` behind what is written; `entry` is counted from 1.
+///
+/// # Errors
+///
+/// Out of memory; nothing is put behind then, here and in the functions below.
+#[tactic(auto, using(crate::proofs::Decimals::decimal_written))]
+pub fn push_yes_entry(alloc: Global, out: &mut Vec<u8>, entry: usize) -> Result<(), AllocError>
+    ensures ok { OnOk result (out.new.items ≡ out.old.items ++ yes_entry entry) }
+    ensures err { OnErr result (out.new.items ≡ out.old.items) }
+{
+    push(out, format!(in alloc; "yes entry {entry}\n")?.as_bytes())
+}
+
+/// Puts `no` behind what is written.
+pub fn push_no(out: &mut Vec<u8>) -> Result<(), AllocError>
+    ensures ok { OnOk result (out.new.items ≡ out.old.items ++ no_line) }
+    ensures err { OnErr result (out.new.items ≡ out.old.items) }
+{
+    push(out, b"no\n")
+}
+
+/// Puts the line of a fault of the text behind what is written; of want of memory it is `refused Memory`.
+pub fn push_refused_form(
+    alloc: Global,
+    out: &mut Vec<u8>,
+    fault: FormFault,
+) -> Result<(), AllocError>
+    ensures ok { OnOk result (out.new.items ≡ out.old.items ++ refused_form fault) }
+    ensures err { OnErr result (out.new.items ≡ out.old.items) }
+{
+    match fault {
+        FormFault::TooLong => push(out, b"refused form TooLong\n"),
+        FormFault::TooDeep => push(out, b"refused form TooDeep\n"),
+        FormFault::Short => push(out, b"refused form Short\n"),
+        FormFault::Bad(at) => push_form_at(alloc, out, "Bad", at),
+        FormFault::Trailing(at) => push_form_at(alloc, out, "Trailing", at),
+        FormFault::Memory => push(out, b"refused Memory\n"),
+    }
+}
+
+/// Puts `refused PART KIND` behind what is written.
+pub fn push_refused_part(
+    alloc: Global,
+    out: &mut Vec<u8>,
+    part: &str,
+    kind: &str,
+) -> Result<(), AllocError>
+    ensures ok { OnOk result (out.new.items ≡ out.old.items ++ refused_part part.now kind.now) }
+    ensures err { OnErr result (out.new.items ≡ out.old.items) }
+{
+    push(out, format!(in alloc; "refused {part} {kind}\n")?.as_bytes())
+}
+
+/// Puts `refused PART N KIND` behind what is written; `item` is counted from 1.
+#[tactic(auto, using(crate::proofs::Decimals::decimal_written))]
+pub fn push_refused_item(
+    alloc: Global,
+    out: &mut Vec<u8>,
+    part: &str,
+    item: usize,
+    kind: &str,
+) -> Result<(), AllocError>
+    ensures ok { OnOk result (out.new.items ≡ out.old.items ++ refused_item part.now item kind.now) }
+    ensures err { OnErr result (out.new.items ≡ out.old.items) }
+{
+    push(out, format!(in alloc; "refused {part} {item} {kind}\n")?.as_bytes())
+}
+
+/// Puts `refused PART N Tag KIND` behind what is written, of a tag in item N; `item` is counted from 1.
+#[tactic(auto, using(crate::proofs::Decimals::decimal_written))]
+pub fn push_refused_tag(
+    alloc: Global,
+    out: &mut Vec<u8>,
+    part: &str,
+    item: usize,
+    kind: &str,
+) -> Result<(), AllocError>
+    ensures ok { OnOk result (out.new.items ≡ out.old.items ++ refused_tag part.now item kind.now) }
+    ensures err { OnErr result (out.new.items ≡ out.old.items) }
+{
+    push(out, format!(in alloc; "refused {part} {item} Tag {kind}\n")?.as_bytes())
+}
+
+/// The name of a fault of a tag or a request.
+pub fn tag_kind(fault: TagFault) -> &'static str
+    ensures { result.now ≡ tag_kind fault }
+{
+    match fault {
+        TagFault::EmptyList => "EmptyList",
+        TagFault::ListHead => "ListHead",
+        TagFault::Hint => "Hint",
+        TagFault::UnknownStar => "UnknownStar",
+        TagFault::RangeOrdering => "RangeOrdering",
+        TagFault::RangeLimit => "RangeLimit",
+        TagFault::TooManyNodes => "TooManyNodes",
+        TagFault::StarInRequest => "StarInRequest",
+        TagFault::Memory => "Memory",
+    }
+}
+
+/// Puts `refused form KIND AT` behind what is written; `at` is an offset.
+#[tactic(auto, using(crate::proofs::Decimals::decimal_written))]
+fn push_form_at(
+    alloc: Global,
+    out: &mut Vec<u8>,
+    kind: &str,
+    at: usize,
+) -> Result<(), AllocError>
+    ensures ok { OnOk result (out.new.items ≡ out.old.items ++ refused_at kind.now at) }
+    ensures err { OnErr result (out.new.items ≡ out.old.items) }
+{
+    push(out, format!(in alloc; "refused form {kind} {at}\n")?.as_bytes())
+}
+
+/// Puts octets behind what is written.
+fn push(out: &mut Vec<u8>, octets: &[u8]) -> Result<(), AllocError>
+    ensures ok { OnOk result (out.new.items ≡ out.old.items ++ octets.now) }
+    ensures err { OnErr result (out.new.items ≡ out.old.items) }
+{
+    out.extend_from_slice(octets)
+}
