@@ -4,3 +4,6 @@ pub mod Lines
 pub mod Answer
 pub mod Reply
 pub mod Run
+pub mod Case
+pub mod Shown
+pub mod Granted
