@@ -8,7 +8,6 @@ pub mod metered;
 pub mod reading;
 mod reply;
 pub mod run;
-pub mod writing;
-
 #[cfg(test)]
 mod tests;
+pub mod writing;

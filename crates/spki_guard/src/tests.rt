@@ -92,7 +92,10 @@ fn a_run_comes_to_its_answer(rt: HostRuntime) {
     assert_eq!(rt; status, Status::Refused);
     assert_eq!(rt; (input.asks, input.faults, input.ended), (10, 0, true));
     assert_eq!(rt; (output.asks, output.faults, output.flushed), (2, 0, true));
-    assert_eq!(rt; output.into_inner().as_slice(), b"refused form Short\n".as_slice());
+    assert_eq!(rt;
+        output.into_inner().as_slice(),
+        b"refused form Short\n".as_slice()
+    );
 }
 
 #[test]
