@@ -6,16 +6,12 @@ use Rattle.std.proofs.lemmas.Option.{slice_get-get_or, slice_get_within, get_or_
 use Rattle.std.proofs.lemmas.Bool.Decides.{nat_tests}
 use Rattle.std.specs.List.{position_or_len}
 use Rattle.spki_cert.specs.declared.entry.Entry.{Entry}
-use Rattle.spki_reduce.specs.Test.{grants}
+use Rattle.spki_guard.specs.Passing.{passing}
 use Rattle.spki_reduce.proofs.Granting.{granting}
 use Rattle.spki_guard.specs.Case.{Case, Verified}
 use Rattle.spki_guard.specs.Shown.{Shown}
 use Rattle.spki_guard.specs.Granted.{Granted, IsFirstGranted, IsNoneGranted}
 use Rattle.spki_guard.proofs.GrantedLemmas.{granted_alone, alone_granted}
-
--- whether an entry's own tuple grants what is asked
-abbrev pub passing : Case → Entry → Bool
-passing c e = grants c.policy e.subject e.tag e.window c.key c.request c.moment
 
 -- ---- the first that passes a test
 

@@ -9,9 +9,8 @@ use Rattle.spki_guard.specs.declared.command.Command.{Command}
 use Rattle.spki_guard.specs.declared.command.Command.TheVariants.{Check}
 use Rattle.spki_guard.specs.declared.decide.Decision.{Decision}
 use Rattle.spki_guard.specs.declared.decide.Decision.TheVariants as decision
-use Rattle.spki_guard.specs.Accepted.{IsAccepted}
-use Rattle.spki_guard.specs.Case.{IsCaseText, TextRefused}
-use Rattle.spki_guard.specs.Granted.{IsDecision}
+use Rattle.spki_guard.specs.CaseForm.{IsCaseText, TextRefused}
+use Rattle.spki_guard.specs.View.{model, verified_by, IsDecision}
 use Rattle.spki_guard.specs.Lines.{yes_entry, no_line, refused_case}
 
 -- the line of a decision
@@ -32,7 +31,7 @@ pub record Decides (text : List ℕ) (verdict : Verdict) (output : List ℕ) : T
   pub case_read : Case
   pub text_is : IsCaseText text case_read
   pub decided : Decision
-  pub decision_is : IsDecision (IsAccepted case_read.accepted) case_read decided
+  pub decision_is : IsDecision (model case_read) (verified_by case_read.accepted) decided
   pub line : IsLineOf decided verdict output
 
 -- The text is no case, and the line is that of its first fault.

@@ -4,9 +4,10 @@ pub mod Lines
 pub mod Answer
 pub mod Reply
 pub mod Run
-pub mod Accepted
 pub mod Case
-pub mod Parts
 pub mod Shown
 pub mod Granted
-pub mod Alone
+pub mod View
+pub mod CaseForm
+pub mod Parts
+pub mod Passing

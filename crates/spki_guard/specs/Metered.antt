@@ -1,5 +1,6 @@
 -- What a meter counts of the calls that it passes on.
-use Rattle.std.specs.Prelude.{◌≡◌, ◌≢◌, ℕ, ◌+◌, ◌-◌, ◌^◌, ◌<◌, min, List, length, Result, MatchResult}
+use Rattle.std.specs.Prelude.{◌≡◌, ◌≢◌, ℕ, ◌+◌, ◌-◌, ◌^◌, ◌<◌, min, List, length, Option, Result, MatchResult}
+use Rattle.std.specs.Io.KnownBytes.{Appends, Consumes, IsAtEnd, Keeps}
 use Rattle.std.specs.IoError.{error_kind}
 use Rattle.std.specs.declared.io.Error.{Error}
 use Rattle.std.specs.declared.io.ErrorKind.TheVariants.{Interrupted}
@@ -8,6 +9,26 @@ use Rattle.spki_guard.specs.declared.metered.Metered.{Metered}
 -- the reader or the writer inside
 abbrev pub inner_of : {T : Type 0} → Metered T → T
 inner_of m = m.inner
+
+-- the reader inside gave these octets, where it tells them
+abbrev pub Gives : {R : Type 0} → (R → Option (List ℕ)) → Metered R → Metered R → List ℕ → Type 0
+Gives remaining old new octets = Consumes (remaining (inner_of old)) (remaining (inner_of new)) octets
+
+-- it gave nothing
+abbrev pub GivesNone : {R : Type 0} → (R → Option (List ℕ)) → Metered R → Metered R → Type 0
+GivesNone remaining old new = Keeps (remaining (inner_of old)) (remaining (inner_of new))
+
+-- it has no more to give
+abbrev pub HasGivenAll : {R : Type 0} → (R → Option (List ℕ)) → Metered R → Type 0
+HasGivenAll remaining reader = IsAtEnd (remaining (inner_of reader))
+
+-- the writer inside took these octets, where it tells them
+abbrev pub Takes : {W : Type 0} → (W → Option (List ℕ)) → Metered W → Metered W → List ℕ → Type 0
+Takes contents old new octets = Appends (contents (inner_of old)) (contents (inner_of new)) octets
+
+-- it took nothing
+abbrev pub TakesNone : {W : Type 0} → (W → Option (List ℕ)) → Metered W → Metered W → Type 0
+TakesNone contents old new = Keeps (contents (inner_of old)) (contents (inner_of new))
 
 -- one more, up to the greatest `u64`
 abbrev pub counted : ℕ → ℕ

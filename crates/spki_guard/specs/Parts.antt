@@ -1,8 +1,8 @@
 -- What the readers of a case's parts say.
 use Rattle.std.specs.Prelude.{◌≡◌, ◌≢◌, ℕ, List, [], ◌∷◌}
 use Rattle.sexpr_core.specs.Value.{Value}
-use Rattle.spki_guard.specs.Case.{headed}
-use Rattle.spki_guard.specs.Case as spec
+use Rattle.spki_guard.specs.CaseForm.{headed}
+use Rattle.spki_guard.specs.CaseForm as spec
 use Rattle.spki_guard.specs.declared.parts.Parts.{Parts}
 use Rattle.spki_guard.specs.declared.parts.Part.{Part}
 

@@ -33,7 +33,6 @@ abbrev pub IsReply : Command → Option (List ℕ) → Bool → Verdict → List
 IsReply command known ended verdict output =
     AnswersText command known ended verdict output ⊎ (RefusesLong known verdict output ⊎ RefusesForMemory verdict output)
 
-
 -- ---- as it is kept
 
 abbrev pub verdict_of : Reply → Verdict

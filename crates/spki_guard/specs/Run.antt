@@ -1,12 +1,11 @@
 -- How a run ends, and what it writes.
 use Rattle.std.specs.Prelude.{◌≡◌, ℕ, ◌+◌, ◌<◌, ◌≤◌, ◌⊎◌, List, length, Option, IsTrue}
-use Rattle.std.specs.Io.KnownBytes.{Appends}
 use Rattle.spki_guard.specs.declared.answer.Verdict.{Verdict}
 use Rattle.spki_guard.specs.declared.answer.Verdict.TheVariants.{Done, No, Refused}
 use Rattle.spki_guard.specs.declared.run.Status.{Status}
 use Rattle.spki_guard.specs.declared.run.Status.TheVariants as status
 use Rattle.spki_guard.specs.declared.metered.Metered.{Metered}
-use Rattle.spki_guard.specs.Metered.{inner_of}
+use Rattle.spki_guard.specs.Metered.{Takes}
 use Rattle.spki_guard.specs.Sent.{SendsFront}
 
 abbrev pub status_of : Verdict → Status
@@ -20,14 +19,14 @@ IsFaulty meter most = (0 < meter.faults) ⊎ (meter.asks ≡ most)
 
 -- the writer took the whole output and a flush
 pub record IsWritten {W : Type 0} (contents : W → Option (List ℕ)) (old new : Metered W) (output : List ℕ) : Type 0 where
-  pub whole : Appends (contents (inner_of old)) (contents (inner_of new)) output
+  pub whole : Takes contents old new output
   pub flushed : IsTrue new.flushed
   pub asks : new.asks ≤ length output + 2097152
 
 -- the writer failed behind a front of the output
 pub record IsCutOff {W : Type 0} (contents : W → Option (List ℕ)) (old new : Metered W) (output : List ℕ) : Type 0 where
   pub rest : List ℕ
-  pub front : SendsFront (contents (inner_of old)) (contents (inner_of new)) output rest
+  pub front : SendsFront contents old new output rest
   pub faulty : IsFaulty new (length output + 2097152)
   pub asks : new.asks ≤ length output + 2097152
 

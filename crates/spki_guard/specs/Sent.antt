@@ -1,9 +1,10 @@
 -- What goes out of some octets.
 use Rattle.std.specs.Prelude.{◌≡◌, ℕ, List, ◌++◌, Option}
-use Rattle.std.specs.Io.KnownBytes.{Appends}
+use Rattle.spki_guard.specs.declared.metered.Metered.{Metered}
+use Rattle.spki_guard.specs.Metered.{Takes}
 
--- what a writer holds grew by a front of the octets, and this is the rest of them
-pub record SendsFront (old new : Option (List ℕ)) (octets rest : List ℕ) : Type 0 where
+-- the writer took a front of the octets, and this is the rest of them
+pub record SendsFront {W : Type 0} (contents : W → Option (List ℕ)) (old new : Metered W) (octets rest : List ℕ) : Type 0 where
   pub sent : List ℕ
   pub whole : octets ≡ sent ++ rest
-  pub appended : Appends old new sent
+  pub taken : Takes contents old new sent

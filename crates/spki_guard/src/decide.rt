@@ -1,8 +1,8 @@
 //! Deciding a case.
 
-ghost use Rattle.std.specs.Prelude.{◌≡◌, IsOk, IfOk};
-ghost use Rattle.spki_guard.specs.Granted.{IsDecision};
-ghost use Rattle.spki_guard.specs.Alone.{grants_alone};
+ghost use Rattle.std.specs.Prelude.{◌≡◌, ◌<◌, IsOk, IfOk, IfSome, position, vec_len};
+ghost use Rattle.spki_guard.specs.View.{model, IsDecision};
+ghost use Rattle.spki_guard.specs.Passing.{passing};
 
 use crate::case::Case;
 use crate::verifier::Verifier;
@@ -35,20 +35,26 @@ pub enum GuardFault {
 /// signatures. A case has no certificates yet, so the verifier isn't asked, and nothing is refused.
 pub fn decide<V: Verifier>(_alloc: Global, case: &Case, verifier: &V) -> Result<Decision, GuardFault>
     ensures answered { IsOk result }
-    ensures exact { IfOk result (IsDecision (V.accepted verifier.now) case.now) }
+    ensures exact { IfOk result (IsDecision (model case.now) (V.accepted verifier.now)) }
 {
     let _unasked = verifier;
-    for (place, entry) in case.acl.iter().enumerate() {
-        if entry_grants(entry, case) {
-            return Ok(Decision::Yes(place + 1));
-        }
+    match first_passing(case) {
+        Some(place) => Ok(Decision::Yes(place + 1)),
+        None => Ok(Decision::No),
     }
-    Ok(Decision::No)
+}
+
+/// The place of the first entry that grants what is asked without any certificate.
+fn first_passing(case: &Case) -> Option<usize>
+    ensures first { result ≡ position (passing (model case.now)) case.now.acl.items }
+    ensures within { IfSome result (λ place. place < vec_len case.now.acl) }
+{
+    case.acl.iter().position(|entry| passes(entry, case))
 }
 
 /// Whether an entry grants what is asked without any certificate.
-fn entry_grants(entry: &Entry, case: &Case) -> bool
-    ensures { result ≡ grants_alone case.now entry.now }
+fn passes(entry: &Entry, case: &Case) -> bool
+    ensures { result ≡ passing (model case.now) entry.now }
 {
     grants(
         &entry.subject,

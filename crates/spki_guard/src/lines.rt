@@ -58,7 +58,10 @@ pub fn push_refused_part(
     ensures ok { OnOk result (out.new.items ≡ out.old.items ++ refused_part part.now kind.now) }
     ensures err { OnErr result (out.new.items ≡ out.old.items) }
 {
-    push(out, format!(in alloc; "refused {part} {kind}\n")?.as_bytes())
+    push(
+        out,
+        format!(in alloc; "refused {part} {kind}\n")?.as_bytes(),
+    )
 }
 
 /// Puts `refused PART N KIND` behind what is written; `item` is counted from 1.
@@ -73,7 +76,10 @@ pub fn push_refused_item(
     ensures ok { OnOk result (out.new.items ≡ out.old.items ++ refused_item part.now item kind.now) }
     ensures err { OnErr result (out.new.items ≡ out.old.items) }
 {
-    push(out, format!(in alloc; "refused {part} {item} {kind}\n")?.as_bytes())
+    push(
+        out,
+        format!(in alloc; "refused {part} {item} {kind}\n")?.as_bytes(),
+    )
 }
 
 /// Puts `refused PART N Tag KIND` behind what is written, of a tag in item N; `item` is counted from 1.
@@ -88,7 +94,10 @@ pub fn push_refused_tag(
     ensures ok { OnOk result (out.new.items ≡ out.old.items ++ refused_tag part.now item kind.now) }
     ensures err { OnErr result (out.new.items ≡ out.old.items) }
 {
-    push(out, format!(in alloc; "refused {part} {item} Tag {kind}\n")?.as_bytes())
+    push(
+        out,
+        format!(in alloc; "refused {part} {item} Tag {kind}\n")?.as_bytes(),
+    )
 }
 
 /// The name of a fault of a tag or a request.
@@ -172,16 +181,14 @@ pub fn push_refused_case(
 
 /// Puts `refused form KIND AT` behind what is written; `at` is an offset.
 #[tactic(auto, using(crate::proofs::Decimals::decimal_written))]
-fn push_form_at(
-    alloc: Global,
-    out: &mut Vec<u8>,
-    kind: &str,
-    at: usize,
-) -> Result<(), AllocError>
+fn push_form_at(alloc: Global, out: &mut Vec<u8>, kind: &str, at: usize) -> Result<(), AllocError>
     ensures ok { OnOk result (out.new.items ≡ out.old.items ++ refused_at kind.now at) }
     ensures err { OnErr result (out.new.items ≡ out.old.items) }
 {
-    push(out, format!(in alloc; "refused form {kind} {at}\n")?.as_bytes())
+    push(
+        out,
+        format!(in alloc; "refused form {kind} {at}\n")?.as_bytes(),
+    )
 }
 
 /// Puts octets behind what is written.

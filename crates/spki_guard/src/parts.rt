@@ -2,8 +2,8 @@
 
 ghost use Rattle.std.specs.Prelude.{◌≡◌, ◌≢◌, ◌∷◌, [], MatchOption, IfOk, IfErr};
 ghost use Rattle.sexpr_core.specs.Value.{Value};
-ghost use Rattle.spki_guard.specs.Case as spec;
-ghost use Rattle.spki_guard.specs.Case.{CaseOf, ValueRefused, case_value, IsCaseText, TextRefused, IsAclFault, IsRequestFault};
+ghost use Rattle.spki_guard.specs.CaseForm as spec;
+ghost use Rattle.spki_guard.specs.CaseForm.{CaseOf, ValueRefused, case_value, IsCaseText, TextRefused, IsAclFault, IsRequestFault};
 ghost use Rattle.spki_guard.specs.Parts.{IsPart, IsNoPart, ArePartsOf};
 
 use crate::case::{Case, CaseFault};

@@ -1,7 +1,6 @@
 //! The text that a reader gives, within limits.
 ghost use Rattle.std.specs.Prelude.{◌≡◌, ℕ, ◌+◌, ◌<◌, ◌≤◌, ◌⊎◌, ◌++◌, List, length, take, max, vec_len, IsTrue, IfOk, OnOk, OnErr, IfSome, IfNone, IsErrOf};
-ghost use Rattle.std.specs.Io.KnownBytes.{Consumes, Keeps, IsAtEnd};
-ghost use Rattle.spki_guard.specs.Metered.{counted, inner_of};
+ghost use Rattle.spki_guard.specs.Metered.{counted, Gives, GivesNone, HasGivenAll};
 
 use crate::metered::{Metered, is_interrupted};
 use sexpr_core::MOST_OCTETS;
@@ -37,12 +36,11 @@ fn ask<R: Read>(reader: &mut Metered<R>, buffer: &mut [u8]) -> Result<Option<usi
     ensures no_fault { OnOk result (reader.new.faults ≡ reader.old.faults) }
     ensures bound { IfOk result (λ o. IfSome o (λ n. n ≤ length buffer.new)) }
     ensures octets { IfOk result (λ o. IfSome o (λ n.
-        Consumes (R.remaining (inner_of reader.old)) (R.remaining (inner_of reader.new)) (take n buffer.new))) }
+        Gives R.remaining reader.old reader.new (take n buffer.new))) }
     ensures end { IfOk result (λ o. IfSome o (λ n. n ≡ 0 → 0 < length buffer.old
-        → IsAtEnd (R.remaining (inner_of reader.new)) × IsTrue reader.new.ended)) }
-    ensures again { IfOk result (λ o. IfNone o
-        (Keeps (R.remaining (inner_of reader.old)) (R.remaining (inner_of reader.new)))) }
-    ensures err { OnErr result (Keeps (R.remaining (inner_of reader.old)) (R.remaining (inner_of reader.new))) }
+        → HasGivenAll R.remaining reader.new × IsTrue reader.new.ended)) }
+    ensures again { IfOk result (λ o. IfNone o (GivesNone R.remaining reader.old reader.new)) }
+    ensures err { OnErr result (GivesNone R.remaining reader.old reader.new) }
 {
     match reader.read(buffer) {
         Ok(count) => Ok(Some(count)),
@@ -70,12 +68,12 @@ fn read_piece<R: Read>(
     ensures no_fault { IsErrOf result TextFault.Read ⊎ (reader.new.faults ≡ reader.old.faults) }
     ensures short { OnOk result (vec_len text.new ≤ MOST_OCTETS) }
     ensures octets { OnOk result ((octets : List ℕ) × (text.new.items ≡ text.old.items ++ octets)
-        × Consumes (R.remaining (inner_of reader.old)) (R.remaining (inner_of reader.new)) octets) }
+        × Gives R.remaining reader.old reader.new octets) }
     ensures end { IfOk result (λ ended. IsTrue ended
-        → IsAtEnd (R.remaining (inner_of reader.new)) × IsTrue reader.new.ended) }
+        → HasGivenAll R.remaining reader.new × IsTrue reader.new.ended) }
     ensures too_long { IsErrOf result TextFault.TooLong → ((octets : List ℕ)
         × (length (text.old.items ++ octets) ≡ MOST_OCTETS + 1)
-        × Consumes (R.remaining (inner_of reader.old)) (R.remaining (inner_of reader.new)) octets) }
+        × Gives R.remaining reader.old reader.new octets) }
 {
     let wanted = buffer.len().min(MOST_OCTETS + 1 - text.len());
     let piece = &mut buffer[..wanted];
@@ -113,12 +111,11 @@ fn append(text: &mut Vec<u8>, octets: &[u8]) -> Result<(), TextFault>
 ///
 /// `Read` at another error and at that count; `TooLong` where 1,048,577 octets came; `Memory` where it ran out.
 pub fn read_text<R: Read>(alloc: Global, reader: &mut Metered<R>) -> Result<Vec<u8>, TextFault>
-    ensures octets { IfOk result (λ text.
-        Consumes (R.remaining (inner_of reader.old)) (R.remaining (inner_of reader.new)) text.items) }
-    ensures end { OnOk result (IsAtEnd (R.remaining (inner_of reader.new)) × IsTrue reader.new.ended) }
+    ensures octets { IfOk result (λ text. Gives R.remaining reader.old reader.new text.items) }
+    ensures end { OnOk result (HasGivenAll R.remaining reader.new × IsTrue reader.new.ended) }
     ensures short { IfOk result (λ text. vec_len text ≤ MOST_OCTETS) }
     ensures too_long { IsErrOf result TextFault.TooLong → ((octets : List ℕ) × (length octets ≡ MOST_OCTETS + 1)
-        × Consumes (R.remaining (inner_of reader.old)) (R.remaining (inner_of reader.new)) octets) }
+        × Gives R.remaining reader.old reader.new octets) }
     ensures asks { reader.new.asks ≤ max reader.old.asks READER_ASKS }
     ensures fault { IsErrOf result TextFault.Read
         → (reader.new.faults ≡ counted reader.old.faults) ⊎ (READER_ASKS ≤ reader.new.asks) }

@@ -1,8 +1,7 @@
 //! A command from the octets that are read to those that are written.
 ghost use Rattle.std.specs.Prelude.{◌≡◌, ℕ, ◌≤◌, ◌⊎◌, List, IsTrue};
-ghost use Rattle.std.specs.Io.KnownBytes.{Keeps};
 ghost use Rattle.spki_guard.specs.declared.answer.Verdict.{Verdict};
-ghost use Rattle.spki_guard.specs.Metered.{inner_of};
+ghost use Rattle.spki_guard.specs.Metered.{inner_of, TakesNone};
 ghost use Rattle.spki_guard.specs.Reply.{IsReply, verdict_of, octets_of};
 ghost use Rattle.spki_guard.specs.Run.{IsFaulty, IsWritten, IsCutOff, status_of, code_of};
 
@@ -71,7 +70,7 @@ pub fn run<R: Read, W: Write>(
     ensures no_read_fault { (result ≡ Status.ReadFault) ⊎ (reader.new.faults ≡ 0) }
     ensures no_write_fault { (result ≡ Status.WriteFault) ⊎ (writer.new.faults ≡ 0) }
     ensures unwritten { result ≡ Status.ReadFault → (writer.new.asks ≡ 0)
-        × Keeps (W.contents (inner_of writer.old)) (W.contents (inner_of writer.new)) }
+        × TakesNone W.contents writer.old writer.new }
 
     // With any other status there is a reply, and all or a front of it was written.
     ensures written { (verdict : Verdict) → result ≡ status_of verdict → (output : List ℕ)

@@ -1,7 +1,8 @@
 //! Who judges signatures.
 
 ghost use Rattle.std.specs.Prelude.{◌≡◌, ◌↔◌, ℕ, List, IsTrue, IsOk, IfOk};
-ghost use Rattle.spki_guard.specs.Accepted.{IsAccepted, is_row_of};
+ghost use Rattle.spki_guard.specs.Case.{is_row_of};
+ghost use Rattle.spki_guard.specs.View.{row_of, verified_by};
 
 use spki_cert::{HashAlg, Key, Octets};
 use std::alloc::{AllocError, Global};
@@ -40,11 +41,11 @@ pub struct AcceptedTable<'a> {
 }
 
 impl<'a> Verifier for AcceptedTable<'a> {
-    ghost accepted = { λ table key message value. IsAccepted table key message value };
+    ghost accepted = { verified_by };
 
     fn accepts(&self, _alloc: Global, key: &Key, message: &[u8], value: &[u8]) -> Result<bool, AllocError>
         ensures ok { IsOk result }
-        ensures answer { IfOk result (λ yes. IsTrue yes ↔ IsAccepted self.now key.now message.now value.now) }
+        ensures answer { IfOk result (λ yes. IsTrue yes ↔ verified_by self.now key.now message.now value.now) }
     {
         Ok(self.rows.iter().any(|row| row_accepts(row, key, message, value)))
     }
@@ -52,7 +53,7 @@ impl<'a> Verifier for AcceptedTable<'a> {
 
 /// Whether the row is of this key, this message and this value.
 fn row_accepts(row: &Row, key: &Key, message: &[u8], value: &[u8]) -> bool
-    ensures { result ≡ is_row_of key.now message.now value.now row.now }
+    ensures { result ≡ is_row_of key.now message.now value.now (row_of row.now) }
 {
     row.key.same(key) && HashAlg::Sha256.fits(row.digest.as_slice(), message) && row.value.as_slice() == value
 }

@@ -1,7 +1,6 @@
 //! What goes to a writer, all of it or a front of it.
 ghost use Rattle.std.specs.Prelude.{◌≡◌, ℕ, ◌+◌, ◌<◌, ◌≤◌, ◌⊎◌, ◌++◌, List, length, take, max, IsTrue, IfOk, OnOk, OnErr};
-ghost use Rattle.std.specs.Io.KnownBytes.{Appends, Keeps};
-ghost use Rattle.spki_guard.specs.Metered.{counted, inner_of};
+ghost use Rattle.spki_guard.specs.Metered.{counted, Takes, TakesNone};
 ghost use Rattle.spki_guard.specs.Sent.{SendsFront};
 
 use crate::metered::{Metered, is_interrupted};
@@ -23,9 +22,8 @@ fn write_piece<W: Write>(writer: &mut Metered<W>, octets: &[u8]) -> Result<usize
     ensures fault { OnErr result (writer.new.faults ≡ counted writer.old.faults) }
     ensures no_fault { OnOk result (writer.new.faults ≡ writer.old.faults) }
     ensures bound { IfOk result (λ n. n ≤ length octets.now) }
-    ensures octets { IfOk result (λ n.
-        Appends (W.contents (inner_of writer.old)) (W.contents (inner_of writer.new)) (take n octets.now)) }
-    ensures err { OnErr result (Keeps (W.contents (inner_of writer.old)) (W.contents (inner_of writer.new))) }
+    ensures octets { IfOk result (λ n. Takes W.contents writer.old writer.new (take n octets.now)) }
+    ensures err { OnErr result (TakesNone W.contents writer.old writer.new) }
 {
     match writer.write(octets) {
         Ok(0) => Err(WriteFault),
@@ -46,7 +44,7 @@ fn flush_once<W: Write>(writer: &mut Metered<W>) -> Result<bool, WriteFault>
     ensures fault { OnErr result (writer.new.faults ≡ counted writer.old.faults) }
     ensures no_fault { OnOk result (writer.new.faults ≡ writer.old.faults) }
     ensures flushed { IfOk result (λ done. IsTrue done → IsTrue writer.new.flushed) }
-    ensures octets { Keeps (W.contents (inner_of writer.old)) (W.contents (inner_of writer.new)) }
+    ensures octets { TakesNone W.contents writer.old writer.new }
 {
     match writer.flush() {
         Ok(()) => Ok(true),
@@ -68,11 +66,10 @@ fn flush_once<W: Write>(writer: &mut Metered<W>) -> Result<bool, WriteFault>
 /// `WriteFault` at another error, at a write of none of some octets, and at that count. A front of the octets went
 /// out then.
 pub fn write_whole<W: Write>(writer: &mut Metered<W>, octets: &[u8]) -> Result<(), WriteFault>
-    ensures octets { OnOk result
-        (Appends (W.contents (inner_of writer.old)) (W.contents (inner_of writer.new)) octets.now) }
+    ensures octets { OnOk result (Takes W.contents writer.old writer.new octets.now) }
     ensures flushed { OnOk result (IsTrue writer.new.flushed) }
     ensures front { OnErr result ((rest : List ℕ)
-        × SendsFront (W.contents (inner_of writer.old)) (W.contents (inner_of writer.new)) octets.now rest) }
+        × SendsFront W.contents writer.old writer.new octets.now rest) }
     ensures asks { writer.new.asks ≤ max writer.old.asks (length octets.now + WRITER_ASKS) }
     ensures fault { OnErr result ((writer.new.faults ≡ counted writer.old.faults)
         ⊎ (length octets.now + WRITER_ASKS ≤ writer.new.asks)) }

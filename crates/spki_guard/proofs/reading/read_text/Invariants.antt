@@ -1,14 +1,13 @@
 use Rattle.std.proofs.Common.{◌-◌, ◌≡◌, ◌≤◌, max, vec_len}
-use Rattle.std.specs.Io.KnownBytes.{Consumes}
-use Rattle.spki_guard.specs.Metered.{inner_of}
+use Rattle.spki_guard.specs.Metered.{Gives}
 use Rattle.spki_guard.proofs.reading.read_text.Given as goal
 
 abbrev pub invariant-loop-reader : goal.invariant-loop-reader
 invariant-loop-reader g l = record {
-  taken : Consumes (g.R.Read.remaining (inner_of l.initial.reader)) (g.R.Read.remaining (inner_of l.reader)) l.text.items;
+  taken : Gives g.R.Read.remaining l.initial.reader l.reader l.text.items;
   short : vec_len l.text ≤ 1048576;
   asked : l.reader.asks ≤ max l.initial.reader.asks 2097152;
-  faultless : l.reader.faults ≡ l.initial.reader.faults
+  faultless : l.reader.faults ≡ l.initial.reader.faults;
 }
 
 abbrev pub decreases-loop-reader : goal.decreases-loop-reader

@@ -16,7 +16,16 @@ returns-in-Some-clause-ended_at_no g c e =
 pub returns-in-Some-clause-write_fault : goal.returns-in-Some-clause-write_fault
 returns-in-Some-clause-write_fault g c e =
     let cut = c.send.ensures.write_fault e in
-    let front = rw c.restart-2.ensures.inner at cut.front in
-    let reply = rw c.restart.ensures.inner at c.in-Some.ensures.reply in
-    (verdict_of c.in-Some.reply, octets_of c.in-Some.reply, reply,
-    record { rest = cut.rest; front = front; faulty = cut.faulty; asks = cut.asks })
+    let front = cut.front in
+    let taken = rw c.restart-2.ensures.inner at front.taken in
+    let reply = rw c.restart.ensures.inner at c.in-Some.ensures.reply in (
+      verdict_of c.in-Some.reply,
+      octets_of c.in-Some.reply,
+      reply,
+      record {
+        rest = cut.rest;
+        front = record { sent = front.sent; whole = front.whole; taken = taken };
+        faulty = cut.faulty;
+        asks = cut.asks;
+      },
+    )

@@ -6,5 +6,5 @@ pub loop-writer-preserved : goal.loop-writer-preserved
 loop-writer-preserved g c = record {
   sent = SendsFront-more c.in_ok-count.count c.loop-writer.invariant.sent c.in_ok-count.ensures.octets c.split_at.ensures.back;
   asked = search rules;
-  faultless = search rules
+  faultless = search rules;
 }

@@ -1,13 +1,12 @@
 use Rattle.std.proofs.Common.{◌-◌, ◌≡◌, ◌≤◌, ◌+◌, length, max}
-use Rattle.spki_guard.specs.Metered.{inner_of}
 use Rattle.spki_guard.specs.Sent.{SendsFront}
 use Rattle.spki_guard.proofs.writing.write_whole.Given as goal
 
 abbrev pub invariant-loop-writer : goal.invariant-loop-writer
 invariant-loop-writer g l = record {
-  sent : SendsFront (g.W.Write.contents (inner_of l.initial.writer)) (g.W.Write.contents (inner_of l.writer)) l.octets l.rest;
+  sent : SendsFront g.W.Write.contents l.initial.writer l.writer l.octets l.rest;
   asked : l.writer.asks ≤ max l.initial.writer.asks (length l.octets + 2097152);
-  faultless : l.writer.faults ≡ l.initial.writer.faults
+  faultless : l.writer.faults ≡ l.initial.writer.faults;
 }
 
 abbrev pub decreases-loop-writer : goal.decreases-loop-writer
