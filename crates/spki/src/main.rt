@@ -4,10 +4,9 @@
 use spki_guard::command::Command;
 use spki_guard::metered::Metered;
 use spki_guard::run::{Status, run};
-use std::env;
-use std::io;
 use std::process::ExitCode;
 use std::rt::Env;
+use std::{env, io};
 
 /// The command that the one argument names.
 fn command<R: Env + AllocGlobal>(rt: &R) -> Option<Command> {

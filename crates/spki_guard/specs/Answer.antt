@@ -45,5 +45,5 @@ pub record Refuses (text : List ℕ) (verdict : Verdict) (output : List ℕ) : T
 abbrev pub IsCheck : List ℕ → Verdict → List ℕ → Type 0
 IsCheck text verdict output = Decides text verdict output ⊎ Refuses text verdict output
 
-abbrev pub IsAnswer : Command → List ℕ → Verdict → List ℕ → Type 0
+unfoldable pub IsAnswer : Command → List ℕ → Verdict → List ℕ → Type 0
 IsAnswer Check text verdict output = IsCheck text verdict output

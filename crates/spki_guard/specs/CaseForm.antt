@@ -11,7 +11,7 @@ use Rattle.spki_cert.specs.declared.fault.CertFault.{CertFault}
 use Rattle.spki_cert.specs.declared.fault.CertFaultKind.TheVariants as kinds
 use Rattle.spki_cert.specs.declared.principal.Policy.TheVariants.{Open}
 use Rattle.spki_cert.specs.Readings.{KeyOf, DateOf}
-use Rattle.spki_cert.specs.Entries.{AclOf, IsNoAcl, AclRefused}
+use Rattle.spki_cert.specs.Entries.{AclOf, AclRefused}
 use Rattle.spki_guard.specs.declared.case.Case.{Case}
 use Rattle.spki_guard.specs.declared.case.CaseFault.{CaseFault}
 use Rattle.spki_guard.specs.declared.case.CaseFault.TheVariants as faults
@@ -32,17 +32,20 @@ headed word vs = group (plain word ∷ vs)
 abbrev pub acl_value : Parts → Value
 acl_value p = headed (codes "acl") p.entries
 
--- (case (acl ..) (accepted ..) (sequence ..) (key K) (request G) (at date))
+-- (acl ..) (accepted ..) (sequence ..) (key K) (request G) (at date)
+abbrev pub part_values : Parts → List Value
+part_values p =
+    acl_value p
+    ∷ headed (codes "accepted") p.rows
+    ∷ headed (codes "sequence") p.items
+    ∷ headed (codes "key") (p.key ∷ [])
+    ∷ headed (codes "request") (p.request ∷ [])
+    ∷ headed (codes "at") (p.at ∷ [])
+    ∷ []
+
+-- those behind the head of a case
 abbrev pub case_value : Parts → Value
-case_value p =
-    headed (codes "case") (
-      acl_value p
-      ∷ headed (codes "accepted") p.rows
-      ∷ headed (codes "sequence") p.items
-      ∷ headed (codes "key") (p.key ∷ [])
-      ∷ headed (codes "request") (p.request ∷ [])
-      ∷ headed (codes "at") (p.at ∷ [])
-      ∷ [])
+case_value p = headed (codes "case") (part_values p)
 
 -- the request that a value is
 pub record RequestOf (v : Value) (g : Request) : Type 0 where
@@ -87,7 +90,7 @@ IsUnreadAt vs fault = (vs ≢ []) × (fault ≡ record { item = 1; kind = kinds.
 
 -- The first part of a case that has no reading, in the order of the parts.
 abbrev pub PartRefused : Parts → CaseFault → Type 0
-PartRefused p (faults.Acl fault) = (fault.kind ≢ kinds.Memory) × IsNoAcl (acl_value p) × AclRefused (acl_value p) fault.item
+PartRefused p (faults.Acl fault) = (fault.kind ≢ kinds.Memory) × AclRefused (acl_value p) fault.item
 PartRefused p (faults.Accepted fault) = ReadsAcl p × IsUnreadAt p.rows fault
 PartRefused p (faults.Sequence fault) = ReadsRows p × IsUnreadAt p.items fault
 PartRefused p (faults.Key fault) = (fault.item ≡ 0) × ReadsItems p × ((key : List ℕ) → KeyOf p.key key → ⊥)
@@ -111,10 +114,10 @@ ValueRefused v (faults.At fault) = (p : Parts) × (v ≡ case_value p) × PartRe
 
 -- a fault of an access list, and of a request, as one of the case
 abbrev pub IsAclFault : CertFault → CaseFault → Type 0
-IsAclFault fault outer = (outer ≡ faults.Memory) ⊎ ((fault.kind ≢ kinds.Memory) × (outer ≡ faults.Acl fault))
+IsAclFault fault outer = ((fault.kind ≡ kinds.Memory) × (outer ≡ faults.Memory)) ⊎ ((fault.kind ≢ kinds.Memory) × (outer ≡ faults.Acl fault))
 
 abbrev pub IsRequestFault : TagFault → CaseFault → Type 0
-IsRequestFault fault outer = (outer ≡ faults.Memory) ⊎ ((fault ≢ tag_faults.Memory) × (outer ≡ faults.Request fault))
+IsRequestFault fault outer = ((fault ≡ tag_faults.Memory) × (outer ≡ faults.Memory)) ⊎ ((fault ≢ tag_faults.Memory) × (outer ≡ faults.Request fault))
 
 -- ---- texts
 

@@ -15,8 +15,8 @@ abbrev pub IsNoPart : List Value → List ℕ → Type 0
 IsNoPart vs word = (inner rest : List Value) → vs ≢ headed word inner ∷ rest
 
 -- the parts as values, where the access list stands with its head
-pub record ArePartsOf (v : Value) (p : Parts) (parts : spec.Parts) : Type 0 where
-  pub written : v ≡ spec.case_value parts
+pub record ArePartsOf (vs : List Value) (p : Parts) (parts : spec.Parts) : Type 0 where
+  pub written : vs ≡ spec.part_values parts
   pub acl : p.acl ≡ spec.acl_value parts
   pub rows : p.rows ≡ parts.rows
   pub items : p.items ≡ parts.items

@@ -32,6 +32,7 @@ pub struct Answer {
 /// # Errors
 ///
 /// Where memory was refused.
+#[tactic(auto, unfolding(crate::specs::Answer::IsAnswer))]
 pub fn answer_text(alloc: Global, command: Command, text: &[u8]) -> Result<Answer, AllocError>
     ensures { IfOk result (λ a. IsAnswer command text.now a.verdict a.output.items) }
 {

@@ -33,7 +33,11 @@ pub enum GuardFault {
 
 /// Decides a case: yes exactly if an entry grants what is asked (RFC 2693, section 6), with the verifier's word for the
 /// signatures. A case has no certificates yet, so the verifier isn't asked, and nothing is refused.
-pub fn decide<V: Verifier>(_alloc: Global, case: &Case, verifier: &V) -> Result<Decision, GuardFault>
+pub fn decide<V: Verifier>(
+    _alloc: Global,
+    case: &Case,
+    verifier: &V,
+) -> Result<Decision, GuardFault>
     ensures answered { IsOk result }
     ensures exact { IfOk result (IsDecision (model case.now) (V.accepted verifier.now)) }
 {

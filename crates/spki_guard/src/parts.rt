@@ -3,7 +3,7 @@
 ghost use Rattle.std.specs.Prelude.{◌≡◌, ◌≢◌, ◌∷◌, [], MatchOption, IfOk, IfErr};
 ghost use Rattle.sexpr_core.specs.Value.{Value};
 ghost use Rattle.spki_guard.specs.CaseForm as spec;
-ghost use Rattle.spki_guard.specs.CaseForm.{CaseOf, ValueRefused, case_value, IsCaseText, TextRefused, IsAclFault, IsRequestFault};
+ghost use Rattle.spki_guard.specs.CaseForm.{CaseOf, ValueRefused, case_value, part_values, IsCaseText, TextRefused, IsAclFault, IsRequestFault};
 ghost use Rattle.spki_guard.specs.Parts.{IsPart, IsNoPart, ArePartsOf};
 
 use crate::case::{Case, CaseFault};
@@ -38,7 +38,11 @@ fn take_part<'d, 'a>(members: Members<'d, 'a>, word: &[u8]) -> Option<Part<'d, '
 {
     let (node, rest) = members.split_first()?;
     let members = headed(&node, word)?;
-    Some(Part { node, members, rest })
+    Some(Part {
+        node,
+        members,
+        rest,
+    })
 }
 
 /// The one member.
@@ -52,9 +56,16 @@ fn sole<'d, 'a>(members: Members<'d, 'a>) -> Option<Node<'d, 'a>>
 /// A value's parts, if it is built as a case.
 fn parts_of<'d, 'a>(node: &Node<'d, 'a>) -> Option<Parts<'d, 'a>>
     ensures { MatchOption result ((p : spec.Parts) → node.now ≢ case_value p)
-        (λ p. (parts : spec.Parts) × ArePartsOf node.now p parts) }
+        (λ p. (parts : spec.Parts) × (node.now ≡ case_value parts) × ArePartsOf (part_values parts) p parts) }
 {
-    let members = headed(node, b"case")?;
+    parts_in(headed(node, b"case")?)
+}
+
+/// The parts that stand behind the head of a case.
+fn parts_in<'d, 'a>(members: Members<'d, 'a>) -> Option<Parts<'d, 'a>>
+    ensures { MatchOption result ((p : spec.Parts) → members.entry ≢ part_values p)
+        (λ p. (parts : spec.Parts) × ArePartsOf members.entry p parts) }
+{
     let acl = take_part(members, b"acl")?;
     let accepted = take_part(acl.rest, b"accepted")?;
     let sequence = take_part(accepted.rest, b"sequence")?;

@@ -1,6 +1,7 @@
 //! Who judges signatures.
 
 ghost use Rattle.std.specs.Prelude.{◌≡◌, ◌↔◌, ℕ, List, IsTrue, IsOk, IfOk};
+ghost use Rattle.std.specs.List.{list_any};
 ghost use Rattle.spki_guard.specs.Case.{is_row_of};
 ghost use Rattle.spki_guard.specs.View.{row_of, verified_by};
 
@@ -18,7 +19,13 @@ pub trait Verifier {
     /// # Errors
     ///
     /// Where memory was refused.
-    fn accepts(&self, alloc: Global, key: &Key, message: &[u8], value: &[u8]) -> Result<bool, AllocError>
+    fn accepts(
+        &self,
+        alloc: Global,
+        key: &Key,
+        message: &[u8],
+        value: &[u8],
+    ) -> Result<bool, AllocError>
         ensures { IfOk result (λ yes. IsTrue yes ↔ accepted self.now key.now message.now value.now) };
 }
 
@@ -43,17 +50,32 @@ pub struct AcceptedTable<'a> {
 impl<'a> Verifier for AcceptedTable<'a> {
     ghost accepted = { verified_by };
 
-    fn accepts(&self, _alloc: Global, key: &Key, message: &[u8], value: &[u8]) -> Result<bool, AllocError>
+    fn accepts(
+        &self,
+        _alloc: Global,
+        key: &Key,
+        message: &[u8],
+        value: &[u8],
+    ) -> Result<bool, AllocError>
         ensures ok { IsOk result }
         ensures answer { IfOk result (λ yes. IsTrue yes ↔ verified_by self.now key.now message.now value.now) }
     {
-        Ok(self.rows.iter().any(|row| row_accepts(row, key, message, value)))
+        Ok(any_accepts(&self.rows, key, message, value))
     }
+}
+
+/// Whether some row is of this key, this message and this value.
+fn any_accepts(rows: &[Row], key: &Key, message: &[u8], value: &[u8]) -> bool
+    ensures { result ≡ list_any (λ row. is_row_of key.now message.now value.now (row_of row)) rows.now }
+{
+    rows.iter().any(|row| row_accepts(row, key, message, value))
 }
 
 /// Whether the row is of this key, this message and this value.
 fn row_accepts(row: &Row, key: &Key, message: &[u8], value: &[u8]) -> bool
     ensures { result ≡ is_row_of key.now message.now value.now (row_of row.now) }
 {
-    row.key.same(key) && HashAlg::Sha256.fits(row.digest.as_slice(), message) && row.value.as_slice() == value
+    row.key.same(key)
+        && HashAlg::Sha256.fits(row.digest.as_slice(), message)
+        && row.value.as_slice() == value
 }

@@ -1,0 +1,15 @@
+use Rattle.std.proofs.Common.{rules, sym, inl, inr}
+use Rattle.std.proofs.lemmas.Result.{IfOk-weaker}
+use Rattle.spki_guard.specs.Answer.{Decides}
+use Rattle.spki_guard.proofs.answer.check.Goals as goal
+
+pub returns : goal.returns
+returns c =
+    let exact = rw c.accepted.ensures at c.in-Ok-decide.ensures.exact in
+    IfOk-weaker c.grant.result _ _ (λ a line. inl (record {
+      case_read = c.in-Ok.case;
+      text_is = c.in-Ok.ensures.read;
+      decided = c.in-Ok-decide.decision;
+      decision_is = exact;
+      line = line;
+    })) c.grant.ensures
