@@ -1,0 +1,149 @@
+-- The definitions at worked examples.
+use Rattle.std.proofs.Common.{◌≡◌, ℕ, true, false, List, [], ◌∷◌, ◌++◌, Option, Some, None, refl}
+use Rattle.std.specs.Prelude.{codes}
+use Rattle.sexpr_core.specs.Value.{canon, verbatim, decimal}
+use Rattle.spki_tag.specs.Time.{is_time, is_date}
+use Rattle.spki_tag.specs.Request as request
+use Rattle.spki_tag.specs.Request.{Request, Requests}
+use Rattle.spki_tag.specs.Tag.{Tag, Tags, Limit, alpha, time, date, star, string, prefix, range, list, set, tags, contains, is_normal, nodes, ldepth, tag_value}
+
+abbrev ask : List ℕ → Request
+ask octets = request.string octets
+
+abbrev at_least : List ℕ → Option Limit
+at_least octets = Some (record { strict = false; octets = octets })
+
+abbrev below : List ℕ → Option Limit
+below octets = Some (record { strict = true; octets = octets })
+
+-- ---- the tag (* range time ge "09:00:00" l "17:00:00")
+
+abbrev hours : Tag
+hours = range time (at_least (codes "09:00:00")) (below (codes "17:00:00"))
+
+time-leap_second : contains hours (ask (codes "12:30:60")) ≡ true
+unfolding is_time
+time-leap_second = refl
+
+time-at_least : contains hours (ask (codes "09:00:00")) ≡ true
+unfolding is_time
+time-at_least = refl
+
+time-below : contains hours (ask (codes "17:00:00")) ≡ false
+unfolding is_time
+time-below = refl
+
+time-short : contains hours (ask (codes "9:00")) ≡ false
+unfolding is_time
+time-short = refl
+
+time-hour_24 : contains hours (ask (codes "24:00:00")) ≡ false
+unfolding is_time
+time-hour_24 = refl
+
+-- ---- the tag (* range date ge "2024")
+
+abbrev since_2024 : Tag
+since_2024 = range date (at_least (codes "2024")) None
+
+date-first : contains since_2024 (ask (codes "2024-01-01_00:00:00")) ≡ true
+unfolding is_date is_time
+date-first = refl
+
+date-no_calendar : contains since_2024 (ask (codes "2024-02-31_00:00:00")) ≡ true
+unfolding is_date is_time
+date-no_calendar = refl
+
+date-before : contains since_2024 (ask (codes "2023-12-31_23:59:59")) ≡ false
+unfolding is_date is_time
+date-before = refl
+
+date-year_alone : contains since_2024 (ask (codes "2024")) ≡ false
+unfolding is_date is_time
+date-year_alone = refl
+
+-- ---- the tag (* range alpha ge a)
+
+abbrev from_a : Tag
+from_a = range alpha (at_least (codes "a")) None
+
+alpha-same : contains from_a (ask (codes "a")) ≡ true
+alpha-same = refl
+
+alpha-longer : contains from_a (ask (codes "ab")) ≡ true
+alpha-longer = refl
+
+alpha-empty : contains from_a (ask []) ≡ false
+alpha-empty = refl
+
+alpha-list : contains from_a (request.list (codes "a") request.none) ≡ false
+alpha-list = refl
+
+-- ---- the tag (* prefix "")
+
+prefix-any : contains (prefix []) (ask (codes "any")) ≡ true
+prefix-any = refl
+
+prefix-list : contains (prefix []) (request.list (codes "a") request.none) ≡ false
+prefix-list = refl
+
+-- ---- the tag (f (* set a b))
+
+abbrev either : Tag
+either = list (codes "f") (tags (set (tags (string (codes "a") ∷ string (codes "b") ∷ [])) ∷ []))
+
+abbrev f_of : List Request → Request
+f_of gs = request.list (codes "f") (request.requests gs)
+
+set-member : contains either (f_of (ask (codes "a") ∷ [])) ≡ true
+set-member = refl
+
+set-longer : contains either (f_of (ask (codes "b") ∷ ask (codes "c") ∷ [])) ≡ true
+set-longer = refl
+
+set-shorter : contains either (f_of []) ≡ false
+set-shorter = refl
+
+set-string : contains either (ask (codes "f")) ≡ false
+set-string = refl
+
+set-other : contains either (f_of (ask (codes "c") ∷ [])) ≡ false
+set-other = refl
+
+-- ---- first-run and shorter-request
+
+abbrev ftp_host : Tag
+ftp_host = list (codes "ftp") (tags (string (codes "host") ∷ []))
+
+first-run : contains ftp_host (request.list (codes "ftp") (request.requests (ask (codes "host") ∷ ask (codes "dir") ∷ []))) ≡ true
+first-run = refl
+
+shorter-request : contains ftp_host (request.list (codes "ftp") request.none) ≡ false
+shorter-request = refl
+
+-- ---- measures, normal form and writing
+
+either-nodes : nodes either ≡ 5
+either-nodes = refl
+
+either-ldepth : ldepth either ≡ 1
+either-ldepth = refl
+
+normal-form-set_in_set : is_normal (set (tags (string (codes "a") ∷ set (tags (string (codes "b") ∷ string (codes "c") ∷ [])) ∷ []))) ≡ false
+normal-form-set_in_set = refl
+
+normal-form-star_in_set : is_normal (set (tags (string (codes "a") ∷ star ∷ []))) ≡ false
+normal-form-star_in_set = refl
+
+normal-form-one_member : is_normal (set (tags (string (codes "a") ∷ []))) ≡ false
+normal-form-one_member = refl
+
+normal-form-nothing_in_list : is_normal (list (codes "x") (tags (set (tags []) ∷ []))) ≡ false
+normal-form-nothing_in_list = refl
+
+normal-form-either : is_normal either ≡ true
+normal-form-either = refl
+
+written-range : canon (tag_value (range alpha (at_least (codes "b")) (below (codes "m")))) ≡ codes "(1:*5:range5:alpha2:ge1:b1:l1:m)"
+unfolding verbatim decimal
+written-range = refl

@@ -1,0 +1,328 @@
+-- Which tags are written as a value.
+use Rattle.std.proofs.Common.{◌≡◌, ℕ, ◌+◌, ◌≤◌, ◌<◌, true, false, List, [], ◌∷◌, ◌++◌, map, Option, Some, refl, sym, ap, ◌∙◌, subst, arith, append_assoc}
+use Rattle.std.specs.Prelude.{codes}
+use Rattle.std.proofs.lemmas.List.{map_push, append-nil}
+use Rattle.sexpr_core.specs.Value as value
+use Rattle.sexpr_core.specs.Value.{Value, Values, plain, values, group}
+use Rattle.spki_tag.specs.declared.fault.TagFault.{TagFault}
+use Rattle.spki_tag.specs.declared.fault.TagFault.TheVariants as faults
+use Rattle.spki_tag.specs.Request.{IsHead}
+use Rattle.spki_tag.proofs.OneTag.{tag_only}
+use Rattle.spki_tag.proofs.Weight.{weight, weights, weight_le-weights}
+use Rattle.spki_tag.specs.Tag.{Tag, Tags, tags, star, string, prefix, range, list, set, none, more, IsTag, AreTags, tag_value, tag_values, nodes, nodes_all, is_normal, each_normal, is_nothing, IsNormalTag}
+use Rattle.spki_tag.specs.Read.{IsPlain, ArePlain, RulesOut, ReadsAs, IsNoTagAfter, AreNoTagsAfter, IsRead, AreRead, IsNoHead, IsHinted, most_read}
+
+-- ---- the forms
+
+-- a list that doesn't begin with the star is a plain list
+pub list_shape : (w : Tag) (head : List ℕ) (vs : Values) → IsHead head → tag_value w ≡ value.list (value.more (plain head) vs) → (ws : Tags) × (w ≡ list head ws) × (tag_values ws ≡ vs)
+list_shape star head vs h e = absurd (h (sym cc))
+list_shape (string octets) head vs h e = absurd cc
+list_shape (prefix octets) head vs h e = absurd (h (sym cc))
+list_shape (range ordering low up) head vs h e = absurd (h (sym cc))
+list_shape (list other ws) head vs h e = (ws, ap (λ x. list x ws) cc, cc)
+list_shape (set ws) head vs h e = absurd (h (sym cc))
+
+-- no tag is a string with a display hint
+pub hinted_is_none : (w : Tag) (hint octets : List ℕ) → tag_value w ≡ value.string (Some hint) octets → ⊥
+hinted_is_none star hint octets e = cc
+hinted_is_none (string s) hint octets e = cc
+hinted_is_none (prefix s) hint octets e = cc
+hinted_is_none (range ordering low up) hint octets e = cc
+hinted_is_none (list head ws) hint octets e = cc
+hinted_is_none (set ws) hint octets e = cc
+
+-- no tag is a list without members
+pub empty_is_none : (w : Tag) → tag_value w ≡ value.list value.none → ⊥
+empty_is_none star e = cc
+empty_is_none (string s) e = cc
+empty_is_none (prefix s) e = cc
+empty_is_none (range ordering low up) e = cc
+empty_is_none (list head ws) e = cc
+empty_is_none (set ws) e = cc
+
+-- no tag is a list that begins with a list
+pub headed_is_none : (w : Tag) (us vs : Values) → tag_value w ≡ value.list (value.more (value.list us) vs) → ⊥
+headed_is_none star us vs e = cc
+headed_is_none (string s) us vs e = cc
+headed_is_none (prefix s) us vs e = cc
+headed_is_none (range ordering low up) us vs e = cc
+headed_is_none (list head ws) us vs e = cc
+headed_is_none (set ws) us vs e = cc
+
+-- no tag is a list that begins with a display hint
+pub hinted_head_is_none : (w : Tag) (hint octets : List ℕ) (vs : Values) → tag_value w ≡ value.list (value.more (value.string (Some hint) octets) vs) → ⊥
+hinted_head_is_none star hint octets vs e = cc
+hinted_head_is_none (string s) hint octets vs e = cc
+hinted_head_is_none (prefix s) hint octets vs e = cc
+hinted_head_is_none (range ordering low up) hint octets vs e = cc
+hinted_head_is_none (list head ws) hint octets vs e = cc
+hinted_head_is_none (set ws) hint octets vs e = cc
+
+-- no tag has a display hint behind the star
+pub hinted_form_is_none : (w : Tag) (hint octets : List ℕ) (vs : Values) → IsTag w → tag_value w ≡ value.list (value.more (plain (codes "*")) (value.more (value.string (Some hint) octets) vs)) → ⊥
+hinted_form_is_none star hint octets vs h e = cc
+hinted_form_is_none (string s) hint octets vs h e = cc
+hinted_form_is_none (prefix s) hint octets vs h e = cc
+hinted_form_is_none (range ordering low up) hint octets vs h e = cc
+hinted_form_is_none (list head ws) hint octets vs h e = h.0 cc
+hinted_form_is_none (set ws) hint octets vs h e = cc
+
+-- no tag that is read so far has anything behind the star
+pub form_is_not_plain : (w : Tag) (v : Value) (vs : Values) → IsTag w → IsPlain w → tag_value w ≡ value.list (value.more (plain (codes "*")) (value.more v vs)) → ⊥
+form_is_not_plain star v vs h p e = cc
+form_is_not_plain (string s) v vs h p e = cc
+form_is_not_plain (prefix s) v vs h p e = p
+form_is_not_plain (range ordering low up) v vs h p e = p
+form_is_not_plain (list head ws) v vs h p e = h.0 cc
+form_is_not_plain (set ws) v vs h p e = p
+
+-- ---- plain tags are in normal form
+
+plain_is_something : (t : Tag) → IsPlain t → is_nothing t ≡ false
+plain_is_something star p = refl
+plain_is_something (string octets) p = refl
+plain_is_something (prefix octets) p = refl
+plain_is_something (range ordering low up) p = refl
+plain_is_something (list head ts) p = refl
+plain_is_something (set members) p = absurd p
+
+mutual
+  pub plain_is_normal : (t : Tag) → IsPlain t → is_normal t ≡ true
+  plain_is_normal star p = refl
+  plain_is_normal (string octets) p = refl
+  plain_is_normal (prefix octets) p = refl
+  plain_is_normal (range ordering low up) p = refl
+  plain_is_normal (list head ts) p = plain_are_normal ts p
+  plain_is_normal (set members) p = absurd p
+
+  plain_are_normal : (ts : Tags) → ArePlain ts → each_normal is_nothing ts ≡ true
+  plain_are_normal none p = refl
+  plain_are_normal (more t ts) p = rw (plain_is_something t p.0, plain_is_normal t p.0, plain_are_normal ts p.1) refl
+
+-- the list with these members is a tag of the type's
+pub list_is_normal : (head : List ℕ) (ts : List Tag) → IsHead head → ArePlain (tags ts) → AreTags (tags ts) → 2 + nodes_all (tags ts) ≤ most_read → IsNormalTag (list head (tags ts))
+list_is_normal head ts h p k few = record { written = (h, k); normal = plain_are_normal (tags ts) p; few = omega arith }
+
+-- what was read as a plain tag was read as itself
+pub reads_as : (v : Value) (t : Tag) (after : ℕ) → IsRead 0 v t after → ReadsAs v t
+reads_as v t after r = record {
+  w = t;
+  written = r.written;
+  spelled = r.spelled;
+  few = omega (arith, r.counted, r.few);
+  normal = plain_is_normal t r.plain;
+  tag = r.written;
+  same = λ g. refl;
+  no_more = omega arith;
+}
+
+-- ---- the members of a list, one after the other
+
+pub ArePlain-push : (ts : List Tag) (t : Tag) → ArePlain (tags ts) → IsPlain t → ArePlain (tags (ts ++ t ∷ []))
+ArePlain-push [] t p q = (q, tt)
+ArePlain-push (u ∷ ts) t p q = (p.0, ArePlain-push ts t p.1 q)
+
+pub AreTags-push : (ts : List Tag) (t : Tag) → AreTags (tags ts) → IsTag t → AreTags (tags (ts ++ t ∷ []))
+AreTags-push [] t p q = (q, tt)
+AreTags-push (u ∷ ts) t p q = (p.0, AreTags-push ts t p.1 q)
+
+pub nodes_all-push : (ts : List Tag) (t : Tag) → nodes_all (tags (ts ++ t ∷ [])) ≡ nodes_all (tags ts) + nodes t
+nodes_all-push [] t = omega arith
+nodes_all-push (u ∷ ts) t = omega (arith, nodes_all-push ts t)
+
+pub tag_values-tags : (ts : List Tag) → tag_values (tags ts) ≡ values (map tag_value ts)
+tag_values-tags [] = refl
+tag_values-tags (t ∷ ts) = ap (value.more (tag_value t)) (tag_values-tags ts)
+
+RulesOut-less : (fault : TagFault) (P Q : Type 0) → (P → Q) → RulesOut fault P → RulesOut fault Q
+RulesOut-less faults.EmptyList P Q f r = r
+RulesOut-less faults.ListHead P Q f r = r
+RulesOut-less faults.Hint P Q f r = r
+RulesOut-less faults.UnknownStar P Q f r = f r
+RulesOut-less faults.RangeOrdering P Q f r = r
+RulesOut-less faults.RangeLimit P Q f r = r
+RulesOut-less faults.TooManyNodes P Q f r = r
+RulesOut-less faults.StarInRequest P Q f r = r
+RulesOut-less faults.Memory P Q f r = r
+
+-- Behind members that were read, tags that are written as the whole list go on as the rest.
+rest_of : (fault : TagFault) (ts : List Tag) (rest : List Value) (ws : Tags) → AreTags (tags ts) → AreTags ws → RulesOut fault (ArePlain ws) → tag_values ws ≡ values (map tag_value ts ++ rest)
+    → (us : Tags) × AreTags us × RulesOut fault (ArePlain us) × (tag_values us ≡ values rest) × (nodes_all (tags ts) + nodes_all us ≡ nodes_all ws)
+rest_of fault [] rest ws h k r e = (ws, k, r, e, omega arith)
+rest_of fault (t ∷ ts) rest none h k r e = absurd cc
+rest_of fault (t ∷ ts) rest (more w ws) h k r e =
+    let same : w ≡ t = tag_only t w h.0 k.0 cc in
+    let others = rest_of fault ts rest ws h.1 k.1 (RulesOut-less fault (ArePlain (more w ws)) (ArePlain ws) (λ x. x.1) r) cc in
+    (others.0, others.1, others.2, others.3, omega (arith, others.4, ap nodes same))
+
+-- a member that is no tag
+pub member_refused : (fault : TagFault) (used before : ℕ) (ts : List Tag) (v : Value) (vs : List Value) → AreTags (tags ts) → before ≡ used + nodes_all (tags ts)
+    → IsNoTagAfter before fault v → AreNoTagsAfter used fault (map tag_value ts ++ v ∷ vs)
+member_refused fault used before ts v vs h counted refused ws k few e r =
+    first_refused (rest_of fault ts (v ∷ vs) ws h k r e)
+  where
+    first_refused : (us : Tags) × AreTags us × RulesOut fault (ArePlain us) × (tag_values us ≡ values (v ∷ vs)) × (nodes_all (tags ts) + nodes_all us ≡ nodes_all ws) → ⊥
+    first_refused (none, written, ruled, spelled, sum) = cc
+    first_refused (more u us, written, ruled, spelled, sum) =
+        refused u written.0 (omega (arith, sum, counted, few)) (cc) (RulesOut-less fault (ArePlain (more u us)) (IsPlain u) (λ x. x.0) ruled)
+
+-- ---- faults
+
+nodes-positive : (t : Tag) → 0 < nodes t
+nodes-positive star = omega arith
+nodes-positive (string octets) = omega arith
+nodes-positive (prefix octets) = omega arith
+nodes-positive (range ordering low up) = omega arith
+nodes-positive (list head ts) = omega arith
+nodes-positive (set members) = omega arith
+
+-- there is no room for one node more
+pub no_room : (used : ℕ) (v : Value) → most_read ≤ used → IsNoTagAfter used faults.TooManyNodes v
+no_room used v full w k few e r = omega (arith, nodes-positive w, few, full)
+
+-- a list whose head is one node too many
+pub no_room_for_head : (used : ℕ) (head : List ℕ) (vs : Values) → IsHead head → most_read ≤ used + 1 → IsNoTagAfter used faults.TooManyNodes (value.list (value.more (plain head) vs))
+no_room_for_head used head vs h full w k few e r =
+    let s = list_shape w head vs h e in
+    let n : nodes w ≡ 2 + nodes_all s.0 = ap nodes s.1 in
+    omega (arith, n, few, full)
+
+-- a list with members that are no tags
+pub list_refused : (fault : TagFault) (used : ℕ) (head : List ℕ) (vs : List Value) → IsHead head → AreNoTagsAfter (used + 2) fault vs → IsNoTagAfter used fault (value.list (value.more (plain head) (values vs)))
+list_refused fault used head vs h refused w k few e r =
+    let s = list_shape w head (values vs) h e in
+    let n : nodes w ≡ 2 + nodes_all s.0 = ap nodes s.1 in
+    refused s.0 (subst IsTag s.1 k).1 (omega (arith, n, few)) s.2 (subst (λ x. RulesOut fault (IsPlain x)) s.1 r)
+
+pub hinted_refused : (used : ℕ) (hint octets : List ℕ) → IsNoTagAfter used faults.Hint (value.string (Some hint) octets)
+hinted_refused used hint octets w k few e r = hinted_is_none w hint octets e
+
+pub empty_refused : (used : ℕ) → IsNoTagAfter used faults.EmptyList (value.list value.none)
+empty_refused used w k few e r = empty_is_none w e
+
+pub headed_refused : (used : ℕ) (us vs : Values) → IsNoTagAfter used faults.ListHead (value.list (value.more (value.list us) vs))
+headed_refused used us vs w k few e r = headed_is_none w us vs e
+
+pub hinted_head_refused : (used : ℕ) (hint octets : List ℕ) (vs : Values) → IsNoTagAfter used faults.Hint (value.list (value.more (value.string (Some hint) octets) vs))
+hinted_head_refused used hint octets vs w k few e r = hinted_head_is_none w hint octets vs e
+
+pub hinted_form_refused : (used : ℕ) (hint octets : List ℕ) (vs : Values) → IsNoTagAfter used faults.Hint (value.list (value.more (plain (codes "*")) (value.more (value.string (Some hint) octets) vs)))
+hinted_form_refused used hint octets vs w k few e r = hinted_form_is_none w hint octets vs k e
+
+pub form_refused : (used : ℕ) (v : Value) (vs : Values) → IsNoTagAfter used faults.UnknownStar (value.list (value.more (plain (codes "*")) (value.more v vs)))
+form_refused used v vs w k few e r = form_is_not_plain w v vs k r e
+
+-- want of memory refuses no tag
+pub memory_refused : (fault : TagFault) (used : ℕ) (v : Value) → fault ≡ faults.Memory → IsNoTagAfter used fault v
+memory_refused fault used v e w k few spelled r = subst (λ f. RulesOut f (IsPlain w)) e r
+
+pub memory_refused_all : (fault : TagFault) (used : ℕ) (vs : List Value) → fault ≡ faults.Memory → AreNoTagsAfter used fault vs
+memory_refused_all fault used vs e ws k few spelled r = subst (λ f. RulesOut f (ArePlain ws)) e r
+
+-- ---- what is behind the star
+
+pub starred_hinted : (used : ℕ) (v : Value) (further vs : List Value) → further ≡ v ∷ vs → IsHinted v → IsNoTagAfter used faults.Hint (group (plain (codes "*") ∷ further))
+starred_hinted used v further vs e h =
+    subst (λ us. IsNoTagAfter used faults.Hint (group (plain (codes "*") ∷ us))) (sym e)
+    (subst (λ x. IsNoTagAfter used faults.Hint (group (plain (codes "*") ∷ x ∷ vs))) (sym h.2) (hinted_form_refused used h.0 h.1 (values vs)))
+
+pub starred_other : (used : ℕ) (v : Value) (further vs : List Value) → further ≡ v ∷ vs → IsNoTagAfter used faults.UnknownStar (group (plain (codes "*") ∷ further))
+starred_other used v further vs e =
+    subst (λ us. IsNoTagAfter used faults.UnknownStar (group (plain (codes "*") ∷ us))) (sym e) (form_refused used v (values vs))
+
+-- ---- heads
+
+pub no_head_refused : (used : ℕ) (fault : TagFault) (v : Value) (vs : List Value) → IsNoHead fault v → IsNoTagAfter used fault (group (v ∷ vs))
+no_head_refused used faults.ListHead v vs h = subst (λ x. IsNoTagAfter used faults.ListHead (group (x ∷ vs))) (sym h.1) (headed_refused used h.0 (values vs))
+no_head_refused used faults.Hint v vs h = subst (λ x. IsNoTagAfter used faults.Hint (group (x ∷ vs))) (sym h.2) (hinted_head_refused used h.0 h.1 (values vs))
+no_head_refused used faults.EmptyList v vs h = absurd h
+no_head_refused used faults.UnknownStar v vs h = absurd h
+no_head_refused used faults.RangeOrdering v vs h = absurd h
+no_head_refused used faults.RangeLimit v vs h = absurd h
+no_head_refused used faults.TooManyNodes v vs h = absurd h
+no_head_refused used faults.StarInRequest v vs h = absurd h
+no_head_refused used faults.Memory v vs h = absurd h
+
+-- ---- the loop over the members
+
+-- the members so far were read as plain tags, and these are left
+pub record IsReadSoFar (used : ℕ) (vs : List Value) (ts : List Tag) (counted : ℕ) (left : List Value) : Type 0 where
+  pub plain : ArePlain (tags ts)
+  pub written : AreTags (tags ts)
+  pub spelled : map tag_value ts ++ left ≡ vs
+  pub sum : counted ≡ used + nodes_all (tags ts)
+  pub few : counted ≤ most_read
+
+pub so_far_start : (used : ℕ) (vs : List Value) → used ≤ most_read → IsReadSoFar used vs [] used vs
+so_far_start used vs few = record { plain = tt; written = tt; spelled = refl; sum = omega arith; few = few }
+
+pub so_far_push : (used counted after : ℕ) (vs left further : List Value) (ts : List Tag) (v : Value) (t : Tag) → IsReadSoFar used vs ts counted left → left ≡ v ∷ further → IsRead counted v t after
+    → IsReadSoFar used vs (ts ++ t ∷ []) after further
+so_far_push used counted after vs left further ts v t so_far e r = record {
+  plain = ArePlain-push ts t so_far.plain r.plain;
+  written = AreTags-push ts t so_far.written r.written;
+  spelled =
+      ap (λ (us : List Value). us ++ further) (map_push tag_value ts t) ∙ append_assoc (map tag_value ts) (tag_value t ∷ []) further
+      ∙ ap (λ (x : Value). map tag_value ts ++ x ∷ further) r.spelled ∙ ap (λ (us : List Value). map tag_value ts ++ us) (sym e) ∙ so_far.spelled;
+  sum = omega (arith, r.counted, so_far.sum, nodes_all-push ts t);
+  few = r.few;
+}
+
+pub so_far_end : (used counted : ℕ) (vs left : List Value) (ts : List Tag) → IsReadSoFar used vs ts counted left → left ≡ [] → AreRead used vs ts counted
+so_far_end used counted vs left ts so_far e = record {
+  plain = so_far.plain;
+  written = so_far.written;
+  spelled = sym (append-nil (map tag_value ts)) ∙ ap (λ (us : List Value). map tag_value ts ++ us) (sym e) ∙ so_far.spelled;
+  counted = so_far.sum;
+  few = so_far.few;
+}
+
+pub so_far_refused : (fault : TagFault) (used counted : ℕ) (vs left further : List Value) (ts : List Tag) (v : Value) → IsReadSoFar used vs ts counted left → left ≡ v ∷ further → IsNoTagAfter counted fault v
+    → AreNoTagsAfter used fault vs
+so_far_refused fault used counted vs left further ts v so_far e refused =
+    subst (AreNoTagsAfter used fault) (ap (λ (us : List Value). map tag_value ts ++ us) (sym e) ∙ so_far.spelled)
+    (member_refused fault used counted ts v further so_far.written so_far.sum refused)
+
+-- a list of members that were read
+pub list_is_read : (used after : ℕ) (head : List ℕ) (vs : List Value) (ts : List Tag) → IsHead head → AreRead (used + 2) vs ts after → IsRead used (group (plain head ∷ vs)) (list head (tags ts)) after
+list_is_read used after head vs ts h r = record {
+  plain = r.plain;
+  written = (h, r.written);
+  spelled = ap (λ us. value.list (value.more (plain head) us)) (tag_values-tags ts ∙ ap values r.spelled);
+  counted = omega (arith, r.counted);
+  few = r.few;
+}
+
+pub list_is_in_normal_form : (used after : ℕ) (head : List ℕ) (vs : List Value) (ts : List Tag) → IsHead head → AreRead (used + 2) vs ts after → IsNormalTag (list head (tags ts))
+list_is_in_normal_form used after head vs ts h r = list_is_normal head ts h r.plain r.written (omega (arith, r.counted, r.few))
+
+pub string_is_read : (used : ℕ) (octets : List ℕ) → used < most_read → IsRead used (plain octets) (string octets) (used + 1)
+string_is_read used octets room = record { plain = tt; written = tt; spelled = refl; counted = refl; few = omega arith }
+
+pub star_is_read : (used : ℕ) (further : List Value) → used < most_read → further ≡ [] → IsRead used (group (plain (codes "*") ∷ further)) star (used + 1)
+star_is_read used further room e = record { plain = tt; written = tt; spelled = ap (λ us. group (plain (codes "*") ∷ us)) (sym e); counted = refl; few = omega arith }
+
+pub list_no_head : (used : ℕ) (fault : TagFault) (members : List Value) (v : Value) (vs : List Value) → members ≡ v ∷ vs → IsNoHead fault v → IsNoTagAfter used fault (group members)
+list_no_head used fault members v vs e h = subst (λ us. IsNoTagAfter used fault (group us)) (sym e) (no_head_refused used fault v vs h)
+
+pub list_empty : (used : ℕ) (members : List Value) → members ≡ [] → IsNoTagAfter used faults.EmptyList (group members)
+list_empty used members e = subst (λ us. IsNoTagAfter used faults.EmptyList (group us)) (sym e) (empty_refused used)
+
+-- a member that is left weighs no more than all
+pub so_far_weight : (used counted : ℕ) (vs left further : List Value) (ts : List Tag) (v : Value) → IsReadSoFar used vs ts counted left → left ≡ v ∷ further → weight v ≤ weights (values vs)
+so_far_weight used counted vs left further ts v so_far e =
+    subst (λ us. weight v ≤ weights (values us)) (ap (λ (us : List Value). map tag_value ts ++ us) (sym e) ∙ so_far.spelled) (weight_le-weights (map tag_value ts) v further)
+
+-- ---- writing
+
+-- a list is written by its head and its members
+pub list_written : (head : List ℕ) (ts : List Tag) (v : Value) (front out : List Value) → v ≡ group out → out ≡ front ++ map tag_value ts → front ≡ plain head ∷ [] → v ≡ tag_value (list head (tags ts))
+list_written head ts v front out e f g =
+    e ∙ ap group (f ∙ ap (λ (us : List Value). us ++ map tag_value ts) g) ∙ ap (λ us. value.list (value.more (plain head) us)) (sym (tag_values-tags ts))
+
+-- a set is written by the star, its word and its members
+pub set_written : (ts : List Tag) (v : Value) (front out : List Value) → v ≡ group out → out ≡ front ++ map tag_value ts → front ≡ plain (codes "*") ∷ plain (codes "set") ∷ [] → v ≡ tag_value (set (tags ts))
+set_written ts v front out e f g =
+    e ∙ ap group (f ∙ ap (λ (us : List Value). us ++ map tag_value ts) g)
+    ∙ ap (λ us. value.list (value.more (plain (codes "*")) (value.more (plain (codes "set")) us))) (sym (tag_values-tags ts))

@@ -1,0 +1,5 @@
+use Rattle.spki_tag.proofs.Requests.{request_only}
+use Rattle.spki_tag.proofs.laws.one_request.Goals as goal
+
+pub returns : goal.returns
+returns c = request_only

@@ -1,0 +1,23 @@
+-- What a leaf is seen as.
+use Rattle.std.specs.Prelude.{ℕ, Option, Some, None}
+use Rattle.spki_tag.specs.declared.leaf.RangeOrdering.{RangeOrdering}
+use Rattle.spki_tag.specs.declared.leaf.RangeOrdering.TheVariants as orderings
+use Rattle.spki_tag.specs.declared.leaf.Limit as source
+use Rattle.spki_tag.specs.declared.leaf.Leaf.{Leaf}
+use Rattle.spki_tag.specs.declared.leaf.Leaf.TheVariants as leaves
+use Rattle.spki_tag.specs.Tag.{Tag, Limit, Ordering, alpha, time, date, star, string, prefix, range}
+
+abbrev pub ordering_of : RangeOrdering → Ordering
+ordering_of orderings.Alpha = alpha
+ordering_of orderings.Time = time
+ordering_of orderings.Date = date
+
+abbrev pub limit_of : Option source.Limit → Option Limit
+limit_of None = None
+limit_of (Some limit) = Some (record { strict = limit.strict; octets = limit.octets.items })
+
+abbrev pub leaf_tag : Leaf → Tag
+leaf_tag leaves.Star = star
+leaf_tag (leaves.String octets) = string octets.items
+leaf_tag (leaves.Prefix octets) = prefix octets.items
+leaf_tag (leaves.Range ordering low up) = range (ordering_of ordering) (limit_of low) (limit_of up)

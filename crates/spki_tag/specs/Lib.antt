@@ -1,0 +1,10 @@
+pub mod Time
+pub mod Request
+pub mod Tag
+pub mod Read
+pub mod Codes
+pub mod Leaves
+pub mod Nodes
+pub mod NodeFalls
+pub mod Asks
+pub mod AskFalls

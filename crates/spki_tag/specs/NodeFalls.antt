@@ -1,0 +1,18 @@
+-- Each member has fewer nodes than what it is in.
+use Rattle.std.specs.Prelude.{ℕ, ◌+◌, ◌≤◌, max, List, [], ◌∷◌}
+use Rattle.std.proofs.Common.{arith}
+use denote.Param.Weighed.{most}
+use Rattle.spki_tag.specs.declared.tag.Node.{Node}
+use Rattle.spki_tag.specs.declared.tag.Node.TheVariants as source
+use Rattle.spki_tag.specs.declared.tag.Tag.TheDeep.{deep-Node}
+use Rattle.spki_tag.specs.Tag.{Tag, tags, nodes, nodes_all}
+use Rattle.spki_tag.specs.Nodes.{node_tag}
+
+pub most_le-nodes_all : (ts : List Tag) → most (λ t. nodes t + 1) ts ≤ nodes_all (tags ts) + 1
+most_le-nodes_all [] = omega arith
+most_le-nodes_all (t ∷ ts) = omega (arith, most_le-nodes_all ts)
+
+pub deep_le-nodes : (n : Node) → max (deep-Node n) 0 ≤ nodes (node_tag n)
+deep_le-nodes (source.Leaf leaf) = omega arith
+deep_le-nodes (source.List head further) = omega (arith, most_le-nodes_all further.items)
+deep_le-nodes (source.Set members) = omega (arith, most_le-nodes_all members.items)

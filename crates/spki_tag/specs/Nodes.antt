@@ -1,0 +1,10 @@
+-- What a node of a tag is seen as.
+use Rattle.spki_tag.specs.declared.tag.Node.{Node}
+use Rattle.spki_tag.specs.declared.tag.Node.TheVariants.{Leaf, List, Set}
+use Rattle.spki_tag.specs.Tag.{Tag, tags, list, set}
+use Rattle.spki_tag.specs.Leaves.{leaf_tag}
+
+abbrev pub node_tag : Node → Tag
+node_tag (Leaf leaf) = leaf_tag leaf
+node_tag (List head further) = list head.items (tags further.items)
+node_tag (Set members) = set (tags members.items)

@@ -1,0 +1,230 @@
+-- Tags as they are written, and the requests that they contain (RFC 2693, section 6.3.1).
+use Rattle.std.specs.Prelude.{◌≡◌, ℕ, ◌+◌, ◌≤◌, max, List, [], ◌∷◌, ◌++◌, Option, Some, None, Bool, true, false, ◌&&◌, ◌||◌, codes, not, nat_eq, if◌then◌else◌}
+use Rattle.std.specs.Ordering.{nat_cmp, is_lt, is_le}
+use Rattle.std.specs.Cmp.Lexicographic.{slice_cmp}
+use Rattle.std.specs.List.{starts_with}
+use Rattle.std.specs.Str.{bytes_eq}
+use Rattle.sexpr_core.specs.Value as value
+use Rattle.sexpr_core.specs.Value.{Value, Values, plain, group}
+use Rattle.spki_tag.specs.Time.{is_time, is_date}
+use Rattle.spki_tag.specs.Request as request
+use Rattle.spki_tag.specs.Request.{Request, Requests, IsHead}
+
+-- ---- what tags are
+
+-- which strings a range holds at all
+pub data Ordering : Type 0 where
+  alpha : Ordering
+  time : Ordering
+  date : Ordering
+
+-- a limit of a range: the string itself is out of it (strict), or in it
+pub record Limit : Type 0 where
+  pub strict : Bool
+  pub octets : List ℕ
+
+mutual
+  pub data Tag : Type 0 where
+    -- (*)
+    star : Tag
+    -- a string
+    string : List ℕ → Tag
+    -- (* prefix p)
+    prefix : List ℕ → Tag
+    -- (* range ordering low? up?)
+    range : Ordering → Option Limit → Option Limit → Tag
+    -- (head t ..)
+    list : List ℕ → Tags → Tag
+    -- (* set t ..)
+    set : Tags → Tag
+
+  pub data Tags : Type 0 where
+    none : Tags
+    more : Tag → Tags → Tags
+
+-- the tags of a list, in order
+abbrev pub tags : List Tag → Tags
+tags [] = none
+tags (t ∷ ts) = more t (tags ts)
+
+abbrev mutual
+  -- A plain list doesn't begin with the star.
+  pub IsTag : Tag → Type 0
+  IsTag star = Unit {0}
+  IsTag (string octets) = Unit {0}
+  IsTag (prefix octets) = Unit {0}
+  IsTag (range ordering low up) = Unit {0}
+  IsTag (list head further) = IsHead head × AreTags further
+  IsTag (set members) = AreTags members
+
+  pub AreTags : Tags → Type 0
+  AreTags none = Unit {0}
+  AreTags (more t ts) = IsTag t × AreTags ts
+
+-- ---- how tags are written
+
+abbrev pub ordering_name : Ordering → List ℕ
+ordering_name alpha = codes "alpha"
+ordering_name time = codes "time"
+ordering_name date = codes "date"
+
+-- a limit behind its word, of which there is one for a strict limit and one for another
+abbrev pub limit_values : List ℕ → List ℕ → Option Limit → List Value
+limit_values above from None = []
+limit_values above from (Some limit) = plain (if limit.strict then above else from) ∷ plain limit.octets ∷ []
+
+-- g s, above s; ge s, at least s
+abbrev pub low_values : Option Limit → List Value
+low_values limit = limit_values (codes "g") (codes "ge") limit
+
+-- l s, below s; le s, at most s
+abbrev pub up_values : Option Limit → List Value
+up_values limit = limit_values (codes "l") (codes "le") limit
+
+-- a list that begins with the star and a word
+abbrev pub starred : List ℕ → Values → Value
+starred word further = value.list (value.more (plain (codes "*")) (value.more (plain word) further))
+
+abbrev mutual
+  -- the S-expression that a tag is written as
+  pub tag_value : Tag → Value
+  tag_value star = group (plain (codes "*") ∷ [])
+  tag_value (string octets) = plain octets
+  tag_value (prefix octets) = starred (codes "prefix") (value.values (plain octets ∷ []))
+  tag_value (range ordering low up) = starred (codes "range") (value.values (plain (ordering_name ordering) ∷ (low_values low ++ up_values up)))
+  tag_value (list head further) = value.list (value.more (plain head) (tag_values further))
+  tag_value (set members) = starred (codes "set") (tag_values members)
+
+  pub tag_values : Tags → Values
+  tag_values none = value.none
+  tag_values (more t ts) = value.more (tag_value t) (tag_values ts)
+
+-- ---- what tags contain
+
+-- Strings are compared octet by octet, a proper prefix being the lesser: below, or where the limit isn't strict
+-- equal to it.
+abbrev pub is_within : Bool → List ℕ → List ℕ → Bool
+is_within strict x y = if strict then is_lt (slice_cmp nat_cmp x y) else is_le (slice_cmp nat_cmp x y)
+
+abbrev pub is_above : Option Limit → List ℕ → Bool
+is_above None octets = true
+is_above (Some limit) octets = is_within limit.strict limit.octets octets
+
+abbrev pub is_below : Option Limit → List ℕ → Bool
+is_below None octets = true
+is_below (Some limit) octets = is_within limit.strict octets limit.octets
+
+-- the strings that an ordering is of
+abbrev pub is_ordered : Ordering → List ℕ → Bool
+is_ordered alpha octets = true
+is_ordered time octets = is_time octets
+is_ordered date octets = is_date octets
+
+abbrev mutual
+  -- Whether a request is in a tag. A list of a tag has requests that are at least as long: each member of the
+  -- tag holds its place, and what is missing at the end of the tag is not restricted.
+  pub contains : Tag → Request → Bool
+  contains star g = true
+  contains (string octets) (request.string asked) = bytes_eq octets asked
+  contains (string octets) (request.list head further) = false
+  contains (prefix octets) (request.string asked) = starts_with nat_eq asked octets
+  contains (prefix octets) (request.list head further) = false
+  contains (range ordering low up) (request.string asked) = is_ordered ordering asked && is_above low asked && is_below up asked
+  contains (range ordering low up) (request.list head further) = false
+  contains (list head further) (request.string asked) = false
+  contains (list head further) (request.list asked others) = bytes_eq head asked && contain_each further others
+  contains (set members) g = some_contains members g
+
+  -- each tag contains the request in its place
+  pub contain_each : Tags → Requests → Bool
+  contain_each none gs = true
+  contain_each (more t ts) request.none = false
+  contain_each (more t ts) (request.more g gs) = contains t g && contain_each ts gs
+
+  -- some tag contains the request
+  pub some_contains : Tags → Request → Bool
+  some_contains none g = false
+  some_contains (more t ts) g = contains t g || some_contains ts g
+
+-- ---- measures
+
+abbrev mutual
+  -- how many nodes a tag has: a list counts one for itself and one for its head
+  pub nodes : Tag → ℕ
+  nodes star = 1
+  nodes (string octets) = 1
+  nodes (prefix octets) = 1
+  nodes (range ordering low up) = 1
+  nodes (list head further) = 2 + nodes_all further
+  nodes (set members) = 1 + nodes_all members
+
+  pub nodes_all : Tags → ℕ
+  nodes_all none = 0
+  nodes_all (more t ts) = nodes t + nodes_all ts
+
+abbrev mutual
+  -- plain lists one inside another at the deepest place
+  pub ldepth : Tag → ℕ
+  ldepth star = 0
+  ldepth (string octets) = 0
+  ldepth (prefix octets) = 0
+  ldepth (range ordering low up) = 0
+  ldepth (list head further) = 1 + ldepth_most further
+  ldepth (set members) = ldepth_most members
+
+  pub ldepth_most : Tags → ℕ
+  ldepth_most none = 0
+  ldepth_most (more t ts) = max (ldepth t) (ldepth_most ts)
+
+-- ---- normal form
+
+-- a set has no member of its own kind, and no star
+abbrev pub is_set_or_star : Tag → Bool
+is_set_or_star star = true
+is_set_or_star (set members) = true
+is_set_or_star (string octets) = false
+is_set_or_star (prefix octets) = false
+is_set_or_star (range ordering low up) = false
+is_set_or_star (list head further) = false
+
+-- (* set), which contains no request
+abbrev pub is_nothing : Tag → Bool
+is_nothing (set none) = true
+is_nothing (set (more t ts)) = false
+is_nothing star = false
+is_nothing (string octets) = false
+is_nothing (prefix octets) = false
+is_nothing (range ordering low up) = false
+is_nothing (list head further) = false
+
+-- there isn't just one
+abbrev pub is_none_or_many : Tags → Bool
+is_none_or_many none = true
+is_none_or_many (more t none) = false
+is_none_or_many (more t (more u us)) = true
+
+abbrev mutual
+  -- Normal form: a set has no members or two at least, none of them a set or a star; a list has no member
+  -- (* set); and so at each level.
+  pub is_normal : Tag → Bool
+  is_normal star = true
+  is_normal (string octets) = true
+  is_normal (prefix octets) = true
+  is_normal (range ordering low up) = true
+  is_normal (list head further) = each_normal is_nothing further
+  is_normal (set members) = is_none_or_many members && each_normal is_set_or_star members
+
+  -- each is normal, and of none is it true
+  pub each_normal : (Tag → Bool) → Tags → Bool
+  each_normal is_barred none = true
+  each_normal is_barred (more t ts) = not (is_barred t) && is_normal t && each_normal is_barred ts
+
+-- the most nodes that a tag has
+abbrev pub most_nodes : ℕ
+most_nodes = 1000000
+
+-- a tag in normal form, of at most 1,000,000 nodes
+pub record IsNormalTag (t : Tag) : Type 0 where
+  pub written : IsTag t
+  pub normal : is_normal t ≡ true
+  pub few : nodes t ≤ most_nodes

@@ -1,0 +1,55 @@
+//! Why a tag or a request could not be read.
+
+ghost use Rattle.std.specs.Prelude.{◌≡◌};
+ghost use Rattle.spki_tag.specs.declared.fault.TagFault.TheVariants.{Memory};
+
+use std::alloc::{AllocError, AllocFailed};
+use thiserror::Error;
+
+/// What is wrong with a written tag or request: the first fault, depth first from the left.
+#[derive(Clone, Copy, Debug, PartialEq, Eq, Error)]
+pub enum TagFault {
+    /// A list without members.
+    #[error("a list without members")]
+    EmptyList,
+    /// A list whose first member is a list.
+    #[error("a list that begins with a list")]
+    ListHead,
+    /// A string with a display hint.
+    #[error("a display hint")]
+    Hint,
+    /// A list that begins with `*` and is no form of a tag that is read.
+    #[error("an unknown form behind a star")]
+    UnknownStar,
+    /// A range of another ordering than `alpha`, `time` and `date`.
+    #[error("an unknown ordering of a range")]
+    RangeOrdering,
+    /// Limits of a range other than at most a lower one and then at most an upper one.
+    #[error("malformed limits of a range")]
+    RangeLimit,
+    /// More than 1,024 nodes as written.
+    #[error("too many nodes")]
+    TooManyNodes,
+    /// A list in a request that begins with `*`.
+    #[error("a star in a request")]
+    StarInRequest,
+    /// Memory ran out.
+    #[error("out of memory")]
+    Memory,
+}
+
+impl From<AllocError> for TagFault {
+    ghost from_gives = { λ _ e. e ≡ Memory };
+
+    fn from(_e: AllocError) -> TagFault {
+        TagFault::Memory
+    }
+}
+
+impl<T: Drop> From<AllocFailed<T>> for TagFault {
+    ghost from_gives = { λ _ e. e ≡ Memory };
+
+    fn from(_e: AllocFailed<T>) -> TagFault {
+        TagFault::Memory
+    }
+}

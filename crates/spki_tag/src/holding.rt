@@ -1,0 +1,59 @@
+//! Whether a request is in a tag.
+
+ghost use Rattle.std.specs.Prelude.{◌≡◌};
+ghost use Rattle.spki_tag.specs.Request.{requests};
+ghost use Rattle.spki_tag.specs.Tag.{tags, contains, contain_each, some_contains};
+
+use crate::request::{Ask, Ground};
+use crate::tag::{Node, Tag};
+
+impl Tag {
+    /// Whether the tag contains a request (RFC 2693, section 6.3.1).
+    #[cycle(holds)]
+    pub fn holds(&self, request: &Ground) -> bool
+        ensures { result ≡ contains self.now request.now }
+    {
+        match &self.node {
+            Node::Leaf(leaf) => match &request.node {
+                Ask::String(octets) => leaf.holds(octets),
+                Ask::List(_, _) => leaf.holds_lists(),
+            },
+            Node::List(head, further) => match &request.node {
+                Ask::String(_) => false,
+                Ask::List(asked, others) => {
+                    head.as_slice() == asked.as_slice() && each_holds(further, others)
+                }
+            },
+            Node::Set(members) => some_holds(members, request),
+        }
+    }
+}
+
+/// Whether each tag contains the request in its place.
+#[cycle(holds)]
+fn each_holds(members: &[Tag], asked: &[Ground]) -> bool
+    ensures { result ≡ contain_each (tags members.now) (requests asked.now) }
+{
+    if asked.len() < members.len() {
+        return false;
+    }
+    for i in 0..members.len() {
+        if !members[i].holds(&asked[i]) {
+            return false;
+        }
+    }
+    true
+}
+
+/// Whether some tag contains the request.
+#[cycle(holds)]
+fn some_holds(members: &[Tag], request: &Ground) -> bool
+    ensures { result ≡ some_contains (tags members.now) request.now }
+{
+    for member in members {
+        if member.holds(request) {
+            return true;
+        }
+    }
+    false
+}

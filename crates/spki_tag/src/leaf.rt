@@ -1,0 +1,136 @@
+//! Tags without members (RFC 2693, section 6.3.1).
+
+ghost use Rattle.std.specs.Prelude.{◌≡◌, ℕ, List, IfOk};
+ghost use Rattle.spki_tag.specs.Leaves.{ordering_of, limit_of, leaf_tag};
+ghost use Rattle.spki_tag.specs.Request.{Requests, string, list};
+ghost use Rattle.spki_tag.specs.Tag.{contains, is_ordered, is_within, is_above, is_below};
+
+use crate::moment::{is_date, is_time};
+use std::alloc::AllocError;
+
+/// Which strings a range holds at all.
+#[derive(Clone, Copy, Debug, PartialEq, Eq)]
+pub(crate) enum RangeOrdering {
+    /// Any strings.
+    Alpha,
+    /// Times of day, `HH:MM:SS`.
+    Time,
+    /// Moments, `YYYY-MM-DD_HH:MM:SS`.
+    Date,
+}
+
+/// A limit of a range, which the range leaves out where it is strict.
+#[derive(Drop)]
+pub(crate) struct Limit {
+    pub(crate) strict: bool,
+    pub(crate) octets: Vec<u8>,
+}
+
+/// A tag without members.
+#[derive(Drop)]
+pub(crate) enum Leaf {
+    /// `(*)`.
+    Star,
+    /// A string.
+    String(Vec<u8>),
+    /// `(* prefix p)`.
+    Prefix(Vec<u8>),
+    /// `(* range ordering low? up?)`.
+    Range(RangeOrdering, Option<Limit>, Option<Limit>),
+}
+
+/// Whether a string is one of those that an ordering is of.
+fn is_ordered(ordering: RangeOrdering, octets: &[u8]) -> bool
+    ensures { result ≡ is_ordered (ordering_of ordering) octets.now }
+{
+    match ordering {
+        RangeOrdering::Alpha => true,
+        RangeOrdering::Time => is_time(octets),
+        RangeOrdering::Date => is_date(octets),
+    }
+}
+
+/// Whether `x` is below `y`, or equal to it where that isn't ruled out.
+fn is_within(strict: bool, x: &[u8], y: &[u8]) -> bool
+    ensures { result ≡ is_within strict x.now y.now }
+{
+    let order = x.cmp(y);
+    if strict { order.is_lt() } else { order.is_le() }
+}
+
+/// Whether a string is above the lower limit of a range.
+fn is_above(low: &Option<Limit>, octets: &[u8]) -> bool
+    ensures { result ≡ is_above (limit_of low.now) octets.now }
+{
+    match low {
+        None => true,
+        Some(limit) => is_within(limit.strict, limit.octets.as_slice(), octets),
+    }
+}
+
+/// Whether a string is below the upper limit of a range.
+fn is_below(up: &Option<Limit>, octets: &[u8]) -> bool
+    ensures { result ≡ is_below (limit_of up.now) octets.now }
+{
+    match up {
+        None => true,
+        Some(limit) => is_within(limit.strict, octets, limit.octets.as_slice()),
+    }
+}
+
+/// A copy of a limit.
+fn copied_limit(limit: &Option<Limit>) -> Result<Option<Limit>, AllocError>
+    ensures { IfOk result (λ copy. limit_of copy ≡ limit_of limit.now) }
+{
+    match limit {
+        None => Ok(None),
+        Some(limit) => Ok(Some(Limit {
+            strict: limit.strict,
+            octets: limit.octets.clone()?,
+        })),
+    }
+}
+
+impl Leaf {
+    /// Whether a request that is a string is in the tag.
+    pub(crate) fn holds(&self, octets: &[u8]) -> bool
+        ensures { result ≡ contains (leaf_tag self.now) (string octets.now) }
+    {
+        match self {
+            Leaf::Star => true,
+            Leaf::String(wanted) => wanted.as_slice() == octets,
+            Leaf::Prefix(prefix) => octets.starts_with(prefix.as_slice()),
+            Leaf::Range(ordering, low, up) => {
+                is_ordered(*ordering, octets) && is_above(low, octets) && is_below(up, octets)
+            }
+        }
+    }
+
+    /// Whether a request that is a list is in the tag.
+    pub(crate) fn holds_lists(&self) -> bool
+        ensures { (head : List ℕ) (further : Requests) → result ≡ contains (leaf_tag self.now) (list head further) }
+    {
+        match self {
+            Leaf::Star => true,
+            Leaf::String(_) => false,
+            Leaf::Prefix(_) => false,
+            Leaf::Range(_, _, _) => false,
+        }
+    }
+
+    /// A copy.
+    pub(crate) fn copy(&self) -> Result<Leaf, AllocError>
+        ensures { IfOk result (λ copy. leaf_tag copy ≡ leaf_tag self.now) }
+    {
+        match self {
+            Leaf::Star => Ok(Leaf::Star),
+            Leaf::String(octets) => Ok(Leaf::String(octets.clone()?)),
+            Leaf::Prefix(octets) => Ok(Leaf::Prefix(octets.clone()?)),
+            Leaf::Range(ordering, low, up) => Ok(Leaf::Range(
+                *ordering,
+                copied_limit(low)?,
+                copied_limit(up)?,
+            )),
+        }
+    }
+}

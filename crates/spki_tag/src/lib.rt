@@ -1,0 +1,19 @@
+//! Authorization tags and requests (RFC 2693, section 6.3.1).
+#![tactic(auto)]
+
+mod asking;
+mod fault;
+mod holding;
+mod laws;
+mod leaf;
+mod moment;
+mod reading;
+mod request;
+mod tag;
+mod writing;
+
+pub use fault::TagFault;
+pub use laws::{one_request, one_tag, readings_agree};
+pub use moment::{is_date, is_time};
+pub use request::Ground;
+pub use tag::Tag;

@@ -1,0 +1,144 @@
+//! Tags.
+
+ghost use Rattle.std.specs.Prelude.{◌≡◌, ◌≤◌, ◌↔◌, IsTrue, IfOk};
+ghost use Rattle.spki_tag.specs.Tag as spec;
+
+use crate::leaf::Leaf;
+use std::alloc::{AllocError, Global};
+use std::marker::Model;
+
+/// A tag: a set of requests, in normal form and of at most 1,000,000 nodes (RFC 2693, section 6.3.1).
+#[cycle(tag)]
+#[derive(Drop)]
+pub struct Tag {
+    pub(crate) node: Node,
+}
+
+#[cycle(tag)]
+#[derive(Drop)]
+pub(crate) enum Node {
+    Leaf(Leaf),
+    List(Vec<u8>, Vec<Tag>),
+    Set(Vec<Tag>),
+}
+
+impl Model for Tag {
+    ghost use Rattle.spki_tag.specs.Tag.{Tag as Written, IsNormalTag, nodes};
+    ghost use Rattle.spki_tag.specs.Codes.{tag_code};
+
+    ghost Value = { Written };
+
+    ghost coded = { tag_code };
+
+    ghost use Rattle.spki_tag.specs.Nodes.{node_tag};
+
+    ghost view = { λ a. node_tag a.node };
+
+    ghost invariant = { λ a. IsNormalTag (node_tag a.node) };
+
+    ghost size = { nodes };
+
+    ghost use Rattle.spki_tag.specs.NodeFalls.{deep_le-nodes};
+
+    ghost size_decreases = { λ a h. deep_le-nodes a.node };
+}
+
+impl Tag {
+    /// The tag `(*)`, which contains every request.
+    pub fn everything() -> Tag
+        ensures { result ≡ spec.star }
+    {
+        Tag {
+            node: Node::Leaf(Leaf::Star),
+        }
+    }
+
+    /// A string.
+    pub(crate) fn string(octets: Vec<u8>) -> Tag
+        ensures { result ≡ spec.string octets.items }
+    {
+        Tag {
+            node: Node::Leaf(Leaf::String(octets)),
+        }
+    }
+
+    /// A list of a head and further tags.
+    pub(crate) fn list(head: Vec<u8>, further: Vec<Tag>) -> Tag
+        requires { spec.IsNormalTag (spec.list head.items (spec.tags further.items)) }
+        ensures { result ≡ spec.list head.items (spec.tags further.items) }
+    {
+        Tag {
+            node: Node::List(head, further),
+        }
+    }
+
+    /// Whether this is `(* set)`, the tag that contains no request. Another tag may contain none too, as a range
+    /// whose limits exclude each other.
+    pub fn is_nothing(&self) -> bool
+        ensures { IsTrue result ↔ (self.now ≡ spec.set spec.none) }
+    {
+        match &self.node {
+            Node::Leaf(_) => false,
+            Node::List(_, _) => false,
+            Node::Set(members) => members.is_empty(),
+        }
+    }
+
+    /// How many nodes the tag has: a string, a prefix, a range and `(*)` are one, a list and a set are one and the
+    /// nodes of their members, among which a list's head is.
+    #[cycle(nodes)]
+    pub fn nodes(&self) -> usize
+        ensures { result ≡ spec.nodes self.now }
+    {
+        match &self.node {
+            Node::Leaf(_) => 1,
+            Node::List(_, further) => 2 + nodes_of(further),
+            Node::Set(members) => 1 + nodes_of(members),
+        }
+    }
+}
+
+/// How many nodes some tags have together.
+#[cycle(nodes)]
+fn nodes_of(members: &[Tag]) -> usize
+    requires { spec.nodes_all (spec.tags members.now) ≤ spec.most_nodes }
+    ensures { result ≡ spec.nodes_all (spec.tags members.now) }
+{
+    let mut sum = 0;
+    for member in members {
+        sum += member.nodes();
+    }
+    sum
+}
+
+/// A copy has the same value.
+impl Clone for Tag {
+    ghost is_clone = { λ t u. u ≡ t };
+
+    #[cycle(copy)]
+    fn clone(&self) -> Result<Tag, AllocError> {
+        match &self.node {
+            Node::Leaf(leaf) => Ok(Tag {
+                node: Node::Leaf(leaf.copy()?),
+            }),
+            Node::List(head, further) => Ok(Tag {
+                node: Node::List(head.clone()?, copies_of(*further.allocator(), further)?),
+            }),
+            Node::Set(members) => Ok(Tag {
+                node: Node::Set(copies_of(*members.allocator(), members)?),
+            }),
+        }
+    }
+}
+
+/// A copy of each tag, in order.
+#[cycle(copy)]
+fn copies_of(alloc: Global, members: &[Tag]) -> Result<Vec<Tag>, AllocError>
+    ensures { IfOk result (λ copies. copies.items ≡ members.now) }
+{
+    let mut copies = Vec::new(alloc);
+    for member in members {
+        copies.push(member.clone()?)?;
+    }
+    Ok(copies)
+}

@@ -1,0 +1,130 @@
+//! Writing tags as S-expressions.
+
+ghost use Rattle.std.specs.Prelude.{◌≡◌, ◌++◌, ◌∷◌, [], IfOk, OnOk, map, codes};
+ghost use Rattle.sexpr_core.specs.Value.{plain};
+ghost use Rattle.sexpr_core.specs.Tree.{sexp_value};
+ghost use Rattle.spki_tag.specs.Leaves.{ordering_of, limit_of, leaf_tag};
+ghost use Rattle.spki_tag.specs.Tag.{range, tag_value, ordering_name, limit_values};
+
+use crate::leaf::{Leaf, Limit, RangeOrdering};
+use crate::tag::{Node, Tag};
+use sexpr_core::Sexp;
+use std::alloc::{AllocError, Global};
+
+/// The members `*` and a word, with which a list begins that is no plain list.
+fn starred(alloc: Global, word: &[u8]) -> Result<Vec<Sexp>, AllocError>
+    ensures { IfOk result (λ out. map sexp_value out.items ≡ plain (codes "*") ∷ plain word.now ∷ []) }
+{
+    let mut out = Vec::new(alloc);
+    out.push(Sexp::plain(alloc, b"*")?)?;
+    out.push(Sexp::plain(alloc, word)?)?;
+    Ok(out)
+}
+
+/// The word for an ordering.
+fn ordering_name(ordering: RangeOrdering) -> &'static [u8]
+    ensures { result.now ≡ ordering_name (ordering_of ordering) }
+{
+    match ordering {
+        RangeOrdering::Alpha => b"alpha",
+        RangeOrdering::Time => b"time",
+        RangeOrdering::Date => b"date",
+    }
+}
+
+/// Adds a limit behind its word, of which there is one for a strict limit and one for another.
+fn push_limit(
+    alloc: Global,
+    out: &mut Vec<Sexp>,
+    limit: &Option<Limit>,
+    strict: &[u8],
+    inclusive: &[u8],
+) -> Result<(), AllocError>
+    ensures { OnOk result (map sexp_value out.new.items
+        ≡ map sexp_value out.old.items ++ limit_values strict.now inclusive.now (limit_of limit.now)) }
+{
+    match limit {
+        None => Ok(()),
+        Some(limit) => {
+            let word = if limit.strict { strict } else { inclusive };
+            out.push(Sexp::plain(alloc, word)?)?;
+            out.push(Sexp::plain(alloc, limit.octets.as_slice())?)?;
+            Ok(())
+        }
+    }
+}
+
+/// A range as it is written.
+fn write_range(
+    alloc: Global,
+    ordering: RangeOrdering,
+    low: &Option<Limit>,
+    up: &Option<Limit>,
+) -> Result<Sexp, AllocError>
+    ensures { IfOk result (λ s. sexp_value s ≡ tag_value (range (ordering_of ordering) (limit_of low.now) (limit_of up.now))) }
+{
+    let mut out = starred(alloc, b"range")?;
+    out.push(Sexp::plain(alloc, ordering_name(ordering))?)?;
+    push_limit(alloc, &mut out, low, b"g", b"ge")?;
+    push_limit(alloc, &mut out, up, b"l", b"le")?;
+    Ok(Sexp::list(out))
+}
+
+/// A tag without members as it is written.
+fn write_leaf(alloc: Global, leaf: &Leaf) -> Result<Sexp, AllocError>
+    ensures { IfOk result (λ s. sexp_value s ≡ tag_value (leaf_tag leaf.now)) }
+{
+    match leaf {
+        Leaf::Star => {
+            let mut out = Vec::new(alloc);
+            out.push(Sexp::plain(alloc, b"*")?)?;
+            Ok(Sexp::list(out))
+        }
+        Leaf::String(octets) => Sexp::plain(alloc, octets.as_slice()),
+        Leaf::Prefix(octets) => {
+            let mut out = starred(alloc, b"prefix")?;
+            out.push(Sexp::plain(alloc, octets.as_slice())?)?;
+            Ok(Sexp::list(out))
+        }
+        Leaf::Range(ordering, low, up) => write_range(alloc, *ordering, low, up),
+    }
+}
+
+impl Tag {
+    /// The tag as it is written, in normal form (RFC 2693, section 6.3.1).
+    ///
+    /// # Errors
+    ///
+    /// `AllocError` where memory ran out.
+    #[cycle(write)]
+    pub fn write(&self, alloc: Global) -> Result<Sexp, AllocError>
+        ensures { IfOk result (λ s. sexp_value s ≡ tag_value self.now) }
+    {
+        match &self.node {
+            Node::Leaf(leaf) => write_leaf(alloc, leaf),
+            Node::List(head, further) => {
+                let mut out = Vec::new(alloc);
+                out.push(Sexp::plain(alloc, head.as_slice())?)?;
+                push_each(alloc, &mut out, further)?;
+                Ok(Sexp::list(out))
+            }
+            Node::Set(members) => {
+                let mut out = starred(alloc, b"set")?;
+                push_each(alloc, &mut out, members)?;
+                Ok(Sexp::list(out))
+            }
+        }
+    }
+}
+
+/// Adds each tag as it is written.
+#[cycle(write)]
+fn push_each(alloc: Global, out: &mut Vec<Sexp>, members: &[Tag]) -> Result<(), AllocError>
+    ensures { OnOk result (map sexp_value out.new.items
+        ≡ map sexp_value out.old.items ++ map tag_value members.now) }
+{
+    for member in members {
+        out.push(member.write(alloc)?)?;
+    }
+    Ok(())
+}
