@@ -105,7 +105,7 @@ verbatim_short at n xs ys e h =
       };
     }
 
-verbatim_none : (octets : List ℕ) → 0 < length (verbatim octets)
+pub verbatim_none : (octets : List ℕ) → 0 < length (verbatim octets)
 verbatim_none octets =
     subst (λ t. 0 < length t) (sym (verbatim_is octets)) (some_append (decimal (length octets)) (58 ∷ octets) (omega arith))
 

@@ -8,3 +8,4 @@ pub mod Faults
 pub mod Steps
 pub mod Whole
 pub mod Examples
+pub mod Refusals

@@ -13,7 +13,7 @@ use Rattle.sexpr_core.specs.Texts.{IsCanon, IsCanonWithin, IsMembers, IsMembersW
 use Rattle.sexpr_core.specs.Reading.{StandsAt, ReadsLength, ReadsVerbatim, ReadsString, ReadsValue, ReadsMembers}
 use Rattle.sexpr_core.proofs.Decimal.{IsDigit, decimal_digit, decimal_more}
 use Rattle.sexpr_core.proofs.Texts.{verbatim_is, join, canons-join, depths-join}
-use Rattle.sexpr_core.proofs.Faults.{length_ended, length_first, length_short, length_bad, length_zero, verbatim_short, closing_ended, closing_first, closing_fault, hint_fault, hinted_fault, value_ended, value_first, plain_fault, bracket_fault, list_deep, list_fault, members_short, member_fault}
+use Rattle.sexpr_core.proofs.Faults.{verbatim_none, length_ended, length_first, length_short, length_bad, length_zero, verbatim_short, closing_ended, closing_first, closing_fault, hint_fault, hinted_fault, value_ended, value_first, plain_fault, bracket_fault, list_deep, list_fault, members_short, member_fault}
 
 -- ---- offsets
 
@@ -82,16 +82,6 @@ later_bad text at i n c h e s nc (inr nd) =
     let l : i ≡ at + length (decimal n) = read_length text (decimal n) at i h (omega arith) e in
     subst (λ k. IsBad IsLength IsLength at (drop at text) k) (sym l)
     (length_bad at n c (drop at text) (drop (i + 1) text) (e ∙ ap (λ t. decimal n ++ t) s.spelled) nd nc)
-
-pub length_read :
-    (text : List ℕ) (at i n written : ℕ) → n ≡ min written 1048577 →
-    drop at text ≡ decimal written ++ drop i text → StandsAt text i 58 → ReadsLength text at n (i + 1)
-length_read text at i n written c e s = record {
-  written = written;
-  capped = c;
-  spelled = e ∙ ap (λ t. decimal written ++ t) s.spelled;
-  within = let w : i < length text = s.within in omega arith;
-}
 
 -- ---- a string in verbatim form
 
@@ -243,12 +233,8 @@ plain_read text at body to w r =
 pub value_none : (room : ℕ) (text : List ℕ) (at : ℕ) → drop at text ≡ [] → Front (IsCanonWithin room) (drop at text)
 value_none room text at e = subst (λ s. Front (IsCanonWithin room) s) (sym e) (value_ended room at)
 
-verbatim_some : (octets : List ℕ) → 0 < length (verbatim octets)
-verbatim_some octets =
-    subst (λ t. 0 < length t) (sym (verbatim_is octets)) (omega (arith, length-append (decimal (length octets)) (58 ∷ octets)))
-
 canon_some : (v : Value) → 0 < length (canon v)
-canon_some (string None a) = verbatim_some a
+canon_some (string None a) = verbatim_none a
 canon_some (string (Some h) a) = omega arith
 canon_some (list vs) = omega arith
 
@@ -408,23 +394,6 @@ more_members room text at parts via to old new newer w h r =
       counted = omega (arith, members-join h.items (more r.value none));
       ahead = omega arith;
       within = r.within;
-    }
-
-pub members_read :
-    (room : ℕ) (text : List ℕ) (at parts to : ℕ) (old new : List Record) →
-    HasMembers room text at parts to old new → StandsAt text to 41 →
-    ReadsMembers room text at parts (to + 1) old new
-members_read room text at parts to old new h s =
-    let w : to < length text = s.within in
-    let a : at + parts ≤ to = h.ahead in
-    record {
-      items = h.items;
-      fits = h.fits;
-      spelled = h.spelled ∙ ap (λ t. canons h.items ++ t) s.spelled;
-      placed = h.placed;
-      counted = h.counted;
-      goes_on = omega arith;
-      within = omega arith;
     }
 
 pub members_end :

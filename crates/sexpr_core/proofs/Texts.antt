@@ -52,9 +52,6 @@ verbatim_one a b x y e =
 no_bracket : IsDigit 91 → ⊥
 no_bracket h = omega (arith, h.1)
 
-no_closing : IsDigit 93 → ⊥
-no_closing h = omega (arith, h.1)
-
 no_open : IsDigit 40 → ⊥
 no_open h = omega (arith, h.0)
 

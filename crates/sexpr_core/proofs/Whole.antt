@@ -1,11 +1,10 @@
 -- From a value read at the beginning of a text to what is said of the whole text.
 use Rattle.std.proofs.Common.{◌≡◌, ℕ, suc, ◌+◌, ◌<◌, ◌≤◌, List, [], ◌++◌, length, take, drop, refl, sym, ◌∙◌, ap, subst, arith, append-nil, length-drop}
-use Rattle.std.proofs.lemmas.List.{take-append-drop, take_at, drop_all}
+use Rattle.std.proofs.lemmas.List.{take-append-drop, take_at}
 use Rattle.sexpr_core.specs.declared.fault.FormFault.{FormFault}
 use Rattle.sexpr_core.specs.declared.fault.FormFault.TheVariants.{TooLong, TooDeep, Short, Bad, Trailing, Memory}
 use Rattle.sexpr_core.specs.declared.layout.Record.{Record}
 use Rattle.sexpr_core.specs.Value.{Value, canon, IsWithinLimits}
-use Rattle.sexpr_core.specs.Layout.{records}
 use Rattle.sexpr_core.specs.Prefix.{Begins, Front, Barred, FaultAt}
 use Rattle.sexpr_core.specs.Texts.{IsCanon, IsCanonWithin}
 use Rattle.sexpr_core.specs.Reading.{ReadsValue}
@@ -35,9 +34,6 @@ refused text (Bad k) h =
 refused text (Trailing k) h = absurd h
 refused text Memory h = h
 
-pub never_long : (text : List ℕ) (e : FormFault) → FaultAt IsCanon (IsCanonWithin 64) 0 text e → e ≡ TooLong → ⊥
-never_long text e h q = subst (λ k. FaultAt IsCanon (IsCanonWithin 64) 0 text k) q h
-
 -- ---- a whole value
 
 pub whole_length :
@@ -60,14 +56,6 @@ trailing text to old new r h =
         is = ap (take to) r.spelled ∙ take_at (canon r.value) (drop to text) to (sym l);
       },
     )
-
-pub read_whole :
-    (text : List ℕ) (to : ℕ) (new : List Record) → length text ≤ 1048576 → ReadsValue 64 text 0 to [] new →
-    length text ≤ to → (v : Value) × IsWithinLimits v × (text ≡ canon v) × (new ≡ records 0 v)
-read_whole text to new short r h =
-    let e : text ≡ canon r.value =
-    r.spelled ∙ ap (λ t. canon r.value ++ t) (drop_all to text h) ∙ append-nil (canon r.value) in
-    (r.value, record { short = omega (arith, ap length e); shallow = r.fits }, e, r.placed)
 
 -- ---- a canonical text within the limits is refused only for want of memory
 

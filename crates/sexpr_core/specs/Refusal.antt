@@ -20,3 +20,12 @@ Refused text Short = Front IsShallowText text
 Refused text (Bad at) = (at < length text) × Front IsShallowText (take at text) × (Begins IsCanon (take (at + 1) text) → ⊥)
 Refused text (Trailing at) = (at < length text) × IsShallowText (take at text)
 Refused text Memory = Unit {0}
+
+-- a refusal that speaks of a text's form, and not of its length or of memory
+abbrev pub IsOfForm : FormFault → Type 0
+IsOfForm TooLong = ⊥
+IsOfForm TooDeep = Unit {0}
+IsOfForm Short = Unit {0}
+IsOfForm (Bad at) = Unit {0}
+IsOfForm (Trailing at) = Unit {0}
+IsOfForm Memory = ⊥

@@ -1,10 +1,18 @@
 //! Laws of canonical form.
 
 ghost use Rattle.std.specs.Prelude.{◌≡◌, ℕ, List, ◌++◌};
+ghost use Rattle.sexpr_core.specs.declared.fault.FormFault.{FormFault};
 ghost use Rattle.sexpr_core.specs.Value.{Value, canon};
+ghost use Rattle.sexpr_core.specs.Refusal.{IsOfForm, Refused};
 
 /// No value's canonical text is a prefix of another's: what begins with a canonical text begins with that of one
 /// value alone, and goes on in one way (RFC 9804, section 6.1).
 pub fn one_text()
     ensures { (v w : Value) (x y : List ℕ) → canon v ++ x ≡ canon w ++ y → (v ≡ w) × (x ≡ y) }
+{}
+
+/// A text has at most one refusal that speaks of its form, with its offset. So each of TooDeep, Short, Bad and
+/// Trailing comes exactly where its meaning holds of a text that is not too long, if memory is not refused.
+pub fn one_refusal()
+    ensures { (text : List ℕ) (e f : FormFault) → IsOfForm e → IsOfForm f → Refused text e → Refused text f → e ≡ f }
 {}

@@ -14,7 +14,7 @@ mod tree;
 pub use document::{Doc, NodeId};
 pub use fault::FormFault;
 pub use handle::{Form, Node};
-pub use laws::one_text;
+pub use laws::{one_refusal, one_text};
 pub use parser::{MOST_LISTS, MOST_OCTETS};
 pub use siblings::Members;
 pub use tree::{Atom, Sexp};

@@ -1,0 +1,143 @@
+-- A text has at most one refusal that speaks of its form.
+use Rattle.std.proofs.Common.{◌≡◌, ℕ, zero, suc, ◌+◌, ◌<◌, ◌≤◌, inl, inr, List, [], ◌∷◌, ◌++◌, length, take, drop, refl, sym, ◌∙◌, ap, subst, arith, append-nil, append_assoc, length-drop, length-append}
+use Rattle.std.proofs.lemmas.List.{take-append-drop, length-take-le}
+use Rattle.std.proofs.lemmas.Bool.{cases_order}
+use Rattle.sexpr_core.specs.declared.fault.FormFault.{FormFault}
+use Rattle.sexpr_core.specs.declared.fault.FormFault.TheVariants.{TooLong, TooDeep, Short, Bad, Trailing, Memory}
+use Rattle.sexpr_core.specs.Value.{canon}
+use Rattle.sexpr_core.specs.Prefix.{Begins, Front}
+use Rattle.sexpr_core.specs.Texts.{IsCanon}
+use Rattle.sexpr_core.specs.Refusal.{IsShallowText, IsOfForm, Refused}
+use Rattle.sexpr_core.proofs.Texts.{canon_one}
+
+-- ---- prefixes of prefixes
+
+take_less : (m n : ℕ) (xs : List ℕ) → m ≤ n → take m (take n xs) ≡ take m xs
+take_less zero n xs h = refl
+take_less (suc m) zero xs h = absurd (omega arith)
+take_less (suc m) (suc n) [] h = refl
+take_less (suc m) (suc n) (x ∷ xs) h = ap (λ t. x ∷ t) (take_less m n xs (omega arith))
+
+begins_less : (T : List ℕ → Type 0) (m n : ℕ) (xs : List ℕ) → m ≤ n → Begins T (take n xs) → Begins T (take m xs)
+begins_less T m n xs h b =
+    let e : take n xs ≡ take m xs ++ drop m (take n xs) =
+    sym (take-append-drop m (take n xs)) ∙ ap (λ t. t ++ drop m (take n xs)) (take_less m n xs h) in
+    record {
+      rest = drop m (take n xs) ++ b.rest;
+      whole = subst T (ap (λ t. t ++ b.rest) e ∙ append_assoc (take m xs) (drop m (take n xs)) b.rest) b.whole;
+    }
+
+begins_part : (T : List ℕ → Type 0) (n : ℕ) (xs : List ℕ) → Front T xs → Begins T (take n xs)
+begins_part T n xs f = record {
+  rest = drop n xs ++ f.rest;
+  whole = subst T (ap (λ t. t ++ f.rest) (sym (take-append-drop n xs)) ∙ append_assoc (take n xs) (drop n xs) f.rest) f.whole;
+}
+
+begins_any : (xs : List ℕ) → Begins IsShallowText xs → Begins IsCanon xs
+begins_any xs b = record { rest = b.rest; whole = record { value = b.whole.value; is = b.whole.is } }
+
+-- ---- the place at which no canonical text goes on
+
+record StopsAt (text : List ℕ) (at : ℕ) : Type 0 where
+  begun : Begins IsShallowText (take at text)
+  ended : Begins IsCanon (take (at + 1) text) → ⊥
+
+stops_once : (text : List ℕ) (i j : ℕ) → StopsAt text i → StopsAt text j → i < j → ⊥
+stops_once text i j a b h = a.ended (begins_any (take (i + 1) text) (begins_less IsShallowText (i + 1) j text (omega arith) b.begun))
+
+at_one : (text : List ℕ) (i j : ℕ) → StopsAt text i → StopsAt text j → i ≡ j
+at_one text i j a b =
+    elim (cases_order i j) [
+      | inl e ↦ e
+      | inr (inl h) ↦ absurd (stops_once text i j a b h)
+      | inr (inr h) ↦ absurd (stops_once text j i b a h)
+    ]
+
+no_deep :
+    (text : List ℕ) (at n : ℕ) → StopsAt text at → Begins IsCanon (take n text) →
+    (Begins IsShallowText (take n text) → ⊥) → ⊥
+no_deep text at n s b h = elim (cases_order n at) [
+  | inl e ↦ h (begins_less IsShallowText n at text (omega arith) s.begun)
+  | inr (inl k) ↦ h (begins_less IsShallowText n at text (omega arith) s.begun)
+  | inr (inr k) ↦ s.ended (begins_less IsCanon (at + 1) n text (omega arith) b)
+]
+
+no_short : (text : List ℕ) (at : ℕ) → StopsAt text at → Front IsShallowText text → ⊥
+no_short text at s f = s.ended (begins_any (take (at + 1) text) (begins_part IsShallowText (at + 1) text f))
+
+-- ---- whole texts
+
+-- a canonical text is no proper prefix of another
+no_front : (xs : List ℕ) → IsShallowText xs → Front IsShallowText xs → ⊥
+no_front xs s f =
+    let w : IsShallowText (xs ++ f.rest) = f.whole in
+    let e : canon s.value ++ f.rest ≡ canon w.value ++ [] =
+    ap (λ t. t ++ f.rest) (sym s.is) ∙ w.is ∙ sym (append-nil (canon w.value)) in
+    let p = canon_one s.value w.value f.rest [] e in
+    let some : 0 < length f.rest = f.some in
+    omega (arith, ap length p.1)
+
+longer : (at : ℕ) (text : List ℕ) → at < length text → 0 < length (drop at (take (at + 1) text))
+longer at text h = omega (arith, length-drop at (take (at + 1) text), length-take-le (at + 1) text (omega arith))
+
+ends_there :
+    (text : List ℕ) (at : ℕ) → at < length text → IsShallowText (take at text) →
+    Begins IsCanon (take (at + 1) text) → ⊥
+ends_there text at h s b =
+    let c : IsCanon (take (at + 1) text ++ b.rest) = b.whole in
+    let t : take (at + 1) text ≡ take at text ++ drop at (take (at + 1) text) =
+    sym (take-append-drop at (take (at + 1) text))
+    ∙ ap (λ k. k ++ drop at (take (at + 1) text)) (take_less at (at + 1) text (omega arith)) in
+    let e : canon s.value ++ (drop at (take (at + 1) text) ++ b.rest) ≡ canon c.value ++ [] =
+    sym (append_assoc (canon s.value) (drop at (take (at + 1) text)) b.rest)
+    ∙ ap (λ k. (k ++ drop at (take (at + 1) text)) ++ b.rest) (sym s.is)
+    ∙ ap (λ k. k ++ b.rest) (sym t) ∙ c.is ∙ sym (append-nil (canon c.value)) in
+    let p = canon_one s.value c.value (drop at (take (at + 1) text) ++ b.rest) [] e in
+    omega (arith, ap length p.1, length-append (drop at (take (at + 1) text)) b.rest, longer at text h)
+
+stops_bad : (text : List ℕ) (at : ℕ) → Refused text (Bad at) → StopsAt text at
+stops_bad text at r = record { begun = record { rest = r.1.rest; whole = r.1.whole }; ended = r.2 }
+
+stops_trailing : (text : List ℕ) (at : ℕ) → Refused text (Trailing at) → StopsAt text at
+stops_trailing text at r = record {
+  begun = record { rest = []; whole = subst IsShallowText (sym (append-nil (take at text))) r.1 };
+  ended = ends_there text at r.0 r.1;
+}
+
+bad_trailing : (text : List ℕ) (i j : ℕ) → Refused text (Bad i) → Refused text (Trailing j) → ⊥
+bad_trailing text i j a b =
+    let e : i ≡ j = at_one text i j (stops_bad text i a) (stops_trailing text j b) in
+    no_front (take j text) b.1 (subst (λ n. Front IsShallowText (take n text)) e a.1)
+
+-- ---- one refusal
+
+short_deep : (text : List ℕ) → Refused text Short → Refused text TooDeep → ⊥
+short_deep text a b = b.2 (begins_part IsShallowText b.0 text a)
+
+pub one_refusal : (text : List ℕ) (e f : FormFault) → IsOfForm e → IsOfForm f → Refused text e → Refused text f → e ≡ f
+one_refusal text TooLong f p q a b = absurd p
+one_refusal text Memory f p q a b = absurd p
+one_refusal text TooDeep TooLong p q a b = absurd q
+one_refusal text TooDeep TooDeep p q a b = refl
+one_refusal text TooDeep Short p q a b = absurd (short_deep text b a)
+one_refusal text TooDeep (Bad j) p q a b = absurd (no_deep text j a.0 (stops_bad text j b) a.1 a.2)
+one_refusal text TooDeep (Trailing j) p q a b = absurd (no_deep text j a.0 (stops_trailing text j b) a.1 a.2)
+one_refusal text TooDeep Memory p q a b = absurd q
+one_refusal text Short TooLong p q a b = absurd q
+one_refusal text Short TooDeep p q a b = absurd (short_deep text a b)
+one_refusal text Short Short p q a b = refl
+one_refusal text Short (Bad j) p q a b = absurd (no_short text j (stops_bad text j b) a)
+one_refusal text Short (Trailing j) p q a b = absurd (no_short text j (stops_trailing text j b) a)
+one_refusal text Short Memory p q a b = absurd q
+one_refusal text (Bad i) TooLong p q a b = absurd q
+one_refusal text (Bad i) TooDeep p q a b = absurd (no_deep text i b.0 (stops_bad text i a) b.1 b.2)
+one_refusal text (Bad i) Short p q a b = absurd (no_short text i (stops_bad text i a) b)
+one_refusal text (Bad i) (Bad j) p q a b = ap Bad (at_one text i j (stops_bad text i a) (stops_bad text j b))
+one_refusal text (Bad i) (Trailing j) p q a b = absurd (bad_trailing text i j a b)
+one_refusal text (Bad i) Memory p q a b = absurd q
+one_refusal text (Trailing i) TooLong p q a b = absurd q
+one_refusal text (Trailing i) TooDeep p q a b = absurd (no_deep text i b.0 (stops_trailing text i a) b.1 b.2)
+one_refusal text (Trailing i) Short p q a b = absurd (no_short text i (stops_trailing text i a) b)
+one_refusal text (Trailing i) (Bad j) p q a b = absurd (bad_trailing text j i b a)
+one_refusal text (Trailing i) (Trailing j) p q a b = ap Trailing (at_one text i j (stops_trailing text i a) (stops_trailing text j b))
+one_refusal text (Trailing i) Memory p q a b = absurd q
