@@ -157,12 +157,14 @@ RulesOut-less faults.Memory P Q f r = r
 -- Behind members that were read, tags that are written as the whole list go on as the rest.
 rest_of : (fault : TagFault) (ts : List Tag) (rest : List Value) (ws : Tags) → AreTags (tags ts) → AreTags ws
     → RulesOut fault (ArePlain ws) → tag_values ws ≡ values (map tag_value ts ++ rest)
-    → (us : Tags) × AreTags us × RulesOut fault (ArePlain us) × (tag_values us ≡ values rest) × (nodes_all (tags ts) + nodes_all us ≡ nodes_all ws)
+    → (us : Tags) × AreTags us × RulesOut fault (ArePlain us) × (tag_values us ≡ values rest)
+    × (nodes_all (tags ts) + nodes_all us ≡ nodes_all ws)
 rest_of fault [] rest ws h k r e = (ws, k, r, e, omega arith)
 rest_of fault (t ∷ ts) rest none h k r e = absurd cc
 rest_of fault (t ∷ ts) rest (more w ws) h k r e =
     let same : w ≡ t = tag_only t w h.0 k.0 cc in
-    let others = rest_of fault ts rest ws h.1 k.1 (RulesOut-less fault (ArePlain (more w ws)) (ArePlain ws) (λ x. x.1) r) cc in
+    let others =
+    rest_of fault ts rest ws h.1 k.1 (RulesOut-less fault (ArePlain (more w ws)) (ArePlain ws) (λ x. x.1) r) cc in
     (others.0, others.1, others.2, others.3, omega (arith, others.4, ap nodes same))
 
 -- a member that is no tag
@@ -172,11 +174,13 @@ pub member_refused : (fault : TagFault) (used before : ℕ) (ts : List Tag) (v :
 member_refused fault used before ts v vs h counted refused ws k few e r =
     first_refused (rest_of fault ts (v ∷ vs) ws h k r e)
   where
-    first_refused : (us : Tags) × AreTags us × RulesOut fault (ArePlain us) × (tag_values us ≡ values (v ∷ vs)) × (nodes_all (tags ts) + nodes_all us ≡ nodes_all ws)
+    first_refused : (us : Tags) × AreTags us × RulesOut fault (ArePlain us) × (tag_values us ≡ values (v ∷ vs))
+        × (nodes_all (tags ts) + nodes_all us ≡ nodes_all ws)
         → ⊥
     first_refused (none, written, ruled, spelled, sum) = cc
     first_refused (more u us, written, ruled, spelled, sum) =
-        refused u written.0 (omega (arith, sum, counted, few)) (cc) (RulesOut-less fault (ArePlain (more u us)) (IsPlain u) (λ x. x.0) ruled)
+        refused u written.0 (omega (arith, sum, counted, few)) (cc)
+        (RulesOut-less fault (ArePlain (more u us)) (IsPlain u) (λ x. x.0) ruled)
 
 -- ---- faults
 
@@ -225,7 +229,8 @@ pub hinted_head_refused : (used : ℕ) (hint octets : List ℕ) (vs : Values)
 hinted_head_refused used hint octets vs w k few e r = hinted_head_is_none w hint octets vs e
 
 pub hinted_form_refused : (used : ℕ) (hint octets : List ℕ) (vs : Values)
-    → IsNoTagAfter used faults.Hint (value.list (value.more (plain (codes "*")) (value.more (value.string (Some hint) octets) vs)))
+    → IsNoTagAfter used faults.Hint
+    (value.list (value.more (plain (codes "*")) (value.more (value.string (Some hint) octets) vs)))
 hinted_form_refused used hint octets vs w k few e r = hinted_form_is_none w hint octets vs k e
 
 pub form_refused : (used : ℕ) (v : Value) (vs : Values)
@@ -246,19 +251,25 @@ pub starred_hinted : (used : ℕ) (v : Value) (further vs : List Value) → furt
     → IsNoTagAfter used faults.Hint (group (plain (codes "*") ∷ further))
 starred_hinted used v further vs e h =
     subst (λ us. IsNoTagAfter used faults.Hint (group (plain (codes "*") ∷ us))) (sym e)
-    (subst (λ x. IsNoTagAfter used faults.Hint (group (plain (codes "*") ∷ x ∷ vs))) (sym h.2) (hinted_form_refused used h.0 h.1 (values vs)))
+    (subst (λ x. IsNoTagAfter used faults.Hint (group (plain (codes "*") ∷ x ∷ vs))) (sym h.2)
+    (hinted_form_refused used h.0 h.1 (values vs)))
 
 pub starred_other : (used : ℕ) (v : Value) (further vs : List Value) → further ≡ v ∷ vs
     → IsNoTagAfter used faults.UnknownStar (group (plain (codes "*") ∷ further))
 starred_other used v further vs e =
-    subst (λ us. IsNoTagAfter used faults.UnknownStar (group (plain (codes "*") ∷ us))) (sym e) (form_refused used v (values vs))
+    subst (λ us. IsNoTagAfter used faults.UnknownStar (group (plain (codes "*") ∷ us))) (sym e)
+    (form_refused used v (values vs))
 
 -- ---- heads
 
 pub no_head_refused : (used : ℕ) (fault : TagFault) (v : Value) (vs : List Value) → IsNoHead fault v
     → IsNoTagAfter used fault (group (v ∷ vs))
-no_head_refused used faults.ListHead v vs h = subst (λ x. IsNoTagAfter used faults.ListHead (group (x ∷ vs))) (sym h.1) (headed_refused used h.0 (values vs))
-no_head_refused used faults.Hint v vs h = subst (λ x. IsNoTagAfter used faults.Hint (group (x ∷ vs))) (sym h.2) (hinted_head_refused used h.0 h.1 (values vs))
+no_head_refused used faults.ListHead v vs h =
+    subst (λ x. IsNoTagAfter used faults.ListHead (group (x ∷ vs))) (sym h.1)
+    (headed_refused used h.0 (values vs))
+no_head_refused used faults.Hint v vs h =
+    subst (λ x. IsNoTagAfter used faults.Hint (group (x ∷ vs))) (sym h.2)
+    (hinted_head_refused used h.0 h.1 (values vs))
 no_head_refused used faults.EmptyList v vs h = absurd h
 no_head_refused used faults.UnknownStar v vs h = absurd h
 no_head_refused used faults.RangeOrdering v vs h = absurd h
@@ -287,8 +298,10 @@ so_far_push used counted after vs left further ts v t so_far e r = record {
   plain = ArePlain-push ts t so_far.plain r.plain;
   written = AreTags-push ts t so_far.written r.written;
   spelled =
-      ap (λ (us : List Value). us ++ further) (map_push tag_value ts t) ∙ append_assoc (map tag_value ts) (tag_value t ∷ []) further
-      ∙ ap (λ (x : Value). map tag_value ts ++ x ∷ further) r.spelled ∙ ap (λ (us : List Value). map tag_value ts ++ us) (sym e) ∙ so_far.spelled;
+      ap (λ (us : List Value). us ++ further) (map_push tag_value ts t)
+      ∙ append_assoc (map tag_value ts) (tag_value t ∷ []) further
+      ∙ ap (λ (x : Value). map tag_value ts ++ x ∷ further) r.spelled
+      ∙ ap (λ (us : List Value). map tag_value ts ++ us) (sym e) ∙ so_far.spelled;
   sum = omega (arith, r.counted, so_far.sum, nodes_all-push ts t);
   few = r.few;
 }
@@ -323,7 +336,8 @@ list_is_read used after head vs ts h r = record {
 
 pub list_is_in_normal_form : (used after : ℕ) (head : List ℕ) (vs : List Value) (ts : List Tag) → IsHead head
     → AreRead (used + 2) vs ts after → IsNormalTag (list head (tags ts))
-list_is_in_normal_form used after head vs ts h r = list_is_normal head ts h r.plain r.written (omega (arith, r.counted, r.few))
+list_is_in_normal_form used after head vs ts h r =
+    list_is_normal head ts h r.plain r.written (omega (arith, r.counted, r.few))
 
 pub string_is_read : (used : ℕ) (octets : List ℕ) → used < most_read
     → IsRead used (plain octets) (string octets) (used + 1)
@@ -331,11 +345,18 @@ string_is_read used octets room = record { plain = tt; written = tt; spelled = r
 
 pub star_is_read : (used : ℕ) (further : List Value) → used < most_read → further ≡ []
     → IsRead used (group (plain (codes "*") ∷ further)) star (used + 1)
-star_is_read used further room e = record { plain = tt; written = tt; spelled = ap (λ us. group (plain (codes "*") ∷ us)) (sym e); counted = refl; few = omega arith }
+star_is_read used further room e = record {
+  plain = tt;
+  written = tt;
+  spelled = ap (λ us. group (plain (codes "*") ∷ us)) (sym e);
+  counted = refl;
+  few = omega arith;
+}
 
 pub list_no_head : (used : ℕ) (fault : TagFault) (members : List Value) (v : Value) (vs : List Value)
     → members ≡ v ∷ vs → IsNoHead fault v → IsNoTagAfter used fault (group members)
-list_no_head used fault members v vs e h = subst (λ us. IsNoTagAfter used fault (group us)) (sym e) (no_head_refused used fault v vs h)
+list_no_head used fault members v vs e h =
+    subst (λ us. IsNoTagAfter used fault (group us)) (sym e) (no_head_refused used fault v vs h)
 
 pub list_empty : (used : ℕ) (members : List Value) → members ≡ []
     → IsNoTagAfter used faults.EmptyList (group members)
@@ -345,7 +366,8 @@ list_empty used members e = subst (λ us. IsNoTagAfter used faults.EmptyList (gr
 pub so_far_weight : (used counted : ℕ) (vs left further : List Value) (ts : List Tag) (v : Value)
     → IsReadSoFar used vs ts counted left → left ≡ v ∷ further → weight v ≤ weights (values vs)
 so_far_weight used counted vs left further ts v so_far e =
-    subst (λ us. weight v ≤ weights (values us)) (ap (λ (us : List Value). map tag_value ts ++ us) (sym e) ∙ so_far.spelled) (weight_le-weights (map tag_value ts) v further)
+    subst (λ us. weight v ≤ weights (values us)) (ap (λ (us : List Value). map tag_value ts ++ us) (sym e) ∙ so_far.spelled)
+    (weight_le-weights (map tag_value ts) v further)
 
 -- ---- writing
 
@@ -353,7 +375,8 @@ so_far_weight used counted vs left further ts v so_far e =
 pub list_written : (head : List ℕ) (ts : List Tag) (v : Value) (front out : List Value) → v ≡ group out
     → out ≡ front ++ map tag_value ts → front ≡ plain head ∷ [] → v ≡ tag_value (list head (tags ts))
 list_written head ts v front out e f g =
-    e ∙ ap group (f ∙ ap (λ (us : List Value). us ++ map tag_value ts) g) ∙ ap (λ us. value.list (value.more (plain head) us)) (sym (tag_values-tags ts))
+    e ∙ ap group (f ∙ ap (λ (us : List Value). us ++ map tag_value ts) g)
+    ∙ ap (λ us. value.list (value.more (plain head) us)) (sym (tag_values-tags ts))
 
 -- a set is written by the star, its word and its members
 pub set_written : (ts : List Tag) (v : Value) (front out : List Value) → v ≡ group out
