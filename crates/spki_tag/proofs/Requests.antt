@@ -1,6 +1,6 @@
 -- Which requests are written as a value.
 use Rattle.std.proofs.Common.{◌≡◌, ℕ, List, [], ◌∷◌, ◌++◌, map, Some, refl, sym, ap, ◌∙◌, subst, append_assoc, ◌≤◌}
-use Rattle.std.proofs.lemmas.List.{map_push, append-nil}
+use Rattle.std.proofs.lemmas.List.{map_push}
 use Rattle.std.specs.Prelude.{codes}
 use Rattle.sexpr_core.specs.Value as value
 use Rattle.sexpr_core.specs.Value.{Value, Values, plain, values, group}
@@ -89,13 +89,6 @@ pub star_refused : (vs : Values) → IsNoRequest faults.StarInRequest (value.lis
 star_refused vs (string s) k e = absurd cc
 star_refused vs (list head hs) k e = absurd (k.1 cc)
 
--- want of memory refuses no request
-pub memory_refused : (fault : TagFault) (v : Value) → fault ≡ faults.Memory → IsNoRequest fault v
-memory_refused fault v e g k spelled = e
-
-pub memory_refused_all : (fault : TagFault) (vs : List Value) → fault ≡ faults.Memory → AreNoRequests fault vs
-memory_refused_all fault vs e gs k spelled = e
-
 -- ---- heads
 
 no_head_refused : (fault : TagFault) (v : Value) (vs : List Value) → IsNoHead fault v
@@ -144,13 +137,6 @@ so_far_push vs left further gs v g so_far e k r = record {
       ∙ append_assoc (map request_value gs) (request_value g ∷ []) further
       ∙ ap (λ (x : Value). map request_value gs ++ x ∷ further) r
       ∙ ap (λ (us : List Value). map request_value gs ++ us) (sym e) ∙ so_far.spelled;
-}
-
-pub so_far_end : (vs left : List Value) (gs : List Request) → IsAskedSoFar vs gs left → left ≡ [] → AreAsked vs gs
-so_far_end vs left gs so_far e = record {
-  asked = so_far.asked;
-  spelled =
-      sym (append-nil (map request_value gs)) ∙ ap (λ (us : List Value). map request_value gs ++ us) (sym e) ∙ so_far.spelled;
 }
 
 pub so_far_refused : (fault : TagFault) (vs left further : List Value) (gs : List Request) (v : Value)

@@ -1,7 +1,7 @@
 -- Which tags are written as a value.
 use Rattle.std.proofs.Common.{◌≡◌, ℕ, ◌+◌, ◌≤◌, ◌<◌, true, false, List, [], ◌∷◌, ◌++◌, map, Some, refl, sym, ap, ◌∙◌, subst, arith, append_assoc}
 use Rattle.std.specs.Prelude.{codes}
-use Rattle.std.proofs.lemmas.List.{map_push, append-nil}
+use Rattle.std.proofs.lemmas.List.{map_push}
 use Rattle.sexpr_core.specs.Value as value
 use Rattle.sexpr_core.specs.Value.{Value, Values, plain, values, group}
 use Rattle.spki_tag.specs.declared.fault.TagFault.{TagFault}
@@ -10,7 +10,7 @@ use Rattle.spki_tag.specs.Request.{IsHead}
 use Rattle.spki_tag.proofs.OneTag.{tag_only}
 use Rattle.spki_tag.proofs.Weight.{weight, weights, weight_le-weights}
 use Rattle.spki_tag.specs.Tag.{Tag, Tags, tags, star, string, prefix, range, list, set, none, more, IsTag, AreTags, tag_value, tag_values, nodes, nodes_all, is_normal, each_normal, is_nothing, IsNormalTag}
-use Rattle.spki_tag.specs.Read.{IsPlain, ArePlain, RulesOut, ReadsAs, most_read}
+use Rattle.spki_tag.specs.Read.{IsPlain, ArePlain, RulesOut, most_read}
 use Rattle.spki_tag.specs.Steps.{IsNoTagAfter, AreNoTagsAfter, IsRead, AreRead, IsNoHead, IsHinted}
 
 -- ---- the forms
@@ -111,19 +111,6 @@ mutual
 pub list_is_normal : (head : List ℕ) (ts : List Tag) → IsHead head → ArePlain (tags ts) → AreTags (tags ts)
     → 2 + nodes_all (tags ts) ≤ most_read → IsNormalTag (list head (tags ts))
 list_is_normal head ts h p k few = record { written = (h, k); normal = plain_are_normal (tags ts) p; few = omega arith }
-
--- what was read as a plain tag was read as itself
-pub reads_as : (v : Value) (t : Tag) (after : ℕ) → IsRead 0 v t after → ReadsAs v t
-reads_as v t after r = record {
-  w = t;
-  written = r.written;
-  spelled = r.spelled;
-  few = omega (arith, r.counted, r.few);
-  normal = plain_is_normal t r.plain;
-  tag = r.written;
-  same = λ g. refl;
-  no_more = omega arith;
-}
 
 -- ---- the members of a list, one after the other
 
@@ -237,14 +224,6 @@ pub form_refused : (used : ℕ) (v : Value) (vs : Values)
     → IsNoTagAfter used faults.UnknownStar (value.list (value.more (plain (codes "*")) (value.more v vs)))
 form_refused used v vs w k few e r = form_is_not_plain w v vs k r e
 
--- want of memory refuses no tag
-pub memory_refused : (fault : TagFault) (used : ℕ) (v : Value) → fault ≡ faults.Memory → IsNoTagAfter used fault v
-memory_refused fault used v e w k few spelled r = subst (λ f. RulesOut f (IsPlain w)) e r
-
-pub memory_refused_all : (fault : TagFault) (used : ℕ) (vs : List Value) → fault ≡ faults.Memory
-    → AreNoTagsAfter used fault vs
-memory_refused_all fault used vs e ws k few spelled r = subst (λ f. RulesOut f (ArePlain ws)) e r
-
 -- ---- what is behind the star
 
 pub starred_hinted : (used : ℕ) (v : Value) (further vs : List Value) → further ≡ v ∷ vs → IsHinted v
@@ -288,9 +267,6 @@ pub record IsReadSoFar (used : ℕ) (vs : List Value) (ts : List Tag) (counted :
   pub sum : counted ≡ used + nodes_all (tags ts)
   pub few : counted ≤ most_read
 
-pub so_far_start : (used : ℕ) (vs : List Value) → used ≤ most_read → IsReadSoFar used vs [] used vs
-so_far_start used vs few = record { plain = tt; written = tt; spelled = refl; sum = omega arith; few = few }
-
 pub so_far_push : (used counted after : ℕ) (vs left further : List Value) (ts : List Tag) (v : Value) (t : Tag)
     → IsReadSoFar used vs ts counted left → left ≡ v ∷ further → IsRead counted v t after
     → IsReadSoFar used vs (ts ++ t ∷ []) after further
@@ -304,16 +280,6 @@ so_far_push used counted after vs left further ts v t so_far e r = record {
       ∙ ap (λ (us : List Value). map tag_value ts ++ us) (sym e) ∙ so_far.spelled;
   sum = omega (arith, r.counted, so_far.sum, nodes_all-push ts t);
   few = r.few;
-}
-
-pub so_far_end : (used counted : ℕ) (vs left : List Value) (ts : List Tag) → IsReadSoFar used vs ts counted left
-    → left ≡ [] → AreRead used vs ts counted
-so_far_end used counted vs left ts so_far e = record {
-  plain = so_far.plain;
-  written = so_far.written;
-  spelled = sym (append-nil (map tag_value ts)) ∙ ap (λ (us : List Value). map tag_value ts ++ us) (sym e) ∙ so_far.spelled;
-  counted = so_far.sum;
-  few = so_far.few;
 }
 
 pub so_far_refused : (fault : TagFault) (used counted : ℕ) (vs left further : List Value) (ts : List Tag) (v : Value)
@@ -338,20 +304,6 @@ pub list_is_in_normal_form : (used after : ℕ) (head : List ℕ) (vs : List Val
     → AreRead (used + 2) vs ts after → IsNormalTag (list head (tags ts))
 list_is_in_normal_form used after head vs ts h r =
     list_is_normal head ts h r.plain r.written (omega (arith, r.counted, r.few))
-
-pub string_is_read : (used : ℕ) (octets : List ℕ) → used < most_read
-    → IsRead used (plain octets) (string octets) (used + 1)
-string_is_read used octets room = record { plain = tt; written = tt; spelled = refl; counted = refl; few = omega arith }
-
-pub star_is_read : (used : ℕ) (further : List Value) → used < most_read → further ≡ []
-    → IsRead used (group (plain (codes "*") ∷ further)) star (used + 1)
-star_is_read used further room e = record {
-  plain = tt;
-  written = tt;
-  spelled = ap (λ us. group (plain (codes "*") ∷ us)) (sym e);
-  counted = refl;
-  few = omega arith;
-}
 
 pub list_no_head : (used : ℕ) (fault : TagFault) (members : List Value) (v : Value) (vs : List Value)
     → members ≡ v ∷ vs → IsNoHead fault v → IsNoTagAfter used fault (group members)
