@@ -1,0 +1,122 @@
+#!/usr/bin/env python3
+"""Times `spki check` on large cases, and prints how the time grows with the octets and how much memory it takes.
+
+Build the program first (`rt run` in crates/spki). Usage: bench/check.py [PROGRAM]
+"""
+import os
+import subprocess
+import sys
+import time
+
+PROGRAM = sys.argv[1] if len(sys.argv) > 1 else os.path.join(os.path.dirname(__file__), "..", "crates", "spki", "out", "spki")
+SIZES = [64 * 1024, 256 * 1024, 1024 * 1024]
+RUNS = 7
+LIMIT_RATIO = 5.0
+LIMIT_MEMORY = 256
+
+
+def string(octets):
+    octets = octets.encode() if isinstance(octets, str) else octets
+    return str(len(octets)).encode() + b":" + octets
+
+
+def group(*members):
+    return b"(" + b"".join(members) + b")"
+
+
+def key(name):
+    return group(string("public-key"), group(string("test"), string(name)))
+
+
+def case(entries, request):
+    return group(
+        string("case"), group(string("acl"), *entries), group(string("accepted")), group(string("sequence")),
+        group(string("key"), key("a")), group(string("request"), request), group(string("at"), string("2024-01-01_00:00:00")))
+
+
+def entry(name, tag):
+    return group(string("entry"), key(name), group(string("tag"), tag))
+
+
+STAR = group(string("*"))
+
+
+def many_entries(size):
+    """Entries of other keys, and the asking key's entry at the end."""
+    empty = len(case([entry("a", STAR)], string("ftp")))
+    one = len(entry("b", STAR))
+    return case([entry("b", STAR)] * ((size - empty) // one) + [entry("a", STAR)], string("ftp")), b"yes entry"
+
+
+def many_members(size):
+    """One request with many members."""
+    empty = len(case([entry("a", STAR)], group(string("ftp"))))
+    return case([entry("a", STAR)], group(string("ftp"), *[string("x")] * ((size - empty) // 3))), b"yes entry 1\n"
+
+
+def lists_in_lists(size):
+    """A request of lists that are as deep as the limit allows."""
+    deep = b"".join([b"(1:f"] * 60) + b")" * 60
+    empty = len(case([entry("a", STAR)], group(string("ftp"))))
+    return case([entry("a", STAR)], group(string("ftp"), *[deep] * ((size - empty) // len(deep)))), b"yes entry 1\n"
+
+
+def one_string(size):
+    """A request of one long string."""
+    empty = len(case([entry("a", STAR)], string("ftp"))) + 16
+    return case([entry("a", STAR)], string(b"x" * (size - empty))), b"yes entry 1\n"
+
+
+def no_value(size):
+    """Empty lists without end: the most nodes for the octets, and no whole value."""
+    return b"(" + b"()" * ((size - 1) // 2), b"refused form Short\n"
+
+
+def run(text, wanted):
+    process = subprocess.Popen([PROGRAM, "check"], stdin=subprocess.PIPE, stdout=subprocess.PIPE)
+    begun = time.perf_counter()
+    out, _ = process.communicate(text)
+    took = time.perf_counter() - begun
+    if not out.startswith(wanted):
+        sys.exit(f"wrong answer: {out!r}, wanted {wanted!r}")
+    return took
+
+
+def peak(text):
+    """The most memory of one run, in MiB."""
+    read, write = os.pipe()
+    child = os.fork()
+    if child == 0:
+        os.dup2(read, 0)
+        os.close(write)
+        os.dup2(os.open(os.devnull, os.O_WRONLY), 1)
+        os.execv(PROGRAM, [PROGRAM, "check"])
+    os.close(read)
+    with os.fdopen(write, "wb") as pipe:
+        pipe.write(text)
+    _, _, usage = os.wait4(child, 0)
+    return usage.ru_maxrss / 1024
+
+
+def main():
+    worst_ratio, worst_memory = 0.0, 0.0
+    print(f"{'case':<16}" + "".join(f"{size // 1024:>9} KiB" for size in SIZES) + "   ratios      peak")
+    for make in (many_entries, many_members, lists_in_lists, one_string, no_value):
+        times = []
+        for size in SIZES:
+            text, wanted = make(size)
+            times.append(min(run(text, wanted) for _ in range(RUNS)))
+        ratios = [b / a for a, b in zip(times, times[1:])]
+        memory = peak(make(SIZES[-1])[0])
+        worst_ratio = max([worst_ratio] + ratios)
+        worst_memory = max(worst_memory, memory)
+        print(f"{make.__name__:<16}" + "".join(f"{t * 1000:>10.1f} ms" for t in times)
+              + "   " + " ".join(f"{r:.2f}" for r in ratios) + f"   {memory:.1f} MiB")
+    print(f"largest ratio for 4 times the octets: {worst_ratio:.2f} (at most {LIMIT_RATIO})")
+    print(f"largest peak: {worst_memory:.1f} MiB (at most {LIMIT_MEMORY})")
+    if worst_ratio > LIMIT_RATIO or worst_memory > LIMIT_MEMORY:
+        sys.exit(1)
+
+
+if __name__ == "__main__":
+    main()
