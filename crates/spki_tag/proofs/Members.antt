@@ -24,4 +24,5 @@ pub contain_each-too_few : (ts : List Tag) (gs : List Request) → length gs < l
     → contain_each (tags ts) (requests gs) ≡ false
 contain_each-too_few [] gs h = absurd (omega arith)
 contain_each-too_few (t ∷ ts) [] h = refl
-contain_each-too_few (t ∷ ts) (g ∷ gs) h = ap (λ b. contains t g && b) (contain_each-too_few ts gs (omega arith)) ∙ and-false (contains t g)
+contain_each-too_few (t ∷ ts) (g ∷ gs) h =
+    ap (λ b. contains t g && b) (contain_each-too_few ts gs (omega arith)) ∙ and-false (contains t g)

@@ -46,7 +46,9 @@ low_is_not_up false true e = apart (codes "ge") (codes "l") refl e
 low_is_not_up false false e = apart (codes "ge") (codes "le") refl e
 
 same_limit : (k m : Limit) → k.strict ≡ m.strict → k.octets ≡ m.octets → Some k ≡ Some m
-same_limit k m e f = let p : (k.strict, k.octets) ≡ (m.strict, m.octets) = cc in ap (λ (q : Bool × List ℕ). Some (record { strict = q.0; octets = q.1 })) p
+same_limit k m e f =
+    let p : (k.strict, k.octets) ≡ (m.strict, m.octets) = cc in
+    ap (λ (q : Bool × List ℕ). Some (record { strict = q.0; octets = q.1 })) p
 
 up_only : (k m : Option Limit) → values (up_values k) ≡ values (up_values m) → k ≡ m
 up_only None None e = refl
@@ -87,13 +89,15 @@ mutual
   tag_only (prefix octets) star h k e = absurd cc
   tag_only (prefix octets) (string s) h k e = absurd cc
   tag_only (prefix octets) (prefix s) h k e = ap prefix cc
-  tag_only (prefix octets) (range ordering low up) h k e = absurd (apart (codes "range") (codes "prefix") refl (word_only _ _ _ _ e))
+  tag_only (prefix octets) (range ordering low up) h k e =
+      absurd (apart (codes "range") (codes "prefix") refl (word_only _ _ _ _ e))
   tag_only (prefix octets) (list head ws) h k e = absurd (k.0 cc)
   tag_only (prefix octets) (set ws) h k e = absurd (apart (codes "set") (codes "prefix") refl (word_only _ _ _ _ e))
   tag_only (range o l u) star h k e = absurd cc
   tag_only (range o l u) (string s) h k e = absurd cc
   tag_only (range o l u) (prefix s) h k e = absurd (apart (codes "prefix") (codes "range") refl (word_only _ _ _ _ e))
-  tag_only (range o l u) (range ordering low up) h k e = same_range ordering o low up l u (ordering_only ordering o cc) (limits_only low up l u cc)
+  tag_only (range o l u) (range ordering low up) h k e =
+      same_range ordering o low up l u (ordering_only ordering o cc) (limits_only low up l u cc)
   tag_only (range o l u) (list head ws) h k e = absurd (k.0 cc)
   tag_only (range o l u) (set ws) h k e = absurd (apart (codes "set") (codes "range") refl (word_only _ _ _ _ e))
   tag_only (list other ts) star h k e = absurd (h.0 (sym cc))

@@ -1,6 +1,6 @@
 -- Which requests are written as a value.
 use Rattle.std.proofs.Common.{◌≡◌, ℕ, List, [], ◌∷◌, ◌++◌, map, Some, refl, sym, ap, ◌∙◌, subst, append_assoc, ◌≤◌}
-use Rattle.std.proofs.lemmas.List.{map_push, append-nil}
+use Rattle.std.proofs.lemmas.List.{map_push}
 use Rattle.std.specs.Prelude.{codes}
 use Rattle.sexpr_core.specs.Value as value
 use Rattle.sexpr_core.specs.Value.{Value, Values, plain, values, group}
@@ -89,19 +89,16 @@ pub star_refused : (vs : Values) → IsNoRequest faults.StarInRequest (value.lis
 star_refused vs (string s) k e = absurd cc
 star_refused vs (list head hs) k e = absurd (k.1 cc)
 
--- want of memory refuses no request
-pub memory_refused : (fault : TagFault) (v : Value) → fault ≡ faults.Memory → IsNoRequest fault v
-memory_refused fault v e g k spelled = e
-
-pub memory_refused_all : (fault : TagFault) (vs : List Value) → fault ≡ faults.Memory → AreNoRequests fault vs
-memory_refused_all fault vs e gs k spelled = e
-
 -- ---- heads
 
 no_head_refused : (fault : TagFault) (v : Value) (vs : List Value) → IsNoHead fault v
     → IsNoRequest fault (group (v ∷ vs))
-no_head_refused faults.ListHead v vs h = subst (λ x. IsNoRequest faults.ListHead (group (x ∷ vs))) (sym h.1) (headed_refused h.0 (values vs))
-no_head_refused faults.Hint v vs h = subst (λ x. IsNoRequest faults.Hint (group (x ∷ vs))) (sym h.2) (hinted_head_refused h.0 h.1 (values vs))
+no_head_refused faults.ListHead v vs h =
+    subst (λ x. IsNoRequest faults.ListHead (group (x ∷ vs))) (sym h.1)
+    (headed_refused h.0 (values vs))
+no_head_refused faults.Hint v vs h =
+    subst (λ x. IsNoRequest faults.Hint (group (x ∷ vs))) (sym h.2)
+    (hinted_head_refused h.0 h.1 (values vs))
 no_head_refused faults.EmptyList v vs h = absurd h
 no_head_refused faults.UnknownStar v vs h = absurd h
 no_head_refused faults.RangeOrdering v vs h = absurd h
@@ -119,7 +116,9 @@ asked_empty members e = subst (λ us. IsNoRequest faults.EmptyList (group us)) (
 
 pub asked_star : (members : List Value) (v : Value) (vs : List Value) → members ≡ v ∷ vs → v ≡ plain (codes "*")
     → IsNoRequest faults.StarInRequest (group members)
-asked_star members v vs e h = subst (λ us. IsNoRequest faults.StarInRequest (group us)) (sym (e ∙ ap (λ x. x ∷ vs) h)) (star_refused (values vs))
+asked_star members v vs e h =
+    subst (λ us. IsNoRequest faults.StarInRequest (group us)) (sym (e ∙ ap (λ x. x ∷ vs) h))
+    (star_refused (values vs))
 
 -- ---- the loop over the members
 
@@ -134,28 +133,27 @@ pub so_far_push : (vs left further : List Value) (gs : List Request) (v : Value)
 so_far_push vs left further gs v g so_far e k r = record {
   asked = AreRequests-push gs g so_far.asked k;
   spelled =
-      ap (λ (us : List Value). us ++ further) (map_push request_value gs g) ∙ append_assoc (map request_value gs) (request_value g ∷ []) further
-      ∙ ap (λ (x : Value). map request_value gs ++ x ∷ further) r ∙ ap (λ (us : List Value). map request_value gs ++ us) (sym e) ∙ so_far.spelled;
-}
-
-pub so_far_end : (vs left : List Value) (gs : List Request) → IsAskedSoFar vs gs left → left ≡ [] → AreAsked vs gs
-so_far_end vs left gs so_far e = record {
-  asked = so_far.asked;
-  spelled = sym (append-nil (map request_value gs)) ∙ ap (λ (us : List Value). map request_value gs ++ us) (sym e) ∙ so_far.spelled;
+      ap (λ (us : List Value). us ++ further) (map_push request_value gs g)
+      ∙ append_assoc (map request_value gs) (request_value g ∷ []) further
+      ∙ ap (λ (x : Value). map request_value gs ++ x ∷ further) r
+      ∙ ap (λ (us : List Value). map request_value gs ++ us) (sym e) ∙ so_far.spelled;
 }
 
 pub so_far_refused : (fault : TagFault) (vs left further : List Value) (gs : List Request) (v : Value)
     → IsAskedSoFar vs gs left → left ≡ v ∷ further → IsNoRequest fault v → AreNoRequests fault vs
 so_far_refused fault vs left further gs v so_far e refused =
-    subst (AreNoRequests fault) (ap (λ (us : List Value). map request_value gs ++ us) (sym e) ∙ so_far.spelled) (member_refused fault gs v further refused)
+    subst (AreNoRequests fault) (ap (λ (us : List Value). map request_value gs ++ us) (sym e) ∙ so_far.spelled)
+    (member_refused fault gs v further refused)
 
 -- a member that is left weighs no more than all
 pub so_far_weight : (vs left further : List Value) (gs : List Request) (v : Value) → IsAskedSoFar vs gs left
     → left ≡ v ∷ further → weight v ≤ weights (values vs)
 so_far_weight vs left further gs v so_far e =
-    subst (λ us. weight v ≤ weights (values us)) (ap (λ (us : List Value). map request_value gs ++ us) (sym e) ∙ so_far.spelled) (weight_le-weights (map request_value gs) v further)
+    subst (λ us. weight v ≤ weights (values us)) (ap (λ (us : List Value). map request_value gs ++ us) (sym e) ∙ so_far.spelled)
+    (weight_le-weights (map request_value gs) v further)
 
 -- a list of members that were read
 pub list_is_asked : (head : List ℕ) (vs : List Value) (gs : List Request) → AreAsked vs gs
     → request_value (list head (requests gs)) ≡ group (plain head ∷ vs)
-list_is_asked head vs gs r = ap (λ us. value.list (value.more (plain head) us)) (request_values-requests gs ∙ ap values r.spelled)
+list_is_asked head vs gs r =
+    ap (λ us. value.list (value.more (plain head) us)) (request_values-requests gs ∙ ap values r.spelled)

@@ -1,7 +1,7 @@
 -- Which tags are written as a value.
 use Rattle.std.proofs.Common.{◌≡◌, ℕ, ◌+◌, ◌≤◌, ◌<◌, true, false, List, [], ◌∷◌, ◌++◌, map, Some, refl, sym, ap, ◌∙◌, subst, arith, append_assoc}
 use Rattle.std.specs.Prelude.{codes}
-use Rattle.std.proofs.lemmas.List.{map_push, append-nil}
+use Rattle.std.proofs.lemmas.List.{map_push}
 use Rattle.sexpr_core.specs.Value as value
 use Rattle.sexpr_core.specs.Value.{Value, Values, plain, values, group}
 use Rattle.spki_tag.specs.declared.fault.TagFault.{TagFault}
@@ -10,7 +10,7 @@ use Rattle.spki_tag.specs.Request.{IsHead}
 use Rattle.spki_tag.proofs.OneTag.{tag_only}
 use Rattle.spki_tag.proofs.Weight.{weight, weights, weight_le-weights}
 use Rattle.spki_tag.specs.Tag.{Tag, Tags, tags, star, string, prefix, range, list, set, none, more, IsTag, AreTags, tag_value, tag_values, nodes, nodes_all, is_normal, each_normal, is_nothing, IsNormalTag}
-use Rattle.spki_tag.specs.Read.{IsPlain, ArePlain, RulesOut, ReadsAs, most_read}
+use Rattle.spki_tag.specs.Read.{IsPlain, ArePlain, RulesOut, most_read}
 use Rattle.spki_tag.specs.Steps.{IsNoTagAfter, AreNoTagsAfter, IsRead, AreRead, IsNoHead, IsHinted}
 
 -- ---- the forms
@@ -112,19 +112,6 @@ pub list_is_normal : (head : List ℕ) (ts : List Tag) → IsHead head → ArePl
     → 2 + nodes_all (tags ts) ≤ most_read → IsNormalTag (list head (tags ts))
 list_is_normal head ts h p k few = record { written = (h, k); normal = plain_are_normal (tags ts) p; few = omega arith }
 
--- what was read as a plain tag was read as itself
-pub reads_as : (v : Value) (t : Tag) (after : ℕ) → IsRead 0 v t after → ReadsAs v t
-reads_as v t after r = record {
-  w = t;
-  written = r.written;
-  spelled = r.spelled;
-  few = omega (arith, r.counted, r.few);
-  normal = plain_is_normal t r.plain;
-  tag = r.written;
-  same = λ g. refl;
-  no_more = omega arith;
-}
-
 -- ---- the members of a list, one after the other
 
 pub ArePlain-push : (ts : List Tag) (t : Tag) → ArePlain (tags ts) → IsPlain t → ArePlain (tags (ts ++ t ∷ []))
@@ -157,12 +144,14 @@ RulesOut-less faults.Memory P Q f r = r
 -- Behind members that were read, tags that are written as the whole list go on as the rest.
 rest_of : (fault : TagFault) (ts : List Tag) (rest : List Value) (ws : Tags) → AreTags (tags ts) → AreTags ws
     → RulesOut fault (ArePlain ws) → tag_values ws ≡ values (map tag_value ts ++ rest)
-    → (us : Tags) × AreTags us × RulesOut fault (ArePlain us) × (tag_values us ≡ values rest) × (nodes_all (tags ts) + nodes_all us ≡ nodes_all ws)
+    → (us : Tags) × AreTags us × RulesOut fault (ArePlain us) × (tag_values us ≡ values rest)
+    × (nodes_all (tags ts) + nodes_all us ≡ nodes_all ws)
 rest_of fault [] rest ws h k r e = (ws, k, r, e, omega arith)
 rest_of fault (t ∷ ts) rest none h k r e = absurd cc
 rest_of fault (t ∷ ts) rest (more w ws) h k r e =
     let same : w ≡ t = tag_only t w h.0 k.0 cc in
-    let others = rest_of fault ts rest ws h.1 k.1 (RulesOut-less fault (ArePlain (more w ws)) (ArePlain ws) (λ x. x.1) r) cc in
+    let others =
+    rest_of fault ts rest ws h.1 k.1 (RulesOut-less fault (ArePlain (more w ws)) (ArePlain ws) (λ x. x.1) r) cc in
     (others.0, others.1, others.2, others.3, omega (arith, others.4, ap nodes same))
 
 -- a member that is no tag
@@ -172,11 +161,13 @@ pub member_refused : (fault : TagFault) (used before : ℕ) (ts : List Tag) (v :
 member_refused fault used before ts v vs h counted refused ws k few e r =
     first_refused (rest_of fault ts (v ∷ vs) ws h k r e)
   where
-    first_refused : (us : Tags) × AreTags us × RulesOut fault (ArePlain us) × (tag_values us ≡ values (v ∷ vs)) × (nodes_all (tags ts) + nodes_all us ≡ nodes_all ws)
+    first_refused : (us : Tags) × AreTags us × RulesOut fault (ArePlain us) × (tag_values us ≡ values (v ∷ vs))
+        × (nodes_all (tags ts) + nodes_all us ≡ nodes_all ws)
         → ⊥
     first_refused (none, written, ruled, spelled, sum) = cc
     first_refused (more u us, written, ruled, spelled, sum) =
-        refused u written.0 (omega (arith, sum, counted, few)) (cc) (RulesOut-less fault (ArePlain (more u us)) (IsPlain u) (λ x. x.0) ruled)
+        refused u written.0 (omega (arith, sum, counted, few)) (cc)
+        (RulesOut-less fault (ArePlain (more u us)) (IsPlain u) (λ x. x.0) ruled)
 
 -- ---- faults
 
@@ -225,20 +216,13 @@ pub hinted_head_refused : (used : ℕ) (hint octets : List ℕ) (vs : Values)
 hinted_head_refused used hint octets vs w k few e r = hinted_head_is_none w hint octets vs e
 
 pub hinted_form_refused : (used : ℕ) (hint octets : List ℕ) (vs : Values)
-    → IsNoTagAfter used faults.Hint (value.list (value.more (plain (codes "*")) (value.more (value.string (Some hint) octets) vs)))
+    → IsNoTagAfter used faults.Hint
+    (value.list (value.more (plain (codes "*")) (value.more (value.string (Some hint) octets) vs)))
 hinted_form_refused used hint octets vs w k few e r = hinted_form_is_none w hint octets vs k e
 
 pub form_refused : (used : ℕ) (v : Value) (vs : Values)
     → IsNoTagAfter used faults.UnknownStar (value.list (value.more (plain (codes "*")) (value.more v vs)))
 form_refused used v vs w k few e r = form_is_not_plain w v vs k r e
-
--- want of memory refuses no tag
-pub memory_refused : (fault : TagFault) (used : ℕ) (v : Value) → fault ≡ faults.Memory → IsNoTagAfter used fault v
-memory_refused fault used v e w k few spelled r = subst (λ f. RulesOut f (IsPlain w)) e r
-
-pub memory_refused_all : (fault : TagFault) (used : ℕ) (vs : List Value) → fault ≡ faults.Memory
-    → AreNoTagsAfter used fault vs
-memory_refused_all fault used vs e ws k few spelled r = subst (λ f. RulesOut f (ArePlain ws)) e r
 
 -- ---- what is behind the star
 
@@ -246,19 +230,25 @@ pub starred_hinted : (used : ℕ) (v : Value) (further vs : List Value) → furt
     → IsNoTagAfter used faults.Hint (group (plain (codes "*") ∷ further))
 starred_hinted used v further vs e h =
     subst (λ us. IsNoTagAfter used faults.Hint (group (plain (codes "*") ∷ us))) (sym e)
-    (subst (λ x. IsNoTagAfter used faults.Hint (group (plain (codes "*") ∷ x ∷ vs))) (sym h.2) (hinted_form_refused used h.0 h.1 (values vs)))
+    (subst (λ x. IsNoTagAfter used faults.Hint (group (plain (codes "*") ∷ x ∷ vs))) (sym h.2)
+    (hinted_form_refused used h.0 h.1 (values vs)))
 
 pub starred_other : (used : ℕ) (v : Value) (further vs : List Value) → further ≡ v ∷ vs
     → IsNoTagAfter used faults.UnknownStar (group (plain (codes "*") ∷ further))
 starred_other used v further vs e =
-    subst (λ us. IsNoTagAfter used faults.UnknownStar (group (plain (codes "*") ∷ us))) (sym e) (form_refused used v (values vs))
+    subst (λ us. IsNoTagAfter used faults.UnknownStar (group (plain (codes "*") ∷ us))) (sym e)
+    (form_refused used v (values vs))
 
 -- ---- heads
 
 pub no_head_refused : (used : ℕ) (fault : TagFault) (v : Value) (vs : List Value) → IsNoHead fault v
     → IsNoTagAfter used fault (group (v ∷ vs))
-no_head_refused used faults.ListHead v vs h = subst (λ x. IsNoTagAfter used faults.ListHead (group (x ∷ vs))) (sym h.1) (headed_refused used h.0 (values vs))
-no_head_refused used faults.Hint v vs h = subst (λ x. IsNoTagAfter used faults.Hint (group (x ∷ vs))) (sym h.2) (hinted_head_refused used h.0 h.1 (values vs))
+no_head_refused used faults.ListHead v vs h =
+    subst (λ x. IsNoTagAfter used faults.ListHead (group (x ∷ vs))) (sym h.1)
+    (headed_refused used h.0 (values vs))
+no_head_refused used faults.Hint v vs h =
+    subst (λ x. IsNoTagAfter used faults.Hint (group (x ∷ vs))) (sym h.2)
+    (hinted_head_refused used h.0 h.1 (values vs))
 no_head_refused used faults.EmptyList v vs h = absurd h
 no_head_refused used faults.UnknownStar v vs h = absurd h
 no_head_refused used faults.RangeOrdering v vs h = absurd h
@@ -277,9 +267,6 @@ pub record IsReadSoFar (used : ℕ) (vs : List Value) (ts : List Tag) (counted :
   pub sum : counted ≡ used + nodes_all (tags ts)
   pub few : counted ≤ most_read
 
-pub so_far_start : (used : ℕ) (vs : List Value) → used ≤ most_read → IsReadSoFar used vs [] used vs
-so_far_start used vs few = record { plain = tt; written = tt; spelled = refl; sum = omega arith; few = few }
-
 pub so_far_push : (used counted after : ℕ) (vs left further : List Value) (ts : List Tag) (v : Value) (t : Tag)
     → IsReadSoFar used vs ts counted left → left ≡ v ∷ further → IsRead counted v t after
     → IsReadSoFar used vs (ts ++ t ∷ []) after further
@@ -287,20 +274,12 @@ so_far_push used counted after vs left further ts v t so_far e r = record {
   plain = ArePlain-push ts t so_far.plain r.plain;
   written = AreTags-push ts t so_far.written r.written;
   spelled =
-      ap (λ (us : List Value). us ++ further) (map_push tag_value ts t) ∙ append_assoc (map tag_value ts) (tag_value t ∷ []) further
-      ∙ ap (λ (x : Value). map tag_value ts ++ x ∷ further) r.spelled ∙ ap (λ (us : List Value). map tag_value ts ++ us) (sym e) ∙ so_far.spelled;
+      ap (λ (us : List Value). us ++ further) (map_push tag_value ts t)
+      ∙ append_assoc (map tag_value ts) (tag_value t ∷ []) further
+      ∙ ap (λ (x : Value). map tag_value ts ++ x ∷ further) r.spelled
+      ∙ ap (λ (us : List Value). map tag_value ts ++ us) (sym e) ∙ so_far.spelled;
   sum = omega (arith, r.counted, so_far.sum, nodes_all-push ts t);
   few = r.few;
-}
-
-pub so_far_end : (used counted : ℕ) (vs left : List Value) (ts : List Tag) → IsReadSoFar used vs ts counted left
-    → left ≡ [] → AreRead used vs ts counted
-so_far_end used counted vs left ts so_far e = record {
-  plain = so_far.plain;
-  written = so_far.written;
-  spelled = sym (append-nil (map tag_value ts)) ∙ ap (λ (us : List Value). map tag_value ts ++ us) (sym e) ∙ so_far.spelled;
-  counted = so_far.sum;
-  few = so_far.few;
 }
 
 pub so_far_refused : (fault : TagFault) (used counted : ℕ) (vs left further : List Value) (ts : List Tag) (v : Value)
@@ -323,19 +302,13 @@ list_is_read used after head vs ts h r = record {
 
 pub list_is_in_normal_form : (used after : ℕ) (head : List ℕ) (vs : List Value) (ts : List Tag) → IsHead head
     → AreRead (used + 2) vs ts after → IsNormalTag (list head (tags ts))
-list_is_in_normal_form used after head vs ts h r = list_is_normal head ts h r.plain r.written (omega (arith, r.counted, r.few))
-
-pub string_is_read : (used : ℕ) (octets : List ℕ) → used < most_read
-    → IsRead used (plain octets) (string octets) (used + 1)
-string_is_read used octets room = record { plain = tt; written = tt; spelled = refl; counted = refl; few = omega arith }
-
-pub star_is_read : (used : ℕ) (further : List Value) → used < most_read → further ≡ []
-    → IsRead used (group (plain (codes "*") ∷ further)) star (used + 1)
-star_is_read used further room e = record { plain = tt; written = tt; spelled = ap (λ us. group (plain (codes "*") ∷ us)) (sym e); counted = refl; few = omega arith }
+list_is_in_normal_form used after head vs ts h r =
+    list_is_normal head ts h r.plain r.written (omega (arith, r.counted, r.few))
 
 pub list_no_head : (used : ℕ) (fault : TagFault) (members : List Value) (v : Value) (vs : List Value)
     → members ≡ v ∷ vs → IsNoHead fault v → IsNoTagAfter used fault (group members)
-list_no_head used fault members v vs e h = subst (λ us. IsNoTagAfter used fault (group us)) (sym e) (no_head_refused used fault v vs h)
+list_no_head used fault members v vs e h =
+    subst (λ us. IsNoTagAfter used fault (group us)) (sym e) (no_head_refused used fault v vs h)
 
 pub list_empty : (used : ℕ) (members : List Value) → members ≡ []
     → IsNoTagAfter used faults.EmptyList (group members)
@@ -345,7 +318,8 @@ list_empty used members e = subst (λ us. IsNoTagAfter used faults.EmptyList (gr
 pub so_far_weight : (used counted : ℕ) (vs left further : List Value) (ts : List Tag) (v : Value)
     → IsReadSoFar used vs ts counted left → left ≡ v ∷ further → weight v ≤ weights (values vs)
 so_far_weight used counted vs left further ts v so_far e =
-    subst (λ us. weight v ≤ weights (values us)) (ap (λ (us : List Value). map tag_value ts ++ us) (sym e) ∙ so_far.spelled) (weight_le-weights (map tag_value ts) v further)
+    subst (λ us. weight v ≤ weights (values us)) (ap (λ (us : List Value). map tag_value ts ++ us) (sym e) ∙ so_far.spelled)
+    (weight_le-weights (map tag_value ts) v further)
 
 -- ---- writing
 
@@ -353,7 +327,8 @@ so_far_weight used counted vs left further ts v so_far e =
 pub list_written : (head : List ℕ) (ts : List Tag) (v : Value) (front out : List Value) → v ≡ group out
     → out ≡ front ++ map tag_value ts → front ≡ plain head ∷ [] → v ≡ tag_value (list head (tags ts))
 list_written head ts v front out e f g =
-    e ∙ ap group (f ∙ ap (λ (us : List Value). us ++ map tag_value ts) g) ∙ ap (λ us. value.list (value.more (plain head) us)) (sym (tag_values-tags ts))
+    e ∙ ap group (f ∙ ap (λ (us : List Value). us ++ map tag_value ts) g)
+    ∙ ap (λ us. value.list (value.more (plain head) us)) (sym (tag_values-tags ts))
 
 -- a set is written by the star, its word and its members
 pub set_written : (ts : List Tag) (v : Value) (front out : List Value) → v ≡ group out

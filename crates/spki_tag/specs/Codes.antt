@@ -10,7 +10,9 @@ use Rattle.spki_tag.specs.Tag.{Tag, Tags, Limit, Ordering, alpha, time, date, st
 -- ---- labels
 
 abbrev pub limit_code : Coded Limit
-limit_code = code_by (Bool × List ℕ) (coded× coded_bool (coded_list coded_ℕ)) (λ l. (l.strict, l.octets)) (λ p. record { strict = p.0; octets = p.1 }) (λ _. refl)
+limit_code =
+    code_by (Bool × List ℕ) (coded× coded_bool (coded_list coded_ℕ)) (λ l. (l.strict, l.octets))
+    (λ p. record { strict = p.0; octets = p.1 }) (λ _. refl)
 
 -- what a label stands for, the octets, and the limits of a range
 pub record Label : Type 0 where
@@ -101,7 +103,8 @@ mutual
 
 abbrev pub tag_code : Coded Tag
 tag_code =
-    code_by (List Label) (coded_list label_code) (λ t. tag_labels t []) (λ ls. first_tag (tags_made ls (none ∷ []))) (λ t. ap first_tag (made-tag t [] none []))
+    code_by (List Label) (coded_list label_code) (λ t. tag_labels t []) (λ ls. first_tag (tags_made ls (none ∷ [])))
+    (λ t. ap first_tag (made-tag t [] none []))
 
 -- ---- requests
 
@@ -145,7 +148,8 @@ mutual
   pub made-requests : (gs : Requests) (rest : List (ℕ × List ℕ)) (below : List Requests)
       → requests_made (requests_labels gs rest) (request.none ∷ below) ≡ requests_made rest (gs ∷ below)
   made-requests request.none rest below = refl
-  made-requests (request.more g gs) rest below = made-requests gs (request_labels g rest) below ∙ made-request g rest gs below
+  made-requests (request.more g gs) rest below =
+      made-requests gs (request_labels g rest) below ∙ made-request g rest gs below
 
 abbrev pub request_code : Coded Request
 request_code =

@@ -36,6 +36,14 @@ abbrev mutual
   ArePlain none = Unit {0}
   ArePlain (more t ts) = IsPlain t × ArePlain ts
 
+-- The value is a tag that is read so far: a plain tag of at most 1,024 nodes is written so.
+pub record IsReadable (v : Value) : Type 0 where
+  pub tag : Tag
+  pub written : IsTag tag
+  pub plain : IsPlain tag
+  pub few : nodes tag ≤ most_read
+  pub spelled : tag_value tag ≡ v
+
 -- Which of the written tags with some property a fault rules out. Want of memory rules out none. A form that isn't
 -- read yet is UnknownStar, which rules out those that have the property P of being read so far. Each other fault
 -- rules out all.

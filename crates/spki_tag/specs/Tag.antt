@@ -91,7 +91,8 @@ abbrev mutual
   tag_value star = group (plain (codes "*") ∷ [])
   tag_value (string octets) = plain octets
   tag_value (prefix octets) = starred (codes "prefix") (value.values (plain octets ∷ []))
-  tag_value (range ordering low up) = starred (codes "range") (value.values (plain (ordering_name ordering) ∷ (low_values low ++ up_values up)))
+  tag_value (range ordering low up) =
+      starred (codes "range") (value.values (plain (ordering_name ordering) ∷ (low_values low ++ up_values up)))
   tag_value (list head further) = value.list (value.more (plain head) (tag_values further))
   tag_value (set members) = starred (codes "set") (tag_values members)
 
@@ -129,7 +130,8 @@ abbrev mutual
   contains (string octets) (request.list head further) = false
   contains (prefix octets) (request.string asked) = starts_with nat_eq asked octets
   contains (prefix octets) (request.list head further) = false
-  contains (range ordering low up) (request.string asked) = is_ordered ordering asked && is_above low asked && is_below up asked
+  contains (range ordering low up) (request.string asked) =
+      is_ordered ordering asked && is_above low asked && is_below up asked
   contains (range ordering low up) (request.list head further) = false
   contains (list head further) (request.string asked) = false
   contains (list head further) (request.list asked others) = bytes_eq head asked && contain_each further others

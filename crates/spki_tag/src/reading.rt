@@ -1,10 +1,10 @@
 //! Reading tags.
 
-ghost use Rattle.std.specs.Prelude.{◌≡◌, ◌+◌, ◌≤◌, ◌<◌, ◌∷◌, IfOk, IfErr, IfSome, IsSome, codes};
+ghost use Rattle.std.specs.Prelude.{◌≡◌, ◌+◌, ◌≤◌, ◌<◌, ◌∷◌, IfOk, IfErr, IfSome, IsSome, IsOkUnless, codes};
 ghost use Rattle.std.specs.Bool.{OnTrue};
 ghost use Rattle.sexpr_core.specs.Value.{plain, group, node};
 ghost use Rattle.spki_tag.specs.Request.{IsHead};
-ghost use Rattle.spki_tag.specs.Read.{ReadsAs, IsNoTag, most_read};
+ghost use Rattle.spki_tag.specs.Read.{ReadsAs, IsReadable, IsNoTag, most_read};
 ghost use Rattle.spki_tag.specs.Steps.{IsRead, AreRead, IsNoTagAfter, AreNoTagsAfter, IsNoHead, IsHinted};
 
 use crate::fault::TagFault;
@@ -152,6 +152,7 @@ impl Tag {
     /// that begins with `*` and is no tag `UnknownStar`. `Memory` where memory ran out.
     pub fn of(alloc: Global, value: &Node<'_, '_>) -> Result<Tag, TagFault>
         ensures read { IfOk result (λ tag. ReadsAs value.now tag) }
+        ensures only { IsReadable value.now → IsOkUnless result TagFault.Memory }
         ensures refused { IfErr result (λ fault. IsNoTag fault value.now) }
     {
         let (tag, _) = read_tag(alloc, value, 0)?;
@@ -166,6 +167,7 @@ impl Tag {
     pub fn read(alloc: Global, document: &Doc<'_>, n: NodeId) -> Result<Tag, TagFault>
         requires { IsSome (node document.now n.0) }
         ensures read { IfSome (node document.now n.0) (λ value. IfOk result (λ tag. ReadsAs value tag)) }
+        ensures only { IfSome (node document.now n.0) (λ value. IsReadable value → IsOkUnless result TagFault.Memory) }
         ensures refused { IfSome (node document.now n.0) (λ value. IfErr result (λ fault. IsNoTag fault value)) }
     {
         match document.node(n) {
