@@ -6,6 +6,7 @@ Build the program first (`rt run` in crates/spki). Usage: bench/check.py [PROGRA
 import os
 import subprocess
 import sys
+import tempfile
 import time
 
 PROGRAM = sys.argv[1] if len(sys.argv) > 1 else os.path.join(os.path.dirname(__file__), "..", "crates", "spki", "out", "spki")
@@ -82,20 +83,25 @@ def run(text, wanted):
     return took
 
 
+# A process counts the memory that it had before it became the program, so a small one starts it.
+STARTER = """
+import os, sys
+child = os.fork()
+if child == 0:
+    os.dup2(os.open(sys.argv[2], os.O_RDONLY), 0)
+    os.dup2(os.open(os.devnull, os.O_WRONLY), 1)
+    os.execv(sys.argv[1], [sys.argv[1], "check"])
+print(os.wait4(child, 0)[2].ru_maxrss)
+"""
+
+
 def peak(text):
     """The most memory of one run, in MiB."""
-    read, write = os.pipe()
-    child = os.fork()
-    if child == 0:
-        os.dup2(read, 0)
-        os.close(write)
-        os.dup2(os.open(os.devnull, os.O_WRONLY), 1)
-        os.execv(PROGRAM, [PROGRAM, "check"])
-    os.close(read)
-    with os.fdopen(write, "wb") as pipe:
-        pipe.write(text)
-    _, _, usage = os.wait4(child, 0)
-    return usage.ru_maxrss / 1024
+    with tempfile.NamedTemporaryFile() as file:
+        file.write(text)
+        file.flush()
+        out = subprocess.run([sys.executable, "-I", "-S", "-c", STARTER, PROGRAM, file.name], capture_output=True, check=True)
+    return int(out.stdout) / 1024
 
 
 def main():
