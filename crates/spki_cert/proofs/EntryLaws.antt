@@ -1,11 +1,11 @@
 -- Entries that were read one after the other.
-use Rattle.std.proofs.Common.{◌≡◌, ◌≢◌, ℕ, ◌+◌, ◌⊎◌, inl, inr, List, [], ◌∷◌, ◌++◌, length, Bool, true, false, refl, sym, ap, subst, ◌∙◌, arith}
+use Rattle.std.proofs.Common.{◌≡◌, ℕ, inl, inr, List, [], ◌∷◌, ◌++◌, length, true, false, refl, sym, ap, subst, arith}
 use Rattle.std.specs.Prelude.{codes}
 use Rattle.std.specs.List.{AllByRecursion, AllZip}
 use Rattle.sexpr_core.specs.Value.{Value, plain, group}
 use Rattle.spki_cert.specs.declared.entry.Entry.{Entry}
-use Rattle.spki_cert.specs.Entries.{EntryOf, AclOf, IsReadEntry, IsReadAcl, IsNoEntry, IsNoAcl, IsRefusedAt, AclRefused, IsVersion, is_headed}
-use Rattle.spki_cert.proofs.Groups.{same_rest, same_others}
+use Rattle.spki_cert.specs.Entries.{EntryOf, IsReadEntry, IsNoAcl, IsRefusedAt, AclRefused, IsVersion, is_headed}
+use Rattle.spki_cert.proofs.Groups.{same_others}
 
 pub entries-push : (vs : List Value) (es : List Entry) (v : Value) (e : Entry) → AllZip EntryOf vs es → EntryOf v e → AllZip EntryOf (vs ++ v ∷ []) (es ++ e ∷ [])
 entries-push [] [] v e zip here = (here, tt)

@@ -1,21 +1,19 @@
 -- Worked examples: what the definitions say of values that are written out.
-use Rattle.std.proofs.Common.{◌≡◌, ℕ, Bool, true, false, List, [], ◌∷◌, Option, Some, None, inl, inr, refl, sym, ap, ◌∙◌, arith}
+use Rattle.std.proofs.Common.{◌≡◌, ℕ, true, false, List, [], ◌∷◌, Some, None, inl, inr, refl, arith}
 use Rattle.std.specs.Prelude.{codes, Vec}
 use Rattle.std.specs.declared.alloc.Global.{Global}
-use Rattle.sexpr_core.specs.Value.{Value, plain, group, canon, verbatim, decimal}
+use Rattle.sexpr_core.specs.Value.{Value, plain, group, verbatim, decimal}
 use Rattle.spki_tag.specs.Tag as tags
 use Rattle.spki_tag.specs.Read.{ReadsAs}
 use Rattle.spki_tag.specs.Time.{is_time, is_date}
-use Rattle.spki_cert.specs.declared.hash.HashAlg.{HashAlg}
-use Rattle.spki_cert.specs.declared.hash.HashAlg.TheVariants.{Sha1, Sha256, Sha512}
-use Rattle.spki_cert.specs.declared.principal.Policy.TheVariants.{Open, Strict}
+use Rattle.spki_cert.specs.declared.hash.HashAlg.TheVariants.{Sha1}
+use Rattle.spki_cert.specs.declared.principal.Policy.TheVariants.{Strict}
 use Rattle.spki_cert.specs.declared.principal.Principal.TheVariants.{Key, Hash}
 use Rattle.spki_cert.specs.declared.window.Window.{Window}
-use Rattle.spki_cert.specs.declared.entry.Entry.{Entry}
 use Rattle.spki_cert.specs.Naming.{names}
 use Rattle.spki_cert.specs.Time.{within, meet_of}
-use Rattle.spki_cert.specs.Readings.{KeyOf, HashOf, DateOf}
-use Rattle.spki_cert.specs.Entries.{is_headed, WindowOf, FieldsOf, propagate, tag, tag_field, propagate_field, limit_field, EntryOf, NameOf, IsReadEntry}
+use Rattle.spki_cert.specs.Readings.{KeyOf, DateOf}
+use Rattle.spki_cert.specs.Entries.{WindowOf, tag, tag_field, limit_field, EntryOf, NameOf}
 
 -- (public-key (test a))
 abbrev ka_body : Value

@@ -1,15 +1,15 @@
 -- Fields that were read one after the other.
-use Rattle.std.proofs.Common.{◌≡◌, ℕ, ◌+◌, ◌≤◌, Bool, true, false, ◌||◌, ◌⊎◌, inl, inr, List, [], ◌∷◌, ◌++◌, Option, Some, None, refl, sym, ap, subst, ◌∙◌, arith}
+use Rattle.std.proofs.Common.{◌≡◌, ℕ, ◌+◌, ◌≤◌, Bool, true, false, ◌||◌, inl, inr, List, [], ◌∷◌, ◌++◌, Option, Some, None, refl, sym, ap, subst, ◌∙◌, arith}
 use Rattle.std.specs.Prelude.{Contains, codes, is_some}
 use Rattle.std.specs.List.{AllByRecursion, list_any}
 use Rattle.std.proofs.lemmas.List.Folds.{list_any-append}
 use Rattle.std.proofs.lemmas.List.Elements.{Contains-append_left, Contains-append_right}
-use Rattle.sexpr_core.specs.Value.{Value, plain, group}
+use Rattle.sexpr_core.specs.Value.{Value}
 use Rattle.spki_tag.specs.Tag as tags
 use Rattle.spki_tag.specs.Read.{ReadsAs}
 use Rattle.spki_cert.specs.declared.fields.Fields.{Fields}
 use Rattle.spki_cert.specs.declared.window.Window.{Window}
-use Rattle.spki_cert.specs.Entries.{one_if, is_headed, count_headed, propagate_field, tag_field, spread, IsField, propagate, tag, LimitIs, WindowOf, FieldsOf, IsReadField}
+use Rattle.spki_cert.specs.Entries.{one_if, is_headed, count_headed, propagate_field, tag_field, spread, IsField, propagate, tag, WindowOf, FieldsOf, IsReadField}
 use Rattle.spki_cert.specs.Fields.{IsPlainField, Adds, delegates, gives, IsRepeated, TagAmong, AreRead, always}
 
 -- ---- lists

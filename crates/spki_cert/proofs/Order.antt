@@ -1,5 +1,5 @@
 -- Moments are in order, and what follows for windows.
-use Rattle.std.proofs.Common.{◌≡◌, ℕ, Bool, true, false, cond, ◌&&◌, List, Option, Some, None, refl, sym, ap, ◌∙◌, subst, arith, rules}
+use Rattle.std.proofs.Common.{◌≡◌, ℕ, Bool, true, false, cond, ◌&&◌, List, Option, Some, None, refl, sym, ap, ◌∙◌, subst}
 use Rattle.std.specs.Prelude.{IfSome, IfNone, codes}
 use Rattle.std.specs.Cmp.Lexicographic.{slice_cmp}
 use Rattle.std.specs.declared.cmp.Ordering.{Ordering}
@@ -8,7 +8,7 @@ use Rattle.std.specs.Ordering.{nat_cmp, is_le, is_gt, ordering_reverse}
 use Rattle.std.proofs.lemmas.Cmp.{nat_list_cmp_total, upto as goes_on, tied_itself}
 use Rattle.spki_cert.specs.declared.window.Window.{Window}
 use Rattle.spki_tag.specs.Time.{is_time, is_date}
-use Rattle.spki_cert.specs.Time.{upto, is_from, is_until, within, later, earlier, in_order, between, meet_of, IsLimit, IsMeet, Overlap, AreApart}
+use Rattle.spki_cert.specs.Time.{upto, is_from, is_until, within, later, earlier, in_order, meet_of, IsLimit, IsMeet, Overlap, AreApart}
 
 le_or_gt : (o : Ordering) → is_le o ≡ true → is_gt o ≡ false
 le_or_gt Less e = refl

@@ -3,10 +3,9 @@
 use Rattle.std.specs.Prelude.{◌≡◌, ℕ, ◌+◌, ◌≤◌, Bool, true, false, ◌⊎◌, List, [], ◌∷◌, ◌++◌, length, Option, Some, None, Contains, codes, if◌then◌else◌}
 use Rattle.std.specs.Str.{bytes_eq}
 use Rattle.std.specs.List.{AllByRecursion, AllZip, list_any}
-use Rattle.sexpr_core.specs.Value.{Value, string, list, Values, none, more, members, plain, group}
+use Rattle.sexpr_core.specs.Value.{Value, string, list, none, more, members, plain, group}
 use Rattle.spki_tag.specs.Tag as tags
 use Rattle.spki_tag.specs.Read.{ReadsAs, IsPlain, most_read}
-use Rattle.spki_cert.specs.declared.hash.HashAlg.{HashAlg}
 use Rattle.spki_cert.specs.declared.principal.Principal.{Principal}
 use Rattle.spki_cert.specs.declared.principal.Principal.TheVariants.{Key, Hash}
 use Rattle.spki_cert.specs.declared.window.Window.{Window}
@@ -103,7 +102,9 @@ LimitIs word vs (Some date) = (count_headed word vs ≡ 1) × Contains vs (limit
 -- The window that fields write: each limit at most once, directly or in one (valid ..), and not both ways.
 pub record WindowOf (fields : List Value) (w : Window) : Type 0 where
   pub one_valid : count_headed (codes "valid") fields ≤ 1
-  pub one_way : (count_headed (codes "valid") fields ≡ 0) ⊎ (count_headed (codes "not-before") fields + count_headed (codes "not-after") fields ≡ 0)
+  pub one_way :
+      (count_headed (codes "valid") fields ≡ 0)
+      ⊎ (count_headed (codes "not-before") fields + count_headed (codes "not-after") fields ≡ 0)
   pub first : LimitIs (codes "not-before") (spread fields) w.not_before
   pub last : LimitIs (codes "not-after") (spread fields) w.not_after
 

@@ -1,12 +1,12 @@
 -- What is known of an entry's fields while they are read.
-use Rattle.std.specs.Prelude.{◌≡◌, ℕ, Bool, true, false, ◌⊎◌, List, Option, Some, None, Contains, codes, is_some}
+use Rattle.std.specs.Prelude.{◌≡◌, Bool, true, false, ◌⊎◌, List, Option, Some, None, Contains, codes, is_some}
 use Rattle.std.specs.List.{AllByRecursion, list_any}
 use Rattle.sexpr_core.specs.Value.{Value}
 use Rattle.spki_tag.specs.Tag as tags
 use Rattle.spki_tag.specs.Read.{ReadsAs}
 use Rattle.spki_cert.specs.declared.fields.Fields.{Fields}
 use Rattle.spki_cert.specs.declared.window.Window.{Window}
-use Rattle.spki_cert.specs.Entries.{one_if, is_headed, count_headed, propagate_field, tag_field}
+use Rattle.spki_cert.specs.Entries.{one_if, is_headed, count_headed, propagate_field, tag_field, FieldsOf, IsReadField}
 
 -- (propagate) or (tag T), T any value
 abbrev pub IsPlainField : Value → Type 0
@@ -37,3 +37,8 @@ pub record AreRead (fields : List Value) (known : Fields) : Type 0 where
 -- no limits
 abbrev pub always : Window
 always = record { not_before = None; not_after = None }
+
+-- what the fields of no entry of the forms that are read so far are
+abbrev pub AreNoFields : List Value → Type 0
+AreNoFields fields =
+    (propagates : Bool) (t : tags.Tag) (w : Window) → FieldsOf fields propagates t w → AllByRecursion IsReadField fields → ⊥

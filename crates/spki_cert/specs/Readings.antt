@@ -1,5 +1,5 @@
 -- Which key, hash or date a value is. The forms are those of the SPKI working group's structure draft.
-use Rattle.std.specs.Prelude.{◌≡◌, ℕ, List, [], ◌∷◌, length, Option, Some, None, true, codes}
+use Rattle.std.specs.Prelude.{◌≡◌, ℕ, List, [], ◌∷◌, length, true, codes}
 use Rattle.sexpr_core.specs.Value.{Value, plain, group, canon}
 use Rattle.spki_cert.specs.declared.hash.HashAlg.{HashAlg}
 use Rattle.spki_cert.specs.declared.hash.HashAlg.TheVariants.{Sha1, Sha256, Sha512}

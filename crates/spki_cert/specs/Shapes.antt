@@ -1,5 +1,5 @@
 -- What a value isn't.
-use Rattle.std.specs.Prelude.{◌≡◌, ◌≢◌, ℕ, List, [], ◌∷◌}
+use Rattle.std.specs.Prelude.{◌≢◌, ℕ, List, ◌∷◌}
 use Rattle.sexpr_core.specs.Value.{Value, plain, group}
 
 -- not a string without display hint

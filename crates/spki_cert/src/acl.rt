@@ -26,31 +26,27 @@ fn entry_of<'a>(alloc: Global, node: &Node<'_, 'a>) -> Result<Entry<'a>, CertFau
     let Some((subject, rest)) = rest.split_first() else {
         return Err(CertFaultKind::Shape);
     };
-    let key = match key_of(&subject) {
-        Ok(key) => key,
-        Err(kind) => return Err(kind),
-    };
-    match fields_of(alloc, rest) {
-        Ok((propagate, tag)) => Ok(Entry {
-            subject: Subject {
-                principal: Principal::Key(key),
-                names: Vec::new(alloc),
-            },
-            propagate,
-            tag,
-            window: Window {
-                not_before: None,
-                not_after: None,
-            },
-        }),
-        Err(kind) => Err(kind),
-    }
+    let key = key_of(&subject)?;
+    let (propagate, tag) = fields_of(alloc, rest)?;
+    Ok(Entry {
+        subject: Subject {
+            principal: Principal::Key(key),
+            names: Vec::new(alloc),
+        },
+        propagate,
+        tag,
+        window: Window {
+            not_before: None,
+            not_after: None,
+        },
+    })
 }
 
 /// The entries of an access list, behind its head.
 fn entries_of<'a>(alloc: Global, members: Members<'_, 'a>) -> Result<Vec<Entry<'a>>, CertFault>
     ensures entries { IfOk result (λ entries. AllZip EntryOf members.entry entries.items) }
-    ensures refused { IfErr result (λ fault. fault.kind ≢ CertFaultKind.Memory → IsRefusedAt members.entry fault.item) }
+    ensures refused { IfErr result (λ fault.
+        fault.kind ≢ CertFaultKind.Memory → IsRefusedAt members.entry fault.item) }
 {
     let mut rest = members;
     let mut entries = Vec::new(alloc);
@@ -73,10 +69,12 @@ fn entries_of<'a>(alloc: Global, members: Members<'_, 'a>) -> Result<Vec<Entry<'
     Ok(entries)
 }
 
-/// The access list that a node is.
+/// The access list that a node is, as `read_acl` reads it.
 pub fn acl_of<'a>(alloc: Global, node: &Node<'_, 'a>) -> Result<Vec<Entry<'a>>, CertFault>
     ensures acl { IfOk result (λ entries. AclOf node.now entries.items) }
-    ensures place { IfErr result (λ fault. fault.kind ≢ CertFaultKind.Memory → AclRefused node.now fault.item) }
+    // The entries before the item have readings, and the item has none; at item 0 there is no list.
+    ensures place { IfErr result (λ fault.
+        fault.kind ≢ CertFaultKind.Memory → AclRefused node.now fault.item) }
 {
     match headed(node, b"acl") {
         Some(members) => match entries_of(alloc, members) {
@@ -103,7 +101,8 @@ pub fn read_acl<'a>(
     n: NodeId,
 ) -> Result<Vec<Entry<'a>>, CertFault>
     requires { IsSome (node document.now n.0) }
-    ensures acl { IfSome (node document.now n.0) (λ value. IfOk result (λ entries. AclOf value entries.items)) }
+    ensures acl { IfSome (node document.now n.0) (λ value.
+        IfOk result (λ entries. AclOf value entries.items)) }
     // Refused, other than by Memory, is only what is no list of the forms that are read so far,
     ensures refused { IfSome (node document.now n.0) (λ value.
         IfErr result (λ fault. fault.kind ≢ CertFaultKind.Memory → IsNoAcl value)) }

@@ -32,7 +32,8 @@ impl Date {
     /// The date that these octets write, or None if they write none. Takes no memory.
     #[tactic(auto, unfolding(spki_tag::specs::Time::is_date))]
     pub fn of(octets: &[u8]) -> Option<Date>
-        ensures { MatchOption result (is_date octets.now ≡ false) (λ d. (d ≡ octets.now) × (is_date d ≡ true)) }
+        ensures { MatchOption result (is_date octets.now ≡ false)
+            (λ date. (date ≡ octets.now) × (is_date date ≡ true)) }
     {
         if !is_date(octets) {
             return None;

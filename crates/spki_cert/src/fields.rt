@@ -1,13 +1,10 @@
 //! The fields of an entry.
 
-ghost use Rattle.std.specs.Prelude.{◌≡◌, ◌≢◌, ◌∷◌, [], IfOk, IfErr, is_some, Bool, true, false, codes};
-ghost use Rattle.std.specs.List.{AllByRecursion};
+ghost use Rattle.std.specs.Prelude.{◌≡◌, ◌≢◌, ◌∷◌, [], IfOk, IfErr, true, false};
 ghost use Rattle.sexpr_core.specs.Value.{Value, plain, group};
-ghost use Rattle.spki_tag.specs.Tag as tags;
 ghost use Rattle.spki_tag.specs.Read.{ReadsAs};
-ghost use Rattle.spki_cert.specs.declared.window.Window.{Window};
 ghost use Rattle.spki_cert.specs.Entries.{FieldsOf, IsReadTag, IsReadField};
-ghost use Rattle.spki_cert.specs.Fields.{Adds, IsRepeated, always};
+ghost use Rattle.spki_cert.specs.Fields.{Adds, IsRepeated, AreNoFields, always};
 
 use crate::fault::CertFaultKind;
 use crate::shape::headed;
@@ -59,13 +56,11 @@ fn with_field(alloc: Global, field: &Node, known: Fields) -> Result<Fields, Cert
     if known.tag.is_some() {
         return Err(CertFaultKind::Shape);
     }
-    match tag_of(alloc, rest) {
-        Ok(tag) => Ok(Fields {
-            propagates: known.propagates,
-            tag: Some(tag),
-        }),
-        Err(kind) => Err(kind),
-    }
+    let tag = tag_of(alloc, rest)?;
+    Ok(Fields {
+        propagates: known.propagates,
+        tag: Some(tag),
+    })
 }
 
 /// The same, where the field's head is `propagate`.
@@ -86,8 +81,7 @@ fn with_propagate(rest: Members, known: Fields) -> Result<Fields, CertFaultKind>
 /// Whether the fields of an entry delegate, and their tag.
 pub fn fields_of(alloc: Global, fields: Members) -> Result<(bool, Tag), CertFaultKind>
     ensures found { IfOk result (λ found. FieldsOf fields.entry found.0 found.1 always) }
-    ensures refused { IfErr result (λ kind. kind ≢ CertFaultKind.Memory →
-        (propagates : Bool) (t : tags.Tag) (w : Window) → FieldsOf fields.entry propagates t w → AllByRecursion IsReadField fields.entry → ⊥) }
+    ensures refused { IfErr result (λ kind. kind ≢ CertFaultKind.Memory → AreNoFields fields.entry) }
 {
     let mut rest = fields;
     let mut known = Fields {
@@ -95,10 +89,7 @@ pub fn fields_of(alloc: Global, fields: Members) -> Result<(bool, Tag), CertFaul
         tag: None,
     };
     while let Some((field, others)) = rest.split_first() {
-        match with_field(alloc, &field, known) {
-            Ok(after) => known = after,
-            Err(kind) => return Err(kind),
-        }
+        known = with_field(alloc, &field, known)?;
         rest = others;
     }
     let Fields { propagates, tag } = known;

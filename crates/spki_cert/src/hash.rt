@@ -22,7 +22,8 @@ pub enum HashAlg {
 impl HashAlg {
     /// The algorithm with this name: `sha1`, `sha256` or `sha512`.
     pub fn named(name: &[u8]) -> Option<HashAlg>
-        ensures { MatchOption result ((alg : HashAlg) → name.now ≢ alg_name alg) (λ alg. name.now ≡ alg_name alg) }
+        ensures { MatchOption result ((alg : HashAlg) → name.now ≢ alg_name alg)
+            (λ alg. name.now ≡ alg_name alg) }
     {
         if name == b"sha1".as_slice() {
             Some(HashAlg::Sha1)

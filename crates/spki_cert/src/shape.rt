@@ -29,7 +29,8 @@ pub fn members<'d, 'a>(node: &Node<'d, 'a>) -> Option<Members<'d, 'a>>
 
 /// What stands in a list behind its head, where the head is this word.
 pub fn headed<'d, 'a>(node: &Node<'d, 'a>, word: &[u8]) -> Option<Members<'d, 'a>>
-    ensures { MatchOption result (IsNotHeaded node.now word.now) (λ vs. node.now ≡ group (plain word.now ∷ vs)) }
+    ensures { MatchOption result (IsNotHeaded node.now word.now)
+        (λ vs. node.now ≡ group (plain word.now ∷ vs)) }
 {
     let Some(all) = members(node) else {
         return None;

@@ -1,4 +1,4 @@
-use Rattle.std.proofs.Common.{◌≡◌, ◌++◌, [], refl}
+use Rattle.std.proofs.Common.{[]}
 use Rattle.spki_cert.proofs.acl.acl_of.Goals as goal
 
 pub returns-in-Ok-clause-acl : goal.returns-in-Ok-clause-acl

@@ -1,5 +1,4 @@
-use Rattle.std.proofs.Common.{◌≡◌, ◌∙◌, Option, subst}
-use Rattle.spki_cert.specs.declared.window.Window.{Window}
+use Rattle.std.proofs.Common.{◌≡◌, ◌∙◌, subst}
 use Rattle.spki_cert.specs.Time.{between, meet_of, IsLimit}
 use Rattle.spki_cert.proofs.Order.{meet-moments, meet-some, meet-none}
 use Rattle.spki_cert.proofs.window.Window.meet.Goals as goal
