@@ -28,7 +28,7 @@ pub enum CertFaultKind {
     #[error("a keyholder subject")]
     Keyholder,
     /// A validity headed `online`.
-    #[error("an online test")]
+    #[error("a validity that needs a peer")]
     Online,
     /// A relative name as an entry's subject.
     #[error("a relative name in an entry")]

@@ -71,7 +71,7 @@ fn case_faults(rt: HostRuntime) -> Result<(), Fail> {
 }
 
 #[test]
-fn refused_parts(rt: HostRuntime) -> Result<(), Fail> {
+fn case_faults_by_part(rt: HostRuntime) -> Result<(), Fail> {
     let alloc = rt.alloc();
     let trailing = format!(in alloc; "{FIRST_RUN}x")?;
     checks(

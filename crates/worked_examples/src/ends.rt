@@ -55,7 +55,7 @@ impl Write for Narrow {
 }
 
 #[test]
-fn failing_writer(rt: HostRuntime) {
+fn failing_ends(rt: HostRuntime) {
     let mut reader = Metered::new(FIRST_RUN.as_bytes());
     let mut writer = Metered::new(Narrow {
         taken: Vec::new(rt.alloc()),
@@ -65,20 +65,14 @@ fn failing_writer(rt: HostRuntime) {
     assert_eq!(rt; status, Status::WriteFault);
     assert_eq!(rt; status.code(), 3);
     assert_eq!(rt; writer.into_inner().taken.as_slice(), b"yes".as_slice());
-}
 
-#[test]
-fn failing_reader(rt: HostRuntime) {
     let mut reader = Metered::new(Broken);
     let mut writer = Metered::new(Vec::new(rt.alloc()));
     let status = run(rt.alloc(), Command::Check, &mut reader, &mut writer);
     assert_eq!(rt; status, Status::ReadFault);
     assert_eq!(rt; (reader.asks, reader.faults, writer.asks), (1, 1, 0));
     assert!(rt; writer.into_inner().is_empty());
-}
 
-#[test]
-fn interrupted_for_ever(rt: HostRuntime) {
     let mut reader = Metered::new(NeverReady);
     let mut writer = Metered::new(Vec::new(rt.alloc()));
     let status = run(rt.alloc(), Command::Check, &mut reader, &mut writer);
@@ -90,7 +84,7 @@ fn interrupted_for_ever(rt: HostRuntime) {
 }
 
 #[test]
-fn whole_run(rt: HostRuntime) {
+fn ends_of_first_run(rt: HostRuntime) {
     let mut reader = Metered::new(FIRST_RUN.as_bytes());
     let mut writer = Metered::new(Vec::new(rt.alloc()));
     let status = run(rt.alloc(), Command::Check, &mut reader, &mut writer);

@@ -3,7 +3,8 @@
 use crate::texts::KA;
 use sexpr_core::Doc;
 use sha2::{Digest, Sha256};
-use spki_cert::{CertFaultKind, Date, HashAlg, Window, date_of, hash_of, key_of};
+use spki_cert::{CertFaultKind, Date, HashAlg, Window, acl_of, date_of, hash_of, key_of};
+use spki_tag::TagFault;
 use std::alloc::{AllocError, Global};
 use std::test::Fail;
 
@@ -83,5 +84,90 @@ fn hash_issuer(rt: HostRuntime) -> Result<(), Fail> {
     let shorter = hash_text(alloc, &digest[..31])?;
     let document = Doc::open(alloc, &shorter)?;
     assert!(rt; matches!(hash_of(&document.top()), Err(CertFaultKind::DigestLength)));
+    Ok(())
+}
+
+#[test]
+fn faults_of_keys_and_hashes(rt: HostRuntime) -> Result<(), Fail> {
+    let keys: [(&[u8], CertFaultKind); 4] = [
+        (
+            b"(10:public-key(4:test1:a)(3:uri)1:x)",
+            CertFaultKind::KeyUris,
+        ),
+        (b"(10:public-key(4:test1:a)1:x)", CertFaultKind::Shape),
+        (b"(10:public-key([1:x]4:test))", CertFaultKind::Shape),
+        (b"3:abc", CertFaultKind::Shape),
+    ];
+    for (text, kind) in keys {
+        let document = Doc::open(rt.alloc(), text)?;
+        match key_of(&document.top()) {
+            Ok(_) => assert!(rt; false, "a key"),
+            Err(met) => assert!(rt; met == kind),
+        }
+    }
+    let hashes: [(&[u8], CertFaultKind); 5] = [
+        (
+            b"(4:hash4:sha120:01234567890123456789(3:uri1:x)1:y)",
+            CertFaultKind::Shape,
+        ),
+        (
+            b"(4:hash4:sha116:0123456789abcdef)",
+            CertFaultKind::DigestLength,
+        ),
+        (b"(4:hash3:md5)", CertFaultKind::HashAlg),
+        (b"(4:hash())", CertFaultKind::Shape),
+        (b"(4:hash[1:x]4:sha1)", CertFaultKind::HashAlg),
+    ];
+    for (text, kind) in hashes {
+        let document = Doc::open(rt.alloc(), text)?;
+        match hash_of(&document.top()) {
+            Ok(_) => assert!(rt; false, "a hash"),
+            Err(met) => assert!(rt; met == kind),
+        }
+    }
+    Ok(())
+}
+
+#[test]
+fn faults_of_access_lists(rt: HostRuntime) -> Result<(), Fail> {
+    let table: [(&[u8], usize, CertFaultKind); 7] = [
+        (b"(3:cap)", 0, CertFaultKind::Shape),
+        (b"(3:acl(7:version1:0))", 1, CertFaultKind::Shape),
+        (
+            b"(3:acl(5:entry(10:public-key(4:test1:a))(3:tag()1:x)))",
+            1,
+            CertFaultKind::Tag(TagFault::EmptyList),
+        ),
+        (
+            b"(3:acl(5:entry(10:public-key(4:test1:a))(3:tag(1:*))(3:tag())))",
+            1,
+            CertFaultKind::Shape,
+        ),
+        (
+            b"(3:acl(5:entry(10:public-key(4:test1:a)(3:uri))(3:tag(1:*))))",
+            1,
+            CertFaultKind::KeyUris,
+        ),
+        (
+            b"(3:acl(5:entry(10:public-key(4:test1:a))(3:tag1:x))(5:entry(10:public-key(4:test1:a))))",
+            2,
+            CertFaultKind::Shape,
+        ),
+        (
+            b"(3:acl(5:entry(10:public-key(4:test1:a))(3:tag1:x1:y)))",
+            1,
+            CertFaultKind::Shape,
+        ),
+    ];
+    for (text, item, kind) in table {
+        let document = Doc::open(rt.alloc(), text)?;
+        match acl_of(rt.alloc(), &document.top()) {
+            Ok(_) => assert!(rt; false, "an access list"),
+            Err(met) => {
+                assert!(rt; met.kind == kind);
+                assert_eq!(rt; met.item, item);
+            }
+        }
+    }
     Ok(())
 }

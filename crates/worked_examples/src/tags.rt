@@ -59,7 +59,7 @@ fn tag_faults(rt: HostRuntime) -> Result<(), Fail> {
 }
 
 #[test]
-fn too_many_nodes(rt: HostRuntime) -> Result<(), Fail> {
+fn tag_faults_at_the_limit(rt: HostRuntime) -> Result<(), Fail> {
     let alloc = rt.alloc();
     let most = list_of(alloc, 1023)?;
     let document = Doc::open(alloc, &most)?;
@@ -71,7 +71,7 @@ fn too_many_nodes(rt: HostRuntime) -> Result<(), Fail> {
 }
 
 #[test]
-fn tags_hold(rt: HostRuntime) -> Result<(), Fail> {
+fn holds(rt: HostRuntime) -> Result<(), Fail> {
     let alloc = rt.alloc();
     let table: [(&[u8], &[u8], bool); 7] = [
         (b"(3:ftp4:host)", b"(3:ftp4:host3:dir)", true),
