@@ -24,6 +24,14 @@ fn hash_text(alloc: Global, digest: &[u8]) -> Result<Vec<u8>, AllocError> {
     Ok(text)
 }
 
+/// The octets but for the last one.
+fn without_last(octets: &[u8]) -> &[u8] {
+    match octets {
+        [] => octets,
+        [front @ .., _last] => front,
+    }
+}
+
 #[test]
 fn keys_and_dates(rt: HostRuntime) -> Result<(), Fail> {
     let alloc = rt.alloc();
@@ -81,7 +89,7 @@ fn hash_issuer(rt: HostRuntime) -> Result<(), Fail> {
     assert!(rt; octets.as_slice() == digest.as_slice());
     assert!(rt; alg.fits(octets.as_slice(), KA.as_bytes()));
     assert!(rt; !alg.fits(octets.as_slice(), b"x"));
-    let shorter = hash_text(alloc, &digest[..31])?;
+    let shorter = hash_text(alloc, without_last(&digest))?;
     let document = Doc::open(alloc, &shorter)?;
     assert!(rt; matches!(hash_of(&document.top()), Err(CertFaultKind::DigestLength)));
     Ok(())
