@@ -6,7 +6,7 @@ ghost use Rattle.sexpr_core.specs.Places.{node_at};
 ghost use Rattle.sexpr_core.specs.FormValue.{form_value};
 ghost use Rattle.sexpr_core.specs.Parts.{part_count};
 
-use crate::document::{Doc, NodeId};
+use crate::document::Doc;
 use crate::layout::Shape;
 use crate::siblings::Members;
 use std::marker::Model;
@@ -102,10 +102,5 @@ impl<'d, 'a> Node<'d, 'a> {
             Shape::Hinted { .. } => None,
             Shape::List { parts } => Some(parts),
         }
-    }
-
-    /// The node's number in its document.
-    pub fn id(&self) -> NodeId {
-        NodeId(self.number)
     }
 }
