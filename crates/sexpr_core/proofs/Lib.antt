@@ -7,3 +7,5 @@ pub mod Texts
 pub mod Faults
 pub mod Steps
 pub mod Whole
+pub mod TreeLaws
+pub mod Written
