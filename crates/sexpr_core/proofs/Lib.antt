@@ -9,3 +9,7 @@ pub mod Steps
 pub mod Whole
 pub mod TreeLaws
 pub mod Written
+pub mod SpaceLaws
+pub mod Gathered
+pub mod Base64Laws
+pub mod BraceLaws

@@ -1,12 +1,12 @@
 -- What is written behind other octets.
-use Rattle.std.proofs.Common.{◌≡◌, ℕ, suc, ◌+◌, ◌*◌, ◌/◌, ◌%◌, ◌<◌, ◌≤◌, List, [], ◌∷◌, ◌++◌, length, refl, sym, ap, ◌∙◌, append_assoc, arith, map, take, get_or, Vec, Global, append-nil}
+use Rattle.std.proofs.Common.{◌≡◌, ℕ, ◌+◌, ◌*◌, ◌/◌, ◌%◌, ◌<◌, ◌≤◌, List, [], ◌∷◌, ◌++◌, length, refl, sym, ap, ◌∙◌, append_assoc, arith, map, take, get_or, Vec, Global, append-nil}
 use Rattle.std.proofs.lemmas.List.{map-append, take_more, take_all}
 use Rattle.sexpr_core.specs.declared.tree.Sexp.{Sexp}
 use Rattle.sexpr_core.specs.declared.tree.Sexp.TheVariants.{List as Branch, rolls-List}
 use Rattle.sexpr_core.specs.declared.tree.Sexp.TheOpen.{List as Layer}
 use Rattle.sexpr_core.specs.declared.tree.Sexp.TheFolds.{fold-roll-Sexp}
 use Rattle.sexpr_core.specs.Tree.{sexp_value, level_value}
-use Rattle.sexpr_core.specs.Value.{Value, string, list, values, group, decimal, verbatim, canon, canons}
+use Rattle.sexpr_core.specs.Value.{Value, values, group, decimal, verbatim, canon, canons}
 use Rattle.sexpr_core.proofs.Decimal.{decimal_digit, decimal_more}
 use Rattle.sexpr_core.proofs.Texts.{verbatim_is}
 

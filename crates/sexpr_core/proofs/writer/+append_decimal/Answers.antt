@@ -1,4 +1,3 @@
-use Rattle.std.proofs.Common.{arith}
 use Rattle.sexpr_core.proofs.Written.{digit_written, digits_written}
 use Rattle.sexpr_core.proofs.writer.+append_decimal.Goals as goal
 
