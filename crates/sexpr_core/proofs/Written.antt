@@ -44,7 +44,7 @@ member_written f xs k d out mid new lt e g =
     ap (λ vs. canons (values vs)) split ∙ canons-append (map f (take k xs)) (f (get_or xs k d) ∷ []) ∙ ap (λ s. canons (values (map f (take k xs))) ++ s) (append-nil (canon (f (get_or xs k d)))) in
     g ∙ ap (λ s. s ++ canon (f (get_or xs k d))) e ∙ append_assoc out (canons (values (map f (take k xs)))) (canon (f (get_or xs k d))) ∙ ap (λ s. out ++ s) (sym whole)
 
-sexp_list : (ms : Vec Sexp Global) → sexp_value (Branch ms) ≡ group (map sexp_value ms.items)
+pub sexp_list : (ms : Vec Sexp Global) → sexp_value (Branch ms) ≡ group (map sexp_value ms.items)
 sexp_list ms = ap sexp_value (sym (rolls-List ms)) ∙ fold-roll-Sexp Value level_value (Layer ms)
 
 pub list_written : (tree : Sexp) (ms : Vec Sexp Global) (xs : List Sexp) (k : ℕ) (out opened all new : List ℕ) → tree ≡ Branch ms → xs ≡ ms.items
