@@ -1,8 +1,10 @@
 //! Strings without display hint, read (RFC 9804, sections 4.1 to 4.6).
 
-ghost use Rattle.std.specs.Prelude.{◌<◌, ◌≤◌, length, IfOk, IfErr};
+ghost use Rattle.std.specs.Prelude.{◌≡◌, true, false, ◌<◌, ◌≤◌, length, IfOk, IfErr};
 ghost use Rattle.sexpr_core.specs.Bounds.{IsPartFault};
-ghost use Rattle.sexpr_text.specs.Reads.{GoesOn};
+ghost use Rattle.sexpr_text.specs.Reads.{GoesOn, ReadsToken, ReadsCount};
+ghost use Rattle.sexpr_text.specs.Strings.{is_digit, is_token_octet};
+ghost use Rattle.sexpr_core.specs.Reading.{StandsAt};
 
 use crate::hexadecimal::read_hexadecimal;
 use crate::printer::stands_in_token;
@@ -44,8 +46,10 @@ pub(crate) fn read_string(alloc: Global, text: &[u8], at: usize) -> Result<ReadS
 
 /// A token, which ends where the next octet can't stand in one.
 fn read_token(alloc: Global, text: &[u8], at: usize, first: u8) -> Result<ReadString, FormFault>
-    requires { at < length text.now }
-    ensures read { IfOk result (λ read. GoesOn text.now at read.end) }
+    requires begins { StandsAt text.now at first }
+    requires other { is_digit first ≡ false }
+    requires token { is_token_octet first ≡ true }
+    ensures read { IfOk result (λ read. ReadsToken text.now at read.octets.items read.end) }
     ensures refused { IfErr result (λ fault. IsPartFault (length text.now) fault) }
 {
     let mut octets = Vec::new(alloc);
@@ -81,9 +85,9 @@ fn read_marked(alloc: Global, text: &[u8], at: usize) -> Result<ReadString, Form
 
 /// A length without leading zero, of any size; past the most octets it stays one past them.
 fn read_count(text: &[u8], at: usize, first: u8) -> Count
-    requires within { at < length text.now }
+    requires begins { StandsAt text.now at first }
     requires digit { (48 ≤ first) × (first < 58) }
-    ensures { GoesOn text.now at result.end × (result.number ≤ 1048577) }
+    ensures { ReadsCount text.now at result.number result.end }
 {
     let mut number = (first - b'0') as usize;
     let mut i = at + 1;
@@ -91,7 +95,7 @@ fn read_count(text: &[u8], at: usize, first: u8) -> Count
         return Count { number, end: i };
     }
     while let Some(octet) = octet_at(text, i) {
-        if !octet.is_ascii_digit() {
+        if octet < b'0' || octet > b'9' {
             return Count { number, end: i };
         }
         number = (number * 10 + (octet - b'0') as usize).min(MOST_OCTETS + 1);
@@ -102,7 +106,7 @@ fn read_count(text: &[u8], at: usize, first: u8) -> Count
 
 /// A string with its length in front, from the first digit on.
 fn read_counted(alloc: Global, text: &[u8], at: usize, first: u8) -> Result<ReadString, FormFault>
-    requires within { at < length text.now }
+    requires begins { StandsAt text.now at first }
     requires digit { (48 ≤ first) × (first < 58) }
     ensures read { IfOk result (λ read. GoesOn text.now at read.end) }
     ensures refused { IfErr result (λ fault. IsPartFault (length text.now) fault) }
