@@ -1,5 +1,5 @@
 -- Strings without display hint, octet by octet.
-use Rattle.std.proofs.Common.{◌≡◌, ℕ, ◌+◌, ◌-◌, ◌*◌, ◌<◌, ◌≤◌, min, true, false, Ok, List, [], ◌∷◌, ◌++◌, length, drop, refl, sym, ap, ◌∙◌, append_assoc, arith}
+use Rattle.std.proofs.Common.{◌≡◌, ℕ, ◌+◌, ◌-◌, ◌*◌, ◌<◌, ◌≤◌, min, true, false, Ok, List, [], ◌∷◌, ◌++◌, length, drop, refl, sym, ap, subst, ◌∙◌, append_assoc, append-nil, arith, inl, inr}
 use Rattle.hex.specs.Hex.{decode_of}
 use Rattle.sexpr_core.specs.Reading.{StandsAt}
 use Rattle.sexpr_core.specs.Spaces.{visible}
@@ -8,8 +8,8 @@ use Rattle.sexpr_core.proofs.SpaceLaws.{all-append}
 use Rattle.sexpr_core.proofs.Gathered.{visible-append}
 use Rattle.sexpr_core.proofs.Decimal.{decimal_digit}
 use Rattle.sexpr_core.proofs.Steps.{more_capped, more_spelled}
-use Rattle.sexpr_text.specs.Strings.{is_digit, is_token_octet, IsToken, IsHexadecimal, IsPacked}
-use Rattle.sexpr_text.specs.Reads.{Reads, ReadsToken, Keeps, ReadsCount}
+use Rattle.sexpr_text.specs.Strings.{is_digit, is_token_octet, IsToken, Piece, raw, escaped, octal, hexadecimal, line, line_pair, piece_text, piece_octets, StartsOther, IsPiece, pieces_text, pieces_octets, ArePieces, IsQuoted, IsHexadecimal, IsPacked}
+use Rattle.sexpr_text.specs.Reads.{Reads, ReadsPiece, ReadsPieces, ReadsToken, Keeps, ReadsCount}
 
 -- ---- tokens
 
@@ -91,4 +91,63 @@ count_more text at i n c grown r some low high stands e = record {
   spelled = more_spelled text at i r.written c (omega (arith, r.capped)) low high stands r.spelled;
   forward = omega (arith, r.forward);
   within = omega (arith, stands.within);
+}
+
+-- ---- quoted strings
+
+pieces_text-append : (ps qs : List Piece) → pieces_text (ps ++ qs) ≡ pieces_text ps ++ pieces_text qs
+pieces_text-append [] qs = refl
+pieces_text-append (p ∷ ps) qs = ap (λ t. piece_text p ++ t) (pieces_text-append ps qs) ∙ sym (append_assoc (piece_text p) (pieces_text ps) (pieces_text qs))
+
+pieces_octets-append : (ps qs : List Piece) → pieces_octets (ps ++ qs) ≡ pieces_octets ps ++ pieces_octets qs
+pieces_octets-append [] qs = refl
+pieces_octets-append (p ∷ ps) qs = ap (λ t. piece_octets p ++ t) (pieces_octets-append ps qs) ∙ sym (append_assoc (piece_octets p) (pieces_octets ps) (pieces_octets qs))
+
+last_text : (ps : List Piece) (p : Piece) (rest : List ℕ) → pieces_text (ps ++ p ∷ []) ++ rest ≡ pieces_text ps ++ (piece_text p ++ rest)
+last_text ps p rest =
+    ap (λ t. t ++ rest) (pieces_text-append ps (p ∷ []) ∙ ap (λ t. pieces_text ps ++ t) (append-nil (piece_text p))) ∙ append_assoc (pieces_text ps) (piece_text p) rest
+
+are_more : (ps : List Piece) (p : Piece) (x rest : List ℕ) → ArePieces ps x → x ≡ piece_text p ++ rest → IsPiece p rest → ArePieces (ps ++ p ∷ []) rest
+are_more [] p x rest h e right = (right, tt)
+are_more (q ∷ qs) p x rest h e right =
+    (subst (IsPiece q) (ap (λ t. pieces_text qs ++ t) e ∙ sym (last_text qs p rest)) h.0, are_more qs p x rest h.1 e right)
+
+starts_same : (d : ℕ) (t rest : List ℕ) → StartsOther d (t ++ 34 ∷ rest) → StartsOther d (t ++ 34 ∷ [])
+starts_same d [] rest h = h
+starts_same d (c ∷ cs) rest h = h
+
+piece_ended : (p : Piece) (t rest : List ℕ) → IsPiece p (t ++ 34 ∷ rest) → IsPiece p (t ++ 34 ∷ [])
+piece_ended (raw c) t rest h = h
+piece_ended (escaped e c) t rest h = h
+piece_ended (octal a b c) t rest h = h
+piece_ended (hexadecimal a b m n) t rest h = h
+piece_ended (line c) t rest (inl h) = inl (h.0, starts_same 10 t rest h.1)
+piece_ended (line c) t rest (inr h) = inr (h.0, starts_same 13 t rest h.1)
+piece_ended (line_pair c d) t rest h = h
+
+are_ended : (ps : List Piece) (rest : List ℕ) → ArePieces ps (34 ∷ rest) → ArePieces ps (34 ∷ [])
+are_ended [] rest h = tt
+are_ended (p ∷ ps) rest h = (piece_ended p (pieces_text ps) rest h.0, are_ended ps rest h.1)
+
+pub nothing_quoted : (text : List ℕ) (at : ℕ) → at ≤ length text → ReadsPieces text at [] at
+nothing_quoted text at h = record { pieces = []; spelled = refl; meant = refl; right = tt; ordered = omega arith; within = h }
+
+pub more_quoted : (text : List ℕ) (at i to : ℕ) (octets new : List ℕ) → ReadsPieces text at octets i → ReadsPiece text i octets new to → ReadsPieces text at new to
+more_quoted text at i to octets new r s = record {
+  pieces = r.pieces ++ s.piece ∷ [];
+  spelled = r.spelled ∙ ap (λ t. pieces_text r.pieces ++ t) s.spelled ∙ sym (last_text r.pieces s.piece (drop to text));
+  meant = s.meant ∙ ap (λ t. t ++ piece_octets s.piece) r.meant ∙ ap (λ t. pieces_octets r.pieces ++ t) (sym (append-nil (piece_octets s.piece))) ∙ sym (pieces_octets-append r.pieces (s.piece ∷ []));
+  right = are_more r.pieces s.piece (drop i text) (drop to text) r.right s.spelled s.right;
+  ordered = omega (arith, r.ordered, s.forward);
+  within = s.within;
+}
+
+pub quoted_read : (text : List ℕ) (at i : ℕ) (octets : List ℕ) → StandsAt text at 34 → ReadsPieces text (at + 1) octets i → StandsAt text i 34
+    → Reads IsQuoted text at octets (i + 1)
+quoted_read text at i octets opens r closes = record {
+  spelling = 34 ∷ (pieces_text r.pieces ++ 34 ∷ []);
+  spelled = opens.spelled ∙ ap (λ t. 34 ∷ t) (r.spelled ∙ ap (λ t. pieces_text r.pieces ++ t) closes.spelled ∙ sym (append_assoc (pieces_text r.pieces) (34 ∷ []) (drop (i + 1) text)));
+  meant = record { pieces = r.pieces; spelled = refl; meant = r.meant; right = are_ended r.pieces (drop (i + 1) text) (subst (ArePieces r.pieces) closes.spelled r.right) };
+  forward = omega (arith, r.ordered);
+  within = omega (arith, closes.within);
 }

@@ -4,7 +4,7 @@ use Rattle.sexpr_core.specs.declared.fault.FormFault.{FormFault}
 use Rattle.sexpr_core.specs.declared.fault.FormFault.TheVariants.{TooLong, TooDeep, Short, Bad, Trailing, Memory}
 use Rattle.sexpr_core.specs.Value.{decimal}
 use Rattle.sexpr_core.specs.Spaces.{visible}
-use Rattle.sexpr_text.specs.Strings.{IsToken}
+use Rattle.sexpr_text.specs.Strings.{IsToken, Piece, piece_text, piece_octets, IsPiece, pieces_text, pieces_octets, ArePieces}
 
 -- something was read, from one offset up to another within the text
 pub record GoesOn (text : List ℕ) (at to : ℕ) : Type 0 where
@@ -31,6 +31,24 @@ pub record Keeps (text : List ℕ) (at : ℕ) (kept : List ℕ) (to : ℕ) : Typ
   pub body : List ℕ
   pub spelled : drop at text ≡ body ++ drop to text
   pub rest_is : kept ≡ visible body
+  pub ordered : at ≤ to
+  pub within : to ≤ length text
+
+-- a piece of a quoted string; its octets are put behind others
+pub record ReadsPiece (text : List ℕ) (at : ℕ) (old new : List ℕ) (to : ℕ) : Type 0 where
+  pub piece : Piece
+  pub spelled : drop at text ≡ piece_text piece ++ drop to text
+  pub meant : new ≡ old ++ piece_octets piece
+  pub right : IsPiece piece (drop to text)
+  pub forward : at < to
+  pub within : to ≤ length text
+
+-- pieces of a quoted string, one behind the other
+pub record ReadsPieces (text : List ℕ) (at : ℕ) (octets : List ℕ) (to : ℕ) : Type 0 where
+  pub pieces : List Piece
+  pub spelled : drop at text ≡ pieces_text pieces ++ drop to text
+  pub meant : octets ≡ pieces_octets pieces
+  pub right : ArePieces pieces (drop to text)
   pub ordered : at ≤ to
   pub within : to ≤ length text
 
