@@ -9,3 +9,9 @@ pub mod Steps
 pub mod Whole
 pub mod Examples
 pub mod Refusals
+pub mod TreeLaws
+pub mod Written
+pub mod SpaceLaws
+pub mod Gathered
+pub mod Base64Laws
+pub mod BraceLaws

@@ -11,3 +11,7 @@ pub mod Prefix
 pub mod Texts
 pub mod Reading
 pub mod Refusal
+pub mod Spaces
+pub mod Braces
+pub mod Bounds
+pub mod Gathering

@@ -1,20 +1,28 @@
 //! S-expressions (RFC 9804): canonical form, read into documents, and owned trees.
 #![tactic(auto)]
 
+mod braces;
 mod document;
 mod fault;
 mod handle;
 mod laws;
 mod layout;
 mod numbers;
+mod owned;
 mod parser;
 mod siblings;
+mod spaces;
 mod tree;
+mod writer;
 
+pub use braces::{Unpacked, read_base64, unwrap_braces, wrap};
 pub use document::{Doc, NodeId};
 pub use fault::FormFault;
 pub use handle::{Form, Node};
 pub use laws::{one_refusal, one_text};
+pub use owned::decode;
 pub use parser::{MOST_LISTS, MOST_OCTETS};
 pub use siblings::Members;
+pub use spaces::{is_space, octet_at, skip_spaces};
 pub use tree::{Atom, Sexp};
+pub use writer::encode;

@@ -10,6 +10,7 @@ ghost use Rattle.sexpr_core.specs.Reading.{StandsAt, ReadsLength, ReadsVerbatim,
 
 use crate::fault::FormFault;
 use crate::layout::{Record, Shape};
+use crate::spaces::octet_at;
 use std::alloc::Global;
 
 /// The most octets that a text may have.
@@ -37,17 +38,6 @@ struct Piece {
 struct ListEnd {
     parts: usize,
     end: usize,
-}
-
-fn octet_at(text: &[u8], at: usize) -> Option<u8>
-    requires { at ≤ length text.now }
-    ensures { MatchOption result (drop at text.now ≡ []) (λ octet. StandsAt text.now at octet) }
-{
-    if at < text.len() {
-        Some(text[at])
-    } else {
-        None
-    }
 }
 
 fn first_digit(text: &[u8], at: usize) -> Result<usize, FormFault>

@@ -1,0 +1,71 @@
+-- Whitespace that stands between two offsets.
+use Rattle.std.proofs.Common.{◌≡◌, ℕ, ◌+◌, ◌<◌, ◌≤◌, true, false, List, [], ◌∷◌, ◌++◌, length, drop, refl, sym, ap, subst, ◌∙◌, append_assoc, arith, length-drop}
+use Rattle.std.specs.List.{AllByRecursion}
+use Rattle.sexpr_core.specs.Reading.{StandsAt}
+use Rattle.sexpr_core.specs.Spaces.{is_whitespace, IsSpace, AreSpaces, StartsVisible, Skips}
+
+pub record SpacesTo (text : List ℕ) (at to : ℕ) : Type 0 where
+  pub spaces : List ℕ
+  pub are_spaces : AreSpaces spaces
+  pub spelled : drop at text ≡ spaces ++ drop to text
+  pub ordered : at ≤ to
+  pub within : to ≤ length text
+
+pub all-append : (P : ℕ → Type 0) (xs ys : List ℕ) → AllByRecursion P xs → AllByRecursion P ys → AllByRecursion P (xs ++ ys)
+all-append P [] ys h k = k
+all-append P (x ∷ xs) ys h k = (h.0, all-append P xs ys h.1 k)
+
+pub no_spaces : (text : List ℕ) (at : ℕ) → at ≤ length text → SpacesTo text at at
+no_spaces text at h = record { spaces = []; are_spaces = tt; spelled = refl; ordered = omega arith; within = h }
+
+pub more_spaces : (text : List ℕ) (at i c : ℕ) → SpacesTo text at i → StandsAt text i c → IsSpace c → SpacesTo text at (i + 1)
+more_spaces text at i c s stands space = record {
+  spaces = s.spaces ++ c ∷ [];
+  are_spaces = all-append IsSpace s.spaces (c ∷ []) s.are_spaces (space, tt);
+  spelled = s.spelled ∙ ap (λ t. s.spaces ++ t) stands.spelled ∙ sym (append_assoc s.spaces (c ∷ []) (drop (i + 1) text));
+  ordered = omega (arith, s.ordered);
+  within = omega (arith, stands.within);
+}
+
+pub spaces_stop : (text : List ℕ) (at i c : ℕ) → SpacesTo text at i → StandsAt text i c → is_whitespace c ≡ false → Skips text at i
+spaces_stop text at i c s stands other = record {
+  spaces = s.spaces;
+  are_spaces = s.are_spaces;
+  spelled = s.spelled;
+  ends = subst StartsVisible (sym stands.spelled) other;
+  ordered = s.ordered;
+  within = s.within;
+}
+
+pub spaces_end : (text : List ℕ) (at i : ℕ) → SpacesTo text at i → drop i text ≡ [] → Skips text at i
+spaces_end text at i s e = record {
+  spaces = s.spaces;
+  are_spaces = s.are_spaces;
+  spelled = s.spelled;
+  ends = subst StartsVisible (sym e) tt;
+  ordered = s.ordered;
+  within = s.within;
+}
+
+-- whitespace ends in one way
+pub one_end : (xs ys r s : List ℕ) → AreSpaces xs → AreSpaces ys → StartsVisible r → StartsVisible s → xs ++ r ≡ ys ++ s → (xs ≡ ys) × (r ≡ s)
+one_end [] [] r s hx hy hr hs e = (refl, e)
+one_end [] (y ∷ ys) r s hx hy hr hs e = let f : is_whitespace y ≡ false = subst StartsVisible e hr in let g : false ≡ true = sym f ∙ hy.0 in absurd cc
+one_end (x ∷ xs) [] r s hx hy hr hs e = let f : is_whitespace x ≡ false = subst StartsVisible (sym e) hs in let g : false ≡ true = sym f ∙ hx.0 in absurd cc
+one_end (x ∷ xs) (y ∷ ys) r s hx hy hr hs e =
+    let t : xs ++ r ≡ ys ++ s = cc in
+    let p = one_end xs ys r s hx.1 hy.1 hr hs t in
+    (cc, p.1)
+
+behind_spaces : (xs r : List ℕ) → AreSpaces (xs ++ r) → AreSpaces r
+behind_spaces [] r h = h
+behind_spaces (x ∷ xs) r h = behind_spaces xs r h.1
+
+not_both : (r : List ℕ) → AreSpaces r → StartsVisible r → 0 < length r → ⊥
+not_both [] h k lt = omega arith
+not_both (c ∷ cs) h k lt = let g : false ≡ true = sym k ∙ h.0 in cc
+
+-- where all that follows is whitespace, all of it is passed over
+pub spaces_all : (text : List ℕ) (at to : ℕ) → Skips text at to → AreSpaces (drop at text) → to < length text → ⊥
+spaces_all text at to s h lt =
+    not_both (drop to text) (behind_spaces s.spaces (drop to text) (subst AreSpaces s.spelled h)) s.ends (omega (arith, length-drop to text))

@@ -1,0 +1,18 @@
+use Rattle.std.proofs.Common.{sym, subst}
+use Rattle.std.proofs.lemmas.Result.{err_from_is_err_and}
+use Rattle.sexpr_core.specs.Braces.{IsBase64}
+use Rattle.sexpr_core.proofs.Base64Laws.{body_octets}
+use Rattle.sexpr_core.proofs.Gathered.{same_body}
+use Rattle.sexpr_core.proofs.braces.read_base64.Goals as goal
+
+pub returns-in_err-symbols-clause-only : goal.returns-in_err-symbols-clause-only
+returns-in_err-symbols-clause-only c =
+    let p = err_from_is_err_and c.from_residual.result c.from_residual.ensures.1 in
+    rw (p.1, p.2) (λ body rest octets b e. c.in_err-symbols.ensures.only body rest (body_octets body octets b) e)
+
+pub returns-in_err-octets-clause-only : goal.returns-in_err-octets-clause-only
+returns-in_err-octets-clause-only c =
+    let p = err_from_is_err_and c.from_residual-in_err-octets.result c.from_residual-in_err-octets.ensures.1 in
+    rw (p.1, p.2) (λ body rest octets b e.
+    let same = same_body _ _ _ _ _ body rest c.in_ok-symbols.ensures.read c.requires.apart (body_octets body octets b) e in
+    c.in_err-octets.ensures.only octets (subst (λ s. IsBase64 s octets) (sym same.0) b))

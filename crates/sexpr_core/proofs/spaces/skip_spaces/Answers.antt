@@ -1,0 +1,15 @@
+use Rattle.std.proofs.Common.{sym}
+use Rattle.sexpr_core.proofs.SpaceLaws.{no_spaces, more_spaces, spaces_end, spaces_stop}
+use Rattle.sexpr_core.proofs.spaces.skip_spaces.Goals as goal
+
+pub loop-octet-init : goal.loop-octet-init
+loop-octet-init c = no_spaces _ _ c.requires
+
+pub loop-octet-preserved : goal.loop-octet-preserved
+loop-octet-preserved c = more_spaces _ _ _ _ c.loop-octet.invariant c.in-Some.ensures (sym c.if-not-is_space.ensures)
+
+pub returns-then-not-is_space : goal.returns-then-not-is_space
+returns-then-not-is_space c = spaces_stop _ _ _ _ c.loop-octet.invariant c.in-Some.ensures (sym c.if-not-is_space.ensures)
+
+pub returns : goal.returns
+returns c = spaces_end _ _ _ c.loop-octet.invariant c.in_default.ensures

@@ -1,0 +1,9 @@
+use Rattle.std.proofs.Common.{◌-◌, length}
+use Rattle.sexpr_core.proofs.SpaceLaws.{SpacesTo}
+use Rattle.sexpr_core.proofs.spaces.skip_spaces.Given as goal
+
+abbrev pub invariant-loop-octet : goal.invariant-loop-octet
+invariant-loop-octet l = SpacesTo l.text l.at l.i
+
+abbrev pub decreases-loop-octet : goal.decreases-loop-octet
+decreases-loop-octet l = length l.text - l.i

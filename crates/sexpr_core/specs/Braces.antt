@@ -1,0 +1,39 @@
+-- Base64 (RFC 4648, section 4) among whitespace, and the transport form (RFC 9804, section 6.2).
+use Rattle.std.specs.Prelude.{◌≡◌, ℕ, ◌<◌, ◌≤◌, List, ◌∷◌, ◌++◌, length, drop, replicate}
+use Rattle.base64.specs.Engines.{standard}
+use Rattle.base64.specs.GeneralPurpose.{encode_of, IsBytes}
+use Rattle.sexpr_core.specs.Value.{Value, canon, IsShallow}
+use Rattle.sexpr_core.specs.Spaces.{AreSpaces, visible}
+
+-- The symbols are the padded base64 of the octets in the standard alphabet, or the same with some or all of its
+-- padding left out, which is two times = at most.
+pub record IsBase64 (symbols octets : List ℕ) : Type 0 where
+  pub are_octets : IsBytes octets
+  pub missing : ℕ
+  pub few : missing ≤ 2
+  pub encoded : symbols ++ replicate missing 61 ≡ encode_of standard octets
+
+-- A text is whitespace, an opening brace, a body, a closing brace, whitespace; and the body, without its
+-- whitespace, is base64 of the value's canonical text.
+pub record Braced (text : List ℕ) (v : Value) : Type 0 where
+  pub before : List ℕ
+  pub body : List ℕ
+  pub after : List ℕ
+  pub parts : text ≡ before ++ 123 ∷ (body ++ 125 ∷ after)
+  pub spaces_before : AreSpaces before
+  pub packed : IsBase64 (visible body) (canon v)
+  pub spaces_after : AreSpaces after
+
+-- the same within the limits on octets and depth
+pub record IsBracedWithin (text : List ℕ) (v : Value) : Type 0 where
+  pub braced : Braced text v
+  pub short : length text ≤ 1048576
+  pub shallow : IsShallow v
+
+-- a body and the mark behind it, which stand from one offset of a text on, up to another
+pub record ReadsBase64 (text : List ℕ) (at mark : ℕ) (octets : List ℕ) (to : ℕ) : Type 0 where
+  pub body : List ℕ
+  pub spelled : drop at text ≡ body ++ mark ∷ drop to text
+  pub packed : IsBase64 (visible body) octets
+  pub goes_on : at < to
+  pub within : to ≤ length text

@@ -1,0 +1,43 @@
+-- What is gathered of a body in base64: all but its whitespace.
+use Rattle.std.specs.Prelude.{◌≡◌, ℕ, ◌<◌, ◌≤◌, ◌==◌, ◌||◌, ◌&&◌, nat_le, Bool, true, false, List, ◌∷◌, ◌++◌, length, drop}
+use Rattle.std.specs.List.{AllByRecursion}
+use Rattle.sexpr_core.specs.declared.fault.FormFault.{FormFault}
+use Rattle.sexpr_core.specs.declared.fault.FormFault.TheVariants.{TooLong, TooDeep, Short, Bad, Trailing, Memory}
+use Rattle.sexpr_core.specs.Spaces.{is_whitespace, visible}
+
+-- a symbol of the standard alphabet, or =
+abbrev pub is_symbol : ℕ → Bool
+is_symbol c = (nat_le 65 c && nat_le c 90) || (nat_le 97 c && nat_le c 122) || (nat_le 48 c && nat_le c 57) || (c == 43) || (c == 47) || (c == 61)
+
+abbrev pub is_body_octet : ℕ → Bool
+is_body_octet c = is_whitespace c || is_symbol c
+
+abbrev pub AreBodyOctets : List ℕ → Type 0
+AreBodyOctets xs = AllByRecursion (λ c. is_body_octet c ≡ true) xs
+
+-- why an octet of a body, at an offset, is refused
+abbrev pub IsNoBodyOctet : ℕ → ℕ → FormFault → Type 0
+IsNoBodyOctet c at TooLong = ⊥
+IsNoBodyOctet c at TooDeep = ⊥
+IsNoBodyOctet c at Short = ⊥
+IsNoBodyOctet c at (Bad k) = (k ≡ at) × (is_body_octet c ≡ false)
+IsNoBodyOctet c at (Trailing k) = ⊥
+IsNoBodyOctet c at Memory = Unit {0}
+
+-- a body's octets from one offset of a text up to another, and what was gathered of them
+pub record Gathers (text : List ℕ) (at : ℕ) (symbols : List ℕ) (to : ℕ) : Type 0 where
+  pub body : List ℕ
+  pub octets : AreBodyOctets body
+  pub spelled : drop at text ≡ body ++ drop to text
+  pub kept : symbols ≡ visible body
+  pub ordered : at ≤ to
+  pub within : to ≤ length text
+
+-- the same with the mark that ends them
+pub record GathersTo (text : List ℕ) (at mark : ℕ) (symbols : List ℕ) (to : ℕ) : Type 0 where
+  pub body : List ℕ
+  pub octets : AreBodyOctets body
+  pub spelled : drop at text ≡ body ++ mark ∷ drop to text
+  pub kept : symbols ≡ visible body
+  pub goes_on : at < to
+  pub within : to ≤ length text

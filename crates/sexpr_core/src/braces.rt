@@ -1,0 +1,210 @@
+//! The transport form: base64 of the canonical form, in braces (RFC 9804, section 6.2).
+
+ghost use Rattle.std.specs.Prelude.{◌≡◌, ℕ, List, ◌+◌, ◌<◌, ◌≤◌, ◌≢◌, ◌↔◌, [], ◌∷◌, ◌++◌, length, drop, replicate, true, false, IfOk, IfErr, OnOk, IsErrOf, IsOkUnless};
+ghost use Rattle.base64.specs.Engines.{standard};
+ghost use Rattle.base64.specs.GeneralPurpose.{encode_of};
+ghost use Rattle.sexpr_core.specs.Value.{Value, canon, IsWithinLimits};
+ghost use Rattle.sexpr_core.specs.Tree.{sexp_value};
+ghost use Rattle.sexpr_core.specs.Spaces.{AreSpaces, visible};
+ghost use Rattle.sexpr_core.specs.Braces.{IsBase64, IsBracedWithin, ReadsBase64};
+ghost use Rattle.sexpr_core.specs.Bounds.{LiesWithin, IsPartFault, IsNotTooLong, IsBodyFault};
+ghost use Rattle.sexpr_core.specs.Gathering.{is_symbol, is_body_octet, AreBodyOctets, IsNoBodyOctet, GathersTo};
+
+use crate::fault::FormFault;
+use crate::owned::decode;
+use crate::parser::MOST_OCTETS;
+use crate::spaces::{is_space, octet_at, skip_spaces};
+use crate::tree::Sexp;
+use crate::writer::encode;
+use base64::DecodeAllocError;
+use base64::engine::general_purpose::STANDARD;
+use std::alloc::{AllocError, Global};
+
+/// Octets that stood in base64, and the offset behind the mark that ended them.
+#[derive(Debug, Drop)]
+pub struct Unpacked {
+    /// The octets.
+    pub octets: Vec<u8>,
+    /// Where the closing mark has ended.
+    pub end: usize,
+}
+
+struct Gathered {
+    symbols: Vec<u8>,
+    end: usize,
+}
+
+/// The transport form of a tree (RFC 9804, section 6.2): the padded base64 of its canonical form, in braces.
+pub fn wrap(alloc: Global, tree: &Sexp) -> Result<Vec<u8>, AllocError>
+    ensures { IfOk result (λ text. text.items ≡ 123 ∷ (encode_of standard (canon (sexp_value tree.now)) ++ 125 ∷ [])) }
+{
+    let octets = encode(alloc, tree)?;
+    let symbols = STANDARD.encode(alloc, &octets)?;
+    let mut text = Vec::new(alloc);
+    text.push(b'{')?;
+    text.extend_from_slice(symbols.as_bytes())?;
+    text.push(b'}')?;
+    Ok(text)
+}
+
+/// Whether an octet may stand in base64: a symbol of the standard alphabet, or `=`.
+fn is_base64_octet(octet: u8) -> bool
+    ensures { result ≡ is_symbol octet }
+{
+    octet.is_ascii_uppercase()
+        || octet.is_ascii_lowercase()
+        || octet.is_ascii_digit()
+        || octet == b'+'
+        || octet == b'/'
+        || octet == b'='
+}
+
+/// Takes one octet of a body: a symbol is kept, whitespace is not.
+fn keep_symbol(octet: u8, at: usize, symbols: &mut Vec<u8>) -> Result<(), FormFault>
+    ensures kept { OnOk result
+        ((is_body_octet octet ≡ true) × (symbols.new.items ≡ symbols.old.items ++ visible (octet ∷ []))) }
+    ensures refused { IfErr result (λ fault. IsNoBodyOctet octet at fault) }
+{
+    if is_space(octet) {
+        return Ok(());
+    }
+    if !is_base64_octet(octet) {
+        return Err(FormFault::Bad(at));
+    }
+    symbols.push(octet)?;
+    Ok(())
+}
+
+/// The symbols of a body that stands before a mark.
+fn gather(alloc: Global, text: &[u8], at: usize, mark: u8) -> Result<Gathered, FormFault>
+    requires begins { at ≤ length text.now }
+    requires apart { is_body_octet mark ≡ false }
+    ensures read { IfOk result (λ read. GathersTo text.now at mark read.symbols.items read.end) }
+    ensures only { (body rest : List ℕ) → AreBodyOctets body → drop at text.now ≡ body ++ mark ∷ rest → IsOkUnless result FormFault.Memory }
+    ensures refused { IfErr result (λ fault. IsPartFault (length text.now) fault) }
+{
+    let mut symbols = Vec::new(alloc);
+    let mut i = at;
+    while let Some(octet) = octet_at(text, i) {
+        if octet == mark {
+            return Ok(Gathered {
+                symbols,
+                end: i + 1,
+            });
+        }
+        keep_symbol(octet, i, &mut symbols)?;
+        i += 1;
+    }
+    Err(FormFault::Short)
+}
+
+/// Puts missing padding behind symbols.
+fn pad(symbols: &mut Vec<u8>, missing: usize) -> Result<(), AllocError>
+    ensures { OnOk result (symbols.new.items ≡ symbols.old.items ++ replicate missing 61) }
+{
+    for place in 0..missing {
+        symbols.push(b'=')?;
+    }
+    Ok(())
+}
+
+/// The octets that symbols stand for; else the fault is Bad at the offset given.
+fn unpack(alloc: Global, symbols: Vec<u8>, at: usize) -> Result<Vec<u8>, FormFault>
+    ensures read { IfOk result (λ octets. IsBase64 symbols.items octets.items) }
+    ensures only { (octets : List ℕ) → IsBase64 symbols.items octets → IsOkUnless result FormFault.Memory }
+    ensures refused { IfErr result (λ fault. IsPartFault (at + 1) fault) }
+{
+    let missing = (4 - symbols.len() % 4) % 4;
+    if missing > 2 {
+        return Err(FormFault::Bad(at));
+    }
+    let mut padded = symbols;
+    pad(&mut padded, missing)?;
+    match STANDARD.decode(alloc, &padded) {
+        Ok(octets) => Ok(octets),
+        Err(DecodeAllocError::OutOfMemory) => Err(FormFault::Memory),
+        Err(DecodeAllocError::DecodeError(_)) => Err(FormFault::Bad(at)),
+    }
+}
+
+/// Reads base64 with whitespace in it, which stands from an offset on up to a closing mark. The octets' padding
+/// may be left out as a whole or in part, and spare bits are zero (RFC 4648, section 4).
+///
+/// Short: the text ends before the mark. Bad: at the first octet that can't stand there, or at the mark where the
+/// body is no base64.
+pub fn read_base64(alloc: Global, text: &[u8], at: usize, mark: u8) -> Result<Unpacked, FormFault>
+    requires begins { at ≤ length text.now }
+    requires apart { is_body_octet mark ≡ false }
+    ensures read { IfOk result (λ read. ReadsBase64 text.now at mark read.octets.items read.end) }
+    ensures only { (body rest octets : List ℕ) → IsBase64 (visible body) octets
+        → drop at text.now ≡ body ++ mark ∷ rest → IsOkUnless result FormFault.Memory }
+    ensures refused { IfErr result (λ fault. IsPartFault (length text.now) fault) }
+{
+    let Gathered { symbols, end } = gather(alloc, text, at, mark)?;
+    let octets = unpack(alloc, symbols, end - 1)?;
+    Ok(Unpacked { octets, end })
+}
+
+/// Why a body is refused that ends at this offset where its octets are no canonical form within the limits.
+fn body_fault(fault: FormFault, at: usize) -> FormFault
+    ensures { IsBodyFault fault at result }
+{
+    match fault {
+        FormFault::TooDeep => FormFault::TooDeep,
+        FormFault::Memory => FormFault::Memory,
+        _ => FormFault::Bad(at),
+    }
+}
+
+fn decode_body(alloc: Global, octets: &[u8], at: usize) -> Result<Sexp, FormFault>
+    ensures read { IfOk result (λ tree. (octets.now ≡ canon (sexp_value tree)) × IsWithinLimits (sexp_value tree)) }
+    ensures only { (v : Value) → IsWithinLimits v → octets.now ≡ canon v → IsOkUnless result FormFault.Memory }
+    ensures refused { IfErr result (λ fault. LiesWithin (at + 1) fault × IsNotTooLong fault) }
+{
+    match decode(alloc, octets) {
+        Ok(tree) => Ok(tree),
+        Err(fault) => Err(body_fault(fault, at)),
+    }
+}
+
+/// Gives the tree that was read, if nothing but whitespace follows it.
+fn ended(text: &[u8], at: usize, tree: Sexp) -> Result<Sexp, FormFault>
+    requires { at ≤ length text.now }
+    ensures read { IfOk result (λ same. (sexp_value same ≡ sexp_value tree) × AreSpaces (drop at text.now)) }
+    ensures only { AreSpaces (drop at text.now) → IsOkUnless result FormFault.Memory }
+    ensures refused { IfErr result (λ fault. LiesWithin (length text.now) fault × IsNotTooLong fault) }
+{
+    let end = skip_spaces(text, at);
+    if end < text.len() {
+        return Err(FormFault::Trailing(end));
+    }
+    Ok(tree)
+}
+
+/// Reads the transport form (RFC 9804, section 6.2): braces round base64 of a canonical form, with whitespace
+/// allowed round the braces and in them, and padding that may be left out as a whole or in part.
+///
+/// TooLong: the text has more than `MOST_OCTETS` octets. Then, from the left, Bad: another first octet than an
+/// opening brace, or an octet in the body that is neither a symbol, `=` nor whitespace. Short: the text ends before
+/// the closing brace. At the closing brace, TooDeep: the octets open more than `MOST_LISTS` lists at once; Bad:
+/// the body is no base64 of a canonical form. Trailing: an octet behind it is no whitespace.
+pub fn unwrap_braces(alloc: Global, text: &[u8]) -> Result<Sexp, FormFault>
+    ensures read { IfOk result (λ tree. IsBracedWithin text.now (sexp_value tree)) }
+    ensures only { (v : Value) → IsBracedWithin text.now v → IsOkUnless result FormFault.Memory }
+    ensures too_long { IsErrOf result FormFault.TooLong ↔ (1048576 < length text.now) }
+    ensures refused { IfErr result (λ fault. LiesWithin (length text.now) fault) }
+{
+    if text.len() > MOST_OCTETS {
+        return Err(FormFault::TooLong);
+    }
+    let begin = skip_spaces(text, 0);
+    let Some(octet) = octet_at(text, begin) else {
+        return Err(FormFault::Short);
+    };
+    if octet != b'{' {
+        return Err(FormFault::Bad(begin));
+    }
+    let body = read_base64(alloc, text, begin + 1, b'}')?;
+    let tree = decode_body(alloc, &body.octets, body.end - 1)?;
+    ended(text, body.end, tree)
+}

@@ -1,0 +1,71 @@
+//! Owned trees, made from canonical texts.
+
+ghost use Rattle.std.specs.Prelude.{◌≡◌, ◌<◌, ◌↔◌, length, map, IfOk, IfErr, IsErrOf, IsOkUnless};
+ghost use Rattle.std.specs.Option.{option_copied};
+ghost use Rattle.sexpr_core.specs.Value.{Value, string, canon, IsWithinLimits};
+ghost use Rattle.sexpr_core.specs.Tree.{atom_value, sexp_value};
+ghost use Rattle.sexpr_core.specs.Refusal.{Refused};
+
+use crate::document::Doc;
+use crate::fault::FormFault;
+use crate::handle::{Form, Node};
+use crate::siblings::Members;
+use crate::tree::{Atom, Sexp};
+use std::alloc::{AllocError, Global};
+
+/// Reads a text that is one value in canonical form (RFC 9804, section 6.1), of at most `MOST_OCTETS` octets and
+/// with at most `MOST_LISTS` lists open at once, as an owned tree. It answers as `Doc::open` does; `FormFault` says
+/// what each fault means.
+pub fn decode(alloc: Global, text: &[u8]) -> Result<Sexp, FormFault>
+    ensures read { IfOk result (λ tree. (text.now ≡ canon (sexp_value tree)) × IsWithinLimits (sexp_value tree)) }
+    ensures only { (v : Value) → IsWithinLimits v → text.now ≡ canon v → IsOkUnless result FormFault.Memory }
+    ensures too_long { IsErrOf result FormFault.TooLong ↔ (1048576 < length text.now) }
+    ensures refused { IfErr result (λ fault. Refused text.now fault) }
+{
+    let document = Doc::open(alloc, text)?;
+    let tree = Sexp::of_node(alloc, &document.top())?;
+    Ok(tree)
+}
+
+fn atom_of(alloc: Global, hint: Option<&[u8]>, body: &[u8]) -> Result<Atom, AllocError>
+    ensures { IfOk result (λ atom. atom_value atom ≡ string (option_copied hint.entry) body.now) }
+{
+    let body = Vec::from_slice(alloc, body)?;
+    let Some(octets) = hint else {
+        return Ok(Atom { hint: None, body });
+    };
+    let hint = Some(Vec::from_slice(alloc, octets)?);
+    Ok(Atom { hint, body })
+}
+
+#[cycle(trees)]
+fn tree_of(alloc: Global, node: &Node) -> Result<Sexp, AllocError>
+    ensures { IfOk result (λ tree. sexp_value tree ≡ node.now) }
+{
+    match node.form() {
+        Form::String { hint, body } => Ok(Sexp::Atom(atom_of(alloc, hint, body)?)),
+        Form::List(members) => Ok(Sexp::List(trees_of(alloc, members)?)),
+    }
+}
+
+#[cycle(trees)]
+fn trees_of(alloc: Global, members: Members) -> Result<Vec<Sexp>, AllocError>
+    ensures { IfOk result (λ trees. map sexp_value trees.items ≡ members.entry) }
+{
+    let mut trees = Vec::new(alloc);
+    let mut rest = members;
+    while let Some((first, others)) = rest.split_first() {
+        trees.push(tree_of(alloc, &first)?)?;
+        rest = others;
+    }
+    Ok(trees)
+}
+
+impl Sexp {
+    /// A node of a document with all that is in it, as a tree of its own.
+    pub fn of_node(alloc: Global, node: &Node) -> Result<Sexp, AllocError>
+        ensures { IfOk result (λ tree. sexp_value tree ≡ node.now) }
+    {
+        tree_of(alloc, node)
+    }
+}

@@ -1,0 +1,39 @@
+//! Octets of a text by their offsets, and whitespace.
+
+ghost use Rattle.std.specs.Prelude.{◌≡◌, ◌≤◌, [], length, drop, MatchOption};
+ghost use Rattle.sexpr_core.specs.Reading.{StandsAt};
+ghost use Rattle.sexpr_core.specs.Spaces.{is_whitespace, Skips};
+
+/// The octet at an offset; None at the end of the text.
+pub fn octet_at(text: &[u8], at: usize) -> Option<u8>
+    requires { at ≤ length text.now }
+    ensures { MatchOption result (drop at text.now ≡ []) (λ octet. StandsAt text.now at octet) }
+{
+    if at < text.len() {
+        Some(text[at])
+    } else {
+        None
+    }
+}
+
+/// Whether an octet is whitespace: space, HT, LF, VT, FF or CR.
+pub fn is_space(octet: u8) -> bool
+    ensures { result ≡ is_whitespace octet }
+{
+    octet == b' ' || (octet >= 9 && octet <= 13)
+}
+
+/// The offset behind the whitespace that begins at an offset.
+pub fn skip_spaces(text: &[u8], at: usize) -> usize
+    requires { at ≤ length text.now }
+    ensures { Skips text.now at result }
+{
+    let mut i = at;
+    while let Some(octet) = octet_at(text, i) {
+        if !is_space(octet) {
+            return i;
+        }
+        i += 1;
+    }
+    i
+}

@@ -1,0 +1,65 @@
+//! Canonical form, written (RFC 9804, section 6.1).
+
+ghost use Rattle.std.specs.Prelude.{◌≡◌, ◌++◌, IfOk, OnOk};
+ghost use Rattle.sexpr_core.specs.Value.{canon, decimal, verbatim};
+ghost use Rattle.sexpr_core.specs.Tree.{atom_value, sexp_value};
+
+use crate::tree::{Atom, Sexp};
+use std::alloc::{AllocError, Global};
+
+/// The canonical form of a tree (RFC 9804, section 6.1). It may be longer than what `decode` reads, and deeper.
+pub fn encode(alloc: Global, tree: &Sexp) -> Result<Vec<u8>, AllocError>
+    ensures { IfOk result (λ octets. octets.items ≡ canon (sexp_value tree.now)) }
+{
+    let mut out = Vec::new(alloc);
+    append_tree(tree, &mut out)?;
+    Ok(out)
+}
+
+fn append_decimal(number: usize, out: &mut Vec<u8>) -> Result<(), AllocError>
+    ensures { OnOk result (out.new.items ≡ out.old.items ++ decimal number) }
+{
+    if number < 10 {
+        out.push(b'0' + number as u8)?;
+        return Ok(());
+    }
+    append_decimal(number / 10, out)?;
+    out.push(b'0' + (number % 10) as u8)?;
+    Ok(())
+}
+
+fn append_verbatim(octets: &[u8], out: &mut Vec<u8>) -> Result<(), AllocError>
+    ensures { OnOk result (out.new.items ≡ out.old.items ++ verbatim octets.now) }
+{
+    append_decimal(octets.len(), out)?;
+    out.push(b':')?;
+    out.extend_from_slice(octets)?;
+    Ok(())
+}
+
+fn append_atom(atom: &Atom, out: &mut Vec<u8>) -> Result<(), AllocError>
+    ensures { OnOk result (out.new.items ≡ out.old.items ++ canon (atom_value atom.now)) }
+{
+    if let Some(hint) = &atom.hint {
+        out.push(b'[')?;
+        append_verbatim(hint, out)?;
+        out.push(b']')?;
+    }
+    append_verbatim(&atom.body, out)
+}
+
+fn append_tree(tree: &Sexp, out: &mut Vec<u8>) -> Result<(), AllocError>
+    ensures { OnOk result (out.new.items ≡ out.old.items ++ canon (sexp_value tree.now)) }
+{
+    match tree {
+        Sexp::Atom(atom) => append_atom(atom, out),
+        Sexp::List(members) => {
+            out.push(b'(')?;
+            for member in members {
+                append_tree(member, out)?;
+            }
+            out.push(b')')?;
+            Ok(())
+        }
+    }
+}

@@ -1,0 +1,2 @@
+pub mod PrintLaws
+pub mod StringLaws

@@ -1,0 +1,4 @@
+pub mod Strings
+pub mod Spelling
+pub mod Printed
+pub mod Reads

@@ -1,0 +1,137 @@
+-- Which texts spell a string without display hint in advanced form (RFC 9804, sections 4.1 to 4.6).
+use Rattle.std.specs.Prelude.{◌≡◌, ◌≢◌, ℕ, ◌+◌, ◌*◌, ◌<◌, ◌==◌, ◌&&◌, ◌||◌, nat_le, Bool, true, false, ◌⊎◌, List, [], ◌∷◌, ◌++◌, length, Option, Some, None, Ok, if◌then◌else◌}
+use Rattle.std.specs.List.{AllByRecursion}
+use Rattle.hex.specs.Hex.{hex_digit_value, decode_of}
+use Rattle.sexpr_core.specs.Value.{decimal, verbatim}
+use Rattle.sexpr_core.specs.Spaces.{visible}
+use Rattle.sexpr_core.specs.Braces.{IsBase64}
+
+-- ---- tokens
+
+abbrev pub is_digit : ℕ → Bool
+is_digit c = nat_le 48 c && nat_le c 57
+
+-- a letter, a digit, or one of - . / _ : * + =
+abbrev pub is_token_octet : ℕ → Bool
+is_token_octet c = (nat_le 97 c && nat_le c 122) || (nat_le 65 c && nat_le c 90) || (nat_le 45 c && nat_le c 58) || c == 42 || c == 43 || c == 61 || c == 95
+
+-- one or more of these, the first of them no digit
+abbrev pub IsToken : List ℕ → Type 0
+IsToken [] = ⊥
+IsToken (c ∷ cs) = (is_digit c ≡ false) × AllByRecursion (λ k. is_token_octet k ≡ true) (c ∷ cs)
+
+-- ---- quoted strings
+
+-- the octet that an octet behind a backslash stands for
+abbrev pub escape_value : ℕ → Option ℕ
+escape_value e =
+    if e == 97 then Some 7
+    else if e == 98 then Some 8
+    else if e == 116 then Some 9
+    else if e == 118 then Some 11
+    else if e == 110 then Some 10
+    else if e == 102 then Some 12
+    else if e == 114 then Some 13
+    else if e == 34 then Some 34
+    else if e == 39 then Some 39
+    else if e == 63 then Some 63
+    else if e == 92 then Some 92
+    else None
+
+-- What stands between the quotes: an octet for itself; a backslash with an octet that stands for another; with
+-- three octal digits; with x and two hexadecimal digits, whose values stand beside them; with CR or LF; with CRLF
+-- or LFCR.
+pub data Piece : Type 0 where
+  raw : ℕ → Piece
+  escaped : ℕ → ℕ → Piece
+  octal : ℕ → ℕ → ℕ → Piece
+  hexadecimal : ℕ → ℕ → ℕ → ℕ → Piece
+  line : ℕ → Piece
+  line_pair : ℕ → ℕ → Piece
+
+abbrev pub piece_text : Piece → List ℕ
+piece_text (raw c) = c ∷ []
+piece_text (escaped e c) = 92 ∷ e ∷ []
+piece_text (octal a b c) = 92 ∷ (48 + a) ∷ (48 + b) ∷ (48 + c) ∷ []
+piece_text (hexadecimal h l m n) = 92 ∷ 120 ∷ h ∷ l ∷ []
+piece_text (line c) = 92 ∷ c ∷ []
+piece_text (line_pair c d) = 92 ∷ c ∷ d ∷ []
+
+-- the octets meant; a line's end behind a backslash vanishes
+abbrev pub piece_octets : Piece → List ℕ
+piece_octets (raw c) = c ∷ []
+piece_octets (escaped e c) = c ∷ []
+piece_octets (octal a b c) = (a * 64 + b * 8 + c) ∷ []
+piece_octets (hexadecimal h l m n) = (m * 16 + n) ∷ []
+piece_octets (line c) = []
+piece_octets (line_pair c d) = []
+
+-- the octets do not begin with this one
+abbrev pub StartsOther : ℕ → List ℕ → Type 0
+StartsOther d [] = Unit {0}
+StartsOther d (c ∷ cs) = c ≢ d
+
+-- A piece is right where these octets follow. Of the pairs CRLF and LFCR the longer is taken, so a lone CR is
+-- followed by no LF, and a lone LF by no CR.
+abbrev pub IsPiece : Piece → List ℕ → Type 0
+IsPiece (raw c) rest = (c ≢ 34) × (c ≢ 92)
+IsPiece (escaped e c) rest = escape_value e ≡ Some c
+IsPiece (octal a b c) rest = (a < 4) × (b < 8) × (c < 8)
+IsPiece (hexadecimal h l m n) rest = (hex_digit_value h ≡ Some m) × (hex_digit_value l ≡ Some n)
+IsPiece (line c) rest = ((c ≡ 13) × StartsOther 10 rest) ⊎ ((c ≡ 10) × StartsOther 13 rest)
+IsPiece (line_pair c d) rest = ((c ≡ 13) × (d ≡ 10)) ⊎ ((c ≡ 10) × (d ≡ 13))
+
+abbrev pub pieces_text : List Piece → List ℕ
+pieces_text [] = []
+pieces_text (p ∷ ps) = piece_text p ++ pieces_text ps
+
+abbrev pub pieces_octets : List Piece → List ℕ
+pieces_octets [] = []
+pieces_octets (p ∷ ps) = piece_octets p ++ pieces_octets ps
+
+-- pieces one behind the other, and these octets behind them all
+abbrev pub ArePieces : List Piece → List ℕ → Type 0
+ArePieces [] rest = Unit {0}
+ArePieces (p ∷ ps) rest = IsPiece p (pieces_text ps ++ rest) × ArePieces ps rest
+
+-- ---- strings
+
+-- the length of a string, where it is written in front of it
+abbrev pub IsCount : List ℕ → ℕ → Type 0
+IsCount count n = (count ≡ []) ⊎ (count ≡ decimal n)
+
+-- "..", with its pieces
+pub record IsQuoted (text octets : List ℕ) : Type 0 where
+  pub pieces : List Piece
+  pub spelled : text ≡ 34 ∷ (pieces_text pieces ++ 34 ∷ [])
+  pub meant : octets ≡ pieces_octets pieces
+  pub right : ArePieces pieces (34 ∷ [])
+
+-- #..#, an even number of hexadecimal digits with whitespace anywhere
+pub record IsHexadecimal (text octets : List ℕ) : Type 0 where
+  pub body : List ℕ
+  pub spelled : text ≡ 35 ∷ (body ++ 35 ∷ [])
+  pub packed : decode_of (visible body) ≡ Ok octets
+
+-- |..|, base64 with whitespace anywhere
+pub record IsPacked (text octets : List ℕ) : Type 0 where
+  pub body : List ℕ
+  pub spelled : text ≡ 124 ∷ (body ++ 124 ∷ [])
+  pub packed : IsBase64 (visible body) octets
+
+-- a string between marks
+abbrev pub IsMarked : List ℕ → List ℕ → Type 0
+IsMarked text octets = IsQuoted text octets ⊎ (IsHexadecimal text octets ⊎ IsPacked text octets)
+
+-- the same, with its length in front or without
+pub record IsCounted (text octets : List ℕ) : Type 0 where
+  pub count : List ℕ
+  pub marked : List ℕ
+  pub spelled : text ≡ count ++ marked
+  pub counts : IsCount count (length octets)
+  pub meant : IsMarked marked octets
+
+-- A text spells a string without hint: as a token (the test says so), in verbatim form, or between marks.
+abbrev pub Simple : Bool → List ℕ → List ℕ → Type 0
+Simple true text octets = (text ≡ octets) × IsToken octets
+Simple false text octets = (text ≡ verbatim octets) ⊎ IsCounted text octets

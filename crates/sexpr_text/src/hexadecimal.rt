@@ -1,0 +1,73 @@
+//! Hexadecimal strings, read.
+
+ghost use Rattle.std.specs.Prelude.{◌≡◌, ◌+◌, ◌≤◌, [], ◌∷◌, ◌++◌, length, IfOk, IfErr, OnOk};
+ghost use Rattle.sexpr_core.specs.Reading.{StandsAt};
+ghost use Rattle.sexpr_core.specs.Bounds.{IsPartFault};
+ghost use Rattle.sexpr_text.specs.Reads.{Reads, Keeps};
+ghost use Rattle.sexpr_text.specs.Strings.{IsHexadecimal};
+ghost use Rattle.sexpr_core.specs.Spaces.{visible};
+
+use crate::strings::ReadString;
+use hex::FromHexError;
+use sexpr_core::{FormFault, is_space, octet_at};
+use std::alloc::Global;
+
+#[derive(Drop)]
+struct Digits {
+    digits: Vec<u8>,
+    end: usize,
+}
+
+/// A hexadecimal string, from its opening mark on. Whitespace may stand anywhere in it.
+pub(crate) fn read_hexadecimal(
+    alloc: Global,
+    text: &[u8],
+    at: usize,
+) -> Result<ReadString, FormFault>
+    requires { StandsAt text.now at 35 }
+    ensures read { IfOk result (λ read. Reads IsHexadecimal text.now at read.octets.items read.end) }
+    ensures refused { IfErr result (λ fault. IsPartFault (length text.now) fault) }
+{
+    let Digits { digits, end } = gather_digits(alloc, text, at + 1)?;
+    match hex::decode(alloc, digits.as_slice()) {
+        Ok(octets) => Ok(ReadString {
+            octets,
+            end: end + 1,
+        }),
+        Err(FromHexError::OutOfMemory) => Err(FormFault::Memory),
+        Err(_) => Err(FormFault::Bad(end)),
+    }
+}
+
+/// The digits up to the closing mark.
+fn gather_digits(alloc: Global, text: &[u8], at: usize) -> Result<Digits, FormFault>
+    requires { at ≤ length text.now }
+    ensures read { IfOk result (λ read. Keeps text.now at read.digits.items read.end × StandsAt text.now read.end 35) }
+    ensures refused { IfErr result (λ fault. IsPartFault (length text.now) fault) }
+{
+    let mut digits = Vec::new(alloc);
+    let mut i = at;
+    while let Some(octet) = octet_at(text, i) {
+        if octet == b'#' {
+            return Ok(Digits { digits, end: i });
+        }
+        keep_digit(octet, i, &mut digits)?;
+        i += 1;
+    }
+    Err(FormFault::Short)
+}
+
+/// Takes one octet of a body: a digit is kept, whitespace is not.
+fn keep_digit(octet: u8, at: usize, digits: &mut Vec<u8>) -> Result<(), FormFault>
+    ensures kept { OnOk result (digits.new.items ≡ digits.old.items ++ visible (octet ∷ [])) }
+    ensures refused { IfErr result (λ fault. IsPartFault (at + 1) fault) }
+{
+    if is_space(octet) {
+        return Ok(());
+    }
+    if !octet.is_ascii_hexdigit() {
+        return Err(FormFault::Bad(at));
+    }
+    digits.push(octet)?;
+    Ok(())
+}

@@ -1,0 +1,11 @@
+//! S-expressions in advanced form (RFC 9804, section 6.3), read and written.
+#![tactic(auto)]
+
+mod hexadecimal;
+mod printer;
+mod quoted;
+mod reader;
+mod strings;
+
+pub use printer::print_advanced;
+pub use reader::{read_advanced, read_any};

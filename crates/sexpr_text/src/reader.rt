@@ -1,0 +1,161 @@
+//! The reader of advanced form (RFC 9804, section 6.3).
+
+ghost use Rattle.std.specs.Prelude.{◌<◌, ◌≤◌, ◌↔◌, length, IfOk, IfErr, IsErrOf};
+ghost use Rattle.sexpr_core.specs.Bounds.{LiesWithin, IsNotTooLong};
+ghost use Rattle.sexpr_text.specs.Reads.{GoesOn, IsValueFault};
+
+use crate::strings::{ReadString, read_string};
+use sexpr_core::{
+    Atom, FormFault, MOST_LISTS, MOST_OCTETS, Sexp, octet_at, skip_spaces, unwrap_braces,
+};
+use std::alloc::Global;
+
+#[derive(Drop)]
+struct ReadTree {
+    tree: Sexp,
+    end: usize,
+}
+
+#[derive(Drop)]
+struct ReadMembers {
+    members: Vec<Sexp>,
+    end: usize,
+}
+
+/// Reads a text in advanced form, which contains canonical form (RFC 9804, section 6.3), of at most `MOST_OCTETS`
+/// octets and with at most `MOST_LISTS` lists open at once.
+///
+/// TooLong: the text has more octets. Then the first fault from the left. TooDeep: a list begins while `MOST_LISTS`
+/// are open. Bad: the octet at this offset can't stand in its place; at a closing mark, the body isn't what the marks
+/// or the length in front say. Short: the text ends before the value is whole. Trailing: a whole value and whitespace
+/// are followed by an octet, at this offset.
+pub fn read_advanced(alloc: Global, text: &[u8]) -> Result<Sexp, FormFault>
+    ensures too_long { IsErrOf result FormFault.TooLong ↔ (1048576 < length text.now) }
+    ensures refused { IfErr result (λ fault. LiesWithin (length text.now) fault) }
+{
+    if text.len() > MOST_OCTETS {
+        return Err(FormFault::TooLong);
+    }
+    let begin = skip_spaces(text, 0);
+    let read = read_tree(alloc, text, begin, MOST_LISTS)?;
+    ended(text, read)
+}
+
+/// Reads a text in the transport form if its first octet past whitespace is an opening brace, and else in advanced form.
+pub fn read_any(alloc: Global, text: &[u8]) -> Result<Sexp, FormFault>
+    ensures too_long { IsErrOf result FormFault.TooLong ↔ (1048576 < length text.now) }
+    ensures refused { IfErr result (λ fault. LiesWithin (length text.now) fault) }
+{
+    let begin = skip_spaces(text, 0);
+    match octet_at(text, begin) {
+        Some(b'{') => unwrap_braces(alloc, text),
+        _ => read_advanced(alloc, text),
+    }
+}
+
+/// Gives the tree that was read, if nothing but whitespace follows it.
+fn ended(text: &[u8], read: ReadTree) -> Result<Sexp, FormFault>
+    requires { read.end ≤ length text.now }
+    ensures { IfErr result (λ fault. LiesWithin (length text.now) fault × IsNotTooLong fault) }
+{
+    let ReadTree { tree, end } = read;
+    let end = skip_spaces(text, end);
+    if end < text.len() {
+        return Err(FormFault::Trailing(end));
+    }
+    Ok(tree)
+}
+
+/// A value, from its first octet on. At most `room` lists may open in it.
+#[cycle(reading)]
+fn read_tree(alloc: Global, text: &[u8], at: usize, room: usize) -> Result<ReadTree, FormFault>
+    requires { at ≤ length text.now }
+    ensures read { IfOk result (λ read. GoesOn text.now at read.end) }
+    ensures refused { IfErr result (λ fault. IsValueFault (length text.now) fault) }
+{
+    match octet_at(text, at) {
+        None => Err(FormFault::Short),
+        Some(b'(') => read_list(alloc, text, at, room),
+        Some(b'[') => read_hinted(alloc, text, at),
+        Some(_) => {
+            let ReadString { octets, end } = read_string(alloc, text, at)?;
+            Ok(ReadTree {
+                tree: Sexp::Atom(Atom {
+                    hint: None,
+                    body: octets,
+                }),
+                end,
+            })
+        }
+    }
+}
+
+/// A list, from its opening parenthesis on.
+#[cycle(reading)]
+fn read_list(alloc: Global, text: &[u8], at: usize, room: usize) -> Result<ReadTree, FormFault>
+    requires { at < length text.now }
+    ensures read { IfOk result (λ read. GoesOn text.now at read.end) }
+    ensures refused { IfErr result (λ fault. IsValueFault (length text.now) fault) }
+{
+    if room == 0 {
+        return Err(FormFault::TooDeep);
+    }
+    let ReadMembers { members, end } = read_members(alloc, text, at + 1, room - 1)?;
+    Ok(ReadTree {
+        tree: Sexp::List(members),
+        end,
+    })
+}
+
+/// The members of a list and its closing parenthesis.
+#[cycle(reading)]
+fn read_members(
+    alloc: Global,
+    text: &[u8],
+    at: usize,
+    room: usize,
+) -> Result<ReadMembers, FormFault>
+    requires { at ≤ length text.now }
+    ensures read { IfOk result (λ read. GoesOn text.now at read.end) }
+    ensures refused { IfErr result (λ fault. IsValueFault (length text.now) fault) }
+{
+    let mut members = Vec::new(alloc);
+    let mut i = skip_spaces(text, at);
+    while let Some(octet) = octet_at(text, i) {
+        if octet == b')' {
+            return Ok(ReadMembers {
+                members,
+                end: i + 1,
+            });
+        }
+        let ReadTree { tree, end } = read_tree(alloc, text, i, room)?;
+        members.push(tree)?;
+        i = skip_spaces(text, end);
+    }
+    Err(FormFault::Short)
+}
+
+/// A string with a hint, from its opening bracket on.
+fn read_hinted(alloc: Global, text: &[u8], at: usize) -> Result<ReadTree, FormFault>
+    requires { at < length text.now }
+    ensures read { IfOk result (λ read. GoesOn text.now at read.end) }
+    ensures refused { IfErr result (λ fault. IsValueFault (length text.now) fault) }
+{
+    let begin = skip_spaces(text, at + 1);
+    let hint = read_string(alloc, text, begin)?;
+    let close = skip_spaces(text, hint.end);
+    match octet_at(text, close) {
+        None => return Err(FormFault::Short),
+        Some(b']') => {}
+        Some(_) => return Err(FormFault::Bad(close)),
+    }
+    let begin = skip_spaces(text, close + 1);
+    let body = read_string(alloc, text, begin)?;
+    Ok(ReadTree {
+        tree: Sexp::Atom(Atom {
+            hint: Some(hint.octets),
+            body: body.octets,
+        }),
+        end: body.end,
+    })
+}

@@ -1,0 +1,148 @@
+//! Strings without display hint, read (RFC 9804, sections 4.1 to 4.6).
+
+ghost use Rattle.std.specs.Prelude.{◌≡◌, true, false, ◌<◌, ◌≤◌, length, IfOk, IfErr};
+ghost use Rattle.sexpr_core.specs.Bounds.{IsPartFault};
+ghost use Rattle.sexpr_text.specs.Reads.{GoesOn, ReadsToken, ReadsCount};
+ghost use Rattle.sexpr_text.specs.Strings.{is_digit, is_token_octet};
+ghost use Rattle.sexpr_core.specs.Reading.{StandsAt};
+
+use crate::hexadecimal::read_hexadecimal;
+use crate::printer::stands_in_token;
+use crate::quoted::read_quoted;
+use sexpr_core::{FormFault, MOST_OCTETS, Unpacked, octet_at, read_base64};
+use std::alloc::Global;
+
+/// The octets of a string, and where its text has ended.
+#[derive(Drop)]
+pub(crate) struct ReadString {
+    pub(crate) octets: Vec<u8>,
+    pub(crate) end: usize,
+}
+
+/// A length in front of a string, at most one past the most octets, and where its digits have ended.
+#[derive(Clone, Copy)]
+struct Count {
+    number: usize,
+    end: usize,
+}
+
+/// A string, from its first octet on.
+pub(crate) fn read_string(alloc: Global, text: &[u8], at: usize) -> Result<ReadString, FormFault>
+    requires { at ≤ length text.now }
+    ensures read { IfOk result (λ read. GoesOn text.now at read.end) }
+    ensures refused { IfErr result (λ fault. IsPartFault (length text.now) fault) }
+{
+    let Some(octet) = octet_at(text, at) else {
+        return Err(FormFault::Short);
+    };
+    if octet.is_ascii_digit() {
+        return read_counted(alloc, text, at, octet);
+    }
+    if stands_in_token(octet) {
+        return read_token(alloc, text, at, octet);
+    }
+    read_marked(alloc, text, at)
+}
+
+/// A token, which ends where the next octet can't stand in one.
+fn read_token(alloc: Global, text: &[u8], at: usize, first: u8) -> Result<ReadString, FormFault>
+    requires begins { StandsAt text.now at first }
+    requires other { is_digit first ≡ false }
+    requires token { is_token_octet first ≡ true }
+    ensures read { IfOk result (λ read. ReadsToken text.now at read.octets.items read.end) }
+    ensures refused { IfErr result (λ fault. IsPartFault (length text.now) fault) }
+{
+    let mut octets = Vec::new(alloc);
+    octets.push(first)?;
+    let mut i = at + 1;
+    while let Some(octet) = octet_at(text, i) {
+        if !stands_in_token(octet) {
+            return Ok(ReadString { octets, end: i });
+        }
+        octets.push(octet)?;
+        i += 1;
+    }
+    Ok(ReadString { octets, end: i })
+}
+
+/// A string between marks, from its opening mark on.
+fn read_marked(alloc: Global, text: &[u8], at: usize) -> Result<ReadString, FormFault>
+    requires { at ≤ length text.now }
+    ensures read { IfOk result (λ read. GoesOn text.now at read.end) }
+    ensures refused { IfErr result (λ fault. IsPartFault (length text.now) fault) }
+{
+    match octet_at(text, at) {
+        None => Err(FormFault::Short),
+        Some(b'"') => read_quoted(alloc, text, at),
+        Some(b'#') => read_hexadecimal(alloc, text, at),
+        Some(b'|') => {
+            let Unpacked { octets, end } = read_base64(alloc, text, at + 1, b'|')?;
+            Ok(ReadString { octets, end })
+        }
+        Some(_) => Err(FormFault::Bad(at)),
+    }
+}
+
+/// A length without leading zero, of any size; past the most octets it stays one past them.
+fn read_count(text: &[u8], at: usize, first: u8) -> Count
+    requires begins { StandsAt text.now at first }
+    requires digit { (48 ≤ first) × (first < 58) }
+    ensures { ReadsCount text.now at result.number result.end }
+{
+    let mut number = (first - b'0') as usize;
+    let mut i = at + 1;
+    if number == 0 {
+        return Count { number, end: i };
+    }
+    while let Some(octet) = octet_at(text, i) {
+        if octet < b'0' || octet > b'9' {
+            return Count { number, end: i };
+        }
+        number = (number * 10 + (octet - b'0') as usize).min(MOST_OCTETS + 1);
+        i += 1;
+    }
+    Count { number, end: i }
+}
+
+/// A string with its length in front, from the first digit on.
+fn read_counted(alloc: Global, text: &[u8], at: usize, first: u8) -> Result<ReadString, FormFault>
+    requires begins { StandsAt text.now at first }
+    requires digit { (48 ≤ first) × (first < 58) }
+    ensures read { IfOk result (λ read. GoesOn text.now at read.end) }
+    ensures refused { IfErr result (λ fault. IsPartFault (length text.now) fault) }
+{
+    let count = read_count(text, at, first);
+    let Some(octet) = octet_at(text, count.end) else {
+        return Err(FormFault::Short);
+    };
+    if octet == b':' {
+        return read_verbatim(alloc, text, count.end + 1, count.number);
+    }
+    let read = read_marked(alloc, text, count.end)?;
+    if read.octets.len() != count.number {
+        return Err(FormFault::Bad(read.end - 1));
+    }
+    Ok(read)
+}
+
+/// So many octets as they stand.
+fn read_verbatim(
+    alloc: Global,
+    text: &[u8],
+    at: usize,
+    number: usize,
+) -> Result<ReadString, FormFault>
+    requires begins { at ≤ length text.now }
+    requires short { number ≤ 1048577 }
+    ensures read { IfOk result (λ read. (at ≤ read.end) × (read.end ≤ length text.now)) }
+    ensures refused { IfErr result (λ fault. IsPartFault (length text.now) fault) }
+{
+    if number > text.len() - at {
+        return Err(FormFault::Short);
+    }
+    let octets = Vec::from_slice(alloc, &text[at..at + number])?;
+    Ok(ReadString {
+        octets,
+        end: at + number,
+    })
+}
