@@ -7,3 +7,4 @@ pub mod Weight
 pub mod Limits
 pub mod Prefixes
 pub mod Exact
+pub mod Bounds
