@@ -4,3 +4,7 @@ pub mod OneTag
 pub mod Spelling
 pub mod Requests
 pub mod Weight
+pub mod Limits
+pub mod Prefixes
+pub mod Exact
+pub mod Bounds

@@ -9,3 +9,4 @@ pub mod Nodes
 pub mod NodeFalls
 pub mod Asks
 pub mod AskFalls
+pub mod Meet

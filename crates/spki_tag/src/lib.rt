@@ -6,6 +6,7 @@ mod fault;
 mod holding;
 mod laws;
 mod leaf;
+mod meeting;
 mod moment;
 mod reading;
 mod request;
@@ -14,6 +15,7 @@ mod writing;
 
 pub use fault::TagFault;
 pub use laws::{one_request, one_tag, readings_agree};
+pub use meeting::{meet_bounded, meet_exact, prefix_is_range};
 pub use moment::{is_date, is_time};
 pub use request::Ground;
 pub use tag::Tag;

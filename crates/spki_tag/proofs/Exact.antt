@@ -1,0 +1,381 @@
+-- What two tags leave together contains a request exactly if both do.
+use Rattle.std.proofs.Common.{◌≡◌, ℕ, zero, suc, ◌+◌, ◌<◌, ◌≤◌, Bool, true, false, ◌&&◌, ◌||◌, not, List, [], ◌∷◌, ◌++◌, length, Option, Some, None, refl, sym, ap, ◌∙◌, subst, true≢false, arith, eqb-true}
+use Rattle.std.specs.Prelude.{if◌then◌else◌, nat_eq, ◌==◌, slice_index, drop}
+use Rattle.std.specs.List.{starts_with}
+use Rattle.std.specs.Str.{bytes_eq}
+use Rattle.std.specs.Cmp.Lexicographic.{same_text, bytes_decides}
+use Rattle.spki_tag.specs.Time.{is_time, is_date, is_number_at}
+use Rattle.spki_tag.specs.Request as request
+use Rattle.spki_tag.specs.Request.{Request, Requests, IsRequest, AreRequests, AreOctets}
+use Rattle.spki_tag.specs.Tag.{Tag, Tags, tags, Limit, Ordering, alpha, time, date, star, string, prefix, range, list, set, none, more, contains, contain_each, some_contains, is_above, is_below, is_ordered, is_nothing, is_normal, each_normal, is_set_or_star}
+use Rattle.spki_tag.specs.Meet.{greater_low, lesser_up, exclude, ordering_meet, nothing, ranged, least_above, strict_limit, from, string_meet, prefixes_meet, range_meet, prefix_meet, items, kept, row, gather, has_nothing, listed, list_meet, across, set_across, meet, each_meet, pairs}
+use Rattle.spki_tag.proofs.Limits.{and_left, and_right, and_never, greater_low-exact, lesser_up-exact, exclude-none}
+use Rattle.spki_tag.proofs.Prefixes.{least_above-exact, prefixes-exact}
+
+-- ---- truth values
+
+first_true : (a b : Bool) → (a && b) ≡ true → a ≡ true
+first_true true b h = refl
+first_true false b h = h
+
+second_true : (a b : Bool) → (a && b) ≡ true → b ≡ true
+second_true true b h = h
+second_true false b h = absurd (true≢false (sym h))
+
+and_false : (b : Bool) → false ≡ (b && false)
+and_false true = refl
+and_false false = refl
+
+and_true : (b : Bool) → b ≡ (b && true)
+and_true true = refl
+and_true false = refl
+
+and_comm : (a b : Bool) → (a && b) ≡ (b && a)
+and_comm true true = refl
+and_comm true false = refl
+and_comm false true = refl
+and_comm false false = refl
+
+-- three pairs, and three of each
+thrice : (a b c d e f : Bool) → ((a && d) && (b && e) && (c && f)) ≡ ((a && b && c) && (d && e && f))
+thrice true true true d e f = refl
+thrice true true false true true f = refl
+thrice true true false true false f = refl
+thrice true true false false e f = refl
+thrice true false c true e f = refl
+thrice true false c false e f = refl
+thrice false b c d e f = refl
+
+twice : (a b c d : Bool) → ((a && b) && (c && d)) ≡ ((a && c) && (b && d))
+twice true b true d = refl
+twice true true false d = refl
+twice true false false d = refl
+twice false b c d = refl
+
+or_and : (a b c : Bool) → ((a && c) || (b && c)) ≡ ((a || b) && c)
+or_and true b true = refl
+or_and true true false = refl
+or_and true false false = refl
+or_and false b c = refl
+
+and_or : (a b c : Bool) → ((a && b) || (a && c)) ≡ (a && (b || c))
+and_or true b c = refl
+and_or false b c = refl
+
+or_assoc : (a b c : Bool) → ((a || b) || c) ≡ (a || (b || c))
+or_assoc true b c = refl
+or_assoc false b c = refl
+
+or_false : (a : Bool) → (a || false) ≡ a
+or_false true = refl
+or_false false = refl
+
+-- ---- orderings
+
+first_six : (a b c d e f : Bool) → (a && b && c && d && e && f) ≡ true → a ≡ true
+first_six true b c d e f h = refl
+first_six false b c d e f h = h
+
+first_nine : (a b c d e f g i j : Bool) → (a && b && c && d && e && f && g && i && j) ≡ true → a ≡ true
+first_nine true b c d e f g i j h = refl
+first_nine false b c d e f g i j h = h
+
+time_length : (x : List ℕ) → is_time x ≡ true → length x ≡ 8
+unfolding is_time
+time_length x h =
+    eqb-true (length x) 8
+    (first_six (length x == 8) (is_number_at x 0 0 23) (slice_index x 2 == 58) (is_number_at x 3 0 59) (slice_index x 5 == 58)
+    (is_number_at x 6 0 60) h)
+
+date_length : (x : List ℕ) → is_date x ≡ true → length x ≡ 19
+unfolding is_date
+date_length x h =
+    eqb-true (length x) 19
+    (first_nine (length x == 19) (is_number_at x 0 0 99) (is_number_at x 2 0 99) (slice_index x 4 == 45) (is_number_at x 5 1 12)
+    (slice_index x 7 == 45) (is_number_at x 8 1 31) (slice_index x 10 == 95) (is_time (drop 11 x)) h)
+
+time_or_date : (x : List ℕ) → is_time x ≡ true → is_date x ≡ true → false ≡ true
+time_or_date x h k = absurd (omega (arith, time_length x h, date_length x k))
+
+twofold : (b : Bool) → b ≡ (b && b)
+twofold true = refl
+twofold false = refl
+
+abbrev ordered_in : Option Ordering → List ℕ → Bool
+ordered_in None x = false
+ordered_in (Some o) x = is_ordered o x
+
+ordering-exact : (o p : Ordering) (x : List ℕ) → ordered_in (ordering_meet o p) x ≡ (is_ordered o x && is_ordered p x)
+ordering-exact alpha p x = refl
+ordering-exact time alpha x = and_true (is_time x)
+ordering-exact time time x = twofold (is_time x)
+ordering-exact time date x = and_never (is_time x) (is_date x) (time_or_date x)
+ordering-exact date alpha x = and_true (is_date x)
+ordering-exact date time x = and_never (is_date x) (is_time x) (λ h k. time_or_date x k h)
+ordering-exact date date x = twofold (is_date x)
+
+-- ---- ranges
+
+ranged-string : (o : Option Ordering) (l u : Option Limit) (x : List ℕ)
+    → contains (ranged o l u) (request.string x) ≡ (ordered_in o x && is_above l x && is_below u x)
+ranged-string None l u x = refl
+ranged-string (Some o) l u x = by (exclude l u) refl
+  where
+    shut : (a b c : Bool) → (b ≡ true → c ≡ true → false ≡ true) → false ≡ (a && b && c)
+    shut true true true f = f refl refl
+    shut true true false f = refl
+    shut true false c f = refl
+    shut false b c f = refl
+
+    by : (t : Bool) → exclude l u ≡ t
+        → contains (if t then nothing else range o l u) (request.string x) ≡ (is_ordered o x && is_above l x && is_below u x)
+    by true e = shut _ _ _ (exclude-none l u x e)
+    by false e = refl
+
+ranged-list : (o : Option Ordering) (l u : Option Limit) (head : List ℕ) (gs : Requests)
+    → contains (ranged o l u) (request.list head gs) ≡ false
+ranged-list None l u head gs = refl
+ranged-list (Some o) l u head gs = by (exclude l u)
+  where
+    by : (t : Bool) → contains (if t then nothing else range o l u) (request.list head gs) ≡ false
+    by true = refl
+    by false = refl
+
+ranges : (o p : Ordering) (l u m v : Option Limit) (x : List ℕ)
+    → contains (ranged (ordering_meet o p) (greater_low l m) (lesser_up u v)) (request.string x)
+    ≡ ((is_ordered o x && is_above l x && is_below u x) && (is_ordered p x && is_above m x && is_below v x))
+ranges o p l u m v x =
+    ranged-string (ordering_meet o p) (greater_low l m) (lesser_up u v) x
+    ∙ (λ i. ordering-exact o p x i && greater_low-exact l m x i && lesser_up-exact u v x i)
+    ∙ thrice (is_ordered o x) (is_above l x) (is_below u x) (is_ordered p x) (is_above m x) (is_below v x)
+
+-- ---- strings
+
+string-exact : (s : List ℕ) (b : Tag) (g : Request) → contains (string_meet s b) g ≡ (contains (string s) g && contains b g)
+string-exact s b g = by (contains b (request.string s)) refl g
+  where
+    by : (t : Bool) → contains b (request.string s) ≡ t → (g : Request)
+        → contains (if t then string s else nothing) g ≡ (contains (string s) g && contains b g)
+    by true e (request.string x) = and_left _ _ (λ h. subst (λ y. contains b (request.string y) ≡ true) (same_text s x (sym h)) e)
+    by true e (request.list head gs) = refl
+    by false e (request.string x) =
+        and_never _ _ (λ h k. sym e ∙ subst (λ y. contains b (request.string y) ≡ true) (sym (same_text s x (sym h))) k)
+    by false e (request.list head gs) = refl
+
+-- ---- ranges and prefixes
+
+range-exact : (o : Ordering) (l u : Option Limit) (b : Tag) (g : Request) → IsRequest g → is_set_or_star b ≡ false
+    → contains (range_meet o l u b) g ≡ (contains (range o l u) g && contains b g)
+range-exact o l u star g k n = absurd (true≢false n)
+range-exact o l u (string s) g k n = string-exact s (range o l u) g ∙ and_comm (contains (string s) g) (contains (range o l u) g)
+range-exact o l u (prefix p) (request.string x) k n =
+    ranges o alpha l u (from p) (strict_limit (least_above p)) x
+    ∙ ap (λ b. (is_ordered o x && is_above l x && is_below u x) && b) (sym (least_above-exact p x k))
+range-exact o l u (prefix p) (request.list head gs) k n =
+    ranged-list (ordering_meet o alpha) (greater_low l (from p)) (lesser_up u (strict_limit (least_above p))) head gs
+range-exact o l u (range p m v) (request.string x) k n = ranges o p l u m v x
+range-exact o l u (range p m v) (request.list head gs) k n =
+    ranged-list (ordering_meet o p) (greater_low l m) (lesser_up u v) head gs
+range-exact o l u (list other us) (request.string x) k n = and_false _
+range-exact o l u (list other us) (request.list head gs) k n = refl
+range-exact o l u (set us) g k n = absurd (true≢false n)
+
+prefix-exact : (p : List ℕ) (b : Tag) (g : Request) → IsRequest g → is_set_or_star b ≡ false
+    → contains (prefix_meet p b) g ≡ (contains (prefix p) g && contains b g)
+prefix-exact p star g k n = absurd (true≢false n)
+prefix-exact p (string s) g k n = string-exact s (prefix p) g ∙ and_comm (contains (string s) g) (contains (prefix p) g)
+prefix-exact p (prefix q) (request.string x) k n =
+    by (starts_with nat_eq p q) (starts_with nat_eq q p) ∙ prefixes-exact p q x
+  where
+    by : (s t : Bool) → contains (if s then prefix p else (if t then prefix q else nothing)) (request.string x)
+        ≡ (if s then starts_with nat_eq x p else (if t then starts_with nat_eq x q else false))
+    by true t = refl
+    by false true = refl
+    by false false = refl
+prefix-exact p (prefix q) (request.list head gs) k n = by (starts_with nat_eq p q) (starts_with nat_eq q p)
+  where
+    by : (s t : Bool) → contains (if s then prefix p else (if t then prefix q else nothing)) (request.list head gs) ≡ false
+    by true t = refl
+    by false true = refl
+    by false false = refl
+prefix-exact p (range o l u) (request.string x) k n =
+    ranges alpha o (from p) (strict_limit (least_above p)) l u x
+    ∙ ap (λ b. b && (is_ordered o x && is_above l x && is_below u x)) (sym (least_above-exact p x k))
+prefix-exact p (range o l u) (request.list head gs) k n =
+    ranged-list (ordering_meet alpha o) (greater_low (from p) l) (lesser_up (strict_limit (least_above p)) u) head gs
+prefix-exact p (list other us) (request.string x) k n = and_false _
+prefix-exact p (list other us) (request.list head gs) k n = refl
+prefix-exact p (set us) g k n = absurd (true≢false n)
+
+-- ---- sets
+
+kept-exact : (t : Tag) (ts : List Tag) (g : Request)
+    → some_contains (tags (kept t ts)) g ≡ (contains t g || some_contains (tags ts) g)
+kept-exact star ts g = refl
+kept-exact (string s) ts g = refl
+kept-exact (prefix s) ts g = refl
+kept-exact (range o l u) ts g = refl
+kept-exact (list head us) ts g = refl
+kept-exact (set none) ts g = refl
+kept-exact (set (more u us)) ts g = refl
+
+gather-exact : (ts : List Tag) (g : Request) → contains (gather ts) g ≡ some_contains (tags ts) g
+gather-exact [] g = refl
+gather-exact (t ∷ []) g = sym (or_false _)
+gather-exact (t ∷ u ∷ us) g = refl
+
+append-exact : (ts us : List Tag) (g : Request)
+    → some_contains (tags (ts ++ us)) g ≡ (some_contains (tags ts) g || some_contains (tags us) g)
+append-exact [] us g = refl
+append-exact (t ∷ ts) us g = ap (λ b. contains t g || b) (append-exact ts us g)
+    ∙ sym (or_assoc (contains t g) (some_contains (tags ts) g) (some_contains (tags us) g))
+
+not_barred : (b n r : Bool) → (not b && n && r) ≡ true → b ≡ false
+not_barred true n r h = absurd (true≢false (sym h))
+not_barred false n r h = refl
+
+its_normal : (b n r : Bool) → (not b && n && r) ≡ true → n ≡ true
+its_normal true n r h = absurd (true≢false (sym h))
+its_normal false n r h = first_true n r h
+
+rest_normal : (b n r : Bool) → (not b && n && r) ≡ true → r ≡ true
+rest_normal true n r h = absurd (true≢false (sym h))
+rest_normal false n r h = second_true n r h
+
+row-exact : (f : Tag → Tag) (t : Bool) (g : Request) (bs : Tags)
+    → ((b : Tag) → is_set_or_star b ≡ false → is_normal b ≡ true → contains (f b) g ≡ (t && contains b g))
+    → each_normal is_set_or_star bs ≡ true → some_contains (tags (row f bs)) g ≡ (t && some_contains bs g)
+row-exact f t g none e n = and_false t
+row-exact f t g (more b bs) e n =
+    kept-exact (f b) (row f bs) g
+    ∙ (λ i. e b (not_barred (is_set_or_star b) (is_normal b) (each_normal is_set_or_star bs) n)
+    (its_normal (is_set_or_star b) (is_normal b) (each_normal is_set_or_star bs) n) i
+    || row-exact f t g bs e (rest_normal (is_set_or_star b) (is_normal b) (each_normal is_set_or_star bs) n) i)
+    ∙ and_or t (contains b g) (some_contains bs g)
+
+across-exact : (a : Tag) (f : Tag → Tag) (b : Tag) (g : Request) → is_normal b ≡ true
+    → ((b : Tag) → is_set_or_star b ≡ false → is_normal b ≡ true → contains (f b) g ≡ (contains a g && contains b g))
+    → contains (across a f b) g ≡ (contains a g && contains b g)
+across-exact a f star g n e = and_true _
+across-exact a f (string s) g n e = e (string s) refl n
+across-exact a f (prefix s) g n e = e (prefix s) refl n
+across-exact a f (range o l u) g n e = e (range o l u) refl n
+across-exact a f (list head us) g n e = e (list head us) refl n
+across-exact a f (set bs) g n e = gather-exact (row f bs) g ∙ row-exact f (contains a g) g bs e (second_true _ _ n)
+
+set_across-exact : (ms : Tags) (f : Tags → List Tag) (b : Tag) (g : Request) → is_normal b ≡ true
+    → ((bs : Tags) → each_normal is_set_or_star bs ≡ true → some_contains (tags (f bs)) g ≡ (some_contains ms g && some_contains bs g))
+    → contains (set_across ms f b) g ≡ (some_contains ms g && contains b g)
+set_across-exact ms f star g n e = and_true _
+set_across-exact ms f (string s) g n e =
+    gather-exact (f (more (string s) none)) g ∙ e (more (string s) none) refl ∙ ap (λ b. some_contains ms g && b) (or_false _)
+set_across-exact ms f (prefix s) g n e =
+    gather-exact (f (more (prefix s) none)) g ∙ e (more (prefix s) none) refl ∙ ap (λ b. some_contains ms g && b) (or_false _)
+set_across-exact ms f (range o l u) g n e =
+    gather-exact (f (more (range o l u) none)) g ∙ e (more (range o l u) none) refl ∙ ap (λ b. some_contains ms g && b) (or_false _)
+set_across-exact ms f (list head us) g n e =
+    gather-exact (f (more (list head us) none)) g ∙ e (more (list head us) none) (sym (and_true _) ∙ n) ∙ ap (λ b. some_contains ms g && b) (or_false _)
+set_across-exact ms f (set bs) g n e = gather-exact (f bs) g ∙ e bs (second_true _ _ n)
+
+-- ---- lists
+
+tags-items : (ts : Tags) → tags (items ts) ≡ ts
+tags-items none = refl
+tags-items (more t ts) = ap (more t) (tags-items ts)
+
+nothing-none : (t : Tag) (g : Request) → is_nothing t ≡ true → contains t g ≡ false
+nothing-none star g h = absurd (true≢false (sym h))
+nothing-none (string s) g h = absurd (true≢false (sym h))
+nothing-none (prefix s) g h = absurd (true≢false (sym h))
+nothing-none (range o l u) g h = absurd (true≢false (sym h))
+nothing-none (list head us) g h = absurd (true≢false (sym h))
+nothing-none (set none) g h = refl
+nothing-none (set (more u us)) g h = absurd (true≢false (sym h))
+
+has_nothing-none : (ts : List Tag) (gs : Requests) → has_nothing ts ≡ true → contain_each (tags ts) gs ≡ false
+has_nothing-none [] gs h = absurd (true≢false (sym h))
+has_nothing-none (t ∷ ts) request.none h = refl
+has_nothing-none (t ∷ ts) (request.more g gs) h = by (is_nothing t) refl (has_nothing-none ts gs) h
+  where
+    by : (b : Bool) → is_nothing t ≡ b → (has_nothing ts ≡ true → contain_each (tags ts) gs ≡ false)
+        → (b || has_nothing ts) ≡ true → (contains t g && contain_each (tags ts) gs) ≡ false
+    by true e rest k = ap (λ c. c && contain_each (tags ts) gs) (nothing-none t g e)
+    by false e rest k = ap (λ c. contains t g && c) (rest k) ∙ sym (and_false _)
+
+listed-exact : (head : List ℕ) (ts : List Tag) (g : Request) → contains (listed head ts) g ≡ contains (list head (tags ts)) g
+listed-exact head ts g = by (has_nothing ts) refl g
+  where
+    by : (b : Bool) → has_nothing ts ≡ b → (g : Request)
+        → contains (if b then nothing else list head (tags ts)) g ≡ contains (list head (tags ts)) g
+    by true e (request.string x) = refl
+    by true e (request.list asked gs) = and_false _ ∙ sym (ap (λ c. bytes_eq head asked && c) (has_nothing-none ts gs e))
+    by false e g = refl
+
+list-exact : (head : List ℕ) (ts : Tags) (f : Tags → List Tag) (b : Tag) (g : Request) → IsRequest g
+    → is_set_or_star b ≡ false → is_normal b ≡ true
+    → ((us : Tags) (gs : Requests) → AreRequests gs → each_normal is_nothing us ≡ true
+    → contain_each (tags (f us)) gs ≡ (contain_each ts gs && contain_each us gs))
+    → contains (list_meet head f b) g ≡ (contains (list head ts) g && contains b g)
+list-exact head ts f star g k n m e = absurd (true≢false n)
+list-exact head ts f (string s) (request.string x) k n m e = refl
+list-exact head ts f (string s) (request.list asked gs) k n m e = and_false _
+list-exact head ts f (prefix s) (request.string x) k n m e = refl
+list-exact head ts f (prefix s) (request.list asked gs) k n m e = and_false _
+list-exact head ts f (range o l u) (request.string x) k n m e = refl
+list-exact head ts f (range o l u) (request.list asked gs) k n m e = and_false _
+list-exact head ts f (set us) g k n m e = absurd (true≢false n)
+list-exact head ts f (list other us) g k n m e = by (bytes_eq head other) refl g k
+  where
+    by : (b : Bool) → bytes_eq head other ≡ b → (g : Request) → IsRequest g
+        → contains (if b then listed head (f us) else nothing) g ≡ (contains (list head ts) g && contains (list other us) g)
+    by true h (request.string x) k = listed-exact head (f us) (request.string x)
+    by true h (request.list asked gs) k =
+        listed-exact head (f us) (request.list asked gs)
+        ∙ (λ i. twofold (bytes_eq head asked) i && e us gs k.2 m i)
+        ∙ twice (bytes_eq head asked) (bytes_eq head asked) (contain_each ts gs) (contain_each us gs)
+        ∙ ap (λ z. (bytes_eq head asked && contain_each ts gs) && (bytes_eq z asked && contain_each us gs)) (same_text head other (sym h))
+    by false h (request.string x) k = refl
+    by false h (request.list asked gs) k =
+        and_never (bytes_eq head asked && contain_each ts gs) (bytes_eq other asked && contain_each us gs) (λ p q.
+        sym h ∙ (bytes_decides head other).1
+        (same_text head asked (sym (first_true (bytes_eq head asked) (contain_each ts gs) p))
+        ∙ sym (same_text other asked (sym (first_true (bytes_eq other asked) (contain_each us gs) q)))))
+
+-- ---- tags
+
+mutual
+  pub meet-exact : (a b : Tag) (g : Request) → IsRequest g → is_normal a ≡ true → is_normal b ≡ true
+      → contains (meet a b) g ≡ (contains a g && contains b g)
+  meet-exact star b g k m n = refl
+  meet-exact (string s) b g k m n = across-exact (string s) (string_meet s) b g n (λ c p q. string-exact s c g)
+  meet-exact (prefix s) b g k m n = across-exact (prefix s) (prefix_meet s) b g n (λ c p q. prefix-exact s c g k p)
+  meet-exact (range o l u) b g k m n = across-exact (range o l u) (range_meet o l u) b g n (λ c p q. range-exact o l u c g k p)
+  meet-exact (list head ts) b g k m n =
+      across-exact (list head ts) (list_meet head (each_meet ts)) b g n
+      (λ c p q. list-exact head ts (each_meet ts) c g k p q (λ us gs j r. each-exact ts us gs j m r))
+  meet-exact (set ms) b g k m n =
+      set_across-exact ms (pairs ms) b g n (λ bs r. pairs-exact ms bs g k (second_true _ _ m) r)
+
+  each-exact : (ts us : Tags) (gs : Requests) → AreRequests gs → each_normal is_nothing ts ≡ true
+      → each_normal is_nothing us ≡ true
+      → contain_each (tags (each_meet ts us)) gs ≡ (contain_each ts gs && contain_each us gs)
+  each-exact none us gs k m n = ap (λ ws. contain_each ws gs) (tags-items us)
+  each-exact (more t ts) none gs k m n = ap (λ ws. contain_each (more t ws) gs) (tags-items ts) ∙ and_true _
+  each-exact (more t ts) (more u us) request.none k m n = refl
+  each-exact (more t ts) (more u us) (request.more g gs) k m n =
+      (λ i. meet-exact t u g k.0 (its_normal (is_nothing t) (is_normal t) (each_normal is_nothing ts) m)
+      (its_normal (is_nothing u) (is_normal u) (each_normal is_nothing us) n) i
+      && each-exact ts us gs k.1 (rest_normal (is_nothing t) (is_normal t) (each_normal is_nothing ts) m)
+      (rest_normal (is_nothing u) (is_normal u) (each_normal is_nothing us) n) i)
+      ∙ twice (contains t g) (contains u g) (contain_each ts gs) (contain_each us gs)
+
+  pairs-exact : (ms bs : Tags) (g : Request) → IsRequest g → each_normal is_set_or_star ms ≡ true
+      → each_normal is_set_or_star bs ≡ true
+      → some_contains (tags (pairs ms bs)) g ≡ (some_contains ms g && some_contains bs g)
+  pairs-exact none bs g k m n = refl
+  pairs-exact (more a ms) bs g k m n =
+      append-exact (row (meet a) bs) (pairs ms bs) g
+      ∙ (λ i. row-exact (meet a) (contains a g) g bs
+      (λ b p q. meet-exact a b g k (its_normal (is_set_or_star a) (is_normal a) (each_normal is_set_or_star ms) m) q) n i
+      || pairs-exact ms bs g k (rest_normal (is_set_or_star a) (is_normal a) (each_normal is_set_or_star ms) m) n i)
+      ∙ or_and (contains a g) (some_contains ms g) (some_contains bs g)
