@@ -1,4 +1,5 @@
 pub mod Strings
 pub mod Spelling
+pub mod Refusal
 pub mod Printed
 pub mod Reads

@@ -1,10 +1,12 @@
 -- What a step of the reader of advanced form has read of a text, from offset `at` to offset `to`.
-use Rattle.std.specs.Prelude.{◌≡◌, ℕ, ◌<◌, ◌≤◌, min, List, ◌++◌, length, drop}
+use Rattle.std.specs.Prelude.{◌≡◌, ℕ, ◌<◌, ◌≤◌, min, Bool, List, ◌∷◌, ◌++◌, length, drop}
 use Rattle.sexpr_core.specs.declared.fault.FormFault.{FormFault}
 use Rattle.sexpr_core.specs.declared.fault.FormFault.TheVariants.{TooLong, TooDeep, Short, Bad, Trailing, Memory}
-use Rattle.sexpr_core.specs.Value.{decimal}
-use Rattle.sexpr_core.specs.Spaces.{visible}
-use Rattle.sexpr_text.specs.Strings.{IsToken, Piece, piece_text, piece_octets, IsPiece, pieces_text, pieces_octets, ArePieces}
+use Rattle.sexpr_core.specs.Value.{Value, Values, decimal, depth, depths}
+use Rattle.sexpr_core.specs.Spaces.{visible, Skips}
+use Rattle.sexpr_text.specs.Strings.{IsToken, Piece, piece_text, piece_octets, IsPiece, pieces_text, pieces_octets, ArePieces, Simple, IsApart}
+use Rattle.sexpr_text.specs.Spelling.{SpellsAs, SpellsMembers}
+use Rattle.sexpr_text.specs.Refusal.{openings}
 
 -- something was read, from one offset up to another within the text
 pub record GoesOn (text : List ℕ) (at to : ℕ) : Type 0 where
@@ -68,11 +70,65 @@ pub record ReadsOctets (text : List ℕ) (at number : ℕ) (octets : List ℕ) (
   pub ordered : at ≤ to
   pub within : to ≤ length text
 
--- the fault of a value in a text: its offset lies there
-abbrev pub IsValueFault : ℕ → FormFault → Type 0
-IsValueFault n TooLong = ⊥
-IsValueFault n TooDeep = Unit {0}
-IsValueFault n Short = Unit {0}
-IsValueFault n (Bad at) = at < n
-IsValueFault n (Trailing at) = ⊥
-IsValueFault n Memory = Unit {0}
+-- ---- strings and values, and what stands behind them
+
+-- a string without hint stands at an offset, and these octets behind it
+pub record StringAt (text : List ℕ) (at : ℕ) (octets rest : List ℕ) : Type 0 where
+  pub ends_token : Bool
+  pub spelling : List ℕ
+  pub spelled : drop at text ≡ spelling ++ rest
+  pub meant : Simple ends_token spelling octets
+  pub apart : IsApart ends_token rest
+
+-- such a string was read, up to an offset
+pub record ReadsString (text : List ℕ) (at : ℕ) (octets : List ℕ) (to : ℕ) : Type 0 where
+  pub stands : StringAt text at octets (drop to text)
+  pub forward : at < to
+  pub within : to ≤ length text
+
+-- a value in which at most `room` lists are open at once stands at an offset, and these octets behind it
+pub record ValueAt (room : ℕ) (text : List ℕ) (at : ℕ) (v : Value) (rest : List ℕ) : Type 0 where
+  pub ends_token : Bool
+  pub spelling : List ℕ
+  pub spelled : drop at text ≡ spelling ++ rest
+  pub meant : SpellsAs ends_token spelling v
+  pub apart : IsApart ends_token rest
+  pub fits : depth v ≤ room
+
+-- such a value was read, up to an offset
+pub record ReadsValue (room : ℕ) (text : List ℕ) (at : ℕ) (v : Value) (to : ℕ) : Type 0 where
+  pub stands : ValueAt room text at v (drop to text)
+  pub forward : at < to
+  pub within : to ≤ length text
+
+-- the members of a list stand at an offset, whitespace round each, and behind the closing parenthesis these octets
+pub record MembersAt (room : ℕ) (text : List ℕ) (at : ℕ) (vs : Values) (rest : List ℕ) : Type 0 where
+  pub inside : List ℕ
+  pub spelled : drop at text ≡ inside ++ 41 ∷ rest
+  pub meant : SpellsMembers inside vs
+  pub fits : depths vs ≤ room
+
+-- such members were read, up to an offset
+pub record ReadsMembers (room : ℕ) (text : List ℕ) (at : ℕ) (vs : Values) (to : ℕ) : Type 0 where
+  pub stands : MembersAt room text at vs (drop to text)
+  pub forward : at < to
+  pub within : to ≤ length text
+
+-- The fault of a value in a text, from an offset on: the offset of Bad lies in the text, and TooDeep comes only where
+-- more lists are opened than there is room for.
+abbrev pub IsValueFault : ℕ → List ℕ → ℕ → FormFault → Type 0
+IsValueFault room text at TooLong = ⊥
+IsValueFault room text at TooDeep = room < openings (drop at text)
+IsValueFault room text at Short = Unit {0}
+IsValueFault room text at (Bad k) = k < length text
+IsValueFault room text at (Trailing k) = ⊥
+IsValueFault room text at Memory = Unit {0}
+
+-- an octet follows behind an offset and whitespace
+abbrev pub IsTrailingBehind : List ℕ → ℕ → FormFault → Type 0
+IsTrailingBehind text at TooLong = ⊥
+IsTrailingBehind text at TooDeep = ⊥
+IsTrailingBehind text at Short = ⊥
+IsTrailingBehind text at (Bad k) = ⊥
+IsTrailingBehind text at (Trailing k) = (k < length text) × Skips text at k
+IsTrailingBehind text at Memory = ⊥

@@ -1,8 +1,9 @@
 -- Which texts spell a value in advanced form (RFC 9804, section 6.3).
-use Rattle.std.specs.Prelude.{◌≡◌, ℕ, ◌≤◌, Bool, true, false, List, [], ◌∷◌, ◌++◌, length, Some, None}
+use Rattle.std.specs.Prelude.{◌≡◌, ℕ, ◌≤◌, Bool, true, false, ◌⊎◌, List, [], ◌∷◌, ◌++◌, length, Some, None}
 use Rattle.sexpr_core.specs.Value.{Value, Values, string, list, none, more, IsShallow}
 use Rattle.sexpr_core.specs.Spaces.{AreSpaces}
-use Rattle.sexpr_text.specs.Strings.{is_token_octet, Simple}
+use Rattle.sexpr_core.specs.Braces.{Braced, IsBracedWithin}
+use Rattle.sexpr_text.specs.Strings.{Simple, IsApart}
 
 -- a string with a display hint: the hint in brackets, whitespace anywhere between
 pub record IsHinted (ends_token : Bool) (text hint octets : List ℕ) : Type 0 where
@@ -18,12 +19,6 @@ pub record IsHinted (ends_token : Bool) (text hint octets : List ℕ) : Type 0 w
   pub spaces_behind_hint : AreSpaces behind_hint
   pub spaces_behind : AreSpaces behind
   pub octets_meant : Simple ends_token octets_text octets
-
--- where a spelling ends in a token, no octet of a token follows
-abbrev pub IsApart : Bool → List ℕ → Type 0
-IsApart false rest = Unit {0}
-IsApart true [] = Unit {0}
-IsApart true (c ∷ cs) = is_token_octet c ≡ false
 
 abbrev mutual
   -- a text, from its first octet to its last, spells a value; the test says whether it ends in a token
@@ -56,3 +51,11 @@ pub record IsSpelledWithin (text : List ℕ) (v : Value) : Type 0 where
   pub spelling : Spells text v
   pub short : length text ≤ 1048576
   pub shallow : IsShallow v
+
+-- a text spells a value or braces it: any of the three forms
+abbrev pub IsText : List ℕ → Value → Type 0
+IsText text v = Spells text v ⊎ Braced text v
+
+-- the same within the limits on octets and depth
+abbrev pub IsTextWithin : List ℕ → Value → Type 0
+IsTextWithin text v = IsSpelledWithin text v ⊎ IsBracedWithin text v

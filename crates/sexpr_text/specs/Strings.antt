@@ -20,6 +20,12 @@ abbrev pub IsToken : List ℕ → Type 0
 IsToken [] = ⊥
 IsToken (c ∷ cs) = (is_digit c ≡ false) × AllByRecursion (λ k. is_token_octet k ≡ true) (c ∷ cs)
 
+-- where a spelling ends in a token, no octet of a token follows
+abbrev pub IsApart : Bool → List ℕ → Type 0
+IsApart false rest = Unit {0}
+IsApart true [] = Unit {0}
+IsApart true (c ∷ cs) = is_token_octet c ≡ false
+
 -- ---- quoted strings
 
 -- the octet that an octet behind a backslash stands for

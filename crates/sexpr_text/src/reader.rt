@@ -1,8 +1,14 @@
 //! The reader of advanced form (RFC 9804, section 6.3).
 
-ghost use Rattle.std.specs.Prelude.{◌<◌, ◌≤◌, ◌↔◌, length, IfOk, IfErr, IsErrOf};
-ghost use Rattle.sexpr_core.specs.Bounds.{LiesWithin, IsNotTooLong};
-ghost use Rattle.sexpr_text.specs.Reads.{GoesOn, IsValueFault};
+ghost use Rattle.std.specs.Prelude.{◌≡◌, ℕ, List, ◌<◌, ◌≤◌, ◌↔◌, ◌++◌, length, drop, map, IfOk, IfErr, IsErrOf, IsOkUnless};
+ghost use Rattle.sexpr_core.specs.Bounds.{LiesWithin, IsPartFault};
+ghost use Rattle.sexpr_core.specs.Reading.{StandsAt};
+ghost use Rattle.sexpr_core.specs.Spaces.{AreSpaces};
+ghost use Rattle.sexpr_core.specs.Tree.{sexp_value};
+ghost use Rattle.sexpr_core.specs.Value.{Value, Values, values, list};
+ghost use Rattle.sexpr_text.specs.Reads.{ReadsValue, ValueAt, ReadsMembers, MembersAt, IsValueFault, IsTrailingBehind};
+ghost use Rattle.sexpr_text.specs.Refusal.{RefusesSpelling};
+ghost use Rattle.sexpr_text.specs.Spelling.{IsSpelledWithin, IsTextWithin};
 
 use crate::strings::{ReadString, read_string};
 use sexpr_core::{
@@ -30,8 +36,10 @@ struct ReadMembers {
 /// or the length in front say. Short: the text ends before the value is whole. Trailing: a whole value and whitespace
 /// are followed by an octet, at this offset.
 pub fn read_advanced(alloc: Global, text: &[u8]) -> Result<Sexp, FormFault>
+    ensures read { IfOk result (λ tree. IsSpelledWithin text.now (sexp_value tree)) }
+    ensures only { (v : Value) → IsSpelledWithin text.now v → IsOkUnless result FormFault.Memory }
     ensures too_long { IsErrOf result FormFault.TooLong ↔ (1048576 < length text.now) }
-    ensures refused { IfErr result (λ fault. LiesWithin (length text.now) fault) }
+    ensures refused { IfErr result (λ fault. RefusesSpelling text.now fault) }
 {
     if text.len() > MOST_OCTETS {
         return Err(FormFault::TooLong);
@@ -43,6 +51,8 @@ pub fn read_advanced(alloc: Global, text: &[u8]) -> Result<Sexp, FormFault>
 
 /// Reads a text in the transport form if its first octet past whitespace is an opening brace, and else in advanced form.
 pub fn read_any(alloc: Global, text: &[u8]) -> Result<Sexp, FormFault>
+    ensures read { IfOk result (λ tree. IsTextWithin text.now (sexp_value tree)) }
+    ensures only { (v : Value) → IsTextWithin text.now v → IsOkUnless result FormFault.Memory }
     ensures too_long { IsErrOf result FormFault.TooLong ↔ (1048576 < length text.now) }
     ensures refused { IfErr result (λ fault. LiesWithin (length text.now) fault) }
 {
@@ -56,7 +66,9 @@ pub fn read_any(alloc: Global, text: &[u8]) -> Result<Sexp, FormFault>
 /// Gives the tree that was read, if nothing but whitespace follows it.
 fn ended(text: &[u8], read: ReadTree) -> Result<Sexp, FormFault>
     requires { read.end ≤ length text.now }
-    ensures { IfErr result (λ fault. LiesWithin (length text.now) fault × IsNotTooLong fault) }
+    ensures read { IfOk result (λ tree. (sexp_value tree ≡ sexp_value read.tree) × AreSpaces (drop read.end text.now)) }
+    ensures only { AreSpaces (drop read.end text.now) → IsOkUnless result FormFault.Memory }
+    ensures refused { IfErr result (λ fault. IsTrailingBehind text.now read.end fault) }
 {
     let ReadTree { tree, end } = read;
     let end = skip_spaces(text, end);
@@ -69,9 +81,11 @@ fn ended(text: &[u8], read: ReadTree) -> Result<Sexp, FormFault>
 /// A value, from its first octet on. At most `room` lists may open in it.
 #[cycle(reading)]
 fn read_tree(alloc: Global, text: &[u8], at: usize, room: usize) -> Result<ReadTree, FormFault>
-    requires { at ≤ length text.now }
-    ensures read { IfOk result (λ read. GoesOn text.now at read.end) }
-    ensures refused { IfErr result (λ fault. IsValueFault (length text.now) fault) }
+    requires short { length text.now ≤ 1048576 }
+    requires begins { at ≤ length text.now }
+    ensures read { IfOk result (λ read. ReadsValue room text.now at (sexp_value read.tree) read.end) }
+    ensures only { (v : Value) (rest : List ℕ) → ValueAt room text.now at v rest → IsOkUnless result FormFault.Memory }
+    ensures refused { IfErr result (λ fault. IsValueFault room text.now at fault) }
 {
     match octet_at(text, at) {
         None => Err(FormFault::Short),
@@ -93,9 +107,11 @@ fn read_tree(alloc: Global, text: &[u8], at: usize, room: usize) -> Result<ReadT
 /// A list, from its opening parenthesis on.
 #[cycle(reading)]
 fn read_list(alloc: Global, text: &[u8], at: usize, room: usize) -> Result<ReadTree, FormFault>
-    requires { at < length text.now }
-    ensures read { IfOk result (λ read. GoesOn text.now at read.end) }
-    ensures refused { IfErr result (λ fault. IsValueFault (length text.now) fault) }
+    requires short { length text.now ≤ 1048576 }
+    requires begins { StandsAt text.now at 40 }
+    ensures read { IfOk result (λ read. ReadsValue room text.now at (sexp_value read.tree) read.end) }
+    ensures only { (v : Value) (rest : List ℕ) → ValueAt room text.now at v rest → IsOkUnless result FormFault.Memory }
+    ensures refused { IfErr result (λ fault. IsValueFault room text.now at fault) }
 {
     if room == 0 {
         return Err(FormFault::TooDeep);
@@ -115,9 +131,11 @@ fn read_members(
     at: usize,
     room: usize,
 ) -> Result<ReadMembers, FormFault>
-    requires { at ≤ length text.now }
-    ensures read { IfOk result (λ read. GoesOn text.now at read.end) }
-    ensures refused { IfErr result (λ fault. IsValueFault (length text.now) fault) }
+    requires short { length text.now ≤ 1048576 }
+    requires begins { at ≤ length text.now }
+    ensures read { IfOk result (λ read. ReadsMembers room text.now at (values (map sexp_value read.members.items)) read.end) }
+    ensures only { (vs : Values) (rest : List ℕ) → MembersAt room text.now at vs rest → IsOkUnless result FormFault.Memory }
+    ensures refused { IfErr result (λ fault. IsValueFault room text.now at fault) }
 {
     let mut members = Vec::new(alloc);
     let mut i = skip_spaces(text, at);
@@ -137,9 +155,11 @@ fn read_members(
 
 /// A string with a hint, from its opening bracket on.
 fn read_hinted(alloc: Global, text: &[u8], at: usize) -> Result<ReadTree, FormFault>
-    requires { at < length text.now }
-    ensures read { IfOk result (λ read. GoesOn text.now at read.end) }
-    ensures refused { IfErr result (λ fault. IsValueFault (length text.now) fault) }
+    requires short { length text.now ≤ 1048576 }
+    requires begins { StandsAt text.now at 91 }
+    ensures read { IfOk result (λ read. ReadsValue 0 text.now at (sexp_value read.tree) read.end) }
+    ensures only { (room : ℕ) (v : Value) (rest : List ℕ) → ValueAt room text.now at v rest → IsOkUnless result FormFault.Memory }
+    ensures refused { IfErr result (λ fault. IsPartFault (length text.now) fault) }
 {
     let begin = skip_spaces(text, at + 1);
     let hint = read_string(alloc, text, begin)?;

@@ -1,8 +1,8 @@
 //! Strings without display hint, read (RFC 9804, sections 4.1 to 4.6).
 
-ghost use Rattle.std.specs.Prelude.{◌≡◌, true, false, ◌<◌, ◌≤◌, length, IfOk, IfErr};
+ghost use Rattle.std.specs.Prelude.{◌≡◌, ℕ, List, true, false, ◌<◌, ◌≤◌, length, IfOk, IfErr, IsOkUnless};
 ghost use Rattle.sexpr_core.specs.Bounds.{IsPartFault};
-ghost use Rattle.sexpr_text.specs.Reads.{GoesOn, ReadsToken, ReadsCount};
+ghost use Rattle.sexpr_text.specs.Reads.{GoesOn, ReadsToken, ReadsCount, ReadsString, StringAt};
 ghost use Rattle.sexpr_text.specs.Strings.{is_digit, is_token_octet};
 ghost use Rattle.sexpr_core.specs.Reading.{StandsAt};
 
@@ -28,8 +28,10 @@ struct Count {
 
 /// A string, from its first octet on.
 pub(crate) fn read_string(alloc: Global, text: &[u8], at: usize) -> Result<ReadString, FormFault>
-    requires { at ≤ length text.now }
-    ensures read { IfOk result (λ read. GoesOn text.now at read.end) }
+    requires short { length text.now ≤ 1048576 }
+    requires begins { at ≤ length text.now }
+    ensures read { IfOk result (λ read. ReadsString text.now at read.octets.items read.end) }
+    ensures only { (octets rest : List ℕ) → StringAt text.now at octets rest → IsOkUnless result FormFault.Memory }
     ensures refused { IfErr result (λ fault. IsPartFault (length text.now) fault) }
 {
     let Some(octet) = octet_at(text, at) else {
