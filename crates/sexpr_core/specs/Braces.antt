@@ -1,5 +1,5 @@
 -- Base64 (RFC 4648, section 4) among whitespace, and the transport form (RFC 9804, section 6.2).
-use Rattle.std.specs.Prelude.{◌≡◌, ℕ, ◌<◌, ◌≤◌, List, ◌∷◌, ◌++◌, length, drop, replicate}
+use Rattle.std.specs.Prelude.{◌≡◌, ℕ, ◌<◌, ◌≤◌, List, [], ◌∷◌, ◌++◌, length, drop, replicate}
 use Rattle.base64.specs.Engines.{standard}
 use Rattle.base64.specs.GeneralPurpose.{encode_of, IsBytes}
 use Rattle.sexpr_core.specs.Value.{Value, canon, IsShallow}
@@ -12,6 +12,10 @@ pub record IsBase64 (symbols octets : List ℕ) : Type 0 where
   pub missing : ℕ
   pub few : missing ≤ 2
   pub encoded : symbols ++ replicate missing 61 ≡ encode_of standard octets
+
+-- the transport form of a value: the padded base64 of its canonical text, in braces
+abbrev pub transport : Value → List ℕ
+transport v = 123 ∷ (encode_of standard (canon v) ++ 125 ∷ [])
 
 -- A text is whitespace, an opening brace, a body, a closing brace, whitespace; and the body, without its
 -- whitespace, is base64 of the value's canonical text.

@@ -1,12 +1,10 @@
 //! The transport form: base64 of the canonical form, in braces (RFC 9804, section 6.2).
 
 ghost use Rattle.std.specs.Prelude.{◌≡◌, ℕ, List, ◌+◌, ◌<◌, ◌≤◌, ◌≢◌, ◌↔◌, [], ◌∷◌, ◌++◌, length, drop, replicate, true, false, IfOk, IfErr, OnOk, IsErrOf, IsOkUnless};
-ghost use Rattle.base64.specs.Engines.{standard};
-ghost use Rattle.base64.specs.GeneralPurpose.{encode_of};
 ghost use Rattle.sexpr_core.specs.Value.{Value, canon, IsWithinLimits};
 ghost use Rattle.sexpr_core.specs.Tree.{sexp_value};
 ghost use Rattle.sexpr_core.specs.Spaces.{AreSpaces, visible};
-ghost use Rattle.sexpr_core.specs.Braces.{IsBase64, IsBracedWithin, ReadsBase64};
+ghost use Rattle.sexpr_core.specs.Braces.{transport, IsBase64, IsBracedWithin, ReadsBase64};
 ghost use Rattle.sexpr_core.specs.Bounds.{LiesWithin, IsPartFault, IsNotTooLong, IsBodyFault};
 ghost use Rattle.sexpr_core.specs.Gathering.{is_symbol, is_body_octet, AreBodyOctets, IsNoBodyOctet, GathersTo};
 
@@ -36,7 +34,7 @@ struct Gathered {
 
 /// The transport form of a tree (RFC 9804, section 6.2): the padded base64 of its canonical form, in braces.
 pub fn wrap(alloc: Global, tree: &Sexp) -> Result<Vec<u8>, AllocError>
-    ensures { IfOk result (λ text. text.items ≡ 123 ∷ (encode_of standard (canon (sexp_value tree.now)) ++ 125 ∷ [])) }
+    ensures { IfOk result (λ text. text.items ≡ transport (sexp_value tree.now)) }
 {
     let octets = encode(alloc, tree)?;
     let symbols = STANDARD.encode(alloc, &octets)?;

@@ -17,6 +17,9 @@ fn command<R: Env + AllocGlobal>(rt: &R) -> Option<Command> {
         return None;
     }
     match word.as_str() {
+        "canonical" => Some(Command::Canonical),
+        "advanced" => Some(Command::Advanced),
+        "transport" => Some(Command::Transport),
         "check" => Some(Command::Check),
         _ => None,
     }
@@ -33,7 +36,7 @@ fn report(rt: &impl Eprint, status: Status) -> io::Result<()> {
 
 fn main(rt: HostRuntime) -> ExitCode {
     let Some(command) = command(&rt) else {
-        let _ = eprintln!(rt; "usage: spki check < CASE");
+        let _ = eprintln!(rt; "usage: spki canonical|advanced|transport|check < TEXT");
         return ExitCode::from(2);
     };
     let mut reader = Metered::new(rt.stdin());

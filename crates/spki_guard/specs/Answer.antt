@@ -1,17 +1,24 @@
 -- What is answered to a text that was read to its end.
-use Rattle.std.specs.Prelude.{◌≡◌, ◌≢◌, ◌⊎◌, ℕ, List}
+use Rattle.std.specs.Prelude.{◌≡◌, ◌≢◌, ◌⊎◌, ℕ, List, [], ◌∷◌, ◌++◌, length}
+use Rattle.sexpr_core.specs.declared.fault.FormFault.{FormFault}
+use Rattle.sexpr_core.specs.declared.fault.FormFault.TheVariants as form
+use Rattle.sexpr_core.specs.Value.{Value, canon}
+use Rattle.sexpr_core.specs.Braces.{transport}
+use Rattle.sexpr_core.specs.Bounds.{LiesWithin}
+use Rattle.sexpr_text.specs.Printed.{adv}
+use Rattle.sexpr_text.specs.Spelling.{IsTextWithin}
 use Rattle.spki_guard.specs.declared.answer.Verdict.{Verdict}
 use Rattle.spki_guard.specs.declared.answer.Verdict.TheVariants.{Done, No, Refused}
 use Rattle.spki_guard.specs.declared.case.Case.{Case}
 use Rattle.spki_guard.specs.declared.case.CaseFault.{CaseFault}
 use Rattle.spki_guard.specs.declared.case.CaseFault.TheVariants.{Memory}
 use Rattle.spki_guard.specs.declared.command.Command.{Command}
-use Rattle.spki_guard.specs.declared.command.Command.TheVariants.{Check}
+use Rattle.spki_guard.specs.declared.command.Command.TheVariants.{Canonical, Advanced, Transport, Check}
 use Rattle.spki_guard.specs.declared.decide.Decision.{Decision}
 use Rattle.spki_guard.specs.declared.decide.Decision.TheVariants as decision
 use Rattle.spki_guard.specs.CaseForm.{IsCaseText, TextRefused}
 use Rattle.spki_guard.specs.View.{model, verified_by, IsDecision}
-use Rattle.spki_guard.specs.Lines.{yes_entry, no_line, refused_case}
+use Rattle.spki_guard.specs.Lines.{yes_entry, no_line, refused_form, refused_case}
 
 -- the line of a decision
 pub record IsDone (n : ℕ) (verdict : Verdict) (output : List ℕ) : Type 0 where
@@ -26,7 +33,7 @@ abbrev pub IsLineOf : Decision → Verdict → List ℕ → Type 0
 IsLineOf (decision.Yes n) verdict output = IsDone n verdict output
 IsLineOf decision.No verdict output = IsNo verdict output
 
--- The text is a case, and the line is that of its decision, with the case's own accepted list as the verifier.
+-- The canonical text is that of a case, and the line is that of its decision, with the case's own accepted list as the verifier.
 pub record Decides (text : List ℕ) (verdict : Verdict) (output : List ℕ) : Type 0 where
   pub case_read : Case
   pub text_is : IsCaseText text case_read
@@ -34,7 +41,7 @@ pub record Decides (text : List ℕ) (verdict : Verdict) (output : List ℕ) : T
   pub decision_is : IsDecision (model case_read) (verified_by case_read.accepted) decided
   pub line : IsLineOf decided verdict output
 
--- The text is no case, and the line is that of its first fault.
+-- The canonical text is that of no case, and the line is that of its first fault.
 pub record Refuses (text : List ℕ) (verdict : Verdict) (output : List ℕ) : Type 0 where
   pub fault : CaseFault
   pub found : fault ≢ Memory
@@ -45,5 +52,28 @@ pub record Refuses (text : List ℕ) (verdict : Verdict) (output : List ℕ) : T
 abbrev pub IsCheck : List ℕ → Verdict → List ℕ → Type 0
 IsCheck text verdict output = Decides text verdict output ⊎ Refuses text verdict output
 
-unfoldable pub IsAnswer : Command → List ℕ → Verdict → List ℕ → Type 0
-IsAnswer Check text verdict output = IsCheck text verdict output
+-- What is answered to the value that was read: it is written in the form that is asked for, or the case that its
+-- canonical form is is decided.
+abbrev pub AnswersValue : Command → Value → Verdict → List ℕ → Type 0
+AnswersValue Canonical v verdict output = (verdict ≡ Done) × (output ≡ canon v)
+AnswersValue Advanced v verdict output = (verdict ≡ Done) × (output ≡ adv v ++ 10 ∷ [])
+AnswersValue Transport v verdict output = (verdict ≡ Done) × (output ≡ transport v ++ 10 ∷ [])
+AnswersValue Check v verdict output = IsCheck (canon v) verdict output
+
+-- The text spells or braces a value within the limits, and this is the answer to it.
+pub record AnswersRead (command : Command) (text : List ℕ) (verdict : Verdict) (output : List ℕ) : Type 0 where
+  pub value : Value
+  pub read : IsTextWithin text value
+  pub answer : AnswersValue command value verdict output
+
+-- The text spells and braces no value within the limits, and the line is that of its fault.
+pub record RefusesForm (text : List ℕ) (verdict : Verdict) (output : List ℕ) : Type 0 where
+  pub fault : FormFault
+  pub found : fault ≢ form.Memory
+  pub none : (v : Value) → IsTextWithin text v → ⊥
+  pub place : LiesWithin (length text) fault
+  pub verdict_is : verdict ≡ Refused
+  pub line : output ≡ refused_form fault
+
+abbrev pub IsAnswer : Command → List ℕ → Verdict → List ℕ → Type 0
+IsAnswer command text verdict output = AnswersRead command text verdict output ⊎ RefusesForm text verdict output

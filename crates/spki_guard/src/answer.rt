@@ -1,12 +1,16 @@
 //! The answer to a text.
-ghost use Rattle.std.specs.Prelude.{◌≡◌, IfOk};
-ghost use Rattle.spki_guard.specs.Lines.{refused_case};
-ghost use Rattle.spki_guard.specs.Answer.{IsAnswer, IsCheck, IsLineOf};
+ghost use Rattle.std.specs.Prelude.{◌≡◌, [], ◌∷◌, ◌++◌, IfOk};
+ghost use Rattle.sexpr_core.specs.Value.{canon};
+ghost use Rattle.sexpr_core.specs.Tree.{sexp_value};
+ghost use Rattle.spki_guard.specs.Lines.{refused_form, refused_case};
+ghost use Rattle.spki_guard.specs.Answer.{IsAnswer, AnswersValue, IsCheck, IsLineOf};
 
 use crate::case::{Case, CaseFault};
 use crate::command::Command;
 use crate::decide::{Decision, decide};
-use crate::lines::{push_no, push_refused_case, push_yes_entry};
+use crate::lines::{push_no, push_refused_case, push_refused_form, push_yes_entry};
+use sexpr_core::{FormFault, Sexp, encode, wrap};
+use sexpr_text::{print_advanced, read_any};
 use std::alloc::{AllocError, Global};
 
 /// What was found out.
@@ -27,21 +31,68 @@ pub struct Answer {
     pub output: Vec<u8>,
 }
 
-/// The answer to a whole text, in canonical form.
+/// The answer to a whole text, in any of the three forms.
 ///
 /// # Errors
 ///
 /// Where memory was refused.
-#[tactic(auto, unfolding(crate::specs::Answer::IsAnswer))]
 pub fn answer_text(alloc: Global, command: Command, text: &[u8]) -> Result<Answer, AllocError>
     ensures { IfOk result (λ a. IsAnswer command text.now a.verdict a.output.items) }
 {
-    match command {
-        Command::Check => check(alloc, text),
+    match read_any(alloc, text) {
+        Ok(tree) => answer_tree(alloc, command, tree),
+        Err(FormFault::Memory) => Err(AllocError),
+        Err(fault) => refuse_form(alloc, fault),
     }
 }
 
-/// Decides the case that a text is.
+/// The answer to the value that a text spells.
+fn answer_tree(alloc: Global, command: Command, tree: Sexp) -> Result<Answer, AllocError>
+    ensures { IfOk result (λ a. AnswersValue command (sexp_value tree) a.verdict a.output.items) }
+{
+    match command {
+        Command::Canonical => Ok(done(encode(alloc, &tree)?)),
+        Command::Advanced => done_line(print_advanced(alloc, &tree)?),
+        Command::Transport => done_line(wrap(alloc, &tree)?),
+        Command::Check => check_tree(alloc, tree),
+    }
+}
+
+/// What was asked for is written.
+fn done(output: Vec<u8>) -> Answer
+    ensures { (result.verdict ≡ Verdict.Done) × (result.output.items ≡ output.items) }
+{
+    Answer {
+        verdict: Verdict::Done,
+        output,
+    }
+}
+
+/// What was asked for is written, on a line of its own.
+fn done_line(output: Vec<u8>) -> Result<Answer, AllocError>
+    ensures { IfOk result (λ a. (a.verdict ≡ Verdict.Done) × (a.output.items ≡ output.items ++ 10 ∷ [])) }
+{
+    let mut line = output;
+    line.push(b'\n')?;
+    Ok(done(line))
+}
+
+/// Decides the case that a value is, by its canonical form.
+fn check_tree(alloc: Global, tree: Sexp) -> Result<Answer, AllocError>
+    ensures { IfOk result (λ a. IsCheck (canon (sexp_value tree)) a.verdict a.output.items) }
+{
+    let octets = canonical_form(alloc, tree)?;
+    check(alloc, &octets)
+}
+
+/// A tree's canonical form; the tree is given up for it.
+fn canonical_form(alloc: Global, tree: Sexp) -> Result<Vec<u8>, AllocError>
+    ensures { IfOk result (λ octets. octets.items ≡ canon (sexp_value tree)) }
+{
+    encode(alloc, &tree)
+}
+
+/// Decides the case that a canonical text is.
 fn check(alloc: Global, text: &[u8]) -> Result<Answer, AllocError>
     ensures { IfOk result (λ a. IsCheck text.now a.verdict a.output.items) }
 {
@@ -74,7 +125,19 @@ fn grant(alloc: Global, decision: Decision) -> Result<Answer, AllocError>
     Ok(Answer { verdict, output })
 }
 
-/// The line of a refusal.
+/// The line of a refusal of a text's form.
+fn refuse_form(alloc: Global, fault: FormFault) -> Result<Answer, AllocError>
+    ensures { IfOk result (λ a. (a.verdict ≡ Verdict.Refused) × (a.output.items ≡ refused_form fault)) }
+{
+    let mut output = Vec::new(alloc);
+    push_refused_form(alloc, &mut output, fault)?;
+    Ok(Answer {
+        verdict: Verdict::Refused,
+        output,
+    })
+}
+
+/// The line of a refusal of a case.
 fn refuse(alloc: Global, fault: CaseFault) -> Result<Answer, AllocError>
     ensures { IfOk result (λ a. (a.verdict ≡ Verdict.Refused) × (a.output.items ≡ refused_case fault)) }
 {

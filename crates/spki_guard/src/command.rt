@@ -1,8 +1,14 @@
 //! What is asked of a text.
 
-/// What is done with the text that is read.
+/// What is done with the value that is read.
 #[derive(Clone, Copy, Debug, PartialEq, Eq)]
 pub enum Command {
+    /// Writes its canonical form.
+    Canonical,
+    /// Writes it in advanced form, on a line.
+    Advanced,
+    /// Writes it in the transport form, on a line.
+    Transport,
     /// Decides the request of a case.
     Check,
 }
