@@ -1,0 +1,107 @@
+#!/usr/bin/env python3
+"""Counts the instructions of `spki intersect` on pairs of sets, and prints how they grow with the members.
+
+Instructions are counted by `perf stat`, or by valgrind where that isn't there; those of meeting two strings, which starting
+the program takes anyway, are taken off. Build the program first (`rt run` in crates/spki).
+Usage: bench/intersect.py [PROGRAM]
+"""
+import os
+import re
+import subprocess
+import sys
+import tempfile
+
+PROGRAM = sys.argv[1] if len(sys.argv) > 1 else os.path.join(os.path.dirname(__file__), "..", "crates", "spki", "out", "spki")
+MEMBERS = [125, 250, 500, 999]
+MOST_RATIO = 12.0
+
+
+def string(octets):
+    return f"{len(octets)}:{octets}".encode()
+
+
+def group(*members):
+    return b"(" + b"".join(members) + b")"
+
+
+def set_of(members):
+    return group(string("*"), string("set"), *members)
+
+
+def prefix(octets):
+    return group(string("*"), string("prefix"), string(octets))
+
+
+def intersection(a, b):
+    return group(string("intersect"), a, b)
+
+
+def strings(n):
+    """The same n different strings, in two orders."""
+    names = [string(f"n{i}") for i in range(n)]
+    return set_of(names), set_of(names[::-1])
+
+
+def long_strings(n):
+    """Different strings that are equal for 200 octets."""
+    names = [string("x" * 200 + f"{i}") for i in range(n)]
+    return set_of(names), set_of(names[::-1])
+
+
+def other_strings(n):
+    """Strings of which none is in both sets."""
+    return set_of([string(f"a{i}") for i in range(n)]), set_of([string(f"b{i}") for i in range(n)])
+
+
+def prefixes(n):
+    """Prefixes, of which each may meet each: all pairs are tried."""
+    return set_of([prefix(f"n{i:04}") for i in range(n)]), set_of([prefix(f"n{i:04}") for i in range(n)][::-1])
+
+
+def counted_by_perf(command, text):
+    done = subprocess.run(["perf", "stat", "-x", ",", "-e", "instructions:u"] + command, stdin=text, capture_output=True)
+    found = re.match(rb"(\d+),", done.stderr.splitlines()[-1]) if done.stderr else None
+    return int(found.group(1)) if found else None
+
+
+def counted_by_valgrind(command, text):
+    with tempfile.NamedTemporaryFile() as out:
+        done = subprocess.run(["valgrind", "--tool=callgrind", f"--callgrind-out-file={out.name}"] + command, stdin=text, capture_output=True)
+    return int(re.search(rb"Collected : (\d+)", done.stderr).group(1))
+
+
+def counter():
+    """What counts the instructions here."""
+    try:
+        if counted_by_perf(["true"], subprocess.DEVNULL) is not None:
+            return counted_by_perf
+    except OSError:
+        pass
+    return counted_by_valgrind
+
+
+def instructions(count, a, b):
+    with tempfile.NamedTemporaryFile() as text:
+        text.write(intersection(a, b))
+        text.flush()
+        with open(text.name, "rb") as opened:
+            return count([PROGRAM, "intersect"], opened)
+
+
+def main():
+    count = counter()
+    start = instructions(count, string("a"), string("b"))
+    missed = False
+    print(f"{'two sets of':<16}" + "".join(f"{n:>12}" for n in MEMBERS) + f"   times for {MEMBERS[-1] / MEMBERS[0]:.0f} times the members")
+    for make in (strings, long_strings, other_strings, prefixes):
+        counts = [instructions(count, *make(n)) - start for n in MEMBERS]
+        ratio = counts[-1] / counts[0]
+        bound = make is not prefixes
+        missed = missed or (bound and ratio > MOST_RATIO)
+        verdict = ("pass" if ratio <= MOST_RATIO else "miss") if bound else "all pairs"
+        print(f"{make.__name__:<16}" + "".join(f"{c:>12,}" for c in counts) + f"   {ratio:.1f}   {verdict}")
+    print(f"(instructions, by {count.__name__.split('_')[-1]}; at most {MOST_RATIO:.0f} times)")
+    sys.exit(1 if missed else 0)
+
+
+main()
