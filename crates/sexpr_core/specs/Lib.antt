@@ -15,3 +15,4 @@ pub mod Spaces
 pub mod Braces
 pub mod Bounds
 pub mod Gathering
+pub mod Octets
