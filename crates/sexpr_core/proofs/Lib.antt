@@ -15,3 +15,4 @@ pub mod SpaceLaws
 pub mod Gathered
 pub mod Base64Laws
 pub mod BraceLaws
+pub mod OctetLaws

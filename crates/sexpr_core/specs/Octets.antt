@@ -1,5 +1,5 @@
--- Values of octets. In a value octets are plain numbers (RFC 9804, section 1).
-use Rattle.std.specs.Prelude.{List, Some, None}
+-- Values of octets (RFC 9804, section 2). In a value octets are plain numbers.
+use Rattle.std.specs.Prelude.{Some, None}
 use Rattle.base64.specs.GeneralPurpose.{IsBytes}
 use Rattle.sexpr_core.specs.Value.{Value, Values, string, list, none, more}
 

@@ -1,5 +1,5 @@
 -- What is printed for a value spells it.
-use Rattle.std.proofs.Common.{◌≡◌, ℕ, suc, ◌==◌, ◌||◌, not, Bool, true, false, List, [], ◌∷◌, ◌++◌, Some, None, refl, sym, ap, subst, append-nil, arith, inl, inr, if◌then◌else◌}
+use Rattle.std.proofs.Common.{◌≡◌, ℕ, suc, ◌==◌, ◌||◌, not, Bool, true, false, List, [], ◌∷◌, ◌++◌, Some, None, refl, sym, ap, ◌∙◌, subst, append-nil, arith, inl, inr, if◌then◌else◌}
 use Rattle.std.proofs.lemmas.Bool.{cases_Bool, and_parts, or_cases, or_parts, not-true, eqb-true, eqb-false, ne_eqb}
 use Rattle.std.specs.List.{AllByRecursion}
 use Rattle.base64.specs.Engines.{standard}
@@ -155,3 +155,7 @@ printed_spelled v h = record {
   spelled = spelled v h;
   spaces_after = tt;
 }
+
+-- what is printed behind nothing
+pub all_spelled : (out text : List ℕ) (v : Value) → out ≡ [] → text ≡ out ++ adv v → HasOctets v → Spells text v
+all_spelled out text v begins e h = subst (λ t. Spells t v) (sym (e ∙ ap (λ s. s ++ adv v) begins)) (printed_spelled v h)
