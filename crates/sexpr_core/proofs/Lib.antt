@@ -16,3 +16,4 @@ pub mod Gathered
 pub mod Base64Laws
 pub mod BraceLaws
 pub mod OctetLaws
+pub mod EqualityLaws

@@ -16,3 +16,4 @@ pub mod Braces
 pub mod Bounds
 pub mod Gathering
 pub mod Octets
+pub mod Equality

@@ -1,9 +1,10 @@
 //! Laws of canonical form.
 
-ghost use Rattle.std.specs.Prelude.{◌≡◌, ℕ, List, ◌++◌};
+ghost use Rattle.std.specs.Prelude.{◌≡◌, ◌↔◌, ℕ, List, ◌++◌, IsTrue};
 ghost use Rattle.sexpr_core.specs.declared.fault.FormFault.{FormFault};
 ghost use Rattle.sexpr_core.specs.Value.{Value, canon};
 ghost use Rattle.sexpr_core.specs.Refusal.{IsOfForm, Refused};
+ghost use Rattle.sexpr_core.specs.Equality.{is_same};
 ghost use Rattle.sexpr_core.specs.Octets.{HasOctets};
 ghost use Rattle.sexpr_core.specs.Tree.{atom_value, sexp_value};
 ghost use Rattle.base64.specs.GeneralPurpose.{IsBytes};
@@ -20,6 +21,12 @@ pub fn one_text()
 /// Trailing comes exactly where its meaning holds of a text that is not too long, if memory is not refused.
 pub fn one_refusal()
     ensures { (text : List ℕ) (e f : FormFault) → IsOfForm e → IsOfForm f → Refused text e → Refused text f → e ≡ f }
+{}
+
+/// Two values have the same canonical text exactly if they are the same. This is what `==` of two trees, or of two
+/// strings, tests.
+pub fn same_if_equal()
+    ensures { (v w : Value) → IsTrue (is_same v w) ↔ (v ≡ w) }
 {}
 
 /// The octets of a tree are below 256: so the value of a tree is one of octets. The tree is walked, and nothing else
