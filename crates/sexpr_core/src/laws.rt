@@ -29,8 +29,7 @@ pub fn same_if_equal()
     ensures { (v w : Value) → IsTrue (is_same v w) ↔ (v ≡ w) }
 {}
 
-/// The octets of a tree are below 256: so the value of a tree is one of octets. The tree is walked, and nothing else
-/// is done.
+/// Each octet of a tree's value is below 256. The tree is walked, as deep as it is, and nothing else is done.
 pub fn tree_of_octets(tree: &Sexp)
     ensures { HasOctets (sexp_value tree.now) }
 {
