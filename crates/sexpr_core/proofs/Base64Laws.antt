@@ -1,6 +1,6 @@
 -- Base64 in the standard alphabet: how long it is, and which octets it has.
-use Rattle.std.proofs.Common.{◌≡◌, ℕ, zero, suc, ◌+◌, ◌-◌, ◌*◌, ◌/◌, ◌%◌, ◌<◌, true, false, List, [], ◌∷◌, ◌++◌, length, get_or, replicate, refl, sym, ap, subst, ◌∙◌, arith, length-append, inl, inr, Bool, ◌&&◌, Ok}
-use Rattle.std.proofs.lemmas.Bool.{cases_Bool}
+use Rattle.std.proofs.Common.{◌≡◌, ℕ, zero, suc, ◌+◌, ◌-◌, ◌*◌, ◌/◌, ◌%◌, ◌<◌, true, false, List, [], ◌∷◌, ◌++◌, length, get_or, replicate, refl, sym, ap, subst, ◌∙◌, arith, length-append, append-nil, inl, inr, Bool, ◌&&◌, ◌==◌, nat_le, Ok}
+use Rattle.std.proofs.lemmas.Bool.{cases_Bool, agree_below_at, or_cases, and_parts, eqb-true, leb-true}
 use Rattle.std.proofs.lemmas.List.{length-replicate}
 use Rattle.std.specs.List.{AllByRecursion}
 use Rattle.base64.specs.Rfc4648.{encode_symbols}
@@ -116,3 +116,33 @@ whole_is symbols octets padded missing b m e =
 
 pub no_failure : (input octets : List ℕ) (f : DecodeAllocError) (d : DecodeError) → decode_of standard input ≡ Ok octets → IsDecodeFailure standard input f → f ≡ Failed d → ⊥
 no_failure input octets f d e h is = let k = subst (IsDecodeFailure standard input) is h in cc
+
+-- ---- what is encoded has no whitespace
+
+space_low : (c : ℕ) → is_whitespace c ≡ true → c < 33
+space_low c h = elim (or_cases (c == 32) (nat_le 9 c && nat_le c 13) h) [
+  | inl e ↦ omega (arith, eqb-true c 32 e)
+  | inr e ↦ omega (arith, leb-true c 13 (and_parts (nat_le 9 c) (nat_le c 13) e).1)
+]
+
+symbol_shown : (c : ℕ) → is_symbol c ≡ true → is_whitespace c ≡ false
+symbol_shown c h = elim (cases_Bool (is_whitespace c)) [
+  | inl e ↦ let low : is_symbol c ≡ false = agree_below_at is_symbol (λ k. false) 33 c refl (space_low c e) in absurd cc
+  | inr e ↦ e
+]
+
+visible_symbols : (xs : List ℕ) → AreSymbols xs → visible xs ≡ xs
+visible_symbols [] h = refl
+visible_symbols (c ∷ cs) h = rw (symbol_shown c h.0) (ap (λ s. c ∷ s) (visible_symbols cs h.1))
+
+pub visible_encoded : (b : List ℕ) → IsBytes b → visible (encode_of standard b) ≡ encode_of standard b
+visible_encoded b h = visible_symbols (encode_of standard b) (encoded_symbols b h)
+
+-- the padded base64 of octets spells them
+pub packed_encoded : (b : List ℕ) → IsBytes b → IsBase64 (visible (encode_of standard b)) b
+packed_encoded b h = record {
+  are_octets = h;
+  missing = 0;
+  few = omega arith;
+  encoded = append-nil (visible (encode_of standard b)) ∙ visible_encoded b h;
+}

@@ -15,3 +15,5 @@ pub mod SpaceLaws
 pub mod Gathered
 pub mod Base64Laws
 pub mod BraceLaws
+pub mod OctetLaws
+pub mod EqualityLaws

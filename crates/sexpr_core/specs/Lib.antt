@@ -15,3 +15,5 @@ pub mod Spaces
 pub mod Braces
 pub mod Bounds
 pub mod Gathering
+pub mod Octets
+pub mod Equality

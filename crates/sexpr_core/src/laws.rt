@@ -1,9 +1,15 @@
 //! Laws of canonical form.
 
-ghost use Rattle.std.specs.Prelude.{◌≡◌, ℕ, List, ◌++◌};
+ghost use Rattle.std.specs.Prelude.{◌≡◌, ◌↔◌, ℕ, List, ◌++◌, IsTrue};
 ghost use Rattle.sexpr_core.specs.declared.fault.FormFault.{FormFault};
 ghost use Rattle.sexpr_core.specs.Value.{Value, canon};
 ghost use Rattle.sexpr_core.specs.Refusal.{IsOfForm, Refused};
+ghost use Rattle.sexpr_core.specs.Equality.{is_same};
+ghost use Rattle.sexpr_core.specs.Octets.{HasOctets};
+ghost use Rattle.sexpr_core.specs.Tree.{atom_value, sexp_value};
+ghost use Rattle.base64.specs.GeneralPurpose.{IsBytes};
+
+use crate::tree::{Atom, Sexp};
 
 /// No value's canonical text is a prefix of another's: what begins with a canonical text begins with that of one
 /// value alone, and goes on in one way (RFC 9804, section 6.1).
@@ -15,4 +21,37 @@ pub fn one_text()
 /// Trailing comes exactly where its meaning holds of a text that is not too long, if memory is not refused.
 pub fn one_refusal()
     ensures { (text : List ℕ) (e f : FormFault) → IsOfForm e → IsOfForm f → Refused text e → Refused text f → e ≡ f }
+{}
+
+/// Two values have the same canonical text exactly if they are the same. This is what `==` of two trees, or of two
+/// strings, tests.
+pub fn same_if_equal()
+    ensures { (v w : Value) → IsTrue (is_same v w) ↔ (v ≡ w) }
+{}
+
+/// Each octet of a tree's value is below 256. The tree is walked, as deep as it is, and nothing else is done.
+pub fn tree_of_octets(tree: &Sexp)
+    ensures { HasOctets (sexp_value tree.now) }
+{
+    match tree {
+        Sexp::Atom(atom) => atom_of_octets(atom),
+        Sexp::List(members) => {
+            for member in members {
+                tree_of_octets(member);
+            }
+        }
+    }
+}
+
+fn atom_of_octets(atom: &Atom)
+    ensures { HasOctets (atom_value atom.now) }
+{
+    if let Some(hint) = &atom.hint {
+        are_octets(hint);
+    }
+    are_octets(&atom.body);
+}
+
+fn are_octets(octets: &[u8])
+    ensures { IsBytes octets.now }
 {}

@@ -2,7 +2,9 @@
 #![tactic(auto)]
 
 mod braces;
+mod copying;
 mod document;
+mod equality;
 mod fault;
 mod handle;
 mod laws;
@@ -19,7 +21,7 @@ pub use braces::{Unpacked, read_base64, unwrap_braces, wrap};
 pub use document::{Doc, NodeId};
 pub use fault::FormFault;
 pub use handle::{Form, Node};
-pub use laws::{one_refusal, one_text};
+pub use laws::{one_refusal, one_text, same_if_equal, tree_of_octets};
 pub use owned::decode;
 pub use parser::{MOST_LISTS, MOST_OCTETS};
 pub use siblings::Members;

@@ -1,2 +1,4 @@
 pub mod PrintLaws
 pub mod StringLaws
+pub mod CanonicalSpelled
+pub mod PrintedSpelled

@@ -1,5 +1,5 @@
 -- Which texts spell a value in advanced form (RFC 9804, section 6.3).
-use Rattle.std.specs.Prelude.{◌≡◌, ℕ, ◌≤◌, Bool, true, false, ◌⊎◌, List, [], ◌∷◌, ◌++◌, length, Some, None}
+use Rattle.std.specs.Prelude.{◌≡◌, ℕ, ◌≤◌, Bool, false, ◌⊎◌, List, [], ◌∷◌, ◌++◌, length, Some, None}
 use Rattle.sexpr_core.specs.Value.{Value, Values, string, list, none, more, IsShallow}
 use Rattle.sexpr_core.specs.Spaces.{AreSpaces}
 use Rattle.sexpr_core.specs.Braces.{Braced, IsBracedWithin}

@@ -1,10 +1,12 @@
 //! Advanced form, written.
 
 ghost use Rattle.std.specs.Prelude.{◌≡◌, [], ◌++◌, ◌∷◌, IfOk, OnOk};
+ghost use Rattle.sexpr_core.specs.Octets.{HasOctets};
 ghost use Rattle.sexpr_core.specs.Tree.{atom_value, sexp_value};
 ghost use Rattle.base64.specs.Engines.{standard};
-ghost use Rattle.base64.specs.GeneralPurpose.{encode_of};
+ghost use Rattle.base64.specs.GeneralPurpose.{IsBytes, encode_of};
 ghost use Rattle.sexpr_text.specs.Strings.{is_token_octet};
+ghost use Rattle.sexpr_text.specs.Spelling.{Spells};
 ghost use Rattle.sexpr_text.specs.Printed.{every, is_token, is_printable, quoted_body, printed_string, adv, gap};
 
 use base64::engine::general_purpose::STANDARD;
@@ -13,8 +15,10 @@ use std::alloc::{AllocError, Global};
 
 /// The text of a tree in advanced form: each string as a token where it is one, else quoted where all its octets
 /// are printable, else in base64; display hints in brackets directly before the string, one space between members.
+/// It spells the tree's value (RFC 9804, section 6.3).
 pub fn print_advanced(alloc: Global, tree: &Sexp) -> Result<Vec<u8>, AllocError>
-    ensures { IfOk result (λ text. text.items ≡ adv (sexp_value tree.now)) }
+    ensures printed { IfOk result (λ text. text.items ≡ adv (sexp_value tree.now)) }
+    ensures spells { IfOk result (λ text. Spells text.items (sexp_value tree.now)) }
 {
     let mut out = Vec::new(alloc);
     print_tree(alloc, tree, &mut out)?;
@@ -99,7 +103,8 @@ fn print_packed(alloc: Global, octets: &[u8], out: &mut Vec<u8>) -> Result<(), A
 }
 
 fn print_string(alloc: Global, octets: &[u8], out: &mut Vec<u8>) -> Result<(), AllocError>
-    ensures { OnOk result (out.new.items ≡ out.old.items ++ printed_string octets.now) }
+    ensures printed { OnOk result (out.new.items ≡ out.old.items ++ printed_string octets.now) }
+    ensures octets { IsBytes octets.now }
 {
     if is_token_text(octets) {
         out.extend_from_slice(octets)?;
@@ -114,7 +119,8 @@ fn print_string(alloc: Global, octets: &[u8], out: &mut Vec<u8>) -> Result<(), A
 }
 
 fn print_atom(alloc: Global, atom: &Atom, out: &mut Vec<u8>) -> Result<(), AllocError>
-    ensures { OnOk result (out.new.items ≡ out.old.items ++ adv (atom_value atom.now)) }
+    ensures printed { OnOk result (out.new.items ≡ out.old.items ++ adv (atom_value atom.now)) }
+    ensures octets { OnOk result (HasOctets (atom_value atom.now)) }
 {
     if let Some(hint) = &atom.hint {
         out.push(b'[')?;
@@ -136,7 +142,8 @@ fn print_gap(member: usize, out: &mut Vec<u8>) -> Result<(), AllocError>
 }
 
 fn print_tree(alloc: Global, tree: &Sexp, out: &mut Vec<u8>) -> Result<(), AllocError>
-    ensures { OnOk result (out.new.items ≡ out.old.items ++ adv (sexp_value tree.now)) }
+    ensures printed { OnOk result (out.new.items ≡ out.old.items ++ adv (sexp_value tree.now)) }
+    ensures octets { OnOk result (HasOctets (sexp_value tree.now)) }
 {
     match tree {
         Sexp::Atom(atom) => print_atom(alloc, atom, out),

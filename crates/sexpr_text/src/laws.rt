@@ -1,0 +1,16 @@
+//! Laws of advanced form.
+
+ghost use Rattle.sexpr_core.specs.Value.{Value, canon};
+ghost use Rattle.sexpr_core.specs.Octets.{HasOctets};
+ghost use Rattle.sexpr_text.specs.Spelling.{Spells};
+ghost use Rattle.sexpr_text.specs.Printed.{adv};
+
+/// The canonical text of a value spells it (RFC 9804, sections 6.1 and 6.3).
+pub fn canonical_is_advanced()
+    ensures { (v : Value) → Spells (canon v) v }
+{}
+
+/// What is printed for a value spells it (RFC 9804, section 6.3). The value's octets are below 256.
+pub fn printed_is_advanced()
+    ensures { (v : Value) → HasOctets v → Spells (adv v) v }
+{}
