@@ -1,2 +1,4 @@
 pub mod PrintLaws
 pub mod StringLaws
+pub mod OneString
+pub mod OneValue

@@ -2,10 +2,12 @@
 #![tactic(auto)]
 
 mod hexadecimal;
+mod laws;
 mod printer;
 mod quoted;
 mod reader;
 mod strings;
 
+pub use laws::one_value;
 pub use printer::print_advanced;
 pub use reader::{read_advanced, read_any};
