@@ -2,3 +2,5 @@ pub mod PrintLaws
 pub mod StringLaws
 pub mod OneString
 pub mod OneValue
+pub mod Openings
+pub mod Trees
