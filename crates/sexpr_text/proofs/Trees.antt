@@ -13,7 +13,7 @@ use Rattle.sexpr_core.specs.Reading.{StandsAt}
 use Rattle.sexpr_core.specs.Spaces.{AreSpaces, IsSpace, StartsVisible, Skips}
 use Rattle.sexpr_core.proofs.SpaceLaws.{one_end, all-append}
 use Rattle.sexpr_core.specs.Braces.{IsBracedWithin}
-use Rattle.sexpr_core.proofs.BraceLaws.{no_opening, opens}
+use Rattle.sexpr_core.proofs.BraceLaws.{opening}
 use Rattle.sexpr_core.proofs.Texts.{join}
 use Rattle.sexpr_text.specs.Strings.{IsApart}
 use Rattle.sexpr_text.specs.Spelling.{IsHinted, SpellsMembers, Spells, IsSpelledWithin, IsTextWithin}
@@ -420,17 +420,13 @@ front_read text begin to k v short s r t =
 -- ---- either form
 
 -- a text that begins with a brace, past whitespace, is braced if it is a text at all
-pub braced_text : (text : List ℕ) (begin : ℕ) (v : Value) → Skips text 0 begin → StandsAt text begin 123 → IsTextWithin text v → IsBracedWithin text v
-braced_text text begin v s stands (inl w) =
+pub braced_text : (text rest : List ℕ) (begin : ℕ) (v : Value) → Skips text 0 begin → drop begin text ≡ 123 ∷ rest → IsTextWithin text v → IsBracedWithin text v
+braced_text text rest begin v s e (inl w) =
     let h = whole_at text begin v s w in
-    absurd (value_differs h.ends_token h.spelling w.spelling.after (drop (begin + 1) text) v 123 h.meant refl (sym h.spelled ∙ stands.spelled))
-braced_text text begin v s stands (inr w) = w
+    absurd (value_differs h.ends_token h.spelling w.spelling.after rest v 123 h.meant refl (sym h.spelled ∙ e))
+braced_text text rest begin v s e (inr w) = w
 
--- and one that doesn't, or is nothing but whitespace, is spelled
-pub spelled_text : (text : List ℕ) (begin c : ℕ) (v : Value) → Skips text 0 begin → StandsAt text begin c → (c ≡ 123 → ⊥) → IsTextWithin text v → IsSpelledWithin text v
-spelled_text text begin c v s stands other (inl w) = w
-spelled_text text begin c v s stands other (inr w) = absurd (other (opens text begin c v s stands w))
-
-pub spelled_empty : (text : List ℕ) (begin : ℕ) (v : Value) → Skips text 0 begin → drop begin text ≡ [] → IsTextWithin text v → IsSpelledWithin text v
-spelled_empty text begin v s e (inl w) = w
-spelled_empty text begin v s e (inr w) = absurd (no_opening text begin v s e w)
+-- and one that doesn't is spelled
+pub spelled_text : (text : List ℕ) (begin : ℕ) (v : Value) → Skips text 0 begin → (((rest : List ℕ) × (drop begin text ≡ 123 ∷ rest)) → ⊥) → IsTextWithin text v → IsSpelledWithin text v
+spelled_text text begin v s other (inl w) = w
+spelled_text text begin v s other (inr w) = absurd (other (w.braced.body ++ 125 ∷ w.braced.after, opening text begin v s w))
