@@ -1,3 +1,5 @@
 pub mod PrintLaws
 pub mod StringLaws
+pub mod Escapes
+pub mod Marked
 pub mod OneString
