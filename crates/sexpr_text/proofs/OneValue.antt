@@ -2,14 +2,13 @@
 use Rattle.std.proofs.Common.{◌≡◌, ℕ, ◌<◌, ◌≤◌, ◌==◌, ◌||◌, ◌&&◌, nat_le, Bool, true, false, List, [], ◌∷◌, ◌++◌, Some, None, refl, sym, ap, subst, ◌∙◌, append_assoc, arith, inl, inr}
 use Rattle.std.proofs.lemmas.Bool.{or_cases, and_parts, eqb-true, leb-true, cases_Bool, agree_below_at}
 use Rattle.sexpr_core.specs.Value.{Value, Values, string, list, none, more, canon}
-use Rattle.sexpr_core.specs.Spaces.{is_whitespace, IsSpace, AreSpaces, StartsVisible}
-use Rattle.sexpr_core.specs.Gathering.{is_body_octet}
+use Rattle.sexpr_core.specs.Spaces.{is_whitespace, AreSpaces, StartsVisible}
 use Rattle.sexpr_core.specs.Braces.{IsBase64, Braced}
 use Rattle.sexpr_core.specs.Spaces.{visible}
 use Rattle.sexpr_core.proofs.Base64Laws.{body_octets}
 use Rattle.sexpr_core.proofs.Gathered.{one_body}
 use Rattle.sexpr_core.proofs.BraceLaws.{one_packed}
-use Rattle.sexpr_core.proofs.SpaceLaws.{one_end, all-append}
+use Rattle.sexpr_core.proofs.SpaceLaws.{one_end}
 use Rattle.sexpr_core.proofs.Texts.{canon_one}
 use Rattle.sexpr_text.specs.Strings.{is_token_octet, Simple, IsApart}
 use Rattle.sexpr_text.specs.Spelling.{IsHinted, SpellsAs, SpellsMembers, Spells, IsText}
@@ -32,7 +31,7 @@ space_starts c h k =
     let g : (is_whitespace c && is_value_start c) ≡ true = rw (h, k) refl in
     let x : false ≡ true = sym f ∙ g in cc
 
-pub start_visible : (c : ℕ) → is_value_start c ≡ true → is_whitespace c ≡ false
+start_visible : (c : ℕ) → is_value_start c ≡ true → is_whitespace c ≡ false
 start_visible c h = elim (cases_Bool (is_whitespace c)) [
   | inl e ↦ absurd (space_starts c e h)
   | inr e ↦ e
@@ -162,7 +161,7 @@ mutual
       let p = one_members m.0 r n.0 q vs ws m.3 n.3 (list_inside s m.0 r t n.0 q m.2 n.2 eq) in
       (ap list p.0, p.1)
 
-  pub one_members : (s r t q : List ℕ) (vs ws : Values) → SpellsMembers s vs → SpellsMembers t ws → s ++ 41 ∷ r ≡ t ++ 41 ∷ q → (vs ≡ ws) × (r ≡ q)
+  one_members : (s r t q : List ℕ) (vs ws : Values) → SpellsMembers s vs → SpellsMembers t ws → s ++ 41 ∷ r ≡ t ++ 41 ∷ q → (vs ≡ ws) × (r ≡ q)
   one_members s r t q none none m n eq =
       let p = one_end s t (41 ∷ r) (41 ∷ q) m n refl refl eq in
       let x : 41 ∷ r ≡ 41 ∷ q = p.1 in

@@ -1,13 +1,11 @@
 -- The faults of a part of a text, seen from where the part's whole begins.
-use Rattle.std.proofs.Common.{◌≡◌, ℕ, zero, suc, ◌+◌, ◌-◌, ◌<◌, ◌≤◌, ◌==◌, List, [], ◌∷◌, Result, IfErr, length, drop, cond, refl, sym, ap, subst, ◌∙◌, arith}
+use Rattle.std.proofs.Common.{◌≡◌, ℕ, zero, suc, ◌+◌, ◌-◌, ◌≤◌, ◌==◌, List, [], ◌∷◌, Result, IfErr, length, drop, ap, subst, ◌∙◌, arith}
 use Rattle.std.proofs.lemmas.Result.{MatchResult-weaker}
 use Rattle.std.proofs.lemmas.Bool.{cond_both}
 use Rattle.std.proofs.lemmas.List.{drop-drop}
 use Rattle.sexpr_core.specs.declared.tree.Sexp.{Sexp}
 use Rattle.sexpr_core.specs.declared.fault.FormFault.{FormFault}
 use Rattle.sexpr_core.specs.declared.fault.FormFault.TheVariants.{TooLong, TooDeep, Short, Bad, Trailing, Memory}
-use Rattle.sexpr_core.specs.Bounds.{IsPartFault}
-use Rattle.sexpr_core.specs.Reading.{StandsAt}
 use Rattle.sexpr_core.specs.Value.{Value}
 use Rattle.sexpr_core.specs.Spaces.{Skips}
 use Rattle.sexpr_text.specs.Refusal.{openings, RefusesSpelling}
@@ -22,15 +20,11 @@ openings_drop zero xs = omega arith
 openings_drop (suc n) [] = omega arith
 openings_drop (suc n) (x ∷ xs) = omega (arith, openings_drop n xs, openings_more x xs)
 
-pub openings_later : (text : List ℕ) (at i : ℕ) → at ≤ i → openings (drop i text) ≤ openings (drop at text)
+openings_later : (text : List ℕ) (at i : ℕ) → at ≤ i → openings (drop i text) ≤ openings (drop at text)
 openings_later text at i le =
     let e : at + (i - at) ≡ i = omega arith in
     let d : drop (i - at) (drop at text) ≡ drop i text = drop-drop (i - at) at text ∙ ap (λ n. drop n text) e in
     subst (λ t. openings t ≤ openings (drop at text)) d (openings_drop (i - at) (drop at text))
-
--- a list's opening parenthesis is one more
-pub openings_list : (text : List ℕ) (at : ℕ) → StandsAt text at 40 → openings (drop at text) ≡ suc (openings (drop (at + 1) text))
-openings_list text at stands = ap openings stands.spelled
 
 pub later_fault : (room : ℕ) (text : List ℕ) (at i : ℕ) (fault : FormFault) → at ≤ i → IsValueFault room text i fault → IsValueFault room text at fault
 later_fault room text at i TooLong le h = h
@@ -39,15 +33,6 @@ later_fault room text at i Short le h = h
 later_fault room text at i (Bad k) le h = h
 later_fault room text at i (Trailing k) le h = h
 later_fault room text at i Memory le h = h
-
-pub list_fault : (room less : ℕ) (text : List ℕ) (at : ℕ) (fault : FormFault) → StandsAt text at 40 → room ≤ suc less → IsValueFault less text (at + 1) fault
-    → IsValueFault room text at fault
-list_fault room less text at TooLong stands le h = h
-list_fault room less text at TooDeep stands le h = omega (arith, openings_list text at stands)
-list_fault room less text at Short stands le h = h
-list_fault room less text at (Bad k) stands le h = h
-list_fault room less text at (Trailing k) stands le h = h
-list_fault room less text at Memory stands le h = h
 
 -- ---- the whole text
 
@@ -59,7 +44,7 @@ value_refused text begin (Bad k) h = h
 value_refused text begin (Trailing k) h = absurd h
 value_refused text begin Memory h = h
 
-pub trailing_refused : (text : List ℕ) (begin to : ℕ) (v : Value) (fault : FormFault) → length text ≤ 1048576 → Skips text 0 begin → ReadsValue 64 text begin v to
+trailing_refused : (text : List ℕ) (begin to : ℕ) (v : Value) (fault : FormFault) → length text ≤ 1048576 → Skips text 0 begin → ReadsValue 64 text begin v to
     → IsTrailingBehind text to fault → RefusesSpelling text fault
 trailing_refused text begin to v TooLong short s r h = absurd h
 trailing_refused text begin to v TooDeep short s r h = absurd h

@@ -16,7 +16,7 @@ use Rattle.sexpr_core.specs.Braces.{IsBracedWithin}
 use Rattle.sexpr_core.proofs.BraceLaws.{opening}
 use Rattle.sexpr_core.proofs.Texts.{join}
 use Rattle.sexpr_text.specs.Strings.{IsApart}
-use Rattle.sexpr_text.specs.Spelling.{IsHinted, SpellsMembers, Spells, IsSpelledWithin, IsTextWithin}
+use Rattle.sexpr_text.specs.Spelling.{IsHinted, SpellsMembers, IsSpelledWithin, IsTextWithin}
 use Rattle.sexpr_text.specs.Reads.{StringAt, ReadsString, ValueAt, ReadsValue, MembersAt, ReadsMembers}
 use Rattle.sexpr_text.proofs.OneString.{one_simple}
 use Rattle.sexpr_text.proofs.OneValue.{value_first, value_differs, value_visible, simple_visible, simple_differs, hinted_text, list_text, member_text, apart_append, apart_front, spaces_apart, one_spelling}
@@ -48,20 +48,6 @@ string_at room text at c (string (Some hint) octets) rest stands group hinted h 
 string_at room text at c (list vs) rest stands group hinted h =
     absurd (group (octet_is text at c 40 _ stands (h.spelled ∙ list_text h.spelling h.meant.0 rest h.meant.2)))
 
-pub string_read : (room : ℕ) (text : List ℕ) (at to : ℕ) (octets : List ℕ) → ReadsString text at octets to → ReadsValue room text at (string None octets) to
-string_read room text at to octets r = record {
-  stands = record { ends_token = r.stands.ends_token; spelling = r.stands.spelling; spelled = r.stands.spelled; meant = r.stands.meant; apart = r.stands.apart; fits = omega arith };
-  forward = r.forward;
-  within = r.within;
-}
-
-pub more_room : (room : ℕ) (text : List ℕ) (at to : ℕ) (v : Value) → ReadsValue 0 text at v to → ReadsValue room text at v to
-more_room room text at to v r = record {
-  stands = record { ends_token = r.stands.ends_token; spelling = r.stands.spelling; spelled = r.stands.spelled; meant = r.stands.meant; apart = r.stands.apart; fits = omega (arith, r.stands.fits) };
-  forward = r.forward;
-  within = r.within;
-}
-
 -- what was read is the value that stands there
 pub same_value : (room most : ℕ) (text : List ℕ) (at to : ℕ) (v w : Value) (rest : List ℕ) → ReadsValue room text at v to → ValueAt most text at w rest
     → (v ≡ w) × (drop to text ≡ rest)
@@ -84,7 +70,7 @@ inside_list room less text at (list vs) rest stands le h =
     let deep : suc (depths vs) ≤ room = h.fits in
     (vs, omega arith, record { inside = h.meant.0; spelled = cc; meant = h.meant.3; fits = omega arith })
 
-pub list_read : (room less : ℕ) (text : List ℕ) (at to : ℕ) (vs : Values) → StandsAt text at 40 → suc less ≤ room → ReadsMembers less text (at + 1) vs to
+list_read : (room less : ℕ) (text : List ℕ) (at to : ℕ) (vs : Values) → StandsAt text at 40 → suc less ≤ room → ReadsMembers less text (at + 1) vs to
     → ReadsValue room text at (list vs) to
 list_read room less text at to vs stands le r = record {
   stands = record {
@@ -124,7 +110,7 @@ spaces_members spaces inside none h m = all-append IsSpace spaces inside h m
 spaces_members spaces inside (more v vs) h m =
     (spaces ++ m.0, m.1, m.2, m.3, ap (λ t. spaces ++ t) m.4 ∙ sym (append_assoc spaces m.0 (m.2 ++ m.3)), all-append IsSpace spaces m.0 h m.5, m.6, m.7, m.8)
 
-pub members_before : (room : ℕ) (text : List ℕ) (at to : ℕ) (vs : Values) (rest : List ℕ) → Skips text at to → MembersAt room text to vs rest → MembersAt room text at vs rest
+members_before : (room : ℕ) (text : List ℕ) (at to : ℕ) (vs : Values) (rest : List ℕ) → Skips text at to → MembersAt room text to vs rest → MembersAt room text at vs rest
 members_before room text at to vs rest s h = record {
   inside = s.spaces ++ h.inside;
   spelled = s.spelled ∙ ap (λ t. s.spaces ++ t) h.spelled ∙ sym (append_assoc s.spaces h.inside (41 ∷ rest));
@@ -132,7 +118,7 @@ members_before room text at to vs rest s h = record {
   fits = h.fits;
 }
 
-pub members_behind : (room : ℕ) (text : List ℕ) (at to : ℕ) (vs : Values) (rest : List ℕ) → Skips text at to → MembersAt room text at vs rest → MembersAt room text to vs rest
+members_behind : (room : ℕ) (text : List ℕ) (at to : ℕ) (vs : Values) (rest : List ℕ) → Skips text at to → MembersAt room text at vs rest → MembersAt room text to vs rest
 members_behind room text at to none rest s h =
     let p = one_end s.spaces h.inside (drop to text) (41 ∷ rest) s.are_spaces h.meant s.ends refl (sym s.spelled ∙ h.spelled) in
     record { inside = []; spelled = p.1; meant = tt; fits = h.fits }
@@ -148,7 +134,7 @@ members_behind room text at to (more v vs) rest s h =
     }
 
 -- a value and members behind it
-pub more_members_at : (room : ℕ) (text : List ℕ) (at to : ℕ) (v : Value) (vs : Values) (rest : List ℕ) → ReadsValue room text at v to → MembersAt room text to vs rest
+more_members_at : (room : ℕ) (text : List ℕ) (at to : ℕ) (v : Value) (vs : Values) (rest : List ℕ) → ReadsValue room text at v to → MembersAt room text to vs rest
     → MembersAt room text at (more v vs) rest
 more_members_at room text at to v vs rest r h = record {
   inside = r.stands.spelling ++ h.inside;
@@ -177,7 +163,7 @@ pub record FilledAt (room : ℕ) (text : List ℕ) (at : ℕ) (rest : List ℕ) 
   pub fits : depths others ≤ room
 
 -- members stand where no closing parenthesis stands: there is a first one
-pub filled_at : (room : ℕ) (text : List ℕ) (at c : ℕ) (vs : Values) (rest : List ℕ) → StandsAt text at c → (c ≡ 41 → ⊥) → StartsVisible (drop at text)
+filled_at : (room : ℕ) (text : List ℕ) (at c : ℕ) (vs : Values) (rest : List ℕ) → StandsAt text at c → (c ≡ 41 → ⊥) → StartsVisible (drop at text)
     → MembersAt room text at vs rest → FilledAt room text at rest
 filled_at room text at c none rest stands other visible h =
     let p = one_end [] h.inside (drop at text) (41 ∷ rest) tt h.meant visible refl h.spelled in
@@ -375,23 +361,6 @@ whole_at text begin v s w =
     let p = one_end s.spaces m.before (drop begin text) (m.middle ++ m.after) s.are_spaces m.spaces_before s.ends (value_visible m.ends_token m.middle m.after v m.spelled)
     (sym s.spelled ∙ m.parts) in
     record { ends_token = m.ends_token; spelling = m.middle; spelled = p.1; meant = m.spelled; apart = spaces_apart m.ends_token m.after m.spaces_after; fits = w.shallow }
-
-pub whole_read : (text : List ℕ) (begin to : ℕ) (v : Value) → length text ≤ 1048576 → Skips text 0 begin → ReadsValue 64 text begin v to → AreSpaces (drop to text)
-    → IsSpelledWithin text v
-whole_read text begin to v short s r h = record {
-  spelling = record {
-    before = s.spaces;
-    ends_token = r.stands.ends_token;
-    middle = r.stands.spelling;
-    after = drop to text;
-    parts = s.spelled ∙ ap (λ t. s.spaces ++ t) r.stands.spelled;
-    spaces_before = s.are_spaces;
-    spelled = r.stands.meant;
-    spaces_after = h;
-  };
-  short = short;
-  shallow = r.stands.fits;
-}
 
 -- the octets up to an offset, where a value and whitespace stand
 pub front_read : (text : List ℕ) (begin to k : ℕ) (v : Value) → length text ≤ 1048576 → Skips text 0 begin → ReadsValue 64 text begin v to → Skips text to k

@@ -5,7 +5,7 @@ ghost use Rattle.sexpr_core.specs.Bounds.{LiesWithin, IsPartFault};
 ghost use Rattle.sexpr_core.specs.Reading.{StandsAt};
 ghost use Rattle.sexpr_core.specs.Spaces.{AreSpaces};
 ghost use Rattle.sexpr_core.specs.Tree.{sexp_value};
-ghost use Rattle.sexpr_core.specs.Value.{Value, Values, values, list};
+ghost use Rattle.sexpr_core.specs.Value.{Value, Values, values};
 ghost use Rattle.sexpr_text.specs.Reads.{ReadsValue, ValueAt, ReadsMembers, MembersAt, IsValueFault, IsTrailingBehind};
 ghost use Rattle.sexpr_text.specs.Refusal.{RefusesSpelling};
 ghost use Rattle.sexpr_text.specs.Spelling.{IsSpelledWithin, IsTextWithin};

@@ -1,4 +1,4 @@
-use Rattle.std.proofs.Common.{◌-◌, suc, arith}
+use Rattle.std.proofs.Common.{◌-◌, arith}
 use Rattle.std.proofs.lemmas.Result.{err_from_is_err_and}
 use Rattle.sexpr_core.specs.Tree.{sexp_value}
 use Rattle.sexpr_text.proofs.Openings.{later_fault}
