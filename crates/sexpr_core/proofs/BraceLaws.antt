@@ -50,7 +50,7 @@ pub body_is : (text : List ℕ) (begin c : ℕ) (v : Value) → Skips text 0 beg
 body_is text begin c v s stands b =
     let q : c ∷ drop (begin + 1) text ≡ 123 ∷ (b.braced.body ++ 125 ∷ b.braced.after) = sym stands.spelled ∙ opening text begin v s b in cc
 
-visible_le : (xs : List ℕ) → length (visible xs) ≤ length xs
+pub visible_le : (xs : List ℕ) → length (visible xs) ≤ length xs
 visible_le xs =
     let shown : ℕ → Bool = λ c. not (is_whitespace c) in
     omega (arith, length-filter shown xs, count_by-le-length shown xs)

@@ -2,3 +2,9 @@ pub mod PrintLaws
 pub mod StringLaws
 pub mod CanonicalSpelled
 pub mod PrintedSpelled
+pub mod Escapes
+pub mod Marked
+pub mod OneString
+pub mod OneValue
+pub mod Openings
+pub mod Trees

@@ -8,6 +8,6 @@ mod quoted;
 mod reader;
 mod strings;
 
-pub use laws::{canonical_is_advanced, printed_is_advanced};
+pub use laws::{canonical_is_advanced, one_value, printed_is_advanced};
 pub use printer::print_advanced;
 pub use reader::{read_advanced, read_any};

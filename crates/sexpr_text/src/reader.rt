@@ -1,11 +1,11 @@
 //! The reader of advanced form (RFC 9804, section 6.3).
 
-ghost use Rattle.std.specs.Prelude.{◌≡◌, ℕ, List, ◌<◌, ◌≤◌, ◌↔◌, ◌++◌, length, drop, map, IfOk, IfErr, IsErrOf, IsOkUnless};
+ghost use Rattle.std.specs.Prelude.{◌≡◌, ℕ, List, ◌<◌, ◌≤◌, ◌↔◌, ◌∷◌, length, drop, map, IfOk, IfErr, IsErrOf, IsOkUnless, IsTrue};
 ghost use Rattle.sexpr_core.specs.Bounds.{LiesWithin, IsPartFault};
 ghost use Rattle.sexpr_core.specs.Reading.{StandsAt};
 ghost use Rattle.sexpr_core.specs.Spaces.{AreSpaces};
 ghost use Rattle.sexpr_core.specs.Tree.{sexp_value};
-ghost use Rattle.sexpr_core.specs.Value.{Value, Values, values, list};
+ghost use Rattle.sexpr_core.specs.Value.{Value, Values, values};
 ghost use Rattle.sexpr_text.specs.Reads.{ReadsValue, ValueAt, ReadsMembers, MembersAt, IsValueFault, IsTrailingBehind};
 ghost use Rattle.sexpr_text.specs.Refusal.{RefusesSpelling};
 ghost use Rattle.sexpr_text.specs.Spelling.{IsSpelledWithin, IsTextWithin};
@@ -57,9 +57,20 @@ pub fn read_any(alloc: Global, text: &[u8]) -> Result<Sexp, FormFault>
     ensures refused { IfErr result (λ fault. LiesWithin (length text.now) fault) }
 {
     let begin = skip_spaces(text, 0);
-    match octet_at(text, begin) {
-        Some(b'{') => unwrap_braces(alloc, text),
-        _ => read_advanced(alloc, text),
+    if opens_braces(text, begin) {
+        return unwrap_braces(alloc, text);
+    }
+    read_advanced(alloc, text)
+}
+
+/// Whether an opening brace stands at an offset.
+fn opens_braces(text: &[u8], at: usize) -> bool
+    requires { at ≤ length text.now }
+    ensures { IsTrue result ↔ ((rest : List ℕ) × (drop at text.now ≡ 123 ∷ rest)) }
+{
+    match octet_at(text, at) {
+        Some(octet) => octet == b'{',
+        None => false,
     }
 }
 

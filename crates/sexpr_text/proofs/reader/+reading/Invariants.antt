@@ -1,5 +1,8 @@
 -- Each list that opens leaves room for one less.
-use Rattle.std.proofs.Common.{◌+◌, ◌*◌, ◌-◌, ◌≤◌, length}
+use Rattle.std.proofs.Common.{◌+◌, ◌*◌, ◌-◌, length, map}
+use Rattle.sexpr_core.specs.Value.{values}
+use Rattle.sexpr_core.specs.Tree.{sexp_value}
+use Rattle.sexpr_text.proofs.Trees.{HasMembers}
 use Rattle.sexpr_text.proofs.reader.+reading.Given as goal
 
 abbrev pub decreases-read_tree : goal.decreases-read_tree
@@ -12,7 +15,7 @@ abbrev pub decreases-read_members : goal.decreases-read_members
 decreases-read_members l = 3 * l.room + 2
 
 abbrev pub invariant-read_members-loop-octet : goal.invariant-read_members-loop-octet
-invariant-read_members-loop-octet l = (l.at ≤ l.i) × (l.i ≤ length l.text)
+invariant-read_members-loop-octet l = HasMembers l.room l.text l.at l.i (values (map sexp_value l.members.items))
 
 abbrev pub decreases-read_members-loop-octet : goal.decreases-read_members-loop-octet
 decreases-read_members-loop-octet l = length l.text - l.i

@@ -1,0 +1,159 @@
+-- A string without display hint is spelled in one way only.
+use Rattle.std.proofs.Common.{◌≡◌, ℕ, ◌+◌, ◌<◌, ◌≤◌, ◌==◌, ◌&&◌, ◌||◌, Bool, true, false, ◌⊎◌, inl, inr, List, [], ◌∷◌, ◌++◌, length, refl, sym, ap, subst, ◌∙◌, append_assoc, arith}
+use Rattle.std.specs.Prelude.{nat_le}
+use Rattle.std.proofs.lemmas.Bool.{cases_Bool}
+use Rattle.std.proofs.lemmas.Bool.Decides.{nat_tests}
+use Rattle.sexpr_core.specs.Value.{decimal, verbatim}
+use Rattle.sexpr_core.proofs.Decimal.{IsDigit, AreDigits, AreDigits-decimal, decimal_starts, decimal_same, parts_agree}
+use Rattle.sexpr_core.proofs.Texts.{verbatim_is}
+use Rattle.sexpr_text.specs.Strings.{is_digit, is_token_octet, IsToken, IsApart, IsCount, IsCounted, IsMarked, Simple}
+use Rattle.sexpr_text.proofs.Marked.{Passes, Stops, one_front, is_mark, marked_first, one_marked}
+
+-- the first octet of a string's spelling: a token octet (digits are), or an opening mark
+abbrev pub is_string_start : ℕ → Bool
+is_string_start c = is_token_octet c || c == 34 || c == 35 || c == 124
+
+digit_starts : (c : ℕ) → IsDigit c → is_string_start c ≡ true
+digit_starts c h = grind (arith, nat_tests)
+
+token_starts : (c : ℕ) → is_token_octet c ≡ true → is_string_start c ≡ true
+token_starts c h = rw h refl
+
+mark_starts : (c : ℕ) → is_mark c ≡ true → is_string_start c ≡ true
+mark_starts c h = grind (arith, nat_tests)
+
+decimal_first : (n : ℕ) (cs : List ℕ) → (c : ℕ) × (ds : List ℕ) × (decimal n ++ cs ≡ c ∷ ds) × IsDigit c
+decimal_first n cs = let s = decimal_starts n in (s.digit, s.rest ++ cs, ap (λ t. t ++ cs) s.is, s.low)
+
+counted_first : (count marked s : List ℕ) (n : ℕ) (a : List ℕ) → IsCount count n → IsMarked marked a → s ≡ count ++ marked
+    → (c : ℕ) × (cs : List ℕ) × (s ≡ c ∷ cs) × (IsDigit c ⊎ (is_mark c ≡ true))
+counted_first count marked s n a (inl k) m e =
+    let f = marked_first marked a m in (f.0, f.1, e ∙ ap (λ t. t ++ marked) k ∙ f.2, inr f.3)
+counted_first count marked s n a (inr k) m e =
+    let f = decimal_first n marked in (f.0, f.1, e ∙ ap (λ t. t ++ marked) k ∙ f.2, inl f.3)
+
+-- a string that is no token begins with a digit or an opening mark
+pub cut_first : (s a : List ℕ) → Simple false s a → (c : ℕ) × (cs : List ℕ) × (s ≡ c ∷ cs) × (IsDigit c ⊎ (is_mark c ≡ true))
+cut_first s a (inl h) = let f = decimal_first (length a) (58 ∷ a) in (f.0, f.1, h ∙ verbatim_is a ∙ f.2, inl f.3)
+cut_first s a (inr h) = counted_first h.count h.marked s (length a) a h.counts h.meant h.spelled
+
+either_starts : (c : ℕ) → IsDigit c ⊎ (is_mark c ≡ true) → is_string_start c ≡ true
+either_starts c (inl h) = digit_starts c h
+either_starts c (inr h) = mark_starts c h
+
+token_first : (s a : List ℕ) → s ≡ a → IsToken a → (c : ℕ) × (cs : List ℕ) × (s ≡ c ∷ cs) × (is_string_start c ≡ true)
+token_first s [] e h = absurd h
+token_first s (c ∷ cs) e h = (c, cs, e, token_starts c h.1.0)
+
+pub simple_first : (e : Bool) (s a : List ℕ) → Simple e s a → (c : ℕ) × (cs : List ℕ) × (s ≡ c ∷ cs) × (is_string_start c ≡ true)
+simple_first true s a h = token_first s a h.0 h.1
+simple_first false s a h = let f = cut_first s a h in (f.0, f.1, f.2, either_starts f.0 f.3)
+
+-- ---- digits, and what stands behind them
+
+-- in verbatim form a colon and the octets, else a string between marks
+abbrev pub IsBehind : List ℕ → ℕ → List ℕ → List ℕ → Type 0
+IsBehind digits mark tail octets =
+    ((mark ≡ 58) × (digits ≡ decimal (length octets)) × (tail ≡ octets)) ⊎ ((is_mark mark ≡ true) × IsCount digits (length octets) × IsMarked (mark ∷ tail) octets)
+
+-- the spelling of a string that is no token, cut behind the digits with which it begins
+pub record Cut (text octets : List ℕ) : Type 0 where
+  pub digits : List ℕ
+  pub mark : ℕ
+  pub tail : List ℕ
+  pub spelled : text ≡ digits ++ mark ∷ tail
+  pub are_digits : AreDigits digits
+  pub other : IsDigit mark → ⊥
+  pub behind : IsBehind digits mark tail octets
+
+mark_other : (c : ℕ) → is_mark c ≡ true → IsDigit c → ⊥
+mark_other c h k = grind (arith, nat_tests)
+
+count_digits : (count : List ℕ) (n : ℕ) → IsCount count n → AreDigits count
+count_digits count n (inl e) = subst AreDigits (sym e) tt
+count_digits count n (inr e) = subst AreDigits (sym e) (AreDigits-decimal n)
+
+pub cut : (s a : List ℕ) → Simple false s a → Cut s a
+cut s a (inl e) = record {
+  digits = decimal (length a);
+  mark = 58;
+  tail = a;
+  spelled = e ∙ verbatim_is a;
+  are_digits = AreDigits-decimal (length a);
+  other = λ h. let k : ◌<◌ 58 58 = h.1 in omega arith;
+  behind = inl (refl, refl, refl);
+}
+cut s a (inr h) =
+    let f = marked_first h.marked a h.meant in
+    record {
+      digits = h.count;
+      mark = f.0;
+      tail = f.1;
+      spelled = h.spelled ∙ ap (λ t. h.count ++ t) f.2;
+      are_digits = count_digits h.count (length a) h.counts;
+      other = mark_other f.0 f.3;
+      behind = inr (f.3, h.counts, subst (λ t. IsMarked t a) f.2 h.meant);
+    }
+
+same_length : (xs ys r s : List ℕ) → length xs ≡ length ys → xs ++ r ≡ ys ++ s → (xs ≡ ys) × (r ≡ s)
+same_length [] [] r s l e = (refl, e)
+same_length [] (y ∷ ys) r s l e = absurd (omega arith)
+same_length (x ∷ xs) [] r s l e = absurd (omega arith)
+same_length (x ∷ xs) (y ∷ ys) r s l e =
+    let h : x ≡ y = cc in
+    let t : xs ++ r ≡ ys ++ s = cc in
+    let q = same_length xs ys r s (omega arith) t in
+    let k : xs ≡ ys = q.0 in
+    (cc, q.1)
+
+one_behind : (c d : ℕ) (ds es x a r y b q : List ℕ) → IsBehind ds c x a → IsBehind es d y b → ds ≡ es → c ≡ d → x ++ r ≡ y ++ q → (a ≡ b) × (r ≡ q)
+one_behind c d ds es x a r y b q (inl h) (inl k) e f g =
+    let l : length a ≡ length b = decimal_same (length a) (length b) (sym h.1 ∙ e ∙ k.1) in
+    same_length a b r q l (ap (λ t. t ++ r) (sym h.2) ∙ g ∙ ap (λ t. t ++ q) k.2)
+one_behind c d ds es x a r y b q (inl h) (inr k) e f g =
+    let t : is_mark 58 ≡ true = ap is_mark (sym h.0 ∙ f) ∙ k.0 in absurd cc
+one_behind c d ds es x a r y b q (inr h) (inl k) e f g =
+    let t : is_mark 58 ≡ true = ap is_mark (sym k.0 ∙ sym f) ∙ h.0 in absurd cc
+one_behind c d ds es x a r y b q (inr h) (inr k) e f g = one_marked (c ∷ x) r a (d ∷ y) q b h.2 k.2 cc
+
+one_cut : (s r a t q b : List ℕ) → Cut s a → Cut t b → s ++ r ≡ t ++ q → (a ≡ b) × (r ≡ q)
+one_cut s r a t q b h k e =
+    let l : h.digits ++ h.mark ∷ (h.tail ++ r) ≡ k.digits ++ k.mark ∷ (k.tail ++ q) =
+    sym (append_assoc h.digits (h.mark ∷ h.tail) r) ∙ ap (λ u. u ++ r) (sym h.spelled) ∙ e ∙ ap (λ u. u ++ q) k.spelled ∙ append_assoc k.digits (k.mark ∷ k.tail) q in
+    let p = parts_agree h.digits k.digits (h.tail ++ r) (k.tail ++ q) h.mark k.mark h.are_digits k.are_digits h.other k.other l in
+    one_behind h.mark k.mark h.digits k.digits h.tail a r k.tail b q h.behind k.behind p.heads p.marks p.tails
+
+-- ---- tokens
+
+pub apart_stops : (r : List ℕ) → IsApart true r → Stops is_token_octet r
+apart_stops [] h = tt
+apart_stops (c ∷ cs) h = h
+
+pub token_passes : (a : List ℕ) → IsToken a → Passes is_token_octet a
+token_passes [] h = absurd h
+token_passes (c ∷ cs) h = h.1
+
+token_other : (c : ℕ) → is_digit c ≡ false → is_token_octet c ≡ true → IsDigit c ⊎ (is_mark c ≡ true) → ⊥
+token_other c h k (inl d) = grind (arith, nat_tests)
+token_other c h k (inr m) = grind (arith, nat_tests)
+
+-- where a token begins, no other string does
+pub no_token : (c : ℕ) (cs t q b : List ℕ) → is_digit c ≡ false → is_token_octet c ≡ true → Simple false t b → c ∷ cs ≡ t ++ q → ⊥
+no_token c cs t q b h k l e =
+    let f = cut_first t b l in
+    let g : c ∷ cs ≡ f.0 ∷ (f.1 ++ q) = e ∙ ap (λ u. u ++ q) f.2 in
+    let i : f.0 ≡ c = cc in
+    token_other c h k (subst (λ n. IsDigit n ⊎ (is_mark n ≡ true)) i f.3)
+
+token_apart : (a r t q b : List ℕ) → IsToken a → Simple false t b → a ++ r ≡ t ++ q → ⊥
+token_apart [] r t q b h l e = absurd h
+token_apart (c ∷ cs) r t q b h l e = no_token c (cs ++ r) t q b h.0 h.1.0 l e
+
+-- where a string's spelling stands, no other stands, and it ends in one place
+pub one_simple : (e f : Bool) (s r a t q b : List ℕ) → Simple e s a → IsApart e r → Simple f t b → IsApart f q → s ++ r ≡ t ++ q → (a ≡ b) × (r ≡ q)
+one_simple true true s r a t q b h k l m p =
+    one_front is_token_octet a b r q (token_passes a h.1) (token_passes b l.1) (apart_stops r k) (apart_stops q m)
+    (ap (λ u. u ++ r) (sym h.0) ∙ p ∙ ap (λ u. u ++ q) l.0)
+one_simple true false s r a t q b h k l m p = absurd (token_apart a r t q b h.1 l (ap (λ u. u ++ r) (sym h.0) ∙ p))
+one_simple false true s r a t q b h k l m p = absurd (token_apart b q s r a l.1 h (ap (λ u. u ++ q) (sym l.0) ∙ sym p))
+one_simple false false s r a t q b h k l m p = one_cut s r a t q b (cut s a h) (cut t b l) p

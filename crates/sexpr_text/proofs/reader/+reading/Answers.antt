@@ -1,0 +1,60 @@
+use Rattle.std.proofs.Common.{◌-◌, arith}
+use Rattle.std.proofs.lemmas.Result.{err_from_is_err_and}
+use Rattle.sexpr_core.specs.Tree.{sexp_value}
+use Rattle.sexpr_text.proofs.Openings.{later_fault}
+use Rattle.sexpr_text.proofs.Trees.{no_value, string_at, inside_list, tree_read, no_members, more_members, members_end, member_at, no_members_end}
+use Rattle.sexpr_text.proofs.reader.+reading.Goals as goal
+
+pub read_list-returns-then-room-eq0-clause-only : goal.read_list-returns-then-room-eq0-clause-only
+read_list-returns-then-room-eq0-clause-only t c = λ v rest h.
+    let p = inside_list c.args.room 0 _ _ v rest c.requires.begins (omega arith) h in
+    absurd (omega (arith, p.1))
+
+pub read_list-returns-in_err-members-clause-only : goal.read_list-returns-in_err-members-clause-only
+read_list-returns-in_err-members-clause-only t c =
+    let p = err_from_is_err_and c.from_residual.result c.from_residual.ensures.1 in
+    rw (p.1, p.2) (λ v rest h.
+    let inside = inside_list c.args.room (c.args.room - 1) _ _ v rest c.requires.begins (omega arith) h in
+    c.in_err-members.ensures.only inside.0 rest inside.2)
+
+pub read_list-returns-clause-read : goal.read_list-returns-clause-read
+read_list-returns-clause-read t c = tree_read _ (c.args.room - 1) _ _ _ _ c.requires.begins (omega arith) c.in_ok-members.ensures.read
+
+pub read_members-loop-octet-init : goal.read_members-loop-octet-init
+read_members-loop-octet-init t c = rw c.new-members.ensures.items (no_members _ _ _ _ c.skip_spaces-i.ensures)
+
+pub read_members-returns-then-octet-eq41-clause-read : goal.read_members-returns-then-octet-eq41-clause-read
+read_members-returns-then-octet-eq41-clause-read t c = members_end _ _ _ _ _ _ c.loop-octet.invariant c.in-Some.ensures c.if-octet-eq41.true
+
+pub read_members-returns-in_err-tree-clause-only : goal.read_members-returns-in_err-tree-clause-only
+read_members-returns-in_err-tree-clause-only t c =
+    let p = err_from_is_err_and c.from_residual.result c.from_residual.ensures.1 in
+    rw (p.1, p.2) (λ vs rest h.
+    let filled = member_at _ _ _ _ _ _ vs rest c.loop-octet.invariant c.in-Some.ensures c.if-octet-eq41.false h in
+    c.in_err-tree.ensures.only filled.first _ filled.stands)
+
+pub read_members-returns-in_err-tree-clause-refused : goal.read_members-returns-in_err-tree-clause-refused
+read_members-returns-in_err-tree-clause-refused t c =
+    let p = err_from_is_err_and c.from_residual.result c.from_residual.ensures.1 in
+    rw (p.1, p.2) (later_fault _ _ _ _ _ c.loop-octet.invariant.ordered c.in_err-tree.ensures.refused)
+
+pub read_members-loop-octet-preserved : goal.read_members-loop-octet-preserved
+read_members-loop-octet-preserved t c =
+    more_members sexp_value _ _ _ _ _ _ _ _ _ _ c.loop-octet.invariant c.in-Some.ensures c.if-octet-eq41.false c.in_ok-tree.ensures.read
+    c.in_ok-push.ensures.items c.skip_spaces-i-in-Some.ensures
+
+pub read_members-returns-clause-only : goal.read_members-returns-clause-only
+read_members-returns-clause-only t c = λ vs rest h. absurd (no_members_end _ _ _ _ _ vs rest c.loop-octet.invariant c.in_default.ensures h)
+
+pub read_tree-returns-in_err-octets-in-Some-clause-only : goal.read_tree-returns-in_err-octets-in-Some-clause-only
+read_tree-returns-in_err-octets-in-Some-clause-only t c =
+    let p = err_from_is_err_and c.from_residual.result c.from_residual.ensures.1 in
+    rw (p.1, p.2) (λ v rest h.
+    let string = string_at _ _ _ _ v rest c.in-Some.ensures c.in-Some.field-0-test.0.1 c.in-Some.field-0-test.1 h in
+    c.in_err-octets-in-Some.ensures.only string.0 rest string.1)
+
+pub read_tree-returns-in-None-clause-only : goal.read_tree-returns-in-None-clause-only
+read_tree-returns-in-None-clause-only t c = λ v rest h. absurd (no_value _ _ _ v rest c.in-None.ensures h)
+
+pub read_tree-returns-in-Some-eq91-clause-only : goal.read_tree-returns-in-Some-eq91-clause-only
+read_tree-returns-in-Some-eq91-clause-only t c = λ v rest h. c.read_hinted.ensures.only c.args.room v rest h

@@ -1,0 +1,13 @@
+use Rattle.std.proofs.lemmas.Bool.{both_ways}
+use Rattle.sexpr_text.proofs.Trees.{braced_text, spelled_text}
+use Rattle.sexpr_text.proofs.reader.read_any.Goals as goal
+
+pub returns-then-opens_braces-clause-only : goal.returns-then-opens_braces-clause-only
+returns-then-opens_braces-clause-only c = λ v h.
+    let brace = c.opens_braces.ensures.0 c.if-opens_braces.true in
+    c.unwrap_braces.ensures.only v (braced_text _ brace.0 _ v c.skip_spaces-begin.ensures brace.1 h)
+
+pub returns-clause-only : goal.returns-clause-only
+returns-clause-only c = λ v h.
+    c.read_advanced.ensures.only v
+    (spelled_text _ _ v c.skip_spaces-begin.ensures (λ brace. both_ways _ c.if-opens_braces.false (c.opens_braces.ensures.1 brace)) h)
