@@ -16,6 +16,7 @@ use Rattle.sexpr_core.proofs.Base64Laws.{body_octets}
 use Rattle.sexpr_core.proofs.BraceLaws.{one_packed, visible_le}
 use Rattle.sexpr_core.proofs.Gathered.{one_body}
 use Rattle.sexpr_text.specs.Strings.{pieces_text, pieces_octets, ArePieces, IsQuoted, IsHexadecimal, IsPacked, IsMarked}
+use Rattle.sexpr_text.specs.Reads.{is_hexadecimal_octet}
 use Rattle.sexpr_text.proofs.Escapes.{left_pieces, none_left, are_followed, pieces_few}
 
 -- ---- where octets that pass a test end
@@ -60,9 +61,6 @@ one_quoted s r a t q b h k e =
     (h.meant ∙ sym (append-nil (pieces_octets h.pieces)) ∙ ap (λ t. pieces_octets h.pieces ++ t) (sym n.0) ∙ sym l.meant ∙ sym k.meant, n.1)
 
 -- ---- hexadecimal
-
-abbrev pub is_hexadecimal_octet : ℕ → Bool
-is_hexadecimal_octet c = is_whitespace c || is_hex_digit c
 
 abbrev digit_holds : ℕ → Type 0
 digit_holds c = is_hex_digit c ≡ true
