@@ -1,13 +1,15 @@
 -- What a step of the reader of advanced form has read of a text, from offset `at` to offset `to`.
 use Rattle.std.specs.Prelude.{◌≡◌, ℕ, ◌<◌, ◌≤◌, min, Bool, true, false, ◌||◌, List, [], ◌∷◌, ◌++◌, length, drop, Option, Some, None, ◌⊎◌}
 use Rattle.std.specs.List.{AllByRecursion}
+use Rattle.hex.specs.declared.error.FromHexError.{FromHexError}
+use Rattle.hex.specs.declared.error.FromHexError.TheVariants.{InvalidHexCharacter, OddLength, InvalidStringLength, OutOfMemory}
 use Rattle.hex.specs.Hex.{hex_digit_value, is_hex_digit}
 use Rattle.sexpr_core.specs.Reading.{StandsAt}
 use Rattle.sexpr_core.specs.declared.fault.FormFault.{FormFault}
 use Rattle.sexpr_core.specs.declared.fault.FormFault.TheVariants.{TooLong, TooDeep, Short, Bad, Trailing, Memory}
 use Rattle.sexpr_core.specs.Value.{Value, Values, decimal, depth, depths}
 use Rattle.sexpr_core.specs.Spaces.{is_whitespace, visible, Skips}
-use Rattle.sexpr_text.specs.Strings.{IsToken, Piece, piece_text, piece_octets, IsPiece, pieces_text, pieces_octets, ArePieces, Simple, IsApart}
+use Rattle.sexpr_text.specs.Strings.{is_digit, IsToken, Piece, piece_text, piece_octets, IsPiece, pieces_text, pieces_octets, ArePieces, Simple, IsApart}
 use Rattle.sexpr_text.specs.Spelling.{SpellsAs, SpellsMembers}
 use Rattle.sexpr_text.specs.Refusal.{openings}
 
@@ -43,6 +45,13 @@ IsNoHexadecimalOctet c at Short = ⊥
 IsNoHexadecimalOctet c at (Bad k) = (k ≡ at) × (is_hexadecimal_octet c ≡ false)
 IsNoHexadecimalOctet c at (Trailing k) = ⊥
 IsNoHexadecimalOctet c at Memory = Unit {0}
+
+-- why a hexadecimal body is refused whose mark stands at an offset, by what is wrong with its digits
+abbrev pub IsDigitsFault : FromHexError → ℕ → FormFault → Type 0
+IsDigitsFault (InvalidHexCharacter c index) at fault = fault ≡ Bad at
+IsDigitsFault OddLength at fault = fault ≡ Bad at
+IsDigitsFault InvalidStringLength at fault = fault ≡ Bad at
+IsDigitsFault OutOfMemory at fault = fault ≡ Memory
 
 -- octets of a hexadecimal body, and its digits
 pub record Keeps (text : List ℕ) (at : ℕ) (kept : List ℕ) (to : ℕ) : Type 0 where
@@ -103,6 +112,11 @@ pub record ReadsCount (text : List ℕ) (at number to : ℕ) : Type 0 where
   pub spelled : drop at text ≡ decimal written ++ drop to text
   pub forward : at < to
   pub within : to ≤ length text
+
+-- no digit stands first
+abbrev pub StartsNoDigit : List ℕ → Type 0
+StartsNoDigit [] = Unit {0}
+StartsNoDigit (c ∷ cs) = is_digit c ≡ false
 
 -- so many octets as they stand
 pub record ReadsOctets (text : List ℕ) (at number : ℕ) (octets : List ℕ) (to : ℕ) : Type 0 where

@@ -4,7 +4,7 @@ ghost use Rattle.std.specs.Prelude.{◌≡◌, ℕ, ◌+◌, ◌≤◌, true, Ok
 ghost use Rattle.hex.specs.Hex.{decode_of};
 ghost use Rattle.sexpr_core.specs.Reading.{StandsAt};
 ghost use Rattle.sexpr_core.specs.Bounds.{IsPartFault};
-ghost use Rattle.sexpr_text.specs.Reads.{Reads, Keeps, is_hexadecimal_octet, IsNoHexadecimalOctet};
+ghost use Rattle.sexpr_text.specs.Reads.{Reads, Keeps, is_hexadecimal_octet, IsNoHexadecimalOctet, IsDigitsFault};
 ghost use Rattle.sexpr_text.specs.Strings.{IsHexadecimal};
 ghost use Rattle.sexpr_core.specs.Spaces.{visible};
 
@@ -36,8 +36,18 @@ pub(crate) fn read_hexadecimal(
             octets,
             end: end + 1,
         }),
-        Err(FromHexError::OutOfMemory) => Err(FormFault::Memory),
-        Err(_) => Err(FormFault::Bad(end)),
+        Err(error) => Err(digits_fault(error, end)),
+    }
+}
+
+/// Why a body is refused whose closing mark stands at this offset, by what is wrong with its digits.
+fn digits_fault(error: FromHexError, at: usize) -> FormFault
+    ensures fault { IsDigitsFault error at result }
+    ensures lies { IsPartFault (at + 1) result }
+{
+    match error {
+        FromHexError::OutOfMemory => FormFault::Memory,
+        _ => FormFault::Bad(at),
     }
 }
 

@@ -1,6 +1,6 @@
 use Rattle.std.proofs.lemmas.Result.{err_from_is_err_and}
 use Rattle.sexpr_text.proofs.Marked.{hexadecimal_octets}
-use Rattle.sexpr_text.proofs.HexadecimalLaws.{hexadecimal_read, same_digits, behind_mark}
+use Rattle.sexpr_text.proofs.HexadecimalLaws.{hexadecimal_read, behind_mark, digits_refused}
 use Rattle.sexpr_text.proofs.hexadecimal.read_hexadecimal.Goals as goal
 
 pub returns-in_err-digits-clause-only : goal.returns-in_err-digits-clause-only
@@ -11,3 +11,8 @@ returns-in_err-digits-clause-only c =
 pub returns-in-Ok-clause-read : goal.returns-in-Ok-clause-read
 returns-in-Ok-clause-read c =
     hexadecimal_read _ _ _ _ _ c.requires c.in_ok-digits.ensures.read.0 c.in_ok-digits.ensures.read.1 (rw c.as_slice.ensures.value at c.in-Ok.ensures.ok)
+
+pub returns-clause-only : goal.returns-clause-only
+returns-clause-only c = λ s a rest h e.
+    digits_refused _ _ _ _ s a rest _ _ c.requires c.in_ok-digits.ensures.read.0 c.in_ok-digits.ensures.read.1 h e
+    (rw c.as_slice.ensures.value at c.in-Err.ensures.err) c.digits_fault.ensures.fault
