@@ -11,7 +11,7 @@ use Rattle.sexpr_core.proofs.SpaceLaws.{all-append}
 use Rattle.sexpr_core.proofs.Gathered.{visible-append}
 use Rattle.sexpr_text.specs.Strings.{IsHexadecimal}
 use Rattle.sexpr_text.specs.Reads.{Reads, Keeps, is_hexadecimal_octet, IsNoHexadecimalOctet, IsDigitsFault}
-use Rattle.sexpr_text.proofs.Marked.{Passes, Stops, one_front, closed, hexadecimal_octets}
+use Rattle.sexpr_text.proofs.Marked.{Passes, Stops, one_front, behind_opening, hexadecimal_octets}
 
 pub nothing_kept : (text : List ℕ) (at : ℕ) → at ≤ length text → Keeps text at [] at
 nothing_kept text at h = record { body = []; octets = tt; spelled = refl; rest_is = refl; ordered = omega arith; within = h }
@@ -69,16 +69,11 @@ same_digits text at i kept body rest k closes all e =
     let s = kept_stops text at i kept body rest k (subst (Stops is_hexadecimal_octet) (sym closes.spelled) refl) all e in
     k.rest_is ∙ ap visible s.0
 
-pub behind_mark : (text : List ℕ) (at : ℕ) (s a rest : List ℕ) → StandsAt text at 35 → (h : IsHexadecimal s a) → drop at text ≡ s ++ rest
-    → drop (at + 1) text ≡ h.body ++ 35 ∷ rest
-behind_mark text at s a rest opens h e =
-    let k : 35 ∷ drop (at + 1) text ≡ 35 ∷ (h.body ++ 35 ∷ rest) = sym opens.spelled ∙ e ∙ closed 35 s h.body rest h.spelled in cc
-
 pub digits_refused : (text : List ℕ) (at i : ℕ) (kept s a rest : List ℕ) (error : FromHexError) (fault : FormFault) → StandsAt text at 35
     → Keeps text (at + 1) kept i → StandsAt text i 35 → IsHexadecimal s a → drop at text ≡ s ++ rest
     → (error ≡ OutOfMemory) ⊎ (decode_of kept ≡ Err error) → IsDigitsFault error i fault → fault ≡ Memory
 digits_refused text at i kept s a rest error fault opens k closes h e (inl o) is = subst (λ x. IsDigitsFault x i fault) o is
 digits_refused text at i kept s a rest error fault opens k closes h e (inr d) is =
-    let m = same_digits text (at + 1) i kept h.body rest k closes (hexadecimal_octets h.body a h.packed) (behind_mark text at s a rest opens h e) in
+    let m = same_digits text (at + 1) i kept h.body rest k closes (hexadecimal_octets h.body a h.packed) (behind_opening 35 text at 35 s h.body rest opens h.spelled e).1 in
     let q : decode_of kept ≡ Ok a = ap decode_of m ∙ h.packed in
     cc

@@ -5,3 +5,4 @@ pub mod Marked
 pub mod QuotedLaws
 pub mod HexadecimalLaws
 pub mod OneString
+pub mod CountedLaws

@@ -4,7 +4,7 @@ use Rattle.sexpr_core.specs.Reading.{StandsAt}
 use Rattle.sexpr_text.specs.Strings.{escape_value, Piece, raw, escaped, octal, hexadecimal, line, line_pair, piece_text, piece_octets, StartsOther, IsPiece, pieces_text, pieces_octets, ArePieces, IsQuoted}
 use Rattle.sexpr_text.specs.Reads.{ReadsPiece, ReadsPieces, ReadsEscape, ReadsDigit, IsLineEnd, escape_octets}
 use Rattle.sexpr_text.proofs.Escapes.{Left, left_pieces, none_left, are_followed}
-use Rattle.sexpr_text.proofs.Marked.{closed}
+use Rattle.sexpr_text.proofs.Marked.{behind_opening}
 
 -- ---- octets one behind the other
 
@@ -146,9 +146,8 @@ escaped_piece text at c to octet old new h m r e = record {
 pub quoted_left : (text : List ℕ) (at i : ℕ) (octets s a rest : List ℕ) → StandsAt text at 34 → (r : ReadsPieces text (at + 1) octets i) → (q : IsQuoted s a)
     → drop at text ≡ s ++ rest → Left (drop i text) rest (pieces_octets r.pieces) (pieces_octets q.pieces)
 quoted_left text at i octets s a rest opens r q e =
-    let k : 34 ∷ drop (at + 1) text ≡ 34 ∷ (pieces_text q.pieces ++ 34 ∷ rest) = sym opens.spelled ∙ e ∙ closed 34 s (pieces_text q.pieces) rest q.spelled in
-    let l : drop (at + 1) text ≡ pieces_text q.pieces ++ 34 ∷ rest = cc in
-    left_pieces r.pieces q.pieces (drop i text) rest r.right (are_followed q.pieces rest q.right) (sym r.spelled ∙ l)
+    left_pieces r.pieces q.pieces (drop i text) rest r.right (are_followed q.pieces rest q.right)
+    (sym r.spelled ∙ (behind_opening 34 text at 34 s (pieces_text q.pieces) rest opens q.spelled e).1)
 
 not_ended : (xs : List ℕ) (c : ℕ) (rest : List ℕ) → [] ≡ xs ++ c ∷ rest → ⊥
 not_ended [] c rest e = cc

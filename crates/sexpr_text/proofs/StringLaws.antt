@@ -8,7 +8,7 @@ use Rattle.sexpr_core.proofs.SpaceLaws.{all-append}
 use Rattle.sexpr_core.proofs.Gathered.{visible-append}
 use Rattle.sexpr_core.proofs.Decimal.{decimal_digit}
 use Rattle.sexpr_core.proofs.Steps.{more_capped, more_spelled}
-use Rattle.sexpr_text.specs.Strings.{is_digit, is_token_octet, IsToken, Piece, raw, escaped, octal, hexadecimal, line, line_pair, piece_text, piece_octets, StartsOther, IsPiece, pieces_text, pieces_octets, ArePieces, IsQuoted, IsHexadecimal, IsPacked}
+use Rattle.sexpr_text.specs.Strings.{is_digit, is_token_octet, IsToken, Piece, raw, escaped, octal, hexadecimal, line, line_pair, piece_text, piece_octets, StartsOther, IsPiece, pieces_text, pieces_octets, ArePieces, IsQuoted, IsPacked, IsMarked}
 use Rattle.sexpr_text.specs.Reads.{Reads, ReadsPiece, ReadsPieces, ReadsToken, Keeps, ReadsCount}
 
 -- ---- tokens
@@ -45,6 +45,9 @@ packed_read text at to octets opens r = record {
   forward = omega (arith, r.goes_on);
   within = r.within;
 }
+
+pub packed_marked : (text : List ℕ) (at to : ℕ) (octets : List ℕ) → Reads IsPacked text at octets to → Reads IsMarked text at octets to
+packed_marked text at to octets r = record { spelling = r.spelling; spelled = r.spelled; meant = inr (inr r.meant); forward = r.forward; within = r.within }
 
 -- ---- lengths
 

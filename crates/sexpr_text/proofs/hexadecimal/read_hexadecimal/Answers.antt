@@ -1,12 +1,12 @@
 use Rattle.std.proofs.lemmas.Result.{err_from_is_err_and}
-use Rattle.sexpr_text.proofs.Marked.{hexadecimal_octets}
-use Rattle.sexpr_text.proofs.HexadecimalLaws.{hexadecimal_read, behind_mark, digits_refused}
+use Rattle.sexpr_text.proofs.Marked.{behind_opening}
+use Rattle.sexpr_text.proofs.HexadecimalLaws.{hexadecimal_read, digits_refused}
 use Rattle.sexpr_text.proofs.hexadecimal.read_hexadecimal.Goals as goal
 
 pub returns-in_err-digits-clause-only : goal.returns-in_err-digits-clause-only
 returns-in_err-digits-clause-only c =
     let p = err_from_is_err_and c.from_residual.result c.from_residual.ensures.1 in
-    rw (p.1, p.2) (λ s a rest h e. c.in_err-digits.ensures.only h.body a rest h.packed (behind_mark _ _ s a rest c.requires h e))
+    rw (p.1, p.2) (λ s a rest h e. c.in_err-digits.ensures.only h.body a rest h.packed (behind_opening 35 _ _ _ s h.body rest c.requires h.spelled e).1)
 
 pub returns-in-Ok-clause-read : goal.returns-in-Ok-clause-read
 returns-in-Ok-clause-read c =

@@ -1,18 +1,15 @@
-use Rattle.std.proofs.Common.{rules, ◌≡◌, ℕ, List, ◌++◌, true, false, ◌+◌, ◌<◌, ◌≤◌, ◌⊎◌, length, drop, IfOk, IfErr, IsOkUnless, ◌-◌, ◌*◌, ◌/◌, ◌%◌, Bool, nat_eq, nat_lt, [], ◌∷◌, slice_index_or, slice_set, bit_and, bit_or, Fits, w8, w32, w64, Bor, MutBor}
-use Rattle.sexpr_core.specs.Bounds.{IsPartFault}
-use Rattle.sexpr_text.specs.Reads.{Reads, ReadsToken, ReadsCount, ReadsOctets, ReadsString, StringAt, StartsNoDigit}
-use Rattle.sexpr_text.specs.Strings.{is_digit, is_token_octet, IsApart, IsMarked}
-use Rattle.sexpr_core.specs.Reading.{StandsAt}
+use Rattle.std.proofs.Common.{sym, arith}
+use Rattle.std.proofs.lemmas.Result.{IfOk-weaker}
+use Rattle.sexpr_text.proofs.CountedLaws.{marked_string, nothing_stands, uncounted_stands}
 use Rattle.sexpr_text.proofs.strings.read_string.Goals as goal
 
--- src/strings.rt:38:9
 pub returns-in_default-clause-only : goal.returns-in_default-clause-only
-returns-in_default-clause-only c = ?
+returns-in_default-clause-only c = λ a rest s. absurd (nothing_stands _ _ a rest s c.in_default.ensures)
 
--- src/strings.rt:30:1
 pub returns-clause-read : goal.returns-clause-read
-returns-clause-read c = ?
+returns-clause-read c = IfOk-weaker _ _ _ (λ read m. marked_string _ _ _ _ m) c.read_marked.ensures.read
 
--- src/strings.rt:30:1
 pub returns-clause-only : goal.returns-clause-only
-returns-clause-only c = ?
+returns-clause-only c = λ a rest s.
+    let k = uncounted_stands _ _ _ a rest c.in-Some.ensures (λ d. omega (arith, c.if-is_ascii_digit.ensures.cases)) (sym c.if-stands_in_token.ensures) s in
+    c.read_marked.ensures.only k.0 a rest k.1 k.2
