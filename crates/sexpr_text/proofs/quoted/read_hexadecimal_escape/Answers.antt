@@ -1,4 +1,3 @@
-use Rattle.std.proofs.Common.{ℕ, List, ◌≡◌, ◌∷◌, drop, ◌+◌, ◌∙◌, sym, ap}
 use Rattle.std.proofs.lemmas.Result.{err_from_is_err_and}
 use Rattle.sexpr_text.proofs.Escapes.{hexadecimal_piece}
 use Rattle.sexpr_text.proofs.QuotedLaws.{hexadecimal_escape, second_octet}

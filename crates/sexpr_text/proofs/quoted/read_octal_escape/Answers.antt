@@ -1,6 +1,6 @@
 use Rattle.std.proofs.lemmas.Result.{err_from_is_err_and}
 use Rattle.sexpr_text.proofs.Escapes.{octal_piece}
-use Rattle.sexpr_text.proofs.QuotedLaws.{octal_escape, second_octet, third_octet, octal_behind}
+use Rattle.sexpr_text.proofs.QuotedLaws.{octal_escape, third_octet, octal_behind}
 use Rattle.sexpr_text.proofs.quoted.read_octal_escape.Goals as goal
 
 pub returns-in_err-second-clause-only : goal.returns-in_err-second-clause-only

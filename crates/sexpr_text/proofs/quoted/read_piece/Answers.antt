@@ -1,4 +1,4 @@
-use Rattle.sexpr_text.proofs.QuotedLaws.{raw_piece, escaped_piece}
+use Rattle.sexpr_text.proofs.QuotedLaws.{raw_piece}
 use Rattle.sexpr_text.proofs.quoted.read_piece.Goals as goal
 
 pub returns-then-octet-ne92-clause-read : goal.returns-then-octet-ne92-clause-read

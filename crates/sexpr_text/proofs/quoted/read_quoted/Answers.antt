@@ -1,7 +1,7 @@
-use Rattle.std.proofs.Common.{ap, subst}
+use Rattle.std.proofs.Common.{subst}
 use Rattle.std.proofs.lemmas.Result.{err_from_is_err_and}
 use Rattle.sexpr_core.specs.Reading.{StandsAt}
-use Rattle.sexpr_text.proofs.StringLaws.{nothing_quoted, more_quoted, quoted_read}
+use Rattle.sexpr_text.proofs.StringLaws.{more_quoted, quoted_read}
 use Rattle.sexpr_text.proofs.QuotedLaws.{quoted_left, left_ended, left_next}
 use Rattle.sexpr_text.proofs.quoted.read_quoted.Goals as goal
 
