@@ -1,14 +1,14 @@
 -- A string with or without its length in front, as the reader meets it.
-use Rattle.std.proofs.Common.{◌≡◌, ◌≢◌, ℕ, zero, suc, ◌+◌, ◌<◌, ◌≤◌, min, Bool, true, false, ◌⊎◌, inl, inr, List, [], ◌∷◌, ◌++◌, length, drop, refl, sym, ap, subst, ◌∙◌, append_assoc, length-append, length-drop, arith}
+use Rattle.std.proofs.Common.{◌≡◌, ◌≢◌, ℕ, zero, suc, ◌+◌, ◌≤◌, min, Bool, true, false, ◌⊎◌, inl, inr, List, [], ◌∷◌, ◌++◌, length, drop, refl, sym, ap, subst, ◌∙◌, append_assoc, length-append, length-drop, arith}
 use Rattle.std.proofs.lemmas.Bool.Decides.{nat_tests}
 use Rattle.sexpr_core.specs.Value.{decimal, verbatim}
 use Rattle.sexpr_core.specs.Reading.{StandsAt}
 use Rattle.sexpr_core.proofs.Decimal.{IsDigit, AreDigits, AreDigits-decimal, decimal_zero, decimal_leads, decimal_same, decimal_starts}
 use Rattle.sexpr_core.proofs.Texts.{verbatim_is}
-use Rattle.sexpr_text.specs.Strings.{is_digit, is_token_octet, IsToken, IsApart, IsCount, IsMarked, Simple}
-use Rattle.sexpr_text.specs.Reads.{Reads, ReadsCount, ReadsOctets, ReadsString, StringAt, StartsNoDigit}
-use Rattle.sexpr_text.proofs.Marked.{Passes, Stops, one_front, is_mark, marked_first, one_marked, marked_few}
-use Rattle.sexpr_text.proofs.OneString.{Cut, cut, IsBehind, cut_first, simple_first}
+use Rattle.sexpr_text.specs.Strings.{is_digit, is_token_octet, IsToken, IsMarked, Simple}
+use Rattle.sexpr_text.specs.Reads.{Reads, ReadsCount, ReadsOctets, ReadsString, StringAt, Stops}
+use Rattle.sexpr_text.proofs.Marked.{Passes, one_front, is_mark, marked_first, one_marked, marked_few}
+use Rattle.sexpr_text.proofs.OneString.{Cut, cut, IsBehind, simple_first}
 
 -- ---- a length ends in one way
 
@@ -18,10 +18,6 @@ digit_passes c h = grind (arith, nat_tests)
 digits_pass : (cs : List ℕ) → AreDigits cs → Passes is_digit cs
 digits_pass [] h = tt
 digits_pass (c ∷ cs) h = (digit_passes c h.0, digits_pass cs h.1)
-
-no_digit_stops : (x : List ℕ) → StartsNoDigit x → Stops is_digit x
-no_digit_stops [] h = tt
-no_digit_stops (c ∷ cs) h = h
 
 other_digit : (d : ℕ) → (IsDigit d → ⊥) → is_digit d ≡ false
 other_digit d h = grind (arith, nat_tests)
@@ -34,11 +30,11 @@ zero_once (suc n) d x y e =
     let k : s.digit ≡ 48 = cc in
     absurd (decimal_leads (suc n) s.rest (omega arith) (s.is ∙ ap (λ m. m ∷ s.rest) k))
 
-count_once : (w n d : ℕ) (x y : List ℕ) → (w ≡ 0) ⊎ StartsNoDigit x → (IsDigit d → ⊥) → decimal w ++ x ≡ decimal n ++ d ∷ y → (w ≡ n) × (x ≡ d ∷ y)
+count_once : (w n d : ℕ) (x y : List ℕ) → (w ≡ 0) ⊎ Stops is_digit x → (IsDigit d → ⊥) → decimal w ++ x ≡ decimal n ++ d ∷ y → (w ≡ n) × (x ≡ d ∷ y)
 count_once w n d x y (inl z) other e =
     let p = zero_once n d x y (ap (λ k. decimal k ++ x) (sym z) ∙ e) in (z ∙ p.0, p.1)
 count_once w n d x y (inr stops) other e =
-    let p = one_front is_digit (decimal w) (decimal n) x (d ∷ y) (digits_pass (decimal w) (AreDigits-decimal w)) (digits_pass (decimal n) (AreDigits-decimal n)) (no_digit_stops x stops) (other_digit d other) e in
+    let p = one_front is_digit (decimal w) (decimal n) x (d ∷ y) (digits_pass (decimal w) (AreDigits-decimal w)) (digits_pass (decimal n) (AreDigits-decimal n)) stops (other_digit d other) e in
     (decimal_same w n p.0, p.1)
 
 -- ---- what stands behind a length
@@ -55,7 +51,7 @@ begins_counted false c cs s a rest h d e = h
 abbrev pub StandsBehind : List ℕ → List ℕ → List ℕ → Type 0
 StandsBehind x a rest = (x ≡ 58 ∷ (a ++ rest)) ⊎ ((s : List ℕ) × IsMarked s a × (x ≡ s ++ rest))
 
-cut_behind : (w c d : ℕ) (cs x ds t a rest : List ℕ) → (w ≡ 0) ⊎ StartsNoDigit x → IsDigit c → (IsDigit d → ⊥) → IsBehind ds d t a
+cut_behind : (w c d : ℕ) (cs x ds t a rest : List ℕ) → (w ≡ 0) ⊎ Stops is_digit x → IsDigit c → (IsDigit d → ⊥) → IsBehind ds d t a
     → c ∷ cs ≡ decimal w ++ x → c ∷ cs ≡ ds ++ d ∷ (t ++ rest) → (w ≡ length a) × StandsBehind x a rest
 cut_behind w c d cs x ds t a rest ends low other (inl b) e f =
     let p = count_once w (length a) d x (t ++ rest) ends other (sym e ∙ f ∙ ap (λ k. k ++ d ∷ (t ++ rest)) b.1) in
@@ -68,13 +64,13 @@ cut_behind w c d cs x ds t a rest ends low other (inr (m, inr n, k)) e f =
     let p = count_once w (length a) d x (t ++ rest) ends other (sym e ∙ f ∙ ap (λ u. u ++ d ∷ (t ++ rest)) n) in
     (p.0, inr (d ∷ t, k, p.1))
 
-ends_written : (n w : ℕ) (x : List ℕ) → n ≡ min w 1048577 → (n ≡ 0) ⊎ StartsNoDigit x → (w ≡ 0) ⊎ StartsNoDigit x
+ends_written : (n w : ℕ) (x : List ℕ) → n ≡ min w 1048577 → (n ≡ 0) ⊎ Stops is_digit x → (w ≡ 0) ⊎ Stops is_digit x
 ends_written n w x c (inl z) = inl (omega arith)
 ends_written n w x c (inr s) = inr s
 
 -- where a length was read, the string that stands there has that length, and the rest of its spelling stands behind
 pub counted_stands : (text : List ℕ) (at first number to : ℕ) (a rest : List ℕ) → StandsAt text at first → IsDigit first → (r : ReadsCount text at number to)
-    → (number ≡ 0) ⊎ StartsNoDigit (drop to text) → StringAt text at a rest → (r.written ≡ length a) × StandsBehind (drop to text) a rest
+    → (number ≡ 0) ⊎ Stops is_digit (drop to text) → StringAt text at a rest → (r.written ≡ length a) × StandsBehind (drop to text) a rest
 counted_stands text at first number to a rest opens low r ends s =
     let h : Cut s.spelling a = cut s.spelling a (begins_counted s.ends_token first (drop (at + 1) text) s.spelling a rest s.meant low (sym opens.spelled ∙ s.spelled)) in
     let e : drop at text ≡ h.digits ++ h.mark ∷ (h.tail ++ rest) = s.spelled ∙ ap (λ t. t ++ rest) h.spelled ∙ append_assoc h.digits (h.mark ∷ h.tail) rest in
@@ -88,7 +84,7 @@ colon_first x a rest (inr h) e =
     let q : [] ≡ f.0 ∷ (f.1 ++ rest) = sym e ∙ h.2 ∙ ap (λ t. t ++ rest) f.2 in cc
 
 pub counted_ended : (text : List ℕ) (at first number to : ℕ) (a rest : List ℕ) → StandsAt text at first → IsDigit first → ReadsCount text at number to
-    → (number ≡ 0) ⊎ StartsNoDigit (drop to text) → StringAt text at a rest → drop to text ≡ [] → ⊥
+    → (number ≡ 0) ⊎ Stops is_digit (drop to text) → StringAt text at a rest → drop to text ≡ [] → ⊥
 counted_ended text at first number to a rest opens low r ends s e =
     let p = counted_stands text at first number to a rest opens low r ends s in colon_first (drop to text) a rest p.1 e
 
@@ -107,13 +103,13 @@ verbatim_behind x c cs a rest (inr h) e n =
 
 -- the string between marks that stands behind a length
 pub marked_stands : (text : List ℕ) (at first number to c : ℕ) (a rest : List ℕ) → StandsAt text at first → IsDigit first → ReadsCount text at number to
-    → (number ≡ 0) ⊎ StartsNoDigit (drop to text) → StandsAt text to c → c ≢ 58 → StringAt text at a rest
+    → (number ≡ 0) ⊎ Stops is_digit (drop to text) → StandsAt text to c → c ≢ 58 → StringAt text at a rest
     → (s : List ℕ) × IsMarked s a × (drop to text ≡ s ++ rest)
 marked_stands text at first number to c a rest opens low r ends next n s =
     let p = counted_stands text at first number to a rest opens low r ends s in marked_behind (drop to text) c (drop (to + 1) text) a rest p.1 next.spelled n
 
 pub verbatim_fits : (text : List ℕ) (at first number to c : ℕ) (a rest : List ℕ) → StandsAt text at first → IsDigit first → ReadsCount text at number to
-    → (number ≡ 0) ⊎ StartsNoDigit (drop to text) → StandsAt text to c → c ≡ 58 → StringAt text at a rest → to + 1 + number ≤ length text
+    → (number ≡ 0) ⊎ Stops is_digit (drop to text) → StandsAt text to c → c ≡ 58 → StringAt text at a rest → to + 1 + number ≤ length text
 verbatim_fits text at first number to c a rest opens low r ends next n s =
     let p = counted_stands text at first number to a rest opens low r ends s in
     let e = verbatim_behind (drop to text) c (drop (to + 1) text) a rest p.1 next.spelled n in
@@ -127,15 +123,15 @@ verbatim_string text at number to c end octets r next n o =
     let w : r.written ≡ length octets = omega (arith, r.capped, o.few, o.counted) in
     record {
       stands = record {
-          ends_token = false;
-          spelling = verbatim octets;
-          spelled = r.spelled ∙ ap (λ k. decimal k ++ drop to text) w
-              ∙ ap (λ t. decimal (length octets) ++ t) (next.spelled ∙ ap (λ k. k ∷ drop (to + 1) text) n ∙ ap (λ t. 58 ∷ t) o.spelled)
-              ∙ sym (append_assoc (decimal (length octets)) (58 ∷ octets) (drop end text))
-              ∙ ap (λ t. t ++ drop end text) (sym (verbatim_is octets));
-          meant = inl refl;
-          apart = tt;
-        };
+        ends_token = false;
+        spelling = verbatim octets;
+        spelled = r.spelled ∙ ap (λ k. decimal k ++ drop to text) w
+            ∙ ap (λ t. decimal (length octets) ++ t) (next.spelled ∙ ap (λ k. k ∷ drop (to + 1) text) n ∙ ap (λ t. 58 ∷ t) o.spelled)
+            ∙ sym (append_assoc (decimal (length octets)) (58 ∷ octets) (drop end text))
+            ∙ ap (λ t. t ++ drop end text) (sym (verbatim_is octets));
+        meant = inl refl;
+        apart = tt;
+      };
       forward = omega (arith, r.forward, o.ordered);
       within = o.within;
     }
@@ -149,19 +145,19 @@ counted_string text at number to end octets short r m n =
     let w : r.written ≡ length octets = omega (arith, r.capped, octets_few text m.spelling octets to end m.meant m.spelled) in
     record {
       stands = record {
-          ends_token = false;
-          spelling = decimal r.written ++ m.spelling;
-          spelled = r.spelled ∙ ap (λ t. decimal r.written ++ t) m.spelled ∙ sym (append_assoc (decimal r.written) m.spelling (drop end text));
-          meant = inr (record { count = decimal r.written; marked = m.spelling; spelled = refl; counts = inr (ap decimal w); meant = m.meant });
-          apart = tt;
-        };
+        ends_token = false;
+        spelling = decimal r.written ++ m.spelling;
+        spelled = r.spelled ∙ ap (λ t. decimal r.written ++ t) m.spelled ∙ sym (append_assoc (decimal r.written) m.spelling (drop end text));
+        meant = inr (record { count = decimal r.written; marked = m.spelling; spelled = refl; counts = inr (ap decimal w); meant = m.meant });
+        apart = tt;
+      };
       forward = omega (arith, r.forward, m.forward);
       within = m.within;
     }
 
 -- the length of a string between marks is the one in front of it
 pub counted_right : (text : List ℕ) (at first number to c end n : ℕ) (octets a rest : List ℕ) → length text ≤ 1048576 → StandsAt text at first → IsDigit first
-    → ReadsCount text at number to → (number ≡ 0) ⊎ StartsNoDigit (drop to text) → StandsAt text to c → c ≢ 58 → Reads IsMarked text to octets end
+    → ReadsCount text at number to → (number ≡ 0) ⊎ Stops is_digit (drop to text) → StandsAt text to c → c ≢ 58 → Reads IsMarked text to octets end
     → n ≡ length octets → n ≢ number → StringAt text at a rest → ⊥
 counted_right text at first number to c end n octets a rest short opens low r ends next apart m l other s =
     let k = marked_stands text at first number to c a rest opens low r ends next apart s in
@@ -176,12 +172,12 @@ counted_right text at first number to c end n octets a rest short opens low r en
 pub marked_string : (text : List ℕ) (at end : ℕ) (octets : List ℕ) → Reads IsMarked text at octets end → ReadsString text at octets end
 marked_string text at end octets m = record {
   stands = record {
-      ends_token = false;
-      spelling = m.spelling;
-      spelled = m.spelled;
-      meant = inr (record { count = []; marked = m.spelling; spelled = refl; counts = inl refl; meant = m.meant });
-      apart = tt;
-    };
+    ends_token = false;
+    spelling = m.spelling;
+    spelled = m.spelled;
+    meant = inr (record { count = []; marked = m.spelling; spelled = refl; counts = inl refl; meant = m.meant });
+    apart = tt;
+  };
   forward = m.forward;
   within = m.within;
 }

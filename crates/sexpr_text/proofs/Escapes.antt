@@ -1,7 +1,6 @@
 -- The pieces of a quoted string stand in one way.
-use Rattle.std.proofs.Common.{◌≡◌, ◌≢◌, ℕ, zero, suc, ◌+◌, ◌-◌, ◌*◌, ◌<◌, ◌≤◌, ◌==◌, ◌&&◌, ◌||◌, true, false, Some, List, [], ◌∷◌, ◌++◌, length, refl, sym, ap, subst, ◌∙◌, append_assoc, length-append, arith, inl, inr, ◌⊎◌}
+use Rattle.std.proofs.Common.{◌≡◌, ◌≢◌, ℕ, zero, suc, ◌+◌, ◌-◌, ◌*◌, ◌<◌, ◌≤◌, ◌==◌, ◌&&◌, ◌||◌, false, Some, List, [], ◌∷◌, ◌++◌, length, refl, sym, ap, subst, ◌∙◌, append_assoc, length-append, arith, inl, inr, ◌⊎◌}
 use Rattle.std.specs.Prelude.{nat_le, if◌then◌else◌}
-use Rattle.std.proofs.lemmas.Bool.{cases_eq, cases_lt}
 use Rattle.std.proofs.lemmas.Bool.Decides.{nat_tests}
 use Rattle.hex.specs.Hex.{hex_digit_value}
 use Rattle.sexpr_text.specs.Strings.{escape_value, Piece, raw, escaped, octal, hexadecimal, line, line_pair, piece_text, piece_octets, StartsOther, IsPiece, pieces_text, pieces_octets, ArePieces}
@@ -41,10 +40,10 @@ no_octal (suc (suc zero)) c h e = cc
 no_octal (suc (suc (suc zero))) c h e = cc
 no_octal (suc (suc (suc (suc a)))) c h e = absurd (omega arith)
 
-pub no_escape : (e c k : ℕ) → escape_value e ≡ Some c → escape_value k ≡ escape_value 0 → e ≡ k → ⊥
+no_escape : (e c k : ℕ) → escape_value e ≡ Some c → escape_value k ≡ escape_value 0 → e ≡ k → ⊥
 no_escape e c k h none is = let n : escape_value 0 ≡ Some c = sym none ∙ ap escape_value (sym is) ∙ h in cc
 
-pub no_octal_escape : (e c : ℕ) → escape_value e ≡ Some c → 48 ≤ e → e < 52 → ⊥
+no_octal_escape : (e c : ℕ) → escape_value e ≡ Some c → 48 ≤ e → e < 52 → ⊥
 no_octal_escape e c h low high = let q : e ≡ 48 + (e - 48) = omega arith in no_octal (e - 48) c (omega arith) (ap escape_value (sym q) ∙ h)
 
 escape_sorted : (e c : ℕ) → escape_value e ≡ Some c → escape_sort e ≡ 1

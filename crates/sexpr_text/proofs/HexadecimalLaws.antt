@@ -1,5 +1,5 @@
 -- A hexadecimal body, octet by octet.
-use Rattle.std.proofs.Common.{◌≡◌, ℕ, ◌+◌, ◌<◌, ◌≤◌, true, false, Ok, Err, ◌⊎◌, inl, inr, List, [], ◌∷◌, ◌++◌, length, drop, refl, sym, ap, subst, ◌∙◌, append_assoc, append-nil, arith}
+use Rattle.std.proofs.Common.{◌≡◌, ℕ, ◌+◌, ◌≤◌, true, Ok, Err, ◌⊎◌, inl, inr, List, [], ◌∷◌, ◌++◌, length, drop, refl, sym, ap, subst, ◌∙◌, append_assoc, arith}
 use Rattle.hex.specs.declared.error.FromHexError.{FromHexError}
 use Rattle.hex.specs.declared.error.FromHexError.TheVariants.{OutOfMemory}
 use Rattle.hex.specs.Hex.{decode_of}
@@ -10,8 +10,8 @@ use Rattle.sexpr_core.specs.Spaces.{visible}
 use Rattle.sexpr_core.proofs.SpaceLaws.{all-append}
 use Rattle.sexpr_core.proofs.Gathered.{visible-append}
 use Rattle.sexpr_text.specs.Strings.{IsHexadecimal}
-use Rattle.sexpr_text.specs.Reads.{Reads, Keeps, is_hexadecimal_octet, IsNoHexadecimalOctet, IsDigitsFault}
-use Rattle.sexpr_text.proofs.Marked.{Passes, Stops, one_front, behind_opening, hexadecimal_octets}
+use Rattle.sexpr_text.specs.Reads.{Reads, Keeps, is_hexadecimal_octet, IsNoHexadecimalOctet, IsDigitsFault, Stops}
+use Rattle.sexpr_text.proofs.Marked.{Passes, one_front, behind_opening, hexadecimal_octets}
 
 pub nothing_kept : (text : List ℕ) (at : ℕ) → at ≤ length text → Keeps text at [] at
 nothing_kept text at h = record { body = []; octets = tt; spelled = refl; rest_is = refl; ordered = omega arith; within = h }

@@ -1,5 +1,5 @@
 -- Strings between marks stand in one way.
-use Rattle.std.proofs.Common.{◌≡◌, ℕ, ◌+◌, ◌-◌, ◌*◌, ◌/◌, ◌%◌, ◌<◌, ◌≤◌, ◌==◌, ◌||◌, Bool, true, false, Ok, List, [], ◌∷◌, ◌++◌, length, drop, replicate, refl, sym, ap, subst, ◌∙◌, append_assoc, append-nil, length-append, arith, inl, inr, ◌⊎◌}
+use Rattle.std.proofs.Common.{◌≡◌, ℕ, ◌+◌, ◌-◌, ◌*◌, ◌/◌, ◌%◌, ◌≤◌, ◌==◌, ◌||◌, Bool, true, false, Ok, List, [], ◌∷◌, ◌++◌, length, drop, replicate, refl, sym, ap, subst, ◌∙◌, append_assoc, append-nil, length-append, arith, inl, inr, ◌⊎◌}
 use Rattle.std.specs.List.{AllByRecursion, AllPass}
 use Rattle.std.proofs.lemmas.Bool.{cases_Bool}
 use Rattle.std.proofs.lemmas.List.{length-replicate}
@@ -16,19 +16,14 @@ use Rattle.sexpr_core.specs.Braces.{IsBase64}
 use Rattle.sexpr_core.proofs.Base64Laws.{body_octets}
 use Rattle.sexpr_core.proofs.BraceLaws.{one_packed, visible_le}
 use Rattle.sexpr_core.proofs.Gathered.{one_body}
-use Rattle.sexpr_text.specs.Strings.{pieces_text, pieces_octets, ArePieces, IsQuoted, IsHexadecimal, IsPacked, IsMarked}
-use Rattle.sexpr_text.specs.Reads.{is_hexadecimal_octet}
+use Rattle.sexpr_text.specs.Strings.{pieces_text, pieces_octets, IsQuoted, IsHexadecimal, IsPacked, IsMarked}
+use Rattle.sexpr_text.specs.Reads.{is_hexadecimal_octet, Stops}
 use Rattle.sexpr_text.proofs.Escapes.{left_pieces, none_left, are_followed, pieces_few}
 
 -- ---- where octets that pass a test end
 
 abbrev pub Passes : (ℕ → Bool) → List ℕ → Type 0
 Passes p xs = AllByRecursion (λ c. p c ≡ true) xs
-
--- the first of the octets fails the test, if there is one
-abbrev pub Stops : (ℕ → Bool) → List ℕ → Type 0
-Stops p [] = Unit {0}
-Stops p (c ∷ cs) = p c ≡ false
 
 pub one_front : (p : ℕ → Bool) (xs ys r s : List ℕ) → Passes p xs → Passes p ys → Stops p r → Stops p s → xs ++ r ≡ ys ++ s → (xs ≡ ys) × (r ≡ s)
 one_front p [] [] r s hx hy hr hs e = (refl, e)
@@ -43,7 +38,7 @@ one_front p (x ∷ xs) (y ∷ ys) r s hx hy hr hs e =
 
 -- ---- marks
 
-pub closed : (m : ℕ) (s body r : List ℕ) → s ≡ m ∷ (body ++ m ∷ []) → s ++ r ≡ m ∷ (body ++ m ∷ r)
+closed : (m : ℕ) (s body r : List ℕ) → s ≡ m ∷ (body ++ m ∷ []) → s ++ r ≡ m ∷ (body ++ m ∷ r)
 closed m s body r e = ap (λ t. t ++ r) e ∙ ap (λ t. m ∷ t) (append_assoc body (m ∷ []) r)
 
 -- what stands behind the opening mark

@@ -1,9 +1,9 @@
 -- What the reader of quoted strings has read, piece by piece.
-use Rattle.std.proofs.Common.{◌≡◌, ◌≢◌, ℕ, ◌+◌, ◌*◌, ◌<◌, ◌≤◌, Option, Some, None, List, [], ◌∷◌, ◌++◌, length, drop, refl, sym, ap, subst, ◌∙◌, append_assoc, arith, inl, inr}
+use Rattle.std.proofs.Common.{◌≡◌, ◌≢◌, ℕ, ◌+◌, ◌*◌, ◌<◌, Option, Some, None, List, [], ◌∷◌, ◌++◌, drop, refl, sym, ap, subst, ◌∙◌, append_assoc, arith, inl, inr}
 use Rattle.sexpr_core.specs.Reading.{StandsAt}
-use Rattle.sexpr_text.specs.Strings.{escape_value, Piece, raw, escaped, octal, hexadecimal, line, line_pair, piece_text, piece_octets, StartsOther, IsPiece, pieces_text, pieces_octets, ArePieces, IsQuoted}
+use Rattle.sexpr_text.specs.Strings.{escape_value, Piece, raw, escaped, octal, hexadecimal, line, line_pair, piece_text, StartsOther, IsPiece, pieces_text, pieces_octets, ArePieces, IsQuoted}
 use Rattle.sexpr_text.specs.Reads.{ReadsPiece, ReadsPieces, ReadsEscape, ReadsDigit, IsLineEnd, escape_octets}
-use Rattle.sexpr_text.proofs.Escapes.{Left, left_pieces, none_left, are_followed}
+use Rattle.sexpr_text.proofs.Escapes.{Left, left_pieces, are_followed}
 use Rattle.sexpr_text.proofs.Marked.{behind_opening}
 
 -- ---- octets one behind the other
@@ -108,17 +108,6 @@ octal_escape text at a b c low h k l = record {
   within = omega (arith, l.1.within);
 }
 
-pub behind_x : (text : List ℕ) (at to : ℕ) (octet : Option ℕ) → StandsAt text at 120 → ReadsEscape (92 ∷ 120 ∷ []) text (at + 1) octet to
-    → ReadsEscape (92 ∷ []) text at octet to
-behind_x text at to octet h r = record {
-  piece = r.piece;
-  spelled = ap (λ t. 92 ∷ t) h.spelled ∙ r.spelled;
-  meant = r.meant;
-  right = r.right;
-  forward = omega (arith, r.forward);
-  within = r.within;
-}
-
 -- ---- pieces
 
 pub raw_piece : (text : List ℕ) (at c : ℕ) (old new : List ℕ) → StandsAt text at c → c ≢ 34 → c ≢ 92 → new ≡ old ++ c ∷ [] → ReadsPiece text at old new (at + 1)
@@ -129,17 +118,6 @@ raw_piece text at c old new h n m e = record {
   right = (n, m);
   forward = omega arith;
   within = omega (arith, h.within);
-}
-
-pub escaped_piece : (text : List ℕ) (at c to : ℕ) (octet : Option ℕ) (old new : List ℕ) → StandsAt text at c → c ≡ 92 → ReadsEscape (92 ∷ []) text (at + 1) octet to
-    → new ≡ old ++ escape_octets octet → ReadsPiece text at old new to
-escaped_piece text at c to octet old new h m r e = record {
-  piece = r.piece;
-  spelled = h.spelled ∙ ap (λ k. k ∷ drop (at + 1) text) m ∙ r.spelled;
-  meant = e ∙ ap (λ t. old ++ t) (sym r.meant);
-  right = r.right;
-  forward = omega (arith, r.forward);
-  within = r.within;
 }
 
 -- what is left of the string that stands at the opening quote

@@ -1,15 +1,12 @@
 -- Strings without display hint, octet by octet.
-use Rattle.std.proofs.Common.{◌≡◌, ℕ, ◌+◌, ◌-◌, ◌*◌, ◌<◌, ◌≤◌, min, true, false, Ok, List, [], ◌∷◌, ◌++◌, length, drop, refl, sym, ap, subst, ◌∙◌, append_assoc, append-nil, arith, inl, inr}
-use Rattle.hex.specs.Hex.{decode_of}
+use Rattle.std.proofs.Common.{◌≡◌, ℕ, ◌+◌, ◌-◌, ◌*◌, ◌<◌, ◌≤◌, min, true, false, List, [], ◌∷◌, ◌++◌, length, drop, refl, sym, ap, subst, ◌∙◌, append_assoc, append-nil, arith, inl, inr}
 use Rattle.sexpr_core.specs.Reading.{StandsAt}
-use Rattle.sexpr_core.specs.Spaces.{visible}
 use Rattle.sexpr_core.specs.Braces.{ReadsBase64}
 use Rattle.sexpr_core.proofs.SpaceLaws.{all-append}
-use Rattle.sexpr_core.proofs.Gathered.{visible-append}
 use Rattle.sexpr_core.proofs.Decimal.{decimal_digit}
 use Rattle.sexpr_core.proofs.Steps.{more_capped, more_spelled}
 use Rattle.sexpr_text.specs.Strings.{is_digit, is_token_octet, IsToken, Piece, raw, escaped, octal, hexadecimal, line, line_pair, piece_text, piece_octets, StartsOther, IsPiece, pieces_text, pieces_octets, ArePieces, IsQuoted, IsPacked, IsMarked}
-use Rattle.sexpr_text.specs.Reads.{Reads, ReadsPiece, ReadsPieces, ReadsToken, Keeps, ReadsCount}
+use Rattle.sexpr_text.specs.Reads.{Reads, ReadsPiece, ReadsPieces, ReadsToken, ReadsCount}
 
 -- ---- tokens
 

@@ -9,14 +9,9 @@ use Rattle.sexpr_core.specs.declared.fault.FormFault.{FormFault}
 use Rattle.sexpr_core.specs.declared.fault.FormFault.TheVariants.{TooLong, TooDeep, Short, Bad, Trailing, Memory}
 use Rattle.sexpr_core.specs.Value.{Value, Values, decimal, depth, depths}
 use Rattle.sexpr_core.specs.Spaces.{is_whitespace, visible, Skips}
-use Rattle.sexpr_text.specs.Strings.{is_digit, IsToken, Piece, piece_text, piece_octets, IsPiece, pieces_text, pieces_octets, ArePieces, Simple, IsApart}
+use Rattle.sexpr_text.specs.Strings.{IsToken, Piece, piece_text, piece_octets, IsPiece, pieces_text, pieces_octets, ArePieces, Simple, IsApart}
 use Rattle.sexpr_text.specs.Spelling.{SpellsAs, SpellsMembers}
 use Rattle.sexpr_text.specs.Refusal.{openings}
-
--- something was read, from one offset up to another within the text
-pub record GoesOn (text : List ℕ) (at to : ℕ) : Type 0 where
-  pub forward : at < to
-  pub within : to ≤ length text
 
 -- a spelling of the octets, of one sort
 pub record Reads (P : List ℕ → List ℕ → Type 0) (text : List ℕ) (at : ℕ) (octets : List ℕ) (to : ℕ) : Type 0 where
@@ -113,10 +108,10 @@ pub record ReadsCount (text : List ℕ) (at number to : ℕ) : Type 0 where
   pub forward : at < to
   pub within : to ≤ length text
 
--- no digit stands first
-abbrev pub StartsNoDigit : List ℕ → Type 0
-StartsNoDigit [] = Unit {0}
-StartsNoDigit (c ∷ cs) = is_digit c ≡ false
+-- no octet that passes a test stands first
+abbrev pub Stops : (ℕ → Bool) → List ℕ → Type 0
+Stops p [] = Unit {0}
+Stops p (c ∷ cs) = p c ≡ false
 
 -- so many octets as they stand
 pub record ReadsOctets (text : List ℕ) (at number : ℕ) (octets : List ℕ) (to : ℕ) : Type 0 where

@@ -2,7 +2,7 @@
 
 ghost use Rattle.std.specs.Prelude.{◌≡◌, ℕ, List, ◌++◌, true, false, ◌+◌, ◌<◌, ◌≤◌, ◌⊎◌, length, drop, IfOk, IfErr, IsOkUnless};
 ghost use Rattle.sexpr_core.specs.Bounds.{IsPartFault};
-ghost use Rattle.sexpr_text.specs.Reads.{Reads, ReadsToken, ReadsCount, ReadsOctets, ReadsString, StringAt, StartsNoDigit};
+ghost use Rattle.sexpr_text.specs.Reads.{Reads, ReadsToken, ReadsCount, ReadsOctets, ReadsString, StringAt, Stops};
 ghost use Rattle.sexpr_text.specs.Strings.{is_digit, is_token_octet, IsApart, IsMarked};
 ghost use Rattle.sexpr_core.specs.Reading.{StandsAt};
 
@@ -92,7 +92,7 @@ fn read_count(text: &[u8], at: usize, first: u8) -> Count
     requires begins { StandsAt text.now at first }
     requires digit { (48 ≤ first) × (first < 58) }
     ensures read { ReadsCount text.now at result.number result.end }
-    ensures ends { (result.number ≡ 0) ⊎ StartsNoDigit (drop result.end text.now) }
+    ensures ends { (result.number ≡ 0) ⊎ Stops is_digit (drop result.end text.now) }
 {
     let mut number = (first - b'0') as usize;
     let mut i = at + 1;
