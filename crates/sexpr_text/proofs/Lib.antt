@@ -1,10 +1,13 @@
-pub mod PrintLaws
-pub mod StringLaws
 pub mod CanonicalSpelled
-pub mod PrintedSpelled
+pub mod CountedLaws
 pub mod Escapes
+pub mod HexadecimalLaws
 pub mod Marked
 pub mod OneString
 pub mod OneValue
 pub mod Openings
+pub mod PrintLaws
+pub mod PrintedSpelled
+pub mod QuotedLaws
+pub mod StringLaws
 pub mod Trees
