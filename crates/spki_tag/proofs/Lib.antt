@@ -9,4 +9,5 @@ pub mod Prefixes
 pub mod Exact
 pub mod Bounds
 pub mod Places
-pub mod Shelving
+pub mod Entries
+pub mod Sharing

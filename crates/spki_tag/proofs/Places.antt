@@ -7,8 +7,8 @@ use Rattle.std.specs.Str.{bytes_eq}
 use Rattle.spki_tag.specs.Tag.{Tag, tags}
 use Rattle.spki_tag.specs.Meet.{items}
 use Rattle.spki_tag.specs.Index.{Kind, any, strings, one, lists, kind, kinds_share, places_where}
-use Rattle.spki_tag.specs.Shelves.{is_any, is_open, is_one, is_lists, has_strings, place_if, Shelve, IsAdded, merge}
-use Rattle.spki_tag.specs.declared.index.Shelves.{Shelves}
+use Rattle.spki_tag.specs.Places.{is_any, has_many_strings, is_one, is_lists, has_strings, place_if, ArePlacesOf, IsAdded, merge}
+use Rattle.spki_tag.specs.declared.index.PlacesByKind.{PlacesByKind}
 
 -- ---- one test
 
@@ -76,7 +76,7 @@ merge-places p q apart n (t ∷ ts) = by (p t) (q t) (apart t) (merge-places p q
 
 -- ---- kinds
 
-one-shares : (octets : List ℕ) (k : Kind) → (is_one octets k || is_open k) ≡ kinds_share (one octets) k
+one-shares : (octets : List ℕ) (k : Kind) → (is_one octets k || has_many_strings k) ≡ kinds_share (one octets) k
 one-shares octets any = refl
 one-shares octets strings = refl
 one-shares octets (one other) = by (bytes_eq octets other)
@@ -86,7 +86,7 @@ one-shares octets (one other) = by (bytes_eq octets other)
     by false = refl
 one-shares octets (lists head) = refl
 
-one-apart : (octets : List ℕ) (k : Kind) → (is_one octets k && is_open k) ≡ false
+one-apart : (octets : List ℕ) (k : Kind) → (is_one octets k && has_many_strings k) ≡ false
 one-apart octets any = refl
 one-apart octets strings = refl
 one-apart octets (one other) = by (bytes_eq octets other)
@@ -118,10 +118,10 @@ lists-apart head (lists other) = by (bytes_eq head other)
 
 -- the places of what can share a string: those of the string and those of what has more strings
 pub places-of_string : (octets : List ℕ) (ts : List Tag)
-    → merge (places_where (λ t. is_one octets (kind t)) 1 ts) (places_where (λ t. is_open (kind t)) 1 ts)
+    → merge (places_where (λ t. is_one octets (kind t)) 1 ts) (places_where (λ t. has_many_strings (kind t)) 1 ts)
     ≡ places_where (λ t. kinds_share (one octets) (kind t)) 1 ts
 places-of_string octets ts =
-    merge-places (λ t. is_one octets (kind t)) (λ t. is_open (kind t)) (λ t. one-apart octets (kind t)) 1 ts
+    merge-places (λ t. is_one octets (kind t)) (λ t. has_many_strings (kind t)) (λ t. one-apart octets (kind t)) 1 ts
     ∙ places_where-same _ _ (λ t. one-shares octets (kind t)) 1 ts
 
 -- the places of what can share a list
@@ -169,7 +169,7 @@ pub items-tags : (ts : List Tag) → items (tags ts) ≡ ts
 items-tags [] = refl
 items-tags (t ∷ ts) = ap (λ us. t ∷ us) (items-tags ts)
 
--- ---- shelves
+-- ---- places
 
 push-places : (p : Tag → Bool) (n i : ℕ) (ts : List Tag) (t : Tag) (b : Bool) (old new : List ℕ) → n ≡ i + 1 → i ≡ length ts → b ≡ p t
     → old ≡ places_where p 1 ts → new ≡ old ++ place_if b n → new ≡ places_where p 1 (ts ++ t ∷ [])
@@ -177,21 +177,21 @@ push-places p n i ts t b old new at long same e f =
     let g : n ≡ 1 + length ts = omega arith in
     f ∙ (λ k. e k ++ place_if (same k) (g k)) ∙ sym (places_where-push p 1 ts t)
 
--- one more tag on its shelves
-pub shelve-push : (old new : Shelves) (ts : List Tag) (t : Tag) (place : ℕ) → place ≡ length ts + 1
-    → Shelve old ts → IsAdded old new (kind t) place → Shelve new (ts ++ t ∷ [])
-shelve-push old new ts t place at kept added = record {
+-- one more tag
+pub places-push : (old new : PlacesByKind) (ts : List Tag) (t : Tag) (place : ℕ) → place ≡ length ts + 1
+    → ArePlacesOf old ts → IsAdded old new (kind t) place → ArePlacesOf new (ts ++ t ∷ [])
+places-push old new ts t place at kept added = record {
   strings = λ q. push-places (λ u. is_one q (kind u)) place _ ts t _ _ _ at refl refl (kept.strings q) (added.strings q);
   lists = λ q. push-places (λ u. is_lists q (kind u)) place _ ts t _ _ _ at refl refl (kept.lists q) (added.lists q);
-  open_ones = push-places (λ u. is_open (kind u)) place _ ts t _ _ _ at refl refl kept.open_ones added.open_ones;
+  with_many_strings = push-places (λ u. has_many_strings (kind u)) place _ ts t _ _ _ at refl refl kept.with_many_strings added.with_many_strings;
   with_strings = push-places (λ u. has_strings (kind u)) place _ ts t _ _ _ at refl refl kept.with_strings added.with_strings;
   any = push-places (λ u. is_any (kind u)) place _ ts t _ _ _ at refl refl kept.any added.any;
   all = push-places (λ u. true) place _ ts t true _ _ at refl refl kept.all added.all;
 }
 
--- the next tag on its shelves
-pub shelve-more : (old new : Shelves) (ts : List Tag) (i : ℕ) (t : Tag) (k : Kind) → i < length ts → t ≡ get_or ts i t → k ≡ kind t
-    → Shelve old (take i ts) → IsAdded old new k (i + 1) → Shelve new (take (i + 1) ts)
-shelve-more old new ts i t k h read same kept added =
-    subst (Shelve new) (sym (take_more ts i t h ∙ ap (λ u. take i ts ++ u ∷ []) (sym read)))
-    (shelve-push old new (take i ts) t (i + 1) (omega (arith, length-take i ts)) kept (subst (λ j. IsAdded old new j (i + 1)) same added))
+-- the next tag
+pub places-more : (old new : PlacesByKind) (ts : List Tag) (i : ℕ) (t : Tag) (k : Kind) → i < length ts → t ≡ get_or ts i t → k ≡ kind t
+    → ArePlacesOf old (take i ts) → IsAdded old new k (i + 1) → ArePlacesOf new (take (i + 1) ts)
+places-more old new ts i t k h read same kept added =
+    subst (ArePlacesOf new) (sym (take_more ts i t h ∙ ap (λ u. take i ts ++ u ∷ []) (sym read)))
+    (places-push old new (take i ts) t (i + 1) (omega (arith, length-take i ts)) kept (subst (λ j. IsAdded old new j (i + 1)) same added))

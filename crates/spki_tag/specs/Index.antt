@@ -1,6 +1,6 @@
 -- Which members of a tag can have a request in common with another tag, by kind and string alone (RFC 2693, section
 -- 6.3.1).
-use Rattle.std.specs.Prelude.{ℕ, ◌+◌, Bool, true, false, if◌then◌else◌, List, [], ◌∷◌}
+use Rattle.std.specs.Prelude.{ℕ, ◌+◌, Bool, true, false, if◌then◌else◌, ◌-◌, List, [], ◌∷◌, slice_index_or}
 use Rattle.std.specs.Str.{bytes_eq}
 use Rattle.spki_tag.specs.Tag.{Tag, star, string, prefix, range, list, set}
 use Rattle.spki_tag.specs.Meet.{items}
@@ -61,3 +61,8 @@ members (set ts) = items ts
 abbrev pub places_where : (Tag → Bool) → ℕ → List Tag → List ℕ
 places_where p n [] = []
 places_where p n (t ∷ ts) = if p t then n ∷ places_where p (n + 1) ts else places_where p (n + 1) ts
+
+-- the tags at some places, the first place being 1
+abbrev pub tags_at : List Tag → List ℕ → List Tag
+tags_at ts [] = []
+tags_at ts (n ∷ ns) = slice_index_or ts (n - 1) star ∷ tags_at ts ns

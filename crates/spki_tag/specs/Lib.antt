@@ -11,4 +11,4 @@ pub mod Asks
 pub mod AskFalls
 pub mod Meet
 pub mod Index
-pub mod Shelves
+pub mod Places

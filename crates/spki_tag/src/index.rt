@@ -1,10 +1,12 @@
 //! The members of a tag by kind and string, so that a tag is met only with those that it can have a request in
 //! common with.
 
-ghost use Rattle.std.specs.Prelude.{◌≡◌, ◌+◌, ◌∷◌, ◌++◌, [], ℕ, List, IfOk, OnOk};
+ghost use Rattle.std.specs.Prelude.{◌≡◌, ◌+◌, ◌∷◌, ◌++◌, [], ℕ, List, IfOk, OnOk, false};
 ghost use Rattle.std.specs.Str.{bytes_eq};
-ghost use Rattle.spki_tag.specs.Index.{kind, may_share, members, places_where};
-ghost use Rattle.spki_tag.specs.Shelves.{kind_of, found_at, place_if, Shelve, IsAdded, merge};
+ghost use Rattle.spki_tag.specs.Tag.{Tag, tags};
+ghost use Rattle.spki_tag.specs.Meet.{meet, nothing, row};
+ghost use Rattle.spki_tag.specs.Index.{kind, may_share, members, places_where, tags_at};
+ghost use Rattle.spki_tag.specs.Places.{kind_of, found_at, place_if, ArePlacesOf, IsAdded, merge};
 
 use crate::leaf::Leaf;
 use crate::tag::{Node, Tag};
@@ -27,7 +29,7 @@ impl Tag {
 }
 
 /// Which requests a tag can have, as far as its kind and its string tell.
-#[derive(Clone, Copy)]
+#[derive(Clone, Copy, Debug)]
 enum Kind<'a> {
     /// Any: a set or `(*)`.
     Any,
@@ -58,10 +60,10 @@ impl<'a> Kind<'a> {
 }
 
 /// The places of each of some strings, in increasing order.
-type Places<'a> = BTreeMap<&'a [u8], Vec<usize>>;
+type PlacesByString<'a> = BTreeMap<&'a [u8], Vec<usize>>;
 
-/// Puts a place behind those of a string.
-fn put<'a>(map: &mut Places<'a>, string: &'a [u8], place: usize) -> Result<(), AllocError>
+/// Adds a place behind those of a string.
+fn put<'a>(map: &mut PlacesByString<'a>, string: &'a [u8], place: usize) -> Result<(), AllocError>
     ensures { OnOk result ((q : List ℕ) → found_at map.new q ≡ found_at map.old q ++ place_if (bytes_eq q string.now) place) }
 {
     map.entry(string)?.or_default().push(place)?;
@@ -69,7 +71,7 @@ fn put<'a>(map: &mut Places<'a>, string: &'a [u8], place: usize) -> Result<(), A
 }
 
 /// The places of a string.
-fn places_at<'m>(map: &'m Places<'_>, string: &[u8]) -> &'m [usize]
+fn places_at<'m>(map: &'m PlacesByString<'_>, string: &[u8]) -> &'m [usize]
     ensures { result.now ≡ found_at map.now string.now }
 {
     match map.get(string) {
@@ -99,50 +101,51 @@ fn merged(alloc: Global, xs: &[usize], ys: &[usize]) -> Result<Vec<usize>, Alloc
     Ok(joined)
 }
 
-/// The places of tags, counted from 1, in increasing order.
-#[derive(Drop)]
-struct Shelves<'a> {
-    /// Those of each string.
-    strings: Places<'a>,
-    /// Those of the lists with each head.
-    lists: Places<'a>,
+/// The places of tags, counted from 1, in increasing order, by what the tags can have.
+#[derive(Debug, Drop)]
+struct PlacesByKind<'a> {
+    /// Those of each string by itself.
+    strings: PlacesByString<'a>,
+    /// Those of lists, by head.
+    lists: PlacesByString<'a>,
     /// Those of prefixes, ranges, sets and `(*)`.
-    open_ones: Vec<usize>,
+    with_many_strings: Vec<usize>,
     /// Those of all that have strings.
     with_strings: Vec<usize>,
     /// Those of sets and `(*)`.
     any: Vec<usize>,
-    /// All.
+    /// Those of all tags.
     all: Vec<usize>,
 }
 
-impl<'a> Shelves<'a> {
-    fn new(alloc: Global) -> Shelves<'a>
-        ensures { Shelve result [] }
+impl<'a> PlacesByKind<'a> {
+    /// Those of no tags.
+    fn new(alloc: Global) -> PlacesByKind<'a>
+        ensures { ArePlacesOf result [] }
     {
-        Shelves {
+        PlacesByKind {
             strings: BTreeMap::new(alloc),
             lists: BTreeMap::new(alloc),
-            open_ones: Vec::new(alloc),
+            with_many_strings: Vec::new(alloc),
             with_strings: Vec::new(alloc),
             any: Vec::new(alloc),
             all: Vec::new(alloc),
         }
     }
 
-    /// Puts the place of a tag of this kind behind those of the same shelves.
+    /// Adds the place of a tag of this kind, which stands behind all others.
     fn add(&mut self, kind: Kind<'a>, place: usize) -> Result<(), AllocError>
         ensures { OnOk result (IsAdded self.old self.new (kind_of kind.entry) place) }
     {
         self.all.push(place)?;
         match kind {
             Kind::Any => {
-                self.open_ones.push(place)?;
+                self.with_many_strings.push(place)?;
                 self.with_strings.push(place)?;
                 self.any.push(place)?;
             }
             Kind::Strings => {
-                self.open_ones.push(place)?;
+                self.with_many_strings.push(place)?;
                 self.with_strings.push(place)?;
             }
             Kind::One(octets) => {
@@ -153,31 +156,32 @@ impl<'a> Shelves<'a> {
         }
         Ok(())
     }
-}
 
-/// The shelves of the places of tags.
-fn shelves_of(alloc: Global, tags: &[Tag]) -> Result<Shelves<'_>, AllocError>
-    ensures { IfOk result (λ shelves. Shelve shelves tags.now) }
-{
-    let mut shelves = Shelves::new(alloc);
-    for (i, tag) in tags.iter().enumerate() {
-        shelves.add(Kind::of(tag), i + 1)?;
+    /// The places of these tags.
+    fn of(alloc: Global, tags: &'a [Tag]) -> Result<PlacesByKind<'a>, AllocError>
+        ensures { IfOk result (λ places. ArePlacesOf places tags.now) }
+    {
+        let mut places = PlacesByKind::new(alloc);
+        for (i, tag) in tags.iter().enumerate() {
+            places.add(Kind::of(tag), i + 1)?;
+        }
+        Ok(places)
     }
-    Ok(shelves)
 }
 
-/// An index of the members of a tag, of which each has a place, counted from 1. In a contract it is the tag.
-#[derive(Drop)]
+/// An index of the members of a set by kind and string (RFC 2693, section 6.3.1). Each member has a place, counted
+/// from 1. In a contract the index is the tag.
+#[derive(Debug, Drop)]
 pub struct Index<'a> {
     tag: &'a Tag,
-    shelves: Shelves<'a>,
+    places: PlacesByKind<'a>,
 }
 
 impl<'a> Model for Index<'a> {
     ghost use Rattle.spki_tag.specs.Tag.{Tag as Written};
     ghost use Rattle.spki_tag.specs.Codes.{tag_code};
     ghost use Rattle.spki_tag.specs.Index.{members};
-    ghost use Rattle.spki_tag.specs.Shelves.{Shelve};
+    ghost use Rattle.spki_tag.specs.Places.{ArePlacesOf};
 
     ghost Value = { Written };
 
@@ -185,7 +189,7 @@ impl<'a> Model for Index<'a> {
 
     ghost view = { λ index. index.tag.now };
 
-    ghost invariant = { λ index. Shelve index.shelves (members index.tag.now) };
+    ghost invariant = { λ index. ArePlacesOf index.places (members index.tag.now) };
 }
 
 impl<'a> Index<'a> {
@@ -197,8 +201,15 @@ impl<'a> Index<'a> {
     pub fn of(alloc: Global, tag: &'a Tag) -> Result<Index<'a>, AllocError>
         ensures { IfOk result (λ index. index ≡ tag.now) }
     {
-        let shelves = shelves_of(alloc, tag.members())?;
-        Ok(Index { tag, shelves })
+        let places = PlacesByKind::of(alloc, tag.members())?;
+        Ok(Index { tag, places })
+    }
+
+    /// The members, in order.
+    pub fn members(&self) -> &'a [Tag]
+        ensures { result.now ≡ members self.now }
+    {
+        self.tag.members()
     }
 
     /// The places of the members that can have a request in common with a tag, as far as kinds and strings tell, in
@@ -213,18 +224,30 @@ impl<'a> Index<'a> {
         ensures { IfOk result (λ places. places.items ≡ places_where (may_share tag.now) 1 (members self.now)) }
     {
         match Kind::of(tag) {
-            Kind::Any => Vec::from_slice(alloc, self.shelves.all.as_slice()),
-            Kind::Strings => Vec::from_slice(alloc, self.shelves.with_strings.as_slice()),
+            Kind::Any => Vec::from_slice(alloc, self.places.all.as_slice()),
+            Kind::Strings => Vec::from_slice(alloc, self.places.with_strings.as_slice()),
             Kind::One(octets) => merged(
                 alloc,
-                places_at(&self.shelves.strings, octets),
-                self.shelves.open_ones.as_slice(),
+                places_at(&self.places.strings, octets),
+                self.places.with_many_strings.as_slice(),
             ),
             Kind::Lists(head) => merged(
                 alloc,
-                places_at(&self.shelves.lists, head),
-                self.shelves.any.as_slice(),
+                places_at(&self.places.lists, head),
+                self.places.any.as_slice(),
             ),
         }
     }
 }
+
+/// Two tags that can have no request in common, as far as their kinds and strings tell, leave nothing together.
+pub fn meet_apart()
+    ensures { (t u : Tag) → may_share t u ≡ false → meet t u ≡ nothing }
+{}
+
+/// A tag leaves of some tags, one after the other, what it leaves of those at the places where they may share a
+/// request with it.
+pub fn row_at_places()
+    ensures { (t : Tag) (us : List Tag)
+        → row (meet t) (tags us) ≡ row (meet t) (tags (tags_at us (places_where (may_share t) 1 us))) }
+{}

@@ -1,4 +1,4 @@
--- What one more place changes on the shelves of an index.
+-- What one more place changes on the places of an index.
 use Rattle.std.proofs.Common.{◌≡◌, ℕ, true, false, List, [], ◌∷◌, ◌++◌, Vec, Option, Some, None, sym, ap, ◌∙◌, append-nil, ◌⊎◌, inl, inr}
 use Rattle.std.specs.Prelude.{◌≢◌}
 use Rattle.std.specs.Borrow.{Bor}
@@ -10,7 +10,7 @@ use Rattle.std.specs.Ordering.{nat_cmp, eq_by_cmp}
 use Rattle.std.specs.Str.{bytes_eq}
 use Rattle.std.specs.declared.alloc.Global.{Global}
 use Rattle.std.proofs.lemmas.Map.Text.{btree_map_str_after}
-use Rattle.spki_tag.specs.Shelves.{place_if}
+use Rattle.spki_tag.specs.Places.{place_if}
 
 abbrev Entries : Type 0
 Entries = List (Bor (List ℕ) × Vec ℕ Global)

@@ -9,7 +9,7 @@ use Rattle.std.specs.Str.{bytes_eq}
 use Rattle.std.specs.declared.alloc.Global.{Global}
 use Rattle.spki_tag.specs.declared.index.Kind.{Kind as KindSeen}
 use Rattle.spki_tag.specs.declared.index.Kind.TheVariants.{Any, Strings, One, Lists}
-use Rattle.spki_tag.specs.declared.index.Shelves.{Shelves}
+use Rattle.spki_tag.specs.declared.index.PlacesByKind.{PlacesByKind}
 use Rattle.spki_tag.specs.Tag.{Tag}
 use Rattle.spki_tag.specs.Index.{Kind, any, strings, one, lists, kind, kinds_share, places_where}
 
@@ -20,7 +20,7 @@ kind_of Strings = strings
 kind_of (One octets) = one octets.now
 kind_of (Lists head) = lists head.now
 
--- ---- kinds on one shelf
+-- ---- kinds with places of their own
 
 abbrev pub is_any : Kind → Bool
 is_any any = true
@@ -29,11 +29,11 @@ is_any (one octets) = false
 is_any (lists head) = false
 
 -- it has strings, and not just one
-abbrev pub is_open : Kind → Bool
-is_open any = true
-is_open strings = true
-is_open (one octets) = false
-is_open (lists head) = false
+abbrev pub has_many_strings : Kind → Bool
+has_many_strings any = true
+has_many_strings strings = true
+has_many_strings (one octets) = false
+has_many_strings (lists head) = false
 
 abbrev pub is_one : List ℕ → Kind → Bool
 is_one octets any = false
@@ -51,7 +51,7 @@ is_lists head (lists other) = bytes_eq head other
 abbrev pub has_strings : Kind → Bool
 has_strings k = kinds_share strings k
 
--- ---- shelves
+-- ---- places
 
 -- the places at a string
 abbrev pub found_at : BTreeMap (Bor (List ℕ)) (Vec ℕ Global) → List ℕ → List ℕ
@@ -61,20 +61,20 @@ found_at m q = option_map_or (λ places. places.items) (get_by (λ k. slice_cmp 
 abbrev pub place_if : Bool → ℕ → List ℕ
 place_if b n = if b then n ∷ [] else []
 
--- The shelves have the places of some tags, from 1 on.
-pub record Shelve (s : Shelves) (ts : List Tag) : Type 0 where
+-- The places are those of some tags, the first place being 1.
+pub record ArePlacesOf (s : PlacesByKind) (ts : List Tag) : Type 0 where
   pub strings : (q : List ℕ) → found_at s.strings q ≡ places_where (λ t. is_one q (kind t)) 1 ts
   pub lists : (q : List ℕ) → found_at s.lists q ≡ places_where (λ t. is_lists q (kind t)) 1 ts
-  pub open_ones : s.open_ones.items ≡ places_where (λ t. is_open (kind t)) 1 ts
+  pub with_many_strings : s.with_many_strings.items ≡ places_where (λ t. has_many_strings (kind t)) 1 ts
   pub with_strings : s.with_strings.items ≡ places_where (λ t. has_strings (kind t)) 1 ts
   pub any : s.any.items ≡ places_where (λ t. is_any (kind t)) 1 ts
   pub all : s.all.items ≡ places_where (λ t. true) 1 ts
 
--- A place of a kind came to the shelves.
-pub record IsAdded (old new : Shelves) (k : Kind) (place : ℕ) : Type 0 where
+-- The place of a tag of some kind came behind the others.
+pub record IsAdded (old new : PlacesByKind) (k : Kind) (place : ℕ) : Type 0 where
   pub strings : (q : List ℕ) → found_at new.strings q ≡ found_at old.strings q ++ place_if (is_one q k) place
   pub lists : (q : List ℕ) → found_at new.lists q ≡ found_at old.lists q ++ place_if (is_lists q k) place
-  pub open_ones : new.open_ones.items ≡ old.open_ones.items ++ place_if (is_open k) place
+  pub with_many_strings : new.with_many_strings.items ≡ old.with_many_strings.items ++ place_if (has_many_strings k) place
   pub with_strings : new.with_strings.items ≡ old.with_strings.items ++ place_if (has_strings k) place
   pub any : new.any.items ≡ old.any.items ++ place_if (is_any k) place
   pub all : new.all.items ≡ old.all.items ++ place ∷ []
