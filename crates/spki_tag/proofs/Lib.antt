@@ -8,3 +8,6 @@ pub mod Limits
 pub mod Prefixes
 pub mod Exact
 pub mod Bounds
+pub mod Places
+pub mod Entries
+pub mod Sharing

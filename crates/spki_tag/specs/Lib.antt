@@ -10,3 +10,5 @@ pub mod NodeFalls
 pub mod Asks
 pub mod AskFalls
 pub mod Meet
+pub mod Index
+pub mod Places

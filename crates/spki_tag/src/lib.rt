@@ -4,6 +4,7 @@
 mod asking;
 mod fault;
 mod holding;
+mod index;
 mod laws;
 mod leaf;
 mod meeting;
@@ -14,6 +15,7 @@ mod tag;
 mod writing;
 
 pub use fault::TagFault;
+pub use index::{Index, meet_apart, row_at_places};
 pub use laws::{one_request, one_tag, readings_agree};
 pub use meeting::{meet_bounded, meet_exact, prefix_is_range};
 pub use moment::{is_date, is_time};

@@ -1,0 +1,197 @@
+-- The places of members that pass a test, and those of two tests joined.
+use Rattle.std.proofs.Common.{◌≡◌, ℕ, suc, ◌+◌, ◌<◌, ◌≤◌, Bool, true, false, ◌||◌, ◌&&◌, List, [], ◌∷◌, ◌++◌, length, take, drop, get_or, refl, sym, ap, ◌∙◌, subst, arith, ◌-◌, append-nil, append_assoc, length-drop, length-take, ◌⊎◌, inl, inr}
+use Rattle.std.proofs.lemmas.Bool.{lt-ltb, le-ltb}
+use Rattle.std.proofs.lemmas.List.{take_all, drop_all, take_more}
+use Rattle.std.specs.Prelude.{if◌then◌else◌, nat_lt}
+use Rattle.std.specs.Str.{bytes_eq}
+use Rattle.spki_tag.specs.Tag.{Tag, tags}
+use Rattle.spki_tag.specs.Meet.{items}
+use Rattle.spki_tag.specs.Index.{Kind, any, strings, one, lists, kind, kinds_share, places_where}
+use Rattle.spki_tag.specs.Places.{is_any, has_many_strings, is_one, is_lists, has_strings, place_if, ArePlacesOf, IsAdded, merge}
+use Rattle.spki_tag.specs.declared.index.PlacesByKind.{PlacesByKind}
+
+-- ---- one test
+
+-- a tag at the end of the list
+pub places_where-push : (p : Tag → Bool) (n : ℕ) (ts : List Tag) (t : Tag)
+    → places_where p n (ts ++ t ∷ []) ≡ places_where p n ts ++ place_if (p t) (n + length ts)
+places_where-push p n [] t = ap (λ m. place_if (p t) m) (omega arith)
+places_where-push p n (u ∷ ts) t =
+    by (p u) (places_where-push p (n + 1) ts t ∙ ap (λ m. places_where p (n + 1) ts ++ place_if (p t) m) (omega arith))
+  where
+    by : (b : Bool)
+        → places_where p (n + 1) (ts ++ t ∷ []) ≡ places_where p (n + 1) ts ++ place_if (p t) (n + suc (length ts))
+        → (if b then n ∷ places_where p (n + 1) (ts ++ t ∷ []) else places_where p (n + 1) (ts ++ t ∷ []))
+        ≡ (if b then n ∷ places_where p (n + 1) ts else places_where p (n + 1) ts) ++ place_if (p t) (n + suc (length ts))
+    by true e = ap (λ ns. n ∷ ns) e
+    by false e = e
+
+-- tests that are true of the same tags
+pub places_where-same : (p q : Tag → Bool) → ((t : Tag) → p t ≡ q t) → (n : ℕ) (ts : List Tag)
+    → places_where p n ts ≡ places_where q n ts
+places_where-same p q same n [] = refl
+places_where-same p q same n (t ∷ ts) =
+    λ i. if same t i then n ∷ places_where-same p q same (n + 1) ts i else places_where-same p q same (n + 1) ts i
+
+-- ---- two tests
+
+-- the first of a list, if there is one, is above a number
+abbrev StartsAbove : ℕ → List ℕ → Type 0
+StartsAbove n [] = Unit {0}
+StartsAbove n (x ∷ xs) = n < x
+
+starts_above : (p : Tag → Bool) (n m : ℕ) (ts : List Tag) → n < m → StartsAbove n (places_where p m ts)
+starts_above p n m [] h = tt
+starts_above p n m (t ∷ ts) h = by (p t) (starts_above p n (m + 1) ts (omega arith))
+  where
+    by : (b : Bool) → StartsAbove n (places_where p (m + 1) ts)
+        → StartsAbove n (if b then m ∷ places_where p (m + 1) ts else places_where p (m + 1) ts)
+    by true k = h
+    by false k = k
+
+merge-left : (n : ℕ) (xs ys : List ℕ) → StartsAbove n ys → merge (n ∷ xs) ys ≡ n ∷ merge xs ys
+merge-left n xs [] h = refl
+merge-left n xs (y ∷ ys) h =
+    ap (λ b. if b then n ∷ merge xs (y ∷ ys) else y ∷ merge (n ∷ xs) ys) (lt-ltb n y h)
+
+merge-right : (n : ℕ) (xs ys : List ℕ) → StartsAbove n xs → merge xs (n ∷ ys) ≡ n ∷ merge xs ys
+merge-right n [] ys h = refl
+merge-right n (x ∷ xs) ys h =
+    ap (λ b. if b then x ∷ merge xs (n ∷ ys) else n ∷ merge (x ∷ xs) ys) (le-ltb x n (omega arith))
+
+-- the places of two tests that are never both true, joined
+pub merge-places : (p q : Tag → Bool) → ((t : Tag) → (p t && q t) ≡ false) → (n : ℕ) (ts : List Tag)
+    → merge (places_where p n ts) (places_where q n ts) ≡ places_where (λ t. p t || q t) n ts
+merge-places p q apart n [] = refl
+merge-places p q apart n (t ∷ ts) = by (p t) (q t) (apart t) (merge-places p q apart (n + 1) ts)
+  where
+    by : (a b : Bool) → (a && b) ≡ false
+        → merge (places_where p (n + 1) ts) (places_where q (n + 1) ts) ≡ places_where (λ t. p t || q t) (n + 1) ts
+        → merge (if a then n ∷ places_where p (n + 1) ts else places_where p (n + 1) ts) (if b then n ∷ places_where q (n + 1) ts else places_where q (n + 1) ts)
+        ≡ (if a || b then n ∷ places_where (λ t. p t || q t) (n + 1) ts else places_where (λ t. p t || q t) (n + 1) ts)
+    by true true e k = absurd cc
+    by true false e k = merge-left n _ _ (starts_above q n (n + 1) ts (omega arith)) ∙ ap (λ ns. n ∷ ns) k
+    by false true e k = merge-right n _ _ (starts_above p n (n + 1) ts (omega arith)) ∙ ap (λ ns. n ∷ ns) k
+    by false false e k = k
+
+-- ---- kinds
+
+one-shares : (octets : List ℕ) (k : Kind) → (is_one octets k || has_many_strings k) ≡ kinds_share (one octets) k
+one-shares octets any = refl
+one-shares octets strings = refl
+one-shares octets (one other) = by (bytes_eq octets other)
+  where
+    by : (b : Bool) → (b || false) ≡ b
+    by true = refl
+    by false = refl
+one-shares octets (lists head) = refl
+
+one-apart : (octets : List ℕ) (k : Kind) → (is_one octets k && has_many_strings k) ≡ false
+one-apart octets any = refl
+one-apart octets strings = refl
+one-apart octets (one other) = by (bytes_eq octets other)
+  where
+    by : (b : Bool) → (b && false) ≡ false
+    by true = refl
+    by false = refl
+one-apart octets (lists head) = refl
+
+lists-share : (head : List ℕ) (k : Kind) → (is_lists head k || is_any k) ≡ kinds_share (lists head) k
+lists-share head any = refl
+lists-share head strings = refl
+lists-share head (one octets) = refl
+lists-share head (lists other) = by (bytes_eq head other)
+  where
+    by : (b : Bool) → (b || false) ≡ b
+    by true = refl
+    by false = refl
+
+lists-apart : (head : List ℕ) (k : Kind) → (is_lists head k && is_any k) ≡ false
+lists-apart head any = refl
+lists-apart head strings = refl
+lists-apart head (one octets) = refl
+lists-apart head (lists other) = by (bytes_eq head other)
+  where
+    by : (b : Bool) → (b && false) ≡ false
+    by true = refl
+    by false = refl
+
+-- the places of what can share a string: those of the string and those of what has more strings
+pub places-of_string : (octets : List ℕ) (ts : List Tag)
+    → merge (places_where (λ t. is_one octets (kind t)) 1 ts) (places_where (λ t. has_many_strings (kind t)) 1 ts)
+    ≡ places_where (λ t. kinds_share (one octets) (kind t)) 1 ts
+places-of_string octets ts =
+    merge-places (λ t. is_one octets (kind t)) (λ t. has_many_strings (kind t)) (λ t. one-apart octets (kind t)) 1 ts
+    ∙ places_where-same _ _ (λ t. one-shares octets (kind t)) 1 ts
+
+-- the places of what can share a list
+pub places-of_lists : (head : List ℕ) (ts : List Tag)
+    → merge (places_where (λ t. is_lists head (kind t)) 1 ts) (places_where (λ t. is_any (kind t)) 1 ts)
+    ≡ places_where (λ t. kinds_share (lists head) (kind t)) 1 ts
+places-of_lists head ts =
+    merge-places (λ t. is_lists head (kind t)) (λ t. is_any (kind t)) (λ t. lists-apart head (kind t)) 1 ts
+    ∙ places_where-same _ _ (λ t. lists-share head (kind t)) 1 ts
+
+-- ---- joining, step by step
+
+merge-nil : (xs : List ℕ) → merge xs [] ≡ xs
+merge-nil [] = refl
+merge-nil (x ∷ xs) = ap (λ ys. x ∷ ys) (merge-nil xs)
+
+take-rest : (i : ℕ) (xs : List ℕ) → take (length xs - i) (drop i xs) ≡ drop i xs
+take-rest i xs = take_all (length xs - i) (drop i xs) (omega (arith, length-drop i xs))
+
+-- an end is reached
+merge-end : (xs ys : List ℕ) (i j : ℕ) → (length xs ≤ i) ⊎ (length ys ≤ j)
+    → merge (drop i xs) (drop j ys) ≡ drop i xs ++ drop j ys
+merge-end xs ys i j (inl h) = rw (drop_all i xs h) refl
+merge-end xs ys i j (inr h) = rw (drop_all j ys h) (merge-nil (drop i xs) ∙ sym (append-nil (drop i xs)))
+
+-- what is left of both goes behind what is joined so far
+pub joined-end : (xs ys so_far with_xs with_both whole : List ℕ) (i j : ℕ) → (length xs ≤ i) ⊎ (length ys ≤ j)
+    → so_far ++ merge (drop i xs) (drop j ys) ≡ whole
+    → with_xs ≡ so_far ++ take (length xs - i) (drop i xs)
+    → with_both ≡ with_xs ++ take (length ys - j) (drop j ys)
+    → with_both ≡ whole
+joined-end xs ys so_far with_xs with_both whole i j h e f g =
+    g ∙ (λ k. (f ∙ ap (λ r. so_far ++ r) (take-rest i xs)) k ++ take-rest j ys k)
+    ∙ append_assoc so_far (drop i xs) (drop j ys) ∙ ap (λ r. so_far ++ r) (sym (merge-end xs ys i j h)) ∙ e
+
+-- the lesser of the first two goes first
+pub merge-step : (x y : ℕ) (xs ys : List ℕ) (b : Bool) → nat_lt x y ≡ b
+    → merge (x ∷ xs) (y ∷ ys) ≡ (if b then x ∷ merge xs (y ∷ ys) else y ∷ merge (x ∷ xs) ys)
+merge-step x y xs ys b e = ap (λ c. if c then x ∷ merge xs (y ∷ ys) else y ∷ merge (x ∷ xs) ys) e
+
+-- ---- members
+
+-- the members of a list of tags are the list
+pub items-tags : (ts : List Tag) → items (tags ts) ≡ ts
+items-tags [] = refl
+items-tags (t ∷ ts) = ap (λ us. t ∷ us) (items-tags ts)
+
+-- ---- places
+
+push-places : (p : Tag → Bool) (n i : ℕ) (ts : List Tag) (t : Tag) (b : Bool) (old new : List ℕ) → n ≡ i + 1 → i ≡ length ts → b ≡ p t
+    → old ≡ places_where p 1 ts → new ≡ old ++ place_if b n → new ≡ places_where p 1 (ts ++ t ∷ [])
+push-places p n i ts t b old new at long same e f =
+    let g : n ≡ 1 + length ts = omega arith in
+    f ∙ (λ k. e k ++ place_if (same k) (g k)) ∙ sym (places_where-push p 1 ts t)
+
+-- one more tag
+pub places-push : (old new : PlacesByKind) (ts : List Tag) (t : Tag) (place : ℕ) → place ≡ length ts + 1
+    → ArePlacesOf old ts → IsAdded old new (kind t) place → ArePlacesOf new (ts ++ t ∷ [])
+places-push old new ts t place at kept added = record {
+  strings = λ q. push-places (λ u. is_one q (kind u)) place _ ts t _ _ _ at refl refl (kept.strings q) (added.strings q);
+  lists = λ q. push-places (λ u. is_lists q (kind u)) place _ ts t _ _ _ at refl refl (kept.lists q) (added.lists q);
+  with_many_strings = push-places (λ u. has_many_strings (kind u)) place _ ts t _ _ _ at refl refl kept.with_many_strings added.with_many_strings;
+  with_strings = push-places (λ u. has_strings (kind u)) place _ ts t _ _ _ at refl refl kept.with_strings added.with_strings;
+  any = push-places (λ u. is_any (kind u)) place _ ts t _ _ _ at refl refl kept.any added.any;
+  all = push-places (λ u. true) place _ ts t true _ _ at refl refl kept.all added.all;
+}
+
+-- the next tag
+pub places-more : (old new : PlacesByKind) (ts : List Tag) (i : ℕ) (t : Tag) (k : Kind) → i < length ts → t ≡ get_or ts i t → k ≡ kind t
+    → ArePlacesOf old (take i ts) → IsAdded old new k (i + 1) → ArePlacesOf new (take (i + 1) ts)
+places-more old new ts i t k h read same kept added =
+    subst (ArePlacesOf new) (sym (take_more ts i t h ∙ ap (λ u. take i ts ++ u ∷ []) (sym read)))
+    (places-push old new (take i ts) t (i + 1) (omega (arith, length-take i ts)) kept (subst (λ j. IsAdded old new j (i + 1)) same added))

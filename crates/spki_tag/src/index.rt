@@ -1,0 +1,253 @@
+//! The members of a tag by kind and string, so that a tag is met only with those that it can have a request in
+//! common with.
+
+ghost use Rattle.std.specs.Prelude.{◌≡◌, ◌+◌, ◌∷◌, ◌++◌, [], ℕ, List, IfOk, OnOk, false};
+ghost use Rattle.std.specs.Str.{bytes_eq};
+ghost use Rattle.spki_tag.specs.Tag.{Tag, tags};
+ghost use Rattle.spki_tag.specs.Meet.{meet, nothing, row};
+ghost use Rattle.spki_tag.specs.Index.{kind, may_share, members, places_where, tags_at};
+ghost use Rattle.spki_tag.specs.Places.{kind_of, found_at, place_if, ArePlacesOf, IsAdded, merge};
+
+use crate::leaf::Leaf;
+use crate::tag::{Node, Tag};
+use std::alloc::{AllocError, Global};
+use std::collections::BTreeMap;
+use std::marker::Model;
+use std::slice;
+
+impl Tag {
+    /// The members of a set, in order. A tag that is no set counts as its only member.
+    pub(crate) fn members(&self) -> &[Tag]
+        ensures { result.now ≡ members self.now }
+    {
+        match &self.node {
+            Node::Leaf(_) => slice::from_ref(self),
+            Node::List(_, _) => slice::from_ref(self),
+            Node::Set(members) => members.as_slice(),
+        }
+    }
+}
+
+/// Which requests a tag can have, as far as its kind and its string tell.
+#[derive(Clone, Copy, Debug)]
+enum Kind<'a> {
+    /// Any: a set or `(*)`.
+    Any,
+    /// Strings: a prefix or a range.
+    Strings,
+    /// One string.
+    One(&'a [u8]),
+    /// Lists with one head.
+    Lists(&'a [u8]),
+}
+
+impl<'a> Kind<'a> {
+    /// The kind of a tag.
+    fn of(tag: &'a Tag) -> Kind<'a>
+        ensures { kind_of result ≡ kind tag.now }
+    {
+        match &tag.node {
+            Node::Leaf(leaf) => match leaf {
+                Leaf::Star => Kind::Any,
+                Leaf::String(octets) => Kind::One(octets.as_slice()),
+                Leaf::Prefix(_) => Kind::Strings,
+                Leaf::Range(_, _, _) => Kind::Strings,
+            },
+            Node::List(head, _) => Kind::Lists(head.as_slice()),
+            Node::Set(_) => Kind::Any,
+        }
+    }
+}
+
+/// The places of each of some strings, in increasing order.
+type PlacesByString<'a> = BTreeMap<&'a [u8], Vec<usize>>;
+
+/// Adds a place behind those of a string.
+fn put<'a>(map: &mut PlacesByString<'a>, string: &'a [u8], place: usize) -> Result<(), AllocError>
+    ensures { OnOk result ((q : List ℕ) → found_at map.new q ≡ found_at map.old q ++ place_if (bytes_eq q string.now) place) }
+{
+    map.entry(string)?.or_default().push(place)?;
+    Ok(())
+}
+
+/// The places of a string.
+fn places_at<'m>(map: &'m PlacesByString<'_>, string: &[u8]) -> &'m [usize]
+    ensures { result.now ≡ found_at map.now string.now }
+{
+    match map.get(string) {
+        None => &[],
+        Some(places) => places.as_slice(),
+    }
+}
+
+/// Two lists in increasing order, joined in that order.
+fn merged(alloc: Global, xs: &[usize], ys: &[usize]) -> Result<Vec<usize>, AllocError>
+    ensures { IfOk result (λ joined. joined.items ≡ merge xs.now ys.now) }
+{
+    let mut joined = Vec::new(alloc);
+    let mut i = 0;
+    let mut j = 0;
+    while i < xs.len() && j < ys.len() {
+        if xs[i] < ys[j] {
+            joined.push(xs[i])?;
+            i += 1;
+        } else {
+            joined.push(ys[j])?;
+            j += 1;
+        }
+    }
+    joined.extend_from_slice(&xs[i..])?;
+    joined.extend_from_slice(&ys[j..])?;
+    Ok(joined)
+}
+
+/// The places of tags, counted from 1, in increasing order, by what the tags can have.
+#[derive(Debug, Drop)]
+struct PlacesByKind<'a> {
+    /// Those of each string by itself.
+    strings: PlacesByString<'a>,
+    /// Those of lists, by head.
+    lists: PlacesByString<'a>,
+    /// Those of prefixes, ranges, sets and `(*)`.
+    with_many_strings: Vec<usize>,
+    /// Those of all that have strings.
+    with_strings: Vec<usize>,
+    /// Those of sets and `(*)`.
+    any: Vec<usize>,
+    /// Those of all tags.
+    all: Vec<usize>,
+}
+
+impl<'a> PlacesByKind<'a> {
+    /// Those of no tags.
+    fn new(alloc: Global) -> PlacesByKind<'a>
+        ensures { ArePlacesOf result [] }
+    {
+        PlacesByKind {
+            strings: BTreeMap::new(alloc),
+            lists: BTreeMap::new(alloc),
+            with_many_strings: Vec::new(alloc),
+            with_strings: Vec::new(alloc),
+            any: Vec::new(alloc),
+            all: Vec::new(alloc),
+        }
+    }
+
+    /// Adds the place of a tag of this kind, which stands behind all others.
+    fn add(&mut self, kind: Kind<'a>, place: usize) -> Result<(), AllocError>
+        ensures { OnOk result (IsAdded self.old self.new (kind_of kind.entry) place) }
+    {
+        self.all.push(place)?;
+        match kind {
+            Kind::Any => {
+                self.with_many_strings.push(place)?;
+                self.with_strings.push(place)?;
+                self.any.push(place)?;
+            }
+            Kind::Strings => {
+                self.with_many_strings.push(place)?;
+                self.with_strings.push(place)?;
+            }
+            Kind::One(octets) => {
+                put(&mut self.strings, octets, place)?;
+                self.with_strings.push(place)?;
+            }
+            Kind::Lists(head) => put(&mut self.lists, head, place)?,
+        }
+        Ok(())
+    }
+
+    /// The places of these tags.
+    fn of(alloc: Global, tags: &'a [Tag]) -> Result<PlacesByKind<'a>, AllocError>
+        ensures { IfOk result (λ places. ArePlacesOf places tags.now) }
+    {
+        let mut places = PlacesByKind::new(alloc);
+        for (i, tag) in tags.iter().enumerate() {
+            places.add(Kind::of(tag), i + 1)?;
+        }
+        Ok(places)
+    }
+}
+
+/// An index of the members of a set by kind and string (RFC 2693, section 6.3.1). Each member has a place, counted
+/// from 1. In a contract the index is the tag.
+#[derive(Debug, Drop)]
+pub struct Index<'a> {
+    tag: &'a Tag,
+    places: PlacesByKind<'a>,
+}
+
+impl<'a> Model for Index<'a> {
+    ghost use Rattle.spki_tag.specs.Tag.{Tag as Written};
+    ghost use Rattle.spki_tag.specs.Codes.{tag_code};
+    ghost use Rattle.spki_tag.specs.Index.{members};
+    ghost use Rattle.spki_tag.specs.Places.{ArePlacesOf};
+
+    ghost Value = { Written };
+
+    ghost coded = { tag_code };
+
+    ghost view = { λ index. index.tag.now };
+
+    ghost invariant = { λ index. ArePlacesOf index.places (members index.tag.now) };
+}
+
+impl<'a> Index<'a> {
+    /// The index of the members of a set. A tag that is no set counts as its only member.
+    ///
+    /// # Errors
+    ///
+    /// `AllocError` where memory ran out.
+    pub fn of(alloc: Global, tag: &'a Tag) -> Result<Index<'a>, AllocError>
+        ensures { IfOk result (λ index. index ≡ tag.now) }
+    {
+        let places = PlacesByKind::of(alloc, tag.members())?;
+        Ok(Index { tag, places })
+    }
+
+    /// The members, in order.
+    pub fn members(&self) -> &'a [Tag]
+        ensures { result.now ≡ members self.now }
+    {
+        self.tag.members()
+    }
+
+    /// The places of the members that can have a request in common with a tag, as far as kinds and strings tell, in
+    /// increasing order: to a string those of the same string, of prefixes and of ranges; to a list those of the
+    /// lists with the same head; to a prefix or a range those of all strings, prefixes and ranges; to a set or
+    /// `(*)` all. If the index is that of `(*)`, its place is among them.
+    ///
+    /// # Errors
+    ///
+    /// `AllocError` where memory ran out.
+    pub fn places(&self, alloc: Global, tag: &Tag) -> Result<Vec<usize>, AllocError>
+        ensures { IfOk result (λ places. places.items ≡ places_where (may_share tag.now) 1 (members self.now)) }
+    {
+        match Kind::of(tag) {
+            Kind::Any => Vec::from_slice(alloc, self.places.all.as_slice()),
+            Kind::Strings => Vec::from_slice(alloc, self.places.with_strings.as_slice()),
+            Kind::One(octets) => merged(
+                alloc,
+                places_at(&self.places.strings, octets),
+                self.places.with_many_strings.as_slice(),
+            ),
+            Kind::Lists(head) => merged(
+                alloc,
+                places_at(&self.places.lists, head),
+                self.places.any.as_slice(),
+            ),
+        }
+    }
+}
+
+/// Two tags that can have no request in common, as far as their kinds and strings tell, leave nothing together.
+pub fn meet_apart()
+    ensures { (t u : Tag) → may_share t u ≡ false → meet t u ≡ nothing }
+{}
+
+/// A tag leaves of some tags, one after the other, what it leaves of those at the places where they may share a
+/// request with it.
+pub fn row_at_places()
+    ensures { (t : Tag) (us : List Tag)
+        → row (meet t) (tags us) ≡ row (meet t) (tags (tags_at us (places_where (may_share t) 1 us))) }
+{}
