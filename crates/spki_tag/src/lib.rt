@@ -6,14 +6,17 @@ mod fault;
 mod holding;
 mod laws;
 mod leaf;
+mod leaf_meeting;
+mod limit_meeting;
 mod meeting;
 mod moment;
+mod parts;
 mod reading;
 mod request;
 mod tag;
 mod writing;
 
-pub use fault::TagFault;
+pub use fault::{MeetFault, TagFault};
 pub use laws::{one_request, one_tag, readings_agree};
 pub use meeting::{meet_bounded, meet_exact, prefix_is_range};
 pub use moment::{is_date, is_time};
