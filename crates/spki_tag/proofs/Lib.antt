@@ -10,3 +10,6 @@ pub mod Exact
 pub mod Bounds
 pub mod Normal
 pub mod Above
+pub mod Written
+pub mod Depth
+pub mod NormalTag
