@@ -13,3 +13,4 @@ pub mod Above
 pub mod Written
 pub mod Depth
 pub mod NormalTag
+pub mod Rows

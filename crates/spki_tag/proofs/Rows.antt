@@ -1,0 +1,53 @@
+-- What a tag leaves of the members at some places.
+use Rattle.std.proofs.Common.{◌≡◌, ℕ, zero, suc, ◌+◌, ◌<◌, ◌≤◌, Bool, true, false, List, [], ◌∷◌, ◌++◌, length, take, drop, get_or, All, refl, sym, ap, ◌∙◌, append_assoc, arith, add-one}
+use Rattle.std.proofs.lemmas.List.{take_more}
+use Rattle.std.proofs.Math.Seq.{drop-cons}
+use Rattle.std.specs.Prelude.{if◌then◌else◌}
+use Rattle.spki_tag.specs.Tag.{Tag, Tags, tags, none, more, is_nothing}
+use Rattle.spki_tag.specs.Meet.{nothing, kept, row}
+use Rattle.spki_tag.specs.Met.{row_at}
+
+pub kept-append : (t : Tag) (ts us : List Tag) → kept t (ts ++ us) ≡ kept t ts ++ us
+kept-append t ts us = by (is_nothing t)
+  where
+    by : (b : Bool) → (if b then ts ++ us else t ∷ (ts ++ us)) ≡ (if b then ts else t ∷ ts) ++ us
+    by true = refl
+    by false = refl
+
+-- one place more
+pub row_at-push : (f : Tag → Tag) (bs : List Tag) (places : List ℕ) (i : ℕ)
+    → row_at f bs (places ++ i ∷ []) ≡ row_at f bs places ++ kept (f (get_or bs i nothing)) []
+row_at-push f bs [] i = refl
+row_at-push f bs (p ∷ places) i =
+    ap (kept (f (get_or bs p nothing))) (row_at-push f bs places i)
+    ∙ kept-append (f (get_or bs p nothing)) (row_at f bs places) (kept (f (get_or bs i nothing)) [])
+
+-- one member more
+row-append : (f : Tag → Tag) (bs : List Tag) (b : Tag)
+    → row f (tags (bs ++ b ∷ [])) ≡ row f (tags bs) ++ kept (f b) []
+row-append f [] b = refl
+row-append f (first ∷ bs) b =
+    ap (kept (f first)) (row-append f bs b) ∙ kept-append (f first) (row f (tags bs)) (kept (f b) [])
+
+pub row-push : (f : Tag → Tag) (bs : List Tag) (i : ℕ) → i < length bs
+    → row f (tags (take (i + 1) bs)) ≡ row f (tags (take i bs)) ++ kept (f (get_or bs i nothing)) []
+row-push f bs i h =
+    ap (λ ts. row f (tags ts)) (take_more bs i nothing h) ∙ row-append f (take i bs) (get_or bs i nothing)
+
+-- the members at the places that are left
+pub row_at-rest : (f : Tag → Tag) (bs : List Tag) (places : List ℕ) (i : ℕ) → i < length places
+    → row_at f bs (drop i places)
+    ≡ kept (f (get_or bs (get_or places i 0) nothing)) [] ++ row_at f bs (drop (i + 1) places)
+row_at-rest f bs places i h =
+    ap (row_at f bs) (drop-cons places i 0 h ∙ ap (λ n. get_or places i 0 ∷ drop n places) (sym (add-one i)))
+    ∙ kept-append (f (get_or bs (get_or places i 0) nothing)) [] (row_at f bs (drop (i + 1) places))
+
+-- A step of the loop over the places: what was added and what is left are what is left before.
+pub row_at-step : (f : Tag → Tag) (bs : List Tag) (places : List ℕ) (i : ℕ) (met out ms : List Tag) (t : Tag)
+    → i < length places → met ++ row_at f bs (drop i places) ≡ ms
+    → t ≡ f (get_or bs (get_or places i 0) nothing) → out ≡ met ++ kept t []
+    → out ++ row_at f bs (drop (i + 1) places) ≡ ms
+row_at-step f bs places i met out ms t h e u o =
+    let rest : List Tag = row_at f bs (drop (i + 1) places) in
+    ap (λ (ts : List Tag). ts ++ rest) o ∙ append_assoc met (kept t []) rest
+    ∙ ap (λ (u : Tag). met ++ (kept u [] ++ rest)) u ∙ sym (ap (λ (ts : List Tag). met ++ ts) (row_at-rest f bs places i h)) ∙ e
