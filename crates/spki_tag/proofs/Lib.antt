@@ -14,3 +14,4 @@ pub mod Written
 pub mod Depth
 pub mod NormalTag
 pub mod Rows
+pub mod MeetSteps

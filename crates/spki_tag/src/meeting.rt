@@ -9,7 +9,7 @@ ghost use Rattle.spki_tag.specs.Met.{row_at};
 
 use crate::fault::MeetFault;
 use crate::parts::{
-    gather, is_set, is_star, leaf_or_nothing, members, nothing, push_copies, push_kept,
+    gather, has_set, is_star, leaf_or_nothing, members, nothing, push_copies, push_kept,
 };
 use crate::tag::{Node, Tag};
 use std::alloc::{AllocError, Global};
@@ -39,7 +39,7 @@ fn meet_tags(alloc: Global, one: &Tag, other: &Tag) -> Result<Tag, AllocError>
         other.clone()
     } else if is_star(other) {
         one.clone()
-    } else if is_set(one) || is_set(other) {
+    } else if has_set(one, other) {
         meet_members(alloc, members(one), members(other))
     } else {
         meet_single(alloc, one, other)

@@ -1,6 +1,6 @@
 //! What the intersection takes tags apart into, and what it makes of results.
 
-ghost use Rattle.std.specs.Prelude.{◌≡◌, ◌++◌, [], OnOk};
+ghost use Rattle.std.specs.Prelude.{◌≡◌, ◌||◌, ◌++◌, [], OnOk};
 ghost use Rattle.spki_tag.specs.Tag.{IsNormalTag, tags};
 ghost use Rattle.spki_tag.specs.Meet.{nothing, gather, kept};
 ghost use Rattle.spki_tag.specs.Met.{leaf_or_nothing, is_star, is_set, members_of};
@@ -12,7 +12,8 @@ use std::slice;
 
 /// Whether the tag is `(*)`.
 pub(crate) fn is_star(tag: &Tag) -> bool
-    ensures { result ≡ is_star tag.now }
+    ensures value { result ≡ is_star tag.now }
+    ensures normal { IsNormalTag tag.now }
 {
     match &tag.node {
         Node::Leaf(leaf) => match leaf {
@@ -27,7 +28,7 @@ pub(crate) fn is_star(tag: &Tag) -> bool
 }
 
 /// Whether the tag is a set.
-pub(crate) fn is_set(tag: &Tag) -> bool
+fn is_set(tag: &Tag) -> bool
     ensures { result ≡ is_set tag.now }
 {
     match &tag.node {
@@ -35,6 +36,13 @@ pub(crate) fn is_set(tag: &Tag) -> bool
         Node::List(_, _) => false,
         Node::Set(_) => true,
     }
+}
+
+/// Whether one of two tags is a set.
+pub(crate) fn has_set(one: &Tag, other: &Tag) -> bool
+    ensures { result ≡ (is_set one.now || is_set other.now) }
+{
+    is_set(one) || is_set(other)
 }
 
 /// The members of a set; what isn't a set counts as its only member.
