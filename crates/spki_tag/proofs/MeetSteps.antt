@@ -238,9 +238,10 @@ pub each_meet-last : (ts us met out all : List Tag) (i : ℕ) → min (length (d
     → out ≡ met ++ drop i ts ++ drop i us → (out ≡ all) × (has_nothing all ≡ false)
 each_meet-last ts us met out all i h n m e k o =
     let same : out ≡ all =
-    o ∙ append_assoc met (drop i ts) (drop i us) ∙ sym (ap (λ (ts : List Tag). met ++ ts) (each_meet-end (drop i ts) (drop i us) h)) ∙ e in
-    (same,
-    subst (λ (ts : List Tag). has_nothing ts ≡ false) (sym o ∙ same)
-    (has_nothing-append (met ++ drop i ts) (drop i us)
-    (has_nothing-append met (drop i ts) k (normal-none (drop i ts) (normal-drop ts i n)))
-    (normal-none (drop i us) (normal-drop us i m))))
+    o ∙ append_assoc met (drop i ts) (drop i us) ∙ sym (ap (λ (ts : List Tag). met ++ ts) (each_meet-end (drop i ts) (drop i us) h)) ∙ e in (
+      same,
+      subst (λ (ts : List Tag). has_nothing ts ≡ false) (sym o ∙ same)
+          (has_nothing-append (met ++ drop i ts) (drop i us)
+          (has_nothing-append met (drop i ts) k (normal-none (drop i ts) (normal-drop ts i n)))
+          (normal-none (drop i us) (normal-drop us i m))),
+    )

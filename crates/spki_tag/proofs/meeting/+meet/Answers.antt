@@ -1,5 +1,6 @@
-use Rattle.std.proofs.Common.{◌≡◌, ℕ, ◌+◌, ◌*◌, ◌<◌, ◌≤◌, min, length, drop, List, [], ◌∷◌, ◌++◌, Bool, true, false, ◌||◌, refl, sym, ap, ◌∙◌, subst, arith, le_trans, get_or, append_assoc, true≢false, length-drop}
+use Rattle.std.proofs.Common.{◌≡◌, ℕ, ◌+◌, ◌*◌, ◌<◌, ◌≤◌, min, length, drop, List, [], ◌∷◌, ◌++◌, Bool, true, false, ◌||◌, refl, sym, ap, ◌∙◌, subst, arith, le_trans, get_or, append_assoc, true≢false, length-drop, ◌-◌}
 use Rattle.std.proofs.lemmas.Nat.{mul-le}
+use Rattle.std.proofs.lemmas.List.{take_all}
 use Rattle.std.specs.Prelude.{IfOk}
 use Rattle.spki_tag.specs.Tag.{Tag, IsNormalTag, list, tags, nodes, nodes_all, most_nodes, is_nothing}
 use Rattle.spki_tag.specs.Nodes.{node_tag}
@@ -15,18 +16,22 @@ push_row-meet_tags-requires t c =
     let i : ℕ = get_or c.args.places.now c.loop-place.place-index 0 in
     let less : nodes c.index-others-place.result ≤ nodes_all others =
     nodes_le-of_read c.args.others.now i c.index-others-place.result
-    (c.requires.places c.loop-place.place-index 0 c.loop-place-test.true) c.index-others-place.is in
-    (omega (arith, c.decreases, less),
-    le_trans (mul-le (nodes c.args.one.now) (nodes c.index-others-place.result) (nodes c.args.one.now) (nodes_all others) (omega arith) less) c.requires.bound)
+    (c.requires.places c.loop-place.place-index 0 c.loop-place-test.true) c.index-others-place.is in (
+      omega (arith, c.decreases, less),
+      le_trans (mul-le (nodes c.args.one.now) (nodes c.index-others-place.result) (nodes c.args.one.now) (nodes_all others) (omega arith) less) c.requires.bound,
+    )
 
 pub meet_members-push_row-requires : goal.meet_members-push_row-requires
 meet_members-push_row-requires t c =
     let others = tags c.args.others.now in
     let less : nodes c.one-item.result ≤ nodes_all (tags c.args.ones.now) =
-    nodes_le-of_read c.args.ones.now c.loop-one.one-index c.one-item.result c.loop-one-test.true c.one-item.is in
-    (omega (arith, c.decreases, less),
-    (le_trans (mul-le (nodes c.one-item.result) (nodes_all others) (nodes_all (tags c.args.ones.now)) (nodes_all others) less (omega arith)) c.requires.bound,
-    (rw c.deref.ensures.value c.in_ok-places.ensures.bound)))
+    nodes_le-of_read c.args.ones.now c.loop-one.one-index c.one-item.result c.loop-one-test.true c.one-item.is in (
+      omega (arith, c.decreases, less),
+      (
+        le_trans (mul-le (nodes c.one-item.result) (nodes_all others) (nodes_all (tags c.args.ones.now)) (nodes_all others) less (omega arith)) c.requires.bound,
+        (rw c.deref.ensures.value c.in_ok-places.ensures.bound),
+      ),
+    )
 
 pub meet_members-loop-one-preserved : goal.meet_members-loop-one-preserved
 meet_members-loop-one-preserved t c =
@@ -76,9 +81,10 @@ meet_each-meet_tags-requires t c =
     let one : nodes c.index-ones-i.result ≤ nodes_all (tags c.args.ones.now) =
     nodes_le-of_read c.args.ones.now c.loop-i.i c.index-ones-i.result (omega (arith, c.loop-i-test.true, c.min-common.ensures)) c.index-ones-i.is in
     let other : nodes c.index-others-i.result ≤ nodes_all (tags c.args.others.now) =
-    nodes_le-of_read c.args.others.now c.loop-i.i c.index-others-i.result (omega (arith, c.loop-i-test.true, c.min-common.ensures)) c.index-others-i.is in
-    (omega (arith, c.decreases, one, other),
-    le_trans (mul-le (nodes c.index-ones-i.result) (nodes c.index-others-i.result) (nodes_all (tags c.args.ones.now)) (nodes_all (tags c.args.others.now)) one other) c.requires.bound)
+    nodes_le-of_read c.args.others.now c.loop-i.i c.index-others-i.result (omega (arith, c.loop-i-test.true, c.min-common.ensures)) c.index-others-i.is in (
+      omega (arith, c.decreases, one, other),
+      le_trans (mul-le (nodes c.index-ones-i.result) (nodes c.index-others-i.result) (nodes_all (tags c.args.ones.now)) (nodes_all (tags c.args.others.now)) one other) c.requires.bound,
+    )
 
 pub meet_each-returns-then-is_nothing : goal.meet_each-returns-then-is_nothing
 meet_each-returns-then-is_nothing t c =
@@ -105,14 +111,15 @@ meet_each-loop-i-preserved t c =
     let rest : List Tag = each_meet (tags (drop (i + 1) c.args.ones.now)) (tags (drop (i + 1) c.args.others.now)) in
     let items : c.push.new.self.items ≡ met ++ member ∷ [] = c.in_ok-push.ensures.items in
     let some : is_nothing member ≡ false =
-    nothing-is_not member (λ q. true≢false (sym (c.is_nothing.ensures.1 q) ∙ c.if-is_nothing.false)) in
-    (ap (λ (ts : List Tag). ts ++ rest) (items ∙ ap (λ (x : Tag). met ++ x ∷ []) c.in_ok-member.ensures)
-    ∙ append_assoc met (meet a b ∷ []) rest
-    ∙ ap (λ (ts : List Tag). met ++ ts)
-    (sym (each_meet-rest c.args.ones.now c.args.others.now i a b (omega (arith, c.loop-i-test.true, c.min-common.ensures))
-    (omega (arith, c.loop-i-test.true, c.min-common.ensures)) c.index-ones-i.is c.index-others-i.is))
-    ∙ c.loop-i.invariant.0,
-    subst (λ (ts : List Tag). has_nothing ts ≡ false) (sym items) (has_nothing-push met member c.loop-i.invariant.1 some))
+    nothing-is_not member (λ q. true≢false (sym (c.is_nothing.ensures.1 q) ∙ c.if-is_nothing.false)) in (
+      ap (λ (ts : List Tag). ts ++ rest) (items ∙ ap (λ (x : Tag). met ++ x ∷ []) c.in_ok-member.ensures)
+          ∙ append_assoc met (meet a b ∷ []) rest
+          ∙ ap (λ (ts : List Tag). met ++ ts)
+          (sym (each_meet-rest c.args.ones.now c.args.others.now i a b (omega (arith, c.loop-i-test.true, c.min-common.ensures))
+          (omega (arith, c.loop-i-test.true, c.min-common.ensures)) c.index-ones-i.is c.index-others-i.is))
+          ∙ c.loop-i.invariant.0,
+      subst (λ (ts : List Tag). has_nothing ts ≡ false) (sym items) (has_nothing-push met member c.loop-i.invariant.1 some),
+    )
 
 pub meet_each-returns : goal.meet_each-returns
 meet_each-returns t c =
@@ -125,4 +132,6 @@ meet_each-returns t c =
     (omega (arith, length-drop n ones, length-drop n others, c.min-common.ensures)) c.requires.one c.requires.other
     (subst (λ k. met ++ each_meet (tags (drop k ones)) (tags (drop k others)) ≡ each_meet (tags ones) (tags others)) e c.loop-i.invariant.0)
     c.loop-i.invariant.1
-    (c.in_ok-push_copies-2.ensures ∙ ap (λ (ts : List Tag). ts ++ drop n others) c.in_ok-push_copies.ensures)
+    (c.in_ok-push_copies-2.ensures
+    ∙ (λ i. c.in_ok-push_copies.ensures i ++ take_all (length others - n) (drop n others) (omega (arith, length-drop n others)) i)
+    ∙ ap (λ (ts : List Tag). met ++ ts ++ drop n others) (take_all (length ones - n) (drop n ones) (omega (arith, length-drop n ones))))

@@ -11,8 +11,9 @@ loop-i-preserved c =
     let f : Tag → Tag = meet c.args.one.now in
     let others = c.args.others.now in
     let ps = c.loop-i.places.items in
-    let e = c.in_ok-push.ensures.items in
-    (rw e (All-push (λ k. k < length others) ps c.loop-i.i c.loop-i.invariant.0 c.loop-i-test.true),
-    ap (row_at f others) e ∙ row_at-push f others ps c.loop-i.i
-    ∙ ap (λ (ts : List Tag). ts ++ kept (f (get_or others c.loop-i.i nothing)) []) c.loop-i.invariant.1
-    ∙ sym (row-push f others c.loop-i.i c.loop-i-test.true))
+    let e = c.in_ok-push.ensures.items in (
+      rw e (All-push (λ k. k < length others) ps c.loop-i.i c.loop-i.invariant.0 c.loop-i-test.true),
+      ap (row_at f others) e ∙ row_at-push f others ps c.loop-i.i
+          ∙ ap (λ (ts : List Tag). ts ++ kept (f (get_or others c.loop-i.i nothing)) []) c.loop-i.invariant.1
+          ∙ sym (row-push f others c.loop-i.i c.loop-i-test.true),
+    )
