@@ -5,7 +5,7 @@ use Rattle.std.proofs.Math.Seq.{drop-cons}
 use Rattle.std.proofs.lemmas.List.{append-nil}
 use Rattle.spki_tag.specs.Tag.{Tag, Tags, tags, star, string, prefix, range, list, set, none, more, IsNormalTag, is_nothing, is_set_or_star, is_normal, each_normal, is_none_or_many, nodes, nodes_all, most_nodes}
 use Rattle.spki_tag.specs.Meet.{nothing, string_meet, prefix_meet, range_meet, items, kept, row, gather, has_nothing, list_meet, across, meet, each_meet, pairs}
-use Rattle.spki_tag.specs.Met.{is_star, is_set, members_of, row_at}
+use Rattle.spki_tag.specs.Met.{is_star, is_set, members}
 use Rattle.spki_tag.proofs.NormalTag.{meet-normal_tag}
 
 -- ---- truth values
@@ -24,6 +24,27 @@ second_true true b h = h
 second_true false b h = absurd (true≢false (sym h))
 
 -- ---- sets
+
+-- the members of a set; what is no set counts as its only member
+abbrev pub members_of : Tag → Tags
+members_of star = more star none
+members_of (string octets) = more (string octets) none
+members_of (prefix octets) = more (prefix octets) none
+members_of (range ordering low up) = more (range ordering low up) none
+members_of (list head further) = more (list head further) none
+members_of (set ts) = ts
+
+tags-items : (ts : Tags) → tags (items ts) ≡ ts
+tags-items none = refl
+tags-items (more t ts) = ap (more t) (tags-items ts)
+
+pub tags-members : (t : Tag) → tags (members t) ≡ members_of t
+tags-members star = refl
+tags-members (string octets) = refl
+tags-members (prefix octets) = refl
+tags-members (range ordering low up) = refl
+tags-members (list head further) = refl
+tags-members (set ts) = tags-items ts
 
 row-same : (f g : Tag → Tag) (bs : Tags) → ((b : Tag) → is_set_or_star b ≡ false → f b ≡ g b)
     → each_normal is_set_or_star bs ≡ true → row f bs ≡ row g bs
@@ -209,7 +230,7 @@ nothing-is_not (list head us) n = refl
 nothing-is_not (set none) n = absurd (n refl)
 nothing-is_not (set (more u us)) n = refl
 
-items-tags : (ts : List Tag) → items (tags ts) ≡ ts
+pub items-tags : (ts : List Tag) → items (tags ts) ≡ ts
 items-tags [] = refl
 items-tags (t ∷ ts) = ap (λ (us : List Tag). t ∷ us) (items-tags ts)
 

@@ -1,9 +1,9 @@
 -- What the steps of the intersection of tags find.
-use Rattle.std.specs.Prelude.{ℕ, Bool, true, false, List, [], ◌∷◌, Option, Some, None, slice_index_or}
+use Rattle.std.specs.Prelude.{ℕ, Bool, true, false, List, [], ◌∷◌, Option, Some, None, ◌-◌, slice_index_or}
 use Rattle.spki_tag.specs.declared.leaf.Leaf.{Leaf}
 use Rattle.spki_tag.specs.Leaves.{leaf_tag}
-use Rattle.spki_tag.specs.Tag.{Tag, Tags, star, string, prefix, range, list, set, none, more}
-use Rattle.spki_tag.specs.Meet.{nothing, kept}
+use Rattle.spki_tag.specs.Tag.{Tag, star, string, prefix, range, list, set}
+use Rattle.spki_tag.specs.Meet.{nothing, items}
 
 -- a tag without members, or (* set)
 abbrev pub leaf_or_nothing : Option Leaf → Tag
@@ -26,16 +26,16 @@ is_set (range ordering low up) = false
 is_set (list head further) = false
 is_set (set members) = true
 
--- the members of a set; what isn't a set counts as its only member
-abbrev pub members_of : Tag → Tags
-members_of (set members) = members
-members_of star = more star none
-members_of (string octets) = more (string octets) none
-members_of (prefix octets) = more (prefix octets) none
-members_of (range ordering low up) = more (range ordering low up) none
-members_of (list head further) = more (list head further) none
+-- the members of a set, in order; what is no set counts as its only member
+abbrev pub members : Tag → List Tag
+members star = star ∷ []
+members (string octets) = string octets ∷ []
+members (prefix octets) = prefix octets ∷ []
+members (range ordering low up) = range ordering low up ∷ []
+members (list head further) = list head further ∷ []
+members (set ts) = items ts
 
--- what a tag leaves of the members at some places
-abbrev pub row_at : (Tag → Tag) → List Tag → List ℕ → List Tag
-row_at f bs [] = []
-row_at f bs (i ∷ places) = kept (f (slice_index_or bs i nothing)) (row_at f bs places)
+-- the tags at some places, the first place being 1
+abbrev pub tags_at : List Tag → List ℕ → List Tag
+tags_at ts [] = []
+tags_at ts (n ∷ ns) = slice_index_or ts (n - 1) star ∷ tags_at ts ns

@@ -5,7 +5,7 @@ ghost use Rattle.std.specs.List.{starts_with};
 ghost use Rattle.spki_tag.specs.Request.{AreOctets, Request, IsRequest};
 ghost use Rattle.spki_tag.specs.Tag.{Tag, is_above, is_below, is_normal, IsNormalTag, contains, each_normal, is_nothing, is_set_or_star, most_nodes, nodes, nodes_all, ldepth, list, tags};
 ghost use Rattle.spki_tag.specs.Meet.{least_above, strict_limit, from, meet, each_meet, pairs, row, gather, has_nothing};
-ghost use Rattle.spki_tag.specs.Met.{row_at};
+ghost use Rattle.spki_tag.specs.Met.{members, tags_at};
 
 use crate::fault::MeetFault;
 use crate::parts::{
@@ -17,14 +17,15 @@ use std::alloc::{AllocError, Global};
 /// The greatest product of the numbers of nodes of two tags that are met.
 const MOST_NODES: usize = 1_000_000;
 
-/// The places of the members that a tag is met with: all of them.
+/// The places of the members that a tag is met with, counted from 1, in increasing order: all of them.
 fn met_places(alloc: Global, one: &Tag, others: &[Tag]) -> Result<Vec<usize>, AllocError>
-    ensures bound { IfOk result (λ places. All (λ i. i < length others.now) places.items) }
-    ensures enough { IfOk result (λ places. row_at (meet one.now) others.now places.items ≡ row (meet one.now) (tags others.now)) }
+    ensures within { IfOk result (λ places. All (λ n. (1 ≤ n) × (n < 1 + length others.now)) places.items) }
+    ensures enough { IfOk result (λ places. row (meet one.now) (tags others.now)
+        ≡ row (meet one.now) (tags (tags_at others.now places.items))) }
 {
     let mut places = Vec::new(alloc);
     for i in 0..others.len() {
-        places.push(i)?;
+        places.push(i + 1)?;
     }
     Ok(places)
 }
@@ -142,11 +143,11 @@ fn push_row(
     places: &[usize],
 ) -> Result<(), AllocError>
     requires bound { nodes one.now * nodes_all (tags others.now) ≤ most_nodes }
-    requires places { All (λ i. i < length others.now) places.now }
-    ensures { OnOk result (met.new.items ≡ met.old.items ++ row_at (meet one.now) others.now places.now) }
+    requires places { All (λ n. (1 ≤ n) × (n < 1 + length others.now)) places.now }
+    ensures { OnOk result (met.new.items ≡ met.old.items ++ row (meet one.now) (tags (tags_at others.now places.now))) }
 {
     for place in places {
-        let member = meet_tags(alloc, one, &others[*place])?;
+        let member = meet_tags(alloc, one, &others[*place - 1])?;
         push_kept(met, member)?;
     }
     Ok(())

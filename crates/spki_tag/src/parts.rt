@@ -1,9 +1,9 @@
 //! What the intersection takes tags apart into, and what it makes of results.
 
 ghost use Rattle.std.specs.Prelude.{◌≡◌, ◌||◌, ◌++◌, [], OnOk};
-ghost use Rattle.spki_tag.specs.Tag.{IsNormalTag, tags};
+ghost use Rattle.spki_tag.specs.Tag.{IsNormalTag};
 ghost use Rattle.spki_tag.specs.Meet.{nothing, gather, kept};
-ghost use Rattle.spki_tag.specs.Met.{leaf_or_nothing, is_star, is_set, members_of};
+ghost use Rattle.spki_tag.specs.Met.{leaf_or_nothing, is_star, is_set, members};
 
 use crate::leaf::Leaf;
 use crate::tag::{Node, Tag};
@@ -45,14 +45,14 @@ pub(crate) fn has_set(one: &Tag, other: &Tag) -> bool
     is_set(one) || is_set(other)
 }
 
-/// The members of a set; what isn't a set counts as its only member.
+/// The members of a set, in order. A tag that is no set counts as its only member.
 pub(crate) fn members(tag: &Tag) -> &[Tag]
-    ensures { tags result.now ≡ members_of tag.entry.now }
+    ensures { result.now ≡ members tag.now }
 {
     match &tag.node {
         Node::Leaf(_) => slice::from_ref(tag),
         Node::List(_, _) => slice::from_ref(tag),
-        Node::Set(members) => members,
+        Node::Set(members) => members.as_slice(),
     }
 }
 

@@ -4,19 +4,20 @@ use Rattle.std.proofs.lemmas.List.{take_all}
 use Rattle.std.specs.Prelude.{IfOk}
 use Rattle.spki_tag.specs.Tag.{Tag, IsNormalTag, list, tags, nodes, nodes_all, most_nodes, is_nothing}
 use Rattle.spki_tag.specs.Nodes.{node_tag}
-use Rattle.spki_tag.specs.Meet.{meet, each_meet, pairs, gather, has_nothing}
-use Rattle.spki_tag.specs.Met.{row_at}
+use Rattle.spki_tag.specs.Meet.{meet, each_meet, pairs, row, gather, has_nothing}
+use Rattle.spki_tag.specs.Met.{tags_at}
 use Rattle.spki_tag.proofs.Members.{nodes_le-of_read}
-use Rattle.spki_tag.proofs.MeetSteps.{MembersMeet, members_meet, meet-by_members, pairs-step, ListsMeet, lists_meet, each_meet-rest, has_nothing-found, has_nothing-push, nothing-is, nothing-is_not, each_meet-last}
+use Rattle.spki_tag.proofs.MeetSteps.{tags-members, MembersMeet, members_meet, meet-by_members, pairs-step, ListsMeet, lists_meet, each_meet-rest, has_nothing-found, has_nothing-push, nothing-is, nothing-is_not, each_meet-last}
 use Rattle.spki_tag.proofs.meeting.+meet.Goals as goal
 
 pub push_row-meet_tags-requires : goal.push_row-meet_tags-requires
 push_row-meet_tags-requires t c =
     let others = tags c.args.others.now in
-    let i : ℕ = get_or c.args.places.now c.loop-place.place-index 0 in
+    let i : ℕ = get_or c.args.places.now c.loop-place.place-index 0 - 1 in
     let less : nodes c.index-others-place.result ≤ nodes_all others =
     nodes_le-of_read c.args.others.now i c.index-others-place.result
-    (c.requires.places c.loop-place.place-index 0 c.loop-place-test.true) c.index-others-place.is in (
+    (let within = c.requires.places c.loop-place.place-index 0 c.loop-place-test.true in omega (arith, within.0, within.1))
+    c.index-others-place.is in (
       omega (arith, c.decreases, less),
       le_trans (mul-le (nodes c.args.one.now) (nodes c.index-others-place.result) (nodes c.args.one.now) (nodes_all others) (omega arith) less) c.requires.bound,
     )
@@ -29,7 +30,7 @@ meet_members-push_row-requires t c =
       omega (arith, c.decreases, less),
       (
         le_trans (mul-le (nodes c.one-item.result) (nodes_all others) (nodes_all (tags c.args.ones.now)) (nodes_all others) less (omega arith)) c.requires.bound,
-        (rw c.deref.ensures.value c.in_ok-places.ensures.bound),
+        (rw c.deref.ensures.value c.in_ok-places.ensures.within),
       ),
     )
 
@@ -37,10 +38,10 @@ pub meet_members-loop-one-preserved : goal.meet_members-loop-one-preserved
 meet_members-loop-one-preserved t c =
     let one = c.one-item.result in
     pairs-step c.args.ones.now c.args.others.now c.loop-one.met.items c.push_row.new.met.items
-    (pairs (tags c.args.ones.now) (tags c.args.others.now)) (row_at (meet one) c.args.others.now c.in_ok-places.places.items)
+    (pairs (tags c.args.ones.now) (tags c.args.others.now)) (row (meet one) (tags (tags_at c.args.others.now c.in_ok-places.places.items)))
     c.loop-one.one-index one c.loop-one-test.true c.loop-one.invariant c.one-item.is
-    (c.in_ok-push_row.ensures ∙ ap (λ (ps : List ℕ). c.loop-one.met.items ++ row_at (meet one) c.args.others.now ps) c.deref.ensures.value)
-    c.in_ok-places.ensures.enough
+    (c.in_ok-push_row.ensures ∙ ap (λ (ps : List ℕ). c.loop-one.met.items ++ row (meet one) (tags (tags_at c.args.others.now ps))) c.deref.ensures.value)
+    (sym c.in_ok-places.ensures.enough)
 
 pub meet_single-meet_lists-requires : goal.meet_single-meet_lists-requires
 meet_single-meet_lists-requires t c =
@@ -64,13 +65,14 @@ meet_tags-meet_members-requires t c =
     members_meet c.args.one.now c.args.other.now (sym c.is_star.ensures.value ∙ c.if-is_star.false)
     (sym c.is_star-else-is_star.ensures.value ∙ c.if-is_star-2.false) (sym c.has_set.ensures ∙ c.if-has_set.true)
     c.is_star.ensures.normal c.is_star-else-is_star.ensures.normal c.requires in
-    rw (c.members.ensures, c.members-then-has_set.ensures)
+    rw (ap tags c.members.ensures ∙ tags-members c.args.one.now, ap tags c.members-then-has_set.ensures ∙ tags-members c.args.other.now)
     (omega (arith, c.decreases, m.less), (m.bound, m.met))
 
 pub meet_tags-returns-then-has_set : goal.meet_tags-returns-then-has_set
 meet_tags-returns-then-has_set t c =
     subst (λ (x : Tag). IfOk c.meet_members.result (λ d. d ≡ x))
-    ((λ i. gather (pairs (c.members.ensures i) (c.members-then-has_set.ensures i)))
+    ((λ i. gather (pairs (tags (c.members.ensures i)) (tags (c.members-then-has_set.ensures i))))
+    ∙ (λ i. gather (pairs (tags-members c.args.one.now i) (tags-members c.args.other.now i)))
     ∙ meet-by_members c.args.one.now c.args.other.now (sym c.is_star.ensures.value ∙ c.if-is_star.false)
     (sym c.is_star-else-is_star.ensures.value ∙ c.if-is_star-2.false) (sym c.has_set.ensures ∙ c.if-has_set.true)
     c.is_star-else-is_star.ensures.normal.normal)

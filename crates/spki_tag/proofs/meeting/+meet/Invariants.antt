@@ -1,7 +1,7 @@
 use Rattle.std.proofs.Common.{◌≡◌, ◌+◌, ◌*◌, ◌++◌, false, drop}
 use Rattle.spki_tag.specs.Tag.{tags, nodes, nodes_all}
-use Rattle.spki_tag.specs.Meet.{meet, each_meet, pairs, has_nothing}
-use Rattle.spki_tag.specs.Met.{row_at}
+use Rattle.spki_tag.specs.Meet.{meet, each_meet, pairs, row, has_nothing}
+use Rattle.spki_tag.specs.Met.{tags_at}
 use Rattle.spki_tag.proofs.meeting.+meet.Given as goal
 
 abbrev pub decreases-meet_tags : goal.decreases-meet_tags
@@ -33,5 +33,5 @@ invariant-meet_members-loop-one l =
 
 abbrev pub invariant-push_row-loop-place : goal.invariant-push_row-loop-place
 invariant-push_row-loop-place l =
-    l.met.items ++ row_at (meet l.one) l.others (drop l.place-index l.places)
-    ≡ l.fn.met.items ++ row_at (meet l.one) l.others l.places
+    l.met.items ++ row (meet l.one) (tags (tags_at l.others (drop l.place-index l.places)))
+    ≡ l.fn.met.items ++ row (meet l.one) (tags (tags_at l.others l.places))
