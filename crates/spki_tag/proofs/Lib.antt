@@ -11,3 +11,10 @@ pub mod Bounds
 pub mod Places
 pub mod Entries
 pub mod Sharing
+pub mod Normal
+pub mod Above
+pub mod Written
+pub mod Depth
+pub mod NormalTag
+pub mod Rows
+pub mod MeetSteps

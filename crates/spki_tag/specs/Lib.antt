@@ -12,3 +12,4 @@ pub mod AskFalls
 pub mod Meet
 pub mod Index
 pub mod Places
+pub mod Met

@@ -1,7 +1,8 @@
-//! Why a tag or a request could not be read.
+//! Why a tag or a request could not be read, and why two tags could not be met.
 
 ghost use Rattle.std.specs.Prelude.{◌≡◌};
 ghost use Rattle.spki_tag.specs.declared.fault.TagFault.TheVariants.{Memory};
+ghost use Rattle.spki_tag.specs.declared.fault.MeetFault.TheVariants as meet;
 
 use std::alloc::{AllocError, AllocFailed};
 use thiserror::Error;
@@ -51,5 +52,32 @@ impl<T: Drop> From<AllocFailed<T>> for TagFault {
 
     fn from(_e: AllocFailed<T>) -> TagFault {
         TagFault::Memory
+    }
+}
+
+/// Why there is no intersection of two tags.
+#[derive(Clone, Copy, Debug, PartialEq, Eq, Error)]
+pub enum MeetFault {
+    /// The product of the numbers of their nodes is over 1,000,000.
+    #[error("too many nodes to meet")]
+    TooLarge,
+    /// Memory ran out.
+    #[error("out of memory")]
+    Memory,
+}
+
+impl From<AllocError> for MeetFault {
+    ghost from_gives = { λ _ e. e ≡ meet.Memory };
+
+    fn from(_e: AllocError) -> MeetFault {
+        MeetFault::Memory
+    }
+}
+
+impl<T: Drop> From<AllocFailed<T>> for MeetFault {
+    ghost from_gives = { λ _ e. e ≡ meet.Memory };
+
+    fn from(_e: AllocFailed<T>) -> MeetFault {
+        MeetFault::Memory
     }
 }

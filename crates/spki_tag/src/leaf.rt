@@ -51,7 +51,7 @@ fn is_ordered(ordering: RangeOrdering, octets: &[u8]) -> bool
 }
 
 /// Whether `x` is below `y`, or equal to it where that isn't ruled out.
-fn is_within(strict: bool, x: &[u8], y: &[u8]) -> bool
+pub(crate) fn is_within(strict: bool, x: &[u8], y: &[u8]) -> bool
     ensures { result ≡ is_within strict x.now y.now }
 {
     let order = x.cmp(y);
@@ -79,7 +79,7 @@ fn is_below(up: &Option<Limit>, octets: &[u8]) -> bool
 }
 
 /// A copy of a limit.
-fn copied_limit(limit: &Option<Limit>) -> Result<Option<Limit>, AllocError>
+pub(crate) fn copied_limit(limit: &Option<Limit>) -> Result<Option<Limit>, AllocError>
     ensures { IfOk result (λ copy. limit_of copy ≡ limit_of limit.now) }
 {
     match limit {

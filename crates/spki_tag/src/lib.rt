@@ -7,14 +7,17 @@ mod holding;
 mod index;
 mod laws;
 mod leaf;
+mod leaf_meeting;
+mod limit_meeting;
 mod meeting;
 mod moment;
+mod parts;
 mod reading;
 mod request;
 mod tag;
 mod writing;
 
-pub use fault::TagFault;
+pub use fault::{MeetFault, TagFault};
 pub use index::{Index, meet_apart, row_at_places};
 pub use laws::{one_request, one_tag, readings_agree};
 pub use meeting::{meet_bounded, meet_exact, prefix_is_range};

@@ -1,10 +1,178 @@
-//! The intersection of tags.
+//! The intersection of tags (RFC 2693, section 6.3.1).
 
-ghost use Rattle.std.specs.Prelude.{◌≡◌, ◌≤◌, ◌*◌, ◌&&◌, true, ℕ, List, nat_eq};
+ghost use Rattle.std.specs.Prelude.{◌≡◌, ◌+◌, ◌*◌, ◌<◌, ◌≤◌, ◌↔◌, ◌++◌, ◌&&◌, [], max, true, false, ℕ, List, nat_eq, IfOk, OnOk, IsErrOf, MatchOption, All, length};
 ghost use Rattle.std.specs.List.{starts_with};
 ghost use Rattle.spki_tag.specs.Request.{AreOctets, Request, IsRequest};
-ghost use Rattle.spki_tag.specs.Tag.{Tag, is_above, is_below, contains, is_normal, nodes};
-ghost use Rattle.spki_tag.specs.Meet.{least_above, strict_limit, from, meet};
+ghost use Rattle.spki_tag.specs.Tag.{Tag, is_above, is_below, is_normal, IsNormalTag, contains, each_normal, is_nothing, is_set_or_star, most_nodes, nodes, nodes_all, ldepth, list, tags};
+ghost use Rattle.spki_tag.specs.Meet.{least_above, strict_limit, from, meet, each_meet, pairs, row, gather, has_nothing};
+ghost use Rattle.spki_tag.specs.Met.{members, tags_at};
+
+use crate::fault::MeetFault;
+use crate::parts::{
+    gather, has_set, is_star, leaf_or_nothing, members, nothing, push_copies, push_kept,
+};
+use crate::tag::{Node, Tag};
+use std::alloc::{AllocError, Global};
+
+/// The greatest product of the numbers of nodes of two tags that are met.
+const MOST_NODES: usize = 1_000_000;
+
+/// The places of the members that a tag is met with, counted from 1, in increasing order: all of them.
+fn met_places(alloc: Global, one: &Tag, others: &[Tag]) -> Result<Vec<usize>, AllocError>
+    ensures within { IfOk result (λ places. All (λ n. (1 ≤ n) × (n < 1 + length others.now)) places.items) }
+    ensures enough { IfOk result (λ places. row (meet one.now) (tags others.now)
+        ≡ row (meet one.now) (tags (tags_at others.now places.items))) }
+{
+    let mut places = Vec::new(alloc);
+    for i in 0..others.len() {
+        places.push(i + 1)?;
+    }
+    Ok(places)
+}
+
+/// What two tags leave together.
+#[cycle(meet)]
+fn meet_tags(alloc: Global, one: &Tag, other: &Tag) -> Result<Tag, AllocError>
+    requires { nodes one.now * nodes other.now ≤ most_nodes }
+    ensures { IfOk result (λ c. c ≡ meet one.now other.now) }
+{
+    if is_star(one) {
+        other.clone()
+    } else if is_star(other) {
+        one.clone()
+    } else if has_set(one, other) {
+        meet_members(alloc, members(one), members(other))
+    } else {
+        meet_single(alloc, one, other)
+    }
+}
+
+/// What two tags leave together that are neither sets nor `(*)`.
+#[cycle(meet)]
+fn meet_single(alloc: Global, one: &Tag, other: &Tag) -> Result<Tag, AllocError>
+    requires bound { nodes one.now * nodes other.now ≤ most_nodes }
+    requires one { is_set_or_star one.now ≡ false }
+    requires other { is_set_or_star other.now ≡ false }
+    ensures { IfOk result (λ c. c ≡ meet one.now other.now) }
+{
+    match &one.node {
+        Node::Leaf(leaf) => match &other.node {
+            Node::Leaf(second) => Ok(leaf_or_nothing(alloc, leaf.meet(alloc, second)?)),
+            Node::List(_, _) => Ok(nothing(alloc)),
+            Node::Set(_) => unreachable!(),
+        },
+        Node::List(head, further) => match &other.node {
+            Node::Leaf(_) => Ok(nothing(alloc)),
+            Node::List(second, others) => meet_lists(alloc, head, further, second, others),
+            Node::Set(_) => unreachable!(),
+        },
+        Node::Set(_) => unreachable!(),
+    }
+}
+
+/// What two lists with these heads and further members leave together.
+#[cycle(meet)]
+fn meet_lists(
+    alloc: Global,
+    head: &[u8],
+    further: &[Tag],
+    other: &[u8],
+    others: &[Tag],
+) -> Result<Tag, AllocError>
+    requires bound { nodes_all (tags further.now) * nodes_all (tags others.now) ≤ most_nodes }
+    requires one { each_normal is_nothing (tags further.now) ≡ true }
+    requires other { each_normal is_nothing (tags others.now) ≡ true }
+    requires met { IsNormalTag (meet (list head.now (tags further.now)) (list other.now (tags others.now))) }
+    ensures { IfOk result (λ c. c ≡ meet (list head.now (tags further.now)) (list other.now (tags others.now))) }
+{
+    if head != other {
+        return Ok(nothing(alloc));
+    }
+    match meet_each(alloc, further, others)? {
+        None => Ok(nothing(alloc)),
+        Some(members) => Ok(Tag::list(Vec::from_slice(alloc, head)?, members)),
+    }
+}
+
+/// What the members of two lists leave together in each place, the longer one's further members as they are; nothing
+/// where that of some place is `(* set)`.
+#[cycle(meet)]
+fn meet_each(alloc: Global, ones: &[Tag], others: &[Tag]) -> Result<Option<Vec<Tag>>, AllocError>
+    requires bound { nodes_all (tags ones.now) * nodes_all (tags others.now) ≤ most_nodes }
+    requires one { each_normal is_nothing (tags ones.now) ≡ true }
+    requires other { each_normal is_nothing (tags others.now) ≡ true }
+    ensures { IfOk result (λ r. let met = each_meet (tags ones.now) (tags others.now) in
+        MatchOption r (has_nothing met ≡ true) (λ v. (v.items ≡ met) × (has_nothing met ≡ false))) }
+{
+    let common = ones.len().min(others.len());
+    let mut met = Vec::new(alloc);
+    for i in 0..common {
+        let member = meet_tags(alloc, &ones[i], &others[i])?;
+        if member.is_nothing() {
+            return Ok(None);
+        }
+        met.push(member)?;
+    }
+    push_copies(&mut met, &ones[common..])?;
+    push_copies(&mut met, &others[common..])?;
+    Ok(Some(met))
+}
+
+/// What each of some tags leaves with each of others: ordered by the one's place, then the other's.
+#[cycle(meet)]
+fn meet_members(alloc: Global, ones: &[Tag], others: &[Tag]) -> Result<Tag, AllocError>
+    requires bound { nodes_all (tags ones.now) * nodes_all (tags others.now) ≤ most_nodes }
+    requires met { IsNormalTag (gather (pairs (tags ones.now) (tags others.now))) }
+    ensures { IfOk result (λ c. c ≡ gather (pairs (tags ones.now) (tags others.now))) }
+{
+    let mut met = Vec::new(alloc);
+    for one in ones {
+        let places = met_places(alloc, one, others)?;
+        push_row(alloc, &mut met, one, others, &places)?;
+    }
+    Ok(gather(met))
+}
+
+/// Adds what a tag leaves of the members at these places, but for `(* set)`.
+#[cycle(meet)]
+fn push_row(
+    alloc: Global,
+    met: &mut Vec<Tag>,
+    one: &Tag,
+    others: &[Tag],
+    places: &[usize],
+) -> Result<(), AllocError>
+    requires bound { nodes one.now * nodes_all (tags others.now) ≤ most_nodes }
+    requires places { All (λ n. (1 ≤ n) × (n < 1 + length others.now)) places.now }
+    ensures { OnOk result (met.new.items ≡ met.old.items ++ row (meet one.now) (tags (tags_at others.now places.now))) }
+{
+    for place in places {
+        let member = meet_tags(alloc, one, &others[*place - 1])?;
+        push_kept(met, member)?;
+    }
+    Ok(())
+}
+
+impl Tag {
+    /// The intersection: the tag that contains a request exactly if both do (RFC 2693, section 6.3.1).
+    ///
+    /// # Errors
+    ///
+    /// `TooLarge` where the product of the numbers of their nodes is over 1,000,000, and `Memory` where memory ran
+    /// out.
+    pub fn meet(&self, alloc: Global, other: &Tag) -> Result<Tag, MeetFault>
+        ensures exact { IfOk result (λ c. (g : Request) → IsRequest g
+            → contains c g ≡ (contains self.now g && contains other.now g)) }
+        ensures bounds { IfOk result (λ c. (nodes c ≤ nodes self.now * nodes other.now)
+            × (ldepth c ≤ max (ldepth self.now) (ldepth other.now))) }
+        ensures too_large { IsErrOf result MeetFault.TooLarge ↔ (1000000 < nodes self.now * nodes other.now) }
+    {
+        if self.nodes() * other.nodes() > MOST_NODES {
+            return Err(MeetFault::TooLarge);
+        }
+        Ok(meet_tags(alloc, self, other)?)
+    }
+}
 
 /// A prefix holds the strings from itself to below the least string above all that start with it.
 pub fn prefix_is_range()

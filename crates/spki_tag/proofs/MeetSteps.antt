@@ -1,0 +1,268 @@
+-- The steps of the intersection: what they need and what they find.
+use Rattle.std.proofs.Common.{◌≡◌, ℕ, zero, suc, ◌+◌, ◌*◌, ◌<◌, ◌≤◌, min, Bool, true, false, ◌&&◌, ◌||◌, not, List, [], ◌∷◌, ◌++◌, length, take, drop, get_or, refl, sym, ap, ◌∙◌, subst, true≢false, append_assoc, arith, add-one, le_trans}
+use Rattle.std.proofs.lemmas.Nat.{mul-le}
+use Rattle.std.proofs.Math.Seq.{drop-cons}
+use Rattle.std.proofs.lemmas.List.{append-nil}
+use Rattle.spki_tag.specs.Tag.{Tag, Tags, tags, star, string, prefix, range, list, set, none, more, IsNormalTag, is_nothing, is_set_or_star, is_normal, each_normal, is_none_or_many, nodes, nodes_all, most_nodes}
+use Rattle.spki_tag.specs.Meet.{nothing, string_meet, prefix_meet, range_meet, items, kept, row, gather, has_nothing, list_meet, across, meet, each_meet, pairs}
+use Rattle.spki_tag.specs.Met.{is_star, is_set, members}
+use Rattle.spki_tag.proofs.NormalTag.{meet-normal_tag}
+
+-- ---- truth values
+
+not_barred : (b n r : Bool) → (not b && n && r) ≡ true → b ≡ false
+not_barred true n r h = absurd (true≢false (sym h))
+not_barred false n r h = refl
+
+rest_normal : (b n r : Bool) → (not b && n && r) ≡ true → r ≡ true
+rest_normal true n r h = absurd (true≢false (sym h))
+rest_normal false true r h = h
+rest_normal false false r h = absurd (true≢false (sym h))
+
+second_true : (a b : Bool) → (a && b) ≡ true → b ≡ true
+second_true true b h = h
+second_true false b h = absurd (true≢false (sym h))
+
+-- ---- sets
+
+-- the members of a set; what is no set counts as its only member
+abbrev pub members_of : Tag → Tags
+members_of star = more star none
+members_of (string octets) = more (string octets) none
+members_of (prefix octets) = more (prefix octets) none
+members_of (range ordering low up) = more (range ordering low up) none
+members_of (list head further) = more (list head further) none
+members_of (set ts) = ts
+
+tags-items : (ts : Tags) → tags (items ts) ≡ ts
+tags-items none = refl
+tags-items (more t ts) = ap (more t) (tags-items ts)
+
+pub tags-members : (t : Tag) → tags (members t) ≡ members_of t
+tags-members star = refl
+tags-members (string octets) = refl
+tags-members (prefix octets) = refl
+tags-members (range ordering low up) = refl
+tags-members (list head further) = refl
+tags-members (set ts) = tags-items ts
+
+row-same : (f g : Tag → Tag) (bs : Tags) → ((b : Tag) → is_set_or_star b ≡ false → f b ≡ g b)
+    → each_normal is_set_or_star bs ≡ true → row f bs ≡ row g bs
+row-same f g none e h = refl
+row-same f g (more b bs) e h =
+    ap (λ t. kept t (row f bs)) (e b (not_barred (is_set_or_star b) (is_normal b) (each_normal is_set_or_star bs) h))
+    ∙ ap (kept (g b)) (row-same f g bs e (rest_normal (is_set_or_star b) (is_normal b) (each_normal is_set_or_star bs) h))
+
+across-same : (a : Tag) (f : Tag → Tag) (b : Tag) → is_set_or_star b ≡ false → f b ≡ across a f b
+across-same a f star h = absurd (true≢false h)
+across-same a f (string s) h = refl
+across-same a f (prefix s) h = refl
+across-same a f (range o l u) h = refl
+across-same a f (list head us) h = refl
+across-same a f (set us) h = absurd (true≢false h)
+
+one_row : (f g : Tag → Tag) (bs : Tags) → ((b : Tag) → is_set_or_star b ≡ false → f b ≡ g b)
+    → is_normal (set bs) ≡ true → gather (row f bs) ≡ gather (row g bs ++ [])
+one_row f g bs e n =
+    ap gather (row-same f g bs e (second_true (is_none_or_many bs) (each_normal is_set_or_star bs) n)
+    ∙ sym (append-nil (row g bs)))
+
+-- Where one is a set, the members of each are met with those of the other.
+pub meet-by_members : (a b : Tag) → is_star a ≡ false → is_star b ≡ false → (is_set a || is_set b) ≡ true
+    → is_normal b ≡ true → gather (pairs (members_of a) (members_of b)) ≡ meet a b
+meet-by_members star b h k j n = absurd (true≢false h)
+meet-by_members (set ms) star h k j n = absurd (true≢false k)
+meet-by_members (set ms) (string s) h k j n = refl
+meet-by_members (set ms) (prefix s) h k j n = refl
+meet-by_members (set ms) (range o l u) h k j n = refl
+meet-by_members (set ms) (list head us) h k j n = refl
+meet-by_members (set ms) (set us) h k j n = refl
+meet-by_members (string s) star h k j n = absurd (true≢false k)
+meet-by_members (string s) (string x) h k j n = absurd (true≢false (sym j))
+meet-by_members (string s) (prefix x) h k j n = absurd (true≢false (sym j))
+meet-by_members (string s) (range o l u) h k j n = absurd (true≢false (sym j))
+meet-by_members (string s) (list head us) h k j n = absurd (true≢false (sym j))
+meet-by_members (string s) (set us) h k j n =
+    sym (one_row (string_meet s) (meet (string s)) us (across-same (string s) (string_meet s)) n)
+meet-by_members (prefix s) star h k j n = absurd (true≢false k)
+meet-by_members (prefix s) (string x) h k j n = absurd (true≢false (sym j))
+meet-by_members (prefix s) (prefix x) h k j n = absurd (true≢false (sym j))
+meet-by_members (prefix s) (range o l u) h k j n = absurd (true≢false (sym j))
+meet-by_members (prefix s) (list head us) h k j n = absurd (true≢false (sym j))
+meet-by_members (prefix s) (set us) h k j n =
+    sym (one_row (prefix_meet s) (meet (prefix s)) us (across-same (prefix s) (prefix_meet s)) n)
+meet-by_members (range o l u) star h k j n = absurd (true≢false k)
+meet-by_members (range o l u) (string x) h k j n = absurd (true≢false (sym j))
+meet-by_members (range o l u) (prefix x) h k j n = absurd (true≢false (sym j))
+meet-by_members (range o l u) (range p m v) h k j n = absurd (true≢false (sym j))
+meet-by_members (range o l u) (list head us) h k j n = absurd (true≢false (sym j))
+meet-by_members (range o l u) (set us) h k j n =
+    sym (one_row (range_meet o l u) (meet (range o l u)) us (across-same (range o l u) (range_meet o l u)) n)
+meet-by_members (list head ts) star h k j n = absurd (true≢false k)
+meet-by_members (list head ts) (string x) h k j n = absurd (true≢false (sym j))
+meet-by_members (list head ts) (prefix x) h k j n = absurd (true≢false (sym j))
+meet-by_members (list head ts) (range o l u) h k j n = absurd (true≢false (sym j))
+meet-by_members (list head ts) (list other us) h k j n = absurd (true≢false (sym j))
+meet-by_members (list head ts) (set us) h k j n =
+    sym (one_row (list_meet head (each_meet ts)) (meet (list head ts)) us (across-same (list head ts) (list_meet head (each_meet ts))) n)
+
+members-le : (a : Tag) → nodes_all (members_of a) ≤ nodes a
+members-le star = omega arith
+members-le (string s) = omega arith
+members-le (prefix s) = omega arith
+members-le (range o l u) = omega arith
+members-le (list head us) = omega arith
+members-le (set us) = omega arith
+
+members-less : (a : Tag) → is_set a ≡ true → nodes_all (members_of a) + 1 ≤ nodes a
+members-less star h = absurd (true≢false (sym h))
+members-less (string s) h = absurd (true≢false (sym h))
+members-less (prefix s) h = absurd (true≢false (sym h))
+members-less (range o l u) h = absurd (true≢false (sym h))
+members-less (list head us) h = absurd (true≢false (sym h))
+members-less (set us) h = omega arith
+
+fewer : (a b : Tag) (s t : Bool) → is_set a ≡ s → is_set b ≡ t → (s || t) ≡ true
+    → nodes_all (members_of a) + nodes_all (members_of b) + 1 ≤ nodes a + nodes b
+fewer a b true t h k j = omega (arith, members-less a h, members-le b)
+fewer a b false true h k j = omega (arith, members-le a, members-less b k)
+fewer a b false false h k j = absurd (true≢false (sym j))
+
+-- what the meeting of members needs
+pub record MembersMeet (a b : Tag) : Type 0 where
+  pub less : nodes_all (members_of a) + nodes_all (members_of b) + 1 ≤ nodes a + nodes b
+  pub bound : nodes_all (members_of a) * nodes_all (members_of b) ≤ most_nodes
+  pub met : IsNormalTag (gather (pairs (members_of a) (members_of b)))
+
+pub members_meet : (a b : Tag) → is_star a ≡ false → is_star b ≡ false → (is_set a || is_set b) ≡ true
+    → IsNormalTag a → IsNormalTag b → nodes a * nodes b ≤ most_nodes → MembersMeet a b
+members_meet a b h k j n m few = record {
+  less = fewer a b (is_set a) (is_set b) refl refl j;
+  bound = le_trans (mul-le (nodes_all (members_of a)) (nodes_all (members_of b)) (nodes a) (nodes b) (members-le a) (members-le b)) few;
+  met = subst IsNormalTag (sym (meet-by_members a b h k j m.normal)) (meet-normal_tag a b n m few);
+}
+
+-- A step of the loop over the members of the one.
+pub pairs-step : (ones others met out ms added : List Tag) (i : ℕ) (t : Tag) → i < length ones
+    → met ++ pairs (tags (drop i ones)) (tags others) ≡ ms → t ≡ get_or ones i t
+    → out ≡ met ++ added → added ≡ row (meet t) (tags others)
+    → out ++ pairs (tags (drop (i + 1) ones)) (tags others) ≡ ms
+pairs-step ones others met out ms added i t h e u o r =
+    let rest : List Tag = pairs (tags (drop (i + 1) ones)) (tags others) in
+    let cut : drop i ones ≡ t ∷ drop (i + 1) ones =
+    drop-cons ones i t h ∙ ap (λ n. get_or ones i t ∷ drop n ones) (sym (add-one i))
+    ∙ ap (λ (x : Tag). x ∷ drop (i + 1) ones) (sym u) in
+    ap (λ (ts : List Tag). ts ++ rest) (o ∙ ap (λ (ts : List Tag). met ++ ts) r)
+    ∙ append_assoc met (row (meet t) (tags others)) rest
+    ∙ sym (ap (λ (ts : List Tag). met ++ pairs (tags ts) (tags others)) cut) ∙ e
+
+-- ---- lists
+
+-- what the meeting of two lists needs
+pub record ListsMeet (head other : List ℕ) (ts us : List Tag) : Type 0 where
+  pub bound : nodes_all (tags ts) * nodes_all (tags us) ≤ most_nodes
+  pub one : each_normal is_nothing (tags ts) ≡ true
+  pub second : each_normal is_nothing (tags us) ≡ true
+  pub met : IsNormalTag (meet (list head (tags ts)) (list other (tags us)))
+
+pub lists_meet : (head other : List ℕ) (ts us : List Tag) → IsNormalTag (list head (tags ts)) → IsNormalTag (list other (tags us))
+    → nodes (list head (tags ts)) * nodes (list other (tags us)) ≤ most_nodes → ListsMeet head other ts us
+lists_meet head other ts us n m few = record {
+  bound =
+      le_trans (mul-le (nodes_all (tags ts)) (nodes_all (tags us)) (2 + nodes_all (tags ts)) (2 + nodes_all (tags us)) (omega arith) (omega arith)) few;
+  one = n.normal;
+  second = m.normal;
+  met = meet-normal_tag (list head (tags ts)) (list other (tags us)) n m few;
+}
+
+-- the members from a place on
+pub each_meet-rest : (ts us : List Tag) (i : ℕ) (t u : Tag) → i < length ts → i < length us
+    → t ≡ get_or ts i t → u ≡ get_or us i u
+    → each_meet (tags (drop i ts)) (tags (drop i us))
+    ≡ meet t u ∷ each_meet (tags (drop (i + 1) ts)) (tags (drop (i + 1) us))
+each_meet-rest ts us i t u h k e f =
+    (λ x. each_meet (tags (cut ts t h e x)) (tags (cut us u k f x)))
+  where
+    cut : (ts : List Tag) (t : Tag) → i < length ts → t ≡ get_or ts i t → drop i ts ≡ t ∷ drop (i + 1) ts
+    cut ts t h e =
+        drop-cons ts i t h ∙ ap (λ n. get_or ts i t ∷ drop n ts) (sym (add-one i))
+        ∙ ap (λ (x : Tag). x ∷ drop (i + 1) ts) (sym e)
+
+or_false : (b : Bool) → b ≡ false → (b || false) ≡ false
+or_false true h = h
+or_false false h = refl
+
+or_both : (a b : Bool) → a ≡ false → b ≡ false → (a || b) ≡ false
+or_both true b h k = h
+or_both false b h k = k
+
+or_true : (a b : Bool) → b ≡ true → (a || b) ≡ true
+or_true true b h = refl
+or_true false b h = h
+
+pub has_nothing-found : (met ts : List Tag) (t : Tag) → is_nothing t ≡ true → has_nothing (met ++ t ∷ ts) ≡ true
+has_nothing-found [] ts t h = ap (λ b. b || has_nothing ts) h
+has_nothing-found (m ∷ met) ts t h = or_true (is_nothing m) (has_nothing (met ++ t ∷ ts)) (has_nothing-found met ts t h)
+
+has_nothing-append : (ts us : List Tag) → has_nothing ts ≡ false → has_nothing us ≡ false → has_nothing (ts ++ us) ≡ false
+has_nothing-append [] us h k = k
+has_nothing-append (t ∷ ts) us h k = by (is_nothing t) h (λ j. has_nothing-append ts us j k)
+  where
+    by : (b : Bool) → (b || has_nothing ts) ≡ false → (has_nothing ts ≡ false → has_nothing (ts ++ us) ≡ false)
+        → (b || has_nothing (ts ++ us)) ≡ false
+    by true h rest = h
+    by false h rest = rest h
+
+pub has_nothing-push : (ts : List Tag) (t : Tag) → has_nothing ts ≡ false → is_nothing t ≡ false
+    → has_nothing (ts ++ t ∷ []) ≡ false
+has_nothing-push ts t h k = has_nothing-append ts (t ∷ []) h (or_false (is_nothing t) k)
+
+-- (* set) is told by its equation
+pub nothing-is : (t : Tag) → t ≡ nothing → is_nothing t ≡ true
+nothing-is t e = ap is_nothing e
+
+pub nothing-is_not : (t : Tag) → (t ≡ nothing → ⊥) → is_nothing t ≡ false
+nothing-is_not star n = refl
+nothing-is_not (string s) n = refl
+nothing-is_not (prefix s) n = refl
+nothing-is_not (range o l u) n = refl
+nothing-is_not (list head us) n = refl
+nothing-is_not (set none) n = absurd (n refl)
+nothing-is_not (set (more u us)) n = refl
+
+pub items-tags : (ts : List Tag) → items (tags ts) ≡ ts
+items-tags [] = refl
+items-tags (t ∷ ts) = ap (λ (us : List Tag). t ∷ us) (items-tags ts)
+
+-- past the end of one the members of the other stay
+each_meet-end : (ts us : List Tag) → min (length ts) (length us) ≡ 0 → each_meet (tags ts) (tags us) ≡ ts ++ us
+each_meet-end [] us h = items-tags us
+each_meet-end (t ∷ ts) [] h = ap (λ (us : List Tag). t ∷ us) (items-tags ts) ∙ sym (append-nil (t ∷ ts))
+each_meet-end (t ∷ ts) (u ∷ us) h = absurd (omega (arith, h))
+
+normal-none : (ts : List Tag) → each_normal is_nothing (tags ts) ≡ true → has_nothing ts ≡ false
+normal-none [] h = refl
+normal-none (t ∷ ts) h =
+    or_both (is_nothing t) (has_nothing ts) (not_barred (is_nothing t) (is_normal t) (each_normal is_nothing (tags ts)) h)
+    (normal-none ts (rest_normal (is_nothing t) (is_normal t) (each_normal is_nothing (tags ts)) h))
+
+normal-drop : (ts : List Tag) (i : ℕ) → each_normal is_nothing (tags ts) ≡ true → each_normal is_nothing (tags (drop i ts)) ≡ true
+normal-drop ts zero h = h
+normal-drop [] (suc i) h = h
+normal-drop (t ∷ ts) (suc i) h =
+    normal-drop ts i (rest_normal (is_nothing t) (is_normal t) (each_normal is_nothing (tags ts)) h)
+
+-- The end of the loop over the places of two lists.
+pub each_meet-last : (ts us met out all : List Tag) (i : ℕ) → min (length (drop i ts)) (length (drop i us)) ≡ 0
+    → each_normal is_nothing (tags ts) ≡ true → each_normal is_nothing (tags us) ≡ true
+    → met ++ each_meet (tags (drop i ts)) (tags (drop i us)) ≡ all → has_nothing met ≡ false
+    → out ≡ met ++ drop i ts ++ drop i us → (out ≡ all) × (has_nothing all ≡ false)
+each_meet-last ts us met out all i h n m e k o =
+    let same : out ≡ all =
+    o ∙ append_assoc met (drop i ts) (drop i us) ∙ sym (ap (λ (ts : List Tag). met ++ ts) (each_meet-end (drop i ts) (drop i us) h)) ∙ e in (
+      same,
+      subst (λ (ts : List Tag). has_nothing ts ≡ false) (sym o ∙ same)
+          (has_nothing-append (met ++ drop i ts) (drop i us)
+          (has_nothing-append met (drop i ts) k (normal-none (drop i ts) (normal-drop ts i n)))
+          (normal-none (drop i us) (normal-drop us i m))),
+    )

@@ -1,0 +1,231 @@
+-- What two tags in normal form leave together is in normal form.
+use Rattle.std.proofs.Common.{◌≡◌, ℕ, Bool, true, false, ◌&&◌, ◌||◌, not, List, [], ◌∷◌, ◌++◌, Option, Some, None, refl, sym, ap, ◌∙◌, true≢false}
+use Rattle.std.specs.Prelude.{if◌then◌else◌, nat_eq}
+use Rattle.std.specs.List.{starts_with}
+use Rattle.std.specs.Str.{bytes_eq}
+use Rattle.spki_tag.specs.Request as request
+use Rattle.spki_tag.specs.Tag.{Tag, Tags, tags, Limit, Ordering, alpha, star, string, prefix, range, list, set, none, more, contains, is_nothing, is_set_or_star, is_normal, each_normal, is_none_or_many}
+use Rattle.spki_tag.specs.Meet.{greater_low, lesser_up, exclude, ordering_meet, nothing, ranged, least_above, strict_limit, from, string_meet, prefixes_meet, range_meet, prefix_meet, items, kept, row, gather, has_nothing, listed, list_meet, across, set_across, meet, each_meet, pairs}
+
+-- (* set), or neither a set nor a star; and in normal form
+abbrev fits : Tag → Bool
+fits t = (is_nothing t || not (is_set_or_star t)) && is_normal t
+
+abbrev never : Tag → Bool
+never t = false
+
+second_true : (a b : Bool) → (a && b) ≡ true → b ≡ true
+second_true true b h = h
+second_true false b h = absurd (true≢false (sym h))
+
+both_true : (a b : Bool) → a ≡ true → b ≡ true → (a && b) ≡ true
+both_true true b h k = k
+both_true false b h k = h
+
+not_barred : (b n r : Bool) → (not b && n && r) ≡ true → b ≡ false
+not_barred true n r h = absurd (true≢false (sym h))
+not_barred false n r h = refl
+
+its_normal : (b n r : Bool) → (not b && n && r) ≡ true → n ≡ true
+its_normal true n r h = absurd (true≢false (sym h))
+its_normal false true r h = refl
+its_normal false false r h = h
+
+rest_normal : (b n r : Bool) → (not b && n && r) ≡ true → r ≡ true
+rest_normal true n r h = absurd (true≢false (sym h))
+rest_normal false true r h = h
+rest_normal false false r h = absurd (true≢false (sym h))
+
+all_three : (b n r : Bool) → b ≡ false → n ≡ true → r ≡ true → (not b && n && r) ≡ true
+all_three true n r h k j = absurd (true≢false h)
+all_three false n r h k j = both_true n r k j
+
+if_fits : (b : Bool) (t u : Tag) → fits t ≡ true → fits u ≡ true → fits (if b then t else u) ≡ true
+if_fits true t u h k = h
+if_fits false t u h k = k
+
+ranged-fits : (o : Option Ordering) (l u : Option Limit) → fits (ranged o l u) ≡ true
+ranged-fits None l u = refl
+ranged-fits (Some o) l u = if_fits (exclude l u) nothing (range o l u) refl refl
+
+string-fits : (s : List ℕ) (b : Tag) → fits (string_meet s b) ≡ true
+string-fits s b = if_fits (contains b (request.string s)) (string s) nothing refl refl
+
+range-fits : (o : Ordering) (l u : Option Limit) (b : Tag) → fits (range_meet o l u b) ≡ true
+range-fits o l u star = refl
+range-fits o l u (string s) = string-fits s (range o l u)
+range-fits o l u (prefix p) =
+    ranged-fits (ordering_meet o alpha) (greater_low l (from p)) (lesser_up u (strict_limit (least_above p)))
+range-fits o l u (range p m v) = ranged-fits (ordering_meet o p) (greater_low l m) (lesser_up u v)
+range-fits o l u (list head us) = refl
+range-fits o l u (set us) = refl
+
+prefix-fits : (p : List ℕ) (b : Tag) → fits (prefix_meet p b) ≡ true
+prefix-fits p star = refl
+prefix-fits p (string s) = string-fits s (prefix p)
+prefix-fits p (prefix q) =
+    if_fits (starts_with nat_eq p q) (prefix p) (if starts_with nat_eq q p then prefix q else nothing) refl
+    (if_fits (starts_with nat_eq q p) (prefix q) nothing refl refl)
+prefix-fits p (range o l u) =
+    ranged-fits (ordering_meet alpha o) (greater_low (from p) l) (lesser_up (strict_limit (least_above p)) u)
+prefix-fits p (list head us) = refl
+prefix-fits p (set us) = refl
+
+-- ---- sets
+
+kept-normal : (t : Tag) (ts : List Tag) → fits t ≡ true → each_normal is_set_or_star (tags ts) ≡ true
+    → each_normal is_set_or_star (tags (kept t ts)) ≡ true
+kept-normal star ts h k = absurd (true≢false (sym h))
+kept-normal (string s) ts h k = k
+kept-normal (prefix s) ts h k = k
+kept-normal (range o l u) ts h k = k
+kept-normal (list head us) ts h k = both_true (each_normal is_nothing us) (each_normal is_set_or_star (tags ts)) h k
+kept-normal (set none) ts h k = k
+kept-normal (set (more u us)) ts h k = absurd (true≢false (sym h))
+
+gather-normal : (ts : List Tag) → each_normal is_set_or_star (tags ts) ≡ true → is_normal (gather ts) ≡ true
+gather-normal [] h = refl
+gather-normal (t ∷ []) h = its_normal (is_set_or_star t) (is_normal t) true h
+gather-normal (t ∷ u ∷ us) h = h
+
+append-normal : (ts us : List Tag) → each_normal is_set_or_star (tags ts) ≡ true
+    → each_normal is_set_or_star (tags us) ≡ true → each_normal is_set_or_star (tags (ts ++ us)) ≡ true
+append-normal [] us h k = k
+append-normal (t ∷ ts) us h k =
+    let r = each_normal is_set_or_star (tags ts) in
+    all_three (is_set_or_star t) (is_normal t) (each_normal is_set_or_star (tags (ts ++ us)))
+    (not_barred (is_set_or_star t) (is_normal t) r h) (its_normal (is_set_or_star t) (is_normal t) r h)
+    (append-normal ts us (rest_normal (is_set_or_star t) (is_normal t) r h) k)
+
+row-normal : (f : Tag → Tag) (bs : Tags) → ((b : Tag) → is_set_or_star b ≡ false → is_normal b ≡ true → fits (f b) ≡ true)
+    → each_normal is_set_or_star bs ≡ true → each_normal is_set_or_star (tags (row f bs)) ≡ true
+row-normal f none e h = refl
+row-normal f (more b bs) e h =
+    let r = each_normal is_set_or_star bs in
+    kept-normal (f b) (row f bs)
+    (e b (not_barred (is_set_or_star b) (is_normal b) r h) (its_normal (is_set_or_star b) (is_normal b) r h))
+    (row-normal f bs e (rest_normal (is_set_or_star b) (is_normal b) r h))
+
+-- ---- lists
+
+listed-by : (head : List ℕ) (ts : List Tag) → each_normal never (tags ts) ≡ true → has_nothing ts ≡ false
+    → each_normal is_nothing (tags ts) ≡ true
+listed-by head [] h k = refl
+listed-by head (t ∷ ts) h k =
+    let r = each_normal never (tags ts) in
+    all_three (is_nothing t) (is_normal t) (each_normal is_nothing (tags ts)) (left_false (is_nothing t) (has_nothing ts) k)
+    (its_normal false (is_normal t) r h)
+    (listed-by head ts (rest_normal false (is_normal t) r h) (right_false (is_nothing t) (has_nothing ts) k))
+  where
+    left_false : (a b : Bool) → (a || b) ≡ false → a ≡ false
+    left_false true b h = h
+    left_false false b h = refl
+
+    right_false : (a b : Bool) → (a || b) ≡ false → b ≡ false
+    right_false true b h = absurd (true≢false h)
+    right_false false b h = h
+
+listed-fits : (head : List ℕ) (ts : List Tag) → each_normal never (tags ts) ≡ true → fits (listed head ts) ≡ true
+listed-fits head ts h = by (has_nothing ts) refl
+  where
+    by : (b : Bool) → has_nothing ts ≡ b → fits (if b then nothing else list head (tags ts)) ≡ true
+    by true e = refl
+    by false e = listed-by head ts h e
+
+list-fits : (head : List ℕ) (f : Tags → List Tag) (b : Tag) → is_normal b ≡ true
+    → ((us : Tags) → each_normal is_nothing us ≡ true → each_normal never (tags (f us)) ≡ true)
+    → fits (list_meet head f b) ≡ true
+list-fits head f star n e = refl
+list-fits head f (string s) n e = refl
+list-fits head f (prefix s) n e = refl
+list-fits head f (range o l u) n e = refl
+list-fits head f (set us) n e = refl
+list-fits head f (list other us) n e =
+    if_fits (bytes_eq head other) (listed head (f us)) nothing (listed-fits head (f us) (e us n)) refl
+
+items-normal : (ts : Tags) → each_normal is_nothing ts ≡ true → each_normal never (tags (items ts)) ≡ true
+items-normal none h = refl
+items-normal (more t ts) h =
+    let r = each_normal is_nothing ts in
+    both_true (is_normal t) (each_normal never (tags (items ts))) (its_normal (is_nothing t) (is_normal t) r h)
+    (items-normal ts (rest_normal (is_nothing t) (is_normal t) r h))
+
+-- ---- tags
+
+across-fits : (a : Tag) (f : Tag → Tag) (b : Tag) → is_set_or_star b ≡ false → fits (f b) ≡ true → fits (across a f b) ≡ true
+across-fits a f star n e = absurd (true≢false n)
+across-fits a f (string s) n e = e
+across-fits a f (prefix s) n e = e
+across-fits a f (range o l u) n e = e
+across-fits a f (list head us) n e = e
+across-fits a f (set us) n e = absurd (true≢false n)
+
+across-normal : (a : Tag) (f : Tag → Tag) (b : Tag) → is_normal a ≡ true → is_normal b ≡ true
+    → ((b : Tag) → is_normal b ≡ true → fits (f b) ≡ true) → is_normal (across a f b) ≡ true
+across-normal a f star m n e = m
+across-normal a f (string s) m n e = second_true (is_nothing (f (string s)) || not (is_set_or_star (f (string s)))) (is_normal (f (string s))) (e (string s) n)
+across-normal a f (prefix s) m n e = second_true (is_nothing (f (prefix s)) || not (is_set_or_star (f (prefix s)))) (is_normal (f (prefix s))) (e (prefix s) n)
+across-normal a f (range o l u) m n e = second_true (is_nothing (f (range o l u)) || not (is_set_or_star (f (range o l u)))) (is_normal (f (range o l u))) (e (range o l u) n)
+across-normal a f (list head us) m n e = second_true (is_nothing (f (list head us)) || not (is_set_or_star (f (list head us)))) (is_normal (f (list head us))) (e (list head us) n)
+across-normal a f (set bs) m n e =
+    gather-normal (row f bs) (row-normal f bs (λ b p q. e b q) (second_true (is_none_or_many bs) (each_normal is_set_or_star bs) n))
+
+set_across-normal : (ms : Tags) (f : Tags → List Tag) (b : Tag) → is_normal (set ms) ≡ true → is_normal b ≡ true
+    → ((bs : Tags) → each_normal is_set_or_star bs ≡ true → each_normal is_set_or_star (tags (f bs)) ≡ true)
+    → is_normal (set_across ms f b) ≡ true
+set_across-normal ms f star m n e = m
+set_across-normal ms f (string s) m n e = gather-normal (f (more (string s) none)) (e (more (string s) none) refl)
+set_across-normal ms f (prefix s) m n e = gather-normal (f (more (prefix s) none)) (e (more (prefix s) none) refl)
+set_across-normal ms f (range o l u) m n e = gather-normal (f (more (range o l u) none)) (e (more (range o l u) none) refl)
+set_across-normal ms f (list head us) m n e =
+    gather-normal (f (more (list head us) none))
+    (e (more (list head us) none) (both_true (each_normal is_nothing us) true n refl))
+set_across-normal ms f (set bs) m n e =
+    gather-normal (f bs) (e bs (second_true (is_none_or_many bs) (each_normal is_set_or_star bs) n))
+
+mutual
+  -- of tags in normal form
+  pub meet-normal : (a b : Tag) → is_normal a ≡ true → is_normal b ≡ true → is_normal (meet a b) ≡ true
+  meet-normal star b m n = n
+  meet-normal (string s) b m n = across-normal (string s) (string_meet s) b m n (λ c q. string-fits s c)
+  meet-normal (prefix s) b m n = across-normal (prefix s) (prefix_meet s) b m n (λ c q. prefix-fits s c)
+  meet-normal (range o l u) b m n = across-normal (range o l u) (range_meet o l u) b m n (λ c q. range-fits o l u c)
+  meet-normal (list head ts) b m n =
+      across-normal (list head ts) (list_meet head (each_meet ts)) b m n
+      (λ c q. list-fits head (each_meet ts) c q (λ us r. each_meet-normal ts us m r))
+  meet-normal (set ms) b m n =
+      set_across-normal ms (pairs ms) b m n
+      (λ bs r. pairs-normal ms bs (second_true (is_none_or_many ms) (each_normal is_set_or_star ms) m) r)
+
+  -- of tags that are neither a set nor a star
+  meet-fits : (a b : Tag) → is_set_or_star a ≡ false → is_normal a ≡ true → is_set_or_star b ≡ false → is_normal b ≡ true
+      → fits (meet a b) ≡ true
+  meet-fits star b p m q n = absurd (true≢false p)
+  meet-fits (string s) b p m q n = across-fits (string s) (string_meet s) b q (string-fits s b)
+  meet-fits (prefix s) b p m q n = across-fits (prefix s) (prefix_meet s) b q (prefix-fits s b)
+  meet-fits (range o l u) b p m q n = across-fits (range o l u) (range_meet o l u) b q (range-fits o l u b)
+  meet-fits (list head ts) b p m q n =
+      across-fits (list head ts) (list_meet head (each_meet ts)) b q
+      (list-fits head (each_meet ts) b n (λ us r. each_meet-normal ts us m r))
+  meet-fits (set ms) b p m q n = absurd (true≢false p)
+
+  each_meet-normal : (ts us : Tags) → each_normal is_nothing ts ≡ true → each_normal is_nothing us ≡ true
+      → each_normal never (tags (each_meet ts us)) ≡ true
+  each_meet-normal none us m n = items-normal us n
+  each_meet-normal (more t ts) none m n = items-normal (more t ts) m
+  each_meet-normal (more t ts) (more u us) m n =
+      let r = each_normal is_nothing ts in
+      let s = each_normal is_nothing us in
+      both_true (is_normal (meet t u)) (each_normal never (tags (each_meet ts us)))
+      (meet-normal t u (its_normal (is_nothing t) (is_normal t) r m) (its_normal (is_nothing u) (is_normal u) s n))
+      (each_meet-normal ts us (rest_normal (is_nothing t) (is_normal t) r m) (rest_normal (is_nothing u) (is_normal u) s n))
+
+  pairs-normal : (ms bs : Tags) → each_normal is_set_or_star ms ≡ true → each_normal is_set_or_star bs ≡ true
+      → each_normal is_set_or_star (tags (pairs ms bs)) ≡ true
+  pairs-normal none bs m n = refl
+  pairs-normal (more a ms) bs m n =
+      let r = each_normal is_set_or_star ms in
+      append-normal (row (meet a) bs) (pairs ms bs)
+      (row-normal (meet a) bs
+      (λ b p q. meet-fits a b (not_barred (is_set_or_star a) (is_normal a) r m) (its_normal (is_set_or_star a) (is_normal a) r m) p q) n)
+      (pairs-normal ms bs (rest_normal (is_set_or_star a) (is_normal a) r m) n)

@@ -1,0 +1,129 @@
+//! The intersection of tags without members.
+
+ghost use Rattle.std.specs.Prelude.{◌≡◌, IfOk, option_map};
+ghost use Rattle.spki_tag.specs.Leaves.{ordering_of, limit_of, leaf_tag};
+ghost use Rattle.spki_tag.specs.Meet.{greater_low, lesser_up, ordering_meet, ranged, prefixes_meet, string_meet, meet};
+ghost use Rattle.spki_tag.specs.Met.{leaf_or_nothing};
+
+use crate::leaf::{Leaf, Limit, RangeOrdering, copied_limit};
+use crate::limit_meeting::{below_others, exclude, from_string, greater_low, lesser_up};
+use std::alloc::{AllocError, Global};
+
+/// The ordering of the strings that two orderings are of. Times and dates have none in common.
+fn common_ordering(one: RangeOrdering, other: RangeOrdering) -> Option<RangeOrdering>
+    ensures { option_map ordering_of result ≡ ordering_meet (ordering_of one) (ordering_of other) }
+{
+    match one {
+        RangeOrdering::Alpha => Some(other),
+        RangeOrdering::Time => match other {
+            RangeOrdering::Alpha => Some(one),
+            RangeOrdering::Time => Some(one),
+            RangeOrdering::Date => None,
+        },
+        RangeOrdering::Date => match other {
+            RangeOrdering::Alpha => Some(one),
+            RangeOrdering::Time => None,
+            RangeOrdering::Date => Some(one),
+        },
+    }
+}
+
+/// The range of an ordering with two limits, unless they exclude each other.
+fn limited(
+    ordering: Option<RangeOrdering>,
+    low: &Option<Limit>,
+    up: &Option<Limit>,
+) -> Result<Option<Leaf>, AllocError>
+    ensures { IfOk result (λ r. leaf_or_nothing r
+        ≡ ranged (option_map ordering_of ordering) (limit_of low.now) (limit_of up.now)) }
+{
+    match ordering {
+        None => Ok(None),
+        Some(common) => {
+            if exclude(low, up) {
+                Ok(None)
+            } else {
+                Ok(Some(Leaf::Range(common, copied_limit(low)?, copied_limit(up)?)))
+            }
+        }
+    }
+}
+
+/// What two ranges leave together: the greater lower limit and the lesser upper limit.
+fn meet_ranges(
+    ordering: RangeOrdering,
+    low: &Option<Limit>,
+    up: &Option<Limit>,
+    other: RangeOrdering,
+    other_low: &Option<Limit>,
+    other_up: &Option<Limit>,
+) -> Result<Option<Leaf>, AllocError>
+    ensures { IfOk result (λ r. leaf_or_nothing r
+        ≡ ranged (ordering_meet (ordering_of ordering) (ordering_of other))
+        (greater_low (limit_of low.now) (limit_of other_low.now)) (lesser_up (limit_of up.now) (limit_of other_up.now))) }
+{
+    limited(
+        common_ordering(ordering, other),
+        greater_low(low, other_low),
+        lesser_up(up, other_up),
+    )
+}
+
+/// A string, if a tag contains it.
+fn meet_string(octets: &Vec<u8>, other: &Leaf) -> Result<Option<Leaf>, AllocError>
+    ensures { IfOk result (λ r. leaf_or_nothing r ≡ string_meet octets.now.items (leaf_tag other.now)) }
+{
+    if other.holds(octets) {
+        Ok(Some(Leaf::String(octets.clone()?)))
+    } else {
+        Ok(None)
+    }
+}
+
+/// The longer of two prefixes, if it starts with the shorter.
+fn meet_prefixes(one: &Vec<u8>, other: &Vec<u8>) -> Result<Option<Leaf>, AllocError>
+    ensures { IfOk result (λ r. leaf_or_nothing r ≡ prefixes_meet one.now.items other.now.items) }
+{
+    if one.starts_with(other.as_slice()) {
+        Ok(Some(Leaf::Prefix(one.clone()?)))
+    } else if other.starts_with(one.as_slice()) {
+        Ok(Some(Leaf::Prefix(other.clone()?)))
+    } else {
+        Ok(None)
+    }
+}
+
+impl Leaf {
+    /// What two tags without members leave together, and nothing where that is `(* set)`. A prefix counts as the
+    /// range of any strings from itself to below the least string above all that start with it.
+    pub(crate) fn meet(&self, alloc: Global, other: &Leaf) -> Result<Option<Leaf>, AllocError>
+        ensures { IfOk result (λ r. leaf_or_nothing r ≡ meet (leaf_tag self.now) (leaf_tag other.now)) }
+    {
+        match self {
+            Leaf::Star => Ok(Some(other.copy()?)),
+            Leaf::String(octets) => meet_string(octets, other),
+            Leaf::Prefix(prefix) => match other {
+                Leaf::Star => Ok(Some(self.copy()?)),
+                Leaf::String(octets) => meet_string(octets, self),
+                Leaf::Prefix(second) => meet_prefixes(prefix, second),
+                Leaf::Range(ordering, low, up) => {
+                    let from = from_string(alloc, prefix)?;
+                    let below = below_others(alloc, prefix)?;
+                    meet_ranges(RangeOrdering::Alpha, &from, &below, *ordering, low, up)
+                }
+            },
+            Leaf::Range(ordering, low, up) => match other {
+                Leaf::Star => Ok(Some(self.copy()?)),
+                Leaf::String(octets) => meet_string(octets, self),
+                Leaf::Prefix(prefix) => {
+                    let from = from_string(alloc, prefix)?;
+                    let below = below_others(alloc, prefix)?;
+                    meet_ranges(*ordering, low, up, RangeOrdering::Alpha, &from, &below)
+                }
+                Leaf::Range(second, second_low, second_up) => {
+                    meet_ranges(*ordering, low, up, *second, second_low, second_up)
+                }
+            },
+        }
+    }
+}
