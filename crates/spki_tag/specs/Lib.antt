@@ -10,3 +10,4 @@ pub mod NodeFalls
 pub mod Asks
 pub mod AskFalls
 pub mod Meet
+pub mod NormalForm

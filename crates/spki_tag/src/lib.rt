@@ -8,6 +8,8 @@ mod laws;
 mod leaf;
 mod meeting;
 mod moment;
+mod normal;
+mod ranges;
 mod reading;
 mod request;
 mod tag;
