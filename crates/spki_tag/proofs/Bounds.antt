@@ -58,12 +58,12 @@ kept-le t ts = by (is_nothing t)
     by true = omega arith
     by false = omega arith
 
-gather-le : (ts : List Tag) → nodes (gather ts) ≤ 1 + nodes_all (tags ts)
+pub gather-le : (ts : List Tag) → nodes (gather ts) ≤ 1 + nodes_all (tags ts)
 gather-le [] = omega arith
 gather-le (t ∷ []) = omega arith
 gather-le (t ∷ u ∷ us) = omega arith
 
-append-nodes : (ts us : List Tag) → nodes_all (tags (ts ++ us)) ≡ nodes_all (tags ts) + nodes_all (tags us)
+pub append-nodes : (ts us : List Tag) → nodes_all (tags (ts ++ us)) ≡ nodes_all (tags ts) + nodes_all (tags us)
 append-nodes [] us = omega arith
 append-nodes (t ∷ ts) us = omega (arith, append-nodes ts us)
 

@@ -8,3 +8,4 @@ pub mod Limits
 pub mod Prefixes
 pub mod Exact
 pub mod Bounds
+pub mod Gathered

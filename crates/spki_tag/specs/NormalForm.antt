@@ -1,5 +1,5 @@
 -- What the steps that make a tag's normal form find (RFC 2693, section 6.3.1).
-use Rattle.std.specs.Prelude.{◌≡◌, ◌≤◌, Bool, true, false, ◌||◌, List, [], ◌∷◌}
+use Rattle.std.specs.Prelude.{◌≡◌, ◌≤◌, Bool, true, false, List, [], ◌∷◌}
 use Rattle.spki_tag.specs.Request.{Request}
 use Rattle.spki_tag.specs.Tag.{Tag, star, string, prefix, range, list, set, IsTag, contains, nodes, is_normal}
 use Rattle.spki_tag.specs.Meet.{items}
@@ -31,11 +31,6 @@ is_star (prefix octets) = false
 is_star (range ordering low up) = false
 is_star (list head further) = false
 is_star (set members) = false
-
--- (*) is among them
-abbrev pub has_star : List Tag → Bool
-has_star [] = false
-has_star (t ∷ ts) = is_star t || has_star ts
 
 -- what stands for a tag among the members of a set: its members, if it is a set
 abbrev pub in_place : Tag → List Tag

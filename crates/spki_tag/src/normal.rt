@@ -1,9 +1,10 @@
 //! Tags in normal form, which are made from the inside out.
 
 ghost use Rattle.std.specs.Prelude.{◌≡◌, ◌+◌, ◌≤◌, ◌++◌, IfOk, OnOk};
+ghost use Rattle.std.specs.List.{list_any};
 ghost use Rattle.spki_tag.specs.Request.{IsHead};
-ghost use Rattle.spki_tag.specs.Tag.{tags, list, set, nodes, most_nodes};
-ghost use Rattle.spki_tag.specs.NormalForm.{IsNormalOf, AreNormal, in_place, has_star};
+ghost use Rattle.spki_tag.specs.Tag.{tags, list, set, is_nothing, nodes, most_nodes};
+ghost use Rattle.spki_tag.specs.NormalForm.{IsNormalOf, AreNormal, is_star, in_place};
 
 use crate::tag::{Node, Tag};
 use std::alloc::{AllocError, Global};
@@ -25,14 +26,14 @@ fn push_member(members: &mut Vec<Tag>, tag: Tag) -> Result<(), AllocError>
 
 /// Whether `(*)` is among some tags.
 fn has_everything(members: &[Tag]) -> bool
-    ensures { result ≡ has_star members.now }
+    ensures { result ≡ list_any is_star members.now }
 {
     members.iter().any(|member| member.is_everything())
 }
 
 /// Whether `(* set)` is among some tags.
 fn has_nothing(members: &[Tag]) -> bool
-    ensures { result ≡ has_nothing members.now }
+    ensures { result ≡ list_any is_nothing members.now }
 {
     members.iter().any(|member| member.is_nothing())
 }
