@@ -9,3 +9,4 @@ pub mod Prefixes
 pub mod Exact
 pub mod Bounds
 pub mod Gathered
+pub mod Starred
