@@ -2,6 +2,7 @@
 use Rattle.std.proofs.Common.{◌≡◌, ◌≢◌, ℕ, ◌+◌, ◌≤◌, Bool, true, false, ◌⊎◌, inl, inr, List, [], ◌∷◌, ◌++◌, Option, Some, None, refl, sym, ap, ◌∙◌, subst, true≢false, arith}
 use Rattle.std.specs.Prelude.{codes, if◌then◌else◌}
 use Rattle.std.specs.List.{list_any}
+use Rattle.std.specs.Str.{bytes_eq}
 use Rattle.sexpr_core.specs.Value as value
 use Rattle.sexpr_core.specs.Value.{Value, Values, plain, values, group}
 use Rattle.spki_tag.specs.declared.fault.TagFault.{TagFault}
@@ -90,6 +91,16 @@ no_tag_after used fault v refused w k few e = refused w k (omega (arith, few)) e
 pub word_refused : (used : ℕ) (fault : TagFault) (v : Value) (vs : Values) → (IsWord v → ⊥)
     → IsNoTagAfter used fault (value.list (value.more (plain (codes "*")) (value.more v vs)))
 word_refused used fault v vs other w k few e = absurd (other (word_shape w v vs k e))
+
+pub other_word_refused : (used : ℕ) (fault : TagFault) (word : List ℕ) (vs : Values)
+    → false ≡ bytes_eq word (codes "set") → false ≡ bytes_eq word (codes "prefix") → false ≡ bytes_eq word (codes "range")
+    → IsNoTagAfter used fault (starred word vs)
+other_word_refused used fault word vs f g h = word_refused used fault (plain word) vs other
+  where
+    other : IsWord (plain word) → ⊥
+    other (inl e) = apart word (codes "set") f cc
+    other (inr (inl e)) = apart word (codes "prefix") g cc
+    other (inr (inr e)) = apart word (codes "range") h cc
 
 pub no_string_refused : (used : ℕ) (fault : TagFault) (vs : List Value) (v : Value) (us : List Value) → vs ≡ v ∷ us
     → IsNoString v → IsNoTagAfter used fault (group (plain (codes "*") ∷ vs))
