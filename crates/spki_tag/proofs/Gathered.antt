@@ -1,5 +1,5 @@
 -- Sets and lists of tags in normal form, and their own normal form.
-use Rattle.std.proofs.Common.{◌≡◌, ℕ, ◌+◌, ◌≤◌, Bool, true, false, ◌&&◌, ◌||◌, not, List, [], ◌∷◌, ◌++◌, refl, sym, ap, ◌∙◌, subst, true≢false, length, append-nil, arith, le_trans}
+use Rattle.std.proofs.Common.{◌≡◌, ℕ, ◌≤◌, Bool, true, false, ◌&&◌, ◌||◌, not, List, [], ◌∷◌, ◌++◌, refl, sym, ap, ◌∙◌, true≢false, length, append-nil, arith, le_trans}
 use Rattle.std.specs.List.{list_any}
 use Rattle.std.specs.Str.{bytes_eq}
 use Rattle.spki_tag.specs.Request as request
@@ -8,7 +8,7 @@ use Rattle.spki_tag.specs.Tag.{Tag, Tags, tags, star, string, prefix, range, lis
 use Rattle.spki_tag.specs.Meet.{items, gather, nothing, has_nothing}
 use Rattle.spki_tag.specs.NormalForm.{IsNormalOf, AreNormalOf, AreNormal, is_star, in_place}
 use Rattle.spki_tag.proofs.Exact.{second_true, or_false, and_false, append-exact, gather-exact, tags-items, not_barred, its_normal, rest_normal, has_nothing-none}
-use Rattle.spki_tag.proofs.Bounds.{append-nodes, gather-le, nodes-some}
+use Rattle.spki_tag.proofs.Bounds.{append-nodes, gather-le}
 
 -- ---- truth values
 

@@ -1,15 +1,14 @@
 -- Which tags are written as a list that begins with the star.
-use Rattle.std.proofs.Common.{◌≡◌, ◌≢◌, ℕ, ◌+◌, ◌≤◌, Bool, true, false, ◌⊎◌, inl, inr, List, [], ◌∷◌, ◌++◌, Option, Some, None, refl, sym, ap, ◌∙◌, subst, true≢false, arith}
-use Rattle.std.specs.Prelude.{codes, if◌then◌else◌}
-use Rattle.std.specs.List.{list_any}
+use Rattle.std.proofs.Common.{◌≡◌, ◌≢◌, ℕ, ◌+◌, false, ◌⊎◌, inl, inr, List, [], ◌∷◌, ◌++◌, Option, Some, refl, sym, ap, subst, arith}
+use Rattle.std.specs.Prelude.{codes}
 use Rattle.std.specs.Str.{bytes_eq}
 use Rattle.sexpr_core.specs.Value as value
 use Rattle.sexpr_core.specs.Value.{Value, Values, plain, values, group}
 use Rattle.spki_tag.specs.declared.fault.TagFault.{TagFault}
 use Rattle.spki_tag.specs.declared.fault.TagFault.TheVariants as faults
-use Rattle.spki_tag.specs.Tag.{Tag, Tags, Ordering, Limit, star, string, prefix, range, list, set, IsTag, tag_value, tag_values, ordering_name, limit_values, low_values, up_values, starred, nodes, nodes_all}
-use Rattle.spki_tag.specs.Read.{IsNoTag, most_read}
-use Rattle.spki_tag.specs.Steps.{IsNoTagAfter, AreNoTagsAfter, is_hinted, IsNoOrdering, IsNoLimit, AreLimits, AreNoLimits}
+use Rattle.spki_tag.specs.Tag.{Tag, Tags, Ordering, Limit, star, string, prefix, range, list, set, IsTag, tag_value, tag_values, ordering_name, low_values, up_values, starred, nodes, nodes_all}
+use Rattle.spki_tag.specs.Read.{IsNoTag}
+use Rattle.spki_tag.specs.Steps.{IsNoTagAfter, AreNoTagsAfter, IsNoOrdering, AreNoLimits}
 use Rattle.spki_tag.proofs.OneTag.{apart, word_only}
 
 -- ---- the forms

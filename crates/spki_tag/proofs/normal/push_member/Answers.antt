@@ -1,6 +1,3 @@
-use Rattle.std.proofs.Common.{◌≡◌, ◌++◌, ap, sym, ◌∙◌}
-use Rattle.spki_tag.specs.NormalForm.{in_place}
-use Rattle.spki_tag.specs.Tag.{tags, set}
 use Rattle.spki_tag.proofs.Gathered.{items-tags}
 use Rattle.spki_tag.proofs.normal.push_member.Goals as goal
 

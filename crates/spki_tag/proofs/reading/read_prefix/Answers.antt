@@ -1,5 +1,5 @@
 use Rattle.spki_tag.specs.declared.fault.TagFault.TheVariants as faults
-use Rattle.std.proofs.Common.{◌≡◌, [], IsTrue, true≢false, sym, ◌∙◌}
+use Rattle.std.proofs.Common.{true≢false, sym, ◌∙◌}
 use Rattle.spki_tag.proofs.Starred.{prefix_missing, prefix_more, prefix_other, list_is_no_string, hinted_is_no_string}
 use Rattle.spki_tag.proofs.reading.read_prefix.Goals as goal
 
