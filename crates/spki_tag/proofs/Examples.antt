@@ -162,7 +162,7 @@ abbrev inner : Tag
 inner = set (tags (b ∷ c ∷ []))
 
 becomes-set_in_set : IsNormalOf (set (tags (a ∷ inner ∷ []))) (set (tags (a ∷ b ∷ c ∷ [])))
-becomes-set_in_set = gathered_set (a ∷ inner ∷ []) (tt, refl, ((tt, tt), refl, tt)) refl
+becomes-set_in_set = gathered_set (a ∷ inner ∷ []) (tt, refl, ((tt, (tt, tt)), refl, tt)) refl
 
 becomes-star_in_set : IsNormalOf (set (tags (a ∷ star ∷ []))) star
 becomes-star_in_set = star_of_set (a ∷ star ∷ []) refl
