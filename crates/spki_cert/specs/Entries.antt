@@ -5,7 +5,7 @@ use Rattle.std.specs.Str.{bytes_eq}
 use Rattle.std.specs.List.{AllByRecursion, AllZip, list_any}
 use Rattle.sexpr_core.specs.Value.{Value, string, list, none, more, members, plain, group}
 use Rattle.spki_tag.specs.Tag as tags
-use Rattle.spki_tag.specs.Read.{ReadsAs, IsPlain, most_read}
+use Rattle.spki_tag.specs.Read.{ReadsAs}
 use Rattle.spki_cert.specs.declared.principal.Principal.{Principal}
 use Rattle.spki_cert.specs.declared.principal.Principal.TheVariants.{Key, Hash}
 use Rattle.spki_cert.specs.declared.window.Window.{Window}
@@ -146,17 +146,9 @@ pub record AclOf (v : Value) (es : List Entry) : Type 0 where
 
 -- ---- the forms that are read so far
 
--- a tag of the forms that are read so far
-pub record IsReadTag (v : Value) : Type 0 where
-  pub written : tags.Tag
-  pub tag : tags.IsTag written
-  pub few : tags.nodes written ≤ most_read
-  pub value : tags.tag_value written ≡ v
-  pub plainly : IsPlain written
-
--- (propagate), or the tag
+-- (propagate), or (tag T)
 abbrev pub IsReadField : Value → Type 0
-IsReadField v = (v ≡ propagate_field) ⊎ ((tag : Value) × (v ≡ tag_field tag) × IsReadTag tag)
+IsReadField v = (v ≡ propagate_field) ⊎ ((tag : Value) × (v ≡ tag_field tag))
 
 -- an entry of a key, with these fields
 pub record IsReadEntry (v : Value) : Type 0 where

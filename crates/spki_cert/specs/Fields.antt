@@ -8,9 +8,9 @@ use Rattle.spki_cert.specs.declared.fields.Fields.{Fields}
 use Rattle.spki_cert.specs.declared.window.Window.{Window}
 use Rattle.spki_cert.specs.Entries.{one_if, is_headed, count_headed, propagate_field, tag_field, FieldsOf, IsReadField}
 
--- (propagate) or (tag T), T any value
-abbrev pub IsPlainField : Value → Type 0
-IsPlainField v = (v ≡ propagate_field) ⊎ ((tag : Value) × (v ≡ tag_field tag))
+-- (propagate), or (tag T) of a tag that is read
+abbrev pub IsWholeField : Value → Type 0
+IsWholeField v = (v ≡ propagate_field) ⊎ ((value : Value) × (t : tags.Tag) × (v ≡ tag_field value) × ReadsAs value t)
 
 -- what is known when one more field has been read
 pub data Adds (v : Value) (before after : Fields) : Type 0 where
@@ -29,7 +29,7 @@ TagAmong fields (Some t) = (count_headed (codes "tag") fields ≡ 1) × ((tag : 
 
 -- fields that were read, and what they say
 pub record AreRead (fields : List Value) (known : Fields) : Type 0 where
-  pub each : AllByRecursion IsPlainField fields
+  pub each : AllByRecursion IsReadField fields
   pub count : count_headed (codes "propagate") fields ≡ one_if known.propagates
   pub propagates_is : known.propagates ≡ list_any (is_headed (codes "propagate")) fields
   pub tag_is : TagAmong fields known.tag

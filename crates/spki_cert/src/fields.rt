@@ -3,8 +3,9 @@
 ghost use Rattle.std.specs.Prelude.{◌≡◌, ◌≢◌, ◌∷◌, [], IfOk, IfErr, true, false};
 ghost use Rattle.sexpr_core.specs.Value.{Value, plain, group};
 ghost use Rattle.spki_tag.specs.Read.{ReadsAs};
-ghost use Rattle.spki_cert.specs.Entries.{FieldsOf, IsReadTag, IsReadField};
-ghost use Rattle.spki_cert.specs.Fields.{Adds, IsRepeated, AreNoFields, always};
+ghost use Rattle.spki_tag.specs.Tag.{Tag};
+ghost use Rattle.spki_cert.specs.Entries.{FieldsOf};
+ghost use Rattle.spki_cert.specs.Fields.{IsWholeField, Adds, IsRepeated, AreNoFields, always};
 
 use crate::fault::CertFaultKind;
 use crate::shape::headed;
@@ -23,7 +24,7 @@ pub(crate) struct Fields {
 fn tag_of(alloc: Global, rest: Members) -> Result<Tag, CertFaultKind>
     ensures found { IfOk result (λ t. (v : Value) × (rest.entry ≡ v ∷ []) × ReadsAs v t) }
     ensures refused { IfErr result (λ kind. kind ≢ CertFaultKind.Memory →
-        (v : Value) → rest.entry ≡ v ∷ [] → IsReadTag v → ⊥) }
+        (v : Value) (t : Tag) → rest.entry ≡ v ∷ [] → ReadsAs v t → ⊥) }
 {
     let Some((value, more)) = rest.split_first() else {
         return Err(CertFaultKind::Shape);
@@ -45,7 +46,7 @@ fn tag_of(alloc: Global, rest: Members) -> Result<Tag, CertFaultKind>
 fn with_field(alloc: Global, field: &Node, known: Fields) -> Result<Fields, CertFaultKind>
     ensures found { IfOk result (λ after. Adds field.now known after) }
     ensures refused { IfErr result (λ kind. kind ≢ CertFaultKind.Memory →
-        IsReadField field.now → IsRepeated field.now known) }
+        IsWholeField field.now → IsRepeated field.now known) }
 {
     if let Some(rest) = headed(field, b"propagate") {
         return with_propagate(rest, known);

@@ -6,6 +6,9 @@ use Rattle.spki_tag.specs.Time.{is_time, is_date}
 use Rattle.spki_tag.specs.Request as request
 use Rattle.spki_tag.specs.Request.{Request, Requests}
 use Rattle.spki_tag.specs.Tag.{Tag, Limit, alpha, time, date, star, string, prefix, range, list, set, tags, contains, is_normal, nodes, ldepth, tag_value}
+use Rattle.spki_tag.specs.Meet.{nothing}
+use Rattle.spki_tag.specs.NormalForm.{IsNormalOf}
+use Rattle.spki_tag.proofs.Gathered.{gathered_set, star_of_set, nothing_of_list}
 
 abbrev ask : List ℕ → Request
 ask octets = request.string octets
@@ -143,6 +146,32 @@ normal-form-nothing_in_list = refl
 
 normal-form-either : is_normal either ≡ true
 normal-form-either = refl
+
+-- ---- what tags become in normal form
+
+abbrev a : Tag
+a = string (codes "a")
+
+abbrev b : Tag
+b = string (codes "b")
+
+abbrev c : Tag
+c = string (codes "c")
+
+abbrev inner : Tag
+inner = set (tags (b ∷ c ∷ []))
+
+becomes-set_in_set : IsNormalOf (set (tags (a ∷ inner ∷ []))) (set (tags (a ∷ b ∷ c ∷ [])))
+becomes-set_in_set = gathered_set (a ∷ inner ∷ []) (tt, refl, ((tt, (tt, tt)), refl, tt)) refl
+
+becomes-star_in_set : IsNormalOf (set (tags (a ∷ star ∷ []))) star
+becomes-star_in_set = star_of_set (a ∷ star ∷ []) refl
+
+becomes-one_member : IsNormalOf (set (tags (a ∷ []))) a
+becomes-one_member = gathered_set (a ∷ []) (tt, refl, tt) refl
+
+becomes-nothing_in_list : IsNormalOf (list (codes "x") (tags (nothing ∷ []))) nothing
+becomes-nothing_in_list = nothing_of_list (codes "x") (nothing ∷ []) refl
 
 written-range : canon (tag_value (range alpha (at_least (codes "b")) (below (codes "m")))) ≡ codes "(1:*5:range5:alpha2:ge1:b1:l1:m)"
 unfolding verbatim decimal

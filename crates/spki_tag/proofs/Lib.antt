@@ -18,3 +18,5 @@ pub mod Depth
 pub mod NormalTag
 pub mod Rows
 pub mod MeetSteps
+pub mod Gathered
+pub mod Starred

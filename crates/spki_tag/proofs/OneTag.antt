@@ -7,11 +7,11 @@ use Rattle.sexpr_core.specs.Value.{Values, values}
 use Rattle.spki_tag.specs.Tag.{Tag, Tags, Limit, Ordering, alpha, time, date, star, string, prefix, range, list, set, none, more, IsTag, AreTags, tag_value, tag_values, ordering_name, low_values, up_values, starred}
 
 -- two words that are not the same
-apart : (a b : List ℕ) → false ≡ bytes_eq a b → a ≡ b → ⊥
+pub apart : (a b : List ℕ) → false ≡ bytes_eq a b → a ≡ b → ⊥
 apart a b d e = other_text a b d e
 
 -- the word behind the star
-word_only : (a b : List ℕ) (us vs : Values) → starred a us ≡ starred b vs → a ≡ b
+pub word_only : (a b : List ℕ) (us vs : Values) → starred a us ≡ starred b vs → a ≡ b
 word_only a b us vs e = cc
 
 -- ---- ranges

@@ -1,17 +1,23 @@
 -- Which tags are written as a value.
-use Rattle.std.proofs.Common.{◌≡◌, ℕ, ◌+◌, ◌≤◌, ◌<◌, true, false, List, [], ◌∷◌, ◌++◌, map, Some, refl, sym, ap, ◌∙◌, subst, arith, append_assoc}
+use Rattle.std.proofs.Common.{◌≡◌, ℕ, ◌+◌, ◌≤◌, ◌<◌, true, List, [], ◌∷◌, ◌++◌, map, Some, refl, sym, ap, ◌∙◌, subst, arith, append_assoc, append-nil}
 use Rattle.std.specs.Prelude.{codes}
 use Rattle.std.proofs.lemmas.List.{map_push}
 use Rattle.sexpr_core.specs.Value as value
 use Rattle.sexpr_core.specs.Value.{Value, Values, plain, values, group}
 use Rattle.spki_tag.specs.declared.fault.TagFault.{TagFault}
 use Rattle.spki_tag.specs.declared.fault.TagFault.TheVariants as faults
+use Rattle.spki_tag.specs.declared.leaf.Leaf.{Leaf}
+use Rattle.spki_tag.specs.declared.leaf.Leaf.TheVariants.{Star, String, Prefix, Range}
 use Rattle.spki_tag.specs.Request.{IsHead}
+use Rattle.spki_tag.specs.Leaves.{leaf_tag}
+use Rattle.spki_tag.specs.Tag.{Tag, Tags, tags, star, string, prefix, range, list, set, none, more, IsTag, AreTags, tag_value, tag_values, starred, nodes, nodes_all, is_normal, most_nodes}
+use Rattle.spki_tag.specs.NormalForm.{IsNormalOf, AreNormalOf, AreNormal}
+use Rattle.spki_tag.specs.Read.{most_read}
+use Rattle.spki_tag.specs.Steps.{IsNoTagAfter, AreNoTagsAfter, IsRead, AreRead, IsNoHead}
+use Rattle.spki_tag.proofs.Bounds.{nodes-some}
+use Rattle.spki_tag.proofs.Gathered.{AreNormal-of, AreNormalOf-push, nodes_all-of, list-of, set-of}
 use Rattle.spki_tag.proofs.OneTag.{tag_only}
 use Rattle.spki_tag.proofs.Weight.{weight, weights, weight_le-weights}
-use Rattle.spki_tag.specs.Tag.{Tag, Tags, tags, star, string, prefix, range, list, set, none, more, IsTag, AreTags, tag_value, tag_values, nodes, nodes_all, is_normal, each_normal, is_nothing, IsNormalTag}
-use Rattle.spki_tag.specs.Read.{IsPlain, ArePlain, RulesOut, most_read}
-use Rattle.spki_tag.specs.Steps.{IsNoTagAfter, AreNoTagsAfter, IsRead, AreRead, IsNoHead, IsHinted}
 
 -- ---- the forms
 
@@ -63,60 +69,7 @@ hinted_head_is_none (range ordering low up) hint octets vs e = cc
 hinted_head_is_none (list head ws) hint octets vs e = cc
 hinted_head_is_none (set ws) hint octets vs e = cc
 
--- no tag has a display hint behind the star
-pub hinted_form_is_none : (w : Tag) (hint octets : List ℕ) (vs : Values) → IsTag w
-    → tag_value w ≡ value.list (value.more (plain (codes "*")) (value.more (value.string (Some hint) octets) vs))
-    → ⊥
-hinted_form_is_none star hint octets vs h e = cc
-hinted_form_is_none (string s) hint octets vs h e = cc
-hinted_form_is_none (prefix s) hint octets vs h e = cc
-hinted_form_is_none (range ordering low up) hint octets vs h e = cc
-hinted_form_is_none (list head ws) hint octets vs h e = h.0 cc
-hinted_form_is_none (set ws) hint octets vs h e = cc
-
--- no tag that is read so far has anything behind the star
-pub form_is_not_plain : (w : Tag) (v : Value) (vs : Values) → IsTag w → IsPlain w
-    → tag_value w ≡ value.list (value.more (plain (codes "*")) (value.more v vs)) → ⊥
-form_is_not_plain star v vs h p e = cc
-form_is_not_plain (string s) v vs h p e = cc
-form_is_not_plain (prefix s) v vs h p e = p
-form_is_not_plain (range ordering low up) v vs h p e = p
-form_is_not_plain (list head ws) v vs h p e = h.0 cc
-form_is_not_plain (set ws) v vs h p e = p
-
--- ---- plain tags are in normal form
-
-plain_is_something : (t : Tag) → IsPlain t → is_nothing t ≡ false
-plain_is_something star p = refl
-plain_is_something (string octets) p = refl
-plain_is_something (prefix octets) p = refl
-plain_is_something (range ordering low up) p = refl
-plain_is_something (list head ts) p = refl
-plain_is_something (set members) p = absurd p
-
-mutual
-  pub plain_is_normal : (t : Tag) → IsPlain t → is_normal t ≡ true
-  plain_is_normal star p = refl
-  plain_is_normal (string octets) p = refl
-  plain_is_normal (prefix octets) p = refl
-  plain_is_normal (range ordering low up) p = refl
-  plain_is_normal (list head ts) p = plain_are_normal ts p
-  plain_is_normal (set members) p = absurd p
-
-  plain_are_normal : (ts : Tags) → ArePlain ts → each_normal is_nothing ts ≡ true
-  plain_are_normal none p = refl
-  plain_are_normal (more t ts) p = rw (plain_is_something t p.0, plain_is_normal t p.0, plain_are_normal ts p.1) refl
-
--- the list with these members is a tag of the type's
-pub list_is_normal : (head : List ℕ) (ts : List Tag) → IsHead head → ArePlain (tags ts) → AreTags (tags ts)
-    → 2 + nodes_all (tags ts) ≤ most_read → IsNormalTag (list head (tags ts))
-list_is_normal head ts h p k few = record { written = (h, k); normal = plain_are_normal (tags ts) p; few = omega arith }
-
 -- ---- the members of a list, one after the other
-
-pub ArePlain-push : (ts : List Tag) (t : Tag) → ArePlain (tags ts) → IsPlain t → ArePlain (tags (ts ++ t ∷ []))
-ArePlain-push [] t p q = (q, tt)
-ArePlain-push (u ∷ ts) t p q = (p.0, ArePlain-push ts t p.1 q)
 
 pub AreTags-push : (ts : List Tag) (t : Tag) → AreTags (tags ts) → IsTag t → AreTags (tags (ts ++ t ∷ []))
 AreTags-push [] t p q = (q, tt)
@@ -130,114 +83,68 @@ pub tag_values-tags : (ts : List Tag) → tag_values (tags ts) ≡ values (map t
 tag_values-tags [] = refl
 tag_values-tags (t ∷ ts) = ap (value.more (tag_value t)) (tag_values-tags ts)
 
-RulesOut-less : (fault : TagFault) (P Q : Type 0) → (P → Q) → RulesOut fault P → RulesOut fault Q
-RulesOut-less faults.EmptyList P Q f r = r
-RulesOut-less faults.ListHead P Q f r = r
-RulesOut-less faults.Hint P Q f r = r
-RulesOut-less faults.UnknownStar P Q f r = f r
-RulesOut-less faults.RangeOrdering P Q f r = r
-RulesOut-less faults.RangeLimit P Q f r = r
-RulesOut-less faults.TooManyNodes P Q f r = r
-RulesOut-less faults.StarInRequest P Q f r = r
-RulesOut-less faults.Memory P Q f r = r
-
 -- Behind members that were read, tags that are written as the whole list go on as the rest.
-rest_of : (fault : TagFault) (ts : List Tag) (rest : List Value) (ws : Tags) → AreTags (tags ts) → AreTags ws
-    → RulesOut fault (ArePlain ws) → tag_values ws ≡ values (map tag_value ts ++ rest)
-    → (us : Tags) × AreTags us × RulesOut fault (ArePlain us) × (tag_values us ≡ values rest)
-    × (nodes_all (tags ts) + nodes_all us ≡ nodes_all ws)
-rest_of fault [] rest ws h k r e = (ws, k, r, e, omega arith)
-rest_of fault (t ∷ ts) rest none h k r e = absurd cc
-rest_of fault (t ∷ ts) rest (more w ws) h k r e =
+rest_of : (ts : List Tag) (rest : List Value) (ws : Tags) → AreTags (tags ts) → AreTags ws
+    → tag_values ws ≡ values (map tag_value ts ++ rest)
+    → (us : Tags) × AreTags us × (tag_values us ≡ values rest) × (nodes_all (tags ts) + nodes_all us ≡ nodes_all ws)
+rest_of [] rest ws h k e = (ws, k, e, omega arith)
+rest_of (t ∷ ts) rest none h k e = absurd cc
+rest_of (t ∷ ts) rest (more w ws) h k e =
     let same : w ≡ t = tag_only t w h.0 k.0 cc in
-    let others =
-    rest_of fault ts rest ws h.1 k.1 (RulesOut-less fault (ArePlain (more w ws)) (ArePlain ws) (λ x. x.1) r) cc in
-    (others.0, others.1, others.2, others.3, omega (arith, others.4, ap nodes same))
+    let others = rest_of ts rest ws h.1 k.1 cc in
+    (others.0, others.1, others.2, omega (arith, others.3, ap nodes same))
 
 -- a member that is no tag
 pub member_refused : (fault : TagFault) (used before : ℕ) (ts : List Tag) (v : Value) (vs : List Value)
     → AreTags (tags ts) → before ≡ used + nodes_all (tags ts)
     → IsNoTagAfter before fault v → AreNoTagsAfter used fault (map tag_value ts ++ v ∷ vs)
-member_refused fault used before ts v vs h counted refused ws k few e r =
-    first_refused (rest_of fault ts (v ∷ vs) ws h k r e)
+member_refused fault used before ts v vs h counted refused ws k few e =
+    first_refused (rest_of ts (v ∷ vs) ws h k e)
   where
-    first_refused : (us : Tags) × AreTags us × RulesOut fault (ArePlain us) × (tag_values us ≡ values (v ∷ vs))
+    first_refused : (us : Tags) × AreTags us × (tag_values us ≡ values (v ∷ vs))
         × (nodes_all (tags ts) + nodes_all us ≡ nodes_all ws)
-        → ⊥
-    first_refused (none, written, ruled, spelled, sum) = cc
-    first_refused (more u us, written, ruled, spelled, sum) =
-        refused u written.0 (omega (arith, sum, counted, few)) (cc)
-        (RulesOut-less fault (ArePlain (more u us)) (IsPlain u) (λ x. x.0) ruled)
+        → fault ≡ faults.Memory
+    first_refused (none, written, spelled, sum) = absurd cc
+    first_refused (more u us, written, spelled, sum) =
+        refused u written.0 (omega (arith, sum, counted, few)) cc
 
 -- ---- faults
 
-nodes-positive : (t : Tag) → 0 < nodes t
-nodes-positive star = omega arith
-nodes-positive (string octets) = omega arith
-nodes-positive (prefix octets) = omega arith
-nodes-positive (range ordering low up) = omega arith
-nodes-positive (list head ts) = omega arith
-nodes-positive (set members) = omega arith
-
 -- there is no room for one node more
 pub no_room : (used : ℕ) (v : Value) → most_read ≤ used → IsNoTagAfter used faults.TooManyNodes v
-no_room used v full w k few e r = omega (arith, nodes-positive w, few, full)
+no_room used v full w k few e = absurd (omega (arith, nodes-some w, few, full))
 
 -- a list whose head is one node too many
 pub no_room_for_head : (used : ℕ) (head : List ℕ) (vs : Values) → IsHead head → most_read ≤ used + 1
     → IsNoTagAfter used faults.TooManyNodes (value.list (value.more (plain head) vs))
-no_room_for_head used head vs h full w k few e r =
+no_room_for_head used head vs h full w k few e =
     let s = list_shape w head vs h e in
     let n : nodes w ≡ 2 + nodes_all s.0 = ap nodes s.1 in
-    omega (arith, n, few, full)
+    absurd (omega (arith, n, few, full))
 
 -- a list with members that are no tags
 pub list_refused : (fault : TagFault) (used : ℕ) (head : List ℕ) (vs : List Value) → IsHead head
     → AreNoTagsAfter (used + 2) fault vs
     → IsNoTagAfter used fault (value.list (value.more (plain head) (values vs)))
-list_refused fault used head vs h refused w k few e r =
+list_refused fault used head vs h refused w k few e =
     let s = list_shape w head (values vs) h e in
     let n : nodes w ≡ 2 + nodes_all s.0 = ap nodes s.1 in
-    refused s.0 (subst IsTag s.1 k).1 (omega (arith, n, few)) s.2 (subst (λ x. RulesOut fault (IsPlain x)) s.1 r)
+    refused s.0 (subst IsTag s.1 k).1 (omega (arith, n, few)) s.2
 
 pub hinted_refused : (used : ℕ) (hint octets : List ℕ)
     → IsNoTagAfter used faults.Hint (value.string (Some hint) octets)
-hinted_refused used hint octets w k few e r = hinted_is_none w hint octets e
+hinted_refused used hint octets w k few e = absurd (hinted_is_none w hint octets e)
 
 pub empty_refused : (used : ℕ) → IsNoTagAfter used faults.EmptyList (value.list value.none)
-empty_refused used w k few e r = empty_is_none w e
+empty_refused used w k few e = absurd (empty_is_none w e)
 
 pub headed_refused : (used : ℕ) (us vs : Values)
     → IsNoTagAfter used faults.ListHead (value.list (value.more (value.list us) vs))
-headed_refused used us vs w k few e r = headed_is_none w us vs e
+headed_refused used us vs w k few e = absurd (headed_is_none w us vs e)
 
 pub hinted_head_refused : (used : ℕ) (hint octets : List ℕ) (vs : Values)
     → IsNoTagAfter used faults.Hint (value.list (value.more (value.string (Some hint) octets) vs))
-hinted_head_refused used hint octets vs w k few e r = hinted_head_is_none w hint octets vs e
-
-pub hinted_form_refused : (used : ℕ) (hint octets : List ℕ) (vs : Values)
-    → IsNoTagAfter used faults.Hint
-    (value.list (value.more (plain (codes "*")) (value.more (value.string (Some hint) octets) vs)))
-hinted_form_refused used hint octets vs w k few e r = hinted_form_is_none w hint octets vs k e
-
-pub form_refused : (used : ℕ) (v : Value) (vs : Values)
-    → IsNoTagAfter used faults.UnknownStar (value.list (value.more (plain (codes "*")) (value.more v vs)))
-form_refused used v vs w k few e r = form_is_not_plain w v vs k r e
-
--- ---- what is behind the star
-
-pub starred_hinted : (used : ℕ) (v : Value) (further vs : List Value) → further ≡ v ∷ vs → IsHinted v
-    → IsNoTagAfter used faults.Hint (group (plain (codes "*") ∷ further))
-starred_hinted used v further vs e h =
-    subst (λ us. IsNoTagAfter used faults.Hint (group (plain (codes "*") ∷ us))) (sym e)
-    (subst (λ x. IsNoTagAfter used faults.Hint (group (plain (codes "*") ∷ x ∷ vs))) (sym h.2)
-    (hinted_form_refused used h.0 h.1 (values vs)))
-
-pub starred_other : (used : ℕ) (v : Value) (further vs : List Value) → further ≡ v ∷ vs
-    → IsNoTagAfter used faults.UnknownStar (group (plain (codes "*") ∷ further))
-starred_other used v further vs e =
-    subst (λ us. IsNoTagAfter used faults.UnknownStar (group (plain (codes "*") ∷ us))) (sym e)
-    (form_refused used v (values vs))
+hinted_head_refused used hint octets vs w k few e = absurd (hinted_head_is_none w hint octets vs e)
 
 -- ---- heads
 
@@ -259,51 +166,135 @@ no_head_refused used faults.Memory v vs h = absurd h
 
 -- ---- the loop over the members
 
--- the members so far were read as plain tags, and these are left
+-- the members so far were read as tags, and these are left
 pub record IsReadSoFar (used : ℕ) (vs : List Value) (ts : List Tag) (counted : ℕ) (left : List Value) : Type 0 where
-  pub plain : ArePlain (tags ts)
-  pub written : AreTags (tags ts)
-  pub spelled : map tag_value ts ++ left ≡ vs
-  pub sum : counted ≡ used + nodes_all (tags ts)
+  pub ws : List Tag
+  pub written : AreTags (tags ws)
+  pub spelled : map tag_value ws ++ left ≡ vs
+  pub normal : AreNormalOf ws ts
+  pub sum : counted ≡ used + nodes_all (tags ws)
   pub few : counted ≤ most_read
+
+pub so_far_none : (used : ℕ) (vs : List Value) → used ≤ most_read → IsReadSoFar used vs [] used vs
+so_far_none used vs few = record {
+  ws = [];
+  written = tt;
+  spelled = refl;
+  normal = tt;
+  sum = omega arith;
+  few = few;
+}
 
 pub so_far_push : (used counted after : ℕ) (vs left further : List Value) (ts : List Tag) (v : Value) (t : Tag)
     → IsReadSoFar used vs ts counted left → left ≡ v ∷ further → IsRead counted v t after
     → IsReadSoFar used vs (ts ++ t ∷ []) after further
 so_far_push used counted after vs left further ts v t so_far e r = record {
-  plain = ArePlain-push ts t so_far.plain r.plain;
-  written = AreTags-push ts t so_far.written r.written;
+  ws = so_far.ws ++ r.w ∷ [];
+  written = AreTags-push so_far.ws r.w so_far.written r.written;
   spelled =
-      ap (λ (us : List Value). us ++ further) (map_push tag_value ts t)
-      ∙ append_assoc (map tag_value ts) (tag_value t ∷ []) further
-      ∙ ap (λ (x : Value). map tag_value ts ++ x ∷ further) r.spelled
-      ∙ ap (λ (us : List Value). map tag_value ts ++ us) (sym e) ∙ so_far.spelled;
-  sum = omega (arith, r.counted, so_far.sum, nodes_all-push ts t);
+      ap (λ (us : List Value). us ++ further) (map_push tag_value so_far.ws r.w)
+      ∙ append_assoc (map tag_value so_far.ws) (tag_value r.w ∷ []) further
+      ∙ ap (λ (x : Value). map tag_value so_far.ws ++ x ∷ further) r.spelled
+      ∙ ap (λ (us : List Value). map tag_value so_far.ws ++ us) (sym e) ∙ so_far.spelled;
+  normal = AreNormalOf-push so_far.ws ts r.w t so_far.normal r.normal;
+  sum = omega (arith, r.counted, so_far.sum, nodes_all-push so_far.ws r.w);
   few = r.few;
+}
+
+pub so_far_all : (used counted : ℕ) (vs left : List Value) (ts : List Tag) → IsReadSoFar used vs ts counted left
+    → left ≡ [] → AreRead used vs ts counted
+so_far_all used counted vs left ts so_far e = record {
+  ws = so_far.ws;
+  written = so_far.written;
+  spelled =
+      sym (append-nil (map tag_value so_far.ws))
+      ∙ ap (λ (us : List Value). map tag_value so_far.ws ++ us) (sym e) ∙ so_far.spelled;
+  normal = so_far.normal;
+  counted = so_far.sum;
+  few = so_far.few;
 }
 
 pub so_far_refused : (fault : TagFault) (used counted : ℕ) (vs left further : List Value) (ts : List Tag) (v : Value)
     → IsReadSoFar used vs ts counted left → left ≡ v ∷ further → IsNoTagAfter counted fault v
     → AreNoTagsAfter used fault vs
 so_far_refused fault used counted vs left further ts v so_far e refused =
-    subst (AreNoTagsAfter used fault) (ap (λ (us : List Value). map tag_value ts ++ us) (sym e) ∙ so_far.spelled)
-    (member_refused fault used counted ts v further so_far.written so_far.sum refused)
+    subst (AreNoTagsAfter used fault) (ap (λ (us : List Value). map tag_value so_far.ws ++ us) (sym e) ∙ so_far.spelled)
+    (member_refused fault used counted so_far.ws v further so_far.written so_far.sum refused)
+
+-- ---- what was read
+
+-- a tag in normal form stands for itself
+pub IsNormalOf-self : (t : Tag) → IsTag t → is_normal t ≡ true → IsNormalOf t t
+IsNormalOf-self t h n = record { written = h; normal = n; same = λ g. refl; no_more = omega arith }
+
+pub leaf_is_read : (used : ℕ) (leaf : Leaf) → used < most_read
+    → IsRead used (tag_value (leaf_tag leaf)) (leaf_tag leaf) (used + 1)
+leaf_is_read used Star room = record {
+  w = star;
+  written = tt;
+  spelled = refl;
+  normal = IsNormalOf-self star tt refl;
+  counted = refl;
+  few = omega arith;
+}
+leaf_is_read used (String octets) room = record {
+  w = string octets.items;
+  written = tt;
+  spelled = refl;
+  normal = IsNormalOf-self (string octets.items) tt refl;
+  counted = refl;
+  few = omega arith;
+}
+leaf_is_read used (Prefix octets) room = record {
+  w = prefix octets.items;
+  written = tt;
+  spelled = refl;
+  normal = IsNormalOf-self (prefix octets.items) tt refl;
+  counted = refl;
+  few = omega arith;
+}
+leaf_is_read used (Range o low up) room = record {
+  w = leaf_tag (Range o low up);
+  written = tt;
+  spelled = refl;
+  normal = IsNormalOf-self (leaf_tag (Range o low up)) tt refl;
+  counted = refl;
+  few = omega arith;
+}
 
 -- a list of members that were read
-pub list_is_read : (used after : ℕ) (head : List ℕ) (vs : List Value) (ts : List Tag) → IsHead head
-    → AreRead (used + 2) vs ts after → IsRead used (group (plain head ∷ vs)) (list head (tags ts)) after
-list_is_read used after head vs ts h r = record {
-  plain = r.plain;
+pub list_is_read : (used after : ℕ) (head : List ℕ) (vs : List Value) (ts : List Tag) (t : Tag) → IsHead head
+    → AreRead (used + 2) vs ts after → IsNormalOf (list head (tags ts)) t → IsRead used (group (plain head ∷ vs)) t after
+list_is_read used after head vs ts t h r n = record {
+  w = list head (tags r.ws);
   written = (h, r.written);
-  spelled = ap (λ us. value.list (value.more (plain head) us)) (tag_values-tags ts ∙ ap values r.spelled);
+  spelled = ap (λ us. value.list (value.more (plain head) us)) (tag_values-tags r.ws ∙ ap values r.spelled);
+  normal = list-of head r.ws ts t r.normal n;
   counted = omega (arith, r.counted);
   few = r.few;
 }
 
-pub list_is_in_normal_form : (used after : ℕ) (head : List ℕ) (vs : List Value) (ts : List Tag) → IsHead head
-    → AreRead (used + 2) vs ts after → IsNormalTag (list head (tags ts))
-list_is_in_normal_form used after head vs ts h r =
-    list_is_normal head ts h r.plain r.written (omega (arith, r.counted, r.few))
+-- a set of members that were read
+pub set_is_read : (used after : ℕ) (vs : List Value) (ts : List Tag) (t : Tag) → AreRead (used + 1) vs ts after
+    → IsNormalOf (set (tags ts)) t → IsRead used (starred (codes "set") (values vs)) t after
+set_is_read used after vs ts t r n = record {
+  w = set (tags r.ws);
+  written = r.written;
+  spelled = ap (starred (codes "set")) (tag_values-tags r.ws ∙ ap values r.spelled);
+  normal = set-of r.ws ts t r.normal n;
+  counted = omega (arith, r.counted);
+  few = r.few;
+}
+
+-- few enough nodes for a list or a set of members that were read
+pub members_fit : (used after : ℕ) (vs : List Value) (ts : List Tag) → AreRead used vs ts after
+    → 2 + nodes_all (tags ts) ≤ most_nodes
+members_fit used after vs ts r = omega (arith, r.counted, r.few, nodes_all-of r.ws ts r.normal)
+
+pub members_normal : (used after : ℕ) (vs : List Value) (ts : List Tag) → AreRead used vs ts after → AreNormal ts
+members_normal used after vs ts r = AreNormal-of r.ws ts r.normal
+
+-- ---- lists
 
 pub list_no_head : (used : ℕ) (fault : TagFault) (members : List Value) (v : Value) (vs : List Value)
     → members ≡ v ∷ vs → IsNoHead fault v → IsNoTagAfter used fault (group members)
@@ -318,8 +309,8 @@ list_empty used members e = subst (λ us. IsNoTagAfter used faults.EmptyList (gr
 pub so_far_weight : (used counted : ℕ) (vs left further : List Value) (ts : List Tag) (v : Value)
     → IsReadSoFar used vs ts counted left → left ≡ v ∷ further → weight v ≤ weights (values vs)
 so_far_weight used counted vs left further ts v so_far e =
-    subst (λ us. weight v ≤ weights (values us)) (ap (λ (us : List Value). map tag_value ts ++ us) (sym e) ∙ so_far.spelled)
-    (weight_le-weights (map tag_value ts) v further)
+    subst (λ us. weight v ≤ weights (values us)) (ap (λ (us : List Value). map tag_value so_far.ws ++ us) (sym e) ∙ so_far.spelled)
+    (weight_le-weights (map tag_value so_far.ws) v further)
 
 -- ---- writing
 

@@ -13,3 +13,4 @@ pub mod Meet
 pub mod Index
 pub mod Places
 pub mod Met
+pub mod NormalForm

@@ -1,13 +1,16 @@
 //! Reading tags.
 
 ghost use Rattle.std.specs.Prelude.{◌≡◌, ◌+◌, ◌≤◌, ◌<◌, ◌∷◌, IfOk, IfErr, IfSome, IsSome, IsOkUnless, codes};
-ghost use Rattle.std.specs.Bool.{OnTrue};
-ghost use Rattle.sexpr_core.specs.Value.{plain, group, node};
+ghost use Rattle.sexpr_core.specs.Value.{plain, group, values, node};
+ghost use Rattle.spki_tag.specs.Leaves.{leaf_tag};
+ghost use Rattle.spki_tag.specs.Tag.{Tag, IsTag, tag_value, starred, nodes};
 ghost use Rattle.spki_tag.specs.Request.{IsHead};
-ghost use Rattle.spki_tag.specs.Read.{ReadsAs, IsReadable, IsNoTag, most_read};
-ghost use Rattle.spki_tag.specs.Steps.{IsRead, AreRead, IsNoTagAfter, AreNoTagsAfter, IsNoHead, IsHinted};
+ghost use Rattle.spki_tag.specs.Read.{ReadsAs, IsNoTag, most_read};
+ghost use Rattle.spki_tag.specs.Steps.{IsRead, AreRead, IsNoTagAfter, AreNoTagsAfter, IsNoHead};
 
 use crate::fault::TagFault;
+use crate::leaf::Leaf;
+use crate::ranges::read_range;
 use crate::tag::Tag;
 use sexpr_core::{Doc, Form, Members, Node, NodeId};
 use std::alloc::Global;
@@ -27,30 +30,23 @@ pub(crate) fn head_of<'a>(first: &Node<'_, 'a>) -> Result<&'a [u8], TagFault>
     }
 }
 
-/// Whether a value is a string with a display hint.
-fn is_hinted(value: &Node<'_, '_>) -> bool
-    ensures { OnTrue result (IsHinted value.now) }
-{
-    match value.form() {
-        Form::List(_) => false,
-        Form::String { hint: None, .. } => false,
-        Form::String { hint: Some(_), .. } => true,
-    }
-}
-
-/// Reads what stands behind the head `*` of a list, of which so many nodes were counted before.
-fn read_starred(further: Members<'_, '_>, used: usize) -> Result<(Tag, usize), TagFault>
-    requires { used < most_read }
-    ensures read { IfOk result (λ p. IsRead used (group (plain (codes "*") ∷ further.entry)) p.0 p.1) }
-    ensures refused { IfErr result (λ fault. IsNoTagAfter used fault (group (plain (codes "*") ∷ further.entry))) }
+/// Reads what is behind `*` and `prefix`.
+fn read_prefix(alloc: Global, further: Members<'_, '_>) -> Result<Leaf, TagFault>
+    ensures read { IfOk result (λ leaf. tag_value (leaf_tag leaf) ≡ starred (codes "prefix") (values further.entry)) }
+    ensures refused { IfErr result (λ fault. IsNoTag fault (starred (codes "prefix") (values further.entry))) }
 {
     match further.split_first() {
-        None => Ok((Tag::everything(), used + 1)),
-        Some((form, _)) => {
-            if is_hinted(&form) {
-                Err(TagFault::Hint)
-            } else {
-                Err(TagFault::UnknownStar)
+        None => Err(TagFault::UnknownStar),
+        Some((prefix, rest)) => {
+            if !rest.is_empty() {
+                return Err(TagFault::UnknownStar);
+            }
+            match prefix.form() {
+                Form::List(_) => Err(TagFault::UnknownStar),
+                Form::String { hint: None, body } => {
+                    Ok(Leaf::Prefix(Vec::from_slice(alloc, body)?))
+                }
+                Form::String { hint: Some(_), .. } => Err(TagFault::Hint),
             }
         }
     }
@@ -87,12 +83,67 @@ fn read_list(alloc: Global, members: Members<'_, '_>, used: usize) -> Result<(Ta
         Some((first, further)) => {
             let head = head_of(&first)?;
             if head == b"*".as_slice() {
-                read_starred(further, used)
+                read_starred(alloc, further, used)
             } else {
                 read_plain_list(alloc, head, further, used)
             }
         }
     }
+}
+
+/// Reads what stands behind the head `*` of a list.
+#[cycle(read)]
+fn read_starred(
+    alloc: Global,
+    further: Members<'_, '_>,
+    used: usize,
+) -> Result<(Tag, usize), TagFault>
+    requires { used < most_read }
+    ensures read { IfOk result (λ p. IsRead used (group (plain (codes "*") ∷ further.entry)) p.0 p.1) }
+    ensures refused { IfErr result (λ fault. IsNoTagAfter used fault (group (plain (codes "*") ∷ further.entry))) }
+{
+    match further.split_first() {
+        None => Ok((Tag::everything(), used + 1)),
+        Some((form, rest)) => match form.form() {
+            Form::List(_) => Err(TagFault::UnknownStar),
+            Form::String { hint: None, body } => read_form(alloc, body, rest, used),
+            Form::String { hint: Some(_), .. } => Err(TagFault::Hint),
+        },
+    }
+}
+
+/// Reads what stands behind `*` and this word.
+#[cycle(read)]
+fn read_form(
+    alloc: Global,
+    word: &[u8],
+    further: Members<'_, '_>,
+    used: usize,
+) -> Result<(Tag, usize), TagFault>
+    requires { used < most_read }
+    ensures read { IfOk result (λ p. IsRead used (starred word.now (values further.entry)) p.0 p.1) }
+    ensures refused { IfErr result (λ fault. IsNoTagAfter used fault (starred word.now (values further.entry))) }
+{
+    if word == b"set".as_slice() {
+        read_set(alloc, further, used)
+    } else if word == b"prefix".as_slice() {
+        Ok((Tag::leaf(read_prefix(alloc, further)?), used + 1))
+    } else if word == b"range".as_slice() {
+        Ok((Tag::leaf(read_range(alloc, further)?), used + 1))
+    } else {
+        Err(TagFault::UnknownStar)
+    }
+}
+
+/// Reads what stands behind `*` and `set`.
+#[cycle(read)]
+fn read_set(alloc: Global, further: Members<'_, '_>, used: usize) -> Result<(Tag, usize), TagFault>
+    requires { used < most_read }
+    ensures read { IfOk result (λ p. IsRead used (starred (codes "set") (values further.entry)) p.0 p.1) }
+    ensures refused { IfErr result (λ fault. IsNoTagAfter used fault (starred (codes "set") (values further.entry))) }
+{
+    let (members, after) = read_members(alloc, further, used + 1)?;
+    Ok((Tag::set_of(alloc, members)?, after))
 }
 
 /// Reads a list with this head, which isn't `*`, and these members behind it as a tag.
@@ -113,7 +164,7 @@ fn read_plain_list(
     }
     let (members, after) = read_members(alloc, further, used + 2)?;
     let octets = Vec::from_slice(alloc, head)?;
-    Ok((Tag::list(octets, members), after))
+    Ok((Tag::list_of(octets, members), after))
 }
 
 /// Reads each of the members as a tag.
@@ -142,17 +193,17 @@ fn read_members(
 impl Tag {
     /// Reads a node of a document as a tag, and brings it into normal form.
     ///
-    /// Read so far are strings, lists that don't begin with `*`, and `(*)`; a list that begins with `*` and `set`,
-    /// `prefix` or `range` is an `UnknownStar`.
-    ///
     /// # Errors
     ///
-    /// The first fault, depth first from the left: more than 1,024 nodes are `TooManyNodes`, a string with a
-    /// display hint is `Hint`, a list without members `EmptyList`, one that begins with a list `ListHead`, and one
-    /// that begins with `*` and is no tag `UnknownStar`. `Memory` where memory ran out.
+    /// The first fault, depth first from the left: more than 1,024 nodes as written are `TooManyNodes`, a string with
+    /// a display hint is `Hint`, a list without members `EmptyList`, one that begins with a list `ListHead`, and one
+    /// that begins with `*` and is no form of a tag `UnknownStar`. A range of another ordering than `alpha`, `time`
+    /// and `date` is `RangeOrdering`, and one with other limits than at most a lower one and then at most an upper
+    /// one `RangeLimit`. `Memory` where memory ran out.
     pub fn of(alloc: Global, value: &Node<'_, '_>) -> Result<Tag, TagFault>
         ensures read { IfOk result (λ tag. ReadsAs value.now tag) }
-        ensures only { IsReadable value.now → IsOkUnless result TagFault.Memory }
+        ensures only { (t : Tag) → IsTag t → nodes t ≤ most_read → tag_value t ≡ value.now
+            → IsOkUnless result TagFault.Memory }
         ensures refused { IfErr result (λ fault. IsNoTag fault value.now) }
     {
         let (tag, _) = read_tag(alloc, value, 0)?;
@@ -167,7 +218,8 @@ impl Tag {
     pub fn read(alloc: Global, document: &Doc<'_>, n: NodeId) -> Result<Tag, TagFault>
         requires { IsSome (node document.now n.0) }
         ensures read { IfSome (node document.now n.0) (λ value. IfOk result (λ tag. ReadsAs value tag)) }
-        ensures only { IfSome (node document.now n.0) (λ value. IsReadable value → IsOkUnless result TagFault.Memory) }
+        ensures only { IfSome (node document.now n.0) (λ value.
+            (t : Tag) → IsTag t → nodes t ≤ most_read → tag_value t ≡ value → IsOkUnless result TagFault.Memory) }
         ensures refused { IfSome (node document.now n.0) (λ value. IfErr result (λ fault. IsNoTag fault value)) }
     {
         match document.node(n) {

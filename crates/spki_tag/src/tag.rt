@@ -2,6 +2,9 @@
 
 ghost use Rattle.std.specs.Prelude.{◌≡◌, ◌≤◌, ◌↔◌, IsTrue, IfOk};
 ghost use Rattle.spki_tag.specs.Tag as spec;
+ghost use Rattle.spki_tag.specs.Leaves.{leaf_tag};
+ghost use Rattle.spki_tag.specs.Meet.{gather};
+ghost use Rattle.spki_tag.specs.NormalForm.{is_star};
 
 use crate::leaf::Leaf;
 use std::alloc::{AllocError, Global};
@@ -53,12 +56,30 @@ impl Tag {
         }
     }
 
+    /// The tag `(* set)`, which contains no request.
+    pub(crate) fn nothing(alloc: Global) -> Tag
+        ensures { result ≡ spec.set spec.none }
+    {
+        Tag {
+            node: Node::Set(Vec::new(alloc)),
+        }
+    }
+
     /// A string.
     pub(crate) fn string(octets: Vec<u8>) -> Tag
         ensures { result ≡ spec.string octets.items }
     {
         Tag {
             node: Node::Leaf(Leaf::String(octets)),
+        }
+    }
+
+    /// A tag without members.
+    pub(crate) fn leaf(leaf: Leaf) -> Tag
+        ensures { result ≡ leaf_tag leaf }
+    {
+        Tag {
+            node: Node::Leaf(leaf),
         }
     }
 
@@ -69,6 +90,33 @@ impl Tag {
     {
         Tag {
             node: Node::List(head, further),
+        }
+    }
+
+    /// A set of these tags, none of which is a set or `(*)`: one alone is the tag itself.
+    pub(crate) fn gathered(members: Vec<Tag>) -> Tag
+        requires { spec.IsNormalTag (gather members.items) }
+        ensures { result ≡ gather members.items }
+    {
+        let mut members = members;
+        if members.len() == 1 {
+            members.swap_remove(0)
+        } else {
+            Tag {
+                node: Node::Set(members),
+            }
+        }
+    }
+
+    /// Whether this is `(*)`.
+    pub(crate) fn is_everything(&self) -> bool
+        ensures { result ≡ is_star self.now }
+    {
+        match &self.node {
+            Node::Leaf(Leaf::Star) => true,
+            Node::Leaf(_) => false,
+            Node::List(_, _) => false,
+            Node::Set(_) => false,
         }
     }
 

@@ -12,7 +12,7 @@ pub returns-in_default-headed-clause-refused : goal.returns-in_default-headed-cl
 returns-in_default-headed-clause-refused c =
     λ _ field. elim field [
       | inl e ↦ absurd (c.in_default.ensures [] e)
-      | inr t ↦ absurd (c.in_default-headed.ensures (t.0 ∷ []) t.1)
+      | inr t ↦ absurd (c.in_default-headed.ensures (t.0 ∷ []) t.2)
     ]
 
 no-tag : (t : Option tags.Tag) → is_some t ≡ false → t ≡ None
@@ -35,5 +35,5 @@ returns-in_err-tag-clause-refused c =
     let p = err_from_is_err_and c.from_residual.result c.from_residual.ensures.1 in
     rw (p.1, p.2) (λ kind field. elim field [
       | inl e ↦ absurd (c.in_default.ensures [] e)
-      | inr t ↦ absurd (c.in_err-tag.ensures.refused kind t.0 (behind-tag c.args.field.now c.in-Some-headed.rest t.0 c.in-Some-headed.ensures t.1) t.2)
+      | inr t ↦ absurd (c.in_err-tag.ensures.refused kind t.0 t.1 (behind-tag c.args.field.now c.in-Some-headed.rest t.0 c.in-Some-headed.ensures t.2) t.3)
     ])

@@ -10,6 +10,15 @@ decreases-read_tag l = 4 * weight l.value.now
 abbrev pub decreases-read_list : goal.decreases-read_list
 decreases-read_list l = 4 * weights (values l.members) + 3
 
+abbrev pub decreases-read_starred : goal.decreases-read_starred
+decreases-read_starred l = 4 * weights (values l.further) + 3
+
+abbrev pub decreases-read_form : goal.decreases-read_form
+decreases-read_form l = 4 * weights (values l.further) + 3
+
+abbrev pub decreases-read_set : goal.decreases-read_set
+decreases-read_set l = 4 * weights (values l.further) + 2
+
 abbrev pub decreases-read_plain_list : goal.decreases-read_plain_list
 decreases-read_plain_list l = 4 * weights (values l.further) + 2
 

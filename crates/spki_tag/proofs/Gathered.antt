@@ -1,0 +1,269 @@
+-- Sets and lists of tags in normal form, and their own normal form.
+use Rattle.std.proofs.Common.{◌≡◌, ℕ, ◌≤◌, Bool, true, false, ◌&&◌, ◌||◌, not, List, [], ◌∷◌, ◌++◌, refl, sym, ap, ◌∙◌, true≢false, length, append-nil, arith, le_trans}
+use Rattle.std.specs.List.{list_any}
+use Rattle.std.specs.Str.{bytes_eq}
+use Rattle.spki_tag.specs.Request as request
+use Rattle.spki_tag.specs.Request.{Request, Requests, IsHead}
+use Rattle.spki_tag.specs.Tag.{Tag, Tags, tags, star, string, prefix, range, list, set, none, more, IsTag, AreTags, contains, contain_each, some_contains, nodes, nodes_all, is_nothing, is_set_or_star, is_none_or_many, is_normal, each_normal, most_nodes, IsNormalTag}
+use Rattle.spki_tag.specs.Meet.{items, gather, nothing, has_nothing}
+use Rattle.spki_tag.specs.NormalForm.{IsNormalOf, AreNormalOf, AreNormal, is_star, in_place}
+use Rattle.spki_tag.proofs.Exact.{second_true, or_false, and_false, append-exact, gather-exact, tags-items, not_barred, its_normal, rest_normal, has_nothing-none}
+use Rattle.spki_tag.proofs.Bounds.{append-nodes, gather-le}
+
+-- ---- truth values
+
+or_true : (a : Bool) → (a || true) ≡ true
+or_true true = refl
+or_true false = refl
+
+-- where each implies another, some of the former implies some of the latter
+some_too : (a b c d : Bool) → (a ≡ true → c ≡ true) → (b ≡ true → d ≡ true) → (a || b) ≡ true → (c || d) ≡ true
+some_too true b c d f k h = ap (λ x. x || d) (f refl)
+some_too false b c d f k h = ap (λ x. c || x) (k h) ∙ or_true c
+
+first_none : (a b : Bool) → (a || b) ≡ false → a ≡ false
+first_none true b h = absurd (true≢false h)
+first_none false b h = refl
+
+second_none : (a b : Bool) → (a || b) ≡ false → b ≡ false
+second_none true b h = absurd (true≢false h)
+second_none false b h = h
+
+all_three : (b n r : Bool) → b ≡ false → n ≡ true → r ≡ true → (not b && n && r) ≡ true
+all_three true n r h k j = absurd (true≢false h)
+all_three false true r h k j = j
+all_three false false r h k j = absurd (true≢false (sym k))
+
+-- ---- members of a set
+
+-- members of sets are put in their place
+abbrev pub spread : List Tag → List Tag
+spread [] = []
+spread (t ∷ ts) = in_place t ++ spread ts
+
+pub items-tags : (ts : List Tag) → items (tags ts) ≡ ts
+items-tags [] = refl
+items-tags (t ∷ ts) = ap (λ us. t ∷ us) (items-tags ts)
+
+in_place-exact : (t : Tag) (g : Request) → some_contains (tags (in_place t)) g ≡ contains t g
+in_place-exact star g = refl
+in_place-exact (string s) g = or_false _
+in_place-exact (prefix s) g = or_false _
+in_place-exact (range o l u) g = or_false _
+in_place-exact (list head ts) g = or_false _
+in_place-exact (set ts) g = ap (λ us. some_contains us g) (tags-items ts)
+
+spread-exact : (ts : List Tag) (g : Request) → some_contains (tags (spread ts)) g ≡ some_contains (tags ts) g
+spread-exact [] g = refl
+spread-exact (t ∷ ts) g =
+    append-exact (in_place t) (spread ts) g ∙ (λ i. in_place-exact t g i || spread-exact ts g i)
+
+in_place-nodes : (t : Tag) → nodes_all (tags (in_place t)) ≤ nodes t
+in_place-nodes star = omega arith
+in_place-nodes (string s) = omega arith
+in_place-nodes (prefix s) = omega arith
+in_place-nodes (range o l u) = omega arith
+in_place-nodes (list head ts) = omega arith
+in_place-nodes (set ts) = omega (arith, ap nodes_all (tags-items ts))
+
+spread-nodes : (ts : List Tag) → nodes_all (tags (spread ts)) ≤ nodes_all (tags ts)
+spread-nodes [] = omega arith
+spread-nodes (t ∷ ts) = omega (arith, append-nodes (in_place t) (spread ts), in_place-nodes t, spread-nodes ts)
+
+-- a tag in normal form that is no set
+abbrev IsMember : Tag → Type 0
+IsMember t = IsTag t × (is_set_or_star t ≡ is_star t) × (is_normal t ≡ true)
+
+abbrev AreMembers : List Tag → Type 0
+AreMembers [] = Unit {0}
+AreMembers (t ∷ ts) = IsMember t × AreMembers ts
+
+AreMembers-append : (ts us : List Tag) → AreMembers ts → AreMembers us → AreMembers (ts ++ us)
+AreMembers-append [] us h k = k
+AreMembers-append (t ∷ ts) us h k = (h.0, AreMembers-append ts us h.1 k)
+
+no_star : (t : Tag) → is_set_or_star t ≡ false → is_set_or_star t ≡ is_star t
+no_star star h = absurd (true≢false h)
+no_star (string s) h = refl
+no_star (prefix s) h = refl
+no_star (range o l u) h = refl
+no_star (list head ts) h = refl
+no_star (set ts) h = absurd (true≢false h)
+
+items-members : (ts : Tags) → AreTags ts → each_normal is_set_or_star ts ≡ true → AreMembers (items ts)
+items-members none h k = tt
+items-members (more t ts) h k = (
+  (
+    h.0,
+    no_star t (not_barred (is_set_or_star t) (is_normal t) (each_normal is_set_or_star ts) k),
+    its_normal (is_set_or_star t) (is_normal t) (each_normal is_set_or_star ts) k,
+  ),
+  items-members ts h.1 (rest_normal (is_set_or_star t) (is_normal t) (each_normal is_set_or_star ts) k),
+)
+
+in_place-members : (t : Tag) → IsTag t → is_normal t ≡ true → AreMembers (in_place t)
+in_place-members star h k = ((h, refl, k), tt)
+in_place-members (string s) h k = ((h, refl, k), tt)
+in_place-members (prefix s) h k = ((h, refl, k), tt)
+in_place-members (range o l u) h k = ((h, refl, k), tt)
+in_place-members (list head ts) h k = ((h, refl, k), tt)
+in_place-members (set ts) h k =
+    items-members ts h (second_true (is_none_or_many ts) (each_normal is_set_or_star ts) k)
+
+spread-members : (ts : List Tag) → AreNormal ts → AreMembers (spread ts)
+spread-members [] h = tt
+spread-members (t ∷ ts) h =
+    AreMembers-append (in_place t) (spread ts) (in_place-members t h.0 h.1) (spread-members ts h.2)
+
+-- when none is left, all are put in their place
+pub spread-all : (front rest ts : List Tag) (n : ℕ) → front ++ spread rest ≡ spread ts → n ≡ length rest → n ≡ 0
+    → front ≡ spread ts
+spread-all front [] ts n e len h = sym (append-nil front) ∙ e
+spread-all front (t ∷ rest) ts n e len h = absurd (omega (arith, len, h))
+
+-- ---- sets
+
+star-all : (t : Tag) (g : Request) → is_star t ≡ true → contains t g ≡ true
+star-all star g h = refl
+star-all (string s) g h = absurd (true≢false (sym h))
+star-all (prefix s) g h = absurd (true≢false (sym h))
+star-all (range o l u) g h = absurd (true≢false (sym h))
+star-all (list head ts) g h = absurd (true≢false (sym h))
+star-all (set ts) g h = absurd (true≢false (sym h))
+
+star_among : (ts : List Tag) (g : Request) → list_any is_star ts ≡ true → some_contains (tags ts) g ≡ true
+star_among [] g h = absurd (true≢false (sym h))
+star_among (t ∷ ts) g h =
+    some_too (is_star t) (list_any is_star ts) (contains t g) (some_contains (tags ts) g) (star-all t g) (star_among ts g) h
+
+-- a set with a member (*)
+pub star_of_set : (ts : List Tag) → list_any is_star (spread ts) ≡ true → IsNormalOf (set (tags ts)) star
+star_of_set ts h = record {
+  written = tt;
+  normal = refl;
+  same = λ g. sym (star_among (spread ts) g h) ∙ spread-exact ts g;
+  no_more = omega arith;
+}
+
+members-normal : (ts : List Tag) → AreMembers ts → list_any is_star ts ≡ false
+    → AreTags (tags ts) × (each_normal is_set_or_star (tags ts) ≡ true)
+members-normal [] h k = (tt, refl)
+members-normal (t ∷ ts) h k =
+    let rest = members-normal ts h.1 (second_none (is_star t) (list_any is_star ts) k) in (
+      (h.0.0, rest.0),
+      all_three (is_set_or_star t) (is_normal t) (each_normal is_set_or_star (tags ts))
+          (h.0.1 ∙ first_none (is_star t) (list_any is_star ts) k) h.0.2 rest.1,
+    )
+
+gather-normal : (ts : List Tag) → AreMembers ts → list_any is_star ts ≡ false
+    → IsTag (gather ts) × (is_normal (gather ts) ≡ true)
+gather-normal [] h k = (tt, refl)
+gather-normal (t ∷ []) h k = (h.0.0, h.0.2)
+gather-normal (t ∷ u ∷ us) h k = members-normal (t ∷ u ∷ us) h k
+
+-- a set without a member (*)
+pub gathered_set : (ts : List Tag) → AreNormal ts → list_any is_star (spread ts) ≡ false
+    → IsNormalOf (set (tags ts)) (gather (spread ts))
+gathered_set ts h k =
+    let n = gather-normal (spread ts) (spread-members ts h) k in
+    record {
+      written = n.0;
+      normal = n.1;
+      same = λ g. gather-exact (spread ts) g ∙ spread-exact ts g;
+      no_more = omega (arith, gather-le (spread ts), spread-nodes ts);
+    }
+
+pub IsNormalTag-of : (w t : Tag) → IsNormalOf w t → nodes w ≤ most_nodes → IsNormalTag t
+IsNormalTag-of w t h k = record { written = h.written; normal = h.normal; few = le_trans h.no_more k }
+
+-- ---- lists
+
+any_nothing : (ts : List Tag) → has_nothing ts ≡ list_any is_nothing ts
+any_nothing [] = refl
+any_nothing (t ∷ ts) = ap (λ b. is_nothing t || b) (any_nothing ts)
+
+-- a list with a member (* set)
+pub nothing_of_list : (head : List ℕ) (ts : List Tag) → list_any is_nothing ts ≡ true
+    → IsNormalOf (list head (tags ts)) nothing
+nothing_of_list head ts h = record { written = tt; normal = refl; same = same; no_more = omega arith }
+  where
+    same : (g : Request) → contains nothing g ≡ contains (list head (tags ts)) g
+    same (request.string s) = refl
+    same (request.list asked gs) = and_false _ ∙ ap (λ b. bytes_eq head asked && b) (sym (has_nothing-none ts gs (any_nothing ts ∙ h)))
+
+list-members : (ts : List Tag) → AreNormal ts → list_any is_nothing ts ≡ false
+    → AreTags (tags ts) × (each_normal is_nothing (tags ts) ≡ true)
+list-members [] h k = (tt, refl)
+list-members (t ∷ ts) h k =
+    let rest = list-members ts h.2 (second_none (is_nothing t) (list_any is_nothing ts) k) in (
+      (h.0, rest.0),
+      all_three (is_nothing t) (is_normal t) (each_normal is_nothing (tags ts))
+          (first_none (is_nothing t) (list_any is_nothing ts) k) h.1 rest.1,
+    )
+
+-- a list without a member (* set)
+pub list_is_normal : (head : List ℕ) (ts : List Tag) → IsHead head → AreNormal ts → list_any is_nothing ts ≡ false
+    → nodes (list head (tags ts)) ≤ most_nodes → IsNormalTag (list head (tags ts))
+list_is_normal head ts h k e few =
+    let n = list-members ts k e in
+    record { written = (h, n.0); normal = n.1; few = few }
+
+-- ---- what was read in place of each
+
+pub AreNormal-of : (ws ts : List Tag) → AreNormalOf ws ts → AreNormal ts
+AreNormal-of [] [] h = tt
+AreNormal-of [] (t ∷ ts) h = absurd h
+AreNormal-of (w ∷ ws) [] h = absurd h
+AreNormal-of (w ∷ ws) (t ∷ ts) h = (h.0.written, h.0.normal, AreNormal-of ws ts h.1)
+
+pub nodes_all-of : (ws ts : List Tag) → AreNormalOf ws ts → nodes_all (tags ts) ≤ nodes_all (tags ws)
+nodes_all-of [] [] h = omega arith
+nodes_all-of [] (t ∷ ts) h = absurd h
+nodes_all-of (w ∷ ws) [] h = absurd h
+nodes_all-of (w ∷ ws) (t ∷ ts) h = omega (arith, h.0.no_more, nodes_all-of ws ts h.1)
+
+some_contains-of : (ws ts : List Tag) (g : Request) → AreNormalOf ws ts
+    → some_contains (tags ts) g ≡ some_contains (tags ws) g
+some_contains-of [] [] g h = refl
+some_contains-of [] (t ∷ ts) g h = absurd h
+some_contains-of (w ∷ ws) [] g h = absurd h
+some_contains-of (w ∷ ws) (t ∷ ts) g h = λ i. h.0.same g i || some_contains-of ws ts g h.1 i
+
+contain_each-of : (ws ts : List Tag) (gs : Requests) → AreNormalOf ws ts
+    → contain_each (tags ts) gs ≡ contain_each (tags ws) gs
+contain_each-of [] [] gs h = refl
+contain_each-of [] (t ∷ ts) gs h = absurd h
+contain_each-of (w ∷ ws) [] gs h = absurd h
+contain_each-of (w ∷ ws) (t ∷ ts) request.none h = refl
+contain_each-of (w ∷ ws) (t ∷ ts) (request.more g gs) h = λ i. h.0.same g i && contain_each-of ws ts gs h.1 i
+
+pub AreNormalOf-push : (ws ts : List Tag) (w t : Tag) → AreNormalOf ws ts → IsNormalOf w t
+    → AreNormalOf (ws ++ w ∷ []) (ts ++ t ∷ [])
+AreNormalOf-push [] [] w t h k = (k, tt)
+AreNormalOf-push [] (u ∷ ts) w t h k = absurd h
+AreNormalOf-push (u ∷ ws) [] w t h k = absurd h
+AreNormalOf-push (v ∷ ws) (u ∷ ts) w t h k = (h.0, AreNormalOf-push ws ts w t h.1 k)
+
+-- the normal form of a set is that of the set as it was written
+pub set-of : (ws ts : List Tag) (t : Tag) → AreNormalOf ws ts → IsNormalOf (set (tags ts)) t
+    → IsNormalOf (set (tags ws)) t
+set-of ws ts t h k = record {
+  written = k.written;
+  normal = k.normal;
+  same = λ g. k.same g ∙ some_contains-of ws ts g h;
+  no_more = omega (arith, k.no_more, nodes_all-of ws ts h);
+}
+
+-- the same of a list
+pub list-of : (head : List ℕ) (ws ts : List Tag) (t : Tag) → AreNormalOf ws ts
+    → IsNormalOf (list head (tags ts)) t → IsNormalOf (list head (tags ws)) t
+list-of head ws ts t h k = record {
+  written = k.written;
+  normal = k.normal;
+  same = λ g. k.same g ∙ same g;
+  no_more = omega (arith, k.no_more, nodes_all-of ws ts h);
+}
+  where
+    same : (g : Request) → contains (list head (tags ts)) g ≡ contains (list head (tags ws)) g
+    same (request.string s) = refl
+    same (request.list asked gs) = ap (λ b. bytes_eq head asked && b) (contain_each-of ws ts gs h)

@@ -1,0 +1,72 @@
+//! Tags in normal form, which are made from the inside out.
+
+ghost use Rattle.std.specs.Prelude.{◌≡◌, ◌+◌, ◌≤◌, ◌++◌, IfOk, OnOk};
+ghost use Rattle.std.specs.List.{list_any};
+ghost use Rattle.spki_tag.specs.Request.{IsHead};
+ghost use Rattle.spki_tag.specs.Tag.{tags, list, set, is_nothing, nodes, most_nodes};
+ghost use Rattle.spki_tag.specs.NormalForm.{IsNormalOf, AreNormal, is_star, in_place};
+
+use crate::tag::{Node, Tag};
+use std::alloc::{AllocError, Global};
+
+/// Adds a tag to the members of a set; those of a set are added in its place.
+fn push_member(members: &mut Vec<Tag>, tag: Tag) -> Result<(), AllocError>
+    ensures { OnOk result (members.new.items ≡ members.old.items ++ in_place tag) }
+{
+    match tag.node {
+        Node::Leaf(leaf) => members.push(Tag::leaf(leaf))?,
+        Node::List(head, further) => members.push(Tag::list(head, further))?,
+        Node::Set(inner) => {
+            let mut inner = inner;
+            members.append(&mut inner)?;
+        }
+    }
+    Ok(())
+}
+
+/// Whether `(*)` is among some tags.
+fn has_everything(members: &[Tag]) -> bool
+    ensures { result ≡ list_any is_star members.now }
+{
+    members.iter().any(|member| member.is_everything())
+}
+
+/// Whether `(* set)` is among some tags.
+fn has_nothing(members: &[Tag]) -> bool
+    ensures { result ≡ list_any is_nothing members.now }
+{
+    members.iter().any(|member| member.is_nothing())
+}
+
+impl Tag {
+    /// The set of these tags in normal form: the members of a set in it are put in its place, one with a member
+    /// `(*)` is `(*)`, and one with one member is that member.
+    pub(crate) fn set_of(alloc: Global, members: Vec<Tag>) -> Result<Tag, AllocError>
+        requires room { nodes (set (tags members.items)) ≤ most_nodes }
+        requires normal { AreNormal members.items }
+        ensures { IfOk result (λ tag. IsNormalOf (set (tags members.items)) tag) }
+    {
+        let mut spread = Vec::new(alloc);
+        for member in members {
+            push_member(&mut spread, member)?;
+        }
+        if has_everything(&spread) {
+            return Ok(Tag::everything());
+        }
+        Ok(Tag::gathered(spread))
+    }
+
+    /// The list of a head and these tags in normal form: one with a member `(* set)` is `(* set)`.
+    pub(crate) fn list_of(head: Vec<u8>, further: Vec<Tag>) -> Tag
+        requires head { IsHead head.items }
+        requires room { nodes (list head.items (tags further.items)) ≤ most_nodes }
+        requires normal { AreNormal further.items }
+        ensures { IsNormalOf (list head.items (tags further.items)) result }
+    {
+        if has_nothing(&further) {
+            Tag::nothing(*further.allocator())
+        } else {
+            Tag::list(head, further)
+        }
+    }
+}
