@@ -11,7 +11,7 @@ pub mod Bounds
 pub mod Places
 pub mod Entries
 pub mod Sharing
-pub mod Normal
+pub mod NormalMeet
 pub mod Above
 pub mod Written
 pub mod Depth

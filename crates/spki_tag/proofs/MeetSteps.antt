@@ -5,7 +5,8 @@ use Rattle.std.proofs.Math.Seq.{drop-cons}
 use Rattle.std.proofs.lemmas.List.{append-nil}
 use Rattle.spki_tag.specs.Tag.{Tag, Tags, tags, star, string, prefix, range, list, set, none, more, IsNormalTag, is_nothing, is_set_or_star, is_normal, each_normal, is_none_or_many, nodes, nodes_all, most_nodes}
 use Rattle.spki_tag.specs.Meet.{nothing, string_meet, prefix_meet, range_meet, items, kept, row, gather, has_nothing, list_meet, across, meet, each_meet, pairs}
-use Rattle.spki_tag.specs.Met.{is_star, is_set, members}
+use Rattle.spki_tag.specs.Met.{is_star, is_set}
+use Rattle.spki_tag.specs.Index.{members}
 use Rattle.spki_tag.proofs.NormalTag.{meet-normal_tag}
 
 -- ---- truth values

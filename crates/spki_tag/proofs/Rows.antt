@@ -5,7 +5,7 @@ use Rattle.std.proofs.Math.Seq.{drop-cons}
 use Rattle.std.specs.Prelude.{if◌then◌else◌}
 use Rattle.spki_tag.specs.Tag.{Tag, Tags, tags, star, none, more, is_nothing}
 use Rattle.spki_tag.specs.Meet.{nothing, kept, row}
-use Rattle.spki_tag.specs.Met.{tags_at}
+use Rattle.spki_tag.specs.Index.{tags_at}
 
 pub kept-append : (t : Tag) (ts us : List Tag) → kept t (ts ++ us) ≡ kept t ts ++ us
 kept-append t ts us = by (is_nothing t)

@@ -5,30 +5,16 @@ ghost use Rattle.std.specs.List.{starts_with};
 ghost use Rattle.spki_tag.specs.Request.{AreOctets, Request, IsRequest};
 ghost use Rattle.spki_tag.specs.Tag.{Tag, is_above, is_below, is_normal, IsNormalTag, contains, each_normal, is_nothing, is_set_or_star, most_nodes, nodes, nodes_all, ldepth, list, tags};
 ghost use Rattle.spki_tag.specs.Meet.{least_above, strict_limit, from, meet, each_meet, pairs, row, gather, has_nothing};
-ghost use Rattle.spki_tag.specs.Met.{members, tags_at};
+ghost use Rattle.spki_tag.specs.Index.{members, tags_at};
 
 use crate::fault::MeetFault;
-use crate::parts::{
-    gather, has_set, is_star, leaf_or_nothing, members, nothing, push_copies, push_kept,
-};
+use crate::index::Index;
+use crate::parts::{gather, has_set, is_star, leaf_or_nothing, nothing, push_copies, push_kept};
 use crate::tag::{Node, Tag};
 use std::alloc::{AllocError, Global};
 
 /// The greatest product of the numbers of nodes of two tags that are met.
 const MOST_NODES: usize = 1_000_000;
-
-/// The places of the members that a tag is met with, counted from 1, in increasing order: all of them.
-fn met_places(alloc: Global, one: &Tag, others: &[Tag]) -> Result<Vec<usize>, AllocError>
-    ensures within { IfOk result (λ places. All (λ n. (1 ≤ n) × (n < 1 + length others.now)) places.items) }
-    ensures enough { IfOk result (λ places. row (meet one.now) (tags others.now)
-        ≡ row (meet one.now) (tags (tags_at others.now places.items))) }
-{
-    let mut places = Vec::new(alloc);
-    for i in 0..others.len() {
-        places.push(i + 1)?;
-    }
-    Ok(places)
-}
 
 /// What two tags leave together.
 #[cycle(meet)]
@@ -41,7 +27,7 @@ fn meet_tags(alloc: Global, one: &Tag, other: &Tag) -> Result<Tag, AllocError>
     } else if is_star(other) {
         one.clone()
     } else if has_set(one, other) {
-        meet_members(alloc, members(one), members(other))
+        meet_members(alloc, one, other)
     } else {
         meet_single(alloc, one, other)
     }
@@ -118,17 +104,19 @@ fn meet_each(alloc: Global, ones: &[Tag], others: &[Tag]) -> Result<Option<Vec<T
     Ok(Some(met))
 }
 
-/// What each of some tags leaves with each of others: ordered by the one's place, then the other's.
+/// What each member of a tag leaves with each of another: ordered by the one's place, then the other's. Members that
+/// can have no request in common, as far as their kinds and strings tell, are passed over: they leave nothing.
 #[cycle(meet)]
-fn meet_members(alloc: Global, ones: &[Tag], others: &[Tag]) -> Result<Tag, AllocError>
-    requires bound { nodes_all (tags ones.now) * nodes_all (tags others.now) ≤ most_nodes }
-    requires met { IsNormalTag (gather (pairs (tags ones.now) (tags others.now))) }
-    ensures { IfOk result (λ c. c ≡ gather (pairs (tags ones.now) (tags others.now))) }
+fn meet_members(alloc: Global, one: &Tag, other: &Tag) -> Result<Tag, AllocError>
+    requires bound { nodes_all (tags (members one.now)) * nodes_all (tags (members other.now)) ≤ most_nodes }
+    requires met { IsNormalTag (gather (pairs (tags (members one.now)) (tags (members other.now)))) }
+    ensures { IfOk result (λ c. c ≡ gather (pairs (tags (members one.now)) (tags (members other.now)))) }
 {
+    let index = Index::of(alloc, other)?;
     let mut met = Vec::new(alloc);
-    for one in ones {
-        let places = met_places(alloc, one, others)?;
-        push_row(alloc, &mut met, one, others, &places)?;
+    for member in one.members() {
+        let places = index.places(alloc, member)?;
+        push_row(alloc, &mut met, member, index.members(), &places)?;
     }
     Ok(gather(met))
 }

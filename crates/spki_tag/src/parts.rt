@@ -3,12 +3,11 @@
 ghost use Rattle.std.specs.Prelude.{◌≡◌, ◌||◌, ◌++◌, [], OnOk};
 ghost use Rattle.spki_tag.specs.Tag.{IsNormalTag};
 ghost use Rattle.spki_tag.specs.Meet.{nothing, gather, kept};
-ghost use Rattle.spki_tag.specs.Met.{leaf_or_nothing, is_star, is_set, members};
+ghost use Rattle.spki_tag.specs.Met.{leaf_or_nothing, is_star, is_set};
 
 use crate::leaf::Leaf;
 use crate::tag::{Node, Tag};
 use std::alloc::{AllocError, Global};
-use std::slice;
 
 /// Whether the tag is `(*)`.
 pub(crate) fn is_star(tag: &Tag) -> bool
@@ -43,17 +42,6 @@ pub(crate) fn has_set(one: &Tag, other: &Tag) -> bool
     ensures { result ≡ (is_set one.now || is_set other.now) }
 {
     is_set(one) || is_set(other)
-}
-
-/// The members of a set, in order. A tag that is no set counts as its only member.
-pub(crate) fn members(tag: &Tag) -> &[Tag]
-    ensures { result.now ≡ members tag.now }
-{
-    match &tag.node {
-        Node::Leaf(_) => slice::from_ref(tag),
-        Node::List(_, _) => slice::from_ref(tag),
-        Node::Set(members) => members.as_slice(),
-    }
 }
 
 /// The tag `(* set)`.
