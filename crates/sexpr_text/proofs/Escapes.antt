@@ -7,6 +7,7 @@ use Rattle.sexpr_text.specs.Strings.{escape_value, Piece, raw, escaped, octal, h
 
 -- ---- the sort of a piece is seen in its text
 
+-- which escape an octet behind a backslash begins: 1 an octet for another, 2 octal, 3 hexadecimal, 4 a line's end
 abbrev escape_sort : ℕ → ℕ
 escape_sort e = if e == 120 then 3 else if e == 13 || e == 10 then 4 else if nat_le 48 e && nat_le e 51 then 2 else 1
 
@@ -14,6 +15,7 @@ abbrev behind_sort : List ℕ → ℕ
 behind_sort [] = 5
 behind_sort (e ∷ es) = escape_sort e
 
+-- the same of a text; 0 where it begins with no backslash, 5 where it ends before that can be seen
 abbrev text_sort : List ℕ → ℕ
 text_sort [] = 5
 text_sort (c ∷ cs) = if c == 92 then behind_sort cs else 0
