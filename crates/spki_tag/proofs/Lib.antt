@@ -1,5 +1,12 @@
 pub mod Examples
 pub mod Members
+pub mod Normal
+pub mod Above
+pub mod Written
+pub mod Depth
+pub mod NormalTag
+pub mod Rows
+pub mod MeetSteps
 pub mod OneTag
 pub mod Spelling
 pub mod Requests
@@ -8,10 +15,3 @@ pub mod Limits
 pub mod Prefixes
 pub mod Exact
 pub mod Bounds
-pub mod Normal
-pub mod Above
-pub mod Written
-pub mod Depth
-pub mod NormalTag
-pub mod Rows
-pub mod MeetSteps

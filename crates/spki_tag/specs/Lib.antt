@@ -1,6 +1,7 @@
 pub mod Time
 pub mod Request
 pub mod Tag
+pub mod Met
 pub mod Read
 pub mod Steps
 pub mod Codes
@@ -10,4 +11,3 @@ pub mod NodeFalls
 pub mod Asks
 pub mod AskFalls
 pub mod Meet
-pub mod Met
