@@ -1,5 +1,11 @@
 pub mod Examples
 pub mod Members
+pub mod Above
+pub mod Written
+pub mod Depth
+pub mod NormalTag
+pub mod Rows
+pub mod MeetSteps
 pub mod OneTag
 pub mod Spelling
 pub mod Requests
@@ -12,11 +18,5 @@ pub mod Places
 pub mod Entries
 pub mod Sharing
 pub mod NormalMeet
-pub mod Above
-pub mod Written
-pub mod Depth
-pub mod NormalTag
-pub mod Rows
-pub mod MeetSteps
 pub mod Gathered
 pub mod Starred

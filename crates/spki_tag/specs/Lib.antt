@@ -1,6 +1,7 @@
 pub mod Time
 pub mod Request
 pub mod Tag
+pub mod Met
 pub mod Read
 pub mod Steps
 pub mod Codes
@@ -12,5 +13,4 @@ pub mod AskFalls
 pub mod Meet
 pub mod Index
 pub mod Places
-pub mod Met
 pub mod NormalForm

@@ -1,5 +1,14 @@
--- What two tags leave together, as a tag: a machine, which the laws of the intersection speak of.
-use Rattle.std.specs.Prelude.{ℕ, ◌+◌, Bool, true, false, ◌||◌, not, nat_eq, nat_lt, if◌then◌else◌, List, [], ◌∷◌, ◌++◌, Option, Some, None}
+-- The intersection of two tags (RFC 2693, section 6.3.1): the tag that contains what both contain. The standard leaves
+-- the forms open that have no simple intersection; here they are settled so that every two tags have one:
+--   a star leaves the other; sets meet member by member, and a member that contains nothing is dropped;
+--   two strings are equal, or leave nothing; a string is in a prefix or a range, or leaves nothing;
+--   of two prefixes one starts with the other, or they leave nothing;
+--   of two ranges the greater lower limit and the lesser upper limit are kept, unless they exclude each other; strings
+--   of any ordering meet times in times and dates in dates, and no string is both a time and a date;
+--   a prefix is the range of the strings from itself to below the least string above all that start with it;
+--   two lists with one head meet place by place, what is missing at an end not being restricted;
+--   all else leaves nothing.
+use Rattle.std.specs.Prelude.{ℕ, ◌+◌, Bool, true, false, ◌&&◌, ◌||◌, not, nat_eq, nat_lt, if◌then◌else◌, List, [], ◌∷◌, ◌++◌, Option, Some, None}
 use Rattle.std.specs.List.{starts_with}
 use Rattle.std.specs.Str.{bytes_eq}
 use Rattle.spki_tag.specs.Request as request

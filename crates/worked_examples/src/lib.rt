@@ -8,6 +8,8 @@ mod cases;
 #[cfg(test)]
 mod ends;
 #[cfg(test)]
+mod meetings;
+#[cfg(test)]
 mod structures;
 #[cfg(test)]
 mod tags;
