@@ -170,26 +170,28 @@ impl<'a> PlacesByKind<'a> {
 }
 
 /// An index of the members of a set by kind and string (RFC 2693, section 6.3.1). Each member has a place, counted
-/// from 1. In a contract the index is the tag.
+/// from 1. In a contract the index is the list of the members.
 #[derive(Debug, Drop)]
 pub struct Index<'a> {
-    tag: &'a Tag,
+    members: &'a [Tag],
     places: PlacesByKind<'a>,
 }
 
 impl<'a> Model for Index<'a> {
+    ghost use Rattle.std.specs.Prelude.{List};
+    ghost use Rattle.std.specs.Coded.{coded_list};
     ghost use Rattle.spki_tag.specs.Tag.{Tag as Written};
     ghost use Rattle.spki_tag.specs.Codes.{tag_code};
-    ghost use Rattle.spki_tag.specs.Index.{members};
+
+    ghost Value = { List Written };
+
+    ghost coded = { coded_list tag_code };
+
     ghost use Rattle.spki_tag.specs.Places.{ArePlacesOf};
 
-    ghost Value = { Written };
+    ghost view = { λ index. index.members.now };
 
-    ghost coded = { tag_code };
-
-    ghost view = { λ index. index.tag.now };
-
-    ghost invariant = { λ index. ArePlacesOf index.places (members index.tag.now) };
+    ghost invariant = { λ index. ArePlacesOf index.places index.members.now };
 }
 
 impl<'a> Index<'a> {
@@ -199,17 +201,24 @@ impl<'a> Index<'a> {
     ///
     /// `AllocError` where memory ran out.
     pub fn of(alloc: Global, tag: &'a Tag) -> Result<Index<'a>, AllocError>
-        ensures { IfOk result (λ index. index ≡ tag.now) }
+        ensures { IfOk result (λ index. index ≡ members tag.now) }
     {
-        let places = PlacesByKind::of(alloc, tag.members())?;
-        Ok(Index { tag, places })
+        Index::over(alloc, tag.members())
+    }
+
+    /// The index of these members.
+    pub(crate) fn over(alloc: Global, members: &'a [Tag]) -> Result<Index<'a>, AllocError>
+        ensures { IfOk result (λ index. index ≡ members.now) }
+    {
+        let places = PlacesByKind::of(alloc, members)?;
+        Ok(Index { members, places })
     }
 
     /// The members, in order.
     pub fn members(&self) -> &'a [Tag]
-        ensures { result.now ≡ members self.now }
+        ensures { result.now ≡ self.now }
     {
-        self.tag.members()
+        self.members
     }
 
     /// The places of the members that can have a request in common with a tag, as far as kinds and strings tell, in
@@ -221,7 +230,7 @@ impl<'a> Index<'a> {
     ///
     /// `AllocError` where memory ran out.
     pub fn places(&self, alloc: Global, tag: &Tag) -> Result<Vec<usize>, AllocError>
-        ensures { IfOk result (λ places. places.items ≡ places_where (may_share tag.now) 1 (members self.now)) }
+        ensures { IfOk result (λ places. places.items ≡ places_where (may_share tag.now) 1 self.now) }
     {
         match Kind::of(tag) {
             Kind::Any => Vec::from_slice(alloc, self.places.all.as_slice()),
