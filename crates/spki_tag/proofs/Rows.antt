@@ -18,21 +18,6 @@ kept-append t ts us = by (is_nothing t)
 abbrev row_at : (Tag → Tag) → List Tag → List ℕ → List Tag
 row_at f bs places = row f (tags (tags_at bs places))
 
-tags_at-append : (bs : List Tag) (places : List ℕ) (n : ℕ)
-    → tags_at bs (places ++ n ∷ []) ≡ tags_at bs places ++ get_or bs (n - 1) star ∷ []
-tags_at-append bs [] n = refl
-tags_at-append bs (p ∷ places) n = ap (λ (ts : List Tag). get_or bs (p - 1) star ∷ ts) (tags_at-append bs places n)
-
--- One member more, and its place.
-pub all-push : (bs : List Tag) (places : List ℕ) (i : ℕ) → i < length bs → take i bs ≡ tags_at bs places
-    → take (i + 1) bs ≡ tags_at bs (places ++ (i + 1) ∷ [])
-all-push bs places i h e =
-    take_more bs i star h ∙ ap (λ (ts : List Tag). ts ++ get_or bs i star ∷ []) e
-    ∙ ap (λ k. tags_at bs places ++ get_or bs k star ∷ []) same ∙ sym (tags_at-append bs places (i + 1))
-  where
-    same : i ≡ i + 1 - 1
-    same = omega arith
-
 -- the members at the places that are left
 pub row_at-rest : (f : Tag → Tag) (bs : List Tag) (places : List ℕ) (i : ℕ) → i < length places
     → row_at f bs (drop i places)

@@ -89,30 +89,3 @@ places_where-within p n (t ∷ ts) = by (p t) (λ k d h. let w = places_where-wi
         → All (λ m. (n ≤ m) × (m < n + suc (length ts))) (if b then n ∷ places_where p (n + 1) ts else places_where p (n + 1) ts)
     by true w = All-cons (λ m. (n ≤ m) × (m < n + suc (length ts))) n _ (omega arith, omega arith) w
     by false w = w
-
--- ---- one place after the other
-
-tags_at-push : (ts : List Tag) (ns : List ℕ) (n : ℕ) → tags_at ts (ns ++ n ∷ []) ≡ tags_at ts ns ++ slice_index_or ts (n - 1) star ∷ []
-tags_at-push ts [] n = refl
-tags_at-push ts (m ∷ ns) n = ap (λ us. slice_index_or ts (m - 1) star ∷ us) (tags_at-push ts ns n)
-
-kept-append : (t : Tag) (us vs : List Tag) → kept t (us ++ vs) ≡ kept t us ++ vs
-kept-append t us vs = by (is_nothing t)
-  where
-    by : (b : Bool) → (if b then us ++ vs else t ∷ (us ++ vs)) ≡ (if b then us else t ∷ us) ++ vs
-    by true = refl
-    by false = refl
-
-row-push : (f : Tag → Tag) (us : List Tag) (u : Tag) → row f (tags (us ++ u ∷ [])) ≡ row f (tags us) ++ kept (f u) []
-row-push f [] u = refl
-row-push f (t ∷ us) u = ap (kept (f t)) (row-push f us u) ∙ kept-append (f t) (row f (tags us)) (kept (f u) [])
-
--- what is left of the member at the next place comes last
-pub row-at_more : (f : Tag → Tag) (ts : List Tag) (ns : List ℕ) (i n : ℕ) (t : Tag) → i < length ns → n ≡ get_or ns i n
-    → n - 1 < length ts → t ≡ get_or ts (n - 1) t
-    → row f (tags (tags_at ts (take (i + 1) ns))) ≡ row f (tags (tags_at ts (take i ns))) ++ kept (f t) []
-row-at_more f ts ns i n t h at k read =
-    ap (λ ms. row f (tags (tags_at ts ms))) (take_more ns i n h ∙ ap (λ m. take i ns ++ m ∷ []) (sym at))
-    ∙ ap (λ us. row f (tags us)) (tags_at-push ts (take i ns) n)
-    ∙ row-push f (tags_at ts (take i ns)) (slice_index_or ts (n - 1) star)
-    ∙ ap (λ u. row f (tags (tags_at ts (take i ns))) ++ kept (f u) []) (get_or_default ts (n - 1) star t k ∙ sym read)

@@ -203,13 +203,7 @@ impl<'a> Index<'a> {
     pub fn of(alloc: Global, tag: &'a Tag) -> Result<Index<'a>, AllocError>
         ensures { IfOk result (λ index. index ≡ members tag.now) }
     {
-        Index::over(alloc, tag.members())
-    }
-
-    /// The index of these members.
-    pub(crate) fn over(alloc: Global, members: &'a [Tag]) -> Result<Index<'a>, AllocError>
-        ensures { IfOk result (λ index. index ≡ members.now) }
-    {
+        let members = tag.members();
         let places = PlacesByKind::of(alloc, members)?;
         Ok(Index { members, places })
     }

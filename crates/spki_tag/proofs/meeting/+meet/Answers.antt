@@ -104,9 +104,9 @@ meet_members-push_row-requires t c =
     let one = c.member-item.result in
     let ones = members c.args.one.now in
     let others = members c.args.other.now in
-    let seen : c.members.result.now ≡ others = c.members.ensures ∙ ap members c.in_ok-index.ensures in
+    let seen : c.members.result.now ≡ others = c.members.ensures ∙ c.in_ok-index.ensures in
     let places_are : c.deref.result.now ≡ places_where (may_share one) 1 others =
-    c.deref.ensures.value ∙ c.in_ok-places.ensures ∙ ap (λ (u : Tag). places_where (may_share one) 1 (members u)) c.in_ok-index.ensures in
+    c.deref.ensures.value ∙ c.in_ok-places.ensures ∙ ap (λ (us : List Tag). places_where (may_share one) 1 us) c.in_ok-index.ensures in
     let less : nodes one ≤ nodes_all (tags ones) =
     subst (λ (ts : List Tag). nodes one ≤ nodes_all (tags ts)) c.members-member-items.ensures
     (nodes_le-of_read c.members-member-items.result.now c.loop-member.member-index one c.loop-member-test.true c.member-item.is) in
@@ -126,10 +126,10 @@ meet_members-loop-member-preserved t c =
     let one = c.member-item.result in
     let ones = members c.args.one.now in
     let others = members c.args.other.now in
-    let seen : c.members.result.now ≡ others = c.members.ensures ∙ ap members c.in_ok-index.ensures in
+    let seen : c.members.result.now ≡ others = c.members.ensures ∙ c.in_ok-index.ensures in
     let places : List ℕ = places_where (may_share one) 1 others in
     let places_are : c.deref.result.now ≡ places =
-    c.deref.ensures.value ∙ c.in_ok-places.ensures ∙ ap (λ (u : Tag). places_where (may_share one) 1 (members u)) c.in_ok-index.ensures in
+    c.deref.ensures.value ∙ c.in_ok-places.ensures ∙ ap (λ (us : List Tag). places_where (may_share one) 1 us) c.in_ok-index.ensures in
     let left : List Tag → List ℕ → List Tag = λ ts ns. c.loop-member.met.items ++ row (meet one) (tags (tags_at ts ns)) in
     pairs-step ones others c.loop-member.met.items c.push_row.new.met.items (pairs (tags ones) (tags others))
     (row (meet one) (tags (tags_at others places))) c.loop-member.member-index one
