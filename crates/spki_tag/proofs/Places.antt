@@ -169,7 +169,7 @@ pub items-tags : (ts : List Tag) → items (tags ts) ≡ ts
 items-tags [] = refl
 items-tags (t ∷ ts) = ap (λ us. t ∷ us) (items-tags ts)
 
--- ---- places
+-- ---- tags by kind
 
 push-places : (p : Tag → Bool) (n i : ℕ) (ts : List Tag) (t : Tag) (b : Bool) (old new : List ℕ) → n ≡ i + 1 → i ≡ length ts → b ≡ p t
     → old ≡ places_where p 1 ts → new ≡ old ++ place_if b n → new ≡ places_where p 1 (ts ++ t ∷ [])

@@ -1,16 +1,13 @@
 -- Which tags are written as a value.
-use Rattle.std.proofs.Common.{◌≡◌, ℕ, ◌+◌, ◌≤◌, ◌<◌, true, List, [], ◌∷◌, ◌++◌, map, Some, refl, sym, ap, ◌∙◌, subst, arith, append_assoc, append-nil}
+use Rattle.std.proofs.Common.{◌≡◌, ℕ, ◌+◌, ◌≤◌, List, [], ◌∷◌, ◌++◌, map, Some, refl, sym, ap, ◌∙◌, subst, arith, append_assoc}
 use Rattle.std.specs.Prelude.{codes}
 use Rattle.std.proofs.lemmas.List.{map_push}
 use Rattle.sexpr_core.specs.Value as value
 use Rattle.sexpr_core.specs.Value.{Value, Values, plain, values, group}
 use Rattle.spki_tag.specs.declared.fault.TagFault.{TagFault}
 use Rattle.spki_tag.specs.declared.fault.TagFault.TheVariants as faults
-use Rattle.spki_tag.specs.declared.leaf.Leaf.{Leaf}
-use Rattle.spki_tag.specs.declared.leaf.Leaf.TheVariants.{Star, String, Prefix, Range}
 use Rattle.spki_tag.specs.Request.{IsHead}
-use Rattle.spki_tag.specs.Leaves.{leaf_tag}
-use Rattle.spki_tag.specs.Tag.{Tag, Tags, tags, star, string, prefix, range, list, set, none, more, IsTag, AreTags, tag_value, tag_values, starred, nodes, nodes_all, is_normal, most_nodes}
+use Rattle.spki_tag.specs.Tag.{Tag, Tags, tags, star, string, prefix, range, list, set, none, more, IsTag, AreTags, tag_value, tag_values, starred, nodes, nodes_all, most_nodes}
 use Rattle.spki_tag.specs.NormalForm.{IsNormalOf, AreNormalOf, AreNormal}
 use Rattle.spki_tag.specs.Read.{most_read}
 use Rattle.spki_tag.specs.Steps.{IsNoTagAfter, AreNoTagsAfter, IsRead, AreRead, IsNoHead}
@@ -175,16 +172,6 @@ pub record IsReadSoFar (used : ℕ) (vs : List Value) (ts : List Tag) (counted :
   pub sum : counted ≡ used + nodes_all (tags ws)
   pub few : counted ≤ most_read
 
-pub so_far_none : (used : ℕ) (vs : List Value) → used ≤ most_read → IsReadSoFar used vs [] used vs
-so_far_none used vs few = record {
-  ws = [];
-  written = tt;
-  spelled = refl;
-  normal = tt;
-  sum = omega arith;
-  few = few;
-}
-
 pub so_far_push : (used counted after : ℕ) (vs left further : List Value) (ts : List Tag) (v : Value) (t : Tag)
     → IsReadSoFar used vs ts counted left → left ≡ v ∷ further → IsRead counted v t after
     → IsReadSoFar used vs (ts ++ t ∷ []) after further
@@ -201,19 +188,6 @@ so_far_push used counted after vs left further ts v t so_far e r = record {
   few = r.few;
 }
 
-pub so_far_all : (used counted : ℕ) (vs left : List Value) (ts : List Tag) → IsReadSoFar used vs ts counted left
-    → left ≡ [] → AreRead used vs ts counted
-so_far_all used counted vs left ts so_far e = record {
-  ws = so_far.ws;
-  written = so_far.written;
-  spelled =
-      sym (append-nil (map tag_value so_far.ws))
-      ∙ ap (λ (us : List Value). map tag_value so_far.ws ++ us) (sym e) ∙ so_far.spelled;
-  normal = so_far.normal;
-  counted = so_far.sum;
-  few = so_far.few;
-}
-
 pub so_far_refused : (fault : TagFault) (used counted : ℕ) (vs left further : List Value) (ts : List Tag) (v : Value)
     → IsReadSoFar used vs ts counted left → left ≡ v ∷ further → IsNoTagAfter counted fault v
     → AreNoTagsAfter used fault vs
@@ -222,45 +196,6 @@ so_far_refused fault used counted vs left further ts v so_far e refused =
     (member_refused fault used counted so_far.ws v further so_far.written so_far.sum refused)
 
 -- ---- what was read
-
--- a tag in normal form stands for itself
-pub IsNormalOf-self : (t : Tag) → IsTag t → is_normal t ≡ true → IsNormalOf t t
-IsNormalOf-self t h n = record { written = h; normal = n; same = λ g. refl; no_more = omega arith }
-
-pub leaf_is_read : (used : ℕ) (leaf : Leaf) → used < most_read
-    → IsRead used (tag_value (leaf_tag leaf)) (leaf_tag leaf) (used + 1)
-leaf_is_read used Star room = record {
-  w = star;
-  written = tt;
-  spelled = refl;
-  normal = IsNormalOf-self star tt refl;
-  counted = refl;
-  few = omega arith;
-}
-leaf_is_read used (String octets) room = record {
-  w = string octets.items;
-  written = tt;
-  spelled = refl;
-  normal = IsNormalOf-self (string octets.items) tt refl;
-  counted = refl;
-  few = omega arith;
-}
-leaf_is_read used (Prefix octets) room = record {
-  w = prefix octets.items;
-  written = tt;
-  spelled = refl;
-  normal = IsNormalOf-self (prefix octets.items) tt refl;
-  counted = refl;
-  few = omega arith;
-}
-leaf_is_read used (Range o low up) room = record {
-  w = leaf_tag (Range o low up);
-  written = tt;
-  spelled = refl;
-  normal = IsNormalOf-self (leaf_tag (Range o low up)) tt refl;
-  counted = refl;
-  few = omega arith;
-}
 
 -- a list of members that were read
 pub list_is_read : (used after : ℕ) (head : List ℕ) (vs : List Value) (ts : List Tag) (t : Tag) → IsHead head

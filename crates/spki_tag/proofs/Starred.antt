@@ -82,10 +82,6 @@ no_string_is_no_word v h (inr (inr e)) = h (codes "range") e
 
 -- ---- faults
 
--- what is no tag of at most 1,024 nodes is none behind others
-pub no_tag_after : (used : ℕ) (fault : TagFault) (v : Value) → IsNoTag fault v → IsNoTagAfter used fault v
-no_tag_after used fault v refused w k few e = refused w k (omega (arith, few)) e
-
 -- another word behind the star
 pub word_refused : (used : ℕ) (fault : TagFault) (v : Value) (vs : Values) → (IsWord v → ⊥)
     → IsNoTagAfter used fault (value.list (value.more (plain (codes "*")) (value.more v vs)))
