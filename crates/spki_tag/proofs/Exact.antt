@@ -1,5 +1,5 @@
 -- What two tags leave together contains a request exactly if both do.
-use Rattle.std.proofs.Common.{◌≡◌, ℕ, zero, suc, ◌+◌, ◌<◌, ◌≤◌, Bool, true, false, ◌&&◌, ◌||◌, not, List, [], ◌∷◌, ◌++◌, length, Option, Some, None, refl, sym, ap, ◌∙◌, subst, true≢false, arith, eqb-true}
+use Rattle.std.proofs.Common.{◌≡◌, ℕ, Bool, true, false, ◌&&◌, ◌||◌, not, List, [], ◌∷◌, ◌++◌, length, Option, Some, None, refl, sym, ap, ◌∙◌, subst, true≢false, arith, eqb-true}
 use Rattle.std.specs.Prelude.{if◌then◌else◌, nat_eq, ◌==◌, slice_index, drop}
 use Rattle.std.specs.List.{starts_with}
 use Rattle.std.specs.Str.{bytes_eq}
@@ -8,8 +8,8 @@ use Rattle.spki_tag.specs.Time.{is_time, is_date, is_number_at}
 use Rattle.spki_tag.specs.Request as request
 use Rattle.spki_tag.specs.Request.{Request, Requests, IsRequest, AreRequests, AreOctets}
 use Rattle.spki_tag.specs.Tag.{Tag, Tags, tags, Limit, Ordering, alpha, time, date, star, string, prefix, range, list, set, none, more, contains, contain_each, some_contains, is_above, is_below, is_ordered, is_nothing, is_normal, each_normal, is_set_or_star}
-use Rattle.spki_tag.specs.Meet.{greater_low, lesser_up, exclude, ordering_meet, nothing, ranged, least_above, strict_limit, from, string_meet, prefixes_meet, range_meet, prefix_meet, items, kept, row, gather, has_nothing, listed, list_meet, across, set_across, meet, each_meet, pairs}
-use Rattle.spki_tag.proofs.Limits.{and_left, and_right, and_never, greater_low-exact, lesser_up-exact, exclude-none}
+use Rattle.spki_tag.specs.Meet.{greater_low, lesser_up, exclude, ordering_meet, nothing, ranged, least_above, strict_limit, from, string_meet, range_meet, prefix_meet, items, kept, row, gather, has_nothing, listed, list_meet, across, set_across, meet, each_meet, pairs}
+use Rattle.spki_tag.proofs.Limits.{and_left, and_never, greater_low-exact, lesser_up-exact, exclude-none}
 use Rattle.spki_tag.proofs.Prefixes.{least_above-exact, prefixes-exact}
 
 -- ---- truth values
@@ -18,11 +18,11 @@ first_true : (a b : Bool) → (a && b) ≡ true → a ≡ true
 first_true true b h = refl
 first_true false b h = h
 
-second_true : (a b : Bool) → (a && b) ≡ true → b ≡ true
+pub second_true : (a b : Bool) → (a && b) ≡ true → b ≡ true
 second_true true b h = h
 second_true false b h = absurd (true≢false (sym h))
 
-and_false : (b : Bool) → false ≡ (b && false)
+pub and_false : (b : Bool) → false ≡ (b && false)
 and_false true = refl
 and_false false = refl
 
@@ -66,7 +66,7 @@ or_assoc : (a b c : Bool) → ((a || b) || c) ≡ (a || (b || c))
 or_assoc true b c = refl
 or_assoc false b c = refl
 
-or_false : (a : Bool) → (a || false) ≡ a
+pub or_false : (a : Bool) → (a || false) ≡ a
 or_false true = refl
 or_false false = refl
 
@@ -219,26 +219,26 @@ kept-exact (list head us) ts g = refl
 kept-exact (set none) ts g = refl
 kept-exact (set (more u us)) ts g = refl
 
-gather-exact : (ts : List Tag) (g : Request) → contains (gather ts) g ≡ some_contains (tags ts) g
+pub gather-exact : (ts : List Tag) (g : Request) → contains (gather ts) g ≡ some_contains (tags ts) g
 gather-exact [] g = refl
 gather-exact (t ∷ []) g = sym (or_false _)
 gather-exact (t ∷ u ∷ us) g = refl
 
-append-exact : (ts us : List Tag) (g : Request)
+pub append-exact : (ts us : List Tag) (g : Request)
     → some_contains (tags (ts ++ us)) g ≡ (some_contains (tags ts) g || some_contains (tags us) g)
 append-exact [] us g = refl
 append-exact (t ∷ ts) us g = ap (λ b. contains t g || b) (append-exact ts us g)
     ∙ sym (or_assoc (contains t g) (some_contains (tags ts) g) (some_contains (tags us) g))
 
-not_barred : (b n r : Bool) → (not b && n && r) ≡ true → b ≡ false
+pub not_barred : (b n r : Bool) → (not b && n && r) ≡ true → b ≡ false
 not_barred true n r h = absurd (true≢false (sym h))
 not_barred false n r h = refl
 
-its_normal : (b n r : Bool) → (not b && n && r) ≡ true → n ≡ true
+pub its_normal : (b n r : Bool) → (not b && n && r) ≡ true → n ≡ true
 its_normal true n r h = absurd (true≢false (sym h))
 its_normal false n r h = first_true n r h
 
-rest_normal : (b n r : Bool) → (not b && n && r) ≡ true → r ≡ true
+pub rest_normal : (b n r : Bool) → (not b && n && r) ≡ true → r ≡ true
 rest_normal true n r h = absurd (true≢false (sym h))
 rest_normal false n r h = second_true n r h
 
@@ -279,7 +279,7 @@ set_across-exact ms f (set bs) g n e = gather-exact (f bs) g ∙ e bs (second_tr
 
 -- ---- lists
 
-tags-items : (ts : Tags) → tags (items ts) ≡ ts
+pub tags-items : (ts : Tags) → tags (items ts) ≡ ts
 tags-items none = refl
 tags-items (more t ts) = ap (more t) (tags-items ts)
 
@@ -292,7 +292,7 @@ nothing-none (list head us) g h = absurd (true≢false (sym h))
 nothing-none (set none) g h = refl
 nothing-none (set (more u us)) g h = absurd (true≢false (sym h))
 
-has_nothing-none : (ts : List Tag) (gs : Requests) → has_nothing ts ≡ true → contain_each (tags ts) gs ≡ false
+pub has_nothing-none : (ts : List Tag) (gs : Requests) → has_nothing ts ≡ true → contain_each (tags ts) gs ≡ false
 has_nothing-none [] gs h = absurd (true≢false (sym h))
 has_nothing-none (t ∷ ts) request.none h = refl
 has_nothing-none (t ∷ ts) (request.more g gs) h = by (is_nothing t) refl (has_nothing-none ts gs) h
