@@ -1,10 +1,10 @@
 -- What a tag leaves of the members at some places.
-use Rattle.std.proofs.Common.{◌≡◌, ℕ, zero, suc, ◌+◌, ◌-◌, ◌<◌, ◌≤◌, Bool, true, false, List, [], ◌∷◌, ◌++◌, length, take, drop, get_or, All, refl, sym, ap, ◌∙◌, append_assoc, arith, add-one}
+use Rattle.std.proofs.Common.{◌≡◌, ℕ, ◌+◌, ◌-◌, ◌<◌, Bool, true, false, List, [], ◌∷◌, ◌++◌, length, take, drop, get_or, refl, sym, ap, ◌∙◌, append_assoc, arith, add-one}
 use Rattle.std.proofs.lemmas.List.{take_more}
 use Rattle.std.proofs.Math.Seq.{drop-cons}
 use Rattle.std.specs.Prelude.{if◌then◌else◌}
-use Rattle.spki_tag.specs.Tag.{Tag, Tags, tags, star, none, more, is_nothing}
-use Rattle.spki_tag.specs.Meet.{nothing, kept, row}
+use Rattle.spki_tag.specs.Tag.{Tag, tags, star, is_nothing}
+use Rattle.spki_tag.specs.Meet.{kept, row}
 use Rattle.spki_tag.specs.Met.{tags_at}
 
 pub kept-append : (t : Tag) (ts us : List Tag) → kept t (ts ++ us) ≡ kept t ts ++ us

@@ -1,4 +1,4 @@
-use Rattle.std.proofs.Common.{◌≡◌, ◌+◌, ◌<◌, ◌≤◌, All, length, arith, sym, ap, ◌∙◌}
+use Rattle.std.proofs.Common.{◌+◌, ◌<◌, ◌≤◌, length, arith, sym, ap, ◌∙◌}
 use Rattle.std.proofs.lemmas.List.Elements.{All-push}
 use Rattle.spki_tag.specs.Met.{tags_at}
 use Rattle.spki_tag.proofs.Rows.{all-push}
