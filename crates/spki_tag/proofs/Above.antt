@@ -1,6 +1,6 @@
 -- The least string above all that start with a string, from its last octet on.
-use Rattle.std.proofs.Common.{◌≡◌, ℕ, ◌+◌, ◌<◌, ◌≤◌, Bool, true, false, List, [], ◌∷◌, ◌++◌, Option, Some, None, refl, ap, lt-ltb, le-ltb}
-use Rattle.std.specs.Prelude.{if◌then◌else◌, nat_lt}
+use Rattle.std.proofs.Common.{◌≡◌, ℕ, ◌+◌, ◌<◌, ◌≤◌, List, [], ◌∷◌, ◌++◌, Some, None, ap, lt-ltb, le-ltb}
+use Rattle.std.specs.Prelude.{if◌then◌else◌}
 use Rattle.spki_tag.specs.Meet.{least_above, above_from}
 
 pub least_above-less : (front : List ℕ) (octet : ℕ) → octet < 255

@@ -1,11 +1,12 @@
 -- What two tags in normal form leave together is in normal form.
-use Rattle.std.proofs.Common.{◌≡◌, ℕ, Bool, true, false, ◌&&◌, ◌||◌, not, List, [], ◌∷◌, ◌++◌, Option, Some, None, refl, sym, ap, ◌∙◌, true≢false}
+use Rattle.std.proofs.Common.{◌≡◌, ℕ, Bool, true, false, ◌&&◌, ◌||◌, not, List, [], ◌∷◌, ◌++◌, Option, Some, None, refl, sym, true≢false}
 use Rattle.std.specs.Prelude.{if◌then◌else◌, nat_eq}
 use Rattle.std.specs.List.{starts_with}
 use Rattle.std.specs.Str.{bytes_eq}
 use Rattle.spki_tag.specs.Request as request
 use Rattle.spki_tag.specs.Tag.{Tag, Tags, tags, Limit, Ordering, alpha, star, string, prefix, range, list, set, none, more, contains, is_nothing, is_set_or_star, is_normal, each_normal, is_none_or_many}
-use Rattle.spki_tag.specs.Meet.{greater_low, lesser_up, exclude, ordering_meet, nothing, ranged, least_above, strict_limit, from, string_meet, prefixes_meet, range_meet, prefix_meet, items, kept, row, gather, has_nothing, listed, list_meet, across, set_across, meet, each_meet, pairs}
+use Rattle.spki_tag.proofs.Exact.{second_true, not_barred, its_normal, rest_normal}
+use Rattle.spki_tag.specs.Meet.{greater_low, lesser_up, exclude, ordering_meet, nothing, ranged, least_above, strict_limit, from, string_meet, range_meet, prefix_meet, items, kept, row, gather, has_nothing, listed, list_meet, across, set_across, meet, each_meet, pairs}
 
 -- (* set), or neither a set nor a star; and in normal form
 abbrev fits : Tag → Bool
@@ -14,27 +15,9 @@ fits t = (is_nothing t || not (is_set_or_star t)) && is_normal t
 abbrev never : Tag → Bool
 never t = false
 
-second_true : (a b : Bool) → (a && b) ≡ true → b ≡ true
-second_true true b h = h
-second_true false b h = absurd (true≢false (sym h))
-
 both_true : (a b : Bool) → a ≡ true → b ≡ true → (a && b) ≡ true
 both_true true b h k = k
 both_true false b h k = h
-
-not_barred : (b n r : Bool) → (not b && n && r) ≡ true → b ≡ false
-not_barred true n r h = absurd (true≢false (sym h))
-not_barred false n r h = refl
-
-its_normal : (b n r : Bool) → (not b && n && r) ≡ true → n ≡ true
-its_normal true n r h = absurd (true≢false (sym h))
-its_normal false true r h = refl
-its_normal false false r h = h
-
-rest_normal : (b n r : Bool) → (not b && n && r) ≡ true → r ≡ true
-rest_normal true n r h = absurd (true≢false (sym h))
-rest_normal false true r h = h
-rest_normal false false r h = absurd (true≢false (sym h))
 
 all_three : (b n r : Bool) → b ≡ false → n ≡ true → r ≡ true → (not b && n && r) ≡ true
 all_three true n r h k j = absurd (true≢false h)

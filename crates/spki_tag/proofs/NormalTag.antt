@@ -1,5 +1,5 @@
 -- What two tags of the type leave together is a tag of the type, where it isn't too large.
-use Rattle.std.proofs.Common.{ℕ, ◌*◌, ◌≤◌, le_trans}
+use Rattle.std.proofs.Common.{◌*◌, ◌≤◌, le_trans}
 use Rattle.spki_tag.specs.Tag.{Tag, IsNormalTag, nodes, most_nodes}
 use Rattle.spki_tag.specs.Meet.{meet}
 use Rattle.spki_tag.proofs.Written.{meet-tag}

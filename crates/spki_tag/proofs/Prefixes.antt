@@ -1,12 +1,12 @@
 -- Prefixes as ranges, and two prefixes.
-use Rattle.std.proofs.Common.{◌≡◌, ℕ, zero, suc, ◌+◌, ◌<◌, ◌≤◌, Bool, true, false, ◌&&◌, ◌||◌, not, List, [], ◌∷◌, length, Option, Some, None, refl, sym, ap, ◌∙◌, subst, true≢false, arith, Ordering as Order, Less, Equal, Greater, is_lt, is_le, nat_cmp, eqb-true, eq-eqb, ne_eqb, ltb-false, ◌⊎◌, inl, inr}
-use Rattle.std.specs.Prelude.{if◌then◌else◌, nat_eq, nat_lt, All}
+use Rattle.std.proofs.Common.{◌≡◌, ℕ, zero, suc, ◌+◌, ◌<◌, ◌≤◌, Bool, true, false, ◌&&◌, List, [], ◌∷◌, Option, Some, None, refl, sym, ap, ◌∙◌, subst, true≢false, arith, Ordering as Order, Less, Equal, Greater, is_lt, is_le, nat_cmp, eqb-true, eq-eqb, ne_eqb, ltb-false, ◌⊎◌, inl, inr}
+use Rattle.std.specs.Prelude.{if◌then◌else◌, nat_eq, nat_lt}
 use Rattle.std.specs.List.{starts_with}
 use Rattle.std.specs.Cmp.Lexicographic.{slice_cmp}
 use Rattle.std.specs.Cmp.{nat_cmp_is, nat_eq_equiv, IsEquivalence}
 use Rattle.std.specs.Ordering.{ordering_then}
 use Rattle.spki_tag.specs.Request.{AreOctets}
-use Rattle.spki_tag.specs.Tag.{Limit, is_within, is_above, is_below}
+use Rattle.spki_tag.specs.Tag.{is_above, is_below}
 use Rattle.spki_tag.specs.Meet.{least_above, above_from, strict_limit, from}
 
 starts_cons : (d c : ℕ) (x p : List ℕ) → starts_with nat_eq (d ∷ x) (c ∷ p) ≡ (nat_eq c d && starts_with nat_eq x p)

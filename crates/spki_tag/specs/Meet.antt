@@ -1,4 +1,3 @@
-<<<<<<< .merge_file_oWnhWR
 -- The intersection of two tags (RFC 2693, section 6.3.1): the tag that contains what both contain. The standard leaves
 -- the forms open that have no simple intersection; here they are settled so that every two tags have one:
 --   a star leaves the other; sets meet member by member, and a member that contains nothing is dropped;
@@ -9,10 +8,9 @@
 --   a prefix is the range of the strings from itself to below the least string above all that start with it;
 --   two lists with one head meet place by place, what is missing at an end not being restricted;
 --   all else leaves nothing.
-=======
 -- What two tags leave together, as a tag: a machine, which the laws of the intersection speak of.
->>>>>>> .merge_file_gRUAbQ
 use Rattle.std.specs.Prelude.{ℕ, ◌+◌, Bool, true, false, ◌&&◌, ◌||◌, not, nat_eq, nat_lt, if◌then◌else◌, List, [], ◌∷◌, ◌++◌, Option, Some, None}
+use Rattle.std.specs.Prelude.{ℕ, ◌+◌, Bool, true, false, ◌||◌, not, nat_eq, nat_lt, if◌then◌else◌, List, [], ◌∷◌, ◌++◌, Option, Some, None}
 use Rattle.std.specs.List.{starts_with}
 use Rattle.std.specs.Str.{bytes_eq}
 use Rattle.spki_tag.specs.Request as request

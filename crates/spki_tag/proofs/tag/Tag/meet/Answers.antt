@@ -1,6 +1,5 @@
-use Rattle.std.proofs.Common.{ap, ◌∙◌, ◌≡◌}
+use Rattle.std.proofs.Common.{ap, ◌∙◌}
 use Rattle.spki_tag.specs.Tag.{contains}
-use Rattle.spki_tag.specs.Meet.{meet}
 use Rattle.spki_tag.proofs.Exact.{meet-exact}
 use Rattle.spki_tag.proofs.Bounds.{meet-le}
 use Rattle.spki_tag.proofs.Depth.{meet-ldepth}
