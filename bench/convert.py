@@ -1,6 +1,6 @@
 #!/usr/bin/env python3
 """Times the three conversions of `spki` on large texts beside nettle's `sexp-conv` on the same texts, and prints how the
-time grows with the octets and how much memory it takes.
+time grows with the octets and how much memory it takes. Times are processor times, the least of some runs.
 
 Build the program first (`rt run` in crates/spki), and install `sexp-conv` (Debian: nettle-bin).
 Usage: bench/convert.py [PROGRAM]
@@ -12,7 +12,6 @@ import shutil
 import subprocess
 import sys
 import tempfile
-import time
 
 PROGRAM = sys.argv[1] if len(sys.argv) > 1 else os.path.join(os.path.dirname(__file__), "..", "crates", "spki", "out", "spki")
 PEER = "sexp-conv"
@@ -100,10 +99,16 @@ class Text:
             return subprocess.run(command, stdin=reader, stdout=subprocess.PIPE, check=True).stdout
 
     def seconds(self, command):
-        with open(self.file.name, "rb") as reader:
-            begun = time.perf_counter()
-            subprocess.run(command, stdin=reader, stdout=subprocess.DEVNULL, check=True)
-            return time.perf_counter() - begun
+        """The processor time of one run, which other programs on the machine disturb less than the time on the clock."""
+        files = [
+            (os.POSIX_SPAWN_OPEN, 0, self.file.name, os.O_RDONLY, 0),
+            (os.POSIX_SPAWN_OPEN, 1, os.devnull, os.O_WRONLY, 0),
+        ]
+        child = os.posix_spawnp(command[0], command, os.environ, file_actions=files)
+        _, status, used = os.wait4(child, 0)
+        if status != 0:
+            sys.exit(f"{command} ended with {status}")
+        return used.ru_utime + used.ru_stime
 
 
 # A process counts the memory that it had before it became the program, so a small one starts it.

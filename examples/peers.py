@@ -31,6 +31,8 @@ KNOWN = {
     "escapes-of-one-letter.sexp": (b"(1:\x071:\x0b)", b"(1:a1:v)"),
     "hexadecimal-escapes.sexp": (b"2:ab", None),
     "length-past-32-bits.sexp": (None, b"1:a"),
+    "line-end-before-escape.sexp": (b"2:a\n", b"3:a\\n"),
+    "line-end-before-quote.sexp": (b"(1:a1:b)", None),
     "no-escape.sexp": (None, b"1:q"),
     "no-padding.sexp": (b"(1:e2:ab)", None),
     "no-value.sexp": (None, b""),
