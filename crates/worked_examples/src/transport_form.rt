@@ -94,18 +94,18 @@ fn malformed_braces(rt: HostRuntime) {
     }
 }
 
-/// The base64 of three opening parentheses is `KCgo`.
+/// The base64 of three opening parentheses is `KCgo`, of two `KCg=`, of one `KA==`.
 #[test]
 fn limits_of_braces(rt: HostRuntime) -> Result<(), Fail> {
     let alloc = rt.alloc();
-    let deep = repeated(alloc, b"{", 1, b"KCgo", 22)?;
+    let mut deep = repeated(alloc, b"{", 1, b"KCgo", 21)?;
+    deep.extend_from_slice(b"KCg=")?;
     assert!(rt; is_refused(alloc, &deep, Short));
-    let mut deep = deep;
     deep.extend_from_slice(b"}x")?;
     assert!(rt; is_refused(alloc, &deep, TooDeep));
     let mut less_deep = repeated(alloc, b"{", 1, b"KCgo", 21)?;
-    less_deep.extend_from_slice(b"}x")?;
-    assert!(rt; is_refused(alloc, &less_deep, Bad(85)));
+    less_deep.extend_from_slice(b"KA==}x")?;
+    assert!(rt; is_refused(alloc, &less_deep, Bad(89)));
     let long = repeated(alloc, b"{KDE6YSk=}", 1, b" ", 1048567)?;
     assert!(rt; is_refused(alloc, &long, TooLong));
     let longest = repeated(alloc, b"{KDE6YSk=}", 1, b" ", 1048566)?;
