@@ -19,8 +19,12 @@ pub fn replies(
     let mut writer = Metered::new(Vec::new(alloc));
     let ended = run(alloc, command, &mut reader, &mut writer);
     let written = writer.into_inner();
-    assert!(rt; written.as_slice() == output, "{command:?}");
-    assert!(rt; ended == status, "{command:?}");
+    let octets = text.len();
+    assert!(rt;
+        written.as_slice() == output,
+        "{command:?} of {octets} octets"
+    );
+    assert!(rt; ended == status, "{command:?} of {octets} octets");
 }
 
 /// Runs a conversion of a text that is one.
