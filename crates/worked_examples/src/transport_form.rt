@@ -43,7 +43,7 @@ fn transport(rt: HostRuntime) -> Result<(), Fail> {
 }
 
 #[test]
-fn texts_in_braces(rt: HostRuntime) -> Result<(), Fail> {
+fn texts_in_braces(rt: HostRuntime) {
     let table: [(&[u8], &[u8]); 8] = [
         (b"{KDE6YSk=}", b"(1:a)"),
         (b"{KDE6YSk}", b"(1:a)"),
@@ -60,7 +60,6 @@ fn texts_in_braces(rt: HostRuntime) -> Result<(), Fail> {
     for (text, canonical) in table {
         assert!(rt; braces(rt.alloc(), text, canonical) == Ok(true), "{text:?}");
     }
-    Ok(())
 }
 
 #[test]
