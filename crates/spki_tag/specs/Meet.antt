@@ -8,8 +8,6 @@
 --   a prefix is the range of the strings from itself to below the least string above all that start with it;
 --   two lists with one head meet place by place, what is missing at an end not being restricted;
 --   all else leaves nothing.
--- What two tags leave together, as a tag: a machine, which the laws of the intersection speak of.
-use Rattle.std.specs.Prelude.{ℕ, ◌+◌, Bool, true, false, ◌&&◌, ◌||◌, not, nat_eq, nat_lt, if◌then◌else◌, List, [], ◌∷◌, ◌++◌, Option, Some, None}
 use Rattle.std.specs.Prelude.{ℕ, ◌+◌, Bool, true, false, ◌||◌, not, nat_eq, nat_lt, if◌then◌else◌, List, [], ◌∷◌, ◌++◌, Option, Some, None}
 use Rattle.std.specs.List.{starts_with}
 use Rattle.std.specs.Str.{bytes_eq}

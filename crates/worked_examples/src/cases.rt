@@ -1,22 +1,9 @@
 //! Cases, as runs of `check`.
 
+use crate::runs::checks;
 use crate::texts::{FIRST_RUN, KA, KC, case, case_at, entry};
-use spki_guard::command::Command;
-use spki_guard::metered::Metered;
-use spki_guard::run::{Status, run};
-use std::alloc::Global;
-use std::process::Abort;
+use spki_guard::run::Status;
 use std::test::Fail;
-
-/// Runs `check` on a text in memory, and looks at the status and at all that was written.
-fn checks(rt: &impl Abort, alloc: Global, text: &str, status: Status, line: &str) {
-    let mut reader = Metered::new(text.as_bytes());
-    let mut writer = Metered::new(Vec::new(alloc));
-    let ended = run(alloc, Command::Check, &mut reader, &mut writer);
-    let written = writer.into_inner();
-    assert!(rt; written.as_slice() == line.as_bytes(), "{text}");
-    assert!(rt; ended == status, "{text}");
-}
 
 #[test]
 fn first_run(rt: HostRuntime) {

@@ -1,4 +1,4 @@
-//! Readers and writers that fail, as runs of `check`.
+//! Readers and writers that fail, as runs.
 
 use crate::texts::FIRST_RUN;
 use spki_guard::command::Command;
@@ -92,4 +92,30 @@ fn ends_of_first_run(rt: HostRuntime) {
     assert!(rt; reader.ended);
     assert!(rt; writer.flushed);
     assert_eq!(rt; writer.into_inner().as_slice(), b"yes entry 1\n".as_slice());
+}
+
+#[test]
+fn failing_ends_of_conversions(rt: HostRuntime) {
+    let table: [(Command, &[u8]); 3] = [
+        (Command::Canonical, b"(1:"),
+        (Command::Advanced, b"(a "),
+        (Command::Transport, b"{KD"),
+    ];
+    for (command, front) in table {
+        let mut reader = Metered::new(b"{KDE6YTE6Yik=}".as_slice());
+        let mut writer = Metered::new(Narrow {
+            taken: Vec::new(rt.alloc()),
+            room: 3,
+        });
+        let status = run(rt.alloc(), command, &mut reader, &mut writer);
+        assert_eq!(rt; status, Status::WriteFault);
+        assert_eq!(rt; writer.into_inner().taken.as_slice(), front);
+
+        let mut reader = Metered::new(Broken);
+        let mut writer = Metered::new(Vec::new(rt.alloc()));
+        let status = run(rt.alloc(), command, &mut reader, &mut writer);
+        assert_eq!(rt; status, Status::ReadFault);
+        assert_eq!(rt; (reader.asks, reader.faults, writer.asks), (1, 1, 0));
+        assert!(rt; writer.into_inner().is_empty());
+    }
 }

@@ -1,0 +1,187 @@
+#!/usr/bin/env python3
+"""Times the three conversions of `spki` on large texts beside nettle's `sexp-conv` on the same texts, and prints how the
+time grows with the octets and how much memory it takes. Times are processor times, the least of some runs.
+
+Build the program first (`rt run` in crates/spki), and install `sexp-conv` (Debian: nettle-bin).
+Usage: bench/convert.py [PROGRAM]
+"""
+import base64
+import os
+import random
+import shutil
+import subprocess
+import sys
+import tempfile
+
+PROGRAM = sys.argv[1] if len(sys.argv) > 1 else os.path.join(os.path.dirname(__file__), "..", "crates", "spki", "out", "spki")
+PEER = "sexp-conv"
+FORMS = ("canonical", "advanced", "transport")
+SIZES = [64 * 1024, 256 * 1024, 1024 * 1024]
+RUNS = 7
+LIMIT_PEER = 1.0
+LIMIT_RATIO = 5.0
+LIMIT_MEMORY = 256
+
+
+def filled(size, piece):
+    """A list of one piece over and over, in so many octets."""
+    return b"(" + piece * ((size - 2) // len(piece)) + b")"
+
+
+def short_tokens(size):
+    return filled(size, b"a ")
+
+
+def tokens(size):
+    return filled(size, b"public-key ftp.example.org ")
+
+
+def quoted_strings(size):
+    return filled(size, b'"2024-01-01_00:00:00" "say \\"yes\\"" ')
+
+
+def one_string(size):
+    return b'"' + b"x y " * ((size - 2) // 4) + b'"'
+
+
+def deep_lists(size):
+    """Lists as deep as the limit allows."""
+    return filled(size, b"(a " * 63 + b"b" + b")" * 63 + b" ")
+
+
+def wide_lists(size):
+    return filled(size, b"(a b)")
+
+
+def hints(size):
+    return filled(size, b'[text/plain]"two words" [x]3:fgh ')
+
+
+def binary_strings(size):
+    """Strings of 32 octets each, in canonical form."""
+    octets = random.Random(size)
+    return b"(" + b"".join(b"32:" + octets.randbytes(32) for _ in range((size - 2) // 35)) + b")"
+
+
+def one_binary_string(size):
+    """One string of octets of all kinds, in canonical form."""
+    body = size - len(str(size)) - 1
+    return str(body).encode() + b":" + random.Random(size).randbytes(body)
+
+
+def base64_strings(size):
+    return filled(size, b"|" + base64.b64encode(random.Random(0).randbytes(96)) + b"|\n")
+
+
+def hexadecimal_strings(size):
+    return filled(size, b"#" + random.Random(0).randbytes(64).hex().encode() + b"#\n")
+
+
+def braces(size):
+    """Short strings, in braces."""
+    return b"{" + base64.b64encode(filled(3 * (size - 4) // 4, b"3:abc1:d")) + b"}"
+
+
+SHAPES = (short_tokens, tokens, quoted_strings, one_string, deep_lists, wide_lists, hints, binary_strings, one_binary_string,
+          base64_strings, hexadecimal_strings, braces)
+
+
+class Text:
+    """A text in a file, from which the programs read it."""
+
+    def __init__(self, octets):
+        self.file = tempfile.NamedTemporaryFile()
+        self.file.write(octets)
+        self.file.flush()
+
+    def converted(self, command):
+        with open(self.file.name, "rb") as reader:
+            return subprocess.run(command, stdin=reader, stdout=subprocess.PIPE, check=True).stdout
+
+    def seconds(self, command):
+        """The processor time of one run, which other programs on the machine disturb less than the time on the clock."""
+        files = [
+            (os.POSIX_SPAWN_OPEN, 0, self.file.name, os.O_RDONLY, 0),
+            (os.POSIX_SPAWN_OPEN, 1, os.devnull, os.O_WRONLY, 0),
+        ]
+        child = os.posix_spawnp(command[0], command, os.environ, file_actions=files)
+        _, status, used = os.wait4(child, 0)
+        if status != 0:
+            sys.exit(f"{command} ended with {status}")
+        return used.ru_utime + used.ru_stime
+
+
+# A process counts the memory that it had before it became the program, so a small one starts it.
+STARTER = """
+import os, sys
+child = os.fork()
+if child == 0:
+    os.dup2(os.open(sys.argv[3], os.O_RDONLY), 0)
+    os.dup2(os.open(os.devnull, os.O_WRONLY), 1)
+    os.execv(sys.argv[1], [sys.argv[1], sys.argv[2]])
+print(os.wait4(child, 0)[2].ru_maxrss)
+"""
+
+
+def peak(form, text):
+    """The most memory of one run, in MiB."""
+    command = [sys.executable, "-I", "-S", "-c", STARTER, PROGRAM, form, text.file.name]
+    return int(subprocess.run(command, capture_output=True, check=True).stdout) / 1024
+
+
+def ours(form):
+    return [PROGRAM, form]
+
+
+def theirs(form):
+    return [PEER, "-s", form]
+
+
+def measured(form, texts):
+    """The times of `spki` on each text, that of `sexp-conv` on the last one, and the memory of `spki` there."""
+    times, other = [], float("inf")
+    for text in texts:
+        times.append(min(text.seconds(ours(form)) for _ in range(RUNS)))
+    for _ in range(RUNS):
+        times[-1] = min(times[-1], texts[-1].seconds(ours(form)))
+        other = min(other, texts[-1].seconds(theirs(form)))
+    return times, other, peak(form, texts[-1])
+
+
+def target(name, worst, limit):
+    held = worst <= limit
+    print(f"{name}: {worst:.2f} (at most {limit}): {'pass' if held else 'miss'}")
+    return held
+
+
+def main():
+    for program in (PROGRAM, PEER):
+        if shutil.which(program) is None:
+            sys.exit(f"{program} is not there")
+    print(f"{'text':<20}{'to':<11}" + "".join(f"{size // 1024:>8} KiB" for size in SIZES)
+          + "   ratios        sexp-conv  spki/sexp-conv      peak")
+    slowest, steepest, largest = 0.0, 0.0, 0.0
+    for make in SHAPES:
+        texts = [Text(make(size)) for size in SIZES]
+        if texts[0].converted(ours("canonical")) != texts[0].converted(theirs("canonical")):
+            sys.exit(f"{make.__name__}: the canonical forms differ")
+        for form in FORMS:
+            times, other, memory = measured(form, texts)
+            ratios = [b / a for a, b in zip(times, times[1:])]
+            slowest = max(slowest, times[-1] / other)
+            steepest = max([steepest] + ratios)
+            largest = max(largest, memory)
+            print(f"{make.__name__:<20}{form:<11}" + "".join(f"{t * 1000:>9.1f} ms" for t in times)
+                  + "   " + " ".join(f"{r:5.2f}" for r in ratios)
+                  + f"   {other * 1000:>9.1f} ms {times[-1] / other:>11.2f}   {memory:>9.1f} MiB")
+    held = [
+        target("slowest beside sexp-conv", slowest, LIMIT_PEER),
+        target("steepest for 4 times the octets", steepest, LIMIT_RATIO),
+        target("largest peak in MiB", largest, LIMIT_MEMORY),
+    ]
+    if not all(held):
+        sys.exit(1)
+
+
+if __name__ == "__main__":
+    main()

@@ -1,0 +1,119 @@
+#!/usr/bin/env python3
+"""Converts the texts of a folder by `spki` and by nettle's `sexp-conv`, in both directions, and compares them.
+
+Of each text: its canonical form by both programs; then what each program writes in each of its forms, read by the other
+one, must be that canonical form again. Prints a line for each text, and ends with status 1 on a difference that
+docs/PEERS.md doesn't list.
+
+Build the program first (`rt run` in crates/spki), and install `sexp-conv` (Debian: nettle-bin).
+Usage: examples/peers.py [PROGRAM [FOLDER]]
+"""
+import os
+import shutil
+import subprocess
+import sys
+
+HERE = os.path.dirname(os.path.abspath(__file__))
+PROGRAM = sys.argv[1] if len(sys.argv) > 1 else os.path.join(HERE, "..", "crates", "spki", "out", "spki")
+FOLDER = sys.argv[2] if len(sys.argv) > 2 else os.path.join(HERE, "texts")
+PEER = "sexp-conv"
+FORMS = ("canonical", "advanced", "transport")
+SYNTAXES = ("canonical", "advanced", "hex", "transport")
+SECONDS = 20
+
+# What each program makes of the texts that they are known to differ on: its canonical form, None where it refuses the text.
+KNOWN = {
+    "braces-and-more.tsexp": (None, b"(1:a)(1:a)"),
+    "braces-inside.sexp": (None, b"(1:a1:a)"),
+    "braces-without-padding.tsexp": (b"(1:a)", None),
+    "comment-in-front.sexp": (None, b"(1:a)"),
+    "comment.sexp": (None, b"(1:a1:b)"),
+    "escapes-of-one-letter.sexp": (b"(1:\x071:\x0b)", b"(1:a1:v)"),
+    "hexadecimal-escapes.sexp": (b"2:ab", None),
+    "length-past-32-bits.sexp": (None, b"1:a"),
+    "line-end-before-escape.sexp": (b"2:a\n", b"3:a\\n"),
+    "line-end-before-quote.sexp": (b"(1:a1:b)", None),
+    "no-escape.sexp": (None, b"1:q"),
+    "no-padding.sexp": (b"(1:e2:ab)", None),
+    "no-value.sexp": (None, b""),
+    "octal-escapes.sexp": (b"2:ab", b"6:141142"),
+    "octal-past-an-octet.sexp": (None, b"3:400"),
+    "other-whitespace-in-hexadecimal.sexp": (b"3:abc", None),
+    "other-whitespace.sexp": (b"(1:a1:b1:c)", None),
+    "run-together.sexp": (None, b"1:a1:b"),
+    "some-padding.sexp": (b"1:e", None),
+    "too-deep.sexp": (None, b"(" * 65 + b"1:a" + b")" * 65),
+    "two-values.sexp": (None, b"(1:a)(1:b)"),
+}
+
+
+def run(command, text):
+    """The status of a program and what it writes."""
+    done = subprocess.run(command, input=text, stdout=subprocess.PIPE, stderr=subprocess.DEVNULL, timeout=SECONDS)
+    return done.returncode, done.stdout
+
+
+def by_spki(form, text):
+    """What `spki` writes for a text, None where it refuses it."""
+    status, output = run([PROGRAM, form], text)
+    if status not in (0, 2):
+        sys.exit(f"{PROGRAM} {form} ended with status {status}")
+    return output if status == 0 else None
+
+
+def by_peer(syntax, text):
+    """What `sexp-conv` writes for a text, None where it gives up."""
+    status, output = run([PEER, "-s", syntax], text)
+    return output if status == 0 else None
+
+
+def there_and_back(written, read, forms, text):
+    """Each form in which the one program writes a text, read by the other one."""
+    canonical = written("canonical", text)
+    marks = []
+    for form in forms:
+        passed_on = written(form, text)
+        marks.append(passed_on is not None and read("canonical", passed_on) == canonical)
+    return marks
+
+
+def shown(octets):
+    if octets is None:
+        return "refused"
+    return repr(octets)[2:-1] if len(octets) < 24 else f"{len(octets)} octets"
+
+
+def compare(name, text):
+    """The line of a text, and whether the programs agree on it or differ as is known."""
+    ours, theirs = by_spki("canonical", text), by_peer("canonical", text)
+    marks = there_and_back(by_spki, by_peer, FORMS, text) if ours is not None else []
+    if name in KNOWN:
+        verdict = "known" if (ours, theirs) == KNOWN[name] else "OTHER THAN KNOWN"
+    else:
+        verdict = "same" if ours is not None and ours == theirs else "DIFFERS"
+        marks += there_and_back(by_peer, by_spki, SYNTAXES, text) if theirs is not None else []
+    if not all(marks):
+        verdict += ", LOST ON THE WAY"
+    values = shown(ours) if ours == theirs else f"spki: {shown(ours)}; sexp-conv: {shown(theirs)}"
+    return f"{name:<38}{len(text):>6}  {verdict:<10}{sum(marks)}/{len(marks)}  {values}", verdict in ("same", "known")
+
+
+def main():
+    for program in (PROGRAM, PEER):
+        if shutil.which(program) is None:
+            sys.exit(f"{program} is not there")
+    names = sorted(name for name in os.listdir(FOLDER) if not name.startswith("."))
+    print(f"{'text':<38}{'octets':>6}  {'result':<10}way  canonical form")
+    agreed = 0
+    for name in names:
+        with open(os.path.join(FOLDER, name), "rb") as file:
+            line, as_wanted = compare(name, file.read())
+        print(line)
+        agreed += as_wanted
+    print(f"{agreed} of {len(names)} texts as wanted, {len(KNOWN)} of them known to differ")
+    if agreed < len(names) or not set(KNOWN) <= set(names):
+        sys.exit(1)
+
+
+if __name__ == "__main__":
+    main()

@@ -1,0 +1,2 @@
+(a ; remark
+ b)

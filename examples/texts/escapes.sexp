@@ -1,0 +1,1 @@
+("\b\t\n\f\r" "\"" "\'" "\?" "\\" "say \"yes\"\n" "back\\slash" 6"\"four\"")

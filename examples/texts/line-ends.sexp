@@ -1,0 +1,10 @@
+("one\
+two" "one\
+two" "one\two" "one\
+two" "one\
+
+two" "one\
+two" "one\
+
+two" 6"one\
+two")

@@ -1,0 +1,4 @@
+("one
+two" "one
+two" "onetwo" "
+" "	")
