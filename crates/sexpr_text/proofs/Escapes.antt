@@ -1,7 +1,6 @@
 -- The pieces of a quoted string stand in one way.
-use Rattle.std.proofs.Common.{◌≡◌, ◌≢◌, ℕ, zero, suc, ◌+◌, ◌-◌, ◌*◌, ◌<◌, ◌≤◌, ◌==◌, ◌&&◌, ◌||◌, true, false, Some, List, [], ◌∷◌, ◌++◌, length, refl, sym, ap, subst, ◌∙◌, append_assoc, length-append, arith, inl, inr, ◌⊎◌}
+use Rattle.std.proofs.Common.{◌≡◌, ◌≢◌, ℕ, zero, suc, ◌+◌, ◌-◌, ◌*◌, ◌<◌, ◌≤◌, ◌==◌, ◌&&◌, ◌||◌, false, Some, List, [], ◌∷◌, ◌++◌, length, refl, sym, ap, subst, ◌∙◌, append_assoc, length-append, arith, inl, inr, ◌⊎◌}
 use Rattle.std.specs.Prelude.{nat_le, if◌then◌else◌}
-use Rattle.std.proofs.lemmas.Bool.{cases_eq, cases_lt}
 use Rattle.std.proofs.lemmas.Bool.Decides.{nat_tests}
 use Rattle.hex.specs.Hex.{hex_digit_value}
 use Rattle.sexpr_text.specs.Strings.{escape_value, Piece, raw, escaped, octal, hexadecimal, line, line_pair, piece_text, piece_octets, StartsOther, IsPiece, pieces_text, pieces_octets, ArePieces}
@@ -41,10 +40,10 @@ no_octal (suc (suc zero)) c h e = cc
 no_octal (suc (suc (suc zero))) c h e = cc
 no_octal (suc (suc (suc (suc a)))) c h e = absurd (omega arith)
 
-pub no_escape : (e c k : ℕ) → escape_value e ≡ Some c → escape_value k ≡ escape_value 0 → e ≡ k → ⊥
+no_escape : (e c k : ℕ) → escape_value e ≡ Some c → escape_value k ≡ escape_value 0 → e ≡ k → ⊥
 no_escape e c k h none is = let n : escape_value 0 ≡ Some c = sym none ∙ ap escape_value (sym is) ∙ h in cc
 
-pub no_octal_escape : (e c : ℕ) → escape_value e ≡ Some c → 48 ≤ e → e < 52 → ⊥
+no_octal_escape : (e c : ℕ) → escape_value e ≡ Some c → 48 ≤ e → e < 52 → ⊥
 no_octal_escape e c h low high = let q : e ≡ 48 + (e - 48) = omega arith in no_octal (e - 48) c (omega arith) (ap escape_value (sym q) ∙ h)
 
 escape_sorted : (e c : ℕ) → escape_value e ≡ Some c → escape_sort e ≡ 1
@@ -187,3 +186,18 @@ piece_few (line_pair c d) = omega arith
 pub pieces_few : (ps : List Piece) → length (pieces_octets ps) ≤ length (pieces_text ps)
 pieces_few [] = omega arith
 pieces_few (p ∷ ps) = omega (arith, piece_few p, pieces_few ps, length-append (piece_octets p) (pieces_octets ps), length-append (piece_text p) (pieces_text ps))
+
+-- ---- which piece stands behind a backslash and another octet
+
+sort_is : (p : Piece) (rest xs : List ℕ) (k : ℕ) → IsPiece p rest → xs ≡ piece_text p ++ rest → text_sort xs ≡ k → piece_sort p ≡ k
+sort_is p rest xs k h e s = sym (sorted p rest h) ∙ sym (ap text_sort e) ∙ s
+
+pub hexadecimal_piece : (p : Piece) (rest t : List ℕ) → IsPiece p rest → 92 ∷ 120 ∷ t ≡ piece_text p ++ rest
+    → (h : ℕ) × (l : ℕ) × (m : ℕ) × (n : ℕ) × (t ≡ h ∷ l ∷ rest) × (hex_digit_value h ≡ Some m) × (hex_digit_value l ≡ Some n)
+hexadecimal_piece (hexadecimal h l m n) rest t k e = (h, l, m, n, cc, k.0, k.1)
+hexadecimal_piece p rest t k e = let s : piece_sort p ≡ 3 = sort_is p rest (92 ∷ 120 ∷ t) 3 k e refl in absurd (omega (arith, s))
+
+pub octal_piece : (p : Piece) (rest t : List ℕ) (a : ℕ) → a < 4 → IsPiece p rest → 92 ∷ (48 + a) ∷ t ≡ piece_text p ++ rest
+    → (b : ℕ) × (c : ℕ) × (t ≡ (48 + b) ∷ (48 + c) ∷ rest) × (b < 8) × (c < 8)
+octal_piece (octal d b c) rest t a low k e = (b, c, cc, k.1, k.2)
+octal_piece p rest t a low k e = let s : piece_sort p ≡ 2 = sort_is p rest (92 ∷ (48 + a) ∷ t) 2 k e (octal_sorted a low) in absurd (omega (arith, s))

@@ -2,7 +2,10 @@ pub mod PrintLaws
 pub mod StringLaws
 pub mod Escapes
 pub mod Marked
+pub mod QuotedLaws
+pub mod HexadecimalLaws
 pub mod OneString
+pub mod CountedLaws
 pub mod OneValue
 pub mod Openings
 pub mod Trees

@@ -1,5 +1,5 @@
 -- Strings between marks stand in one way.
-use Rattle.std.proofs.Common.{◌≡◌, ℕ, ◌+◌, ◌-◌, ◌*◌, ◌/◌, ◌%◌, ◌<◌, ◌≤◌, ◌==◌, ◌||◌, Bool, true, false, Ok, List, [], ◌∷◌, ◌++◌, length, replicate, refl, sym, ap, subst, ◌∙◌, append_assoc, append-nil, length-append, arith, inl, inr}
+use Rattle.std.proofs.Common.{◌≡◌, ℕ, ◌+◌, ◌-◌, ◌*◌, ◌/◌, ◌%◌, ◌≤◌, ◌==◌, ◌||◌, Bool, true, false, Ok, List, [], ◌∷◌, ◌++◌, length, drop, replicate, refl, sym, ap, subst, ◌∙◌, append_assoc, append-nil, length-append, arith, inl, inr, ◌⊎◌}
 use Rattle.std.specs.List.{AllByRecursion, AllPass}
 use Rattle.std.proofs.lemmas.Bool.{cases_Bool}
 use Rattle.std.proofs.lemmas.List.{length-replicate}
@@ -10,23 +10,20 @@ use Rattle.base64.specs.Rfc4648.{encode_symbols}
 use Rattle.base64.specs.Engines.{standard}
 use Rattle.base64.specs.GeneralPurpose.{encode_of, engine_symbols}
 use Rattle.base64.proofs.RoundTrip.{length-encode_symbols}
+use Rattle.sexpr_core.specs.Reading.{StandsAt}
 use Rattle.sexpr_core.specs.Spaces.{is_whitespace, visible}
 use Rattle.sexpr_core.specs.Braces.{IsBase64}
 use Rattle.sexpr_core.proofs.Base64Laws.{body_octets}
 use Rattle.sexpr_core.proofs.BraceLaws.{one_packed, visible_le}
 use Rattle.sexpr_core.proofs.Gathered.{one_body}
-use Rattle.sexpr_text.specs.Strings.{pieces_text, pieces_octets, ArePieces, IsQuoted, IsHexadecimal, IsPacked, IsMarked}
+use Rattle.sexpr_text.specs.Strings.{pieces_text, pieces_octets, IsQuoted, IsHexadecimal, IsPacked, IsMarked}
+use Rattle.sexpr_text.specs.Reads.{is_hexadecimal_octet, Stops}
 use Rattle.sexpr_text.proofs.Escapes.{left_pieces, none_left, are_followed, pieces_few}
 
 -- ---- where octets that pass a test end
 
 abbrev pub Passes : (ℕ → Bool) → List ℕ → Type 0
 Passes p xs = AllByRecursion (λ c. p c ≡ true) xs
-
--- the first of the octets fails the test, if there is one
-abbrev pub Stops : (ℕ → Bool) → List ℕ → Type 0
-Stops p [] = Unit {0}
-Stops p (c ∷ cs) = p c ≡ false
 
 pub one_front : (p : ℕ → Bool) (xs ys r s : List ℕ) → Passes p xs → Passes p ys → Stops p r → Stops p s → xs ++ r ≡ ys ++ s → (xs ≡ ys) × (r ≡ s)
 one_front p [] [] r s hx hy hr hs e = (refl, e)
@@ -41,8 +38,15 @@ one_front p (x ∷ xs) (y ∷ ys) r s hx hy hr hs e =
 
 -- ---- marks
 
-pub closed : (m : ℕ) (s body r : List ℕ) → s ≡ m ∷ (body ++ m ∷ []) → s ++ r ≡ m ∷ (body ++ m ∷ r)
+closed : (m : ℕ) (s body r : List ℕ) → s ≡ m ∷ (body ++ m ∷ []) → s ++ r ≡ m ∷ (body ++ m ∷ r)
 closed m s body r e = ap (λ t. t ++ r) e ∙ ap (λ t. m ∷ t) (append_assoc body (m ∷ []) r)
+
+-- what stands behind the opening mark
+pub behind_opening : (m : ℕ) (text : List ℕ) (at c : ℕ) (s body rest : List ℕ) → StandsAt text at c → s ≡ m ∷ (body ++ m ∷ []) → drop at text ≡ s ++ rest
+    → (c ≡ m) × (drop (at + 1) text ≡ body ++ m ∷ rest)
+behind_opening m text at c s body rest opens spelled e =
+    let k : c ∷ drop (at + 1) text ≡ m ∷ (body ++ m ∷ rest) = sym opens.spelled ∙ e ∙ closed m s body rest spelled in
+    (cc, cc)
 
 opened : (m n : ℕ) (s a r t b q : List ℕ) → s ≡ m ∷ (a ++ m ∷ []) → t ≡ n ∷ (b ++ n ∷ []) → s ++ r ≡ t ++ q
     → (m ≡ n) × (a ++ m ∷ r ≡ b ++ n ∷ q)
@@ -60,9 +64,6 @@ one_quoted s r a t q b h k e =
     (h.meant ∙ sym (append-nil (pieces_octets h.pieces)) ∙ ap (λ t. pieces_octets h.pieces ++ t) (sym n.0) ∙ sym l.meant ∙ sym k.meant, n.1)
 
 -- ---- hexadecimal
-
-abbrev pub is_hexadecimal_octet : ℕ → Bool
-is_hexadecimal_octet c = is_whitespace c || is_hex_digit c
 
 abbrev digit_holds : ℕ → Type 0
 digit_holds c = is_hex_digit c ≡ true
@@ -148,3 +149,29 @@ marked_few s a (inr (inl h)) =
     let d = decode_of-ok (visible h.body) a h.packed in
     omega (arith, longer 35 s h.body h.spelled, visible_le h.body, d.2)
 marked_few s a (inr (inr h)) = omega (arith, longer 124 s h.body h.spelled, visible_le h.body, packed_few (visible h.body) a h.packed)
+
+-- ---- which of the three it is
+
+sort_of : (text : List ℕ) (at c : ℕ) (s a rest : List ℕ) → StandsAt text at c → IsMarked s a → drop at text ≡ s ++ rest
+    → ((c ≡ 34) × IsQuoted s a) ⊎ (((c ≡ 35) × IsHexadecimal s a) ⊎ ((c ≡ 124) × IsPacked s a))
+sort_of text at c s a rest opens (inl h) e = inl ((behind_opening 34 text at c s (pieces_text h.pieces) rest opens h.spelled e).0, h)
+sort_of text at c s a rest opens (inr (inl h)) e = inr (inl ((behind_opening 35 text at c s h.body rest opens h.spelled e).0, h))
+sort_of text at c s a rest opens (inr (inr h)) e = inr (inr ((behind_opening 124 text at c s h.body rest opens h.spelled e).0, h))
+
+pub quoted_of : (text : List ℕ) (at c : ℕ) (s a rest : List ℕ) → StandsAt text at c → c ≡ 34 → IsMarked s a → drop at text ≡ s ++ rest → IsQuoted s a
+quoted_of text at c s a rest opens is m e = elim (sort_of text at c s a rest opens m e) [
+  | inl h ↦ h.1
+  | inr k ↦ elim k [ inl h ↦ let q : c ≡ 35 = h.0 in absurd (omega arith) | inr h ↦ let q : c ≡ 124 = h.0 in absurd (omega arith) ]
+]
+
+pub hexadecimal_of : (text : List ℕ) (at c : ℕ) (s a rest : List ℕ) → StandsAt text at c → c ≡ 35 → IsMarked s a → drop at text ≡ s ++ rest → IsHexadecimal s a
+hexadecimal_of text at c s a rest opens is m e = elim (sort_of text at c s a rest opens m e) [
+  | inl h ↦ let q : c ≡ 34 = h.0 in absurd (omega arith)
+  | inr k ↦ elim k [ inl h ↦ h.1 | inr h ↦ let q : c ≡ 124 = h.0 in absurd (omega arith) ]
+]
+
+pub packed_of : (text : List ℕ) (at c : ℕ) (s a rest : List ℕ) → StandsAt text at c → c ≡ 124 → IsMarked s a → drop at text ≡ s ++ rest → IsPacked s a
+packed_of text at c s a rest opens is m e = elim (sort_of text at c s a rest opens m e) [
+  | inl h ↦ let q : c ≡ 34 = h.0 in absurd (omega arith)
+  | inr k ↦ elim k [ inl h ↦ let q : c ≡ 35 = h.0 in absurd (omega arith) | inr h ↦ h.1 ]
+]

@@ -1,13 +1,12 @@
 -- A string without display hint is spelled in one way only.
-use Rattle.std.proofs.Common.{◌≡◌, ℕ, ◌+◌, ◌<◌, ◌≤◌, ◌==◌, ◌&&◌, ◌||◌, Bool, true, false, ◌⊎◌, inl, inr, List, [], ◌∷◌, ◌++◌, length, refl, sym, ap, subst, ◌∙◌, append_assoc, arith}
-use Rattle.std.specs.Prelude.{nat_le}
-use Rattle.std.proofs.lemmas.Bool.{cases_Bool}
+use Rattle.std.proofs.Common.{◌≡◌, ℕ, ◌+◌, ◌<◌, ◌==◌, ◌||◌, Bool, true, false, ◌⊎◌, inl, inr, List, [], ◌∷◌, ◌++◌, length, refl, sym, ap, subst, ◌∙◌, append_assoc, arith}
 use Rattle.std.proofs.lemmas.Bool.Decides.{nat_tests}
 use Rattle.sexpr_core.specs.Value.{decimal, verbatim}
 use Rattle.sexpr_core.proofs.Decimal.{IsDigit, AreDigits, AreDigits-decimal, decimal_starts, decimal_same, parts_agree}
 use Rattle.sexpr_core.proofs.Texts.{verbatim_is}
-use Rattle.sexpr_text.specs.Strings.{is_digit, is_token_octet, IsToken, IsApart, IsCount, IsCounted, IsMarked, Simple}
-use Rattle.sexpr_text.proofs.Marked.{Passes, Stops, one_front, is_mark, marked_first, one_marked}
+use Rattle.sexpr_text.specs.Strings.{is_digit, is_token_octet, IsToken, IsApart, IsCount, IsMarked, Simple}
+use Rattle.sexpr_text.specs.Reads.{Stops}
+use Rattle.sexpr_text.proofs.Marked.{Passes, one_front, is_mark, marked_first, one_marked}
 
 -- the first octet of a string's spelling: a token octet (digits are), or an opening mark
 abbrev pub is_string_start : ℕ → Bool

@@ -1,15 +1,12 @@
 -- Strings without display hint, octet by octet.
-use Rattle.std.proofs.Common.{◌≡◌, ℕ, ◌+◌, ◌-◌, ◌*◌, ◌<◌, ◌≤◌, min, true, false, Ok, List, [], ◌∷◌, ◌++◌, length, drop, refl, sym, ap, subst, ◌∙◌, append_assoc, append-nil, arith, inl, inr}
-use Rattle.hex.specs.Hex.{decode_of}
+use Rattle.std.proofs.Common.{◌≡◌, ℕ, ◌+◌, ◌-◌, ◌*◌, ◌<◌, ◌≤◌, min, true, false, List, [], ◌∷◌, ◌++◌, length, drop, refl, sym, ap, subst, ◌∙◌, append_assoc, append-nil, arith, inl, inr}
 use Rattle.sexpr_core.specs.Reading.{StandsAt}
-use Rattle.sexpr_core.specs.Spaces.{visible}
 use Rattle.sexpr_core.specs.Braces.{ReadsBase64}
 use Rattle.sexpr_core.proofs.SpaceLaws.{all-append}
-use Rattle.sexpr_core.proofs.Gathered.{visible-append}
 use Rattle.sexpr_core.proofs.Decimal.{decimal_digit}
 use Rattle.sexpr_core.proofs.Steps.{more_capped, more_spelled}
-use Rattle.sexpr_text.specs.Strings.{is_digit, is_token_octet, IsToken, Piece, raw, escaped, octal, hexadecimal, line, line_pair, piece_text, piece_octets, StartsOther, IsPiece, pieces_text, pieces_octets, ArePieces, IsQuoted, IsHexadecimal, IsPacked}
-use Rattle.sexpr_text.specs.Reads.{Reads, ReadsPiece, ReadsPieces, ReadsToken, Keeps, ReadsCount}
+use Rattle.sexpr_text.specs.Strings.{is_digit, is_token_octet, IsToken, Piece, raw, escaped, octal, hexadecimal, line, line_pair, piece_text, piece_octets, StartsOther, IsPiece, pieces_text, pieces_octets, ArePieces, IsQuoted, IsPacked, IsMarked}
+use Rattle.sexpr_text.specs.Reads.{Reads, ReadsPiece, ReadsPieces, ReadsToken, ReadsCount}
 
 -- ---- tokens
 
@@ -35,30 +32,6 @@ token_more text at i c octets new r stands token e = rw e (record {
   within = omega (arith, stands.within);
 })
 
--- ---- hexadecimal
-
-pub nothing_kept : (text : List ℕ) (at : ℕ) → at ≤ length text → Keeps text at [] at
-nothing_kept text at h = record { body = []; spelled = refl; rest_is = refl; ordered = omega arith; within = h }
-
-pub more_kept : (text : List ℕ) (at i c : ℕ) (kept new : List ℕ) → Keeps text at kept i → StandsAt text i c → new ≡ kept ++ visible (c ∷ []) → Keeps text at new (i + 1)
-more_kept text at i c kept new k stands e = record {
-  body = k.body ++ c ∷ [];
-  spelled = k.spelled ∙ ap (λ t. k.body ++ t) stands.spelled ∙ sym (append_assoc k.body (c ∷ []) (drop (i + 1) text));
-  rest_is = e ∙ ap (λ t. t ++ visible (c ∷ [])) k.rest_is ∙ sym (visible-append k.body (c ∷ []));
-  ordered = omega (arith, k.ordered);
-  within = omega (arith, stands.within);
-}
-
-pub hexadecimal_read : (text : List ℕ) (at i : ℕ) (kept octets : List ℕ) → StandsAt text at 35 → Keeps text (at + 1) kept i → StandsAt text i 35
-    → decode_of kept ≡ Ok octets → Reads IsHexadecimal text at octets (i + 1)
-hexadecimal_read text at i kept octets opens k closes e = record {
-  spelling = 35 ∷ (k.body ++ 35 ∷ []);
-  spelled = opens.spelled ∙ ap (λ t. 35 ∷ t) (k.spelled ∙ ap (λ t. k.body ++ t) closes.spelled ∙ sym (append_assoc k.body (35 ∷ []) (drop (i + 1) text)));
-  meant = record { body = k.body; spelled = refl; packed = ap decode_of (sym k.rest_is) ∙ e };
-  forward = omega (arith, k.ordered);
-  within = omega (arith, closes.within);
-}
-
 -- ---- base64
 
 pub packed_read : (text : List ℕ) (at to : ℕ) (octets : List ℕ) → StandsAt text at 124 → ReadsBase64 text (at + 1) 124 octets to → Reads IsPacked text at octets to
@@ -69,6 +42,9 @@ packed_read text at to octets opens r = record {
   forward = omega (arith, r.goes_on);
   within = r.within;
 }
+
+pub packed_marked : (text : List ℕ) (at to : ℕ) (octets : List ℕ) → Reads IsPacked text at octets to → Reads IsMarked text at octets to
+packed_marked text at to octets r = record { spelling = r.spelling; spelled = r.spelled; meant = inr (inr r.meant); forward = r.forward; within = r.within }
 
 -- ---- lengths
 

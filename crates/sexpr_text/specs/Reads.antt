@@ -1,17 +1,17 @@
 -- What a step of the reader of advanced form has read of a text, from offset `at` to offset `to`.
-use Rattle.std.specs.Prelude.{◌≡◌, ℕ, ◌<◌, ◌≤◌, min, Bool, List, ◌∷◌, ◌++◌, length, drop}
+use Rattle.std.specs.Prelude.{◌≡◌, ℕ, ◌<◌, ◌≤◌, min, Bool, true, false, ◌||◌, List, [], ◌∷◌, ◌++◌, length, drop, Option, Some, None, ◌⊎◌}
+use Rattle.std.specs.List.{AllByRecursion}
+use Rattle.hex.specs.declared.error.FromHexError.{FromHexError}
+use Rattle.hex.specs.declared.error.FromHexError.TheVariants.{InvalidHexCharacter, OddLength, InvalidStringLength, OutOfMemory}
+use Rattle.hex.specs.Hex.{hex_digit_value, is_hex_digit}
+use Rattle.sexpr_core.specs.Reading.{StandsAt}
 use Rattle.sexpr_core.specs.declared.fault.FormFault.{FormFault}
 use Rattle.sexpr_core.specs.declared.fault.FormFault.TheVariants.{TooLong, TooDeep, Short, Bad, Trailing, Memory}
 use Rattle.sexpr_core.specs.Value.{Value, Values, decimal, depth, depths}
-use Rattle.sexpr_core.specs.Spaces.{visible, Skips}
+use Rattle.sexpr_core.specs.Spaces.{is_whitespace, visible, Skips}
 use Rattle.sexpr_text.specs.Strings.{IsToken, Piece, piece_text, piece_octets, IsPiece, pieces_text, pieces_octets, ArePieces, Simple, IsApart}
 use Rattle.sexpr_text.specs.Spelling.{SpellsAs, SpellsMembers}
 use Rattle.sexpr_text.specs.Refusal.{openings}
-
--- something was read, from one offset up to another within the text
-pub record GoesOn (text : List ℕ) (at to : ℕ) : Type 0 where
-  pub forward : at < to
-  pub within : to ≤ length text
 
 -- a spelling of the octets, of one sort
 pub record Reads (P : List ℕ → List ℕ → Type 0) (text : List ℕ) (at : ℕ) (octets : List ℕ) (to : ℕ) : Type 0 where
@@ -28,9 +28,30 @@ pub record ReadsToken (text : List ℕ) (at : ℕ) (octets : List ℕ) (to : ℕ
   pub forward : at < to
   pub within : to ≤ length text
 
--- octets of a body, without its whitespace
+-- whitespace or a hexadecimal digit
+abbrev pub is_hexadecimal_octet : ℕ → Bool
+is_hexadecimal_octet c = is_whitespace c || is_hex_digit c
+
+-- why an octet of a hexadecimal body, at an offset, is refused
+abbrev pub IsNoHexadecimalOctet : ℕ → ℕ → FormFault → Type 0
+IsNoHexadecimalOctet c at TooLong = ⊥
+IsNoHexadecimalOctet c at TooDeep = ⊥
+IsNoHexadecimalOctet c at Short = ⊥
+IsNoHexadecimalOctet c at (Bad k) = (k ≡ at) × (is_hexadecimal_octet c ≡ false)
+IsNoHexadecimalOctet c at (Trailing k) = ⊥
+IsNoHexadecimalOctet c at Memory = Unit {0}
+
+-- why a hexadecimal body is refused whose mark stands at an offset, by what is wrong with its digits
+abbrev pub IsDigitsFault : FromHexError → ℕ → FormFault → Type 0
+IsDigitsFault (InvalidHexCharacter c index) at fault = fault ≡ Bad at
+IsDigitsFault OddLength at fault = fault ≡ Bad at
+IsDigitsFault InvalidStringLength at fault = fault ≡ Bad at
+IsDigitsFault OutOfMemory at fault = fault ≡ Memory
+
+-- octets of a hexadecimal body, and its digits
 pub record Keeps (text : List ℕ) (at : ℕ) (kept : List ℕ) (to : ℕ) : Type 0 where
   pub body : List ℕ
+  pub octets : AllByRecursion (λ c. is_hexadecimal_octet c ≡ true) body
   pub spelled : drop at text ≡ body ++ drop to text
   pub rest_is : kept ≡ visible body
   pub ordered : at ≤ to
@@ -44,6 +65,31 @@ pub record ReadsPiece (text : List ℕ) (at : ℕ) (old new : List ℕ) (to : �
   pub right : IsPiece piece (drop to text)
   pub forward : at < to
   pub within : to ≤ length text
+
+-- the octets that an escape stands for: one, or none at a line's end
+abbrev pub escape_octets : Option ℕ → List ℕ
+escape_octets None = []
+escape_octets (Some c) = c ∷ []
+
+-- the rest of an escape of a quoted string, of which these octets stand in front
+pub record ReadsEscape (front text : List ℕ) (at : ℕ) (octet : Option ℕ) (to : ℕ) : Type 0 where
+  pub piece : Piece
+  pub spelled : front ++ drop at text ≡ piece_text piece ++ drop to text
+  pub meant : piece_octets piece ≡ escape_octets octet
+  pub right : IsPiece piece (drop to text)
+  pub forward : at < to
+  pub within : to ≤ length text
+
+-- a CR of which an LF makes a pair, or the other way round
+abbrev pub IsLineEnd : List ℕ → ℕ → ℕ → Type 0
+IsLineEnd text at second = (StandsAt text at 13 × (second ≡ 10)) ⊎ (StandsAt text at 10 × (second ≡ 13))
+
+-- a hexadecimal digit and its value
+pub record ReadsDigit (text : List ℕ) (at value : ℕ) : Type 0 where
+  pub octet : ℕ
+  pub stands : StandsAt text at octet
+  pub valued : hex_digit_value octet ≡ Some value
+  pub low : value < 16
 
 -- pieces of a quoted string, one behind the other
 pub record ReadsPieces (text : List ℕ) (at : ℕ) (octets : List ℕ) (to : ℕ) : Type 0 where
@@ -61,6 +107,11 @@ pub record ReadsCount (text : List ℕ) (at number to : ℕ) : Type 0 where
   pub spelled : drop at text ≡ decimal written ++ drop to text
   pub forward : at < to
   pub within : to ≤ length text
+
+-- no octet that passes a test stands first
+abbrev pub Stops : (ℕ → Bool) → List ℕ → Type 0
+Stops p [] = Unit {0}
+Stops p (c ∷ cs) = p c ≡ false
 
 -- so many octets as they stand
 pub record ReadsOctets (text : List ℕ) (at number : ℕ) (octets : List ℕ) (to : ℕ) : Type 0 where

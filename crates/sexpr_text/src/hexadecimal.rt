@@ -1,9 +1,10 @@
 //! Hexadecimal strings, read.
 
-ghost use Rattle.std.specs.Prelude.{◌≡◌, ◌+◌, ◌≤◌, [], ◌∷◌, ◌++◌, length, IfOk, IfErr, OnOk};
+ghost use Rattle.std.specs.Prelude.{◌≡◌, ℕ, ◌+◌, ◌≤◌, true, Ok, List, [], ◌∷◌, ◌++◌, length, drop, IfOk, IfErr, OnOk, IsOkUnless};
+ghost use Rattle.hex.specs.Hex.{decode_of};
 ghost use Rattle.sexpr_core.specs.Reading.{StandsAt};
 ghost use Rattle.sexpr_core.specs.Bounds.{IsPartFault};
-ghost use Rattle.sexpr_text.specs.Reads.{Reads, Keeps};
+ghost use Rattle.sexpr_text.specs.Reads.{Reads, Keeps, is_hexadecimal_octet, IsNoHexadecimalOctet, IsDigitsFault};
 ghost use Rattle.sexpr_text.specs.Strings.{IsHexadecimal};
 ghost use Rattle.sexpr_core.specs.Spaces.{visible};
 
@@ -26,6 +27,7 @@ pub(crate) fn read_hexadecimal(
 ) -> Result<ReadString, FormFault>
     requires { StandsAt text.now at 35 }
     ensures read { IfOk result (λ read. Reads IsHexadecimal text.now at read.octets.items read.end) }
+    ensures only { (spelling octets rest : List ℕ) → IsHexadecimal spelling octets → drop at text.now ≡ spelling ++ rest → IsOkUnless result FormFault.Memory }
     ensures refused { IfErr result (λ fault. IsPartFault (length text.now) fault) }
 {
     let Digits { digits, end } = gather_digits(alloc, text, at + 1)?;
@@ -34,8 +36,18 @@ pub(crate) fn read_hexadecimal(
             octets,
             end: end + 1,
         }),
-        Err(FromHexError::OutOfMemory) => Err(FormFault::Memory),
-        Err(_) => Err(FormFault::Bad(end)),
+        Err(error) => Err(digits_fault(error, end)),
+    }
+}
+
+/// Why a body is refused whose closing mark stands at this offset, by what is wrong with its digits.
+fn digits_fault(error: FromHexError, at: usize) -> FormFault
+    ensures fault { IsDigitsFault error at result }
+    ensures lies { IsPartFault (at + 1) result }
+{
+    match error {
+        FromHexError::OutOfMemory => FormFault::Memory,
+        _ => FormFault::Bad(at),
     }
 }
 
@@ -43,6 +55,7 @@ pub(crate) fn read_hexadecimal(
 fn gather_digits(alloc: Global, text: &[u8], at: usize) -> Result<Digits, FormFault>
     requires { at ≤ length text.now }
     ensures read { IfOk result (λ read. Keeps text.now at read.digits.items read.end × StandsAt text.now read.end 35) }
+    ensures only { (body octets rest : List ℕ) → decode_of (visible body) ≡ Ok octets → drop at text.now ≡ body ++ 35 ∷ rest → IsOkUnless result FormFault.Memory }
     ensures refused { IfErr result (λ fault. IsPartFault (length text.now) fault) }
 {
     let mut digits = Vec::new(alloc);
@@ -59,8 +72,9 @@ fn gather_digits(alloc: Global, text: &[u8], at: usize) -> Result<Digits, FormFa
 
 /// Takes one octet of a body: a digit is kept, whitespace is not.
 fn keep_digit(octet: u8, at: usize, digits: &mut Vec<u8>) -> Result<(), FormFault>
-    ensures kept { OnOk result (digits.new.items ≡ digits.old.items ++ visible (octet ∷ [])) }
-    ensures refused { IfErr result (λ fault. IsPartFault (at + 1) fault) }
+    ensures kept { OnOk result
+        ((is_hexadecimal_octet octet ≡ true) × (digits.new.items ≡ digits.old.items ++ visible (octet ∷ []))) }
+    ensures refused { IfErr result (λ fault. IsNoHexadecimalOctet octet at fault) }
 {
     if is_space(octet) {
         return Ok(());

@@ -1,9 +1,11 @@
 //! Quoted strings, read.
 
-ghost use Rattle.std.specs.Prelude.{◌≡◌, ◌≤◌, ◌<◌, ◌+◌, ◌^◌, length, IfOk, IfErr};
+ghost use Rattle.std.specs.Prelude.{◌≡◌, ◌≢◌, ◌≤◌, ◌<◌, ◌+◌, ℕ, List, [], ◌∷◌, ◌++◌, length, drop, Some, IfOk, IfErr, IsOkUnless};
+ghost use Rattle.hex.specs.Hex.{hex_digit_value};
 ghost use Rattle.sexpr_core.specs.Reading.{StandsAt};
 ghost use Rattle.sexpr_core.specs.Bounds.{IsPartFault};
-ghost use Rattle.sexpr_text.specs.Reads.{GoesOn};
+ghost use Rattle.sexpr_text.specs.Strings.{escape_value, Piece, piece_text, IsPiece, IsQuoted};
+ghost use Rattle.sexpr_text.specs.Reads.{Reads, ReadsPiece, ReadsEscape, ReadsDigit, IsLineEnd};
 
 use crate::strings::ReadString;
 use sexpr_core::{FormFault, octet_at};
@@ -19,7 +21,8 @@ struct Escape {
 /// A quoted string, from its opening quote on.
 pub(crate) fn read_quoted(alloc: Global, text: &[u8], at: usize) -> Result<ReadString, FormFault>
     requires { StandsAt text.now at 34 }
-    ensures read { IfOk result (λ read. GoesOn text.now at read.end) }
+    ensures read { IfOk result (λ read. Reads IsQuoted text.now at read.octets.items read.end) }
+    ensures only { (spelling octets rest : List ℕ) → IsQuoted spelling octets → drop at text.now ≡ spelling ++ rest → IsOkUnless result FormFault.Memory }
     ensures refused { IfErr result (λ fault. IsPartFault (length text.now) fault) }
 {
     let mut octets = Vec::new(alloc);
@@ -35,8 +38,10 @@ pub(crate) fn read_quoted(alloc: Global, text: &[u8], at: usize) -> Result<ReadS
 
 /// An octet for itself, or an escape.
 fn read_piece(text: &[u8], at: usize, octet: u8, octets: &mut Vec<u8>) -> Result<usize, FormFault>
-    requires { StandsAt text.now at octet }
-    ensures read { IfOk result (λ to. GoesOn text.now at to) }
+    requires begins { StandsAt text.now at octet }
+    requires other { octet ≢ 34 }
+    ensures read { IfOk result (λ to. ReadsPiece text.now at octets.old.items octets.new.items to) }
+    ensures only { (piece : Piece) (rest : List ℕ) → IsPiece piece rest → drop at text.now ≡ piece_text piece ++ rest → IsOkUnless result FormFault.Memory }
     ensures refused { IfErr result (λ fault. IsPartFault (length text.now) fault) }
 {
     if octet != b'\\' {
@@ -56,7 +61,8 @@ fn read_piece(text: &[u8], at: usize, octet: u8, octets: &mut Vec<u8>) -> Result
 /// What stands behind a backslash.
 fn read_escape(text: &[u8], at: usize) -> Result<Escape, FormFault>
     requires { at ≤ length text.now }
-    ensures read { IfOk result (λ read. GoesOn text.now at read.end) }
+    ensures read { IfOk result (λ read. ReadsEscape (92 ∷ []) text.now at read.octet read.end) }
+    ensures only { (piece : Piece) (rest : List ℕ) → IsPiece piece rest → 92 ∷ drop at text.now ≡ piece_text piece ++ rest → IsOkUnless result FormFault.Memory }
     ensures refused { IfErr result (λ fault. IsPartFault (length text.now) fault) }
 {
     let Some(octet) = octet_at(text, at) else {
@@ -67,14 +73,14 @@ fn read_escape(text: &[u8], at: usize) -> Result<Escape, FormFault>
         b'\n' => Ok(line_end(text, at, b'\r')),
         b'x' => read_hexadecimal_escape(text, at + 1),
         b'0'..=b'3' => read_octal_escape(text, at, octet - b'0'),
-        _ => read_letter(at, octet),
+        _ => read_letter(text, at, octet),
     }
 }
 
 /// A line's end behind a backslash: one octet, or two where the second makes a pair with it.
 fn line_end(text: &[u8], at: usize, second: u8) -> Escape
-    requires { at < length text.now }
-    ensures { GoesOn text.now at result.end }
+    requires { IsLineEnd text.now at second }
+    ensures { ReadsEscape (92 ∷ []) text.now at result.octet result.end }
 {
     if let Some(octet) = octet_at(text, at + 1) {
         if octet == second {
@@ -90,50 +96,71 @@ fn line_end(text: &[u8], at: usize, second: u8) -> Escape
     }
 }
 
-/// An octet that stands for another.
-fn read_letter(at: usize, octet: u8) -> Result<Escape, FormFault>
-    requires { at + 1 < 2 ^ 64 }
-    ensures read { IfOk result (λ read. read.end ≡ at + 1) }
-    ensures refused { IfErr result (λ fault. fault ≡ FormFault.Bad at) }
+/// The octet for which an octet behind a backslash stands; none where it stands for no other.
+fn meant_by(octet: u8) -> Option<u8>
+    ensures { result ≡ escape_value octet }
 {
-    let meant = match octet {
-        b'a' => 0x07,
-        b'b' => 0x08,
-        b't' => 0x09,
-        b'v' => 0x0B,
-        b'n' => 0x0A,
-        b'f' => 0x0C,
-        b'r' => 0x0D,
-        b'"' | b'\'' | b'?' | b'\\' => octet,
-        _ => return Err(FormFault::Bad(at)),
-    };
-    Ok(Escape {
-        octet: Some(meant),
-        end: at + 1,
-    })
+    match octet {
+        b'a' => Some(0x07),
+        b'b' => Some(0x08),
+        b't' => Some(0x09),
+        b'v' => Some(0x0B),
+        b'n' => Some(0x0A),
+        b'f' => Some(0x0C),
+        b'r' => Some(0x0D),
+        b'"' | b'\'' | b'?' | b'\\' => Some(octet),
+        _ => None,
+    }
 }
 
-/// A hexadecimal digit's value.
+/// An octet that stands for another.
+fn read_letter(text: &[u8], at: usize, octet: u8) -> Result<Escape, FormFault>
+    requires { StandsAt text.now at octet }
+    ensures read { IfOk result (λ read. ReadsEscape (92 ∷ []) text.now at read.octet read.end) }
+    ensures only { (c : ℕ) → escape_value octet ≡ Some c → IsOkUnless result FormFault.Memory }
+    ensures refused { IfErr result (λ fault. IsPartFault (length text.now) fault) }
+{
+    match meant_by(octet) {
+        None => Err(FormFault::Bad(at)),
+        Some(meant) => Ok(Escape {
+            octet: Some(meant),
+            end: at + 1,
+        }),
+    }
+}
+
+/// A hexadecimal digit's value; none for another octet.
+fn hexadecimal_value(octet: u8) -> Option<u8>
+    ensures { result ≡ hex_digit_value octet }
+{
+    match octet {
+        b'0'..=b'9' => Some(octet - b'0'),
+        b'a'..=b'f' => Some(octet - b'a' + 10),
+        b'A'..=b'F' => Some(octet - b'A' + 10),
+        _ => None,
+    }
+}
+
 fn read_hexadecimal_digit(text: &[u8], at: usize) -> Result<u8, FormFault>
     requires { at ≤ length text.now }
-    ensures read { IfOk result (λ digit. (digit < 16) × (at < length text.now)) }
+    ensures read { IfOk result (λ digit. ReadsDigit text.now at digit) }
+    ensures only { (c digit : ℕ) (rest : List ℕ) → hex_digit_value c ≡ Some digit → drop at text.now ≡ c ∷ rest → IsOkUnless result FormFault.Memory }
     ensures refused { IfErr result (λ fault. IsPartFault (length text.now) fault) }
 {
     let Some(octet) = octet_at(text, at) else {
         return Err(FormFault::Short);
     };
-    match octet {
-        b'0'..=b'9' => Ok(octet - b'0'),
-        b'a'..=b'f' => Ok(octet - b'a' + 10),
-        b'A'..=b'F' => Ok(octet - b'A' + 10),
-        _ => Err(FormFault::Bad(at)),
+    match hexadecimal_value(octet) {
+        None => Err(FormFault::Bad(at)),
+        Some(digit) => Ok(digit),
     }
 }
 
 /// Two hexadecimal digits behind an x.
 fn read_hexadecimal_escape(text: &[u8], at: usize) -> Result<Escape, FormFault>
     requires { at ≤ length text.now }
-    ensures read { IfOk result (λ read. GoesOn text.now at read.end) }
+    ensures read { IfOk result (λ read. ReadsEscape (92 ∷ 120 ∷ []) text.now at read.octet read.end) }
+    ensures only { (piece : Piece) (rest : List ℕ) → IsPiece piece rest → 92 ∷ 120 ∷ drop at text.now ≡ piece_text piece ++ rest → IsOkUnless result FormFault.Memory }
     ensures refused { IfErr result (λ fault. IsPartFault (length text.now) fault) }
 {
     let high = read_hexadecimal_digit(text, at)?;
@@ -146,23 +173,25 @@ fn read_hexadecimal_escape(text: &[u8], at: usize) -> Result<Escape, FormFault>
 
 fn read_octal_digit(text: &[u8], at: usize) -> Result<u8, FormFault>
     requires { at ≤ length text.now }
-    ensures read { IfOk result (λ digit. (digit < 8) × (at < length text.now)) }
+    ensures read { IfOk result (λ digit. (digit < 8) × StandsAt text.now at (48 + digit)) }
+    ensures only { (digit : ℕ) (rest : List ℕ) → digit < 8 → drop at text.now ≡ (48 + digit) ∷ rest → IsOkUnless result FormFault.Memory }
     ensures refused { IfErr result (λ fault. IsPartFault (length text.now) fault) }
 {
     let Some(octet) = octet_at(text, at) else {
         return Err(FormFault::Short);
     };
-    match octet {
-        b'0'..=b'7' => Ok(octet - b'0'),
-        _ => Err(FormFault::Bad(at)),
+    if octet < b'0' || octet > b'7' {
+        return Err(FormFault::Bad(at));
     }
+    Ok(octet - b'0')
 }
 
 /// Three octal digits, of which the first is known and at most 3.
 fn read_octal_escape(text: &[u8], at: usize, first: u8) -> Result<Escape, FormFault>
-    requires within { at < length text.now }
+    requires begins { StandsAt text.now at (48 + first) }
     requires low { first < 4 }
-    ensures read { IfOk result (λ read. GoesOn text.now at read.end) }
+    ensures read { IfOk result (λ read. ReadsEscape (92 ∷ []) text.now at read.octet read.end) }
+    ensures only { (piece : Piece) (rest : List ℕ) → IsPiece piece rest → 92 ∷ drop at text.now ≡ piece_text piece ++ rest → IsOkUnless result FormFault.Memory }
     ensures refused { IfErr result (λ fault. IsPartFault (length text.now) fault) }
 {
     let second = read_octal_digit(text, at + 1)?;

@@ -1,9 +1,9 @@
 //! Strings without display hint, read (RFC 9804, sections 4.1 to 4.6).
 
-ghost use Rattle.std.specs.Prelude.{◌≡◌, ℕ, List, true, false, ◌<◌, ◌≤◌, length, IfOk, IfErr, IsOkUnless};
+ghost use Rattle.std.specs.Prelude.{◌≡◌, ℕ, List, ◌++◌, true, false, ◌+◌, ◌<◌, ◌≤◌, ◌⊎◌, length, drop, IfOk, IfErr, IsOkUnless};
 ghost use Rattle.sexpr_core.specs.Bounds.{IsPartFault};
-ghost use Rattle.sexpr_text.specs.Reads.{GoesOn, ReadsToken, ReadsCount, ReadsString, StringAt};
-ghost use Rattle.sexpr_text.specs.Strings.{is_digit, is_token_octet};
+ghost use Rattle.sexpr_text.specs.Reads.{Reads, ReadsToken, ReadsCount, ReadsOctets, ReadsString, StringAt, Stops};
+ghost use Rattle.sexpr_text.specs.Strings.{is_digit, is_token_octet, IsApart, IsMarked};
 ghost use Rattle.sexpr_core.specs.Reading.{StandsAt};
 
 use crate::hexadecimal::read_hexadecimal;
@@ -51,7 +51,8 @@ fn read_token(alloc: Global, text: &[u8], at: usize, first: u8) -> Result<ReadSt
     requires begins { StandsAt text.now at first }
     requires other { is_digit first ≡ false }
     requires token { is_token_octet first ≡ true }
-    ensures read { IfOk result (λ read. ReadsToken text.now at read.octets.items read.end) }
+    ensures read { IfOk result (λ read. ReadsToken text.now at read.octets.items read.end × IsApart true (drop read.end text.now)) }
+    ensures only { IsOkUnless result FormFault.Memory }
     ensures refused { IfErr result (λ fault. IsPartFault (length text.now) fault) }
 {
     let mut octets = Vec::new(alloc);
@@ -70,7 +71,8 @@ fn read_token(alloc: Global, text: &[u8], at: usize, first: u8) -> Result<ReadSt
 /// A string between marks, from its opening mark on.
 fn read_marked(alloc: Global, text: &[u8], at: usize) -> Result<ReadString, FormFault>
     requires { at ≤ length text.now }
-    ensures read { IfOk result (λ read. GoesOn text.now at read.end) }
+    ensures read { IfOk result (λ read. Reads IsMarked text.now at read.octets.items read.end) }
+    ensures only { (spelling octets rest : List ℕ) → IsMarked spelling octets → drop at text.now ≡ spelling ++ rest → IsOkUnless result FormFault.Memory }
     ensures refused { IfErr result (λ fault. IsPartFault (length text.now) fault) }
 {
     match octet_at(text, at) {
@@ -89,7 +91,8 @@ fn read_marked(alloc: Global, text: &[u8], at: usize) -> Result<ReadString, Form
 fn read_count(text: &[u8], at: usize, first: u8) -> Count
     requires begins { StandsAt text.now at first }
     requires digit { (48 ≤ first) × (first < 58) }
-    ensures { ReadsCount text.now at result.number result.end }
+    ensures read { ReadsCount text.now at result.number result.end }
+    ensures ends { (result.number ≡ 0) ⊎ Stops is_digit (drop result.end text.now) }
 {
     let mut number = (first - b'0') as usize;
     let mut i = at + 1;
@@ -108,9 +111,11 @@ fn read_count(text: &[u8], at: usize, first: u8) -> Count
 
 /// A string with its length in front, from the first digit on.
 fn read_counted(alloc: Global, text: &[u8], at: usize, first: u8) -> Result<ReadString, FormFault>
+    requires short { length text.now ≤ 1048576 }
     requires begins { StandsAt text.now at first }
     requires digit { (48 ≤ first) × (first < 58) }
-    ensures read { IfOk result (λ read. GoesOn text.now at read.end) }
+    ensures read { IfOk result (λ read. ReadsString text.now at read.octets.items read.end) }
+    ensures only { (octets rest : List ℕ) → StringAt text.now at octets rest → IsOkUnless result FormFault.Memory }
     ensures refused { IfErr result (λ fault. IsPartFault (length text.now) fault) }
 {
     let count = read_count(text, at, first);
@@ -134,9 +139,10 @@ fn read_verbatim(
     at: usize,
     number: usize,
 ) -> Result<ReadString, FormFault>
+    requires short { length text.now ≤ 1048576 }
     requires begins { at ≤ length text.now }
-    requires short { number ≤ 1048577 }
-    ensures read { IfOk result (λ read. (at ≤ read.end) × (read.end ≤ length text.now)) }
+    ensures read { IfOk result (λ read. ReadsOctets text.now at number read.octets.items read.end) }
+    ensures only { (at + number ≤ length text.now) → IsOkUnless result FormFault.Memory }
     ensures refused { IfErr result (λ fault. IsPartFault (length text.now) fault) }
 {
     if number > text.len() - at {

@@ -1,8 +1,9 @@
-use Rattle.std.proofs.Common.{◌<◌, ◌≤◌, ◌-◌, length}
+use Rattle.std.proofs.Common.{◌+◌, ◌-◌, length}
+use Rattle.sexpr_text.specs.Reads.{ReadsPieces}
 use Rattle.sexpr_text.proofs.quoted.read_quoted.Given as goal
 
 abbrev pub invariant-loop-octet : goal.invariant-loop-octet
-invariant-loop-octet l = (l.at < l.i) × (l.i ≤ length l.text)
+invariant-loop-octet l = ReadsPieces l.text (l.at + 1) l.octets.items l.i
 
 abbrev pub decreases-loop-octet : goal.decreases-loop-octet
 decreases-loop-octet l = length l.text - l.i

@@ -2,8 +2,8 @@ use Rattle.std.proofs.Common.{arith}
 use Rattle.sexpr_text.proofs.StringLaws.{count_first, count_more}
 use Rattle.sexpr_text.proofs.strings.read_count.Goals as goal
 
-pub returns-then-number-eq0 : goal.returns-then-number-eq0
-returns-then-number-eq0 c = count_first _ _ _ c.requires.begins c.requires.digit.0 c.requires.digit.1
+pub returns-then-number-eq0-clause-read : goal.returns-then-number-eq0-clause-read
+returns-then-number-eq0-clause-read c = count_first _ _ _ c.requires.begins c.requires.digit.0 c.requires.digit.1
 
 pub loop-octet-init : goal.loop-octet-init
 loop-octet-init c = (count_first _ _ _ c.requires.begins c.requires.digit.0 c.requires.digit.1, omega arith)

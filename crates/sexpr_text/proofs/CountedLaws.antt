@@ -1,0 +1,220 @@
+-- A string with or without its length in front, as the reader meets it.
+use Rattle.std.proofs.Common.{◌≡◌, ◌≢◌, ℕ, zero, suc, ◌+◌, ◌≤◌, min, Bool, true, false, ◌⊎◌, inl, inr, List, [], ◌∷◌, ◌++◌, length, drop, refl, sym, ap, subst, ◌∙◌, append_assoc, length-append, length-drop, arith}
+use Rattle.std.proofs.lemmas.Bool.Decides.{nat_tests}
+use Rattle.sexpr_core.specs.Value.{decimal, verbatim}
+use Rattle.sexpr_core.specs.Reading.{StandsAt}
+use Rattle.sexpr_core.proofs.Decimal.{IsDigit, AreDigits, AreDigits-decimal, decimal_zero, decimal_leads, decimal_same, decimal_starts}
+use Rattle.sexpr_core.proofs.Texts.{verbatim_is}
+use Rattle.sexpr_text.specs.Strings.{is_digit, is_token_octet, IsToken, IsMarked, Simple}
+use Rattle.sexpr_text.specs.Reads.{Reads, ReadsCount, ReadsOctets, ReadsString, StringAt, Stops}
+use Rattle.sexpr_text.proofs.Marked.{Passes, one_front, is_mark, marked_first, one_marked, marked_few}
+use Rattle.sexpr_text.proofs.OneString.{Cut, cut, IsBehind, simple_first}
+
+-- ---- a length ends in one way
+
+digit_passes : (c : ℕ) → IsDigit c → is_digit c ≡ true
+digit_passes c h = grind (arith, nat_tests)
+
+digits_pass : (cs : List ℕ) → AreDigits cs → Passes is_digit cs
+digits_pass [] h = tt
+digits_pass (c ∷ cs) h = (digit_passes c h.0, digits_pass cs h.1)
+
+other_digit : (d : ℕ) → (IsDigit d → ⊥) → is_digit d ≡ false
+other_digit d h = grind (arith, nat_tests)
+
+zero_once : (n d : ℕ) (x y : List ℕ) → decimal 0 ++ x ≡ decimal n ++ d ∷ y → (0 ≡ n) × (x ≡ d ∷ y)
+zero_once zero d x y e = let q : 48 ∷ x ≡ 48 ∷ (d ∷ y) = rw decimal_zero at e in (refl, cc)
+zero_once (suc n) d x y e =
+    let s = decimal_starts (suc n) in
+    let q : 48 ∷ x ≡ s.digit ∷ (s.rest ++ d ∷ y) = ap (λ t. t ++ x) (sym decimal_zero) ∙ e ∙ ap (λ t. t ++ d ∷ y) s.is in
+    let k : s.digit ≡ 48 = cc in
+    absurd (decimal_leads (suc n) s.rest (omega arith) (s.is ∙ ap (λ m. m ∷ s.rest) k))
+
+count_once : (w n d : ℕ) (x y : List ℕ) → (w ≡ 0) ⊎ Stops is_digit x → (IsDigit d → ⊥) → decimal w ++ x ≡ decimal n ++ d ∷ y → (w ≡ n) × (x ≡ d ∷ y)
+count_once w n d x y (inl z) other e =
+    let p = zero_once n d x y (ap (λ k. decimal k ++ x) (sym z) ∙ e) in (z ∙ p.0, p.1)
+count_once w n d x y (inr stops) other e =
+    let p = one_front is_digit (decimal w) (decimal n) x (d ∷ y) (digits_pass (decimal w) (AreDigits-decimal w)) (digits_pass (decimal n) (AreDigits-decimal n)) stops (other_digit d other) e in
+    (decimal_same w n p.0, p.1)
+
+-- ---- what stands behind a length
+
+token_digit : (c : ℕ) (cs a rest : List ℕ) → IsToken a → IsDigit c → c ∷ cs ≡ a ++ rest → ⊥
+token_digit c cs [] rest h d e = absurd h
+token_digit c cs (x ∷ xs) rest h d e = let q : c ≡ x = cc in let t : is_digit x ≡ true = digit_passes x (subst IsDigit q d) in let f : false ≡ true = sym h.0 ∙ t in cc
+
+begins_counted : (ends : Bool) (c : ℕ) (cs s a rest : List ℕ) → Simple ends s a → IsDigit c → c ∷ cs ≡ s ++ rest → Simple false s a
+begins_counted true c cs s a rest h d e = absurd (token_digit c cs a rest h.1 d (e ∙ ap (λ t. t ++ rest) h.0))
+begins_counted false c cs s a rest h d e = h
+
+-- the octets of a verbatim string behind its colon, or a string between marks
+abbrev pub StandsBehind : List ℕ → List ℕ → List ℕ → Type 0
+StandsBehind x a rest = (x ≡ 58 ∷ (a ++ rest)) ⊎ ((s : List ℕ) × IsMarked s a × (x ≡ s ++ rest))
+
+cut_behind : (w c d : ℕ) (cs x ds t a rest : List ℕ) → (w ≡ 0) ⊎ Stops is_digit x → IsDigit c → (IsDigit d → ⊥) → IsBehind ds d t a
+    → c ∷ cs ≡ decimal w ++ x → c ∷ cs ≡ ds ++ d ∷ (t ++ rest) → (w ≡ length a) × StandsBehind x a rest
+cut_behind w c d cs x ds t a rest ends low other (inl b) e f =
+    let p = count_once w (length a) d x (t ++ rest) ends other (sym e ∙ f ∙ ap (λ k. k ++ d ∷ (t ++ rest)) b.1) in
+    (p.0, inl (p.1 ∙ ap (λ k. k ∷ (t ++ rest)) b.0 ∙ ap (λ k. 58 ∷ (k ++ rest)) b.2))
+cut_behind w c d cs x ds t a rest ends low other (inr (m, inl n, k)) e f =
+    let q : c ∷ cs ≡ d ∷ (t ++ rest) = f ∙ ap (λ u. u ++ d ∷ (t ++ rest)) n in
+    let g : c ≡ d = cc in
+    absurd (other (subst IsDigit g low))
+cut_behind w c d cs x ds t a rest ends low other (inr (m, inr n, k)) e f =
+    let p = count_once w (length a) d x (t ++ rest) ends other (sym e ∙ f ∙ ap (λ u. u ++ d ∷ (t ++ rest)) n) in
+    (p.0, inr (d ∷ t, k, p.1))
+
+ends_written : (n w : ℕ) (x : List ℕ) → n ≡ min w 1048577 → (n ≡ 0) ⊎ Stops is_digit x → (w ≡ 0) ⊎ Stops is_digit x
+ends_written n w x c (inl z) = inl (omega arith)
+ends_written n w x c (inr s) = inr s
+
+-- where a length was read, the string that stands there has that length, and the rest of its spelling stands behind
+pub counted_stands : (text : List ℕ) (at first number to : ℕ) (a rest : List ℕ) → StandsAt text at first → IsDigit first → (r : ReadsCount text at number to)
+    → (number ≡ 0) ⊎ Stops is_digit (drop to text) → StringAt text at a rest → (r.written ≡ length a) × StandsBehind (drop to text) a rest
+counted_stands text at first number to a rest opens low r ends s =
+    let h : Cut s.spelling a = cut s.spelling a (begins_counted s.ends_token first (drop (at + 1) text) s.spelling a rest s.meant low (sym opens.spelled ∙ s.spelled)) in
+    let e : drop at text ≡ h.digits ++ h.mark ∷ (h.tail ++ rest) = s.spelled ∙ ap (λ t. t ++ rest) h.spelled ∙ append_assoc h.digits (h.mark ∷ h.tail) rest in
+    cut_behind r.written first h.mark (drop (at + 1) text) (drop to text) h.digits h.tail a rest (ends_written number r.written (drop to text) r.capped ends) low h.other h.behind
+    (sym opens.spelled ∙ r.spelled) (sym opens.spelled ∙ e)
+
+colon_first : (x a rest : List ℕ) → StandsBehind x a rest → x ≡ [] → ⊥
+colon_first x a rest (inl h) e = let q : [] ≡ 58 ∷ (a ++ rest) = sym e ∙ h in cc
+colon_first x a rest (inr h) e =
+    let f = marked_first h.0 a h.1 in
+    let q : [] ≡ f.0 ∷ (f.1 ++ rest) = sym e ∙ h.2 ∙ ap (λ t. t ++ rest) f.2 in cc
+
+pub counted_ended : (text : List ℕ) (at first number to : ℕ) (a rest : List ℕ) → StandsAt text at first → IsDigit first → ReadsCount text at number to
+    → (number ≡ 0) ⊎ Stops is_digit (drop to text) → StringAt text at a rest → drop to text ≡ [] → ⊥
+counted_ended text at first number to a rest opens low r ends s e =
+    let p = counted_stands text at first number to a rest opens low r ends s in colon_first (drop to text) a rest p.1 e
+
+marked_behind : (x : List ℕ) (c : ℕ) (cs a rest : List ℕ) → StandsBehind x a rest → x ≡ c ∷ cs → c ≢ 58 → (s : List ℕ) × IsMarked s a × (x ≡ s ++ rest)
+marked_behind x c cs a rest (inl h) e n = let q : c ∷ cs ≡ 58 ∷ (a ++ rest) = sym e ∙ h in let k : c ≡ 58 = cc in absurd (n k)
+marked_behind x c cs a rest (inr h) e n = h
+
+verbatim_behind : (x : List ℕ) (c : ℕ) (cs a rest : List ℕ) → StandsBehind x a rest → x ≡ c ∷ cs → c ≡ 58 → cs ≡ a ++ rest
+verbatim_behind x c cs a rest (inl h) e n = let q : c ∷ cs ≡ 58 ∷ (a ++ rest) = sym e ∙ h in cc
+verbatim_behind x c cs a rest (inr h) e n =
+    let f = marked_first h.0 a h.1 in
+    let q : c ∷ cs ≡ f.0 ∷ (f.1 ++ rest) = sym e ∙ h.2 ∙ ap (λ t. t ++ rest) f.2 in
+    let k : f.0 ≡ 58 = cc in
+    let t : is_mark 58 ≡ true = ap is_mark (sym k) ∙ f.3 in
+    absurd cc
+
+-- the string between marks that stands behind a length
+pub marked_stands : (text : List ℕ) (at first number to c : ℕ) (a rest : List ℕ) → StandsAt text at first → IsDigit first → ReadsCount text at number to
+    → (number ≡ 0) ⊎ Stops is_digit (drop to text) → StandsAt text to c → c ≢ 58 → StringAt text at a rest
+    → (s : List ℕ) × IsMarked s a × (drop to text ≡ s ++ rest)
+marked_stands text at first number to c a rest opens low r ends next n s =
+    let p = counted_stands text at first number to a rest opens low r ends s in marked_behind (drop to text) c (drop (to + 1) text) a rest p.1 next.spelled n
+
+pub verbatim_fits : (text : List ℕ) (at first number to c : ℕ) (a rest : List ℕ) → StandsAt text at first → IsDigit first → ReadsCount text at number to
+    → (number ≡ 0) ⊎ Stops is_digit (drop to text) → StandsAt text to c → c ≡ 58 → StringAt text at a rest → to + 1 + number ≤ length text
+verbatim_fits text at first number to c a rest opens low r ends next n s =
+    let p = counted_stands text at first number to a rest opens low r ends s in
+    let e = verbatim_behind (drop to text) c (drop (to + 1) text) a rest p.1 next.spelled n in
+    omega (arith, r.capped, p.0, next.within, ap length e, length-append a rest, length-drop (to + 1) text)
+
+-- ---- what was read
+
+pub verbatim_string : (text : List ℕ) (at number to c end : ℕ) (octets : List ℕ) → ReadsCount text at number to → StandsAt text to c → c ≡ 58
+    → ReadsOctets text (to + 1) number octets end → ReadsString text at octets end
+verbatim_string text at number to c end octets r next n o =
+    let w : r.written ≡ length octets = omega (arith, r.capped, o.few, o.counted) in
+    record {
+      stands = record {
+        ends_token = false;
+        spelling = verbatim octets;
+        spelled = r.spelled ∙ ap (λ k. decimal k ++ drop to text) w
+            ∙ ap (λ t. decimal (length octets) ++ t) (next.spelled ∙ ap (λ k. k ∷ drop (to + 1) text) n ∙ ap (λ t. 58 ∷ t) o.spelled)
+            ∙ sym (append_assoc (decimal (length octets)) (58 ∷ octets) (drop end text))
+            ∙ ap (λ t. t ++ drop end text) (sym (verbatim_is octets));
+        meant = inl refl;
+        apart = tt;
+      };
+      forward = omega (arith, r.forward, o.ordered);
+      within = o.within;
+    }
+
+octets_few : (text s a : List ℕ) (at to : ℕ) → IsMarked s a → drop at text ≡ s ++ drop to text → length a ≤ length text
+octets_few text s a at to m e = omega (arith, marked_few s a m, ap length e, length-append s (drop to text), length-drop at text)
+
+pub counted_string : (text : List ℕ) (at number to end : ℕ) (octets : List ℕ) → length text ≤ 1048576 → ReadsCount text at number to
+    → Reads IsMarked text to octets end → length octets ≡ number → ReadsString text at octets end
+counted_string text at number to end octets short r m n =
+    let w : r.written ≡ length octets = omega (arith, r.capped, octets_few text m.spelling octets to end m.meant m.spelled) in
+    record {
+      stands = record {
+        ends_token = false;
+        spelling = decimal r.written ++ m.spelling;
+        spelled = r.spelled ∙ ap (λ t. decimal r.written ++ t) m.spelled ∙ sym (append_assoc (decimal r.written) m.spelling (drop end text));
+        meant = inr (record { count = decimal r.written; marked = m.spelling; spelled = refl; counts = inr (ap decimal w); meant = m.meant });
+        apart = tt;
+      };
+      forward = omega (arith, r.forward, m.forward);
+      within = m.within;
+    }
+
+-- the length of a string between marks is the one in front of it
+pub counted_right : (text : List ℕ) (at first number to c end n : ℕ) (octets a rest : List ℕ) → length text ≤ 1048576 → StandsAt text at first → IsDigit first
+    → ReadsCount text at number to → (number ≡ 0) ⊎ Stops is_digit (drop to text) → StandsAt text to c → c ≢ 58 → Reads IsMarked text to octets end
+    → n ≡ length octets → n ≢ number → StringAt text at a rest → ⊥
+counted_right text at first number to c end n octets a rest short opens low r ends next apart m l other s =
+    let k = marked_stands text at first number to c a rest opens low r ends next apart s in
+    let one = one_marked m.spelling (drop end text) octets k.0 rest a m.meant k.1 (sym m.spelled ∙ k.2) in
+    let p = counted_stands text at first number to a rest opens low r ends s in
+    let w = p.0 in
+    let q : n ≡ number = omega (arith, r.capped, w, ap length one.0, octets_few text m.spelling octets to end m.meant m.spelled) in
+    other q
+
+-- ---- without a length
+
+pub marked_string : (text : List ℕ) (at end : ℕ) (octets : List ℕ) → Reads IsMarked text at octets end → ReadsString text at octets end
+marked_string text at end octets m = record {
+  stands = record {
+    ends_token = false;
+    spelling = m.spelling;
+    spelled = m.spelled;
+    meant = inr (record { count = []; marked = m.spelling; spelled = refl; counts = inl refl; meant = m.meant });
+    apart = tt;
+  };
+  forward = m.forward;
+  within = m.within;
+}
+
+pub nothing_stands : (text : List ℕ) (at : ℕ) (a rest : List ℕ) → StringAt text at a rest → drop at text ≡ [] → ⊥
+nothing_stands text at a rest s e =
+    let f = simple_first s.ends_token s.spelling a s.meant in
+    let q : [] ≡ f.0 ∷ (f.1 ++ rest) = sym e ∙ s.spelled ∙ ap (λ t. t ++ rest) f.2 in cc
+
+behind_none : (c d : ℕ) (cs ds t a rest : List ℕ) → (IsDigit c → ⊥) → IsBehind ds d t a → c ∷ cs ≡ ds ++ d ∷ (t ++ rest)
+    → (s : List ℕ) × IsMarked s a × (c ∷ cs ≡ s ++ rest)
+behind_none c d cs ds t a rest other (inl b) e =
+    let n = decimal_starts (length a) in
+    let q : c ∷ cs ≡ n.digit ∷ (n.rest ++ d ∷ (t ++ rest)) = e ∙ ap (λ k. k ++ d ∷ (t ++ rest)) (b.1 ∙ n.is) in
+    let g : n.digit ≡ c = cc in
+    absurd (other (subst IsDigit g n.low))
+behind_none c d cs ds t a rest other (inr (m, inl n, k)) e = (d ∷ t, k, e ∙ ap (λ u. u ++ d ∷ (t ++ rest)) n)
+behind_none c d cs ds t a rest other (inr (m, inr i, k)) e =
+    let n = decimal_starts (length a) in
+    let q : c ∷ cs ≡ n.digit ∷ (n.rest ++ d ∷ (t ++ rest)) = e ∙ ap (λ u. u ++ d ∷ (t ++ rest)) (i ∙ n.is) in
+    let g : n.digit ≡ c = cc in
+    absurd (other (subst IsDigit g n.low))
+
+token_begins : (c : ℕ) (cs a rest : List ℕ) → IsToken a → is_token_octet c ≡ false → c ∷ cs ≡ a ++ rest → ⊥
+token_begins c cs [] rest h n e = absurd h
+token_begins c cs (x ∷ xs) rest h n e =
+    let q : c ≡ x = cc in let f : false ≡ true = sym n ∙ ap is_token_octet q ∙ h.1.0 in cc
+
+no_token_begins : (ends : Bool) (c : ℕ) (cs s a rest : List ℕ) → Simple ends s a → is_token_octet c ≡ false → c ∷ cs ≡ s ++ rest → Simple false s a
+no_token_begins true c cs s a rest h n e = absurd (token_begins c cs a rest h.1 n (e ∙ ap (λ t. t ++ rest) h.0))
+no_token_begins false c cs s a rest h n e = h
+
+-- a string that begins with no octet of a token stands between marks
+pub uncounted_stands : (text : List ℕ) (at c : ℕ) (a rest : List ℕ) → StandsAt text at c → (IsDigit c → ⊥) → is_token_octet c ≡ false → StringAt text at a rest
+    → (s : List ℕ) × IsMarked s a × (drop at text ≡ s ++ rest)
+uncounted_stands text at c a rest opens other n s =
+    let h : Cut s.spelling a = cut s.spelling a (no_token_begins s.ends_token c (drop (at + 1) text) s.spelling a rest s.meant n (sym opens.spelled ∙ s.spelled)) in
+    let e : drop at text ≡ h.digits ++ h.mark ∷ (h.tail ++ rest) = s.spelled ∙ ap (λ t. t ++ rest) h.spelled ∙ append_assoc h.digits (h.mark ∷ h.tail) rest in
+    let k = behind_none c h.mark (drop (at + 1) text) h.digits h.tail a rest other h.behind (sym opens.spelled ∙ e) in
+    (k.0, k.1, opens.spelled ∙ k.2)

@@ -1,0 +1,6 @@
+use Rattle.std.proofs.Common.{sym}
+use Rattle.sexpr_text.proofs.QuotedLaws.{letter_escape}
+use Rattle.sexpr_text.proofs.quoted.read_letter.Goals as goal
+
+pub returns-in-Some-clause-read : goal.returns-in-Some-clause-read
+returns-in-Some-clause-read c = letter_escape _ _ _ _ c.requires (sym c.in-Some.ensures)

@@ -1,0 +1,33 @@
+use Rattle.std.proofs.Common.{sym, ◌∙◌}
+use Rattle.std.proofs.lemmas.Result.{err_from_is_err_and, IfOk-weaker}
+use Rattle.sexpr_text.proofs.CountedLaws.{counted_ended, marked_stands, verbatim_fits, verbatim_string, counted_string, counted_right}
+use Rattle.sexpr_text.proofs.strings.read_counted.Goals as goal
+
+pub returns-in_default-clause-only : goal.returns-in_default-clause-only
+returns-in_default-clause-only c = λ a rest s.
+    absurd (counted_ended _ _ _ _ _ a rest c.requires.begins c.requires.digit c.read_count-count.ensures.read c.read_count-count.ensures.ends s c.in_default.ensures)
+
+pub returns-then-octet-eq58-clause-read : goal.returns-then-octet-eq58-clause-read
+returns-then-octet-eq58-clause-read c =
+    IfOk-weaker _ _ _ (λ read o. verbatim_string _ _ _ _ _ _ _ c.read_count-count.ensures.read c.in-Some.ensures c.if-octet-eq58.true o) c.read_verbatim.ensures.read
+
+pub returns-then-octet-eq58-clause-only : goal.returns-then-octet-eq58-clause-only
+returns-then-octet-eq58-clause-only c = λ a rest s.
+    c.read_verbatim.ensures.only (verbatim_fits _ _ _ _ _ _ a rest c.requires.begins c.requires.digit c.read_count-count.ensures.read c.read_count-count.ensures.ends c.in-Some.ensures c.if-octet-eq58.true s)
+
+pub returns-in_err-read-clause-only : goal.returns-in_err-read-clause-only
+returns-in_err-read-clause-only c =
+    let p = err_from_is_err_and c.from_residual.result c.from_residual.ensures.1 in
+    rw (p.1, p.2) (λ a rest s.
+    let k = marked_stands _ _ _ _ _ _ a rest c.requires.begins c.requires.digit c.read_count-count.ensures.read c.read_count-count.ensures.ends c.in-Some.ensures c.if-octet-eq58.false s in
+    c.in_err-read.ensures.only k.0 a rest k.1 k.2)
+
+pub returns-then-len-count-clause-only : goal.returns-then-len-count-clause-only
+returns-then-len-count-clause-only c = λ a rest s.
+    absurd (counted_right _ _ _ _ _ _ _ _ _ a rest c.requires.short c.requires.begins c.requires.digit c.read_count-count.ensures.read c.read_count-count.ensures.ends
+    c.in-Some.ensures c.if-octet-eq58.false c.in_ok-read.ensures.read (c.len.ensures ∙ c.in_ok-read.read.octets.ok.0) c.if-len-count.true s)
+
+pub returns-clause-read : goal.returns-clause-read
+returns-clause-read c =
+    counted_string _ _ _ _ _ _ c.requires.short c.read_count-count.ensures.read c.in_ok-read.ensures.read
+    (sym (c.len.ensures ∙ c.in_ok-read.read.octets.ok.0) ∙ c.if-len-count.false)

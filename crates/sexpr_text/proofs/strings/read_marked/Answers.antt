@@ -1,0 +1,25 @@
+use Rattle.std.proofs.Common.{subst}
+use Rattle.std.proofs.lemmas.Result.{err_from_is_err_and}
+use Rattle.sexpr_core.specs.Reading.{StandsAt}
+use Rattle.sexpr_text.proofs.StringLaws.{packed_read, packed_marked}
+use Rattle.sexpr_text.proofs.Marked.{quoted_of, hexadecimal_of, packed_of, behind_opening}
+use Rattle.sexpr_text.proofs.strings.read_marked.Goals as goal
+
+pub returns-in-Some-eq34-clause-only : goal.returns-in-Some-eq34-clause-only
+returns-in-Some-eq34-clause-only c = λ s a rest m e.
+    c.read_quoted.ensures.only s a rest (quoted_of _ _ _ s a rest c.in-Some-eq34.ensures c.in-Some-eq34.field-0-test m e) e
+
+pub returns-in-Some-eq35-clause-only : goal.returns-in-Some-eq35-clause-only
+returns-in-Some-eq35-clause-only c = λ s a rest m e.
+    c.read_hexadecimal.ensures.only s a rest (hexadecimal_of _ _ _ s a rest c.in-Some-eq35.ensures c.in-Some-eq35.field-0-test m e) e
+
+pub returns-in_err-octets-in-Some-eq124-clause-only : goal.returns-in_err-octets-in-Some-eq124-clause-only
+returns-in_err-octets-in-Some-eq124-clause-only c =
+    let p = err_from_is_err_and c.from_residual.result c.from_residual.ensures.1 in
+    rw (p.1, p.2) (λ s a rest m e.
+    let h = packed_of _ _ _ s a rest c.in-Some-eq124.ensures c.in-Some-eq124.field-0-test m e in
+    c.in_err-octets-in-Some-eq124.ensures.only h.body rest a h.packed (behind_opening 124 _ _ _ s h.body rest c.in-Some-eq124.ensures h.spelled e).1)
+
+pub returns-in_ok-octets-in-Some-eq124-clause-read : goal.returns-in_ok-octets-in-Some-eq124-clause-read
+returns-in_ok-octets-in-Some-eq124-clause-read c =
+    packed_marked _ _ _ _ (packed_read _ _ _ _ (subst (StandsAt c.args.text.now c.args.at) c.in-Some-eq124.field-0-test c.in-Some-eq124.ensures) c.in_ok-octets-in-Some-eq124.ensures.read)
