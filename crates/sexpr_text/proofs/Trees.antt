@@ -1,5 +1,5 @@
 -- Values, lists and hinted strings, from one offset of a text to another.
-use Rattle.std.proofs.Common.{◌≡◌, ℕ, suc, ◌+◌, ◌-◌, ◌<◌, ◌≤◌, max, Bool, false, List, [], ◌∷◌, ◌++◌, length, map, drop, take, Some, None, Vec, Global, refl, sym, ap, subst, ◌∙◌, append_assoc, arith, inl, inr, length-append, length-drop}
+use Rattle.std.proofs.Common.{◌≡◌, ℕ, suc, ◌+◌, ◌<◌, ◌≤◌, max, Bool, false, List, [], ◌∷◌, ◌++◌, length, map, drop, take, Some, None, Vec, Global, refl, sym, ap, subst, ◌∙◌, append_assoc, arith, inl, inr, length-append, length-drop}
 use Rattle.std.proofs.lemmas.List.{map-append, take_at}
 use Rattle.sexpr_core.specs.declared.tree.Atom.{Atom}
 use Rattle.sexpr_core.specs.declared.tree.Sexp.TheVariants.{Atom as Leaf, List as Branch, rolls-Atom}
