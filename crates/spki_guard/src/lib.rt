@@ -5,6 +5,7 @@ pub mod answer;
 pub mod case;
 pub mod command;
 pub mod decide;
+pub mod intersect;
 pub mod lines;
 pub mod metered;
 mod parts;
