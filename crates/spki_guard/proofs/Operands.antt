@@ -4,7 +4,7 @@ use Rattle.std.specs.Prelude.{codes}
 use Rattle.sexpr_core.specs.Value.{Value}
 use Rattle.spki_guard.specs.CaseForm.{headed}
 use Rattle.spki_guard.specs.Intersect.{intersect_value}
-use Rattle.spki_guard.specs.declared.intersect.Operands.{Operands}
+use Rattle.spki_guard.specs.declared.intersection.Operands.{Operands}
 use Rattle.spki_guard.proofs.Building.{behind_head}
 
 -- the two behind a head are those of the value

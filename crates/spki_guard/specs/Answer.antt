@@ -7,18 +7,18 @@ use Rattle.sexpr_core.specs.Braces.{transport}
 use Rattle.sexpr_core.specs.Bounds.{LiesWithin}
 use Rattle.sexpr_text.specs.Printed.{adv}
 use Rattle.sexpr_text.specs.Spelling.{IsTextWithin}
-use Rattle.spki_guard.specs.declared.answer.Verdict.{Verdict}
-use Rattle.spki_guard.specs.declared.answer.Verdict.TheVariants.{Done, No, Refused}
-use Rattle.spki_guard.specs.declared.case.Case.{Case}
-use Rattle.spki_guard.specs.declared.case.CaseFault.{CaseFault}
-use Rattle.spki_guard.specs.declared.case.CaseFault.TheVariants.{Memory}
-use Rattle.spki_guard.specs.declared.command.Command.{Command}
-use Rattle.spki_guard.specs.declared.command.Command.TheVariants.{Canonical, Advanced, Transport, Intersect, Check}
-use Rattle.spki_guard.specs.declared.decide.Decision.{Decision}
-use Rattle.spki_guard.specs.declared.decide.Decision.TheVariants as decision
+use Rattle.spki_guard.specs.declared.answers.Verdict.{Verdict}
+use Rattle.spki_guard.specs.declared.answers.Verdict.TheVariants.{Done, No, Refused}
+use Rattle.spki_guard.specs.declared.cases.Case.{Case}
+use Rattle.spki_guard.specs.declared.cases.CaseFault.{CaseFault}
+use Rattle.spki_guard.specs.declared.cases.CaseFault.TheVariants.{Memory}
+use Rattle.spki_guard.specs.declared.commands.Command.{Command}
+use Rattle.spki_guard.specs.declared.commands.Command.TheVariants.{Canonical, Advanced, Transport, Intersect, Check}
+use Rattle.spki_guard.specs.declared.deciding.Decision.{Decision}
+use Rattle.spki_guard.specs.declared.deciding.Decision.TheVariants as decision
 use Rattle.spki_tag.specs.Tag.{Tag, tag_value}
-use Rattle.spki_guard.specs.declared.intersect.IntersectFault.{IntersectFault}
-use Rattle.spki_guard.specs.declared.intersect.IntersectFault.TheVariants as intersect
+use Rattle.spki_guard.specs.declared.intersection.IntersectFault.{IntersectFault}
+use Rattle.spki_guard.specs.declared.intersection.IntersectFault.TheVariants as intersect
 use Rattle.spki_guard.specs.Intersect.{IsMetText, TextNotMet}
 use Rattle.spki_guard.specs.CaseForm.{IsCaseText, TextRefused}
 use Rattle.spki_guard.specs.View.{model, verified_by, IsDecision}

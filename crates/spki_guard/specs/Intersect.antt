@@ -11,8 +11,8 @@ use Rattle.spki_tag.specs.Request.{Request, IsRequest}
 use Rattle.spki_tag.specs.Tag.{Tag, contains, nodes, ldepth}
 use Rattle.spki_tag.specs.Read.{ReadsAs, IsNoTag}
 use Rattle.spki_guard.specs.CaseForm.{headed}
-use Rattle.spki_guard.specs.declared.intersect.IntersectFault.{IntersectFault}
-use Rattle.spki_guard.specs.declared.intersect.IntersectFault.TheVariants as faults
+use Rattle.spki_guard.specs.declared.intersection.IntersectFault.{IntersectFault}
+use Rattle.spki_guard.specs.declared.intersection.IntersectFault.TheVariants as faults
 
 -- (intersect A B)
 abbrev pub intersect_value : Value → Value → Value

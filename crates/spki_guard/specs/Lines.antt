@@ -7,10 +7,10 @@ use Rattle.spki_tag.specs.declared.fault.TagFault.{TagFault}
 use Rattle.spki_tag.specs.declared.fault.TagFault.TheVariants as tag
 use Rattle.spki_cert.specs.declared.fault.CertFaultKind.{CertFaultKind}
 use Rattle.spki_cert.specs.declared.fault.CertFaultKind.TheVariants as kind
-use Rattle.spki_guard.specs.declared.case.CaseFault.{CaseFault}
-use Rattle.spki_guard.specs.declared.case.CaseFault.TheVariants as faults
-use Rattle.spki_guard.specs.declared.intersect.IntersectFault.{IntersectFault}
-use Rattle.spki_guard.specs.declared.intersect.IntersectFault.TheVariants as intersect
+use Rattle.spki_guard.specs.declared.cases.CaseFault.{CaseFault}
+use Rattle.spki_guard.specs.declared.cases.CaseFault.TheVariants as faults
+use Rattle.spki_guard.specs.declared.intersection.IntersectFault.{IntersectFault}
+use Rattle.spki_guard.specs.declared.intersection.IntersectFault.TheVariants as intersect
 
 abbrev pub line : List (List ℕ) → List ℕ
 line [] = 10 ∷ []

@@ -2,8 +2,8 @@
 ghost use Rattle.std.specs.Prelude.{◌≡◌, ◌++◌, OnOk, OnErr};
 ghost use Rattle.spki_guard.specs.Lines.{yes_entry, no_line, refused_part, refused_item, refused_tag, refused_at, refused_form, refused_in, refused_case, refused_intersect, tag_kind, kind_name};
 
-use crate::case::CaseFault;
-use crate::intersect::IntersectFault;
+use crate::cases::CaseFault;
+use crate::intersection::IntersectFault;
 use sexpr_core::FormFault;
 use spki_cert::{CertFault, CertFaultKind};
 use spki_tag::TagFault;

@@ -1,9 +1,7 @@
 //! Cases, as runs of `check`.
 
 use crate::texts::{FIRST_RUN, KA, KC, case, case_at, entry};
-use spki_guard::command::Command;
-use spki_guard::metered::Metered;
-use spki_guard::run::{Status, run};
+use spki_guard::{Command, Metered, Status, run};
 use std::alloc::Global;
 use std::process::Abort;
 use std::test::Fail;

@@ -7,10 +7,10 @@ ghost use Rattle.spki_tag.specs.Tag.{tag_value};
 ghost use Rattle.spki_guard.specs.Lines.{refused_form, refused_case, refused_intersect};
 ghost use Rattle.spki_guard.specs.Answer.{IsAnswer, AnswersValue, IsIntersection, IsCheck, IsLineOf};
 
-use crate::case::{Case, CaseFault};
-use crate::command::Command;
-use crate::decide::{Decision, decide};
-use crate::intersect::{IntersectFault, intersect};
+use crate::cases::{Case, CaseFault};
+use crate::commands::Command;
+use crate::deciding::{Decision, decide};
+use crate::intersection::{IntersectFault, intersect};
 use crate::lines::{
     push_no, push_refused_case, push_refused_form, push_refused_intersect, push_yes_entry,
 };

@@ -1,6 +1,6 @@
 use Rattle.std.proofs.Common.{[], ◌∷◌}
 use Rattle.spki_guard.proofs.Operands.{lifted}
-use Rattle.spki_guard.proofs.intersect.operands_of.Goals as goal
+use Rattle.spki_guard.proofs.intersection.operands_of.Goals as goal
 
 pub returns-in_err-headed : goal.returns-in_err-headed
 returns-in_err-headed c = rw c.from_residual.ensures (λ a b e. c.in_err-headed.ensures (a ∷ b ∷ []) e)
