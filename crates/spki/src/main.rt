@@ -1,9 +1,7 @@
 //! `spki`: reads a text on standard input, and writes the answer of a command on standard output.
 #![tactic(auto)]
 
-use spki_guard::command::Command;
-use spki_guard::metered::Metered;
-use spki_guard::run::{Status, run};
+use spki_guard::{Command, Metered, Status, run};
 use std::process::ExitCode;
 use std::rt::Env;
 use std::{env, io};
@@ -20,6 +18,7 @@ fn command<R: Env + AllocGlobal>(rt: &R) -> Option<Command> {
         "canonical" => Some(Command::Canonical),
         "advanced" => Some(Command::Advanced),
         "transport" => Some(Command::Transport),
+        "intersect" => Some(Command::Intersect),
         "check" => Some(Command::Check),
         _ => None,
     }
@@ -36,7 +35,7 @@ fn report(rt: &impl Eprint, status: Status) -> io::Result<()> {
 
 fn main(rt: HostRuntime) -> ExitCode {
     let Some(command) = command(&rt) else {
-        let _ = eprintln!(rt; "usage: spki canonical|advanced|transport|check < TEXT");
+        let _ = eprintln!(rt; "usage: spki canonical|advanced|transport|intersect|check < TEXT");
         return ExitCode::from(2);
     };
     let mut reader = Metered::new(rt.stdin());

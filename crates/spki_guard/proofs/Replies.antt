@@ -1,8 +1,8 @@
 -- What a reply tells.
 use Rattle.std.proofs.Common.{◌≡◌, ℕ, List, Option, Bool, IsTrue, inl, inr}
-use Rattle.spki_guard.specs.declared.command.Command.{Command}
-use Rattle.spki_guard.specs.declared.answer.Verdict.{Verdict}
-use Rattle.spki_guard.specs.declared.answer.Verdict.TheVariants.{Refused}
+use Rattle.spki_guard.specs.declared.commands.Command.{Command}
+use Rattle.spki_guard.specs.declared.answers.Verdict.{Verdict}
+use Rattle.spki_guard.specs.declared.answers.Verdict.TheVariants.{Refused}
 use Rattle.spki_guard.specs.Reply.{IsReply}
 
 -- the text came to its end, unless this is a refusal

@@ -1,7 +1,7 @@
 -- What rows of the code accept, the model's rows do.
 use Rattle.std.proofs.Common.{◌≡◌, ℕ, List, [], ◌∷◌, Bool, true, false, ◌||◌, map, refl, ap}
 use Rattle.std.specs.List.{list_any}
-use Rattle.spki_guard.specs.declared.verifier.Row as code_row
+use Rattle.spki_guard.specs.declared.verifying.Row as code_row
 use Rattle.spki_guard.specs.Case.{Row, is_row_of, accepts}
 use Rattle.spki_guard.specs.View.{row_of}
 

@@ -1,7 +1,7 @@
 -- What goes out of some octets, write by write.
 use Rattle.std.proofs.Common.{◌≡◌, ℕ, List, ◌++◌, Option, take, drop, ◌∙◌, sym, ap, append_assoc, take-append-drop}
 use Rattle.std.proofs.KnownBytes.{Appends-trans}
-use Rattle.spki_guard.specs.declared.metered.Metered.{Metered}
+use Rattle.spki_guard.specs.declared.meters.Metered.{Metered}
 use Rattle.spki_guard.specs.Metered.{Takes, inner_of}
 use Rattle.spki_guard.specs.Sent.{SendsFront}
 

@@ -7,18 +7,24 @@ use Rattle.sexpr_core.specs.Braces.{transport}
 use Rattle.sexpr_core.specs.Bounds.{LiesWithin}
 use Rattle.sexpr_text.specs.Printed.{adv}
 use Rattle.sexpr_text.specs.Spelling.{IsTextWithin}
-use Rattle.spki_guard.specs.declared.answer.Verdict.{Verdict}
-use Rattle.spki_guard.specs.declared.answer.Verdict.TheVariants.{Done, No, Refused}
-use Rattle.spki_guard.specs.declared.case.Case.{Case}
-use Rattle.spki_guard.specs.declared.case.CaseFault.{CaseFault}
-use Rattle.spki_guard.specs.declared.case.CaseFault.TheVariants.{Memory}
-use Rattle.spki_guard.specs.declared.command.Command.{Command}
-use Rattle.spki_guard.specs.declared.command.Command.TheVariants.{Canonical, Advanced, Transport, Check}
-use Rattle.spki_guard.specs.declared.decide.Decision.{Decision}
-use Rattle.spki_guard.specs.declared.decide.Decision.TheVariants as decision
+use Rattle.spki_guard.specs.declared.answers.Verdict.{Verdict}
+use Rattle.spki_guard.specs.declared.answers.Verdict.TheVariants.{Done, No, Refused}
+use Rattle.spki_guard.specs.declared.cases.Case.{Case}
+use Rattle.spki_guard.specs.declared.cases.CaseFault.{CaseFault}
+use Rattle.spki_guard.specs.declared.cases.CaseFault.TheVariants.{Memory}
+use Rattle.spki_guard.specs.declared.commands.Command.{Command}
+use Rattle.spki_guard.specs.declared.commands.Command.TheVariants.{Canonical, Advanced, Transport, Intersect, Check}
+use Rattle.spki_guard.specs.declared.deciding.Decision.{Decision}
+use Rattle.spki_guard.specs.declared.deciding.Decision.TheVariants as decision
+use Rattle.spki_tag.specs.Tag.{Tag, tag_value}
+use Rattle.spki_guard.specs.declared.intersection.IntersectFault.{IntersectFault}
+use Rattle.spki_guard.specs.declared.intersection.IntersectFault.TheVariants as intersect
+use Rattle.spki_guard.specs.Intersect.{IsMetText, TextNotMet}
 use Rattle.spki_guard.specs.CaseForm.{IsCaseText, TextRefused}
 use Rattle.spki_guard.specs.View.{model, verified_by, IsDecision}
-use Rattle.spki_guard.specs.Lines.{yes_entry, no_line, refused_form, refused_case}
+use Rattle.spki_guard.specs.Lines.{yes_entry, no_line, refused_form, refused_case, refused_intersect}
+
+-- ---- decisions
 
 -- the line of a decision
 pub record IsDone (n : ℕ) (verdict : Verdict) (output : List ℕ) : Type 0 where
@@ -52,12 +58,35 @@ pub record Refuses (text : List ℕ) (verdict : Verdict) (output : List ℕ) : T
 abbrev pub IsCheck : List ℕ → Verdict → List ℕ → Type 0
 IsCheck text verdict output = Decides text verdict output ⊎ Refuses text verdict output
 
--- What is answered to the value that was read: it is written in the form that is asked for, or the case that its
--- canonical form is is decided.
+-- ---- intersections
+
+-- The canonical text is that of two tags, and the line is that of what they leave together.
+pub record WritesMeet (text : List ℕ) (verdict : Verdict) (output : List ℕ) : Type 0 where
+  pub tag : Tag
+  pub met : IsMetText text tag
+  pub verdict_is : verdict ≡ Done
+  pub line : output ≡ adv (tag_value tag) ++ 10 ∷ []
+
+-- The canonical text has no intersection, and the line is that of its first fault.
+pub record RefusesMeet (text : List ℕ) (verdict : Verdict) (output : List ℕ) : Type 0 where
+  pub fault : IntersectFault
+  pub found : fault ≢ intersect.Memory
+  pub refused : TextNotMet text fault
+  pub verdict_is : verdict ≡ Refused
+  pub line : output ≡ refused_intersect fault
+
+abbrev pub IsIntersection : List ℕ → Verdict → List ℕ → Type 0
+IsIntersection text verdict output = WritesMeet text verdict output ⊎ RefusesMeet text verdict output
+
+-- ---- all commands
+
+-- What is answered to the value that was read: it is written in the form that is asked for, or its canonical
+-- form is met or decided.
 abbrev pub AnswersValue : Command → Value → Verdict → List ℕ → Type 0
 AnswersValue Canonical v verdict output = (verdict ≡ Done) × (output ≡ canon v)
 AnswersValue Advanced v verdict output = (verdict ≡ Done) × (output ≡ adv v ++ 10 ∷ [])
 AnswersValue Transport v verdict output = (verdict ≡ Done) × (output ≡ transport v ++ 10 ∷ [])
+AnswersValue Intersect v verdict output = IsIntersection (canon v) verdict output
 AnswersValue Check v verdict output = IsCheck (canon v) verdict output
 
 -- The text spells or braces a value within the limits, and this is the answer to it.

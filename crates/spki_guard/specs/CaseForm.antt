@@ -12,9 +12,9 @@ use Rattle.spki_cert.specs.declared.fault.CertFaultKind.TheVariants as kinds
 use Rattle.spki_cert.specs.declared.principal.Policy.TheVariants.{Open}
 use Rattle.spki_cert.specs.Readings.{KeyOf, DateOf}
 use Rattle.spki_cert.specs.Entries.{AclOf, AclRefused}
-use Rattle.spki_guard.specs.declared.case.Case.{Case}
-use Rattle.spki_guard.specs.declared.case.CaseFault.{CaseFault}
-use Rattle.spki_guard.specs.declared.case.CaseFault.TheVariants as faults
+use Rattle.spki_guard.specs.declared.cases.Case.{Case}
+use Rattle.spki_guard.specs.declared.cases.CaseFault.{CaseFault}
+use Rattle.spki_guard.specs.declared.cases.CaseFault.TheVariants as faults
 
 -- what stands in a case, behind the heads of its parts
 pub record Parts : Type 0 where

@@ -5,6 +5,7 @@ pub mod Answer
 pub mod Reply
 pub mod Run
 pub mod Case
+pub mod Intersect
 pub mod Shown
 pub mod Granted
 pub mod View

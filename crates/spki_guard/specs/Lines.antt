@@ -7,8 +7,10 @@ use Rattle.spki_tag.specs.declared.fault.TagFault.{TagFault}
 use Rattle.spki_tag.specs.declared.fault.TagFault.TheVariants as tag
 use Rattle.spki_cert.specs.declared.fault.CertFaultKind.{CertFaultKind}
 use Rattle.spki_cert.specs.declared.fault.CertFaultKind.TheVariants as kind
-use Rattle.spki_guard.specs.declared.case.CaseFault.{CaseFault}
-use Rattle.spki_guard.specs.declared.case.CaseFault.TheVariants as faults
+use Rattle.spki_guard.specs.declared.cases.CaseFault.{CaseFault}
+use Rattle.spki_guard.specs.declared.cases.CaseFault.TheVariants as faults
+use Rattle.spki_guard.specs.declared.intersection.IntersectFault.{IntersectFault}
+use Rattle.spki_guard.specs.declared.intersection.IntersectFault.TheVariants as intersect
 
 abbrev pub line : List (List ℕ) → List ℕ
 line [] = 10 ∷ []
@@ -118,3 +120,12 @@ refused_case (faults.Key fault) = refused_part (codes "key") (kind_name fault.ki
 refused_case (faults.Request fault) = refused_part (codes "request") (tag_kind fault)
 refused_case (faults.At fault) = refused_part (codes "at") (kind_name fault.kind)
 refused_case faults.Memory = refused_memory
+
+-- why there is no intersection; the two tags are counted from 1
+abbrev pub refused_intersect : IntersectFault → List ℕ
+refused_intersect (intersect.Form fault) = refused_form fault
+refused_intersect intersect.Shape = refused_part (codes "intersect") (codes "Shape")
+refused_intersect (intersect.First fault) = refused_item (codes "tag") 1 (tag_kind fault)
+refused_intersect (intersect.Second fault) = refused_item (codes "tag") 2 (tag_kind fault)
+refused_intersect intersect.TooLarge = refused (codes "TooLarge" ∷ [])
+refused_intersect intersect.Memory = refused_memory

@@ -4,7 +4,7 @@ use Rattle.std.specs.Io.KnownBytes.{Appends, Consumes, IsAtEnd, Keeps}
 use Rattle.std.specs.IoError.{error_kind}
 use Rattle.std.specs.declared.io.Error.{Error}
 use Rattle.std.specs.declared.io.ErrorKind.TheVariants.{Interrupted}
-use Rattle.spki_guard.specs.declared.metered.Metered.{Metered}
+use Rattle.spki_guard.specs.declared.meters.Metered.{Metered}
 
 -- the reader or the writer inside
 abbrev pub inner_of : {T : Type 0} → Metered T → T

@@ -1,8 +1,8 @@
 -- What is replied to what a reader gives.
 use Rattle.std.specs.Prelude.{◌≡◌, ℕ, ◌<◌, ◌≤◌, ◌⊎◌, List, length, Option, IfSome, Bool, IsTrue}
-use Rattle.spki_guard.specs.declared.command.Command.{Command}
-use Rattle.spki_guard.specs.declared.answer.Verdict.{Verdict}
-use Rattle.spki_guard.specs.declared.answer.Verdict.TheVariants.{Refused}
+use Rattle.spki_guard.specs.declared.commands.Command.{Command}
+use Rattle.spki_guard.specs.declared.answers.Verdict.{Verdict}
+use Rattle.spki_guard.specs.declared.answers.Verdict.TheVariants.{Refused}
 use Rattle.spki_guard.specs.declared.reply.Reply.{Reply}
 use Rattle.spki_guard.specs.declared.reply.Reply.TheVariants.{Answered, TooLong, Memory}
 use Rattle.sexpr_core.specs.declared.fault.FormFault.TheVariants as form

@@ -1,10 +1,10 @@
 -- How a run ends, and what it writes.
 use Rattle.std.specs.Prelude.{◌≡◌, ℕ, ◌+◌, ◌<◌, ◌≤◌, ◌⊎◌, List, length, Option, IsTrue}
-use Rattle.spki_guard.specs.declared.answer.Verdict.{Verdict}
-use Rattle.spki_guard.specs.declared.answer.Verdict.TheVariants.{Done, No, Refused}
-use Rattle.spki_guard.specs.declared.run.Status.{Status}
-use Rattle.spki_guard.specs.declared.run.Status.TheVariants as status
-use Rattle.spki_guard.specs.declared.metered.Metered.{Metered}
+use Rattle.spki_guard.specs.declared.answers.Verdict.{Verdict}
+use Rattle.spki_guard.specs.declared.answers.Verdict.TheVariants.{Done, No, Refused}
+use Rattle.spki_guard.specs.declared.running.Status.{Status}
+use Rattle.spki_guard.specs.declared.running.Status.TheVariants as status
+use Rattle.spki_guard.specs.declared.meters.Metered.{Metered}
 use Rattle.spki_guard.specs.Metered.{Takes}
 use Rattle.spki_guard.specs.Sent.{SendsFront}
 

@@ -1,6 +1,6 @@
 -- What goes out of some octets.
 use Rattle.std.specs.Prelude.{◌≡◌, ℕ, List, ◌++◌, Option}
-use Rattle.spki_guard.specs.declared.metered.Metered.{Metered}
+use Rattle.spki_guard.specs.declared.meters.Metered.{Metered}
 use Rattle.spki_guard.specs.Metered.{Takes}
 
 -- the writer took a front of the octets, and this is the rest of them

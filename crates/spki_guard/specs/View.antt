@@ -1,10 +1,10 @@
 -- The model's case that a case of the code is, and the model's answer that a decision is.
 use Rattle.std.specs.Prelude.{List, map, IsTrue}
-use Rattle.spki_guard.specs.declared.verifier.Row as code_row
-use Rattle.spki_guard.specs.declared.verifier.AcceptedTable.{AcceptedTable}
-use Rattle.spki_guard.specs.declared.case.Case as code
-use Rattle.spki_guard.specs.declared.decide.Decision.{Decision}
-use Rattle.spki_guard.specs.declared.decide.Decision.TheVariants.{Yes, No}
+use Rattle.spki_guard.specs.declared.verifying.Row as code_row
+use Rattle.spki_guard.specs.declared.verifying.AcceptedTable.{AcceptedTable}
+use Rattle.spki_guard.specs.declared.cases.Case as code
+use Rattle.spki_guard.specs.declared.deciding.Decision.{Decision}
+use Rattle.spki_guard.specs.declared.deciding.Decision.TheVariants.{Yes, No}
 use Rattle.spki_guard.specs.Case.{Case, Row, Verified, accepts}
 use Rattle.spki_guard.specs.Granted.{IsFirstGranted, IsNoneGranted}
 

@@ -1,8 +1,9 @@
 //! The lines that are written, put behind what is there.
 ghost use Rattle.std.specs.Prelude.{◌≡◌, ◌++◌, OnOk, OnErr};
-ghost use Rattle.spki_guard.specs.Lines.{yes_entry, no_line, refused_part, refused_item, refused_tag, refused_at, refused_form, refused_in, refused_case, tag_kind, kind_name};
+ghost use Rattle.spki_guard.specs.Lines.{yes_entry, no_line, refused_part, refused_item, refused_tag, refused_at, refused_form, refused_in, refused_case, refused_intersect, tag_kind, kind_name};
 
-use crate::case::CaseFault;
+use crate::cases::CaseFault;
+use crate::intersection::IntersectFault;
 use sexpr_core::FormFault;
 use spki_cert::{CertFault, CertFaultKind};
 use spki_tag::TagFault;
@@ -176,6 +177,25 @@ pub fn push_refused_case(
         CaseFault::Request(met) => push_refused_part(alloc, out, "request", tag_kind(met)),
         CaseFault::At(met) => push_refused_part(alloc, out, "at", kind_name(met.kind)),
         CaseFault::Memory => push(out, b"refused Memory\n"),
+    }
+}
+
+/// Puts the line of a fault of an intersection behind what is written; of want of memory it is `refused Memory`.
+pub fn push_refused_intersect(
+    alloc: Global,
+    out: &mut Vec<u8>,
+    fault: IntersectFault,
+) -> Result<(), AllocError>
+    ensures ok { OnOk result (out.new.items ≡ out.old.items ++ refused_intersect fault) }
+    ensures err { OnErr result (out.new.items ≡ out.old.items) }
+{
+    match fault {
+        IntersectFault::Form(met) => push_refused_form(alloc, out, met),
+        IntersectFault::Shape => push_refused_part(alloc, out, "intersect", "Shape"),
+        IntersectFault::First(met) => push_refused_item(alloc, out, "tag", 1, tag_kind(met)),
+        IntersectFault::Second(met) => push_refused_item(alloc, out, "tag", 2, tag_kind(met)),
+        IntersectFault::TooLarge => push(out, b"refused TooLarge\n"),
+        IntersectFault::Memory => push(out, b"refused Memory\n"),
     }
 }
 

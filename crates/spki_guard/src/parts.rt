@@ -6,8 +6,8 @@ ghost use Rattle.spki_guard.specs.CaseForm as spec;
 ghost use Rattle.spki_guard.specs.CaseForm.{CaseOf, ValueRefused, case_value, part_values, IsCaseText, TextRefused, IsAclFault, IsRequestFault};
 ghost use Rattle.spki_guard.specs.Parts.{IsPart, IsNoPart, ArePartsOf};
 
-use crate::case::{Case, CaseFault};
-use crate::verifier::AcceptedTable;
+use crate::cases::{Case, CaseFault};
+use crate::verifying::AcceptedTable;
 use sexpr_core::{Doc, FormFault, Members, Node};
 use spki_cert::shape::headed;
 use spki_cert::{CertFault, CertFaultKind, Policy, acl_of, date_of, key_of};

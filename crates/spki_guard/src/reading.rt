@@ -2,7 +2,7 @@
 ghost use Rattle.std.specs.Prelude.{◌≡◌, ℕ, ◌+◌, ◌<◌, ◌≤◌, ◌⊎◌, ◌++◌, List, length, take, max, vec_len, IsTrue, IfOk, OnOk, OnErr, IfSome, IfNone, IsErrOf};
 ghost use Rattle.spki_guard.specs.Metered.{counted, Gives, GivesNone, HasGivenAll};
 
-use crate::metered::{Metered, is_interrupted};
+use crate::meters::{Metered, is_interrupted};
 use sexpr_core::MOST_OCTETS;
 use std::alloc::Global;
 use std::io::Read;

@@ -3,9 +3,9 @@ ghost use Rattle.std.specs.Prelude.{◌≡◌, ◌<◌, ◌≤◌, ◌⊎◌, ma
 ghost use Rattle.spki_guard.specs.Metered.{inner_of};
 ghost use Rattle.spki_guard.specs.Reply.{IsReply, verdict_of, octets_of};
 
-use crate::answer::{Answer, Verdict, answer_text};
-use crate::command::Command;
-use crate::metered::Metered;
+use crate::answers::{Answer, Verdict, answer_text};
+use crate::commands::Command;
+use crate::meters::Metered;
 use crate::reading::{READER_ASKS, TextFault, read_text};
 use std::alloc::Global;
 use std::io::Read;

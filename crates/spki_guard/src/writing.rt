@@ -3,7 +3,7 @@ ghost use Rattle.std.specs.Prelude.{◌≡◌, ℕ, ◌+◌, ◌<◌, ◌≤◌,
 ghost use Rattle.spki_guard.specs.Metered.{counted, Takes, TakesNone};
 ghost use Rattle.spki_guard.specs.Sent.{SendsFront};
 
-use crate::metered::{Metered, is_interrupted};
+use crate::meters::{Metered, is_interrupted};
 use std::io::Write;
 use thiserror::Error;
 

@@ -2,7 +2,7 @@
 
 use crate::runs::checks;
 use crate::texts::{FIRST_RUN, KA, KC, case, case_at, entry};
-use spki_guard::run::Status;
+use spki_guard::Status;
 use std::test::Fail;
 
 #[test]

@@ -3,8 +3,7 @@
 use crate::runs::{checks, converts, replies};
 use crate::texts::{FIRST_RUN, FIRST_RUN_ADVANCED, repeated};
 use sexpr_core::{decode, wrap};
-use spki_guard::command::Command;
-use spki_guard::run::Status;
+use spki_guard::{Command, Status};
 use std::test::Fail;
 
 #[test]

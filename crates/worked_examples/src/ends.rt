@@ -1,9 +1,7 @@
 //! Readers and writers that fail, as runs.
 
 use crate::texts::FIRST_RUN;
-use spki_guard::command::Command;
-use spki_guard::metered::Metered;
-use spki_guard::run::{Status, run};
+use spki_guard::{Command, Metered, Status, run};
 use std::io;
 use std::io::{Error, ErrorKind, Read, Write};
 use std::test::*;

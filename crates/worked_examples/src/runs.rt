@@ -1,8 +1,6 @@
 //! Runs of the program's commands over memory.
 
-use spki_guard::command::Command;
-use spki_guard::metered::Metered;
-use spki_guard::run::{Status, run};
+use spki_guard::{Command, Metered, Status, run};
 use std::alloc::Global;
 use std::process::Abort;
 

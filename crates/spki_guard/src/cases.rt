@@ -2,7 +2,7 @@
 
 ghost use Rattle.std.specs.Prelude.{◌≡◌, vec_len};
 
-use crate::verifier::AcceptedTable;
+use crate::verifying::AcceptedTable;
 use sexpr_core::FormFault;
 use spki_cert::{CertFault, Date, Entry, Key, Policy, SeqItem};
 use spki_tag::{Ground, TagFault};

@@ -9,6 +9,8 @@ pub enum Command {
     Advanced,
     /// Writes it in the transport form, on a line.
     Transport,
+    /// Writes what two tags leave together, in advanced form, on a line.
+    Intersect,
     /// Decides the request of a case.
     Check,
 }

@@ -2,7 +2,7 @@ use Rattle.std.proofs.Common.{◌≡◌, Bool, true, sym, ◌∙◌, subst, IsTr
 use Rattle.spki_guard.proofs.Rows.{accepts_rows}
 use Rattle.spki_guard.specs.View.{rows_of}
 use Rattle.spki_guard.specs.Case.{accepts}
-use Rattle.spki_guard.proofs.verifier.AcceptedTableVerifier.accepts.Goals as goal
+use Rattle.spki_guard.proofs.verifying.AcceptedTableVerifier.accepts.Goals as goal
 
 pub returns-clause-answer : goal.returns-clause-answer
 returns-clause-answer c =

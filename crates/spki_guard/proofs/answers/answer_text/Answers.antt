@@ -1,7 +1,7 @@
 use Rattle.std.proofs.Common.{rules, inr, ◌≡◌}
 use Rattle.std.proofs.lemmas.Result.{IfOk-weaker}
 use Rattle.sexpr_core.specs.declared.fault.FormFault.TheVariants as form
-use Rattle.spki_guard.proofs.answer.answer_text.Goals as goal
+use Rattle.spki_guard.proofs.answers.answer_text.Goals as goal
 
 pub returns-in-Err : goal.returns-in-Err
 returns-in-Err c =

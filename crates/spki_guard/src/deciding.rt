@@ -4,8 +4,8 @@ ghost use Rattle.std.specs.Prelude.{◌≡◌, ◌<◌, IsOk, IfOk, IfSome, posi
 ghost use Rattle.spki_guard.specs.View.{model, IsDecision};
 ghost use Rattle.spki_guard.specs.Passing.{passing};
 
-use crate::case::Case;
-use crate::verifier::Verifier;
+use crate::cases::Case;
+use crate::verifying::Verifier;
 use spki_cert::Entry;
 use spki_reduce::grants;
 use std::alloc::Global;

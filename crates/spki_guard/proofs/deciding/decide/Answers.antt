@@ -3,7 +3,7 @@ use Rattle.std.proofs.lemmas.List.{nil_from_length}
 use Rattle.spki_guard.specs.View.{model}
 use Rattle.spki_guard.proofs.ShownLemmas.{nothing_shown}
 use Rattle.spki_guard.proofs.EntryLemmas.{decided}
-use Rattle.spki_guard.proofs.decide.decide.Goals as goal
+use Rattle.spki_guard.proofs.deciding.decide.Goals as goal
 
 pub returns-in-Some-clause-exact : goal.returns-in-Some-clause-exact
 returns-in-Some-clause-exact g c =

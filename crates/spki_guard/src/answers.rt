@@ -2,15 +2,21 @@
 ghost use Rattle.std.specs.Prelude.{◌≡◌, [], ◌∷◌, ◌++◌, IfOk};
 ghost use Rattle.sexpr_core.specs.Value.{canon};
 ghost use Rattle.sexpr_core.specs.Tree.{sexp_value};
-ghost use Rattle.spki_guard.specs.Lines.{refused_form, refused_case};
-ghost use Rattle.spki_guard.specs.Answer.{IsAnswer, AnswersValue, IsCheck, IsLineOf};
+ghost use Rattle.sexpr_text.specs.Printed.{adv};
+ghost use Rattle.spki_tag.specs.Tag.{tag_value};
+ghost use Rattle.spki_guard.specs.Lines.{refused_form, refused_case, refused_intersect};
+ghost use Rattle.spki_guard.specs.Answer.{IsAnswer, AnswersValue, IsIntersection, IsCheck, IsLineOf};
 
-use crate::case::{Case, CaseFault};
-use crate::command::Command;
-use crate::decide::{Decision, decide};
-use crate::lines::{push_no, push_refused_case, push_refused_form, push_yes_entry};
+use crate::cases::{Case, CaseFault};
+use crate::commands::Command;
+use crate::deciding::{Decision, decide};
+use crate::intersection::{IntersectFault, intersect};
+use crate::lines::{
+    push_no, push_refused_case, push_refused_form, push_refused_intersect, push_yes_entry,
+};
 use sexpr_core::{FormFault, Sexp, encode, wrap};
 use sexpr_text::{print_advanced, read_any};
+use spki_tag::Tag;
 use std::alloc::{AllocError, Global};
 
 /// What was found out.
@@ -54,6 +60,7 @@ fn answer_tree(alloc: Global, command: Command, tree: Sexp) -> Result<Answer, Al
         Command::Canonical => Ok(done(encode(alloc, &tree)?)),
         Command::Advanced => done_line(print_advanced(alloc, &tree)?),
         Command::Transport => done_line(wrap(alloc, &tree)?),
+        Command::Intersect => intersect_tree(alloc, tree),
         Command::Check => check_tree(alloc, tree),
     }
 }
@@ -75,6 +82,38 @@ fn done_line(output: Vec<u8>) -> Result<Answer, AllocError>
     let mut line = output;
     line.push(b'\n')?;
     Ok(done(line))
+}
+
+/// What the two tags of a value leave together, by its canonical form.
+fn intersect_tree(alloc: Global, tree: Sexp) -> Result<Answer, AllocError>
+    ensures { IfOk result (λ a. IsIntersection (canon (sexp_value tree)) a.verdict a.output.items) }
+{
+    let octets = canonical_form(alloc, tree)?;
+    match intersect(alloc, &octets) {
+        Ok(tag) => tag_line(alloc, &tag),
+        Err(IntersectFault::Memory) => Err(AllocError),
+        Err(fault) => refuse_intersect(alloc, fault),
+    }
+}
+
+/// A tag as it is written, in advanced form, on a line of its own.
+fn tag_line(alloc: Global, tag: &Tag) -> Result<Answer, AllocError>
+    ensures { IfOk result (λ a. (a.verdict ≡ Verdict.Done) × (a.output.items ≡ adv (tag_value tag.now) ++ 10 ∷ [])) }
+{
+    let tree = tag.write(alloc)?;
+    done_line(print_advanced(alloc, &tree)?)
+}
+
+/// The line of a refusal of an intersection.
+fn refuse_intersect(alloc: Global, fault: IntersectFault) -> Result<Answer, AllocError>
+    ensures { IfOk result (λ a. (a.verdict ≡ Verdict.Refused) × (a.output.items ≡ refused_intersect fault)) }
+{
+    let mut output = Vec::new(alloc);
+    push_refused_intersect(alloc, &mut output, fault)?;
+    Ok(Answer {
+        verdict: Verdict::Refused,
+        output,
+    })
 }
 
 /// Decides the case that a value is, by its canonical form.

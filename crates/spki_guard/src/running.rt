@@ -1,13 +1,13 @@
 //! A command from the octets that are read to those that are written.
 ghost use Rattle.std.specs.Prelude.{◌≡◌, ℕ, ◌≤◌, ◌⊎◌, List, IsTrue};
-ghost use Rattle.spki_guard.specs.declared.answer.Verdict.{Verdict};
+ghost use Rattle.spki_guard.specs.declared.answers.Verdict.{Verdict};
 ghost use Rattle.spki_guard.specs.Metered.{inner_of, TakesNone};
 ghost use Rattle.spki_guard.specs.Reply.{IsReply, verdict_of, octets_of};
 ghost use Rattle.spki_guard.specs.Run.{IsFaulty, IsWritten, IsCutOff, status_of, code_of};
 
-use crate::answer::Verdict;
-use crate::command::Command;
-use crate::metered::Metered;
+use crate::answers::Verdict;
+use crate::commands::Command;
+use crate::meters::Metered;
 use crate::reading::READER_ASKS;
 use crate::reply::{Reply, reply_to};
 use crate::writing::write_whole;

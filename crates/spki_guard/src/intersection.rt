@@ -1,0 +1,130 @@
+//! The intersection of two written tags.
+
+ghost use Rattle.std.specs.Prelude.{◌≡◌, ◌≢◌, [], ◌∷◌, MatchOption, IfOk, IfErr};
+ghost use Rattle.sexpr_core.specs.Value.{Value};
+ghost use Rattle.spki_tag.specs.Read.{ReadsAs};
+ghost use Rattle.spki_guard.specs.Intersect.{intersect_value, outer_fault, Intersects, IsOperandFault, ValueNotMet, IsMetText, TextNotMet};
+
+use sexpr_core::{Doc, FormFault, Members, Node};
+use spki_cert::shape::headed;
+use spki_tag::{MeetFault, Tag, TagFault};
+use std::alloc::Global;
+use thiserror::Error;
+
+/// Why a text has no intersection.
+#[derive(Clone, Copy, Debug, PartialEq, Eq, Error)]
+pub enum IntersectFault {
+    /// The text is no canonical form within the limits.
+    #[error("form: {0}")]
+    Form(FormFault),
+    /// The value isn't `(intersect A B)`.
+    #[error("not built as an intersection")]
+    Shape,
+    /// A is no tag.
+    #[error("first tag: {0}")]
+    First(TagFault),
+    /// A is a tag, and B is none.
+    #[error("second tag: {0}")]
+    Second(TagFault),
+    /// The product of the nodes of the two tags is over 1,000,000.
+    #[error("the tags are too large")]
+    TooLarge,
+    /// Memory was refused.
+    #[error("out of memory")]
+    Memory,
+}
+
+impl From<MeetFault> for IntersectFault {
+    ghost from_gives = { λ fault outer. outer ≡ outer_fault fault };
+
+    fn from(fault: MeetFault) -> IntersectFault {
+        match fault {
+            MeetFault::TooLarge => IntersectFault::TooLarge,
+            MeetFault::Memory => IntersectFault::Memory,
+        }
+    }
+}
+
+/// The two values that are to be met.
+#[derive(Drop)]
+struct Operands<'d, 'a> {
+    first: Node<'d, 'a>,
+    second: Node<'d, 'a>,
+}
+
+/// The two members, where there are two.
+fn two<'d, 'a>(members: Members<'d, 'a>) -> Option<Operands<'d, 'a>>
+    ensures { MatchOption result ((a b : Value) → members.entry ≢ a ∷ b ∷ [])
+        (λ p. members.entry ≡ p.first ∷ p.second ∷ []) }
+{
+    let (first, behind) = members.split_first()?;
+    let (second, rest) = behind.split_first()?;
+    if rest.is_empty() {
+        Some(Operands { first, second })
+    } else {
+        None
+    }
+}
+
+/// The two values behind the head of an intersection.
+fn operands_of<'d, 'a>(node: &Node<'d, 'a>) -> Option<Operands<'d, 'a>>
+    ensures { MatchOption result ((a b : Value) → node.now ≢ intersect_value a b)
+        (λ p. node.now ≡ intersect_value p.first p.second) }
+{
+    two(headed(node, b"intersect")?)
+}
+
+/// One of the two, as a tag; the fault is made by what says which one it is.
+fn first_of(alloc: Global, node: &Node) -> Result<Tag, IntersectFault>
+    ensures read { IfOk result (λ tag. ReadsAs node.now tag) }
+    ensures refused { IfErr result (λ fault. IsOperandFault IntersectFault.First node.now fault) }
+{
+    match Tag::of(alloc, node) {
+        Ok(tag) => Ok(tag),
+        Err(TagFault::Memory) => Err(IntersectFault::Memory),
+        Err(fault) => Err(IntersectFault::First(fault)),
+    }
+}
+
+fn second_of(alloc: Global, node: &Node) -> Result<Tag, IntersectFault>
+    ensures read { IfOk result (λ tag. ReadsAs node.now tag) }
+    ensures refused { IfErr result (λ fault. IsOperandFault IntersectFault.Second node.now fault) }
+{
+    match Tag::of(alloc, node) {
+        Ok(tag) => Ok(tag),
+        Err(TagFault::Memory) => Err(IntersectFault::Memory),
+        Err(fault) => Err(IntersectFault::Second(fault)),
+    }
+}
+
+/// What the two tags of a value leave together.
+fn meet_in(alloc: Global, node: &Node) -> Result<Tag, IntersectFault>
+    ensures read { IfOk result (λ tag. Intersects node.now tag) }
+    ensures refused { IfErr result (λ fault. ValueNotMet node.now fault) }
+{
+    let Some(operands) = operands_of(node) else {
+        return Err(IntersectFault::Shape);
+    };
+    let first = first_of(alloc, &operands.first)?;
+    let second = second_of(alloc, &operands.second)?;
+    Ok(first.meet(alloc, &second)?)
+}
+
+/// Reads `(intersect A B)` in canonical form, A and B being written tags, and gives what the two leave together
+/// (RFC 2693, section 6.3.1).
+///
+/// # Errors
+///
+/// `Form` where the text is no canonical form within the limits, `Shape` where the value isn't `(intersect A B)`, then
+/// the fault of the first of the two that is no tag, then `TooLarge` where the product of their nodes is over
+/// 1,000,000. `Memory` where memory was refused.
+pub fn intersect(alloc: Global, text: &[u8]) -> Result<Tag, IntersectFault>
+    ensures read { IfOk result (λ tag. IsMetText text.now tag) }
+    ensures refused { IfErr result (λ fault. TextNotMet text.now fault) }
+{
+    match Doc::open(alloc, text) {
+        Ok(document) => meet_in(alloc, &document.top()),
+        Err(FormFault::Memory) => Err(IntersectFault::Memory),
+        Err(fault) => Err(IntersectFault::Form(fault)),
+    }
+}
