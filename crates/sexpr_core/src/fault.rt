@@ -1,4 +1,4 @@
-//! Why a text is no canonical form within the limits.
+//! Why a text is refused, in whichever form it is read.
 
 ghost use Rattle.std.specs.Prelude.{◌≡◌};
 ghost use Rattle.sexpr_core.specs.declared.fault.FormFault.TheVariants.{Memory};

@@ -1,4 +1,4 @@
-//! Laws of canonical form.
+//! Laws of values, canonical form and trees.
 
 ghost use Rattle.std.specs.Prelude.{◌≡◌, ◌↔◌, ℕ, List, ◌++◌, IsTrue};
 ghost use Rattle.sexpr_core.specs.declared.fault.FormFault.{FormFault};

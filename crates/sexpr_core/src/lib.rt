@@ -1,4 +1,4 @@
-//! S-expressions (RFC 9804): canonical form, read into documents, and owned trees.
+//! S-expressions (RFC 9804): canonical form, read into documents, owned trees, and the transport form.
 #![tactic(auto)]
 
 mod braces;
