@@ -8,6 +8,7 @@ ghost use Rattle.sexpr_core.specs.Braces.{transport, IsBase64, IsBracedWithin, R
 ghost use Rattle.sexpr_core.specs.Bounds.{LiesWithin, IsPartFault, IsNotTooLong, IsBodyFault};
 ghost use Rattle.sexpr_core.specs.Gathering.{is_symbol, is_body_octet, AreBodyOctets, IsNoBodyOctet, GathersTo};
 
+use crate::document::Doc;
 use crate::fault::FormFault;
 use crate::owned::decode;
 use crate::parser::MOST_OCTETS;
@@ -37,7 +38,14 @@ pub fn wrap(alloc: Global, tree: &Sexp) -> Result<Vec<u8>, AllocError>
     ensures { IfOk result (λ text. text.items ≡ transport (sexp_value tree.now)) }
 {
     let octets = encode(alloc, tree)?;
-    let symbols = STANDARD.encode(alloc, &octets)?;
+    wrap_octets(alloc, &octets)
+}
+
+/// The transport form of the value of which these octets are the canonical form.
+pub fn wrap_octets(alloc: Global, octets: &[u8]) -> Result<Vec<u8>, AllocError>
+    ensures { (v : Value) → octets.now ≡ canon v → IfOk result (λ text. text.items ≡ transport v) }
+{
+    let symbols = STANDARD.encode(alloc, octets)?;
     let mut text = Vec::new(alloc);
     text.push(b'{')?;
     text.extend_from_slice(symbols.as_bytes())?;
@@ -154,21 +162,22 @@ fn body_fault(fault: FormFault, at: usize) -> FormFault
     }
 }
 
-fn decode_body(alloc: Global, octets: &[u8], at: usize) -> Result<Sexp, FormFault>
-    ensures read { IfOk result (λ tree. (octets.now ≡ canon (sexp_value tree)) × IsWithinLimits (sexp_value tree)) }
+/// Whether the octets of a body that ends at this offset are a canonical form within the limits.
+fn check_body(alloc: Global, octets: &[u8], at: usize) -> Result<(), FormFault>
+    ensures read { OnOk result ((v : Value) × (octets.now ≡ canon v) × IsWithinLimits v) }
     ensures only { (v : Value) → IsWithinLimits v → octets.now ≡ canon v → IsOkUnless result FormFault.Memory }
     ensures refused { IfErr result (λ fault. LiesWithin (at + 1) fault × IsNotTooLong fault) }
 {
-    match decode(alloc, octets) {
-        Ok(tree) => Ok(tree),
+    match Doc::open(alloc, octets) {
+        Ok(_) => Ok(()),
         Err(fault) => Err(body_fault(fault, at)),
     }
 }
 
-/// Gives the tree that was read, if nothing but whitespace follows it.
-fn ended(text: &[u8], at: usize, tree: Sexp) -> Result<Sexp, FormFault>
+/// Whether nothing but whitespace stands from an offset on.
+fn ended(text: &[u8], at: usize) -> Result<(), FormFault>
     requires { at ≤ length text.now }
-    ensures read { IfOk result (λ same. (sexp_value same ≡ sexp_value tree) × AreSpaces (drop at text.now)) }
+    ensures read { OnOk result (AreSpaces (drop at text.now)) }
     ensures only { AreSpaces (drop at text.now) → IsOkUnless result FormFault.Memory }
     ensures refused { IfErr result (λ fault. LiesWithin (length text.now) fault × IsNotTooLong fault) }
 {
@@ -176,7 +185,7 @@ fn ended(text: &[u8], at: usize, tree: Sexp) -> Result<Sexp, FormFault>
     if end < text.len() {
         return Err(FormFault::Trailing(end));
     }
-    Ok(tree)
+    Ok(())
 }
 
 /// Reads the transport form (RFC 9804, section 6.2): braces round base64 of a canonical form, with whitespace
@@ -192,6 +201,18 @@ pub fn unwrap_braces(alloc: Global, text: &[u8]) -> Result<Sexp, FormFault>
     ensures too_long { IsErrOf result FormFault.TooLong ↔ (1048576 < length text.now) }
     ensures refused { IfErr result (λ fault. LiesWithin (length text.now) fault) }
 {
+    let octets = octets_in_braces(alloc, text)?;
+    let tree = decode(alloc, &octets)?;
+    Ok(tree)
+}
+
+/// The canonical form of the value that a text braces, with the refusals of `unwrap_braces`.
+pub fn octets_in_braces(alloc: Global, text: &[u8]) -> Result<Vec<u8>, FormFault>
+    ensures read { IfOk result (λ octets. (v : Value) × IsBracedWithin text.now v × (octets.items ≡ canon v)) }
+    ensures only { (v : Value) → IsBracedWithin text.now v → IsOkUnless result FormFault.Memory }
+    ensures too_long { IsErrOf result FormFault.TooLong ↔ (1048576 < length text.now) }
+    ensures refused { IfErr result (λ fault. LiesWithin (length text.now) fault) }
+{
     if text.len() > MOST_OCTETS {
         return Err(FormFault::TooLong);
     }
@@ -203,6 +224,7 @@ pub fn unwrap_braces(alloc: Global, text: &[u8]) -> Result<Sexp, FormFault>
         return Err(FormFault::Bad(begin));
     }
     let body = read_base64(alloc, text, begin + 1, b'}')?;
-    let tree = decode_body(alloc, &body.octets, body.end - 1)?;
-    ended(text, body.end, tree)
+    check_body(alloc, &body.octets, body.end - 1)?;
+    ended(text, body.end)?;
+    Ok(body.octets)
 }

@@ -17,7 +17,7 @@ mod spaces;
 mod tree;
 mod writer;
 
-pub use braces::{Unpacked, read_base64, unwrap_braces, wrap};
+pub use braces::{Unpacked, octets_in_braces, read_base64, unwrap_braces, wrap, wrap_octets};
 pub use document::{Doc, NodeId};
 pub use fault::FormFault;
 pub use handle::{Form, Node};
@@ -27,4 +27,4 @@ pub use parser::{MOST_LISTS, MOST_OCTETS};
 pub use siblings::Members;
 pub use spaces::{is_space, octet_at, skip_spaces};
 pub use tree::{Atom, Sexp};
-pub use writer::encode;
+pub use writer::{append_verbatim, encode};

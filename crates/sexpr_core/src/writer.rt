@@ -28,7 +28,8 @@ fn append_decimal(number: usize, out: &mut Vec<u8>) -> Result<(), AllocError>
     Ok(())
 }
 
-fn append_verbatim(octets: &[u8], out: &mut Vec<u8>) -> Result<(), AllocError>
+/// Puts a string's verbatim form (RFC 9804, section 4.1) behind what is written: its length in decimal, a colon, its octets.
+pub fn append_verbatim(octets: &[u8], out: &mut Vec<u8>) -> Result<(), AllocError>
     ensures { OnOk result (out.new.items ≡ out.old.items ++ verbatim octets.now) }
 {
     append_decimal(octets.len(), out)?;

@@ -1,4 +1,5 @@
 pub mod CanonicalSpelled
+pub mod Converted
 pub mod CountedLaws
 pub mod Escapes
 pub mod HexadecimalLaws

@@ -1,9 +1,7 @@
 -- The faults of a part of a text, seen from where the part's whole begins.
-use Rattle.std.proofs.Common.{◌≡◌, ℕ, zero, suc, ◌+◌, ◌-◌, ◌≤◌, ◌==◌, List, [], ◌∷◌, Result, IfErr, length, drop, ap, subst, ◌∙◌, arith}
-use Rattle.std.proofs.lemmas.Result.{MatchResult-weaker}
+use Rattle.std.proofs.Common.{◌≡◌, ℕ, zero, suc, ◌+◌, ◌-◌, ◌≤◌, ◌==◌, List, [], ◌∷◌, length, drop, ap, subst, ◌∙◌, arith}
 use Rattle.std.proofs.lemmas.Bool.{cond_both}
 use Rattle.std.proofs.lemmas.List.{drop-drop}
-use Rattle.sexpr_core.specs.declared.tree.Sexp.{Sexp}
 use Rattle.sexpr_core.specs.declared.fault.FormFault.{FormFault}
 use Rattle.sexpr_core.specs.declared.fault.FormFault.TheVariants.{TooLong, TooDeep, Short, Bad, Trailing, Memory}
 use Rattle.sexpr_core.specs.Value.{Value}
@@ -44,7 +42,7 @@ value_refused text begin (Bad k) h = h
 value_refused text begin (Trailing k) h = absurd h
 value_refused text begin Memory h = h
 
-trailing_refused : (text : List ℕ) (begin to : ℕ) (v : Value) (fault : FormFault) → length text ≤ 1048576 → Skips text 0 begin → ReadsValue 64 text begin v to
+pub trailing_refused : (text : List ℕ) (begin to : ℕ) (v : Value) (fault : FormFault) → length text ≤ 1048576 → Skips text 0 begin → ReadsValue 64 text begin v to
     → IsTrailingBehind text to fault → RefusesSpelling text fault
 trailing_refused text begin to v TooLong short s r h = absurd h
 trailing_refused text begin to v TooDeep short s r h = absurd h
@@ -52,8 +50,3 @@ trailing_refused text begin to v Short short s r h = absurd h
 trailing_refused text begin to v (Bad k) short s r h = absurd h
 trailing_refused text begin to v (Trailing k) short s r h = (h.0, (v, front_read text begin to k v short s r h.1))
 trailing_refused text begin to v Memory short s r h = absurd h
-
-pub ended_refused : (text : List ℕ) (begin to : ℕ) (v : Value) (r : Result Sexp FormFault) → length text ≤ 1048576 → Skips text 0 begin → ReadsValue 64 text begin v to
-    → IfErr r (λ fault. IsTrailingBehind text to fault) → IfErr r (λ fault. RefusesSpelling text fault)
-ended_refused text begin to v r short s read h =
-    MatchResult-weaker r h (λ x u. u) (λ fault k. trailing_refused text begin to v fault short s read k)

@@ -42,7 +42,7 @@ printed_packed octets e f = rw (e, f) refl
 
 -- ---- lists
 
-adv_all-append : (n : ℕ) (vs ws : List Value) → adv_all n (values (vs ++ ws)) ≡ adv_all n (values vs) ++ adv_all (n + length vs) (values ws)
+pub adv_all-append : (n : ℕ) (vs ws : List Value) → adv_all n (values (vs ++ ws)) ≡ adv_all n (values vs) ++ adv_all (n + length vs) (values ws)
 adv_all-append n [] ws = let e : n ≡ n + 0 = omega arith in ap (λ m. adv_all m (values ws)) e
 adv_all-append n (v ∷ vs) ws =
     let e : suc n + length vs ≡ n + suc (length vs) = omega arith in

@@ -18,6 +18,7 @@ use Rattle.sexpr_core.proofs.Texts.{join}
 use Rattle.sexpr_text.specs.Strings.{IsApart}
 use Rattle.sexpr_text.specs.Spelling.{IsHinted, SpellsMembers, IsSpelledWithin, IsTextWithin}
 use Rattle.sexpr_text.specs.Reads.{StringAt, ReadsString, ValueAt, ReadsValue, MembersAt, ReadsMembers}
+use Rattle.sexpr_text.specs.Refusal.{OpensBraces}
 use Rattle.sexpr_text.proofs.OneString.{one_simple}
 use Rattle.sexpr_text.proofs.OneValue.{value_first, value_differs, value_visible, simple_visible, simple_differs, hinted_text, list_text, member_text, apart_append, apart_front, spaces_apart, one_spelling}
 
@@ -70,7 +71,7 @@ inside_list room less text at (list vs) rest stands le h =
     let deep : suc (depths vs) ≤ room = h.fits in
     (vs, omega arith, record { inside = h.meant.0; spelled = cc; meant = h.meant.3; fits = omega arith })
 
-list_read : (room less : ℕ) (text : List ℕ) (at to : ℕ) (vs : Values) → StandsAt text at 40 → suc less ≤ room → ReadsMembers less text (at + 1) vs to
+pub list_read : (room less : ℕ) (text : List ℕ) (at to : ℕ) (vs : Values) → StandsAt text at 40 → suc less ≤ room → ReadsMembers less text (at + 1) vs to
     → ReadsValue room text at (list vs) to
 list_read room less text at to vs stands le r = record {
   stands = record {
@@ -387,6 +388,10 @@ front_read text begin to k v short s r t =
     }
 
 -- ---- either form
+
+-- a brace stands behind whitespace
+pub opened : (text : List ℕ) (begin : ℕ) (rest : List ℕ) → Skips text 0 begin → drop begin text ≡ 123 ∷ rest → OpensBraces text
+opened text begin rest s e = record { spaces = s.spaces; rest = rest; are_spaces = s.are_spaces; spelled = s.spelled ∙ ap (λ t. s.spaces ++ t) e }
 
 -- a text that begins with a brace, past whitespace, is braced if it is a text at all
 pub braced_text : (text rest : List ℕ) (begin : ℕ) (v : Value) → Skips text 0 begin → drop begin text ≡ 123 ∷ rest → IsTextWithin text v → IsBracedWithin text v

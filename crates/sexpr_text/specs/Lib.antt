@@ -3,3 +3,4 @@ pub mod Spelling
 pub mod Refusal
 pub mod Printed
 pub mod Reads
+pub mod Written

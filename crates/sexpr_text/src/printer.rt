@@ -102,7 +102,11 @@ fn print_packed(alloc: Global, octets: &[u8], out: &mut Vec<u8>) -> Result<(), A
     Ok(())
 }
 
-fn print_string(alloc: Global, octets: &[u8], out: &mut Vec<u8>) -> Result<(), AllocError>
+pub(crate) fn print_string(
+    alloc: Global,
+    octets: &[u8],
+    out: &mut Vec<u8>,
+) -> Result<(), AllocError>
     ensures printed { OnOk result (out.new.items ≡ out.old.items ++ printed_string octets.now) }
     ensures octets { IsBytes octets.now }
 {

@@ -7,10 +7,12 @@ ghost use Rattle.sexpr_core.specs.Spaces.{AreSpaces};
 ghost use Rattle.sexpr_core.specs.Tree.{sexp_value};
 ghost use Rattle.sexpr_core.specs.Value.{Value, Values, values};
 ghost use Rattle.sexpr_text.specs.Reads.{ReadsValue, ValueAt, ReadsMembers, MembersAt, IsValueFault, IsTrailingBehind};
-ghost use Rattle.sexpr_text.specs.Refusal.{RefusesSpelling};
+ghost use Rattle.sexpr_text.specs.Refusal.{RefusesSpelling, RefusesText};
 ghost use Rattle.sexpr_text.specs.Spelling.{IsSpelledWithin, IsTextWithin};
 
+use crate::hinted::{HintedString, read_hinted_string};
 use crate::strings::{ReadString, read_string};
+use crate::whole::{ended, opens_braces};
 use sexpr_core::{
     Atom, FormFault, MOST_LISTS, MOST_OCTETS, Sexp, octet_at, skip_spaces, unwrap_braces,
 };
@@ -45,8 +47,9 @@ pub fn read_advanced(alloc: Global, text: &[u8]) -> Result<Sexp, FormFault>
         return Err(FormFault::TooLong);
     }
     let begin = skip_spaces(text, 0);
-    let read = read_tree(alloc, text, begin, MOST_LISTS)?;
-    ended(text, read)
+    let ReadTree { tree, end } = read_tree(alloc, text, begin, MOST_LISTS)?;
+    ended(text, end)?;
+    Ok(tree)
 }
 
 /// Reads a text in the transport form if its first octet past whitespace is an opening brace, and else in advanced form.
@@ -54,39 +57,13 @@ pub fn read_any(alloc: Global, text: &[u8]) -> Result<Sexp, FormFault>
     ensures read { IfOk result (λ tree. IsTextWithin text.now (sexp_value tree)) }
     ensures only { (v : Value) → IsTextWithin text.now v → IsOkUnless result FormFault.Memory }
     ensures too_long { IsErrOf result FormFault.TooLong ↔ (1048576 < length text.now) }
-    ensures refused { IfErr result (λ fault. LiesWithin (length text.now) fault) }
+    ensures refused { IfErr result (λ fault. RefusesText text.now fault) }
 {
     let begin = skip_spaces(text, 0);
     if opens_braces(text, begin) {
         return unwrap_braces(alloc, text);
     }
     read_advanced(alloc, text)
-}
-
-/// Whether an opening brace stands at an offset.
-fn opens_braces(text: &[u8], at: usize) -> bool
-    requires { at ≤ length text.now }
-    ensures { IsTrue result ↔ ((rest : List ℕ) × (drop at text.now ≡ 123 ∷ rest)) }
-{
-    match octet_at(text, at) {
-        Some(octet) => octet == b'{',
-        None => false,
-    }
-}
-
-/// Gives the tree that was read, if nothing but whitespace follows it.
-fn ended(text: &[u8], read: ReadTree) -> Result<Sexp, FormFault>
-    requires { read.end ≤ length text.now }
-    ensures read { IfOk result (λ tree. (sexp_value tree ≡ sexp_value read.tree) × AreSpaces (drop read.end text.now)) }
-    ensures only { AreSpaces (drop read.end text.now) → IsOkUnless result FormFault.Memory }
-    ensures refused { IfErr result (λ fault. IsTrailingBehind text.now read.end fault) }
-{
-    let ReadTree { tree, end } = read;
-    let end = skip_spaces(text, end);
-    if end < text.len() {
-        return Err(FormFault::Trailing(end));
-    }
-    Ok(tree)
 }
 
 /// A value, from its first octet on. At most `room` lists may open in it.
@@ -172,21 +149,12 @@ fn read_hinted(alloc: Global, text: &[u8], at: usize) -> Result<ReadTree, FormFa
     ensures only { (room : ℕ) (v : Value) (rest : List ℕ) → ValueAt room text.now at v rest → IsOkUnless result FormFault.Memory }
     ensures refused { IfErr result (λ fault. IsPartFault (length text.now) fault) }
 {
-    let begin = skip_spaces(text, at + 1);
-    let hint = read_string(alloc, text, begin)?;
-    let close = skip_spaces(text, hint.end);
-    match octet_at(text, close) {
-        None => return Err(FormFault::Short),
-        Some(b']') => {}
-        Some(_) => return Err(FormFault::Bad(close)),
-    }
-    let begin = skip_spaces(text, close + 1);
-    let body = read_string(alloc, text, begin)?;
+    let HintedString { hint, octets, end } = read_hinted_string(alloc, text, at)?;
     Ok(ReadTree {
         tree: Sexp::Atom(Atom {
-            hint: Some(hint.octets),
-            body: body.octets,
+            hint: Some(hint),
+            body: octets,
         }),
-        end: body.end,
+        end,
     })
 }

@@ -1,11 +1,13 @@
 -- What is answered to a text that was read to its end.
-use Rattle.std.specs.Prelude.{◌≡◌, ◌≢◌, ◌⊎◌, ℕ, List, [], ◌∷◌, ◌++◌, length}
+use Rattle.std.specs.Prelude.{◌≡◌, ◌≢◌, ◌⊎◌, ℕ, List, [], ◌∷◌, ◌++◌}
 use Rattle.sexpr_core.specs.declared.fault.FormFault.{FormFault}
 use Rattle.sexpr_core.specs.declared.fault.FormFault.TheVariants as form
 use Rattle.sexpr_core.specs.Value.{Value, canon}
 use Rattle.sexpr_core.specs.Braces.{transport}
-use Rattle.sexpr_core.specs.Bounds.{LiesWithin}
 use Rattle.sexpr_text.specs.Printed.{adv}
+use Rattle.sexpr_text.specs.declared.converter.Form.{Form}
+use Rattle.sexpr_text.specs.declared.converter.Form.TheVariants as forms
+use Rattle.sexpr_text.specs.Refusal.{RefusesText}
 use Rattle.sexpr_text.specs.Spelling.{IsTextWithin}
 use Rattle.spki_guard.specs.declared.answers.Verdict.{Verdict}
 use Rattle.spki_guard.specs.declared.answers.Verdict.TheVariants.{Done, No, Refused}
@@ -80,6 +82,14 @@ IsIntersection text verdict output = WritesMeet text verdict output ⊎ RefusesM
 
 -- ---- all commands
 
+-- the form that a command wants a value in
+abbrev pub form_of : Command → Form
+form_of Canonical = forms.Canonical
+form_of Advanced = forms.Advanced
+form_of Transport = forms.Canonical
+form_of Intersect = forms.Canonical
+form_of Check = forms.Canonical
+
 -- What is answered to the value that was read: it is written in the form that is asked for, or its canonical
 -- form is met or decided.
 abbrev pub AnswersValue : Command → Value → Verdict → List ℕ → Type 0
@@ -100,7 +110,7 @@ pub record RefusesForm (text : List ℕ) (verdict : Verdict) (output : List ℕ)
   pub fault : FormFault
   pub found : fault ≢ form.Memory
   pub none : (v : Value) → IsTextWithin text v → ⊥
-  pub place : LiesWithin (length text) fault
+  pub refused : RefusesText text fault
   pub verdict_is : verdict ≡ Refused
   pub line : output ≡ refused_form fault
 

@@ -1,11 +1,12 @@
 //! The answer to a text.
 ghost use Rattle.std.specs.Prelude.{◌≡◌, [], ◌∷◌, ◌++◌, IfOk};
-ghost use Rattle.sexpr_core.specs.Value.{canon};
-ghost use Rattle.sexpr_core.specs.Tree.{sexp_value};
+ghost use Rattle.sexpr_core.specs.Value.{Value, canon};
+ghost use Rattle.sexpr_core.specs.Braces.{transport};
 ghost use Rattle.sexpr_text.specs.Printed.{adv};
+ghost use Rattle.sexpr_text.specs.Written.{written};
 ghost use Rattle.spki_tag.specs.Tag.{tag_value};
 ghost use Rattle.spki_guard.specs.Lines.{refused_form, refused_case, refused_intersect};
-ghost use Rattle.spki_guard.specs.Answer.{IsAnswer, AnswersValue, IsIntersection, IsCheck, IsLineOf};
+ghost use Rattle.spki_guard.specs.Answer.{form_of, IsAnswer, AnswersValue, IsIntersection, IsCheck, IsLineOf};
 
 use crate::cases::{Case, CaseFault};
 use crate::commands::Command;
@@ -14,8 +15,8 @@ use crate::intersection::{IntersectFault, intersect};
 use crate::lines::{
     push_no, push_refused_case, push_refused_form, push_refused_intersect, push_yes_entry,
 };
-use sexpr_core::{FormFault, Sexp, encode, wrap};
-use sexpr_text::{print_advanced, read_any};
+use sexpr_core::{FormFault, wrap_octets};
+use sexpr_text::{Form, convert, print_advanced};
 use spki_tag::Tag;
 use std::alloc::{AllocError, Global};
 
@@ -45,24 +46,46 @@ pub struct Answer {
 pub fn answer_text(alloc: Global, command: Command, text: &[u8]) -> Result<Answer, AllocError>
     ensures { IfOk result (λ a. IsAnswer command text.now a.verdict a.output.items) }
 {
-    match read_any(alloc, text) {
-        Ok(tree) => answer_tree(alloc, command, tree),
+    match convert(alloc, form_of(command), text) {
+        Ok(octets) => answer_octets(alloc, command, octets),
         Err(FormFault::Memory) => Err(AllocError),
         Err(fault) => refuse_form(alloc, fault),
     }
 }
 
-/// The answer to the value that a text spells.
-fn answer_tree(alloc: Global, command: Command, tree: Sexp) -> Result<Answer, AllocError>
-    ensures { IfOk result (λ a. AnswersValue command (sexp_value tree) a.verdict a.output.items) }
+/// The form that a command wants a value in.
+fn form_of(command: Command) -> Form
+    ensures { result ≡ form_of command }
 {
     match command {
-        Command::Canonical => Ok(done(encode(alloc, &tree)?)),
-        Command::Advanced => done_line(print_advanced(alloc, &tree)?),
-        Command::Transport => done_line(wrap(alloc, &tree)?),
-        Command::Intersect => intersect_tree(alloc, tree),
-        Command::Check => check_tree(alloc, tree),
+        Command::Advanced => Form::Advanced,
+        Command::Canonical => Form::Canonical,
+        Command::Transport => Form::Canonical,
+        Command::Intersect => Form::Canonical,
+        Command::Check => Form::Canonical,
     }
+}
+
+/// The answer to the value of which these octets are the text, in the form that the command wants.
+fn answer_octets(alloc: Global, command: Command, octets: Vec<u8>) -> Result<Answer, AllocError>
+    ensures { (v : Value) → octets.items ≡ written (form_of command) v
+        → IfOk result (λ a. AnswersValue command v a.verdict a.output.items) }
+{
+    match command {
+        Command::Canonical => Ok(done(octets)),
+        Command::Advanced => done_line(octets),
+        Command::Transport => transport_line(alloc, &octets),
+        Command::Intersect => intersect_octets(alloc, &octets),
+        Command::Check => check(alloc, &octets),
+    }
+}
+
+/// The transport form of the value of which these octets are the canonical form, on a line of its own.
+fn transport_line(alloc: Global, octets: &[u8]) -> Result<Answer, AllocError>
+    ensures { (v : Value) → octets.now ≡ canon v
+        → IfOk result (λ a. (a.verdict ≡ Verdict.Done) × (a.output.items ≡ transport v ++ 10 ∷ [])) }
+{
+    done_line(wrap_octets(alloc, octets)?)
 }
 
 /// What was asked for is written.
@@ -84,12 +107,11 @@ fn done_line(output: Vec<u8>) -> Result<Answer, AllocError>
     Ok(done(line))
 }
 
-/// What the two tags of a value leave together, by its canonical form.
-fn intersect_tree(alloc: Global, tree: Sexp) -> Result<Answer, AllocError>
-    ensures { IfOk result (λ a. IsIntersection (canon (sexp_value tree)) a.verdict a.output.items) }
+/// What the two tags that a canonical text has leave together.
+fn intersect_octets(alloc: Global, text: &[u8]) -> Result<Answer, AllocError>
+    ensures { IfOk result (λ a. IsIntersection text.now a.verdict a.output.items) }
 {
-    let octets = canonical_form(alloc, tree)?;
-    match intersect(alloc, &octets) {
+    match intersect(alloc, text) {
         Ok(tag) => tag_line(alloc, &tag),
         Err(IntersectFault::Memory) => Err(AllocError),
         Err(fault) => refuse_intersect(alloc, fault),
@@ -114,21 +136,6 @@ fn refuse_intersect(alloc: Global, fault: IntersectFault) -> Result<Answer, Allo
         verdict: Verdict::Refused,
         output,
     })
-}
-
-/// Decides the case that a value is, by its canonical form.
-fn check_tree(alloc: Global, tree: Sexp) -> Result<Answer, AllocError>
-    ensures { IfOk result (λ a. IsCheck (canon (sexp_value tree)) a.verdict a.output.items) }
-{
-    let octets = canonical_form(alloc, tree)?;
-    check(alloc, &octets)
-}
-
-/// A tree's canonical form; the tree is given up for it.
-fn canonical_form(alloc: Global, tree: Sexp) -> Result<Vec<u8>, AllocError>
-    ensures { IfOk result (λ octets. octets.items ≡ canon (sexp_value tree)) }
-{
-    encode(alloc, &tree)
 }
 
 /// Decides the case that a canonical text is.

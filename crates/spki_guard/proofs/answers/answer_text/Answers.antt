@@ -10,7 +10,7 @@ returns-in-Err c =
       fault = c.in-Err.fault;
       found = found;
       none = λ v read. found (c.in-Err.ensures.only v read);
-      place = c.in-Err.ensures.refused;
+      refused = c.in-Err.ensures.refused;
       verdict_is = line.0;
       line = line.1;
     })) c.refuse_form.ensures

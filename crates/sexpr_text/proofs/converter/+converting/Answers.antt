@@ -1,0 +1,73 @@
+use Rattle.std.proofs.Common.{◌-◌, refl, arith}
+use Rattle.std.proofs.lemmas.Result.{err_from_is_err_and, IfOk-weaker}
+use Rattle.sexpr_core.specs.Value.{values}
+use Rattle.sexpr_text.proofs.Openings.{later_fault}
+use Rattle.sexpr_text.proofs.Trees.{no_value, string_at, inside_list, member_at, no_members_end}
+use Rattle.sexpr_text.proofs.Converted.{string_converted, roomier, none_converted, more_converted, members_converted, list_converted}
+use Rattle.sexpr_text.proofs.converter.+converting.Goals as goal
+
+pub convert_list-returns-then-room-eq0-clause-only : goal.convert_list-returns-then-room-eq0-clause-only
+convert_list-returns-then-room-eq0-clause-only t c = λ v rest h.
+    let p = inside_list c.args.room 0 _ _ v rest c.requires.begins (omega arith) h in
+    absurd (omega (arith, p.1))
+
+pub convert_list-returns-clause-read : goal.convert_list-returns-clause-read
+convert_list-returns-clause-read t c =
+    IfOk-weaker c.convert_members.result _ _ (λ to p.
+    list_converted c.args.room (c.args.room - 1) _ _ to c.args.form _ _ _ c.requires.begins (omega arith) c.in_ok-push.ensures.items p)
+    c.convert_members.ensures.read
+
+pub convert_list-returns-clause-only : goal.convert_list-returns-clause-only
+convert_list-returns-clause-only t c = λ v rest h.
+    let inside = inside_list c.args.room (c.args.room - 1) _ _ v rest c.requires.begins (omega arith) h in
+    c.convert_members.ensures.only inside.0 rest inside.2
+
+pub convert_members-loop-octet-init : goal.convert_members-loop-octet-init
+convert_members-loop-octet-init t c = none_converted _ _ _ _ _ _ _ c.skip_spaces-i.ensures refl
+
+pub convert_members-returns-then-octet-eq41-clause-read : goal.convert_members-returns-then-octet-eq41-clause-read
+convert_members-returns-then-octet-eq41-clause-read t c =
+    members_converted _ _ _ _ _ c.args.form _ _ _ _ c.loop-octet.invariant c.in-Some.ensures c.if-octet-eq41.true c.in_ok-push.ensures.items
+
+pub convert_members-returns-in_err-end-clause-only : goal.convert_members-returns-in_err-end-clause-only
+convert_members-returns-in_err-end-clause-only t c =
+    let p = err_from_is_err_and c.from_residual-in_err-end.result c.from_residual-in_err-end.ensures.1 in
+    rw (p.1, p.2) (λ vs rest h.
+    let filled = member_at _ _ _ _ _ _ vs rest c.loop-octet.invariant.read c.in-Some.ensures c.if-octet-eq41.false h in
+    c.in_err-end.ensures.only filled.first _ filled.stands)
+
+pub convert_members-returns-in_err-end-clause-refused : goal.convert_members-returns-in_err-end-clause-refused
+convert_members-returns-in_err-end-clause-refused t c =
+    let p = err_from_is_err_and c.from_residual-in_err-end.result c.from_residual-in_err-end.ensures.1 in
+    rw (p.1, p.2) (later_fault _ _ _ _ _ c.loop-octet.invariant.read.ordered c.in_err-end.ensures.refused)
+
+pub convert_members-loop-octet-preserved : goal.convert_members-loop-octet-preserved
+convert_members-loop-octet-preserved t c =
+    more_converted _ _ _ _ _ _ _ c.args.form _ _ _ _ _ _ c.loop-octet.invariant c.in-Some.ensures c.if-octet-eq41.false
+    c.in_ok-extend_from_slice.ensures.items c.in_ok-end.ensures.read c.gap_between-gap.ensures c.skip_spaces-i-in-Some.ensures
+
+pub convert_members-returns-clause-only : goal.convert_members-returns-clause-only
+convert_members-returns-clause-only t c = λ vs rest h.
+    absurd (no_members_end _ _ _ _ _ vs rest c.loop-octet.invariant.read c.in_default.ensures h)
+
+pub convert_value-returns-in_err-string-in-Some-clause-only : goal.convert_value-returns-in_err-string-in-Some-clause-only
+convert_value-returns-in_err-string-in-Some-clause-only t c =
+    let p = err_from_is_err_and c.from_residual.result c.from_residual.ensures.1 in
+    rw (p.1, p.2) (λ v rest h.
+    let string = string_at _ _ _ _ v rest c.in-Some.ensures c.in-Some.field-0-test.0.1 c.in-Some.field-0-test.1 h in
+    c.in_err-string-in-Some.ensures.only string.0 rest string.1)
+
+pub convert_value-returns-in-None-clause-only : goal.convert_value-returns-in-None-clause-only
+convert_value-returns-in-None-clause-only t c = λ v rest h. absurd (no_value _ _ _ v rest c.in-None.ensures h)
+
+pub convert_value-returns-in-Some-eq91-clause-read : goal.convert_value-returns-in-Some-eq91-clause-read
+convert_value-returns-in-Some-eq91-clause-read t c =
+    IfOk-weaker c.convert_hinted.result _ _ (λ to p. roomier c.args.room _ _ to c.args.form _ _ p) c.convert_hinted.ensures.read
+
+pub convert_value-returns-in-Some-eq91-clause-only : goal.convert_value-returns-in-Some-eq91-clause-only
+convert_value-returns-in-Some-eq91-clause-only t c = λ v rest h. c.convert_hinted.ensures.only c.args.room v rest h
+
+pub convert_value-returns-in_ok-write_string-in-Some-clause-read : goal.convert_value-returns-in_ok-write_string-in-Some-clause-read
+convert_value-returns-in_ok-write_string-in-Some-clause-read t c =
+    string_converted _ _ _ _ c.args.form _ _ _ c.in_ok-string-in-Some.ensures.read
+    (rw c.deref.ensures.value at c.in_ok-write_string-in-Some.ensures)

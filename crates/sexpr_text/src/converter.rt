@@ -1,0 +1,217 @@
+//! Texts, written in another form as they are read.
+
+ghost use Rattle.std.specs.Prelude.{◌≡◌, ℕ, List, ◌<◌, ◌≤◌, ◌↔◌, [], ◌∷◌, ◌++◌, length, drop, IfOk, IfErr, OnOk, IsErrOf, IsOkUnless};
+ghost use Rattle.sexpr_core.specs.Bounds.{IsPartFault, LiesWithin};
+ghost use Rattle.sexpr_core.specs.Braces.{IsBracedWithin};
+ghost use Rattle.sexpr_core.specs.Reading.{StandsAt};
+ghost use Rattle.sexpr_core.specs.Value.{Value, Values, canon, IsWithinLimits};
+ghost use Rattle.sexpr_text.specs.Printed.{adv};
+ghost use Rattle.sexpr_text.specs.Reads.{ReadsValue, ValueAt, ReadsMembers, MembersAt, IsValueFault};
+ghost use Rattle.sexpr_text.specs.Refusal.{RefusesSpelling, RefusesText};
+ghost use Rattle.sexpr_text.specs.Spelling.{IsSpelledWithin, IsTextWithin};
+ghost use Rattle.sexpr_text.specs.Written.{written, written_all, written_string, gap_of};
+
+use crate::hinted::read_hinted_string;
+use crate::printer::print_string;
+use crate::strings::read_string;
+use crate::whole::{ended, opens_braces};
+use sexpr_core::{
+    FormFault, MOST_LISTS, MOST_OCTETS, append_verbatim, octet_at, octets_in_braces, skip_spaces,
+};
+use std::alloc::{AllocError, Global};
+
+/// The form in which a value is written.
+#[derive(Clone, Copy, Debug, PartialEq, Eq)]
+pub enum Form {
+    /// Canonical form (RFC 9804, section 6.1).
+    Canonical,
+    /// Advanced form (RFC 9804, section 6.3), as `print_advanced` writes it.
+    Advanced,
+}
+
+/// Reads a text in any of the three forms, with the refusals of `read_any`, and writes its value in another form. It
+/// is written as it is read, without making a tree of it.
+pub fn convert(alloc: Global, form: Form, text: &[u8]) -> Result<Vec<u8>, FormFault>
+    ensures read { IfOk result (λ out. (v : Value) × IsTextWithin text.now v × (out.items ≡ written form v)) }
+    ensures only { (v : Value) → IsTextWithin text.now v → IsOkUnless result FormFault.Memory }
+    ensures too_long { IsErrOf result FormFault.TooLong ↔ (1048576 < length text.now) }
+    ensures refused { IfErr result (λ fault. RefusesText text.now fault) }
+{
+    let begin = skip_spaces(text, 0);
+    if opens_braces(text, begin) {
+        return convert_braces(alloc, form, text);
+    }
+    convert_advanced(alloc, form, text)
+}
+
+/// Writes the value of a text in braces.
+fn convert_braces(alloc: Global, form: Form, text: &[u8]) -> Result<Vec<u8>, FormFault>
+    ensures read { IfOk result (λ out. (v : Value) × IsBracedWithin text.now v × (out.items ≡ written form v)) }
+    ensures only { (v : Value) → IsBracedWithin text.now v → IsOkUnless result FormFault.Memory }
+    ensures too_long { IsErrOf result FormFault.TooLong ↔ (1048576 < length text.now) }
+    ensures refused { IfErr result (λ fault. LiesWithin (length text.now) fault) }
+{
+    let octets = octets_in_braces(alloc, text)?;
+    match form {
+        Form::Canonical => Ok(octets),
+        Form::Advanced => advanced_of(alloc, &octets),
+    }
+}
+
+/// Writes a canonical text in advanced form.
+fn advanced_of(alloc: Global, octets: &[u8]) -> Result<Vec<u8>, FormFault>
+    ensures read { (v : Value) → IsWithinLimits v → octets.now ≡ canon v → IfOk result (λ out. out.items ≡ adv v) }
+    ensures only { (v : Value) → IsWithinLimits v → octets.now ≡ canon v → IsOkUnless result FormFault.Memory }
+{
+    convert_advanced(alloc, Form::Advanced, octets)
+}
+
+/// Writes the value of a text in advanced form.
+fn convert_advanced(alloc: Global, form: Form, text: &[u8]) -> Result<Vec<u8>, FormFault>
+    ensures read { IfOk result (λ out. (v : Value) × IsSpelledWithin text.now v × (out.items ≡ written form v)) }
+    ensures only { (v : Value) → IsSpelledWithin text.now v → IsOkUnless result FormFault.Memory }
+    ensures too_long { IsErrOf result FormFault.TooLong ↔ (1048576 < length text.now) }
+    ensures refused { IfErr result (λ fault. RefusesSpelling text.now fault) }
+{
+    if text.len() > MOST_OCTETS {
+        return Err(FormFault::TooLong);
+    }
+    let mut out = Vec::new(alloc);
+    let begin = skip_spaces(text, 0);
+    let end = convert_value(alloc, text, begin, MOST_LISTS, form, &mut out)?;
+    ended(text, end)?;
+    Ok(out)
+}
+
+/// Puts a string without display hint behind what is written.
+fn write_string(
+    alloc: Global,
+    form: Form,
+    octets: &[u8],
+    out: &mut Vec<u8>,
+) -> Result<(), AllocError>
+    ensures { OnOk result (out.new.items ≡ out.old.items ++ written_string form octets.now) }
+{
+    match form {
+        Form::Canonical => append_verbatim(octets, out),
+        Form::Advanced => print_string(alloc, octets, out),
+    }
+}
+
+/// What stands between two members.
+fn gap_between(form: Form) -> &'static [u8]
+    ensures { result.now ≡ gap_of form 1 }
+{
+    match form {
+        Form::Canonical => b"",
+        Form::Advanced => b" ",
+    }
+}
+
+/// A value, from its first octet on. At most `room` lists may open in it.
+#[cycle(converting)]
+fn convert_value(
+    alloc: Global,
+    text: &[u8],
+    at: usize,
+    room: usize,
+    form: Form,
+    out: &mut Vec<u8>,
+) -> Result<usize, FormFault>
+    requires short { length text.now ≤ 1048576 }
+    requires begins { at ≤ length text.now }
+    ensures read { IfOk result (λ to. (v : Value) × ReadsValue room text.now at v to
+        × (out.new.items ≡ out.old.items ++ written form v)) }
+    ensures only { (v : Value) (rest : List ℕ) → ValueAt room text.now at v rest → IsOkUnless result FormFault.Memory }
+    ensures refused { IfErr result (λ fault. IsValueFault room text.now at fault) }
+{
+    match octet_at(text, at) {
+        None => Err(FormFault::Short),
+        Some(b'(') => convert_list(alloc, text, at, room, form, out),
+        Some(b'[') => convert_hinted(alloc, text, at, form, out),
+        Some(_) => {
+            let string = read_string(alloc, text, at)?;
+            write_string(alloc, form, &string.octets, out)?;
+            Ok(string.end)
+        }
+    }
+}
+
+/// A list, from its opening parenthesis on.
+#[cycle(converting)]
+fn convert_list(
+    alloc: Global,
+    text: &[u8],
+    at: usize,
+    room: usize,
+    form: Form,
+    out: &mut Vec<u8>,
+) -> Result<usize, FormFault>
+    requires short { length text.now ≤ 1048576 }
+    requires begins { StandsAt text.now at 40 }
+    ensures read { IfOk result (λ to. (v : Value) × ReadsValue room text.now at v to
+        × (out.new.items ≡ out.old.items ++ written form v)) }
+    ensures only { (v : Value) (rest : List ℕ) → ValueAt room text.now at v rest → IsOkUnless result FormFault.Memory }
+    ensures refused { IfErr result (λ fault. IsValueFault room text.now at fault) }
+{
+    if room == 0 {
+        return Err(FormFault::TooDeep);
+    }
+    out.push(b'(')?;
+    convert_members(alloc, text, at + 1, room - 1, form, out)
+}
+
+/// The members of a list and its closing parenthesis.
+#[cycle(converting)]
+fn convert_members(
+    alloc: Global,
+    text: &[u8],
+    at: usize,
+    room: usize,
+    form: Form,
+    out: &mut Vec<u8>,
+) -> Result<usize, FormFault>
+    requires short { length text.now ≤ 1048576 }
+    requires begins { at ≤ length text.now }
+    ensures read { IfOk result (λ to. (vs : Values) × ReadsMembers room text.now at vs to
+        × (out.new.items ≡ out.old.items ++ (written_all form 0 vs ++ 41 ∷ []))) }
+    ensures only { (vs : Values) (rest : List ℕ) → MembersAt room text.now at vs rest → IsOkUnless result FormFault.Memory }
+    ensures refused { IfErr result (λ fault. IsValueFault room text.now at fault) }
+{
+    let mut gap: &[u8] = b"";
+    let mut i = skip_spaces(text, at);
+    while let Some(octet) = octet_at(text, i) {
+        if octet == b')' {
+            out.push(b')')?;
+            return Ok(i + 1);
+        }
+        out.extend_from_slice(gap)?;
+        let end = convert_value(alloc, text, i, room, form, out)?;
+        gap = gap_between(form);
+        i = skip_spaces(text, end);
+    }
+    Err(FormFault::Short)
+}
+
+/// A string with a hint, from its opening bracket on.
+fn convert_hinted(
+    alloc: Global,
+    text: &[u8],
+    at: usize,
+    form: Form,
+    out: &mut Vec<u8>,
+) -> Result<usize, FormFault>
+    requires short { length text.now ≤ 1048576 }
+    requires begins { StandsAt text.now at 91 }
+    ensures read { IfOk result (λ to. (v : Value) × ReadsValue 0 text.now at v to
+        × (out.new.items ≡ out.old.items ++ written form v)) }
+    ensures only { (room : ℕ) (v : Value) (rest : List ℕ) → ValueAt room text.now at v rest → IsOkUnless result FormFault.Memory }
+    ensures refused { IfErr result (λ fault. IsPartFault (length text.now) fault) }
+{
+    let string = read_hinted_string(alloc, text, at)?;
+    out.push(b'[')?;
+    write_string(alloc, form, &string.hint, out)?;
+    out.push(b']')?;
+    write_string(alloc, form, &string.octets, out)?;
+    Ok(string.end)
+}

@@ -1,0 +1,48 @@
+//! Strings with a display hint, read (RFC 9804, section 4.6).
+
+ghost use Rattle.std.specs.Prelude.{◌≡◌, ℕ, List, Some, ◌≤◌, length, IfOk, IfErr, IsOkUnless};
+ghost use Rattle.sexpr_core.specs.Bounds.{IsPartFault};
+ghost use Rattle.sexpr_core.specs.Reading.{StandsAt};
+ghost use Rattle.sexpr_core.specs.Value.{Value, string};
+ghost use Rattle.sexpr_text.specs.Reads.{ReadsValue, ValueAt};
+
+use crate::strings::read_string;
+use sexpr_core::{FormFault, octet_at, skip_spaces};
+use std::alloc::Global;
+
+/// The hint and the octets of a string, and where its text has ended.
+#[derive(Drop)]
+pub(crate) struct HintedString {
+    pub(crate) hint: Vec<u8>,
+    pub(crate) octets: Vec<u8>,
+    pub(crate) end: usize,
+}
+
+/// A string with a hint, from its opening bracket on.
+pub(crate) fn read_hinted_string(
+    alloc: Global,
+    text: &[u8],
+    at: usize,
+) -> Result<HintedString, FormFault>
+    requires short { length text.now ≤ 1048576 }
+    requires begins { StandsAt text.now at 91 }
+    ensures read { IfOk result (λ read. ReadsValue 0 text.now at (string (Some read.hint.items) read.octets.items) read.end) }
+    ensures only { (room : ℕ) (v : Value) (rest : List ℕ) → ValueAt room text.now at v rest → IsOkUnless result FormFault.Memory }
+    ensures refused { IfErr result (λ fault. IsPartFault (length text.now) fault) }
+{
+    let begin = skip_spaces(text, at + 1);
+    let hint = read_string(alloc, text, begin)?;
+    let close = skip_spaces(text, hint.end);
+    match octet_at(text, close) {
+        None => return Err(FormFault::Short),
+        Some(b']') => {}
+        Some(_) => return Err(FormFault::Bad(close)),
+    }
+    let begin = skip_spaces(text, close + 1);
+    let body = read_string(alloc, text, begin)?;
+    Ok(HintedString {
+        hint: hint.octets,
+        octets: body.octets,
+        end: body.end,
+    })
+}
