@@ -1,7 +1,7 @@
 -- A string without display hint is spelled in one way only.
-use Rattle.std.proofs.Common.{◌≡◌, ℕ, ◌+◌, ◌<◌, ◌==◌, ◌||◌, Bool, true, false, ◌⊎◌, inl, inr, List, [], ◌∷◌, ◌++◌, length, refl, sym, ap, subst, ◌∙◌, append_assoc, arith}
+use Rattle.std.proofs.Common.{◌≡◌, ℕ, ◌<◌, ◌==◌, ◌||◌, Bool, true, false, ◌⊎◌, inl, inr, List, [], ◌∷◌, ◌++◌, length, refl, sym, ap, subst, ◌∙◌, append_assoc, arith}
 use Rattle.std.proofs.lemmas.Bool.Decides.{nat_tests}
-use Rattle.sexpr_core.specs.Value.{decimal, verbatim}
+use Rattle.sexpr_core.specs.Value.{decimal}
 use Rattle.sexpr_core.proofs.Decimal.{IsDigit, AreDigits, AreDigits-decimal, decimal_starts, decimal_same, parts_agree}
 use Rattle.sexpr_core.proofs.Texts.{verbatim_is}
 use Rattle.sexpr_text.specs.Strings.{is_digit, is_token_octet, IsToken, IsApart, IsCount, IsMarked, Simple}

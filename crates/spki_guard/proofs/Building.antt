@@ -1,7 +1,7 @@
 -- How a case is built of its parts.
 use Rattle.std.proofs.Common.{◌≡◌, ◌≢◌, ℕ, List, [], ◌∷◌, Option, Some, None, MatchOption, refl, sym, ap, ◌∙◌}
 use Rattle.std.specs.Prelude.{codes}
-use Rattle.sexpr_core.specs.Value.{Value, string, list, none, more, members, values, plain, group}
+use Rattle.sexpr_core.specs.Value.{Value, string, list, none, more, members, plain}
 use Rattle.sexpr_core.specs.Labels.{members-values}
 use Rattle.spki_guard.specs.CaseForm as spec
 use Rattle.spki_guard.specs.CaseForm.{headed, part_values, case_value}

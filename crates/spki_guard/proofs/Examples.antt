@@ -12,7 +12,7 @@ use Rattle.spki_cert.specs.declared.certificate.AuthCert.{AuthCert}
 use Rattle.spki_cert.specs.declared.certificate.Signature as signature
 use Rattle.spki_cert.specs.declared.certificate.SeqItem.{SeqItem}
 use Rattle.spki_cert.specs.declared.certificate.SeqItem.TheVariants.{Auth, Signature}
-use Rattle.spki_cert.specs.Naming.{digest_of, is_digest, names}
+use Rattle.spki_cert.specs.Naming.{digest_of, names}
 use Rattle.spki_reduce.specs.Tuples.{FiveTuple, Tuple, five}
 use Rattle.spki_reduce.specs.Views.{entry_tuple, auth_tuple}
 use Rattle.spki_reduce.specs.Rules.{Joins, delegated as delegated_to}

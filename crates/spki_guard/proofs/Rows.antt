@@ -1,8 +1,8 @@
 -- What rows of the code accept, the model's rows do.
-use Rattle.std.proofs.Common.{◌≡◌, ℕ, List, [], ◌∷◌, Bool, true, false, ◌||◌, map, refl, ap}
+use Rattle.std.proofs.Common.{◌≡◌, ℕ, List, [], ◌∷◌, Bool, ◌||◌, map, refl, ap}
 use Rattle.std.specs.List.{list_any}
 use Rattle.spki_guard.specs.declared.verifying.Row as code_row
-use Rattle.spki_guard.specs.Case.{Row, is_row_of, accepts}
+use Rattle.spki_guard.specs.Case.{is_row_of, accepts}
 use Rattle.spki_guard.specs.View.{row_of}
 
 list_any-map : {A B : Type 0} (p : B → Bool) (f : A → B) (xs : List A) → list_any p (map f xs) ≡ list_any (λ x. p (f x)) xs

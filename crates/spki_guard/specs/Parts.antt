@@ -1,5 +1,5 @@
 -- What the readers of a case's parts say.
-use Rattle.std.specs.Prelude.{◌≡◌, ◌≢◌, ℕ, List, [], ◌∷◌}
+use Rattle.std.specs.Prelude.{◌≡◌, ◌≢◌, ℕ, List, ◌∷◌}
 use Rattle.sexpr_core.specs.Value.{Value}
 use Rattle.spki_guard.specs.CaseForm.{headed}
 use Rattle.spki_guard.specs.CaseForm as spec

@@ -1,10 +1,10 @@
 pub mod Examples
 pub mod Members
+pub mod MeetNormal
 pub mod Above
 pub mod Written
 pub mod Depth
 pub mod NormalTag
-pub mod Rows
 pub mod MeetSteps
 pub mod OneTag
 pub mod Spelling
@@ -14,9 +14,8 @@ pub mod Limits
 pub mod Prefixes
 pub mod Exact
 pub mod Bounds
+pub mod Gathered
+pub mod Starred
 pub mod Places
 pub mod Entries
 pub mod Sharing
-pub mod NormalMeet
-pub mod Gathered
-pub mod Starred

@@ -1,28 +1,15 @@
 -- The steps of the intersection: what they need and what they find.
-use Rattle.std.proofs.Common.{◌≡◌, ℕ, zero, suc, ◌+◌, ◌*◌, ◌<◌, ◌≤◌, min, Bool, true, false, ◌&&◌, ◌||◌, not, List, [], ◌∷◌, ◌++◌, length, take, drop, get_or, refl, sym, ap, ◌∙◌, subst, true≢false, append_assoc, arith, add-one, le_trans}
+use Rattle.std.proofs.Common.{◌≡◌, ℕ, zero, suc, ◌+◌, ◌*◌, ◌<◌, ◌≤◌, min, Bool, true, false, ◌||◌, List, [], ◌∷◌, ◌++◌, length, drop, get_or, refl, sym, ap, ◌∙◌, subst, true≢false, append_assoc, arith, add-one, le_trans}
 use Rattle.std.proofs.lemmas.Nat.{mul-le}
 use Rattle.std.proofs.Math.Seq.{drop-cons}
 use Rattle.std.proofs.lemmas.List.{append-nil}
 use Rattle.spki_tag.specs.Tag.{Tag, Tags, tags, star, string, prefix, range, list, set, none, more, IsNormalTag, is_nothing, is_set_or_star, is_normal, each_normal, is_none_or_many, nodes, nodes_all, most_nodes}
 use Rattle.spki_tag.specs.Meet.{nothing, string_meet, prefix_meet, range_meet, items, kept, row, gather, has_nothing, list_meet, across, meet, each_meet, pairs}
-use Rattle.spki_tag.specs.Met.{is_star, is_set}
+use Rattle.spki_tag.specs.Met.{is_set}
+use Rattle.spki_tag.specs.NormalForm.{is_star}
 use Rattle.spki_tag.specs.Index.{members}
+use Rattle.spki_tag.proofs.Exact.{second_true, not_barred, rest_normal, tags-items}
 use Rattle.spki_tag.proofs.NormalTag.{meet-normal_tag}
-
--- ---- truth values
-
-not_barred : (b n r : Bool) → (not b && n && r) ≡ true → b ≡ false
-not_barred true n r h = absurd (true≢false (sym h))
-not_barred false n r h = refl
-
-rest_normal : (b n r : Bool) → (not b && n && r) ≡ true → r ≡ true
-rest_normal true n r h = absurd (true≢false (sym h))
-rest_normal false true r h = h
-rest_normal false false r h = absurd (true≢false (sym h))
-
-second_true : (a b : Bool) → (a && b) ≡ true → b ≡ true
-second_true true b h = h
-second_true false b h = absurd (true≢false (sym h))
 
 -- ---- sets
 
@@ -34,10 +21,6 @@ members_of (prefix octets) = more (prefix octets) none
 members_of (range ordering low up) = more (range ordering low up) none
 members_of (list head further) = more (list head further) none
 members_of (set ts) = ts
-
-tags-items : (ts : Tags) → tags (items ts) ≡ ts
-tags-items none = refl
-tags-items (more t ts) = ap (more t) (tags-items ts)
 
 pub tags-members : (t : Tag) → tags (members t) ≡ members_of t
 tags-members star = refl

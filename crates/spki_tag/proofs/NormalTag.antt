@@ -3,7 +3,7 @@ use Rattle.std.proofs.Common.{◌*◌, ◌≤◌, le_trans}
 use Rattle.spki_tag.specs.Tag.{Tag, IsNormalTag, nodes, most_nodes}
 use Rattle.spki_tag.specs.Meet.{meet}
 use Rattle.spki_tag.proofs.Written.{meet-tag}
-use Rattle.spki_tag.proofs.NormalMeet.{meet-normal}
+use Rattle.spki_tag.proofs.MeetNormal.{meet-normal}
 use Rattle.spki_tag.proofs.Bounds.{meet-le}
 
 pub meet-normal_tag : (a b : Tag) → IsNormalTag a → IsNormalTag b → nodes a * nodes b ≤ most_nodes → IsNormalTag (meet a b)

@@ -2,7 +2,7 @@
 use Rattle.std.proofs.Common.{◌≡◌, ℕ, suc, ◌+◌, ◌<◌, ◌≤◌, Bool, true, false, ◌||◌, ◌&&◌, List, [], ◌∷◌, ◌++◌, length, take, drop, get_or, refl, sym, ap, ◌∙◌, subst, arith, ◌-◌, append-nil, append_assoc, length-drop, length-take, ◌⊎◌, inl, inr}
 use Rattle.std.proofs.lemmas.Bool.{lt-ltb, le-ltb}
 use Rattle.std.proofs.lemmas.List.{take_all, drop_all, take_more}
-use Rattle.std.specs.Prelude.{if◌then◌else◌, nat_lt}
+use Rattle.std.specs.Prelude.{if◌then◌else◌}
 use Rattle.std.specs.Str.{bytes_eq}
 use Rattle.spki_tag.specs.Tag.{Tag, tags}
 use Rattle.spki_tag.specs.Meet.{items}
@@ -156,11 +156,6 @@ pub joined-end : (xs ys so_far with_xs with_both whole : List ℕ) (i j : ℕ) �
 joined-end xs ys so_far with_xs with_both whole i j h e f g =
     g ∙ (λ k. (f ∙ ap (λ r. so_far ++ r) (take-rest i xs)) k ++ take-rest j ys k)
     ∙ append_assoc so_far (drop i xs) (drop j ys) ∙ ap (λ r. so_far ++ r) (sym (merge-end xs ys i j h)) ∙ e
-
--- the lesser of the first two goes first
-pub merge-step : (x y : ℕ) (xs ys : List ℕ) (b : Bool) → nat_lt x y ≡ b
-    → merge (x ∷ xs) (y ∷ ys) ≡ (if b then x ∷ merge xs (y ∷ ys) else y ∷ merge (x ∷ xs) ys)
-merge-step x y xs ys b e = ap (λ c. if c then x ∷ merge xs (y ∷ ys) else y ∷ merge (x ∷ xs) ys) e
 
 -- ---- members
 

@@ -1,11 +1,10 @@
 -- What a tag leaves of those that it can have a request in common with, and of the others.
-use Rattle.std.proofs.Common.{◌≡◌, ℕ, suc, ◌+◌, ◌-◌, ◌<◌, ◌≤◌, Bool, true, false, List, [], ◌∷◌, ◌++◌, length, take, get_or, refl, sym, ap, ◌∙◌, arith}
+use Rattle.std.proofs.Common.{◌≡◌, ℕ, suc, ◌+◌, ◌-◌, ◌<◌, ◌≤◌, Bool, true, false, List, [], ◌∷◌, length, refl, sym, ap, ◌∙◌, arith}
 use Rattle.std.specs.Prelude.{if◌then◌else◌, slice_index_or, All}
 use Rattle.std.specs.Cmp.Lexicographic.{bytes_decides}
 use Rattle.std.specs.Str.{bytes_eq}
-use Rattle.std.proofs.lemmas.List.{take_more, get_or_default}
 use Rattle.std.proofs.lemmas.List.Elements.{All-cons}
-use Rattle.spki_tag.specs.Tag.{Tag, tags, star, string, prefix, range, list, set, is_nothing}
+use Rattle.spki_tag.specs.Tag.{Tag, tags, star, string, prefix, range, list, set}
 use Rattle.spki_tag.specs.Meet.{nothing, meet, kept, row, listed, each_meet}
 use Rattle.spki_tag.specs.Index.{may_share, places_where, tags_at}
 

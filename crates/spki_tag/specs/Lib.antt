@@ -11,6 +11,6 @@ pub mod NodeFalls
 pub mod Asks
 pub mod AskFalls
 pub mod Meet
+pub mod NormalForm
 pub mod Index
 pub mod Places
-pub mod NormalForm

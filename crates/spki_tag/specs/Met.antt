@@ -10,14 +10,6 @@ abbrev pub leaf_or_nothing : Option Leaf → Tag
 leaf_or_nothing None = nothing
 leaf_or_nothing (Some leaf) = leaf_tag leaf
 
-abbrev pub is_star : Tag → Bool
-is_star star = true
-is_star (string octets) = false
-is_star (prefix octets) = false
-is_star (range ordering low up) = false
-is_star (list head further) = false
-is_star (set members) = false
-
 abbrev pub is_set : Tag → Bool
 is_set star = false
 is_set (string octets) = false

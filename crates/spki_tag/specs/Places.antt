@@ -22,32 +22,35 @@ kind_of (Lists head) = lists head.now
 
 -- ---- kinds with places of their own
 
+-- it may have any request
 abbrev pub is_any : Kind → Bool
 is_any any = true
 is_any strings = false
 is_any (one octets) = false
 is_any (lists head) = false
 
--- it has strings, and not just one
+-- it may have more strings than one
 abbrev pub has_many_strings : Kind → Bool
 has_many_strings any = true
 has_many_strings strings = true
 has_many_strings (one octets) = false
 has_many_strings (lists head) = false
 
+-- it has this string
 abbrev pub is_one : List ℕ → Kind → Bool
 is_one octets any = false
 is_one octets strings = false
 is_one octets (one other) = bytes_eq octets other
 is_one octets (lists head) = false
 
+-- it has lists with this head
 abbrev pub is_lists : List ℕ → Kind → Bool
 is_lists head any = false
 is_lists head strings = false
 is_lists head (one octets) = false
 is_lists head (lists other) = bytes_eq head other
 
--- it has strings
+-- it may have a string
 abbrev pub has_strings : Kind → Bool
 has_strings k = kinds_share strings k
 

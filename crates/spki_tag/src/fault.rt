@@ -19,7 +19,7 @@ pub enum TagFault {
     /// A string with a display hint.
     #[error("a display hint")]
     Hint,
-    /// A list that begins with `*` and is no form of a tag that is read.
+    /// A list that begins with `*` and is no form of a tag.
     #[error("an unknown form behind a star")]
     UnknownStar,
     /// A range of another ordering than `alpha`, `time` and `date`.

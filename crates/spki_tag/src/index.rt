@@ -203,7 +203,13 @@ impl<'a> Index<'a> {
     pub fn of(alloc: Global, tag: &'a Tag) -> Result<Index<'a>, AllocError>
         ensures { IfOk result (λ index. index ≡ members tag.now) }
     {
-        let members = tag.members();
+        Index::over(alloc, tag.members())
+    }
+
+    /// The index of these members.
+    pub(crate) fn over(alloc: Global, members: &'a [Tag]) -> Result<Index<'a>, AllocError>
+        ensures { IfOk result (λ index. index ≡ members.now) }
+    {
         let places = PlacesByKind::of(alloc, members)?;
         Ok(Index { members, places })
     }

@@ -5,11 +5,11 @@ ghost use Rattle.std.specs.List.{starts_with};
 ghost use Rattle.spki_tag.specs.Request.{AreOctets, Request, IsRequest};
 ghost use Rattle.spki_tag.specs.Tag.{Tag, is_above, is_below, is_normal, IsNormalTag, contains, each_normal, is_nothing, is_set_or_star, most_nodes, nodes, nodes_all, ldepth, list, tags};
 ghost use Rattle.spki_tag.specs.Meet.{least_above, strict_limit, from, meet, each_meet, pairs, row, gather, has_nothing};
-ghost use Rattle.spki_tag.specs.Index.{members, tags_at};
+ghost use Rattle.spki_tag.specs.Index.{tags_at};
 
 use crate::fault::MeetFault;
 use crate::index::Index;
-use crate::parts::{gather, has_set, is_star, leaf_or_nothing, nothing, push_copies, push_kept};
+use crate::parts::{has_set, leaf_or_nothing, push_copies, push_kept};
 use crate::tag::{Node, Tag};
 use std::alloc::{AllocError, Global};
 
@@ -22,12 +22,12 @@ fn meet_tags(alloc: Global, one: &Tag, other: &Tag) -> Result<Tag, AllocError>
     requires { nodes one.now * nodes other.now ≤ most_nodes }
     ensures { IfOk result (λ c. c ≡ meet one.now other.now) }
 {
-    if is_star(one) {
+    if one.is_everything() {
         other.clone()
-    } else if is_star(other) {
+    } else if other.is_everything() {
         one.clone()
     } else if has_set(one, other) {
-        meet_members(alloc, one, other)
+        meet_members(alloc, one.members(), other.members())
     } else {
         meet_single(alloc, one, other)
     }
@@ -44,11 +44,11 @@ fn meet_single(alloc: Global, one: &Tag, other: &Tag) -> Result<Tag, AllocError>
     match &one.node {
         Node::Leaf(leaf) => match &other.node {
             Node::Leaf(second) => Ok(leaf_or_nothing(alloc, leaf.meet(alloc, second)?)),
-            Node::List(_, _) => Ok(nothing(alloc)),
+            Node::List(_, _) => Ok(Tag::nothing(alloc)),
             Node::Set(_) => unreachable!(),
         },
         Node::List(head, further) => match &other.node {
-            Node::Leaf(_) => Ok(nothing(alloc)),
+            Node::Leaf(_) => Ok(Tag::nothing(alloc)),
             Node::List(second, others) => meet_lists(alloc, head, further, second, others),
             Node::Set(_) => unreachable!(),
         },
@@ -72,10 +72,10 @@ fn meet_lists(
     ensures { IfOk result (λ c. c ≡ meet (list head.now (tags further.now)) (list other.now (tags others.now))) }
 {
     if head != other {
-        return Ok(nothing(alloc));
+        return Ok(Tag::nothing(alloc));
     }
     match meet_each(alloc, further, others)? {
-        None => Ok(nothing(alloc)),
+        None => Ok(Tag::nothing(alloc)),
         Some(members) => Ok(Tag::list(Vec::from_slice(alloc, head)?, members)),
     }
 }
@@ -104,21 +104,20 @@ fn meet_each(alloc: Global, ones: &[Tag], others: &[Tag]) -> Result<Option<Vec<T
     Ok(Some(met))
 }
 
-/// What each member of a tag leaves with each of another: ordered by the one's place, then the other's. Members that
-/// can have no request in common, as far as their kinds and strings tell, are passed over: they leave nothing.
+/// What each of some tags leaves with each of others: ordered by the one's place, then the other's.
 #[cycle(meet)]
-fn meet_members(alloc: Global, one: &Tag, other: &Tag) -> Result<Tag, AllocError>
-    requires bound { nodes_all (tags (members one.now)) * nodes_all (tags (members other.now)) ≤ most_nodes }
-    requires met { IsNormalTag (gather (pairs (tags (members one.now)) (tags (members other.now)))) }
-    ensures { IfOk result (λ c. c ≡ gather (pairs (tags (members one.now)) (tags (members other.now)))) }
+fn meet_members(alloc: Global, ones: &[Tag], others: &[Tag]) -> Result<Tag, AllocError>
+    requires bound { nodes_all (tags ones.now) * nodes_all (tags others.now) ≤ most_nodes }
+    requires met { IsNormalTag (gather (pairs (tags ones.now) (tags others.now))) }
+    ensures { IfOk result (λ c. c ≡ gather (pairs (tags ones.now) (tags others.now))) }
 {
-    let index = Index::of(alloc, other)?;
+    let index = Index::over(alloc, others)?;
     let mut met = Vec::new(alloc);
-    for member in one.members() {
-        let places = index.places(alloc, member)?;
-        push_row(alloc, &mut met, member, index.members(), &places)?;
+    for one in ones {
+        let places = index.places(alloc, one)?;
+        push_row(alloc, &mut met, one, others, &places)?;
     }
-    Ok(gather(met))
+    Ok(Tag::gathered(met))
 }
 
 /// Adds what a tag leaves of the members at these places, but for `(* set)`.

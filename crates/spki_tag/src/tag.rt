@@ -110,7 +110,8 @@ impl Tag {
 
     /// Whether this is `(*)`.
     pub(crate) fn is_everything(&self) -> bool
-        ensures { result ≡ is_star self.now }
+        ensures value { result ≡ is_star self.now }
+        ensures normal { spec.IsNormalTag self.now }
     {
         match &self.node {
             Node::Leaf(Leaf::Star) => true,

@@ -1,6 +1,5 @@
 use Rattle.std.proofs.Common.{◌-◌, refl, arith}
 use Rattle.std.proofs.lemmas.Result.{err_from_is_err_and, IfOk-weaker}
-use Rattle.sexpr_core.specs.Value.{values}
 use Rattle.sexpr_text.proofs.Openings.{later_fault}
 use Rattle.sexpr_text.proofs.Trees.{no_value, string_at, inside_list, member_at, no_members_end}
 use Rattle.sexpr_text.proofs.Converted.{string_converted, roomier, none_converted, more_converted, members_converted, list_converted}

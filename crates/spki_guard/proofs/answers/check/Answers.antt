@@ -1,6 +1,5 @@
-use Rattle.std.proofs.Common.{rules, sym, inl, inr}
+use Rattle.std.proofs.Common.{inl}
 use Rattle.std.proofs.lemmas.Result.{IfOk-weaker}
-use Rattle.spki_guard.specs.Answer.{Decides}
 use Rattle.spki_guard.proofs.answers.check.Goals as goal
 
 pub returns : goal.returns

@@ -1,4 +1,4 @@
-use Rattle.std.proofs.Common.{◌≡◌, [], add-one, Some, None, ap, sym, ◌∙◌, arith, length}
+use Rattle.std.proofs.Common.{◌≡◌, [], add-one, Some, None, sym, ◌∙◌}
 use Rattle.std.proofs.lemmas.List.{nil_from_length}
 use Rattle.spki_guard.specs.View.{model}
 use Rattle.spki_guard.proofs.ShownLemmas.{nothing_shown}

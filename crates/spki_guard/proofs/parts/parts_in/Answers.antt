@@ -1,5 +1,4 @@
-use Rattle.std.proofs.Common.{◌≡◌, ◌∷◌, [], List, refl, sym, ap, ◌∙◌, rules}
-use Rattle.sexpr_core.specs.Value.{Value}
+use Rattle.std.proofs.Common.{◌≡◌, ◌∷◌, [], refl, rules}
 use Rattle.spki_guard.specs.CaseForm as spec
 use Rattle.spki_guard.specs.CaseForm.{headed, part_values}
 use Rattle.spki_guard.proofs.Building.{after, inside, joined}

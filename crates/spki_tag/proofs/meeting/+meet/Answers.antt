@@ -1,12 +1,12 @@
-use Rattle.std.proofs.Common.{◌≡◌, ℕ, ◌+◌, ◌*◌, ◌<◌, ◌≤◌, min, length, drop, List, [], ◌∷◌, ◌++◌, Bool, true, false, ◌||◌, refl, sym, ap, ◌∙◌, subst, arith, le_trans, get_or, All, append_assoc, true≢false, length-drop, ◌-◌}
+use Rattle.std.proofs.Common.{◌≡◌, ℕ, ◌+◌, ◌*◌, ◌≤◌, length, drop, List, [], ◌∷◌, ◌++◌, true, false, sym, ap, ◌∙◌, subst, arith, le_trans, get_or, append_assoc, true≢false, length-drop, ◌-◌}
 use Rattle.std.proofs.lemmas.Nat.{mul-le}
 use Rattle.std.proofs.lemmas.List.{take_all}
 use Rattle.std.specs.Prelude.{IfOk}
 use Rattle.spki_tag.specs.Tag.{Tag, IsNormalTag, list, tags, nodes, nodes_all, most_nodes, is_nothing}
 use Rattle.spki_tag.specs.Nodes.{node_tag}
 use Rattle.spki_tag.specs.Meet.{meet, each_meet, pairs, row, gather, has_nothing}
-use Rattle.spki_tag.specs.Index.{members, tags_at, places_where, may_share}
-use Rattle.spki_tag.proofs.Sharing.{row-at_places, places_where-within}
+use Rattle.spki_tag.specs.Index.{may_share, places_where, tags_at}
+use Rattle.spki_tag.proofs.Sharing.{places_where-within, row-at_places}
 use Rattle.spki_tag.proofs.Members.{nodes_le-of_read}
 use Rattle.spki_tag.proofs.MeetSteps.{tags-members, MembersMeet, members_meet, meet-by_members, pairs-step, ListsMeet, lists_meet, each_meet-rest, has_nothing-found, has_nothing-push, nothing-is, nothing-is_not, each_meet-last}
 use Rattle.spki_tag.proofs.meeting.+meet.Goals as goal
@@ -23,6 +23,32 @@ push_row-meet_tags-requires t c =
       le_trans (mul-le (nodes c.args.one.now) (nodes c.index-others-place.result) (nodes c.args.one.now) (nodes_all others) (omega arith) less) c.requires.bound,
     )
 
+pub meet_members-push_row-requires : goal.meet_members-push_row-requires
+meet_members-push_row-requires t c =
+    let others = tags c.args.others.now in
+    let less : nodes c.one-item.result ≤ nodes_all (tags c.args.ones.now) =
+    nodes_le-of_read c.args.ones.now c.loop-one.one-index c.one-item.result c.loop-one-test.true c.one-item.is in (
+      omega (arith, c.decreases, less),
+      (
+        le_trans (mul-le (nodes c.one-item.result) (nodes_all others) (nodes_all (tags c.args.ones.now)) (nodes_all others) less (omega arith)) c.requires.bound,
+        (
+            rw (c.deref.ensures.value, c.in_ok-places.ensures, c.in_ok-index.ensures)
+            (places_where-within (may_share c.one-item.result) 1 c.args.others.now)
+            ),
+      ),
+    )
+
+pub meet_members-loop-one-preserved : goal.meet_members-loop-one-preserved
+meet_members-loop-one-preserved t c =
+    let one = c.one-item.result in
+    pairs-step c.args.ones.now c.args.others.now c.loop-one.met.items c.push_row.new.met.items
+    (pairs (tags c.args.ones.now) (tags c.args.others.now)) (row (meet one) (tags (tags_at c.args.others.now c.in_ok-places.places.items)))
+    c.loop-one.one-index one c.loop-one-test.true c.loop-one.invariant c.one-item.is
+    (c.in_ok-push_row.ensures ∙ ap (λ (ps : List ℕ). c.loop-one.met.items ++ row (meet one) (tags (tags_at c.args.others.now ps))) c.deref.ensures.value)
+    (ap (λ (ps : List ℕ). row (meet one) (tags (tags_at c.args.others.now ps)))
+    (c.in_ok-places.ensures ∙ ap (places_where (may_share one) 1) c.in_ok-index.ensures)
+    ∙ sym (row-at_places one c.args.others.now))
+
 pub meet_single-meet_lists-requires : goal.meet_single-meet_lists-requires
 meet_single-meet_lists-requires t c =
     let head = c.in-List.head.items in
@@ -38,6 +64,25 @@ meet_single-meet_lists-requires t c =
     (subst (λ b. nodes c.args.one.now * nodes b ≤ most_nodes) f c.requires.bound)) in
     rw (c.deref.ensures.value, c.deref-in-List-node-2.ensures.value, c.deref-in-List-node-2-2.ensures.value, c.deref-in-List-node-2-3.ensures.value)
     (omega (arith, c.decreases, ap nodes e, ap nodes f), (m.bound, (m.one, (m.second, m.met))))
+
+pub meet_tags-meet_members-requires : goal.meet_tags-meet_members-requires
+meet_tags-meet_members-requires t c =
+    let m : MembersMeet c.args.one.now c.args.other.now =
+    members_meet c.args.one.now c.args.other.now (sym c.is_everything.ensures.value ∙ c.if-is_everything.false)
+    (sym c.is_everything-else-is_everything.ensures.value ∙ c.if-is_everything-2.false) (sym c.has_set.ensures ∙ c.if-has_set.true)
+    c.is_everything.ensures.normal c.is_everything-else-is_everything.ensures.normal c.requires in
+    rw (ap tags c.members.ensures ∙ tags-members c.args.one.now, ap tags c.members-then-has_set.ensures ∙ tags-members c.args.other.now)
+    (omega (arith, c.decreases, m.less), (m.bound, m.met))
+
+pub meet_tags-returns-then-has_set : goal.meet_tags-returns-then-has_set
+meet_tags-returns-then-has_set t c =
+    subst (λ (x : Tag). IfOk c.meet_members.result (λ d. d ≡ x))
+    ((λ i. gather (pairs (tags (c.members.ensures i)) (tags (c.members-then-has_set.ensures i))))
+    ∙ (λ i. gather (pairs (tags-members c.args.one.now i) (tags-members c.args.other.now i)))
+    ∙ meet-by_members c.args.one.now c.args.other.now (sym c.is_everything.ensures.value ∙ c.if-is_everything.false)
+    (sym c.is_everything-else-is_everything.ensures.value ∙ c.if-is_everything-2.false) (sym c.has_set.ensures ∙ c.if-has_set.true)
+    c.is_everything-else-is_everything.ensures.normal.normal)
+    c.meet_members.ensures
 
 pub meet_each-meet_tags-requires : goal.meet_each-meet_tags-requires
 meet_each-meet_tags-requires t c =
@@ -98,60 +143,3 @@ meet_each-returns t c =
     (c.in_ok-push_copies-2.ensures
     ∙ (λ i. c.in_ok-push_copies.ensures i ++ take_all (length others - n) (drop n others) (omega (arith, length-drop n others)) i)
     ∙ ap (λ (ts : List Tag). met ++ ts ++ drop n others) (take_all (length ones - n) (drop n ones) (omega (arith, length-drop n ones))))
-
-pub meet_members-push_row-requires : goal.meet_members-push_row-requires
-meet_members-push_row-requires t c =
-    let one = c.member-item.result in
-    let ones = members c.args.one.now in
-    let others = members c.args.other.now in
-    let seen : c.members.result.now ≡ others = c.members.ensures ∙ c.in_ok-index.ensures in
-    let places_are : c.deref.result.now ≡ places_where (may_share one) 1 others =
-    c.deref.ensures.value ∙ c.in_ok-places.ensures ∙ ap (λ (us : List Tag). places_where (may_share one) 1 us) c.in_ok-index.ensures in
-    let less : nodes one ≤ nodes_all (tags ones) =
-    subst (λ (ts : List Tag). nodes one ≤ nodes_all (tags ts)) c.members-member-items.ensures
-    (nodes_le-of_read c.members-member-items.result.now c.loop-member.member-index one c.loop-member-test.true c.member-item.is) in
-    let same : nodes_all (tags c.members.result.now) ≡ nodes_all (tags others) = ap (λ (ts : List Tag). nodes_all (tags ts)) seen in (
-      omega (arith, c.decreases, less, same),
-      (
-        le_trans (mul-le (nodes one) (nodes_all (tags c.members.result.now)) (nodes_all (tags ones)) (nodes_all (tags others)) less (omega (arith, same)))
-            c.requires.bound,
-        subst (λ (ns : List ℕ). All (λ n. (1 ≤ n) × (n < 1 + length c.members.result.now)) ns) (sym places_are)
-            (subst (λ (ts : List Tag). All (λ n. (1 ≤ n) × (n < 1 + length ts)) (places_where (may_share one) 1 others)) (sym seen)
-            (places_where-within (may_share one) 1 others)),
-      ),
-    )
-
-pub meet_members-loop-member-preserved : goal.meet_members-loop-member-preserved
-meet_members-loop-member-preserved t c =
-    let one = c.member-item.result in
-    let ones = members c.args.one.now in
-    let others = members c.args.other.now in
-    let seen : c.members.result.now ≡ others = c.members.ensures ∙ c.in_ok-index.ensures in
-    let places : List ℕ = places_where (may_share one) 1 others in
-    let places_are : c.deref.result.now ≡ places =
-    c.deref.ensures.value ∙ c.in_ok-places.ensures ∙ ap (λ (us : List Tag). places_where (may_share one) 1 us) c.in_ok-index.ensures in
-    let left : List Tag → List ℕ → List Tag = λ ts ns. c.loop-member.met.items ++ row (meet one) (tags (tags_at ts ns)) in
-    pairs-step ones others c.loop-member.met.items c.push_row.new.met.items (pairs (tags ones) (tags others))
-    (row (meet one) (tags (tags_at others places))) c.loop-member.member-index one
-    (subst (λ (ts : List Tag). c.loop-member.member-index < length ts) c.members-member-items.ensures c.loop-member-test.true)
-    c.loop-member.invariant
-    (subst (λ (ts : List Tag). one ≡ get_or ts c.loop-member.member-index one) c.members-member-items.ensures c.member-item.is)
-    (c.in_ok-push_row.ensures ∙ ap (λ (ts : List Tag). left ts c.deref.result.now) seen ∙ ap (λ (ns : List ℕ). left others ns) places_are)
-    (sym (row-at_places one others))
-
-pub meet_tags-meet_members-requires : goal.meet_tags-meet_members-requires
-meet_tags-meet_members-requires t c =
-    let m : MembersMeet c.args.one.now c.args.other.now =
-    members_meet c.args.one.now c.args.other.now (sym c.is_star.ensures.value ∙ c.if-is_star.false)
-    (sym c.is_star-else-is_star.ensures.value ∙ c.if-is_star-2.false) (sym c.has_set.ensures ∙ c.if-has_set.true)
-    c.is_star.ensures.normal c.is_star-else-is_star.ensures.normal c.requires in
-    rw (tags-members c.args.one.now, tags-members c.args.other.now) (omega (arith, c.decreases, m.less), (m.bound, m.met))
-
-pub meet_tags-returns-then-has_set : goal.meet_tags-returns-then-has_set
-meet_tags-returns-then-has_set t c =
-    subst (λ (x : Tag). IfOk c.meet_members.result (λ d. d ≡ x))
-    ((λ i. gather (pairs (tags-members c.args.one.now i) (tags-members c.args.other.now i)))
-    ∙ meet-by_members c.args.one.now c.args.other.now (sym c.is_star.ensures.value ∙ c.if-is_star.false)
-    (sym c.is_star-else-is_star.ensures.value ∙ c.if-is_star-2.false) (sym c.has_set.ensures ∙ c.if-has_set.true)
-    c.is_star-else-is_star.ensures.normal.normal)
-    c.meet_members.ensures

@@ -1,4 +1,4 @@
-use Rattle.std.proofs.Common.{◌≡◌, Bool, true, sym, ◌∙◌, subst, IsTrue}
+use Rattle.std.proofs.Common.{◌≡◌, sym, ◌∙◌}
 use Rattle.spki_guard.proofs.Rows.{accepts_rows}
 use Rattle.spki_guard.specs.View.{rows_of}
 use Rattle.spki_guard.specs.Case.{accepts}
