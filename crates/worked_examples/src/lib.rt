@@ -12,6 +12,8 @@ mod conversions;
 #[cfg(test)]
 mod ends;
 #[cfg(test)]
+mod intersections;
+#[cfg(test)]
 mod look_up;
 #[cfg(test)]
 mod meetings;

@@ -1,9 +1,22 @@
 //! The intersection of tags, as calls.
 
+use crate::texts::repeated;
 use sexpr_core::{Doc, encode};
 use spki_tag::{MeetFault, Tag};
 use std::alloc::{AllocError, Global};
 use std::test::Fail;
+
+/// Whether two tags are too large to meet: the texts are canonical.
+fn are_too_large(alloc: Global, one: &[u8], other: &[u8]) -> Result<bool, Fail> {
+    let first = Doc::open(alloc, one)?;
+    let second = Doc::open(alloc, other)?;
+    let a = Tag::of(alloc, &first.top())?;
+    let b = Tag::of(alloc, &second.top())?;
+    match a.meet(alloc, &b) {
+        Ok(_) => Ok(false),
+        Err(fault) => Ok(fault == MeetFault::TooLarge),
+    }
+}
 
 /// What two tags leave together, as written: the texts are canonical.
 fn met(alloc: Global, one: &[u8], other: &[u8]) -> Result<Vec<u8>, Fail> {
@@ -155,36 +168,6 @@ fn met_tags(rt: HostRuntime) -> Result<(), Fail> {
 }
 
 #[test]
-fn order_of_sets(rt: HostRuntime) -> Result<(), Fail> {
-    let table: [(&[u8], &[u8], &[u8]); 4] = [
-        (
-            b"(1:*3:set1:b1:a(1:*6:prefix1:a))",
-            b"(1:*3:set1:a1:b2:ab)",
-            b"(1:*3:set1:b1:a1:a2:ab)",
-        ),
-        (
-            b"(1:*3:set(1:f1:x)(1:g)(1:f))",
-            b"(1:*3:set(1:f(1:*6:prefix1:x))(1:f1:y))",
-            b"(1:*3:set(1:f1:x)(1:f(1:*6:prefix1:x))(1:f1:y))",
-        ),
-        (
-            b"(1:*3:set1:a1:a)",
-            b"(1:*3:set1:a1:a)",
-            b"(1:*3:set1:a1:a1:a1:a)",
-        ),
-        (
-            b"(1:*3:set1:a(1:*6:prefix1:b))",
-            b"(1:*3:set1:a(1:*5:range5:alpha2:ge1:c))",
-            b"1:a",
-        ),
-    ];
-    for (one, other, both) in table {
-        assert!(rt; met(rt.alloc(), one, other)?.as_slice() == both);
-    }
-    Ok(())
-}
-
-#[test]
 fn prefixes_as_ranges(rt: HostRuntime) -> Result<(), Fail> {
     let table: [(&[u8], &[u8], &[u8]); 5] = [
         (
@@ -234,80 +217,34 @@ fn product_limit(rt: HostRuntime) -> Result<(), Fail> {
     let most = names_below(alloc, 999)?;
     assert!(rt; met(alloc, &most, &most)?.as_slice() == most.as_slice());
     let more = names_below(alloc, 1000)?;
-    let document = Doc::open(alloc, &more)?;
-    let tag = Tag::of(alloc, &document.top())?;
-    assert_eq!(rt; tag.nodes(), 1001);
-    match tag.meet(alloc, &tag) {
-        Ok(_) => assert!(rt; false),
-        Err(fault) => assert!(rt; fault == MeetFault::TooLarge),
-    }
+    assert!(rt; are_too_large(alloc, &more, &more)?);
     Ok(())
 }
 
-/// Members of the sets that are met below.
-const MEMBERS: [&[u8]; 7] = [
-    b"1:a",
-    b"2:ab",
-    b"(1:*6:prefix1:a)",
-    b"(1:*5:range5:alpha2:ge2:ab)",
-    b"(1:f)",
-    b"(1:f1:a)",
-    b"(1:g(1:*3:set1:a1:b))",
-];
-
-/// A set of these members as it is written in normal form: none is `(* set)`, one is itself.
-fn set_of(alloc: Global, members: &[Vec<u8>]) -> Result<Vec<u8>, AllocError> {
-    match members {
-        [] => Vec::from_slice(alloc, b"(1:*3:set)"),
-        [only] => only.clone(),
-        _ => {
-            let mut text = Vec::from_slice(alloc, b"(1:*3:set")?;
-            for member in members {
-                text.extend_from_slice(member)?;
-            }
-            text.push(b')')?;
-            Ok(text)
-        }
-    }
-}
-
-/// The members with a number: none, one or two of those above.
-fn some_members(alloc: Global, number: usize) -> Result<Vec<Vec<u8>>, AllocError> {
-    let mut members = Vec::new(alloc);
-    if number > 0 && number <= 7 {
-        members.push(Vec::from_slice(alloc, MEMBERS[number - 1])?)?;
-    }
-    if number > 7 {
-        members.push(Vec::from_slice(alloc, MEMBERS[(number - 8) / 7 % 7])?)?;
-        members.push(Vec::from_slice(alloc, MEMBERS[(number - 8) % 7])?)?;
-    }
-    Ok(members)
-}
-
-/// What sets leave together, pair by pair.
-fn met_in_pairs(alloc: Global, ones: &[Vec<u8>], others: &[Vec<u8>]) -> Result<Vec<u8>, Fail> {
-    let mut results = Vec::new(alloc);
-    for one in ones {
-        for other in others {
-            let both = met(alloc, one, other)?;
-            if both.as_slice() != b"(1:*3:set)".as_slice() {
-                results.push(both)?;
-            }
-        }
-    }
-    Ok(set_of(alloc, &results)?)
+/// A list of so many strings `x`, which has one node more.
+fn list_of(alloc: Global, count: usize) -> Result<Vec<u8>, AllocError> {
+    let mut text = repeated(alloc, b"(", 1, b"1:x", count)?;
+    text.push(b')')?;
+    Ok(text)
 }
 
 #[test]
-fn pairs_of_sets(rt: HostRuntime) -> Result<(), Fail> {
+fn limits(rt: HostRuntime) -> Result<(), Fail> {
     let alloc = rt.alloc();
-    for i in 0..57 {
-        for j in 0..57 {
-            let ones = some_members(alloc, i)?;
-            let others = some_members(alloc, j)?;
-            let both = met(alloc, &set_of(alloc, &ones)?, &set_of(alloc, &others)?)?;
-            assert!(rt; both.as_slice() == met_in_pairs(alloc, &ones, &others)?.as_slice());
-        }
-    }
+    let middle = list_of(alloc, 999)?;
+    assert!(rt; met(alloc, &middle, &middle)?.as_slice() == middle.as_slice());
+    let most = list_of(alloc, 1023)?;
+    let less = list_of(alloc, 975)?;
+    assert!(rt; met(alloc, &most, &less)?.as_slice() == most.as_slice());
+    assert!(rt; are_too_large(alloc, &most, &list_of(alloc, 976)?)?);
+    Ok(())
+}
+
+#[test]
+fn nested_tags(rt: HostRuntime) -> Result<(), Fail> {
+    let alloc = rt.alloc();
+    let mut nested = repeated(alloc, b"(1:f(1:*3:set1:a", 32, b"1:b", 1)?;
+    nested.extend_from_slice(&repeated(alloc, b"))", 32, b"", 0)?)?;
+    assert!(rt; met(alloc, &nested, &nested)?.as_slice() == nested.as_slice());
     Ok(())
 }
