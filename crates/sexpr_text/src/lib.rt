@@ -1,4 +1,4 @@
-//! S-expressions in advanced form (RFC 9804, section 6.3), read and written.
+//! S-expressions in advanced form (RFC 9804, section 6.3), read and written, and texts of any form, read and converted.
 #![tactic(auto)]
 
 mod converter;

@@ -52,7 +52,8 @@ pub fn read_advanced(alloc: Global, text: &[u8]) -> Result<Sexp, FormFault>
     Ok(tree)
 }
 
-/// Reads a text in the transport form if its first octet past whitespace is an opening brace, and else in advanced form.
+/// Reads a text in the transport form if its first octet past whitespace is an opening brace, and else in advanced form,
+/// with the refusals of `unwrap_braces` and of `read_advanced`.
 pub fn read_any(alloc: Global, text: &[u8]) -> Result<Sexp, FormFault>
     ensures read { IfOk result (λ tree. IsTextWithin text.now (sexp_value tree)) }
     ensures only { (v : Value) → IsTextWithin text.now v → IsOkUnless result FormFault.Memory }

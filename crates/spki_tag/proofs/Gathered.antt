@@ -6,7 +6,8 @@ use Rattle.spki_tag.specs.Request as request
 use Rattle.spki_tag.specs.Request.{Request, Requests, IsHead}
 use Rattle.spki_tag.specs.Tag.{Tag, Tags, tags, star, string, prefix, range, list, set, none, more, IsTag, AreTags, contains, contain_each, some_contains, nodes, nodes_all, is_nothing, is_set_or_star, is_none_or_many, is_normal, each_normal, most_nodes, IsNormalTag}
 use Rattle.spki_tag.specs.Meet.{items, gather, nothing, has_nothing}
-use Rattle.spki_tag.specs.NormalForm.{IsNormalOf, AreNormalOf, AreNormal, is_star, in_place}
+use Rattle.spki_tag.specs.NormalForm.{IsNormalOf, AreNormalOf, AreNormal, is_star}
+use Rattle.spki_tag.specs.Index.{members as in_place}
 use Rattle.spki_tag.proofs.Exact.{second_true, or_false, and_false, append-exact, gather-exact, tags-items, not_barred, its_normal, rest_normal, has_nothing-none}
 use Rattle.spki_tag.proofs.Bounds.{append-nodes, gather-le}
 

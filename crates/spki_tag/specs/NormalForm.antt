@@ -2,7 +2,6 @@
 use Rattle.std.specs.Prelude.{◌≡◌, ◌≤◌, Bool, true, false, List, [], ◌∷◌}
 use Rattle.spki_tag.specs.Request.{Request}
 use Rattle.spki_tag.specs.Tag.{Tag, star, string, prefix, range, list, set, IsTag, contains, nodes, is_normal}
-use Rattle.spki_tag.specs.Meet.{items}
 
 -- A tag in normal form that contains the same requests as w and has no more nodes.
 pub record IsNormalOf (w t : Tag) : Type 0 where
@@ -31,12 +30,3 @@ is_star (prefix octets) = false
 is_star (range ordering low up) = false
 is_star (list head further) = false
 is_star (set members) = false
-
--- what stands for a tag among the members of a set: its members, if it is a set
-abbrev pub in_place : Tag → List Tag
-in_place star = star ∷ []
-in_place (string octets) = string octets ∷ []
-in_place (prefix octets) = prefix octets ∷ []
-in_place (range ordering low up) = range ordering low up ∷ []
-in_place (list head further) = list head further ∷ []
-in_place (set members) = items members

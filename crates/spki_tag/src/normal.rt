@@ -4,7 +4,8 @@ ghost use Rattle.std.specs.Prelude.{◌≡◌, ◌+◌, ◌≤◌, ◌++◌, IfO
 ghost use Rattle.std.specs.List.{list_any};
 ghost use Rattle.spki_tag.specs.Request.{IsHead};
 ghost use Rattle.spki_tag.specs.Tag.{tags, list, set, is_nothing, nodes, most_nodes};
-ghost use Rattle.spki_tag.specs.NormalForm.{IsNormalOf, AreNormal, is_star, in_place};
+ghost use Rattle.spki_tag.specs.NormalForm.{IsNormalOf, AreNormal, is_star};
+ghost use Rattle.spki_tag.specs.Index.{members as in_place};
 
 use crate::tag::{Node, Tag};
 use std::alloc::{AllocError, Global};
