@@ -1,5 +1,6 @@
 #!/usr/bin/env python3
-"""Counts the instructions of `spki intersect` on pairs of sets, and prints how they grow with the members.
+"""Counts the instructions of `spki intersect` on pairs of sets, and prints how they grow with the members; and the peak
+memory of the largest answers, of 998,001 members.
 
 Instructions are counted by `perf stat`, or by valgrind where that isn't there; those of meeting two strings, which starting
 the program takes anyway, are taken off. Build the program first (`rt run` in crates/spki).
@@ -14,6 +15,7 @@ import tempfile
 PROGRAM = sys.argv[1] if len(sys.argv) > 1 else os.path.join(os.path.dirname(__file__), "..", "crates", "spki", "out", "spki")
 MEMBERS = [125, 250, 500, 999]
 MOST_RATIO = 12.0
+MOST_MEMORY = 256
 
 
 def string(octets):
@@ -56,6 +58,39 @@ def other_strings(n):
 def prefixes(n):
     """Prefixes, of which each may meet each: all pairs are tried."""
     return set_of([prefix(f"n{i:04}") for i in range(n)]), set_of([prefix(f"n{i:04}") for i in range(n)][::-1])
+
+
+def alike(member):
+    """The same member in each place: each meets each, and all are kept."""
+    return lambda n: (set_of([member] * n), set_of([member] * n))
+
+
+WIDEST = {
+    "strings": alike(string("a")),
+    "prefixes": alike(prefix("")),
+    "ranges": alike(group(*[string(word) for word in "* range alpha ge a l z".split()])),
+    "lists": alike(group(string("f"), string("a"))),
+}
+
+# A process counts the memory that it had before it became the program, so a small one starts it.
+STARTER = """
+import os, sys
+child = os.fork()
+if child == 0:
+    os.dup2(os.open(sys.argv[2], os.O_RDONLY), 0)
+    os.dup2(os.open(os.devnull, os.O_WRONLY), 1)
+    os.execv(sys.argv[1], [sys.argv[1], "intersect"])
+print(os.wait4(child, 0)[2].ru_maxrss)
+"""
+
+
+def peak(a, b):
+    """The most memory of one run, in MiB."""
+    with tempfile.NamedTemporaryFile() as text:
+        text.write(intersection(a, b))
+        text.flush()
+        out = subprocess.run([sys.executable, "-I", "-S", "-c", STARTER, PROGRAM, text.name], capture_output=True, check=True)
+    return int(out.stdout) / 1024
 
 
 def counted_by_perf(command, text):
@@ -101,6 +136,10 @@ def main():
         verdict = ("pass" if ratio <= MOST_RATIO else "miss") if bound else "all pairs"
         print(f"{make.__name__:<16}" + "".join(f"{c:>12,}" for c in counts) + f"   {ratio:.1f}   {verdict}")
     print(f"(instructions, by {count.__name__.split('_')[-1]}; at most {MOST_RATIO:.0f} times)")
+    for name, make in WIDEST.items():
+        memory = peak(*make(999 if name != "lists" else 332))
+        missed = missed or memory > MOST_MEMORY
+        print(f"most members of {name:<10} {memory:>7.1f} MiB   {'pass' if memory <= MOST_MEMORY else 'miss'}")
     sys.exit(1 if missed else 0)
 
 

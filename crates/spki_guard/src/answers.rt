@@ -15,8 +15,9 @@ use crate::intersection::{IntersectFault, intersect};
 use crate::lines::{
     push_no, push_refused_case, push_refused_form, push_refused_intersect, push_yes_entry,
 };
+use crate::printing::push_tag;
 use sexpr_core::{FormFault, wrap_octets};
-use sexpr_text::{Form, convert, print_advanced};
+use sexpr_text::{Form, convert};
 use spki_tag::Tag;
 use std::alloc::{AllocError, Global};
 
@@ -122,8 +123,9 @@ fn intersect_octets(alloc: Global, text: &[u8]) -> Result<Answer, AllocError>
 fn tag_line(alloc: Global, tag: &Tag) -> Result<Answer, AllocError>
     ensures { IfOk result (λ a. (a.verdict ≡ Verdict.Done) × (a.output.items ≡ adv (tag_value tag.now) ++ 10 ∷ [])) }
 {
-    let tree = tag.write(alloc)?;
-    done_line(print_advanced(alloc, &tree)?)
+    let mut line = Vec::new(alloc);
+    push_tag(alloc, &mut line, tag)?;
+    done_line(line)
 }
 
 /// The line of a refusal of an intersection.

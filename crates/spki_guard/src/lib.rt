@@ -9,6 +9,7 @@ mod intersection;
 mod lines;
 mod meters;
 mod parts;
+mod printing;
 mod reading;
 mod reply;
 mod running;

@@ -14,3 +14,4 @@ pub mod Meet
 pub mod NormalForm
 pub mod Index
 pub mod Places
+pub mod TagForms

@@ -3,6 +3,7 @@
 
 mod asking;
 mod fault;
+mod form;
 mod holding;
 mod index;
 mod laws;
@@ -20,6 +21,7 @@ mod tag;
 mod writing;
 
 pub use fault::{MeetFault, TagFault};
+pub use form::TagForm;
 pub use index::{Index, meet_apart, row_at_places};
 pub use laws::{one_request, one_tag, readings_agree};
 pub use meeting::{meet_bounded, meet_exact, prefix_is_range};

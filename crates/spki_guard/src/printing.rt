@@ -1,0 +1,58 @@
+//! Tags, written in advanced form member by member, so that no tree is made of a large one.
+
+ghost use Rattle.std.specs.Prelude.{◌≡◌, ◌++◌, OnOk};
+ghost use Rattle.sexpr_core.specs.Tree.{sexp_value};
+ghost use Rattle.sexpr_text.specs.Printed.{adv, adv_all};
+ghost use Rattle.spki_tag.specs.Tag.{tag_value, tag_values, tags};
+
+use sexpr_core::Sexp;
+use sexpr_text::print_advanced;
+use spki_tag::{Tag, TagForm};
+use std::alloc::{AllocError, Global};
+
+/// Puts a tree in advanced form behind what is written.
+fn push_tree(alloc: Global, out: &mut Vec<u8>, tree: &Sexp) -> Result<(), AllocError>
+    ensures { OnOk result (out.new.items ≡ out.old.items ++ adv (sexp_value tree.now)) }
+{
+    let text = print_advanced(alloc, tree)?;
+    out.extend_from_slice(&text)
+}
+
+/// Puts a tag, as it is written, in advanced form behind what is written.
+#[cycle(print)]
+pub fn push_tag(alloc: Global, out: &mut Vec<u8>, tag: &Tag) -> Result<(), AllocError>
+    ensures { OnOk result (out.new.items ≡ out.old.items ++ adv (tag_value tag.now)) }
+{
+    match tag.form() {
+        TagForm::Single => {
+            let tree = tag.write(alloc)?;
+            push_tree(alloc, out, &tree)
+        }
+        TagForm::List { head, further } => {
+            let head = Sexp::plain(alloc, head)?;
+            out.push(b'(')?;
+            push_tree(alloc, out, &head)?;
+            push_each(alloc, out, further)?;
+            out.push(b')')?;
+            Ok(())
+        }
+        TagForm::Set { members } => {
+            out.extend_from_slice(b"(* set")?;
+            push_each(alloc, out, members)?;
+            out.push(b')')?;
+            Ok(())
+        }
+    }
+}
+
+/// Puts each tag, with a space before it, behind what is written.
+#[cycle(print)]
+fn push_each(alloc: Global, out: &mut Vec<u8>, members: &[Tag]) -> Result<(), AllocError>
+    ensures { OnOk result (out.new.items ≡ out.old.items ++ adv_all 1 (tag_values (tags members.now))) }
+{
+    for member in members {
+        out.push(b' ')?;
+        push_tag(alloc, out, member)?;
+    }
+    Ok(())
+}
