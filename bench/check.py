@@ -6,14 +6,15 @@ Build the program first (`rt run` in crates/spki). Usage: bench/check.py [PROGRA
 import os
 import subprocess
 import sys
-import tempfile
 import time
+
+from memory import peak
 
 PROGRAM = sys.argv[1] if len(sys.argv) > 1 else os.path.join(os.path.dirname(__file__), "..", "crates", "spki", "out", "spki")
 SIZES = [64 * 1024, 256 * 1024, 1024 * 1024]
 RUNS = 7
 LIMIT_RATIO = 5.0
-LIMIT_MEMORY = 256
+LIMIT_MEMORY = 128
 
 
 def string(octets):
@@ -47,6 +48,29 @@ def many_entries(size):
     empty = len(case([entry("a", STAR)], string("ftp")))
     one = len(entry("b", STAR))
     return case([entry("b", STAR)] * ((size - empty) // one) + [entry("a", STAR)], string("ftp")), b"yes entry"
+
+
+def many_structures(size):
+    """Entries of names, of hashes and of windows, and the asking key's entry at the end."""
+    date = string("2024-01-01_00:00:00")
+    tag = group(string("tag"), STAR)
+    three = [
+        group(string("entry"), group(string("name"), key("b"), string("friends"), string("bob")), tag, group(string("propagate"))),
+        group(string("entry"), group(string("hash"), string("sha256"), string("d" * 32)), group(string("comment"), string("x")), tag),
+        group(string("entry"), key("b"), group(string("valid"), group(string("not-before"), date), group(string("not-after"), date)), tag),
+    ]
+    empty = len(case([entry("a", STAR)], string("ftp")))
+    return case(three * ((size - empty) // len(b"".join(three))) + [entry("a", STAR)], string("ftp")), b"yes entry"
+
+
+def many_certificates(size):
+    """A sequence of certificates with their signatures, of which the first has another digest."""
+    cert = group(string("cert"), group(string("issuer"), key("a")), group(string("subject"), key("b")), group(string("tag"), STAR))
+    pair = cert + group(string("signature"), group(string("hash"), string("sha256"), string("d" * 32)), key("a"), string("sig"))
+    whole = lambda items: group(
+        string("case"), group(string("acl"), entry("a", STAR)), group(string("accepted")), group(string("sequence"), *items),
+        group(string("key"), key("a")), group(string("request"), string("ftp")), group(string("at"), string("2024-01-01_00:00:00")))
+    return whole([pair] * ((size - len(whole([]))) // len(pair))), b"no"
 
 
 def many_members(size):
@@ -83,37 +107,16 @@ def run(text, wanted):
     return took
 
 
-# A process counts the memory that it had before it became the program, so a small one starts it.
-STARTER = """
-import os, sys
-child = os.fork()
-if child == 0:
-    os.dup2(os.open(sys.argv[2], os.O_RDONLY), 0)
-    os.dup2(os.open(os.devnull, os.O_WRONLY), 1)
-    os.execv(sys.argv[1], [sys.argv[1], "check"])
-print(os.wait4(child, 0)[2].ru_maxrss)
-"""
-
-
-def peak(text):
-    """The most memory of one run, in MiB."""
-    with tempfile.NamedTemporaryFile() as file:
-        file.write(text)
-        file.flush()
-        out = subprocess.run([sys.executable, "-I", "-S", "-c", STARTER, PROGRAM, file.name], capture_output=True, check=True)
-    return int(out.stdout) / 1024
-
-
 def main():
     worst_ratio, worst_memory = 0.0, 0.0
     print(f"{'case':<16}" + "".join(f"{size // 1024:>9} KiB" for size in SIZES) + "   ratios      peak")
-    for make in (many_entries, many_members, lists_in_lists, one_string, no_value):
+    for make in (many_entries, many_structures, many_certificates, many_members, lists_in_lists, one_string, no_value):
         times = []
         for size in SIZES:
             text, wanted = make(size)
             times.append(min(run(text, wanted) for _ in range(RUNS)))
         ratios = [b / a for a, b in zip(times, times[1:])]
-        memory = peak(make(SIZES[-1])[0])
+        memory = peak(PROGRAM, "check", make(SIZES[-1])[0])
         worst_ratio = max([worst_ratio] + ratios)
         worst_memory = max(worst_memory, memory)
         print(f"{make.__name__:<16}" + "".join(f"{t * 1000:>10.1f} ms" for t in times)

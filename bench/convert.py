@@ -13,6 +13,8 @@ import subprocess
 import sys
 import tempfile
 
+from memory import peak
+
 PROGRAM = sys.argv[1] if len(sys.argv) > 1 else os.path.join(os.path.dirname(__file__), "..", "crates", "spki", "out", "spki")
 PEER = "sexp-conv"
 FORMS = ("canonical", "advanced", "transport")
@@ -90,6 +92,7 @@ class Text:
     """A text in a file, from which the programs read it."""
 
     def __init__(self, octets):
+        self.octets = octets
         self.file = tempfile.NamedTemporaryFile()
         self.file.write(octets)
         self.file.flush()
@@ -111,24 +114,6 @@ class Text:
         return used.ru_utime + used.ru_stime
 
 
-# A process counts the memory that it had before it became the program, so a small one starts it.
-STARTER = """
-import os, sys
-child = os.fork()
-if child == 0:
-    os.dup2(os.open(sys.argv[3], os.O_RDONLY), 0)
-    os.dup2(os.open(os.devnull, os.O_WRONLY), 1)
-    os.execv(sys.argv[1], [sys.argv[1], sys.argv[2]])
-print(os.wait4(child, 0)[2].ru_maxrss)
-"""
-
-
-def peak(form, text):
-    """The most memory of one run, in MiB."""
-    command = [sys.executable, "-I", "-S", "-c", STARTER, PROGRAM, form, text.file.name]
-    return int(subprocess.run(command, capture_output=True, check=True).stdout) / 1024
-
-
 def ours(form):
     return [PROGRAM, form]
 
@@ -145,7 +130,7 @@ def measured(form, texts):
     for _ in range(RUNS):
         times[-1] = min(times[-1], texts[-1].seconds(ours(form)))
         other = min(other, texts[-1].seconds(theirs(form)))
-    return times, other, peak(form, texts[-1])
+    return times, other, peak(PROGRAM, form, texts[-1].octets)
 
 
 def target(name, worst, limit):

@@ -12,6 +12,8 @@ import subprocess
 import sys
 import tempfile
 
+from memory import peak
+
 PROGRAM = sys.argv[1] if len(sys.argv) > 1 else os.path.join(os.path.dirname(__file__), "..", "crates", "spki", "out", "spki")
 MEMBERS = [125, 250, 500, 999]
 MOST_RATIO = 12.0
@@ -72,26 +74,6 @@ WIDEST = {
     "lists": alike(group(string("f"), string("a"))),
 }
 
-# A process counts the memory that it had before it became the program, so a small one starts it.
-STARTER = """
-import os, sys
-child = os.fork()
-if child == 0:
-    os.dup2(os.open(sys.argv[2], os.O_RDONLY), 0)
-    os.dup2(os.open(os.devnull, os.O_WRONLY), 1)
-    os.execv(sys.argv[1], [sys.argv[1], "intersect"])
-print(os.wait4(child, 0)[2].ru_maxrss)
-"""
-
-
-def peak(a, b):
-    """The most memory of one run, in MiB."""
-    with tempfile.NamedTemporaryFile() as text:
-        text.write(intersection(a, b))
-        text.flush()
-        out = subprocess.run([sys.executable, "-I", "-S", "-c", STARTER, PROGRAM, text.name], capture_output=True, check=True)
-    return int(out.stdout) / 1024
-
 
 def counted_by_perf(command, text):
     done = subprocess.run(["perf", "stat", "-x", ",", "-e", "instructions:u"] + command, stdin=text, capture_output=True)
@@ -137,7 +119,7 @@ def main():
         print(f"{make.__name__:<16}" + "".join(f"{c:>12,}" for c in counts) + f"   {ratio:.1f}   {verdict}")
     print(f"(instructions, by {count.__name__.split('_')[-1]}; at most {MOST_RATIO:.0f} times)")
     for name, make in WIDEST.items():
-        memory = peak(*make(999 if name != "lists" else 332))
+        memory = peak(PROGRAM, "intersect", intersection(*make(999 if name != "lists" else 332)))
         missed = missed or memory > MOST_MEMORY
         print(f"most members of {name:<10} {memory:>7.1f} MiB   {'pass' if memory <= MOST_MEMORY else 'miss'}")
     sys.exit(1 if missed else 0)

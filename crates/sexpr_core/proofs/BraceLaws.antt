@@ -1,19 +1,26 @@
 -- What stands in braces stands there in one way.
-use Rattle.std.proofs.Common.{◌≡◌, ℕ, ◌+◌, ◌-◌, ◌*◌, ◌/◌, ◌%◌, ◌≤◌, Bool, not, false, Ok, List, [], ◌∷◌, ◌++◌, length, drop, replicate, refl, sym, ap, subst, ◌∙◌, arith, length-append}
-use Rattle.std.proofs.lemmas.List.{length-replicate}
+use Rattle.std.proofs.Common.{◌≡◌, ℕ, zero, suc, ◌+◌, ◌-◌, ◌*◌, ◌/◌, ◌%◌, ◌<◌, ◌≤◌, Bool, not, false, Ok, List, [], ◌∷◌, ◌++◌, length, take, drop, replicate, refl, sym, ap, subst, ◌∙◌, arith, append_assoc, length-append, length-drop}
+use Rattle.std.proofs.lemmas.List.{length-replicate, length-take-le}
 use Rattle.std.proofs.lemmas.List.Sums.{length-filter, count_by-le-length}
 use Rattle.base64.specs.Rfc4648.{encode_symbols}
 use Rattle.base64.specs.Engines.{standard}
-use Rattle.base64.specs.GeneralPurpose.{encode_of, decode_of, engine_symbols}
+use Rattle.base64.specs.GeneralPurpose.{encode_of, decode_of, engine_symbols, IsBytes}
 use Rattle.base64.proofs.RoundTrip.{length-encode_symbols}
 use Rattle.base64.proofs.EngineFacts.{decode_of-encode_of}
-use Rattle.sexpr_core.specs.Value.{Value, canon, IsWithinLimits}
+use Rattle.sexpr_core.specs.declared.fault.FormFault.{FormFault}
+use Rattle.sexpr_core.specs.declared.fault.FormFault.TheVariants.{TooLong, TooDeep, Short, Bad, Trailing, Memory}
+use Rattle.sexpr_core.specs.Value.{Value, canon, plain, verbatim, decimal, IsWithinLimits}
 use Rattle.sexpr_core.specs.Reading.{StandsAt}
-use Rattle.sexpr_core.specs.Spaces.{is_whitespace, visible, Skips}
-use Rattle.sexpr_core.specs.Gathering.{is_body_octet}
-use Rattle.sexpr_core.specs.Braces.{IsBase64, IsBracedWithin, ReadsBase64}
-use Rattle.sexpr_core.proofs.Base64Laws.{missing_is, body_octets}
-use Rattle.sexpr_core.proofs.Gathered.{one_body}
+use Rattle.sexpr_core.specs.Spaces.{is_whitespace, AreSpaces, visible, Skips}
+use Rattle.sexpr_core.specs.Gathering.{is_body_octet, GathersTo, BodyAt}
+use Rattle.sexpr_core.specs.Braces.{IsBase64, Braced, IsBraced, IsBracedWithin, ReadsBase64, PackedAt, transport}
+use Rattle.sexpr_core.specs.Bounds.{IsFaultAt, RefusesBody, IsTrailingBehind}
+use Rattle.sexpr_core.specs.BraceRefusal.{RefusesBraces}
+use Rattle.sexpr_core.specs.Prefix.{Begins, StopsAt, RefusesPart}
+use Rattle.sexpr_core.proofs.Agreeing.{Agree, agree, spelled_too, stands_too, skips_too, long_too, front_is}
+use Rattle.sexpr_core.proofs.Prefix.{RefusesPart-less}
+use Rattle.sexpr_core.proofs.Base64Laws.{missing_is, body_octets, packed_encoded}
+use Rattle.sexpr_core.proofs.Gathered.{one_body, same_body, gathers_to_too}
 use Rattle.sexpr_core.proofs.SpaceLaws.{one_end}
 
 encoded_once : (a b : List ℕ) → encode_of standard a ≡ encode_of standard b → decode_of standard (encode_of standard a) ≡ Ok a
@@ -33,37 +40,206 @@ read_once text at mark to a body rest b r other packed e =
     (one_packed (visible body) a b (subst (λ s. IsBase64 (visible s) a) p.0 r.packed) packed, p.2)
 
 -- the brace behind the whitespace
-pub opening : (text : List ℕ) (begin : ℕ) (v : Value) → Skips text 0 begin → (b : IsBracedWithin text v) → drop begin text ≡ 123 ∷ (b.braced.body ++ 125 ∷ b.braced.after)
+pub opening : (text : List ℕ) (begin : ℕ) (v : Value) → Skips text 0 begin → (b : Braced text v) → drop begin text ≡ 123 ∷ (b.body ++ 125 ∷ b.after)
 opening text begin v s b =
-    (one_end s.spaces b.braced.before (drop begin text) (123 ∷ (b.braced.body ++ 125 ∷ b.braced.after)) s.are_spaces b.braced.spaces_before s.ends refl
-    (sym s.spelled ∙ b.braced.parts)).1
+    (one_end s.spaces b.before (drop begin text) (123 ∷ (b.body ++ 125 ∷ b.after)) s.are_spaces b.spaces_before s.ends refl
+    (sym s.spelled ∙ b.parts)).1
 
-pub no_opening : (text : List ℕ) (begin : ℕ) (v : Value) → Skips text 0 begin → drop begin text ≡ [] → IsBracedWithin text v → ⊥
-no_opening text begin v s e b = let p = opening text begin v s b in let q : 123 ∷ (b.braced.body ++ 125 ∷ b.braced.after) ≡ [] = sym p ∙ e in cc
+pub no_opening : (text : List ℕ) (begin : ℕ) (v : Value) → Skips text 0 begin → drop begin text ≡ [] → Braced text v → ⊥
+no_opening text begin v s e b = let p = opening text begin v s b in let q : 123 ∷ (b.body ++ 125 ∷ b.after) ≡ [] = sym p ∙ e in cc
 
-pub opens : (text : List ℕ) (begin c : ℕ) (v : Value) → Skips text 0 begin → StandsAt text begin c → IsBracedWithin text v → c ≡ 123
+pub opens : (text : List ℕ) (begin c : ℕ) (v : Value) → Skips text 0 begin → StandsAt text begin c → Braced text v → c ≡ 123
 opens text begin c v s stands b =
-    let q : c ∷ drop (begin + 1) text ≡ 123 ∷ (b.braced.body ++ 125 ∷ b.braced.after) = sym stands.spelled ∙ opening text begin v s b in cc
+    let q : c ∷ drop (begin + 1) text ≡ 123 ∷ (b.body ++ 125 ∷ b.after) = sym stands.spelled ∙ opening text begin v s b in cc
 
-pub body_is : (text : List ℕ) (begin c : ℕ) (v : Value) → Skips text 0 begin → StandsAt text begin c → (b : IsBracedWithin text v)
-    → drop (begin + 1) text ≡ b.braced.body ++ 125 ∷ b.braced.after
+pub body_is : (text : List ℕ) (begin c : ℕ) (v : Value) → Skips text 0 begin → StandsAt text begin c → (b : Braced text v)
+    → drop (begin + 1) text ≡ b.body ++ 125 ∷ b.after
 body_is text begin c v s stands b =
-    let q : c ∷ drop (begin + 1) text ≡ 123 ∷ (b.braced.body ++ 125 ∷ b.braced.after) = sym stands.spelled ∙ opening text begin v s b in cc
+    let q : c ∷ drop (begin + 1) text ≡ 123 ∷ (b.body ++ 125 ∷ b.after) = sym stands.spelled ∙ opening text begin v s b in cc
 
 pub visible_le : (xs : List ℕ) → length (visible xs) ≤ length xs
 visible_le xs =
     let shown : ℕ → Bool = λ c. not (is_whitespace c) in
     omega (arith, length-filter shown xs, count_by-le-length shown xs)
 
-pub braced_limits : (text : List ℕ) (v : Value) → IsBracedWithin text v → IsWithinLimits v
-braced_limits text v b =
-    let p = b.braced.packed in
-    let body = b.braced.body in
-    let n = length (canon v) in
+-- octets are hardly more than the symbols and whitespace that they stand in
+pub packed_short : (body octets : List ℕ) → IsBase64 (visible body) octets → length octets ≤ length body + 1
+packed_short body octets p =
+    let n = length octets in
     let k = (3 - n % 3) % 3 in
-    let encoded : length (encode_of standard (canon v)) ≡ (4 * n + 2) / 3 + k =
-    length-append (encode_symbols (engine_symbols standard) (canon v)) (replicate k 61) ∙ ap (λ m. m + length (replicate {A = ℕ} k 61)) (length-encode_symbols (engine_symbols standard) (canon v)) ∙ ap (λ m. (4 * n + 2) / 3 + m) (length-replicate {A = ℕ} k 61) in
-    record {
-      short = omega (arith, b.short, p.few, encoded, ap length p.encoded, length-append (visible body) (replicate p.missing 61), length-replicate {A = ℕ} p.missing 61, visible_le body, ap length b.braced.parts, length-append b.braced.before (123 ∷ (body ++ 125 ∷ b.braced.after)), length-append body (125 ∷ b.braced.after));
-      shallow = b.shallow;
-    }
+    let encoded : length (encode_of standard octets) ≡ (4 * n + 2) / 3 + k =
+    length-append (encode_symbols (engine_symbols standard) octets) (replicate k 61) ∙ ap (λ m. m + length (replicate {A = ℕ} k 61)) (length-encode_symbols (engine_symbols standard) octets) ∙ ap (λ m. (4 * n + 2) / 3 + m) (length-replicate {A = ℕ} k 61) in
+    omega (arith, p.few, encoded, ap length p.encoded, length-append (visible body) (replicate p.missing 61), length-replicate {A = ℕ} p.missing 61, visible_le body)
+
+pub braced_limits : (text : List ℕ) (v : Value) → IsBracedWithin text v → IsWithinLimits v
+braced_limits text v b = record {
+  short = omega (arith, b.short, packed_short b.braced.body (canon v) b.braced.packed, ap length b.braced.parts, length-append b.braced.before (123 ∷ (b.braced.body ++ 125 ∷ b.braced.after)), length-append b.braced.body (125 ∷ b.braced.after));
+  shallow = b.shallow;
+}
+
+pub read_short : (text : List ℕ) (at mark to : ℕ) (octets : List ℕ) → length text ≤ 1048576 → ReadsBase64 text at mark octets to → length octets ≤ 1048576
+read_short text at mark to octets few r =
+    omega (arith, packed_short r.body octets r.packed, ap length r.spelled, length-append r.body (mark ∷ drop to text), length-drop at text)
+
+-- ---- refusals
+
+reads_too : (text other : List ℕ) (k at mark to : ℕ) (octets : List ℕ) → Agree text other k → to ≤ k + 1 → ReadsBase64 text at mark octets to
+    → ReadsBase64 other at mark octets to
+reads_too text other k at mark to octets a le r = record {
+  body = r.body;
+  spelled =
+      spelled_too text other k at to (r.body ++ mark ∷ []) a (omega (arith, r.goes_on)) le (r.spelled ∙ sym (append_assoc r.body (mark ∷ []) (drop to text)))
+      ∙ append_assoc r.body (mark ∷ []) (drop to other);
+  packed = r.packed;
+  goes_on = r.goes_on;
+  within = omega (arith, long_too text other k a);
+}
+
+packed_stops : (text : List ℕ) (at mark to : ℕ) (symbols : List ℕ) → GathersTo text at mark symbols to → is_body_octet mark ≡ false
+    → ((octets : List ℕ) → IsBase64 symbols octets → ⊥) → StopsAt (PackedAt at mark) text at (to - 1)
+packed_stops text at mark to symbols g apart never = record {
+  behind = omega (arith, g.goes_on);
+  within = omega (arith, g.goes_on, g.within);
+  none = λ b.
+      let other = take (to - 1 + 1) text ++ b.rest in
+      let w : PackedAt at mark other = b.whole in
+      let a : Agree text other (to - 1) = agree text (to - 1) b.rest (omega (arith, g.goes_on, g.within)) in
+      let same = same_body other at mark to symbols w.body w.rest (gathers_to_too text other (to - 1) at mark to symbols a (omega (arith, g.goes_on)) g) apart
+      (body_octets w.body w.octets w.packed) w.spelled in
+      never w.octets (subst (λ s. IsBase64 s w.octets) (sym same.0) w.packed);
+}
+
+-- what is gathered is no base64
+pub packed_refused : (text : List ℕ) (at mark to : ℕ) (symbols : List ℕ) (fault : FormFault) → GathersTo text at mark symbols to → is_body_octet mark ≡ false
+    → IsFaultAt (to - 1) fault → ((octets : List ℕ) → IsBase64 symbols octets → fault ≡ Memory) → RefusesPart (PackedAt at mark) text at fault
+packed_refused text at mark to symbols TooLong g apart is only = is
+packed_refused text at mark to symbols TooDeep g apart is only = is
+packed_refused text at mark to symbols Short g apart is only = tt
+packed_refused text at mark to symbols (Bad k) g apart is only =
+    subst (λ n. StopsAt (PackedAt at mark) text at n) (sym is)
+    (packed_stops text at mark to symbols g apart (λ octets b. let e : Bad k ≡ Memory = only octets b in cc))
+packed_refused text at mark to symbols (Trailing k) g apart is only = is
+packed_refused text at mark to symbols Memory g apart is only = tt
+
+-- what is gathered is no body
+pub body_not_packed : (text : List ℕ) (at mark : ℕ) (fault : FormFault) → RefusesPart (BodyAt at mark) text at fault → RefusesPart (PackedAt at mark) text at fault
+body_not_packed text at mark fault h =
+    RefusesPart-less (BodyAt at mark) (PackedAt at mark) text at fault
+    (λ t w. record { body = w.body; rest = w.rest; octets = body_octets w.body w.octets w.packed; spelled = w.spelled }) h
+
+-- another first octet than a brace
+pub not_opened : (text : List ℕ) (begin c : ℕ) → Skips text 0 begin → StandsAt text begin c → (c ≡ 123 → ⊥) → RefusesBraces text (Bad begin)
+not_opened text begin c s stands apart = (
+  stands.within,
+  λ b.
+      let other = take (begin + 1) text ++ b.rest in
+      let w : IsBraced other = b.whole in
+      let a : Agree text other begin = agree text begin b.rest stands.within in
+      apart (opens other begin c w.value (skips_too text other begin 0 begin a (omega arith) s) (stands_too text other begin begin c a (omega arith) stands) w.braced),
+)
+
+-- a body that is no base64
+pub body_missed : (text : List ℕ) (begin c : ℕ) (fault : FormFault) → Skips text 0 begin → StandsAt text begin c
+    → RefusesPart (PackedAt (begin + 1) 125) text (begin + 1) fault → RefusesBraces text fault
+body_missed text begin c TooLong s stands h = absurd h
+body_missed text begin c TooDeep s stands h = absurd h
+body_missed text begin c Short s stands h = tt
+body_missed text begin c (Bad k) s stands h = (
+  h.within,
+  λ b.
+      let other = take (k + 1) text ++ b.rest in
+      let w : IsBraced other = b.whole in
+      let a : Agree text other k = agree text k b.rest h.within in
+      let e = body_is other begin c w.value (skips_too text other k 0 begin a (omega (arith, h.behind)) s) (stands_too text other k begin c a (omega (arith, h.behind)) stands) w.braced in
+      h.none (record { rest = b.rest; whole = record { body = w.braced.body; rest = w.braced.after; octets = canon w.value; spelled = e; packed = w.braced.packed } }),
+)
+body_missed text begin c (Trailing k) s stands h = absurd h
+body_missed text begin c Memory s stands h = tt
+
+-- a body of octets that are no canonical text
+pub body_unread : (text : List ℕ) (begin c to : ℕ) (octets : List ℕ) (fault : FormFault) → Skips text 0 begin → StandsAt text begin c → c ≡ 123
+    → ReadsBase64 text (begin + 1) 125 octets to → RefusesBody octets (to - 1) fault → RefusesBraces text fault
+body_unread text begin c to octets TooLong s stands e r h = absurd h
+body_unread text begin c to octets TooDeep s stands e r h = record {
+  before = s.spaces;
+  body = r.body;
+  after = drop to text;
+  octets = octets;
+  parts = s.spelled ∙ ap (λ t. s.spaces ++ t) (stands.spelled ∙ ap (λ t. c ∷ t) r.spelled ∙ ap (λ k. k ∷ (r.body ++ 125 ∷ drop to text)) e);
+  spaces_before = s.are_spaces;
+  packed = r.packed;
+  deep = h;
+}
+body_unread text begin c to octets Short s stands e r h = tt
+body_unread text begin c to octets (Bad k) s stands e r h =
+    let last : k ≡ to - 1 = h.0 in
+    let lt : k < length text = omega (arith, last, r.goes_on, r.within) in (
+      lt,
+      λ b.
+          let other = take (k + 1) text ++ b.rest in
+          let w : IsBraced other = b.whole in
+          let a : Agree text other k = agree text k b.rest lt in
+          let f = body_is other begin c w.value (skips_too text other k 0 begin a (omega (arith, last, r.goes_on)) s) (stands_too text other k begin c a (omega (arith, last, r.goes_on)) stands) w.braced in
+          let once = read_once other (begin + 1) 125 to octets w.braced.body w.braced.after (canon w.value)
+          (reads_too text other k (begin + 1) 125 to octets a (omega (arith, last, r.goes_on)) r) refl w.braced.packed f in
+          h.1 w.value once.0,
+    )
+body_unread text begin c to octets (Trailing k) s stands e r h = absurd h
+body_unread text begin c to octets Memory s stands e r h = tt
+
+-- an octet behind the closing brace and whitespace
+pub braced_before : (text : List ℕ) (begin c to : ℕ) (octets : List ℕ) (fault : FormFault) → length text ≤ 1048576 → Skips text 0 begin → StandsAt text begin c → c ≡ 123
+    → ReadsBase64 text (begin + 1) 125 octets to → ((v : Value) × (octets ≡ canon v) × IsWithinLimits v) → IsTrailingBehind text to fault → RefusesBraces text fault
+braced_before text begin c to octets TooLong few s stands e r v h = absurd h
+braced_before text begin c to octets TooDeep few s stands e r v h = absurd h
+braced_before text begin c to octets Short few s stands e r v h = tt
+braced_before text begin c to octets (Bad k) few s stands e r v h = absurd h
+braced_before text begin c to octets (Trailing k) few s stands e r v h =
+    let behind : Skips text to k = h.1 in
+    let front = s.spaces ++ 123 ∷ (r.body ++ 125 ∷ behind.spaces) in
+    let whole : text ≡ front ++ drop k text =
+    s.spelled ∙ ap (λ t. s.spaces ++ t) (stands.spelled ∙ ap (λ n. n ∷ drop (begin + 1) text) e ∙ ap (λ t. 123 ∷ t) (r.spelled ∙ ap (λ t. r.body ++ 125 ∷ t) behind.spelled)) ∙ simp append_assoc in
+    let taken : take k text ≡ front = front_is text front k whole behind.within in (
+      h.0,
+      (
+        v.0,
+        record {
+          braced = record {
+            before = s.spaces;
+            body = r.body;
+            after = behind.spaces;
+            parts = taken;
+            spaces_before = s.are_spaces;
+            packed = subst (IsBase64 (visible r.body)) v.1 r.packed;
+            spaces_after = behind.are_spaces;
+          };
+          short = omega (arith, length-take-le k text behind.within, behind.within);
+          shallow = v.2.shallow;
+        },
+      ),
+    )
+braced_before text begin c to octets Memory few s stands e r v h = tt
+
+-- whitespace begins a text in braces
+empty_octets : IsBytes (canon (plain []))
+unfolding verbatim decimal
+empty_octets zero = omega arith
+empty_octets (suc zero) = omega arith
+empty_octets (suc (suc i)) = omega arith
+
+pub spaces_begin : (xs : List ℕ) → AreSpaces xs → Begins IsBraced xs
+spaces_begin xs all = record {
+  rest = transport (plain []);
+  whole = record {
+    value = plain [];
+    braced = record {
+      before = xs;
+      body = encode_of standard (canon (plain []));
+      after = [];
+      parts = refl;
+      spaces_before = all;
+      packed = packed_encoded (canon (plain [])) empty_octets;
+      spaces_after = tt;
+    };
+  };
+}

@@ -9,7 +9,7 @@ use Rattle.sexpr_core.specs.Refusal.{Refused}
 use Rattle.sexpr_core.proofs.Faults.{length_zero, verbatim_fault, plain_fault}
 use Rattle.sexpr_core.proofs.Whole.{refused}
 
--- the examples of RFC 9804, section 6.1
+-- the examples of RFC 9804, section 6.2
 issuer : canon (group (plain (codes "issuer") ∷ plain (codes "bob") ∷ [])) ≡ codes "(6:issuer3:bob)"
 unfolding verbatim decimal
 issuer = refl

@@ -6,10 +6,10 @@ use Rattle.sexpr_core.specs.declared.fault.FormFault.{FormFault}
 use Rattle.sexpr_core.specs.declared.fault.FormFault.TheVariants.{TooDeep, Short, Bad}
 use Rattle.sexpr_core.specs.Value.{Value, Values, string, list, none, decimal, verbatim, canon, canons, depths}
 use Rattle.sexpr_core.specs.Prefix.{Front, Barred, FaultAt}
-use Rattle.sexpr_core.specs.Texts.{IsCanon, IsCanonWithin, IsMembers, IsMembersWithin, IsFilled, IsFilledWithin, IsVerbatim, IsHinted, IsClosing, IsLength}
+use Rattle.sexpr_core.specs.Texts.{IsCanon, IsCanonWithin, IsMembers, IsMembersWithin, IsVerbatim, IsClosing, IsLength}
 use Rattle.sexpr_core.proofs.Prefix.{FaultAt-head, FaultAt-tail, FaultAt-from, FaultAt-first, Front-none}
 use Rattle.sexpr_core.proofs.Decimal.{IsDigit, AreDigits-decimal, parts_agree, zero_ends, decimal_starts}
-use Rattle.sexpr_core.proofs.Texts.{verbatim_is, verbatim_differs, colon_no_digit, Opens-verbatim, Opens-hinted, Behind-hint, Behind-closing, Behind-bracket, Behind-bracket_within, From-digit, From-digit_within, Behind-members, Behind-members_within, Behind-open, Behind-open_within, closed_within, From-filled, From-filled_within, Opens-filled, Opens-filled_within}
+use Rattle.sexpr_core.proofs.Texts.{IsFilled, IsFilledWithin, IsHinted, verbatim_is, verbatim_differs, colon_no_digit, Opens-verbatim, Opens-hinted, Behind-hint, Behind-closing, Behind-bracket, Behind-bracket_within, From-digit, From-digit_within, Behind-members, Behind-members_within, Behind-open, Behind-open_within, closed_within, From-filled, From-filled_within, Opens-filled, Opens-filled_within}
 
 some_append : (xs ys : List ℕ) → 0 < length ys → 0 < length (xs ++ ys)
 some_append xs ys h = omega (arith, length-append xs ys)

@@ -1,12 +1,23 @@
 -- A body in base64, octet by octet.
-use Rattle.std.proofs.Common.{◌≡◌, ℕ, ◌+◌, ◌≤◌, true, false, List, [], ◌∷◌, ◌++◌, length, drop, refl, sym, ap, ◌∙◌, append_assoc, append-nil, arith}
+use Rattle.std.proofs.Common.{◌≡◌, ℕ, ◌+◌, ◌≤◌, true, false, List, [], ◌∷◌, ◌++◌, length, take, drop, refl, sym, ap, subst, ◌∙◌, append_assoc, append-nil, arith}
 use Rattle.std.proofs.lemmas.List.Elements.{filter-append}
 use Rattle.sexpr_core.specs.declared.fault.FormFault.{FormFault}
 use Rattle.sexpr_core.specs.declared.fault.FormFault.TheVariants.{TooLong, TooDeep, Short, Bad, Trailing, Memory}
 use Rattle.sexpr_core.specs.Reading.{StandsAt}
 use Rattle.sexpr_core.specs.Spaces.{visible}
-use Rattle.sexpr_core.specs.Gathering.{is_body_octet, AreBodyOctets, IsNoBodyOctet, Gathers, GathersTo}
+use Rattle.sexpr_core.specs.Gathering.{is_body_octet, AreBodyOctets, IsNoBodyOctet, GathersTo, BodyAt}
+use Rattle.sexpr_core.specs.Prefix.{StopsAt, RefusesPart}
+use Rattle.sexpr_core.proofs.Agreeing.{Agree, agree, spelled_too, stands_too, long_too}
 use Rattle.sexpr_core.proofs.SpaceLaws.{all-append}
+
+-- a body's octets from one offset of a text up to another, and what was gathered of them
+pub record Gathers (text : List ℕ) (at : ℕ) (symbols : List ℕ) (to : ℕ) : Type 0 where
+  pub body : List ℕ
+  pub octets : AreBodyOctets body
+  pub spelled : drop at text ≡ body ++ drop to text
+  pub kept : symbols ≡ visible body
+  pub ordered : at ≤ to
+  pub within : to ≤ length text
 
 pub visible-append : (xs ys : List ℕ) → visible (xs ++ ys) ≡ visible xs ++ visible ys
 visible-append xs ys = filter-append _ xs ys
@@ -81,3 +92,51 @@ all_gathered text at i c mark symbols g stands e = record {
   goes_on = omega (arith, g.ordered);
   within = omega (arith, stands.within);
 }
+
+-- ---- the same in each text that goes on so far in the same way
+
+gathers_too : (text other : List ℕ) (k at i : ℕ) (symbols : List ℕ) → Agree text other k → i ≤ k + 1 → Gathers text at symbols i → Gathers other at symbols i
+gathers_too text other k at i symbols a le g = record {
+  body = g.body;
+  octets = g.octets;
+  spelled = spelled_too text other k at i g.body a (omega (arith, g.ordered)) le g.spelled;
+  kept = g.kept;
+  ordered = g.ordered;
+  within = omega (arith, long_too text other k a);
+}
+
+pub gathers_to_too : (text other : List ℕ) (k at mark to : ℕ) (symbols : List ℕ) → Agree text other k → to ≤ k + 1 → GathersTo text at mark symbols to
+    → GathersTo other at mark symbols to
+gathers_to_too text other k at mark to symbols a le g = record {
+  body = g.body;
+  octets = g.octets;
+  spelled =
+      spelled_too text other k at to (g.body ++ mark ∷ []) a (omega (arith, g.goes_on)) le (g.spelled ∙ sym (append_assoc g.body (mark ∷ []) (drop to text)))
+      ∙ append_assoc g.body (mark ∷ []) (drop to other);
+  kept = g.kept;
+  goes_on = g.goes_on;
+  within = omega (arith, long_too text other k a);
+}
+
+body_stops : (text : List ℕ) (at i c mark : ℕ) (symbols : List ℕ) → Gathers text at symbols i → StandsAt text i c
+    → (c ≡ mark → ⊥) → is_body_octet mark ≡ false → is_body_octet c ≡ false → StopsAt (BodyAt at mark) text at i
+body_stops text at i c mark symbols g stands apart other misfit = record {
+  behind = g.ordered;
+  within = stands.within;
+  none = λ b.
+      let a : Agree text (take (i + 1) text ++ b.rest) i = agree text i b.rest stands.within in
+      let w : BodyAt at mark (take (i + 1) text ++ b.rest) = b.whole in
+      apart (gathered_mark (take (i + 1) text ++ b.rest) at i c mark symbols w.body w.rest
+      (gathers_too text (take (i + 1) text ++ b.rest) i at i symbols a (omega arith) g)
+      (stands_too text (take (i + 1) text ++ b.rest) i i c a (omega arith) stands) misfit other w.octets w.spelled);
+}
+
+pub body_refused : (text : List ℕ) (at i c mark : ℕ) (symbols : List ℕ) (fault : FormFault) → Gathers text at symbols i → StandsAt text i c
+    → (c ≡ mark → ⊥) → is_body_octet mark ≡ false → IsNoBodyOctet c i fault → RefusesPart (BodyAt at mark) text at fault
+body_refused text at i c mark symbols TooLong g stands apart other is = is
+body_refused text at i c mark symbols TooDeep g stands apart other is = is
+body_refused text at i c mark symbols Short g stands apart other is = tt
+body_refused text at i c mark symbols (Bad k) g stands apart other is =
+    subst (λ n. StopsAt (BodyAt at mark) text at n) (sym is.0) (body_stops text at i c mark symbols g stands apart other is.1)
+body_refused text at i c mark symbols (Trailing k) g stands apart other is = is
+body_refused text at i c mark symbols Memory g stands apart other is = tt

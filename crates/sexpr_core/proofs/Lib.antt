@@ -2,6 +2,7 @@ pub mod TableLaws
 pub mod PlaceLaws
 pub mod SiblingLaws
 pub mod Prefix
+pub mod Agreeing
 pub mod Decimal
 pub mod Texts
 pub mod Faults
@@ -10,6 +11,7 @@ pub mod Whole
 pub mod Examples
 pub mod Refusals
 pub mod TreeLaws
+pub mod PartLaws
 pub mod Written
 pub mod SpaceLaws
 pub mod Gathered

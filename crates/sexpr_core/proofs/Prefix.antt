@@ -4,7 +4,7 @@ use Rattle.std.proofs.lemmas.List.{append_cancel_left}
 use Rattle.std.proofs.Math.Seq.{take-append-add}
 use Rattle.sexpr_core.specs.declared.fault.FormFault.{FormFault}
 use Rattle.sexpr_core.specs.declared.fault.FormFault.TheVariants.{TooLong, TooDeep, Short, Bad, Trailing, Memory}
-use Rattle.sexpr_core.specs.Prefix.{Begins, Front, Barred, FaultAt}
+use Rattle.sexpr_core.specs.Prefix.{Begins, Front, Barred, FaultAt, StopsAt, RefusesPart}
 
 -- a text that begins with one of U
 pub record Headed (U : List ℕ → Type 0) (t : List ℕ) : Type 0 where
@@ -163,3 +163,22 @@ FaultAt-first T S at c ys front never = record {
   before = front;
   stops = record { bars = λ t rest after is e. never t rest after is e };
 }
+
+-- ---- texts of a narrower sort
+
+pub StopsAt-less : (T U : List ℕ → Type 0) (text : List ℕ) (at k : ℕ) → ((t : List ℕ) → U t → T t) → StopsAt T text at k → StopsAt U text at k
+StopsAt-less T U text at k less s = record {
+  behind = s.behind;
+  within = s.within;
+  none = λ b. s.none (record { rest = b.rest; whole = less (take (k + 1) text ++ b.rest) b.whole });
+}
+
+pub RefusesPart-less :
+    (T U : List ℕ → Type 0) (text : List ℕ) (at : ℕ) (e : FormFault) → ((t : List ℕ) → U t → T t) →
+    RefusesPart T text at e → RefusesPart U text at e
+RefusesPart-less T U text at TooLong less h = h
+RefusesPart-less T U text at TooDeep less h = h
+RefusesPart-less T U text at Short less h = h
+RefusesPart-less T U text at (Bad k) less h = StopsAt-less T U text at k less h
+RefusesPart-less T U text at (Trailing k) less h = h
+RefusesPart-less T U text at Memory less h = h

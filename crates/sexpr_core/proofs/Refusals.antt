@@ -1,13 +1,14 @@
 -- A text has at most one refusal that speaks of its form.
-use Rattle.std.proofs.Common.{◌≡◌, ℕ, zero, suc, ◌+◌, ◌<◌, ◌≤◌, inl, inr, List, [], ◌∷◌, ◌++◌, length, take, drop, refl, sym, ◌∙◌, ap, subst, arith, append-nil, append_assoc, length-drop, length-append}
+use Rattle.std.proofs.Common.{◌≡◌, ◌≢◌, ℕ, zero, suc, ◌+◌, ◌<◌, ◌≤◌, inl, inr, List, [], ◌∷◌, ◌++◌, length, take, drop, refl, sym, ◌∙◌, ap, subst, arith, append-nil, append_assoc, length-drop, length-append}
 use Rattle.std.proofs.lemmas.List.{take-append-drop, length-take-le}
 use Rattle.std.proofs.lemmas.Bool.{cases_order}
 use Rattle.sexpr_core.specs.declared.fault.FormFault.{FormFault}
 use Rattle.sexpr_core.specs.declared.fault.FormFault.TheVariants.{TooLong, TooDeep, Short, Bad, Trailing, Memory}
-use Rattle.sexpr_core.specs.Value.{canon}
+use Rattle.sexpr_core.specs.Value.{Value, canon, IsWithinLimits}
 use Rattle.sexpr_core.specs.Prefix.{Begins, Front}
 use Rattle.sexpr_core.specs.Texts.{IsCanon}
 use Rattle.sexpr_core.specs.Refusal.{IsShallowText, IsOfForm, Refused}
+use Rattle.sexpr_core.specs.Bounds.{IsBodyFault, RefusesBody}
 use Rattle.sexpr_core.proofs.Texts.{canon_one}
 
 -- ---- prefixes of prefixes
@@ -33,8 +34,11 @@ begins_part T n xs f = record {
   whole = subst T (ap (λ t. t ++ f.rest) (sym (take-append-drop n xs)) ∙ append_assoc (take n xs) (drop n xs) f.rest) f.whole;
 }
 
+any_depth : (xs : List ℕ) → IsShallowText xs → IsCanon xs
+any_depth xs s = record { value = s.value; is = s.is }
+
 begins_any : (xs : List ℕ) → Begins IsShallowText xs → Begins IsCanon xs
-begins_any xs b = record { rest = b.rest; whole = record { value = b.whole.value; is = b.whole.is } }
+begins_any xs b = record { rest = b.rest; whole = any_depth (xs ++ b.rest) b.whole }
 
 -- ---- the place at which no canonical text goes on
 
@@ -68,7 +72,7 @@ no_short text at s f = s.ended (begins_any (take (at + 1) text) (begins_part IsS
 -- ---- whole texts
 
 -- a canonical text is no proper prefix of another
-no_front : (xs : List ℕ) → IsShallowText xs → Front IsShallowText xs → ⊥
+no_front : (xs : List ℕ) → IsCanon xs → Front IsShallowText xs → ⊥
 no_front xs s f =
     let w : IsShallowText (xs ++ f.rest) = f.whole in
     let e : canon s.value ++ f.rest ≡ canon w.value ++ [] =
@@ -107,7 +111,7 @@ stops_trailing text at r = record {
 bad_trailing : (text : List ℕ) (i j : ℕ) → Refused text (Bad i) → Refused text (Trailing j) → ⊥
 bad_trailing text i j a b =
     let e : i ≡ j = at_one text i j (stops_bad text i a) (stops_trailing text j b) in
-    no_front (take j text) b.1 (subst (λ n. Front IsShallowText (take n text)) e a.1)
+    no_front (take j text) (any_depth (take j text) b.1) (subst (λ n. Front IsShallowText (take n text)) e a.1)
 
 -- ---- one refusal
 
@@ -141,3 +145,37 @@ one_refusal text (Trailing i) Short p q a b = absurd (no_short text i (stops_tra
 one_refusal text (Trailing i) (Bad j) p q a b = absurd (bad_trailing text j i b a)
 one_refusal text (Trailing i) (Trailing j) p q a b = ap Trailing (at_one text i j (stops_trailing text i a) (stops_trailing text j b))
 one_refusal text (Trailing i) Memory p q a b = absurd q
+
+-- ---- and none where the text is read
+
+goes_on : (text : List ℕ) (n : ℕ) (v : Value) → IsWithinLimits v → text ≡ canon v → Begins IsShallowText (take n text)
+goes_on text n v w same = record {
+  rest = drop n text;
+  whole = record { value = v; fits = w.shallow; is = take-append-drop n text ∙ same };
+}
+
+pub no_refusal : (text : List ℕ) (e : FormFault) (v : Value) → IsOfForm e → Refused text e → IsWithinLimits v → text ≢ canon v
+no_refusal text TooLong v p r w same = absurd p
+no_refusal text Memory v p r w same = absurd p
+no_refusal text TooDeep v p r w same = r.2 (goes_on text r.0 v w same)
+no_refusal text Short v p r w same = no_front text (record { value = v; is = same }) r
+no_refusal text (Bad at) v p r w same = r.2 (begins_any (take (at + 1) text) (goes_on text (at + 1) v w same))
+no_refusal text (Trailing at) v p r w same =
+    ends_there text at r.0 r.1 (begins_any (take (at + 1) text) (goes_on text (at + 1) v w same))
+
+-- ---- octets that are no canonical text of a value of any depth
+
+goes_on_deep : (text : List ℕ) (n : ℕ) (v : Value) → text ≡ canon v → Begins IsCanon (take n text)
+goes_on_deep text n v same = record { rest = drop n text; whole = record { value = v; is = take-append-drop n text ∙ same } }
+
+pub body_refused : (octets : List ℕ) (at : ℕ) (inner fault : FormFault) → length octets ≤ 1048576 → Refused octets inner → IsBodyFault inner at fault
+    → RefusesBody octets at fault
+body_refused octets at TooLong fault few r e = absurd (omega (arith, r))
+body_refused octets at TooDeep fault few r e = subst (RefusesBody octets at) (sym e) r
+body_refused octets at Short fault few r e =
+    subst (RefusesBody octets at) (sym e) (refl, λ v same. no_front octets (record { value = v; is = same }) r)
+body_refused octets at (Bad k) fault few r e =
+    subst (RefusesBody octets at) (sym e) (refl, λ v same. r.2 (goes_on_deep octets (k + 1) v same))
+body_refused octets at (Trailing k) fault few r e =
+    subst (RefusesBody octets at) (sym e) (refl, λ v same. ends_there octets k r.0 r.1 (goes_on_deep octets (k + 1) v same))
+body_refused octets at Memory fault few r e = subst (RefusesBody octets at) (sym e) tt

@@ -1,13 +1,14 @@
 -- The members of a list are the siblings behind its node.
-use Rattle.std.proofs.Common.{◌≡◌, ◌≢◌, ℕ, zero, suc, ◌+◌, ◌-◌, ◌<◌, ◌≤◌, List, [], ◌∷◌, ◌++◌, length, get_or, take, drop, refl, sym, ap, subst, ◌∙◌, append_assoc, add-one, length-append, arith, inl, inr}
-use Rattle.std.specs.Prelude.{slice_range}
+use Rattle.std.proofs.Common.{◌≡◌, ◌≢◌, ℕ, zero, suc, ◌+◌, ◌-◌, ◌<◌, ◌≤◌, List, [], ◌∷◌, ◌++◌, length, get_or, take, drop, refl, sym, ap, subst, ◌∙◌, append_assoc, add-one, length-append, arith, inl, inr, Some}
+use Rattle.std.specs.Prelude.{slice_range, option_and_then}
 use Rattle.std.proofs.lemmas.Bool.{cases_lt}
+use Rattle.std.proofs.lemmas.Option.{slice_get-get_or}
 use Rattle.std.proofs.lemmas.List.{take_at, drop_at, append-nil, get_or_append_left, get_or-append_right, get_or-append-add, length-take, length-take-le, drop-drop, drop-take, length-drop, get_or-drop, get_or-take}
-use Rattle.sexpr_core.specs.Value.{Value, string, list, Values, none, more, members, values, group, plain, size, size_all, nodes, nodes_all}
+use Rattle.sexpr_core.specs.Value.{Value, string, list, Values, none, more, members, values, group, plain, size, size_all, node, nodes, nodes_all}
 use Rattle.sexpr_core.specs.Labels.{values-members, members-values}
 use Rattle.sexpr_core.specs.Places.{IsList, node_at}
-use Rattle.sexpr_core.specs.Form.{siblings, siblings_between, AreSiblings}
-use Rattle.sexpr_core.specs.Parts.{members_of, member_number}
+use Rattle.sexpr_core.specs.Siblings.{siblings, siblings_between, AreSiblings}
+use Rattle.sexpr_core.specs.Parts.{members_of, member_number, part_at, of_node}
 
 -- the nodes of the n-th of a row stand behind it
 record IsPart (row : List Value) (n : ℕ) (v : Value) : Type 0 where
@@ -196,3 +197,12 @@ pub member_of : (v : Value) (n k : ℕ) → n < size v → k < length (members_o
 member_of v n k lt below =
     let m = member_by v n k (node_at v n) lt refl below in
     record { within = m.0; next = rw m.1 (omega (arith, size_all-take (members_of (node_at v n)) k (plain []) below)) }
+
+-- the node at that number is the member
+pub member_is : (v : Value) (n k : ℕ) → n < size v → k < length (members_of (node_at v n)) → node v (member_number n k (node_at v n)) ≡ of_node (part_at k) v n
+member_is v n k lt below =
+    let m = member_by v n k (node_at v n) lt refl below in
+    slice_get-get_or (nodes v) (member_number n k (node_at v n)) (plain []) m.0
+    ∙ ap Some (m.1)
+    ∙ sym (slice_get-get_or (members_of (node_at v n)) k (plain []) below)
+    ∙ ap (λ o. option_and_then (part_at k) o) (sym (slice_get-get_or (nodes v) n (plain []) lt))

@@ -1,5 +1,5 @@
 -- Whitespace that stands between two offsets.
-use Rattle.std.proofs.Common.{◌≡◌, ℕ, ◌+◌, ◌<◌, ◌≤◌, true, false, List, [], ◌∷◌, ◌++◌, length, drop, refl, sym, ap, subst, ◌∙◌, append_assoc, arith, length-drop}
+use Rattle.std.proofs.Common.{◌≡◌, ℕ, zero, suc, ◌+◌, ◌<◌, ◌≤◌, true, false, List, [], ◌∷◌, ◌++◌, length, take, drop, refl, sym, ap, subst, ◌∙◌, append_assoc, arith, length-drop}
 use Rattle.std.specs.List.{AllByRecursion}
 use Rattle.sexpr_core.specs.Reading.{StandsAt}
 use Rattle.sexpr_core.specs.Spaces.{is_whitespace, IsSpace, AreSpaces, StartsVisible, Skips}
@@ -56,6 +56,11 @@ one_end (x ∷ xs) (y ∷ ys) r s hx hy hr hs e =
     let t : xs ++ r ≡ ys ++ s = cc in
     let p = one_end xs ys r s hx.1 hy.1 hr hs t in
     (cc, p.1)
+
+pub spaces_front : (n : ℕ) (xs : List ℕ) → AreSpaces xs → AreSpaces (take n xs)
+spaces_front zero xs h = tt
+spaces_front (suc n) [] h = tt
+spaces_front (suc n) (x ∷ xs) h = (h.0, spaces_front n xs h.1)
 
 behind_spaces : (xs r : List ℕ) → AreSpaces (xs ++ r) → AreSpaces r
 behind_spaces [] r h = h

@@ -9,10 +9,10 @@ use Rattle.sexpr_core.specs.declared.layout.Shape.TheVariants.{Plain, Hinted, Li
 use Rattle.sexpr_core.specs.Value.{Value, Values, string, list, none, more, members, decimal, verbatim, canon, canons, depth, depths, nodes, nodes_all, size}
 use Rattle.sexpr_core.specs.Layout.{head, shape, records, records_all}
 use Rattle.sexpr_core.specs.Prefix.{Front, IsBad, IsDeep, FaultAt}
-use Rattle.sexpr_core.specs.Texts.{IsCanon, IsCanonWithin, IsMembers, IsMembersWithin, IsVerbatim, IsHinted, IsClosing, IsLength}
+use Rattle.sexpr_core.specs.Texts.{IsCanon, IsCanonWithin, IsMembers, IsMembersWithin, IsVerbatim, IsClosing, IsLength}
 use Rattle.sexpr_core.specs.Reading.{StandsAt, ReadsLength, ReadsVerbatim, ReadsString, ReadsValue, ReadsMembers}
 use Rattle.sexpr_core.proofs.Decimal.{IsDigit, decimal_digit, decimal_more}
-use Rattle.sexpr_core.proofs.Texts.{verbatim_is, join, canons-join, depths-join}
+use Rattle.sexpr_core.proofs.Texts.{IsHinted, verbatim_is, join, canons-join, depths-join}
 use Rattle.sexpr_core.proofs.Faults.{verbatim_none, length_ended, length_first, length_short, length_bad, length_zero, verbatim_short, closing_ended, closing_first, closing_fault, hint_fault, hinted_fault, value_ended, value_first, plain_fault, bracket_fault, list_deep, list_fault, members_short, member_fault}
 
 -- ---- offsets

@@ -2,9 +2,29 @@
 use Rattle.std.proofs.Common.{◌≡◌, ℕ, suc, ◌≤◌, max, List, [], ◌∷◌, ◌++◌, length, Some, None, refl, sym, ◌∙◌, ap, subst, arith, append_assoc, replicate}
 use Rattle.std.proofs.lemmas.List.{length-replicate, append-nil}
 use Rattle.sexpr_core.specs.Value.{Value, Values, string, list, none, more, decimal, verbatim, canon, canons, depth, depths}
-use Rattle.sexpr_core.specs.Texts.{IsCanon, IsCanonWithin, IsMembers, IsMembersWithin, IsFilled, IsFilledWithin, IsVerbatim, IsHinted, IsClosing, IsLength}
+use Rattle.sexpr_core.specs.Texts.{IsCanon, IsCanonWithin, IsMembers, IsMembersWithin, IsVerbatim, IsClosing, IsLength}
 use Rattle.sexpr_core.proofs.Prefix.{Tailed, Opens, Behind, From}
 use Rattle.sexpr_core.proofs.Decimal.{IsDigit, AreDigits-decimal, decimal_starts, parts_agree, decimal_same}
+
+-- ---- further sorts of texts
+
+-- the members of a list, of which there is one, and its closing parenthesis
+pub record IsFilled (t : List ℕ) : Type 0 where
+  pub first : Value
+  pub others : Values
+  pub is : t ≡ canons (more first others) ++ 41 ∷ []
+
+pub record IsFilledWithin (room : ℕ) (t : List ℕ) : Type 0 where
+  pub first : Value
+  pub others : Values
+  pub fits : depths (more first others) ≤ room
+  pub is : t ≡ canons (more first others) ++ 41 ∷ []
+
+-- a hinted string behind its opening bracket
+pub record IsHinted (t : List ℕ) : Type 0 where
+  pub hint : List ℕ
+  pub octets : List ℕ
+  pub is : t ≡ verbatim hint ++ 93 ∷ verbatim octets
 
 -- ---- first octets
 

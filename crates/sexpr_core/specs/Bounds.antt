@@ -1,34 +1,28 @@
--- The offset of a fault lies in the text.
-use Rattle.std.specs.Prelude.{◌≡◌, ℕ, ◌<◌}
+-- What a fault says of a part of a text.
+use Rattle.std.specs.Prelude.{◌≡◌, ◌≢◌, ℕ, ◌<◌, List, length}
 use Rattle.sexpr_core.specs.declared.fault.FormFault.{FormFault}
 use Rattle.sexpr_core.specs.declared.fault.FormFault.TheVariants.{TooLong, TooDeep, Short, Bad, Trailing, Memory}
+use Rattle.sexpr_core.specs.Value.{Value, canon}
+use Rattle.sexpr_core.specs.Refusal.{Refused}
+use Rattle.sexpr_core.specs.Spaces.{Skips}
 
--- the text has more octets than a fault's offset, where it has one
-abbrev pub LiesWithin : ℕ → FormFault → Type 0
-LiesWithin n TooLong = Unit {0}
-LiesWithin n TooDeep = Unit {0}
-LiesWithin n Short = Unit {0}
-LiesWithin n (Bad at) = at < n
-LiesWithin n (Trailing at) = at < n
-LiesWithin n Memory = Unit {0}
+-- the text ends too soon, or memory is refused
+abbrev pub IsShort : FormFault → Type 0
+IsShort TooLong = ⊥
+IsShort TooDeep = ⊥
+IsShort Short = Unit {0}
+IsShort (Bad at) = ⊥
+IsShort (Trailing at) = ⊥
+IsShort Memory = Unit {0}
 
--- the fault of a part of a text: its offset lies there, and it isn't of the text as a whole
-abbrev pub IsPartFault : ℕ → FormFault → Type 0
-IsPartFault n TooLong = ⊥
-IsPartFault n TooDeep = ⊥
-IsPartFault n Short = Unit {0}
-IsPartFault n (Bad at) = at < n
-IsPartFault n (Trailing at) = ⊥
-IsPartFault n Memory = Unit {0}
-
--- the text as a whole isn't too long
-abbrev pub IsNotTooLong : FormFault → Type 0
-IsNotTooLong TooLong = ⊥
-IsNotTooLong TooDeep = Unit {0}
-IsNotTooLong Short = Unit {0}
-IsNotTooLong (Bad at) = Unit {0}
-IsNotTooLong (Trailing at) = Unit {0}
-IsNotTooLong Memory = Unit {0}
+-- the fault of octets at an offset, and no other offset
+abbrev pub IsFaultAt : ℕ → FormFault → Type 0
+IsFaultAt at TooLong = ⊥
+IsFaultAt at TooDeep = ⊥
+IsFaultAt at Short = ⊥
+IsFaultAt at (Bad k) = k ≡ at
+IsFaultAt at (Trailing k) = ⊥
+IsFaultAt at Memory = Unit {0}
 
 -- the fault of a body that ends at an offset, by the fault of its octets
 abbrev pub IsBodyFault : FormFault → ℕ → FormFault → Type 0
@@ -38,3 +32,21 @@ IsBodyFault Short at fault = fault ≡ Bad at
 IsBodyFault (Bad k) at fault = fault ≡ Bad at
 IsBodyFault (Trailing k) at fault = fault ≡ Bad at
 IsBodyFault Memory at fault = fault ≡ Memory
+
+-- what the fault of a body that ends at an offset says of its octets
+abbrev pub RefusesBody : List ℕ → ℕ → FormFault → Type 0
+RefusesBody octets at TooLong = ⊥
+RefusesBody octets at TooDeep = Refused octets TooDeep
+RefusesBody octets at Short = ⊥
+RefusesBody octets at (Bad k) = (k ≡ at) × ((v : Value) → octets ≢ canon v)
+RefusesBody octets at (Trailing k) = ⊥
+RefusesBody octets at Memory = Unit {0}
+
+-- whitespace, which begins at an offset, is followed by an octet
+abbrev pub IsTrailingBehind : List ℕ → ℕ → FormFault → Type 0
+IsTrailingBehind text at TooLong = ⊥
+IsTrailingBehind text at TooDeep = ⊥
+IsTrailingBehind text at Short = ⊥
+IsTrailingBehind text at (Bad k) = ⊥
+IsTrailingBehind text at (Trailing k) = (k < length text) × Skips text at k
+IsTrailingBehind text at Memory = ⊥

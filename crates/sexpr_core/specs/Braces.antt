@@ -1,7 +1,8 @@
--- Base64 (RFC 4648, section 4) among whitespace, and the transport form (RFC 9804, section 6.2).
+-- Base64 (RFC 4648, section 4) among whitespace, and the transport form (RFC 9804, sections 4.5, 6.1 and 6.3).
 use Rattle.std.specs.Prelude.{◌≡◌, ℕ, ◌<◌, ◌≤◌, List, [], ◌∷◌, ◌++◌, length, drop, replicate}
 use Rattle.base64.specs.Engines.{standard}
 use Rattle.base64.specs.GeneralPurpose.{encode_of, IsBytes}
+use Rattle.sexpr_core.specs.Limits.{octet_limit}
 use Rattle.sexpr_core.specs.Value.{Value, canon, IsShallow}
 use Rattle.sexpr_core.specs.Spaces.{AreSpaces, visible}
 
@@ -13,9 +14,13 @@ pub record IsBase64 (symbols octets : List ℕ) : Type 0 where
   pub few : missing ≤ 2
   pub encoded : symbols ++ replicate missing 61 ≡ encode_of standard octets
 
+-- the padded base64 of octets, in braces
+abbrev pub in_braces : List ℕ → List ℕ
+in_braces octets = 123 ∷ (encode_of standard octets ++ 125 ∷ [])
+
 -- the transport form of a value: the padded base64 of its canonical text, in braces
 abbrev pub transport : Value → List ℕ
-transport v = 123 ∷ (encode_of standard (canon v) ++ 125 ∷ [])
+transport v = in_braces (canon v)
 
 -- A text is whitespace, an opening brace, a body, a closing brace, whitespace; and the body, without its
 -- whitespace, is base64 of the value's canonical text.
@@ -28,10 +33,15 @@ pub record Braced (text : List ℕ) (v : Value) : Type 0 where
   pub packed : IsBase64 (visible body) (canon v)
   pub spaces_after : AreSpaces after
 
--- the same within the limits on octets and depth
+-- a text braces some value
+pub record IsBraced (text : List ℕ) : Type 0 where
+  pub value : Value
+  pub braced : Braced text value
+
+-- a text braces a value, within the limits on octets and depth
 pub record IsBracedWithin (text : List ℕ) (v : Value) : Type 0 where
   pub braced : Braced text v
-  pub short : length text ≤ 1048576
+  pub short : length text ≤ octet_limit
   pub shallow : IsShallow v
 
 -- a body and the mark behind it, which stand from one offset of a text on, up to another
@@ -41,3 +51,11 @@ pub record ReadsBase64 (text : List ℕ) (at mark : ℕ) (octets : List ℕ) (to
   pub packed : IsBase64 (visible body) octets
   pub goes_on : at < to
   pub within : to ≤ length text
+
+-- base64 stands at an offset of a text, and the mark behind it
+pub record PackedAt (at mark : ℕ) (text : List ℕ) : Type 0 where
+  pub body : List ℕ
+  pub rest : List ℕ
+  pub octets : List ℕ
+  pub spelled : drop at text ≡ body ++ mark ∷ rest
+  pub packed : IsBase64 (visible body) octets

@@ -1,4 +1,4 @@
--- Equality of values (RFC 9804, section 6.1).
+-- Equality of values (RFC 9804, sections 4.7 and 6.2).
 use Rattle.std.specs.Prelude.{Bool}
 use Rattle.std.specs.Str.{bytes_eq}
 use Rattle.sexpr_core.specs.Value.{Value, canon}

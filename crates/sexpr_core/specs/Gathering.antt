@@ -24,16 +24,7 @@ IsNoBodyOctet c at (Bad k) = (k ≡ at) × (is_body_octet c ≡ false)
 IsNoBodyOctet c at (Trailing k) = ⊥
 IsNoBodyOctet c at Memory = Unit {0}
 
--- a body's octets from one offset of a text up to another, and what was gathered of them
-pub record Gathers (text : List ℕ) (at : ℕ) (symbols : List ℕ) (to : ℕ) : Type 0 where
-  pub body : List ℕ
-  pub octets : AreBodyOctets body
-  pub spelled : drop at text ≡ body ++ drop to text
-  pub kept : symbols ≡ visible body
-  pub ordered : at ≤ to
-  pub within : to ≤ length text
-
--- the same with the mark that ends them
+-- a body's octets from one offset of a text up to another, with the mark that ends them, and what was gathered of them
 pub record GathersTo (text : List ℕ) (at mark : ℕ) (symbols : List ℕ) (to : ℕ) : Type 0 where
   pub body : List ℕ
   pub octets : AreBodyOctets body
@@ -41,3 +32,10 @@ pub record GathersTo (text : List ℕ) (at mark : ℕ) (symbols : List ℕ) (to 
   pub kept : symbols ≡ visible body
   pub goes_on : at < to
   pub within : to ≤ length text
+
+-- a body stands at an offset of a text, and the mark behind it
+pub record BodyAt (at mark : ℕ) (text : List ℕ) : Type 0 where
+  pub body : List ℕ
+  pub rest : List ℕ
+  pub octets : AreBodyOctets body
+  pub spelled : drop at text ≡ body ++ mark ∷ rest

@@ -1,12 +1,15 @@
+pub mod Limits
 pub mod Value
 pub mod Labels
 pub mod Layout
 pub mod Table
 pub mod Places
-pub mod Form
-pub mod FormValue
+pub mod Siblings
+pub mod KindValue
 pub mod Tree
 pub mod Parts
+pub mod PartOf
+pub mod Shapes
 pub mod Prefix
 pub mod Texts
 pub mod Reading
@@ -14,6 +17,7 @@ pub mod Refusal
 pub mod Spaces
 pub mod Braces
 pub mod Bounds
+pub mod BraceRefusal
 pub mod Gathering
 pub mod Octets
 pub mod Equality

@@ -1,4 +1,4 @@
--- Values of octets (RFC 9804, section 2). In a value octets are plain numbers.
+-- Values of octets (RFC 9804, section 4). In a value octets are plain numbers.
 use Rattle.std.specs.Prelude.{Some, None}
 use Rattle.base64.specs.GeneralPurpose.{IsBytes}
 use Rattle.sexpr_core.specs.Value.{Value, Values, string, list, none, more}

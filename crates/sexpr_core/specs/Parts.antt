@@ -1,5 +1,5 @@
 -- What is asked of a document's nodes by their numbers.
-use Rattle.std.specs.Prelude.{ℕ, ◌+◌, List, [], length, take, Option, Some, None, option_and_then, nat_lt, if◌then◌else◌}
+use Rattle.std.specs.Prelude.{ℕ, ◌+◌, List, [], length, take, Option, Some, None, option_and_then, nat_lt, slice_get, if◌then◌else◌}
 use Rattle.sexpr_core.specs.Value.{Value, string, list, members, node, size_all}
 
 -- how many members a list has
@@ -21,6 +21,10 @@ hint_of (list vs) = None
 abbrev pub members_of : Value → List Value
 members_of (string hint octets) = []
 members_of (list vs) = members vs
+
+-- member i, from 0, of a list that has it
+abbrev pub part_at : ℕ → Value → Option Value
+part_at i v = slice_get (members_of v) i
 
 -- The number of member i, from 0, of node n: behind the list itself and all nodes of the members before it.
 abbrev pub member_number : ℕ → ℕ → Value → ℕ

@@ -1,5 +1,5 @@
 -- Beginnings of texts, and what a fault says of the text at which it was met.
-use Rattle.std.specs.Prelude.{◌≡◌, ℕ, suc, ◌+◌, ◌<◌, List, ◌++◌, length, take}
+use Rattle.std.specs.Prelude.{◌≡◌, ℕ, suc, ◌+◌, ◌<◌, ◌≤◌, List, ◌++◌, length, take}
 use Rattle.sexpr_core.specs.declared.fault.FormFault.{FormFault}
 use Rattle.sexpr_core.specs.declared.fault.FormFault.TheVariants.{TooLong, TooDeep, Short, Bad, Trailing, Memory}
 
@@ -43,3 +43,18 @@ FaultAt T S at xs Short = Front S xs
 FaultAt T S at xs (Bad k) = IsBad T S at xs k
 FaultAt T S at xs (Trailing k) = ⊥
 FaultAt T S at xs Memory = Unit {0}
+
+-- No text of T begins with the octets of a text up to and with that at offset k, which is no earlier than offset `at`.
+pub record StopsAt (T : List ℕ → Type 0) (text : List ℕ) (at k : ℕ) : Type 0 where
+  pub behind : at ≤ k
+  pub within : k < length text
+  pub none : Begins T (take (k + 1) text) → ⊥
+
+-- What a fault says of a text of which a part was looked for, from an offset on: T are the texts that have it there.
+abbrev pub RefusesPart : (T : List ℕ → Type 0) → List ℕ → ℕ → FormFault → Type 0
+RefusesPart T text at TooLong = ⊥
+RefusesPart T text at TooDeep = ⊥
+RefusesPart T text at Short = Unit {0}
+RefusesPart T text at (Bad k) = StopsAt T text at k
+RefusesPart T text at (Trailing k) = ⊥
+RefusesPart T text at Memory = Unit {0}

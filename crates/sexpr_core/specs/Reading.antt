@@ -1,5 +1,6 @@
 -- What a step of the reader of canonical form has read of a text, from offset `at` to offset `to`.
 use Rattle.std.specs.Prelude.{◌≡◌, ℕ, ◌+◌, ◌<◌, ◌≤◌, min, List, [], ◌∷◌, ◌++◌, length, drop, Option}
+use Rattle.sexpr_core.specs.Limits.{octet_limit}
 use Rattle.sexpr_core.specs.Value.{Value, Values, string, members, decimal, verbatim, canon, canons, depth, depths}
 use Rattle.sexpr_core.specs.Layout.{head, records, records_all}
 use Rattle.sexpr_core.specs.declared.layout.Record.{Record}
@@ -12,7 +13,7 @@ pub record StandsAt (text : List ℕ) (at octet : ℕ) : Type 0 where
 -- a length and its colon; a number past the longest text counts as one past it
 pub record ReadsLength (text : List ℕ) (at number to : ℕ) : Type 0 where
   pub written : ℕ
-  pub capped : number ≡ min written 1048577
+  pub capped : number ≡ min written (octet_limit + 1)
   pub spelled : drop at text ≡ decimal written ++ 58 ∷ drop to text
   pub within : to ≤ length text
 

@@ -1,20 +1,21 @@
--- Why a text is refused (RFC 9804, section 6.1, within this reader's limits).
+-- Why a text is refused (RFC 9804, section 6.2, within this reader's limits).
 use Rattle.std.specs.Prelude.{ℕ, ◌+◌, ◌<◌, List, length, take}
 use Rattle.sexpr_core.specs.declared.fault.FormFault.{FormFault}
 use Rattle.sexpr_core.specs.declared.fault.FormFault.TheVariants.{TooLong, TooDeep, Short, Bad, Trailing, Memory}
+use Rattle.sexpr_core.specs.Limits.{octet_limit, depth_limit}
 use Rattle.sexpr_core.specs.Prefix.{Begins, Front}
 use Rattle.sexpr_core.specs.Texts.{IsCanon, IsCanonWithin}
 
 -- the canonical text of a value in which at most 64 lists are open at once
 abbrev pub IsShallowText : List ℕ → Type 0
-IsShallowText t = IsCanonWithin 64 t
+IsShallowText t = IsCanonWithin depth_limit t
 
 -- What each refusal says of the text. TooLong: it has more than 1,048,576 octets. TooDeep: some prefix of it is
 -- one of a canonical text, and of no shallow one. Short: it is a proper prefix of a shallow text. Bad: the octets
 -- before the offset are, and with the octet there they are a prefix of no canonical text. Trailing: the octets
 -- before the offset are a shallow text, and one stands there.
 abbrev pub Refused : List ℕ → FormFault → Type 0
-Refused text TooLong = 1048576 < length text
+Refused text TooLong = octet_limit < length text
 Refused text TooDeep = (n : ℕ) × Begins IsCanon (take n text) × (Begins IsShallowText (take n text) → ⊥)
 Refused text Short = Front IsShallowText text
 Refused text (Bad at) = (at < length text) × Front IsShallowText (take at text) × (Begins IsCanon (take (at + 1) text) → ⊥)

@@ -1,6 +1,6 @@
--- The sorts of texts that a reader of canonical form looks for (RFC 9804, section 6.1).
+-- The sorts of texts that a reader of canonical form looks for (RFC 9804, section 6.2).
 use Rattle.std.specs.Prelude.{◌≡◌, ℕ, ◌≤◌, List, [], ◌∷◌, ◌++◌}
-use Rattle.sexpr_core.specs.Value.{Value, Values, more, decimal, verbatim, canon, canons, depth, depths}
+use Rattle.sexpr_core.specs.Value.{Value, Values, decimal, verbatim, canon, canons, depth, depths}
 
 -- the canonical text of a value
 pub record IsCanon (t : List ℕ) : Type 0 where
@@ -23,28 +23,10 @@ pub record IsMembersWithin (room : ℕ) (t : List ℕ) : Type 0 where
   pub fits : depths items ≤ room
   pub is : t ≡ canons items ++ 41 ∷ []
 
--- the same where there is a member
-pub record IsFilled (t : List ℕ) : Type 0 where
-  pub first : Value
-  pub others : Values
-  pub is : t ≡ canons (more first others) ++ 41 ∷ []
-
-pub record IsFilledWithin (room : ℕ) (t : List ℕ) : Type 0 where
-  pub first : Value
-  pub others : Values
-  pub fits : depths (more first others) ≤ room
-  pub is : t ≡ canons (more first others) ++ 41 ∷ []
-
 -- a string in verbatim form
 pub record IsVerbatim (t : List ℕ) : Type 0 where
   pub octets : List ℕ
   pub is : t ≡ verbatim octets
-
--- a hinted string behind its opening bracket
-pub record IsHinted (t : List ℕ) : Type 0 where
-  pub hint : List ℕ
-  pub octets : List ℕ
-  pub is : t ≡ verbatim hint ++ 93 ∷ verbatim octets
 
 -- a hinted string behind its hint
 pub record IsClosing (t : List ℕ) : Type 0 where

@@ -1,9 +1,10 @@
 -- S-expressions as values, and their canonical text (RFC 9804).
 use Rattle.std.specs.Prelude.{ℕ, suc, ◌+◌, ◌≤◌, max, List, [], ◌∷◌, ◌++◌, length, map, Option, Some, None, ◌==◌, slice_get, if◌then◌else◌}
 use Rattle.std.specs.Int.Digits.{digits_of}
+use Rattle.sexpr_core.specs.Limits.{octet_limit, depth_limit}
 
 mutual
-  -- An octet string, with a display hint or without one (sections 4 and 5), or a list (section 4.7). Octets
+  -- An octet string, with a display hint or without one (sections 4 and 4.6), or a list (section 5). Octets
   -- are plain numbers: that each is below 256 is a fact about a text.
   pub data Value : Type 0 where
     string : Option (List ℕ) → List ℕ → Value
@@ -32,7 +33,7 @@ plain octets = string None octets
 abbrev pub group : List Value → Value
 group vs = list (values vs)
 
--- ---- the canonical text (section 6.1)
+-- ---- the canonical text (section 6.2)
 
 -- a number in decimal, with no leading zero; 0 is "0"
 unfoldable pub decimal : ℕ → List ℕ
@@ -91,9 +92,9 @@ size_all (v ∷ vs) = size v + size_all vs
 -- ---- limits of what is read
 
 abbrev pub IsShallow : Value → Type 0
-IsShallow v = depth v ≤ 64
+IsShallow v = depth v ≤ depth_limit
 
--- a text of at most 1 MiB, of a value of depth at most 64
+-- a text of at most 1,048,576 octets, of a value of depth at most 64
 pub record IsWithinLimits (v : Value) : Type 0 where
-  pub short : length (canon v) ≤ 1048576
+  pub short : length (canon v) ≤ octet_limit
   pub shallow : IsShallow v

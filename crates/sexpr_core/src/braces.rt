@@ -1,18 +1,20 @@
-//! The transport form: base64 of the canonical form, in braces (RFC 9804, section 6.2).
+//! The transport form: base64 of the canonical form, in braces (RFC 9804, sections 6.1 and 6.3).
 
 ghost use Rattle.std.specs.Prelude.{◌≡◌, ℕ, List, ◌+◌, ◌<◌, ◌≤◌, ◌≢◌, ◌↔◌, [], ◌∷◌, ◌++◌, length, drop, replicate, true, false, IfOk, IfErr, OnOk, IsErrOf, IsOkUnless};
 ghost use Rattle.sexpr_core.specs.Value.{Value, canon, IsWithinLimits};
 ghost use Rattle.sexpr_core.specs.Tree.{sexp_value};
 ghost use Rattle.sexpr_core.specs.Spaces.{AreSpaces, visible};
-ghost use Rattle.sexpr_core.specs.Braces.{transport, IsBase64, IsBracedWithin, ReadsBase64};
-ghost use Rattle.sexpr_core.specs.Bounds.{LiesWithin, IsPartFault, IsNotTooLong, IsBodyFault};
-ghost use Rattle.sexpr_core.specs.Gathering.{is_symbol, is_body_octet, AreBodyOctets, IsNoBodyOctet, GathersTo};
+ghost use Rattle.sexpr_core.specs.Braces.{in_braces, transport, IsBase64, IsBracedWithin, ReadsBase64, PackedAt};
+ghost use Rattle.sexpr_core.specs.Bounds.{IsFaultAt, IsBodyFault, RefusesBody};
+ghost use Rattle.sexpr_core.specs.BraceRefusal.{RefusesBraces};
+ghost use Rattle.sexpr_core.specs.Prefix.{RefusesPart};
+ghost use Rattle.sexpr_core.specs.Gathering.{is_symbol, is_body_octet, AreBodyOctets, IsNoBodyOctet, GathersTo, BodyAt};
 
 use crate::document::Doc;
 use crate::fault::FormFault;
 use crate::owned::decode;
 use crate::parser::MOST_OCTETS;
-use crate::spaces::{is_space, octet_at, skip_spaces};
+use crate::spaces::{ended, is_space, octet_at, skip_spaces};
 use crate::tree::Sexp;
 use crate::writer::encode;
 use base64::DecodeAllocError;
@@ -33,7 +35,7 @@ struct Gathered {
     end: usize,
 }
 
-/// The transport form of a tree (RFC 9804, section 6.2): the padded base64 of its canonical form, in braces.
+/// The transport form of a tree (RFC 9804, section 6.3): the padded base64 of its canonical form, in braces.
 pub fn wrap(alloc: Global, tree: &Sexp) -> Result<Vec<u8>, AllocError>
     ensures { IfOk result (λ text. text.items ≡ transport (sexp_value tree.now)) }
 {
@@ -41,9 +43,10 @@ pub fn wrap(alloc: Global, tree: &Sexp) -> Result<Vec<u8>, AllocError>
     wrap_octets(alloc, &octets)
 }
 
-/// The transport form of the value of which these octets are the canonical form.
+/// Octets in braces: the padded base64 of whatever octets these are. Of a value's canonical form it is the value's
+/// transport form.
 pub fn wrap_octets(alloc: Global, octets: &[u8]) -> Result<Vec<u8>, AllocError>
-    ensures { (v : Value) → octets.now ≡ canon v → IfOk result (λ text. text.items ≡ transport v) }
+    ensures { IfOk result (λ text. text.items ≡ in_braces octets.now) }
 {
     let symbols = STANDARD.encode(alloc, octets)?;
     let mut text = Vec::new(alloc);
@@ -87,7 +90,7 @@ fn gather(alloc: Global, text: &[u8], at: usize, mark: u8) -> Result<Gathered, F
     requires apart { is_body_octet mark ≡ false }
     ensures read { IfOk result (λ read. GathersTo text.now at mark read.symbols.items read.end) }
     ensures only { (body rest : List ℕ) → AreBodyOctets body → drop at text.now ≡ body ++ mark ∷ rest → IsOkUnless result FormFault.Memory }
-    ensures refused { IfErr result (λ fault. IsPartFault (length text.now) fault) }
+    ensures refused { IfErr result (λ fault. RefusesPart (BodyAt at mark) text.now at fault) }
 {
     let mut symbols = Vec::new(alloc);
     let mut i = at;
@@ -118,7 +121,7 @@ fn pad(symbols: &mut Vec<u8>, missing: usize) -> Result<(), AllocError>
 fn unpack(alloc: Global, symbols: Vec<u8>, at: usize) -> Result<Vec<u8>, FormFault>
     ensures read { IfOk result (λ octets. IsBase64 symbols.items octets.items) }
     ensures only { (octets : List ℕ) → IsBase64 symbols.items octets → IsOkUnless result FormFault.Memory }
-    ensures refused { IfErr result (λ fault. IsPartFault (at + 1) fault) }
+    ensures refused { IfErr result (λ fault. IsFaultAt at fault) }
 {
     let missing = (4 - symbols.len() % 4) % 4;
     if missing > 2 {
@@ -134,17 +137,17 @@ fn unpack(alloc: Global, symbols: Vec<u8>, at: usize) -> Result<Vec<u8>, FormFau
 }
 
 /// Reads base64 with whitespace in it, which stands from an offset on up to a closing mark. The octets' padding
-/// may be left out as a whole or in part, and spare bits are zero (RFC 4648, section 4).
+/// may be left out as a whole or in part, and spare bits are zero (RFC 9804, section 4.5; RFC 4648, section 4).
 ///
 /// Short: the text ends before the mark. Bad: at the first octet that can't stand there, or at the mark where the
-/// body is no base64.
+/// body is no base64; no text that begins with the octets up to this one has base64 and the mark at the offset.
 pub fn read_base64(alloc: Global, text: &[u8], at: usize, mark: u8) -> Result<Unpacked, FormFault>
     requires begins { at ≤ length text.now }
     requires apart { is_body_octet mark ≡ false }
     ensures read { IfOk result (λ read. ReadsBase64 text.now at mark read.octets.items read.end) }
     ensures only { (body rest octets : List ℕ) → IsBase64 (visible body) octets
         → drop at text.now ≡ body ++ mark ∷ rest → IsOkUnless result FormFault.Memory }
-    ensures refused { IfErr result (λ fault. IsPartFault (length text.now) fault) }
+    ensures refused { IfErr result (λ fault. RefusesPart (PackedAt at mark) text.now at fault) }
 {
     let Gathered { symbols, end } = gather(alloc, text, at, mark)?;
     let octets = unpack(alloc, symbols, end - 1)?;
@@ -164,9 +167,10 @@ fn body_fault(fault: FormFault, at: usize) -> FormFault
 
 /// Whether the octets of a body that ends at this offset are a canonical form within the limits.
 fn check_body(alloc: Global, octets: &[u8], at: usize) -> Result<(), FormFault>
+    requires { length octets.now ≤ 1048576 }
     ensures read { OnOk result ((v : Value) × (octets.now ≡ canon v) × IsWithinLimits v) }
     ensures only { (v : Value) → IsWithinLimits v → octets.now ≡ canon v → IsOkUnless result FormFault.Memory }
-    ensures refused { IfErr result (λ fault. LiesWithin (at + 1) fault × IsNotTooLong fault) }
+    ensures refused { IfErr result (λ fault. RefusesBody octets.now at fault) }
 {
     match Doc::open(alloc, octets) {
         Ok(_) => Ok(()),
@@ -174,21 +178,7 @@ fn check_body(alloc: Global, octets: &[u8], at: usize) -> Result<(), FormFault>
     }
 }
 
-/// Whether nothing but whitespace stands from an offset on.
-fn ended(text: &[u8], at: usize) -> Result<(), FormFault>
-    requires { at ≤ length text.now }
-    ensures read { OnOk result (AreSpaces (drop at text.now)) }
-    ensures only { AreSpaces (drop at text.now) → IsOkUnless result FormFault.Memory }
-    ensures refused { IfErr result (λ fault. LiesWithin (length text.now) fault × IsNotTooLong fault) }
-{
-    let end = skip_spaces(text, at);
-    if end < text.len() {
-        return Err(FormFault::Trailing(end));
-    }
-    Ok(())
-}
-
-/// Reads the transport form (RFC 9804, section 6.2): braces round base64 of a canonical form, with whitespace
+/// Reads the transport form (RFC 9804, section 6.3): braces round base64 of a canonical form, with whitespace
 /// allowed round the braces and in them, and padding that may be left out as a whole or in part.
 ///
 /// TooLong: the text has more than `MOST_OCTETS` octets. Then, from the left, Bad: another first octet than an
@@ -199,7 +189,7 @@ pub fn unwrap_braces(alloc: Global, text: &[u8]) -> Result<Sexp, FormFault>
     ensures read { IfOk result (λ tree. IsBracedWithin text.now (sexp_value tree)) }
     ensures only { (v : Value) → IsBracedWithin text.now v → IsOkUnless result FormFault.Memory }
     ensures too_long { IsErrOf result FormFault.TooLong ↔ (1048576 < length text.now) }
-    ensures refused { IfErr result (λ fault. LiesWithin (length text.now) fault) }
+    ensures refused { IfErr result (λ fault. RefusesBraces text.now fault) }
 {
     let octets = octets_in_braces(alloc, text)?;
     let tree = decode(alloc, &octets)?;
@@ -211,7 +201,7 @@ pub fn octets_in_braces(alloc: Global, text: &[u8]) -> Result<Vec<u8>, FormFault
     ensures read { IfOk result (λ octets. (v : Value) × IsBracedWithin text.now v × (octets.items ≡ canon v)) }
     ensures only { (v : Value) → IsBracedWithin text.now v → IsOkUnless result FormFault.Memory }
     ensures too_long { IsErrOf result FormFault.TooLong ↔ (1048576 < length text.now) }
-    ensures refused { IfErr result (λ fault. LiesWithin (length text.now) fault) }
+    ensures refused { IfErr result (λ fault. RefusesBraces text.now fault) }
 {
     if text.len() > MOST_OCTETS {
         return Err(FormFault::TooLong);

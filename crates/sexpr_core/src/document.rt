@@ -17,7 +17,7 @@ use std::marker::Model;
 #[derive(Clone, Copy, Debug, PartialEq, Eq)]
 pub struct NodeId(pub usize);
 
-/// A canonical text (RFC 9804, section 6.1) with a table of its nodes. In a contract it is its value.
+/// A canonical text (RFC 9804, section 6.2) with a table of its nodes. In a contract it is its value.
 #[derive(Debug, Drop)]
 pub struct Doc<'a> {
     text: &'a [u8],
@@ -40,7 +40,7 @@ impl<'a> Model for Doc<'a> {
 }
 
 impl<'a> Doc<'a> {
-    /// Reads a text that is one value in canonical form (RFC 9804, section 6.1), of at most `MOST_OCTETS` octets and
+    /// Reads a text that is one value in canonical form (RFC 9804, section 6.2), of at most `MOST_OCTETS` octets and
     /// with at most `MOST_LISTS` lists open at once. It takes time linear in the octets, and looks at no octet of
     /// a string's body. The first fault from the left is the answer; `FormFault` says what each means.
     pub fn open(alloc: Global, text: &'a [u8]) -> Result<Doc<'a>, FormFault>

@@ -1,10 +1,11 @@
 //! Handles to the nodes of a document.
 
-ghost use Rattle.std.specs.Prelude.{◌≡◌, ◌<◌, ◌≤◌, length, slice_range};
-ghost use Rattle.sexpr_core.specs.Value.{canon, size};
+ghost use Rattle.std.specs.Prelude.{◌≡◌, ◌<◌, ◌≤◌, ◌∷◌, length, slice_range, MatchOption};
+ghost use Rattle.sexpr_core.specs.Value.{canon, size, plain, group};
 ghost use Rattle.sexpr_core.specs.Places.{node_at};
-ghost use Rattle.sexpr_core.specs.FormValue.{form_value};
+ghost use Rattle.sexpr_core.specs.KindValue.{kind_value};
 ghost use Rattle.sexpr_core.specs.Parts.{part_count};
+ghost use Rattle.sexpr_core.specs.Shapes.{IsNoString, IsNoList, IsNotHeaded};
 
 use crate::document::Doc;
 use crate::layout::Shape;
@@ -36,11 +37,13 @@ impl<'d, 'a> Model for Node<'d, 'a> {
 
 /// What a node is: a string, with its display hint if it has one, or a list.
 #[derive(Debug, Drop)]
-pub enum Form<'d, 'a> {
+pub enum NodeKind<'d, 'a> {
+    /// A string: its display hint, if it has one, and its octets.
     String {
         hint: Option<&'a [u8]>,
         body: &'a [u8],
     },
+    /// A list: its members.
     List(Members<'d, 'a>),
 }
 
@@ -71,13 +74,13 @@ impl<'d, 'a> Node<'d, 'a> {
     }
 
     /// What the node is.
-    pub fn form(&self) -> Form<'d, 'a>
-        ensures { form_value result ≡ self.now }
+    pub fn kind(&self) -> NodeKind<'d, 'a>
+        ensures { kind_value result ≡ self.now }
     {
         let record = self.document.record(self.number);
         let text = self.document.text();
         match record.shape {
-            Shape::Plain { body } => Form::String {
+            Shape::Plain { body } => NodeKind::String {
                 hint: None,
                 body: piece(text, body, record.end),
             },
@@ -85,11 +88,49 @@ impl<'d, 'a> Node<'d, 'a> {
                 hint,
                 hint_end,
                 body,
-            } => Form::String {
+            } => NodeKind::String {
                 hint: Some(piece(text, hint, hint_end)),
                 body: piece(text, body, record.end),
             },
-            Shape::List { .. } => Form::List(Members::of(self.document, self.number)),
+            Shape::List { .. } => NodeKind::List(Members::of(self.document, self.number)),
+        }
+    }
+
+    /// The octets of a string without display hint; None for a string with one, and for a list.
+    pub fn plain_octets(&self) -> Option<&'a [u8]>
+        ensures { MatchOption result (IsNoString self.now) (λ octets. self.now ≡ plain octets.now) }
+    {
+        match self.kind() {
+            NodeKind::String { hint: None, body } => Some(body),
+            NodeKind::String { hint: Some(_), .. } => None,
+            NodeKind::List(_) => None,
+        }
+    }
+
+    /// The members of a list; None for a string.
+    pub fn members(&self) -> Option<Members<'d, 'a>>
+        ensures { MatchOption result (IsNoList self.now) (λ vs. self.now ≡ group vs) }
+    {
+        match self.kind() {
+            NodeKind::List(members) => Some(members),
+            NodeKind::String { .. } => None,
+        }
+    }
+
+    /// What stands in a list behind its head, where the head is this word without display hint; None for every
+    /// other value.
+    pub fn headed(&self, word: &[u8]) -> Option<Members<'d, 'a>>
+        ensures { MatchOption result (IsNotHeaded self.now word.now)
+            (λ vs. self.now ≡ group (plain word.now ∷ vs)) }
+    {
+        let Some(all) = self.members() else {
+            return None;
+        };
+        let (head, others) = all.split_first()?;
+        if head.plain_octets()? == word {
+            Some(others)
+        } else {
+            None
         }
     }
 

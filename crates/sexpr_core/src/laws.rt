@@ -1,8 +1,8 @@
 //! Laws of values, canonical form and trees.
 
-ghost use Rattle.std.specs.Prelude.{◌≡◌, ◌↔◌, ℕ, List, ◌++◌, IsTrue};
+ghost use Rattle.std.specs.Prelude.{◌≡◌, ◌≢◌, ◌↔◌, ℕ, List, ◌++◌, IsTrue};
 ghost use Rattle.sexpr_core.specs.declared.fault.FormFault.{FormFault};
-ghost use Rattle.sexpr_core.specs.Value.{Value, canon};
+ghost use Rattle.sexpr_core.specs.Value.{Value, canon, IsWithinLimits};
 ghost use Rattle.sexpr_core.specs.Refusal.{IsOfForm, Refused};
 ghost use Rattle.sexpr_core.specs.Equality.{is_same};
 ghost use Rattle.sexpr_core.specs.Octets.{HasOctets};
@@ -12,32 +12,34 @@ ghost use Rattle.base64.specs.GeneralPurpose.{IsBytes};
 use crate::tree::{Atom, Sexp};
 
 /// No value's canonical text is a prefix of another's: what begins with a canonical text begins with that of one
-/// value alone, and goes on in one way (RFC 9804, section 6.1).
-pub fn one_text()
+/// value alone, and goes on in one way (RFC 9804, section 6.2).
+pub fn canonical_form_is_prefix_free()
     ensures { (v w : Value) (x y : List ℕ) → canon v ++ x ≡ canon w ++ y → (v ≡ w) × (x ≡ y) }
 {}
 
-/// A text has at most one refusal that speaks of its form, with its offset. So each of TooDeep, Short, Bad and
-/// Trailing comes exactly where its meaning holds of a text that is not too long, if memory is not refused.
+/// A text has at most one refusal that speaks of its form, with its offset, and none if it is a value's canonical
+/// text within the limits. So each of TooDeep, Short, Bad and Trailing comes exactly where its meaning holds of a
+/// text that is not too long, if memory is not refused.
 pub fn one_refusal()
-    ensures { (text : List ℕ) (e f : FormFault) → IsOfForm e → IsOfForm f → Refused text e → Refused text f → e ≡ f }
+    ensures none { (text : List ℕ) (e : FormFault) (v : Value) → IsOfForm e → Refused text e → IsWithinLimits v → text ≢ canon v }
+    ensures one { (text : List ℕ) (e f : FormFault) → IsOfForm e → IsOfForm f → Refused text e → Refused text f → e ≡ f }
 {}
 
 /// Two values have the same canonical text exactly if they are the same. This is what `==` of two trees, or of two
 /// strings, tests.
-pub fn same_if_equal()
+pub fn equality_is_of_canonical_forms()
     ensures { (v w : Value) → IsTrue (is_same v w) ↔ (v ≡ w) }
 {}
 
 /// Each octet of a tree's value is below 256. The tree is walked, as deep as it is, and nothing else is done.
-pub fn tree_of_octets(tree: &Sexp)
+pub fn octets_are_below_256(tree: &Sexp)
     ensures { HasOctets (sexp_value tree.now) }
 {
     match tree {
         Sexp::Atom(atom) => atom_of_octets(atom),
         Sexp::List(members) => {
             for member in members {
-                tree_of_octets(member);
+                octets_are_below_256(member);
             }
         }
     }

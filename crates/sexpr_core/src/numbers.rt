@@ -1,13 +1,13 @@
 //! What a document's nodes are, asked by their numbers. A number that the document doesn't have gives None.
 
-ghost use Rattle.std.specs.Prelude.{◌≡◌, ◌<◌, ◌^◌, length, option_map};
+ghost use Rattle.std.specs.Prelude.{◌≡◌, ◌<◌, ◌^◌, length, option_map, IfSome};
 ghost use Rattle.std.specs.Option.{option_copied};
 ghost use Rattle.sexpr_core.specs.Value.{canon, node, size};
 ghost use Rattle.sexpr_core.specs.Places.{node_at};
-ghost use Rattle.sexpr_core.specs.Parts.{of_node, part_count, part_number, member_number, members_of, body_of, hint_of};
+ghost use Rattle.sexpr_core.specs.Parts.{of_node, part_count, part_number, part_at, member_number, members_of, body_of, hint_of};
 
 use crate::document::{Doc, NodeId};
-use crate::handle::Form;
+use crate::handle::NodeKind;
 
 impl<'a> Doc<'a> {
     /// The document's value itself.
@@ -26,9 +26,10 @@ impl<'a> Doc<'a> {
     }
 
     /// The number of member i of a list, counted from 0; None for a string, and where there are no more than i
-    /// members. It takes a step for each member before that one: to go over all members use `Node::form`.
+    /// members. It takes a step for each member before that one: to go over all members use `Node::members`.
     pub fn part(&self, n: NodeId, i: usize) -> Option<NodeId>
-        ensures { option_map (λ m. m.0) result ≡ of_node (part_number n.0 i) self.now n.0 }
+        ensures number { option_map (λ m. m.0) result ≡ of_node (part_number n.0 i) self.now n.0 }
+        ensures member { IfSome result (λ m. node self.now m.0 ≡ of_node (part_at i) self.now n.0) }
     {
         let parts = self.parts(n)?;
         if i >= parts {
@@ -41,7 +42,8 @@ impl<'a> Doc<'a> {
     fn member_number(&self, n: usize, i: usize) -> usize
         requires known { n < size self.now }
         requires has_it { i < length (members_of (node_at self.now n)) }
-        ensures { result ≡ member_number n i (node_at self.now n) }
+        ensures number { result ≡ member_number n i (node_at self.now n) }
+        ensures member { node self.now result ≡ of_node (part_at i) self.now n }
     {
         let count = self.node_count();
         prove!(n < count);
@@ -56,9 +58,9 @@ impl<'a> Doc<'a> {
     pub fn body(&self, n: NodeId) -> Option<&'a [u8]>
         ensures { option_copied result ≡ of_node body_of self.now n.0 }
     {
-        match self.node(n)?.form() {
-            Form::String { body, .. } => Some(body),
-            Form::List(_) => None,
+        match self.node(n)?.kind() {
+            NodeKind::String { body, .. } => Some(body),
+            NodeKind::List(_) => None,
         }
     }
 
@@ -66,9 +68,9 @@ impl<'a> Doc<'a> {
     pub fn hint(&self, n: NodeId) -> Option<&'a [u8]>
         ensures { option_copied result ≡ of_node hint_of self.now n.0 }
     {
-        match self.node(n)?.form() {
-            Form::String { hint, .. } => hint,
-            Form::List(_) => None,
+        match self.node(n)?.kind() {
+            NodeKind::String { hint, .. } => hint,
+            NodeKind::List(_) => None,
         }
     }
 

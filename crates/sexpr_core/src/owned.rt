@@ -8,12 +8,12 @@ ghost use Rattle.sexpr_core.specs.Refusal.{Refused};
 
 use crate::document::Doc;
 use crate::fault::FormFault;
-use crate::handle::{Form, Node};
+use crate::handle::{Node, NodeKind};
 use crate::siblings::Members;
 use crate::tree::{Atom, Sexp};
 use std::alloc::{AllocError, Global};
 
-/// Reads a text that is one value in canonical form (RFC 9804, section 6.1), of at most `MOST_OCTETS` octets and
+/// Reads a text that is one value in canonical form (RFC 9804, section 6.2), of at most `MOST_OCTETS` octets and
 /// with at most `MOST_LISTS` lists open at once, as an owned tree. It answers as `Doc::open` does; `FormFault` says
 /// what each fault means.
 pub fn decode(alloc: Global, text: &[u8]) -> Result<Sexp, FormFault>
@@ -42,9 +42,9 @@ fn atom_of(alloc: Global, hint: Option<&[u8]>, body: &[u8]) -> Result<Atom, Allo
 fn tree_of(alloc: Global, node: &Node) -> Result<Sexp, AllocError>
     ensures { IfOk result (λ tree. sexp_value tree ≡ node.now) }
 {
-    match node.form() {
-        Form::String { hint, body } => Ok(Sexp::Atom(atom_of(alloc, hint, body)?)),
-        Form::List(members) => Ok(Sexp::List(trees_of(alloc, members)?)),
+    match node.kind() {
+        NodeKind::String { hint, body } => Ok(Sexp::Atom(atom_of(alloc, hint, body)?)),
+        NodeKind::List(members) => Ok(Sexp::List(trees_of(alloc, members)?)),
     }
 }
 

@@ -1,4 +1,4 @@
-//! The reader of canonical form (RFC 9804, section 6.1).
+//! The reader of canonical form (RFC 9804, section 6.2).
 
 ghost use Rattle.std.specs.Prelude.{◌≡◌, ℕ, ◌+◌, ◌<◌, ◌≤◌, ◌≢◌, ◌↔◌, [], ◌∷◌, length, drop, MatchOption, MatchResult, IfOk, IfErr, IsErrOf, IsOkUnless};
 ghost use Rattle.sexpr_core.specs.Value.{Value, canon, IsWithinLimits};

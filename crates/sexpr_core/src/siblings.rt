@@ -27,7 +27,7 @@ impl<'d, 'a> Model for Members<'d, 'a> {
 
     ghost coded = { coded_list value_code };
 
-    ghost use Rattle.sexpr_core.specs.Form.{siblings_between, AreSiblings};
+    ghost use Rattle.sexpr_core.specs.Siblings.{siblings_between, AreSiblings};
 
     ghost view = { λ m. siblings_between m.document.now m.from m.to };
 

@@ -1,8 +1,11 @@
 //! Octets of a text by their offsets, and whitespace.
 
-ghost use Rattle.std.specs.Prelude.{◌≡◌, ◌≤◌, [], length, drop, MatchOption};
+ghost use Rattle.std.specs.Prelude.{◌≡◌, ◌≤◌, [], length, drop, MatchOption, IfErr, OnOk, IsOkUnless};
+ghost use Rattle.sexpr_core.specs.Bounds.{IsTrailingBehind};
 ghost use Rattle.sexpr_core.specs.Reading.{StandsAt};
-ghost use Rattle.sexpr_core.specs.Spaces.{is_whitespace, Skips};
+ghost use Rattle.sexpr_core.specs.Spaces.{is_whitespace, AreSpaces, Skips};
+
+use crate::fault::FormFault;
 
 /// The octet at an offset; None at the end of the text.
 pub fn octet_at(text: &[u8], at: usize) -> Option<u8>
@@ -36,4 +39,18 @@ pub fn skip_spaces(text: &[u8], at: usize) -> usize
         i += 1;
     }
     i
+}
+
+/// Whether nothing but whitespace stands from an offset on. Trailing: at the first other octet.
+pub fn ended(text: &[u8], at: usize) -> Result<(), FormFault>
+    requires { at ≤ length text.now }
+    ensures read { OnOk result (AreSpaces (drop at text.now)) }
+    ensures only { AreSpaces (drop at text.now) → IsOkUnless result FormFault.Memory }
+    ensures refused { IfErr result (λ fault. IsTrailingBehind text.now at fault) }
+{
+    let end = skip_spaces(text, at);
+    if end < text.len() {
+        return Err(FormFault::Trailing(end));
+    }
+    Ok(())
 }

@@ -6,7 +6,7 @@ ghost use Rattle.sexpr_core.specs.Tree.{sexp_value};
 
 use std::alloc::{AllocError, Global};
 
-/// An S-expression (RFC 9804, section 2): an octet string or a list.
+/// An S-expression (RFC 9804, sections 4 and 5): an octet string or a list.
 #[derive(Debug, Drop)]
 pub enum Sexp {
     /// An octet string.
@@ -15,7 +15,7 @@ pub enum Sexp {
     List(Vec<Sexp>),
 }
 
-/// An octet string, with or without a display hint (RFC 9804, sections 4 and 5).
+/// An octet string, with or without a display hint (RFC 9804, sections 4 and 4.6).
 #[derive(Debug, Drop)]
 pub struct Atom {
     /// The display hint, itself octets.

@@ -1,13 +1,13 @@
-//! Canonical form, written (RFC 9804, section 6.1).
+//! Canonical form, written (RFC 9804, section 6.2).
 
-ghost use Rattle.std.specs.Prelude.{◌≡◌, ◌++◌, IfOk, OnOk};
+ghost use Rattle.std.specs.Prelude.{◌≡◌, ◌++◌, length, take, IfOk, OnOk};
 ghost use Rattle.sexpr_core.specs.Value.{canon, decimal, verbatim};
 ghost use Rattle.sexpr_core.specs.Tree.{atom_value, sexp_value};
 
 use crate::tree::{Atom, Sexp};
 use std::alloc::{AllocError, Global};
 
-/// The canonical form of a tree (RFC 9804, section 6.1). It may be longer than what `decode` reads, and deeper.
+/// The canonical form of a tree (RFC 9804, section 6.2). It may be longer than what `decode` reads, and deeper.
 pub fn encode(alloc: Global, tree: &Sexp) -> Result<Vec<u8>, AllocError>
     ensures { IfOk result (λ octets. octets.items ≡ canon (sexp_value tree.now)) }
 {
@@ -17,7 +17,8 @@ pub fn encode(alloc: Global, tree: &Sexp) -> Result<Vec<u8>, AllocError>
 }
 
 fn append_decimal(number: usize, out: &mut Vec<u8>) -> Result<(), AllocError>
-    ensures { OnOk result (out.new.items ≡ out.old.items ++ decimal number) }
+    ensures written { OnOk result (out.new.items ≡ out.old.items ++ decimal number) }
+    ensures kept { take (length out.old.items) out.new.items ≡ out.old.items }
 {
     if number < 10 {
         out.push(b'0' + number as u8)?;
@@ -28,9 +29,12 @@ fn append_decimal(number: usize, out: &mut Vec<u8>) -> Result<(), AllocError>
     Ok(())
 }
 
-/// Puts a string's verbatim form (RFC 9804, section 4.1) behind what is written: its length in decimal, a colon, its octets.
+/// Puts a string's verbatim form (RFC 9804, section 4.1) behind what is written: its length in decimal, a colon, its
+/// octets. Where memory is refused, a part of it may stand there; what stood before stays.
+#[tactic(auto, using(crate::proofs::Written::verbatim_written))]
 pub fn append_verbatim(octets: &[u8], out: &mut Vec<u8>) -> Result<(), AllocError>
-    ensures { OnOk result (out.new.items ≡ out.old.items ++ verbatim octets.now) }
+    ensures written { OnOk result (out.new.items ≡ out.old.items ++ verbatim octets.now) }
+    ensures kept { take (length out.old.items) out.new.items ≡ out.old.items }
 {
     append_decimal(octets.len(), out)?;
     out.push(b':')?;

@@ -136,7 +136,7 @@ verbatim_string text at number to c end octets r next n o =
       within = o.within;
     }
 
-octets_few : (text s a : List ℕ) (at to : ℕ) → IsMarked s a → drop at text ≡ s ++ drop to text → length a ≤ length text
+pub octets_few : (text s a : List ℕ) (at to : ℕ) → IsMarked s a → drop at text ≡ s ++ drop to text → length a ≤ length text
 octets_few text s a at to m e = omega (arith, marked_few s a m, ap length e, length-append s (drop to text), length-drop at text)
 
 pub counted_string : (text : List ℕ) (at number to end : ℕ) (octets : List ℕ) → length text ≤ 1048576 → ReadsCount text at number to
@@ -156,16 +156,22 @@ counted_string text at number to end octets short r m n =
     }
 
 -- the length of a string between marks is the one in front of it
-pub counted_right : (text : List ℕ) (at first number to c end n : ℕ) (octets a rest : List ℕ) → length text ≤ 1048576 → StandsAt text at first → IsDigit first
+pub counted_elsewhere : (text : List ℕ) (at first number to c end n : ℕ) (octets a rest : List ℕ) → length octets ≤ 1048576 → StandsAt text at first → IsDigit first
     → ReadsCount text at number to → (number ≡ 0) ⊎ Stops is_digit (drop to text) → StandsAt text to c → c ≢ 58 → Reads IsMarked text to octets end
     → n ≡ length octets → n ≢ number → StringAt text at a rest → ⊥
-counted_right text at first number to c end n octets a rest short opens low r ends next apart m l other s =
+counted_elsewhere text at first number to c end n octets a rest short opens low r ends next apart m l other s =
     let k = marked_stands text at first number to c a rest opens low r ends next apart s in
     let one = one_marked m.spelling (drop end text) octets k.0 rest a m.meant k.1 (sym m.spelled ∙ k.2) in
     let p = counted_stands text at first number to a rest opens low r ends s in
     let w = p.0 in
-    let q : n ≡ number = omega (arith, r.capped, w, ap length one.0, octets_few text m.spelling octets to end m.meant m.spelled) in
+    let q : n ≡ number = omega (arith, r.capped, w, ap length one.0) in
     other q
+
+pub counted_right : (text : List ℕ) (at first number to c end n : ℕ) (octets a rest : List ℕ) → length text ≤ 1048576 → StandsAt text at first → IsDigit first
+    → ReadsCount text at number to → (number ≡ 0) ⊎ Stops is_digit (drop to text) → StandsAt text to c → c ≢ 58 → Reads IsMarked text to octets end
+    → n ≡ length octets → n ≢ number → StringAt text at a rest → ⊥
+counted_right text at first number to c end n octets a rest short opens low r ends next apart m l other s =
+    counted_elsewhere text at first number to c end n octets a rest (omega (arith, octets_few text m.spelling octets to end m.meant m.spelled)) opens low r ends next apart m l other s
 
 -- ---- without a length
 

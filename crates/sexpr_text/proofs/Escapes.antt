@@ -1,5 +1,5 @@
 -- The pieces of a quoted string stand in one way.
-use Rattle.std.proofs.Common.{◌≡◌, ◌≢◌, ℕ, zero, suc, ◌+◌, ◌-◌, ◌*◌, ◌<◌, ◌≤◌, ◌==◌, ◌&&◌, ◌||◌, false, Some, List, [], ◌∷◌, ◌++◌, length, refl, sym, ap, subst, ◌∙◌, append_assoc, length-append, arith, inl, inr, ◌⊎◌}
+use Rattle.std.proofs.Common.{◌≡◌, ◌≢◌, ℕ, zero, suc, ◌+◌, ◌-◌, ◌*◌, ◌<◌, ◌≤◌, ◌==◌, ◌&&◌, ◌||◌, false, Some, None, List, [], ◌∷◌, ◌++◌, length, refl, sym, ap, subst, ◌∙◌, append_assoc, length-append, arith, inl, inr, ◌⊎◌}
 use Rattle.std.specs.Prelude.{nat_le, if◌then◌else◌}
 use Rattle.std.proofs.lemmas.Bool.Decides.{nat_tests}
 use Rattle.hex.specs.Hex.{hex_digit_value}
@@ -48,13 +48,12 @@ no_escape e c k h none is = let n : escape_value 0 ≡ Some c = sym none ∙ ap 
 no_octal_escape : (e c : ℕ) → escape_value e ≡ Some c → 48 ≤ e → e < 52 → ⊥
 no_octal_escape e c h low high = let q : e ≡ 48 + (e - 48) = omega arith in no_octal (e - 48) c (omega arith) (ap escape_value (sym q) ∙ h)
 
+letter_sorted : (e : ℕ) → e ≢ 120 → e ≢ 13 → e ≢ 10 → (48 ≤ e → e < 52 → ⊥) → escape_sort e ≡ 1
+letter_sorted e x r n o = grind (arith, nat_tests)
+
 escape_sorted : (e c : ℕ) → escape_value e ≡ Some c → escape_sort e ≡ 1
 escape_sorted e c h =
-    let x : e ≢ 120 = no_escape e c 120 h refl in
-    let r : e ≢ 13 = no_escape e c 13 h refl in
-    let n : e ≢ 10 = no_escape e c 10 h refl in
-    let o : 48 ≤ e → e < 52 → ⊥ = no_octal_escape e c h in
-    grind (arith, nat_tests)
+    letter_sorted e (no_escape e c 120 h refl) (no_escape e c 13 h refl) (no_escape e c 10 h refl) (no_octal_escape e c h)
 
 raw_sorted : (c : ℕ) (cs : List ℕ) → c ≢ 92 → text_sort (c ∷ cs) ≡ 0
 raw_sorted c cs h = let f : (c == 92) ≡ false = grind (arith, nat_tests) in rw f refl
@@ -203,3 +202,13 @@ pub octal_piece : (p : Piece) (rest t : List ℕ) (a : ℕ) → a < 4 → IsPiec
     → (b : ℕ) × (c : ℕ) × (t ≡ (48 + b) ∷ (48 + c) ∷ rest) × (b < 8) × (c < 8)
 octal_piece (octal d b c) rest t a low k e = (b, c, cc, k.1, k.2)
 octal_piece p rest t a low k e = let s : piece_sort p ≡ 2 = sort_is p rest (92 ∷ (48 + a) ∷ t) 2 k e (octal_sorted a low) in absurd (omega (arith, s))
+
+-- behind a backslash stands no octet that begins no escape
+pub letter_piece : (p : Piece) (rest t : List ℕ) (c : ℕ) → IsPiece p rest → 92 ∷ c ∷ t ≡ piece_text p ++ rest
+    → c ≢ 120 → c ≢ 13 → c ≢ 10 → (48 ≤ c → c < 52 → ⊥) → escape_value c ≡ None → ⊥
+letter_piece (escaped e v) rest t c k q x r n o none =
+    let same : c ≡ e = cc in
+    let f : None ≡ Some v = sym none ∙ ap escape_value same ∙ k in cc
+letter_piece p rest t c k q x r n o none =
+    let one : escape_sort c ≡ 1 = letter_sorted c x r n o in
+    let s : piece_sort p ≡ 1 = sort_is p rest (92 ∷ c ∷ t) 1 k q one in absurd (omega (arith, s))

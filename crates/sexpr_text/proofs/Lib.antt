@@ -12,3 +12,8 @@ pub mod PrintedSpelled
 pub mod QuotedLaws
 pub mod StringLaws
 pub mod Trees
+pub mod RefusedPieces
+pub mod RefusedDigits
+pub mod RefusedStrings
+pub mod RefusedValues
+pub mod Elsewhere

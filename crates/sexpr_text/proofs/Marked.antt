@@ -1,20 +1,15 @@
 -- Strings between marks stand in one way.
-use Rattle.std.proofs.Common.{◌≡◌, ℕ, ◌+◌, ◌-◌, ◌*◌, ◌/◌, ◌%◌, ◌≤◌, ◌==◌, ◌||◌, Bool, true, false, Ok, List, [], ◌∷◌, ◌++◌, length, drop, replicate, refl, sym, ap, subst, ◌∙◌, append_assoc, append-nil, length-append, arith, inl, inr, ◌⊎◌}
+use Rattle.std.proofs.Common.{◌≡◌, ℕ, ◌+◌, ◌≤◌, ◌==◌, ◌||◌, Bool, true, false, Ok, List, [], ◌∷◌, ◌++◌, length, drop, refl, sym, ap, subst, ◌∙◌, append_assoc, append-nil, length-append, arith, inl, inr, ◌⊎◌}
 use Rattle.std.specs.List.{AllByRecursion, AllPass}
 use Rattle.std.proofs.lemmas.Bool.{cases_Bool}
-use Rattle.std.proofs.lemmas.List.{length-replicate}
 use Rattle.std.proofs.lemmas.List.Elements.{All-head, All-tail}
 use Rattle.hex.specs.Hex.{is_hex_digit, decode_of}
 use Rattle.hex.proofs.HexLemmas.{decode_of-ok}
-use Rattle.base64.specs.Rfc4648.{encode_symbols}
-use Rattle.base64.specs.Engines.{standard}
-use Rattle.base64.specs.GeneralPurpose.{encode_of, engine_symbols}
-use Rattle.base64.proofs.RoundTrip.{length-encode_symbols}
 use Rattle.sexpr_core.specs.Reading.{StandsAt}
 use Rattle.sexpr_core.specs.Spaces.{is_whitespace, visible}
 use Rattle.sexpr_core.specs.Braces.{IsBase64}
 use Rattle.sexpr_core.proofs.Base64Laws.{body_octets}
-use Rattle.sexpr_core.proofs.BraceLaws.{one_packed, visible_le}
+use Rattle.sexpr_core.proofs.BraceLaws.{one_packed, visible_le, packed_short}
 use Rattle.sexpr_core.proofs.Gathered.{one_body}
 use Rattle.sexpr_text.specs.Strings.{pieces_text, pieces_octets, IsQuoted, IsHexadecimal, IsPacked, IsMarked}
 use Rattle.sexpr_text.specs.Reads.{is_hexadecimal_octet, Stops}
@@ -135,20 +130,12 @@ marked_first s a (inr (inr h)) = (124, h.body ++ 124 ∷ [], h.spelled, refl)
 longer : (m : ℕ) (s body : List ℕ) → s ≡ m ∷ (body ++ m ∷ []) → length body + 2 ≤ length s
 longer m s body e = omega (arith, ap length e, length-append body (m ∷ []))
 
-packed_few : (symbols octets : List ℕ) → IsBase64 symbols octets → length octets ≤ length symbols + 2
-packed_few symbols octets p =
-    let n = length octets in
-    let k = (3 - n % 3) % 3 in
-    let encoded : length (encode_of standard octets) ≡ (4 * n + 2) / 3 + k =
-    length-append (encode_symbols (engine_symbols standard) octets) (replicate k 61) ∙ ap (λ m. m + length (replicate {A = ℕ} k 61)) (length-encode_symbols (engine_symbols standard) octets) ∙ ap (λ m. (4 * n + 2) / 3 + m) (length-replicate {A = ℕ} k 61) in
-    omega (arith, p.few, encoded, ap length p.encoded, length-append symbols (replicate p.missing 61), length-replicate {A = ℕ} p.missing 61)
-
 pub marked_few : (s a : List ℕ) → IsMarked s a → length a ≤ length s
 marked_few s a (inl h) = omega (arith, longer 34 s (pieces_text h.pieces) h.spelled, ap length h.meant, pieces_few h.pieces)
 marked_few s a (inr (inl h)) =
     let d = decode_of-ok (visible h.body) a h.packed in
     omega (arith, longer 35 s h.body h.spelled, visible_le h.body, d.2)
-marked_few s a (inr (inr h)) = omega (arith, longer 124 s h.body h.spelled, visible_le h.body, packed_few (visible h.body) a h.packed)
+marked_few s a (inr (inr h)) = omega (arith, longer 124 s h.body h.spelled, packed_short h.body a h.packed)
 
 -- ---- which of the three it is
 

@@ -2,7 +2,8 @@
 use Rattle.std.proofs.Common.{◌≡◌, ◌≢◌, ℕ, ◌+◌, ◌*◌, ◌<◌, Some, None, List, [], ◌∷◌, ◌++◌, drop, refl, sym, ap, subst, ◌∙◌, append_assoc, arith, inl, inr}
 use Rattle.sexpr_core.specs.Reading.{StandsAt}
 use Rattle.sexpr_text.specs.Strings.{escape_value, Piece, raw, escaped, octal, hexadecimal, line, line_pair, piece_text, StartsOther, IsPiece, pieces_text, pieces_octets, ArePieces, IsQuoted}
-use Rattle.sexpr_text.specs.Reads.{ReadsPiece, ReadsPieces, ReadsEscape, ReadsDigit, IsLineEnd}
+use Rattle.sexpr_text.specs.Reads.{ReadsPiece, ReadsEscape, ReadsDigit, IsLineEnd}
+use Rattle.sexpr_text.proofs.StringLaws.{ReadsPieces}
 use Rattle.sexpr_text.proofs.Escapes.{Left, left_pieces, are_followed}
 use Rattle.sexpr_text.proofs.Marked.{behind_opening}
 

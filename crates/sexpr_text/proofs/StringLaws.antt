@@ -6,7 +6,7 @@ use Rattle.sexpr_core.proofs.SpaceLaws.{all-append}
 use Rattle.sexpr_core.proofs.Decimal.{decimal_digit}
 use Rattle.sexpr_core.proofs.Steps.{more_capped, more_spelled}
 use Rattle.sexpr_text.specs.Strings.{is_digit, is_token_octet, IsToken, Piece, raw, escaped, octal, hexadecimal, line, line_pair, piece_text, piece_octets, StartsOther, IsPiece, pieces_text, pieces_octets, ArePieces, IsQuoted, IsPacked, IsMarked}
-use Rattle.sexpr_text.specs.Reads.{Reads, ReadsPiece, ReadsPieces, ReadsToken, ReadsCount}
+use Rattle.sexpr_text.specs.Reads.{Reads, ReadsPiece, ReadsToken, ReadsCount}
 
 -- ---- tokens
 
@@ -104,6 +104,15 @@ piece_ended (line_pair c d) t rest h = h
 are_ended : (ps : List Piece) (rest : List ℕ) → ArePieces ps (34 ∷ rest) → ArePieces ps (34 ∷ [])
 are_ended [] rest h = tt
 are_ended (p ∷ ps) rest h = (piece_ended p (pieces_text ps) rest h.0, are_ended ps rest h.1)
+
+-- pieces of a quoted string, one behind the other
+pub record ReadsPieces (text : List ℕ) (at : ℕ) (octets : List ℕ) (to : ℕ) : Type 0 where
+  pub pieces : List Piece
+  pub spelled : drop at text ≡ pieces_text pieces ++ drop to text
+  pub meant : octets ≡ pieces_octets pieces
+  pub right : ArePieces pieces (drop to text)
+  pub ordered : at ≤ to
+  pub within : to ≤ length text
 
 pub nothing_quoted : (text : List ℕ) (at : ℕ) → at ≤ length text → ReadsPieces text at [] at
 nothing_quoted text at h = record { pieces = []; spelled = refl; meant = refl; right = tt; ordered = omega arith; within = h }

@@ -13,12 +13,13 @@ use Rattle.sexpr_core.specs.Reading.{StandsAt}
 use Rattle.sexpr_core.specs.Spaces.{AreSpaces, IsSpace, StartsVisible, Skips}
 use Rattle.sexpr_core.proofs.SpaceLaws.{one_end, all-append}
 use Rattle.sexpr_core.specs.Braces.{IsBracedWithin}
+use Rattle.sexpr_core.proofs.Agreeing.{Agree, stands_too, skips_too, same_head}
 use Rattle.sexpr_core.proofs.BraceLaws.{opening}
 use Rattle.sexpr_core.proofs.Texts.{join}
 use Rattle.sexpr_text.specs.Strings.{IsApart}
-use Rattle.sexpr_text.specs.Spelling.{IsHinted, SpellsMembers, IsSpelledWithin, IsTextWithin}
+use Rattle.sexpr_text.specs.Spelling.{IsHinted, SpellsMembers, Spells, IsSpelledWithin, IsTextWithin}
 use Rattle.sexpr_text.specs.Reads.{StringAt, ReadsString, ValueAt, ReadsValue, MembersAt, ReadsMembers}
-use Rattle.sexpr_text.specs.Refusal.{OpensBraces}
+use Rattle.sexpr_text.proofs.Elsewhere.{value_too}
 use Rattle.sexpr_text.proofs.OneString.{one_simple}
 use Rattle.sexpr_text.proofs.OneValue.{value_first, value_differs, value_visible, simple_visible, simple_differs, hinted_text, list_text, member_text, apart_append, apart_front, spaces_apart, one_spelling}
 
@@ -164,7 +165,7 @@ pub record FilledAt (room : ℕ) (text : List ℕ) (at : ℕ) (rest : List ℕ) 
   pub fits : depths others ≤ room
 
 -- members stand where no closing parenthesis stands: there is a first one
-filled_at : (room : ℕ) (text : List ℕ) (at c : ℕ) (vs : Values) (rest : List ℕ) → StandsAt text at c → (c ≡ 41 → ⊥) → StartsVisible (drop at text)
+pub filled_at : (room : ℕ) (text : List ℕ) (at c : ℕ) (vs : Values) (rest : List ℕ) → StandsAt text at c → (c ≡ 41 → ⊥) → StartsVisible (drop at text)
     → MembersAt room text at vs rest → FilledAt room text at rest
 filled_at room text at c none rest stands other visible h =
     let p = one_end [] h.inside (drop at text) (41 ∷ rest) tt h.meant visible refl h.spelled in
@@ -184,13 +185,19 @@ filled_at room text at c (more v vs) rest stands other visible h =
     }
 
 -- Members were read from an offset up to another: whatever members stand there stand behind them, and whatever
--- members stand at the first offset go on there.
+-- members stand at the first offset go on there, also in each other text that goes on so far in the same way.
 pub record HasMembers (room : ℕ) (text : List ℕ) (at i : ℕ) (vs : Values) : Type 0 where
   pub ordered : at ≤ i
   pub within : i ≤ length text
   pub visible : StartsVisible (drop i text)
   pub sound : (ws : Values) (rest : List ℕ) → MembersAt room text i ws rest → MembersAt room text at (join vs ws) rest
   pub whole : (ws : Values) (rest : List ℕ) → MembersAt room text at ws rest → (us : Values) × MembersAt room text i us rest
+  pub elsewhere : (other : List ℕ) (n : ℕ) → Agree text other n → i ≤ n → (most : ℕ) (ws : Values) (rest : List ℕ) → MembersAt most other at ws rest
+      → (us : Values) × MembersAt most other i us rest
+
+pub visible_too : (text other : List ℕ) (n i : ℕ) → Agree text other n → i ≤ n → StartsVisible (drop i text) → StartsVisible (drop i other)
+visible_too text other n i a le v =
+    let h = same_head text other n i a le in subst StartsVisible (sym h.second_is) (subst StartsVisible h.first_is v)
 
 pub no_members : (room : ℕ) (text : List ℕ) (at i : ℕ) → Skips text at i → HasMembers room text at i none
 no_members room text at i s = record {
@@ -199,13 +206,14 @@ no_members room text at i s = record {
   visible = s.ends;
   sound = λ ws rest h. members_before room text at i ws rest s h;
   whole = λ ws rest h. (ws, members_behind room text at i ws rest s h);
+  elsewhere = λ other n a le most ws rest h. (ws, members_behind most other at i ws rest (skips_too text other n at i a le s) h);
 }
 
-goes_on : (room : ℕ) (text : List ℕ) (i to next : ℕ) (v : Value) (rest : List ℕ) → ReadsValue room text i v to → Skips text to next → FilledAt room text i rest
-    → (us : Values) × MembersAt room text next us rest
-goes_on room text i to next v rest r s f =
-    let p = same_value room room text i to v f.first (f.behind ++ 41 ∷ rest) r f.stands in
-    (f.others, members_behind room text to next f.others rest s (record { inside = f.behind; spelled = p.1; meant = f.meant; fits = f.fits }))
+goes_on : (room most : ℕ) (text : List ℕ) (i to next : ℕ) (v : Value) (rest : List ℕ) → ReadsValue room text i v to → Skips text to next → FilledAt most text i rest
+    → (us : Values) × MembersAt most text next us rest
+goes_on room most text i to next v rest r s f =
+    let p = same_value room most text i to v f.first (f.behind ++ 41 ∷ rest) r f.stands in
+    (f.others, members_behind most text to next f.others rest s (record { inside = f.behind; spelled = p.1; meant = f.meant; fits = f.fits }))
 
 pub more_members : {A : Type 0} (f : A → Value) (xs new : List A) (x : A) (room : ℕ) (text : List ℕ) (at i c to next : ℕ) → HasMembers room text at i (values (map f xs))
     → StandsAt text i c → (c ≡ 41 → ⊥) → ReadsValue room text i (f x) to → new ≡ xs ++ x ∷ [] → Skips text to next → HasMembers room text at next (values (map f new))
@@ -221,7 +229,12 @@ more_members f xs new x room text at i c to next h stands other r e s =
           subst (λ us. MembersAt room text at us rest) (sym (ap (λ us. join us ws) split ∙ join_more vs (f x) ws)) m;
       whole = λ ws rest k.
           let p = h.whole ws rest k in
-          goes_on room text i to next (f x) rest r s (filled_at room text i c p.0 rest stands other h.visible p.1);
+          goes_on room room text i to next (f x) rest r s (filled_at room text i c p.0 rest stands other h.visible p.1);
+      elsewhere = λ also n a le most ws rest k.
+          let p = h.elsewhere also n a (omega (arith, r.forward, s.ordered)) most ws rest k in
+          goes_on room most also i to next (f x) rest (value_too room text also n i to (f x) a (omega (arith, s.ordered)) r) (skips_too text also n to next a le s)
+          (filled_at most also i c p.0 rest (stands_too text also n i c a (omega (arith, r.forward, s.ordered)) stands) other
+          (visible_too text also n i a (omega (arith, r.forward, s.ordered)) h.visible) p.1);
     }
 
 pub members_end : (room : ℕ) (text : List ℕ) (at i c : ℕ) (vs : Values) → HasMembers room text at i vs → StandsAt text i c → c ≡ 41 → ReadsMembers room text at vs (i + 1)
@@ -356,12 +369,17 @@ hinted_read text at begin to close next end hint octets opens s r t closes u q =
 
 -- ---- the whole text
 
-pub whole_at : (text : List ℕ) (begin : ℕ) (v : Value) → Skips text 0 begin → (w : IsSpelledWithin text v) → ValueAt 64 text begin v w.spelling.after
-whole_at text begin v s w =
-    let m = w.spelling in
+-- a value that a text spells, of whatever depth
+pub spelled_at : (text : List ℕ) (begin : ℕ) (v : Value) → Skips text 0 begin → (m : Spells text v) → ValueAt (depth v) text begin v m.after
+spelled_at text begin v s m =
     let p = one_end s.spaces m.before (drop begin text) (m.middle ++ m.after) s.are_spaces m.spaces_before s.ends (value_visible m.ends_token m.middle m.after v m.spelled)
     (sym s.spelled ∙ m.parts) in
-    record { ends_token = m.ends_token; spelling = m.middle; spelled = p.1; meant = m.spelled; apart = spaces_apart m.ends_token m.after m.spaces_after; fits = w.shallow }
+    record { ends_token = m.ends_token; spelling = m.middle; spelled = p.1; meant = m.spelled; apart = spaces_apart m.ends_token m.after m.spaces_after; fits = omega arith }
+
+pub whole_at : (text : List ℕ) (begin : ℕ) (v : Value) → Skips text 0 begin → (w : IsSpelledWithin text v) → ValueAt 64 text begin v w.spelling.after
+whole_at text begin v s w =
+    let h = spelled_at text begin v s w.spelling in
+    record { ends_token = h.ends_token; spelling = h.spelling; spelled = h.spelled; meant = h.meant; apart = h.apart; fits = w.shallow }
 
 -- the octets up to an offset, where a value and whitespace stand
 pub front_read : (text : List ℕ) (begin to k : ℕ) (v : Value) → length text ≤ 1048576 → Skips text 0 begin → ReadsValue 64 text begin v to → Skips text to k
@@ -389,18 +407,18 @@ front_read text begin to k v short s r t =
 
 -- ---- either form
 
--- a brace stands behind whitespace
-pub opened : (text : List ℕ) (begin : ℕ) (rest : List ℕ) → Skips text 0 begin → drop begin text ≡ 123 ∷ rest → OpensBraces text
-opened text begin rest s e = record { spaces = s.spaces; rest = rest; are_spaces = s.are_spaces; spelled = s.spelled ∙ ap (λ t. s.spaces ++ t) e }
+-- a text that begins with a brace, past whitespace, spells no value
+pub brace_unspelled : (text rest : List ℕ) (begin : ℕ) (v : Value) → Skips text 0 begin → drop begin text ≡ 123 ∷ rest → Spells text v → ⊥
+brace_unspelled text rest begin v s e m =
+    let h = spelled_at text begin v s m in
+    value_differs h.ends_token h.spelling m.after rest v 123 h.meant refl (sym h.spelled ∙ e)
 
--- a text that begins with a brace, past whitespace, is braced if it is a text at all
+-- and is braced if it is a text at all
 pub braced_text : (text rest : List ℕ) (begin : ℕ) (v : Value) → Skips text 0 begin → drop begin text ≡ 123 ∷ rest → IsTextWithin text v → IsBracedWithin text v
-braced_text text rest begin v s e (inl w) =
-    let h = whole_at text begin v s w in
-    absurd (value_differs h.ends_token h.spelling w.spelling.after rest v 123 h.meant refl (sym h.spelled ∙ e))
+braced_text text rest begin v s e (inl w) = absurd (brace_unspelled text rest begin v s e w.spelling)
 braced_text text rest begin v s e (inr w) = w
 
 -- and one that doesn't is spelled
 pub spelled_text : (text : List ℕ) (begin : ℕ) (v : Value) → Skips text 0 begin → (((rest : List ℕ) × (drop begin text ≡ 123 ∷ rest)) → ⊥) → IsTextWithin text v → IsSpelledWithin text v
 spelled_text text begin v s other (inl w) = w
-spelled_text text begin v s other (inr w) = absurd (other (w.braced.body ++ 125 ∷ w.braced.after, opening text begin v s w))
+spelled_text text begin v s other (inr w) = absurd (other (w.braced.body ++ 125 ∷ w.braced.after, opening text begin v s w.braced))

@@ -1,5 +1,5 @@
 -- What a step of the reader of advanced form has read of a text, from offset `at` to offset `to`.
-use Rattle.std.specs.Prelude.{◌≡◌, ℕ, ◌<◌, ◌≤◌, min, Bool, true, false, ◌||◌, List, [], ◌∷◌, ◌++◌, length, drop, Option, Some, None, ◌⊎◌}
+use Rattle.std.specs.Prelude.{◌≡◌, ℕ, ◌+◌, ◌<◌, ◌≤◌, min, Bool, true, false, ◌||◌, List, [], ◌∷◌, ◌++◌, length, drop, Option, Some, None, ◌⊎◌}
 use Rattle.std.specs.List.{AllByRecursion}
 use Rattle.hex.specs.declared.error.FromHexError.{FromHexError}
 use Rattle.hex.specs.declared.error.FromHexError.TheVariants.{InvalidHexCharacter, OddLength, InvalidStringLength, OutOfMemory}
@@ -7,9 +7,11 @@ use Rattle.hex.specs.Hex.{hex_digit_value, is_hex_digit}
 use Rattle.sexpr_core.specs.Reading.{StandsAt}
 use Rattle.sexpr_core.specs.declared.fault.FormFault.{FormFault}
 use Rattle.sexpr_core.specs.declared.fault.FormFault.TheVariants.{TooLong, TooDeep, Short, Bad, Trailing, Memory}
+use Rattle.sexpr_core.specs.Limits.{octet_limit}
+use Rattle.sexpr_core.specs.Prefix.{StopsAt}
 use Rattle.sexpr_core.specs.Value.{Value, Values, decimal, depth, depths}
-use Rattle.sexpr_core.specs.Spaces.{is_whitespace, visible, Skips}
-use Rattle.sexpr_text.specs.Strings.{IsToken, Piece, piece_text, piece_octets, IsPiece, pieces_text, pieces_octets, ArePieces, Simple, IsApart}
+use Rattle.sexpr_core.specs.Spaces.{is_whitespace, visible}
+use Rattle.sexpr_text.specs.Strings.{IsToken, escape_value, Piece, piece_text, piece_octets, IsPiece, Simple, IsApart}
 use Rattle.sexpr_text.specs.Spelling.{SpellsAs, SpellsMembers}
 use Rattle.sexpr_text.specs.Refusal.{openings}
 
@@ -80,6 +82,15 @@ pub record ReadsEscape (front text : List ℕ) (at : ℕ) (octet : Option ℕ) (
   pub forward : at < to
   pub within : to ≤ length text
 
+-- why an octet behind a backslash, at an offset, is refused
+abbrev pub IsNoLetter : ℕ → ℕ → FormFault → Type 0
+IsNoLetter c at TooLong = ⊥
+IsNoLetter c at TooDeep = ⊥
+IsNoLetter c at Short = ⊥
+IsNoLetter c at (Bad k) = (k ≡ at) × (escape_value c ≡ None)
+IsNoLetter c at (Trailing k) = ⊥
+IsNoLetter c at Memory = Unit {0}
+
 -- a CR of which an LF makes a pair, or the other way round
 abbrev pub IsLineEnd : List ℕ → ℕ → ℕ → Type 0
 IsLineEnd text at second = (StandsAt text at 13 × (second ≡ 10)) ⊎ (StandsAt text at 10 × (second ≡ 13))
@@ -91,19 +102,10 @@ pub record ReadsDigit (text : List ℕ) (at value : ℕ) : Type 0 where
   pub valued : hex_digit_value octet ≡ Some value
   pub low : value < 16
 
--- pieces of a quoted string, one behind the other
-pub record ReadsPieces (text : List ℕ) (at : ℕ) (octets : List ℕ) (to : ℕ) : Type 0 where
-  pub pieces : List Piece
-  pub spelled : drop at text ≡ pieces_text pieces ++ drop to text
-  pub meant : octets ≡ pieces_octets pieces
-  pub right : ArePieces pieces (drop to text)
-  pub ordered : at ≤ to
-  pub within : to ≤ length text
-
 -- the digits of a length; a number past the longest text counts as one past it
 pub record ReadsCount (text : List ℕ) (at number to : ℕ) : Type 0 where
   pub written : ℕ
-  pub capped : number ≡ min written 1048577
+  pub capped : number ≡ min written (octet_limit + 1)
   pub spelled : drop at text ≡ decimal written ++ drop to text
   pub forward : at < to
   pub within : to ≤ length text
@@ -117,7 +119,7 @@ Stops p (c ∷ cs) = p c ≡ false
 pub record ReadsOctets (text : List ℕ) (at number : ℕ) (octets : List ℕ) (to : ℕ) : Type 0 where
   pub spelled : drop at text ≡ octets ++ drop to text
   pub counted : length octets ≡ number
-  pub few : number ≤ 1048576
+  pub few : number ≤ octet_limit
   pub ordered : at ≤ to
   pub within : to ≤ length text
 
@@ -165,21 +167,12 @@ pub record ReadsMembers (room : ℕ) (text : List ℕ) (at : ℕ) (vs : Values) 
   pub forward : at < to
   pub within : to ≤ length text
 
--- The fault of a value in a text, from an offset on: the offset of Bad lies in the text, and TooDeep comes only where
--- more lists are opened than there is room for.
-abbrev pub IsValueFault : ℕ → List ℕ → ℕ → FormFault → Type 0
-IsValueFault room text at TooLong = ⊥
-IsValueFault room text at TooDeep = room < openings (drop at text)
-IsValueFault room text at Short = Unit {0}
-IsValueFault room text at (Bad k) = k < length text
-IsValueFault room text at (Trailing k) = ⊥
-IsValueFault room text at Memory = Unit {0}
-
--- an octet follows behind an offset and whitespace
-abbrev pub IsTrailingBehind : List ℕ → ℕ → FormFault → Type 0
-IsTrailingBehind text at TooLong = ⊥
-IsTrailingBehind text at TooDeep = ⊥
-IsTrailingBehind text at Short = ⊥
-IsTrailingBehind text at (Bad k) = ⊥
-IsTrailingBehind text at (Trailing k) = (k < length text) × Skips text at k
-IsTrailingBehind text at Memory = ⊥
+-- The fault of a part of a text, from an offset on, in which lists may open: TooDeep comes only where more of them are
+-- opened than there is room for. T are the texts that have such a part there.
+abbrev pub IsValueFault : ℕ → (T : List ℕ → Type 0) → List ℕ → ℕ → FormFault → Type 0
+IsValueFault room T text at TooLong = ⊥
+IsValueFault room T text at TooDeep = room < openings (drop at text)
+IsValueFault room T text at Short = Unit {0}
+IsValueFault room T text at (Bad k) = StopsAt T text at k
+IsValueFault room T text at (Trailing k) = ⊥
+IsValueFault room T text at Memory = Unit {0}

@@ -1,34 +1,46 @@
 -- What a refusal of a text in advanced form says of it.
-use Rattle.std.specs.Prelude.{◌≡◌, ◌⊎◌, ℕ, suc, ◌==◌, ◌<◌, List, [], ◌∷◌, ◌++◌, length, take, if◌then◌else◌}
+use Rattle.std.specs.Prelude.{◌⊎◌, ℕ, suc, ◌+◌, ◌==◌, ◌<◌, List, [], ◌∷◌, length, take, if◌then◌else◌}
 use Rattle.sexpr_core.specs.declared.fault.FormFault.{FormFault}
 use Rattle.sexpr_core.specs.declared.fault.FormFault.TheVariants.{TooLong, TooDeep, Short, Bad, Trailing, Memory}
+use Rattle.sexpr_core.specs.Limits.{octet_limit, depth_limit}
 use Rattle.sexpr_core.specs.Value.{Value}
-use Rattle.sexpr_core.specs.Bounds.{LiesWithin}
-use Rattle.sexpr_core.specs.Spaces.{AreSpaces}
-use Rattle.sexpr_text.specs.Spelling.{IsSpelledWithin}
+use Rattle.sexpr_core.specs.Prefix.{Begins}
+use Rattle.sexpr_core.specs.BraceRefusal.{BracesDeep}
+use Rattle.sexpr_text.specs.Spelling.{Spells, IsSpelledWithin, IsText, IsTextWithin}
 
 -- how many opening parentheses there are
 abbrev pub openings : List ℕ → ℕ
 openings [] = 0
 openings (c ∷ cs) = if c == 40 then suc (openings cs) else openings cs
 
+-- a text spells some value
+pub record IsSpelling (text : List ℕ) : Type 0 where
+  pub value : Value
+  pub spelled : Spells text value
+
 -- TooLong: the text has more than 1,048,576 octets. TooDeep: it has more than 64 opening parentheses. Bad: an octet
--- stands at the offset. Trailing: one stands there, and those before it spell a value within the limits.
+-- stands at the offset, and no text that spells a value begins with the octets up to it. Trailing: an octet stands at
+-- the offset, and those before it spell a value within the limits.
 abbrev pub RefusesSpelling : List ℕ → FormFault → Type 0
-RefusesSpelling text TooLong = 1048576 < length text
-RefusesSpelling text TooDeep = 64 < openings text
+RefusesSpelling text TooLong = octet_limit < length text
+RefusesSpelling text TooDeep = depth_limit < openings text
 RefusesSpelling text Short = Unit {0}
-RefusesSpelling text (Bad at) = at < length text
+RefusesSpelling text (Bad at) = (at < length text) × (Begins IsSpelling (take (at + 1) text) → ⊥)
 RefusesSpelling text (Trailing at) = (at < length text) × ((v : Value) × IsSpelledWithin (take at text) v)
 RefusesSpelling text Memory = Unit {0}
 
--- past whitespace, the text begins with an opening brace
-pub record OpensBraces (text : List ℕ) : Type 0 where
-  pub spaces : List ℕ
-  pub rest : List ℕ
-  pub are_spaces : AreSpaces spaces
-  pub spelled : text ≡ spaces ++ 123 ∷ rest
+-- a text spells or braces some value
+pub record IsSomeText (text : List ℕ) : Type 0 where
+  pub value : Value
+  pub meant : IsText text value
 
--- of a text that may be in braces: those of a spelling where it isn't, and where it is, an offset lies in the text
+-- What a refusal says of a text in any form. TooDeep: it has more than 64 opening parentheses, or what stands in its
+-- braces is refused so. Bad: an octet stands at the offset, and no text of a value begins with the octets up to it.
+-- Trailing: an octet stands at the offset, and those before it are a text of a value within the limits.
 abbrev pub RefusesText : List ℕ → FormFault → Type 0
-RefusesText text fault = RefusesSpelling text fault ⊎ (OpensBraces text × LiesWithin (length text) fault)
+RefusesText text TooLong = octet_limit < length text
+RefusesText text TooDeep = (depth_limit < openings text) ⊎ BracesDeep text
+RefusesText text Short = Unit {0}
+RefusesText text (Bad at) = (at < length text) × (Begins IsSomeText (take (at + 1) text) → ⊥)
+RefusesText text (Trailing at) = (at < length text) × ((v : Value) × IsTextWithin (take at text) v)
+RefusesText text Memory = Unit {0}

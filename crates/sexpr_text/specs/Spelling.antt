@@ -1,5 +1,6 @@
--- Which texts spell a value in advanced form (RFC 9804, section 6.3).
+-- Which texts spell a value in advanced form (RFC 9804, section 6.4).
 use Rattle.std.specs.Prelude.{◌≡◌, ℕ, ◌≤◌, Bool, false, ◌⊎◌, List, [], ◌∷◌, ◌++◌, length, Some, None}
+use Rattle.sexpr_core.specs.Limits.{octet_limit}
 use Rattle.sexpr_core.specs.Value.{Value, Values, string, list, none, more, IsShallow}
 use Rattle.sexpr_core.specs.Spaces.{AreSpaces}
 use Rattle.sexpr_core.specs.Braces.{Braced, IsBracedWithin}
@@ -49,7 +50,7 @@ pub record Spells (text : List ℕ) (v : Value) : Type 0 where
 -- the same within the limits on octets and depth
 pub record IsSpelledWithin (text : List ℕ) (v : Value) : Type 0 where
   pub spelling : Spells text v
-  pub short : length text ≤ 1048576
+  pub short : length text ≤ octet_limit
   pub shallow : IsShallow v
 
 -- a text spells a value or braces it: any of the three forms

@@ -1,4 +1,4 @@
--- Which texts spell a string without display hint in advanced form (RFC 9804, sections 4.1 to 4.6).
+-- Which texts spell a string without display hint in advanced form (RFC 9804, sections 4.1 to 4.5).
 use Rattle.std.specs.Prelude.{◌≡◌, ◌≢◌, ℕ, ◌+◌, ◌*◌, ◌<◌, ◌==◌, ◌&&◌, ◌||◌, nat_le, Bool, true, false, ◌⊎◌, List, [], ◌∷◌, ◌++◌, length, Option, Some, None, Ok, if◌then◌else◌}
 use Rattle.std.specs.List.{AllByRecursion}
 use Rattle.hex.specs.Hex.{hex_digit_value, decode_of}

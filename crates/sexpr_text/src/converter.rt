@@ -1,12 +1,14 @@
 //! Texts, written in another form as they are read.
 
 ghost use Rattle.std.specs.Prelude.{◌≡◌, ℕ, List, ◌<◌, ◌≤◌, ◌↔◌, [], ◌∷◌, ◌++◌, length, drop, IfOk, IfErr, OnOk, IsErrOf, IsOkUnless};
-ghost use Rattle.sexpr_core.specs.Bounds.{IsPartFault, LiesWithin};
+ghost use Rattle.sexpr_core.specs.BraceRefusal.{RefusesBraces};
+ghost use Rattle.sexpr_core.specs.Prefix.{RefusesPart};
 ghost use Rattle.sexpr_core.specs.Braces.{IsBracedWithin};
 ghost use Rattle.sexpr_core.specs.Reading.{StandsAt};
 ghost use Rattle.sexpr_core.specs.Value.{Value, Values, canon, IsWithinLimits};
 ghost use Rattle.sexpr_text.specs.Printed.{adv};
 ghost use Rattle.sexpr_text.specs.Reads.{ReadsValue, ValueAt, ReadsMembers, MembersAt, IsValueFault};
+ghost use Rattle.sexpr_text.specs.Stands.{ValueStands, MembersStand};
 ghost use Rattle.sexpr_text.specs.Refusal.{RefusesSpelling, RefusesText};
 ghost use Rattle.sexpr_text.specs.Spelling.{IsSpelledWithin, IsTextWithin};
 ghost use Rattle.sexpr_text.specs.Written.{written, written_all, written_string, gap_of};
@@ -14,18 +16,17 @@ ghost use Rattle.sexpr_text.specs.Written.{written, written_all, written_string,
 use crate::hinted::read_hinted_string;
 use crate::printer::print_string;
 use crate::strings::read_string;
-use crate::whole::{ended, opens_braces};
-use sexpr_core::{
-    FormFault, MOST_LISTS, MOST_OCTETS, append_verbatim, octet_at, octets_in_braces, skip_spaces,
-};
+use crate::whole::opens_braces;
+use sexpr_core::reading::{append_verbatim, ended, octet_at, octets_in_braces, skip_spaces};
+use sexpr_core::{FormFault, MOST_LISTS, MOST_OCTETS};
 use std::alloc::{AllocError, Global};
 
 /// The form in which a value is written.
 #[derive(Clone, Copy, Debug, PartialEq, Eq)]
 pub enum Form {
-    /// Canonical form (RFC 9804, section 6.1).
+    /// Canonical form (RFC 9804, section 6.2).
     Canonical,
-    /// Advanced form (RFC 9804, section 6.3), as `print_advanced` writes it.
+    /// Advanced form (RFC 9804, section 6.4), as `print_advanced` writes it.
     Advanced,
 }
 
@@ -49,7 +50,7 @@ fn convert_braces(alloc: Global, form: Form, text: &[u8]) -> Result<Vec<u8>, For
     ensures read { IfOk result (λ out. (v : Value) × IsBracedWithin text.now v × (out.items ≡ written form v)) }
     ensures only { (v : Value) → IsBracedWithin text.now v → IsOkUnless result FormFault.Memory }
     ensures too_long { IsErrOf result FormFault.TooLong ↔ (1048576 < length text.now) }
-    ensures refused { IfErr result (λ fault. LiesWithin (length text.now) fault) }
+    ensures refused { IfErr result (λ fault. RefusesBraces text.now fault) }
 {
     let octets = octets_in_braces(alloc, text)?;
     match form {
@@ -123,7 +124,7 @@ fn convert_value(
     ensures read { IfOk result (λ to. (v : Value) × ReadsValue room text.now at v to
         × (out.new.items ≡ out.old.items ++ written form v)) }
     ensures only { (v : Value) (rest : List ℕ) → ValueAt room text.now at v rest → IsOkUnless result FormFault.Memory }
-    ensures refused { IfErr result (λ fault. IsValueFault room text.now at fault) }
+    ensures refused { IfErr result (λ fault. IsValueFault room (ValueStands at) text.now at fault) }
 {
     match octet_at(text, at) {
         None => Err(FormFault::Short),
@@ -152,7 +153,7 @@ fn convert_list(
     ensures read { IfOk result (λ to. (v : Value) × ReadsValue room text.now at v to
         × (out.new.items ≡ out.old.items ++ written form v)) }
     ensures only { (v : Value) (rest : List ℕ) → ValueAt room text.now at v rest → IsOkUnless result FormFault.Memory }
-    ensures refused { IfErr result (λ fault. IsValueFault room text.now at fault) }
+    ensures refused { IfErr result (λ fault. IsValueFault room (ValueStands at) text.now at fault) }
 {
     if room == 0 {
         return Err(FormFault::TooDeep);
@@ -176,7 +177,7 @@ fn convert_members(
     ensures read { IfOk result (λ to. (vs : Values) × ReadsMembers room text.now at vs to
         × (out.new.items ≡ out.old.items ++ (written_all form 0 vs ++ 41 ∷ []))) }
     ensures only { (vs : Values) (rest : List ℕ) → MembersAt room text.now at vs rest → IsOkUnless result FormFault.Memory }
-    ensures refused { IfErr result (λ fault. IsValueFault room text.now at fault) }
+    ensures refused { IfErr result (λ fault. IsValueFault room (MembersStand at) text.now at fault) }
 {
     let mut gap: &[u8] = b"";
     let mut i = skip_spaces(text, at);
@@ -206,7 +207,7 @@ fn convert_hinted(
     ensures read { IfOk result (λ to. (v : Value) × ReadsValue 0 text.now at v to
         × (out.new.items ≡ out.old.items ++ written form v)) }
     ensures only { (room : ℕ) (v : Value) (rest : List ℕ) → ValueAt room text.now at v rest → IsOkUnless result FormFault.Memory }
-    ensures refused { IfErr result (λ fault. IsPartFault (length text.now) fault) }
+    ensures refused { IfErr result (λ fault. RefusesPart (ValueStands at) text.now at fault) }
 {
     let string = read_hinted_string(alloc, text, at)?;
     out.push(b'[')?;

@@ -1,16 +1,19 @@
-//! Hexadecimal strings, read.
+//! Hexadecimal strings, read (RFC 9804, section 4.4).
 
 ghost use Rattle.std.specs.Prelude.{◌≡◌, ℕ, ◌+◌, ◌≤◌, true, Ok, List, [], ◌∷◌, ◌++◌, length, drop, IfOk, IfErr, OnOk, IsOkUnless};
 ghost use Rattle.hex.specs.Hex.{decode_of};
 ghost use Rattle.sexpr_core.specs.Reading.{StandsAt};
-ghost use Rattle.sexpr_core.specs.Bounds.{IsPartFault};
+ghost use Rattle.sexpr_core.specs.Bounds.{IsFaultAt};
+ghost use Rattle.sexpr_core.specs.Prefix.{RefusesPart};
 ghost use Rattle.sexpr_text.specs.Reads.{Reads, Keeps, is_hexadecimal_octet, IsNoHexadecimalOctet, IsDigitsFault};
+ghost use Rattle.sexpr_text.specs.Stands.{Stands, DigitsStand};
 ghost use Rattle.sexpr_text.specs.Strings.{IsHexadecimal};
 ghost use Rattle.sexpr_core.specs.Spaces.{visible};
 
 use crate::strings::ReadString;
 use hex::FromHexError;
-use sexpr_core::{FormFault, is_space, octet_at};
+use sexpr_core::FormFault;
+use sexpr_core::reading::{is_space, octet_at};
 use std::alloc::Global;
 
 #[derive(Drop)]
@@ -28,7 +31,7 @@ pub(crate) fn read_hexadecimal(
     requires { StandsAt text.now at 35 }
     ensures read { IfOk result (λ read. Reads IsHexadecimal text.now at read.octets.items read.end) }
     ensures only { (spelling octets rest : List ℕ) → IsHexadecimal spelling octets → drop at text.now ≡ spelling ++ rest → IsOkUnless result FormFault.Memory }
-    ensures refused { IfErr result (λ fault. IsPartFault (length text.now) fault) }
+    ensures refused { IfErr result (λ fault. RefusesPart (Stands IsHexadecimal at) text.now at fault) }
 {
     let Digits { digits, end } = gather_digits(alloc, text, at + 1)?;
     match hex::decode(alloc, digits.as_slice()) {
@@ -43,7 +46,7 @@ pub(crate) fn read_hexadecimal(
 /// Why a body is refused whose closing mark stands at this offset, by what is wrong with its digits.
 fn digits_fault(error: FromHexError, at: usize) -> FormFault
     ensures fault { IsDigitsFault error at result }
-    ensures lies { IsPartFault (at + 1) result }
+    ensures there { IsFaultAt at result }
 {
     match error {
         FromHexError::OutOfMemory => FormFault::Memory,
@@ -56,7 +59,7 @@ fn gather_digits(alloc: Global, text: &[u8], at: usize) -> Result<Digits, FormFa
     requires { at ≤ length text.now }
     ensures read { IfOk result (λ read. Keeps text.now at read.digits.items read.end × StandsAt text.now read.end 35) }
     ensures only { (body octets rest : List ℕ) → decode_of (visible body) ≡ Ok octets → drop at text.now ≡ body ++ 35 ∷ rest → IsOkUnless result FormFault.Memory }
-    ensures refused { IfErr result (λ fault. IsPartFault (length text.now) fault) }
+    ensures refused { IfErr result (λ fault. RefusesPart (DigitsStand at) text.now at fault) }
 {
     let mut digits = Vec::new(alloc);
     let mut i = at;

@@ -1,13 +1,15 @@
 //! Strings with a display hint, read (RFC 9804, section 4.6).
 
 ghost use Rattle.std.specs.Prelude.{◌≡◌, ℕ, List, Some, ◌≤◌, length, IfOk, IfErr, IsOkUnless};
-ghost use Rattle.sexpr_core.specs.Bounds.{IsPartFault};
+ghost use Rattle.sexpr_core.specs.Prefix.{RefusesPart};
 ghost use Rattle.sexpr_core.specs.Reading.{StandsAt};
 ghost use Rattle.sexpr_core.specs.Value.{Value, string};
 ghost use Rattle.sexpr_text.specs.Reads.{ReadsValue, ValueAt};
+ghost use Rattle.sexpr_text.specs.Stands.{ValueStands};
 
 use crate::strings::read_string;
-use sexpr_core::{FormFault, octet_at, skip_spaces};
+use sexpr_core::FormFault;
+use sexpr_core::reading::{octet_at, skip_spaces};
 use std::alloc::Global;
 
 /// The hint and the octets of a string, and where its text has ended.
@@ -28,7 +30,7 @@ pub(crate) fn read_hinted_string(
     requires begins { StandsAt text.now at 91 }
     ensures read { IfOk result (λ read. ReadsValue 0 text.now at (string (Some read.hint.items) read.octets.items) read.end) }
     ensures only { (room : ℕ) (v : Value) (rest : List ℕ) → ValueAt room text.now at v rest → IsOkUnless result FormFault.Memory }
-    ensures refused { IfErr result (λ fault. IsPartFault (length text.now) fault) }
+    ensures refused { IfErr result (λ fault. RefusesPart (ValueStands at) text.now at fault) }
 {
     let begin = skip_spaces(text, at + 1);
     let hint = read_string(alloc, text, begin)?;

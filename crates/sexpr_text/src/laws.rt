@@ -11,12 +11,12 @@ pub fn one_value()
     ensures { (text : List ℕ) (v w : Value) → IsText text v → IsText text w → v ≡ w }
 {}
 
-/// The canonical text of a value spells it (RFC 9804, sections 6.1 and 6.3).
+/// The canonical text of a value spells it (RFC 9804, sections 6.2 and 6.4).
 pub fn canonical_is_advanced()
     ensures { (v : Value) → Spells (canon v) v }
 {}
 
-/// What is printed for a value spells it (RFC 9804, section 6.3). The value's octets are below 256.
+/// What is printed for a value spells it (RFC 9804, section 6.4). The value's octets are below 256.
 pub fn printed_is_advanced()
     ensures { (v : Value) → HasOctets v → Spells (adv v) v }
 {}

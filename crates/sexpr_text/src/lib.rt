@@ -1,10 +1,12 @@
-//! S-expressions in advanced form (RFC 9804, section 6.3), read and written, and texts of any form, read and converted.
+//! S-expressions in advanced form (RFC 9804, section 6.4), read and written, and texts of any form, read and converted.
+//!
+//! `laws` has what is proved of the definitions.
 #![tactic(auto)]
 
 mod converter;
 mod hexadecimal;
 mod hinted;
-mod laws;
+pub mod laws;
 mod printer;
 mod quoted;
 mod reader;
@@ -12,6 +14,5 @@ mod strings;
 mod whole;
 
 pub use converter::{Form, convert};
-pub use laws::{canonical_is_advanced, one_value, printed_is_advanced};
 pub use printer::print_advanced;
 pub use reader::{read_advanced, read_any};

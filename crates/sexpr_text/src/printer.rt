@@ -15,7 +15,7 @@ use std::alloc::{AllocError, Global};
 
 /// The text of a tree in advanced form: each string as a token where it is one, else quoted where all its octets
 /// are printable, else in base64; display hints in brackets directly before the string, one space between members.
-/// It spells the tree's value (RFC 9804, section 6.3).
+/// It spells the tree's value (RFC 9804, section 6.4).
 pub fn print_advanced(alloc: Global, tree: &Sexp) -> Result<Vec<u8>, AllocError>
     ensures printed { IfOk result (λ text. text.items ≡ adv (sexp_value tree.now)) }
     ensures spells { IfOk result (λ text. Spells text.items (sexp_value tree.now)) }

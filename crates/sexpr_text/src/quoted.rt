@@ -1,14 +1,16 @@
-//! Quoted strings, read.
+//! Quoted strings, read (RFC 9804, section 4.2).
 
 ghost use Rattle.std.specs.Prelude.{◌≡◌, ◌≢◌, ◌≤◌, ◌<◌, ◌+◌, ℕ, List, [], ◌∷◌, ◌++◌, length, drop, Some, IfOk, IfErr, IsOkUnless};
 ghost use Rattle.hex.specs.Hex.{hex_digit_value};
 ghost use Rattle.sexpr_core.specs.Reading.{StandsAt};
-ghost use Rattle.sexpr_core.specs.Bounds.{IsPartFault};
+ghost use Rattle.sexpr_core.specs.Prefix.{RefusesPart};
 ghost use Rattle.sexpr_text.specs.Strings.{escape_value, Piece, piece_text, IsPiece, IsQuoted};
-ghost use Rattle.sexpr_text.specs.Reads.{Reads, ReadsPiece, ReadsEscape, ReadsDigit, IsLineEnd};
+ghost use Rattle.sexpr_text.specs.Reads.{Reads, ReadsPiece, ReadsEscape, ReadsDigit, IsLineEnd, IsNoLetter};
+ghost use Rattle.sexpr_text.specs.Stands.{Stands, PieceStands, DigitStands, OctalStands};
 
 use crate::strings::ReadString;
-use sexpr_core::{FormFault, octet_at};
+use sexpr_core::FormFault;
+use sexpr_core::reading::octet_at;
 use std::alloc::Global;
 
 /// An octet that an escape stands for, none where a line's end vanishes, and where it has ended.
@@ -23,7 +25,7 @@ pub(crate) fn read_quoted(alloc: Global, text: &[u8], at: usize) -> Result<ReadS
     requires { StandsAt text.now at 34 }
     ensures read { IfOk result (λ read. Reads IsQuoted text.now at read.octets.items read.end) }
     ensures only { (spelling octets rest : List ℕ) → IsQuoted spelling octets → drop at text.now ≡ spelling ++ rest → IsOkUnless result FormFault.Memory }
-    ensures refused { IfErr result (λ fault. IsPartFault (length text.now) fault) }
+    ensures refused { IfErr result (λ fault. RefusesPart (Stands IsQuoted at) text.now at fault) }
 {
     let mut octets = Vec::new(alloc);
     let mut i = at + 1;
@@ -42,7 +44,7 @@ fn read_piece(text: &[u8], at: usize, octet: u8, octets: &mut Vec<u8>) -> Result
     requires other { octet ≢ 34 }
     ensures read { IfOk result (λ to. ReadsPiece text.now at octets.old.items octets.new.items to) }
     ensures only { (piece : Piece) (rest : List ℕ) → IsPiece piece rest → drop at text.now ≡ piece_text piece ++ rest → IsOkUnless result FormFault.Memory }
-    ensures refused { IfErr result (λ fault. IsPartFault (length text.now) fault) }
+    ensures refused { IfErr result (λ fault. RefusesPart (PieceStands [] at) text.now at fault) }
 {
     if octet != b'\\' {
         octets.push(octet)?;
@@ -63,7 +65,7 @@ fn read_escape(text: &[u8], at: usize) -> Result<Escape, FormFault>
     requires { at ≤ length text.now }
     ensures read { IfOk result (λ read. ReadsEscape (92 ∷ []) text.now at read.octet read.end) }
     ensures only { (piece : Piece) (rest : List ℕ) → IsPiece piece rest → 92 ∷ drop at text.now ≡ piece_text piece ++ rest → IsOkUnless result FormFault.Memory }
-    ensures refused { IfErr result (λ fault. IsPartFault (length text.now) fault) }
+    ensures refused { IfErr result (λ fault. RefusesPart (PieceStands (92 ∷ []) at) text.now at fault) }
 {
     let Some(octet) = octet_at(text, at) else {
         return Err(FormFault::Short);
@@ -118,7 +120,7 @@ fn read_letter(text: &[u8], at: usize, octet: u8) -> Result<Escape, FormFault>
     requires { StandsAt text.now at octet }
     ensures read { IfOk result (λ read. ReadsEscape (92 ∷ []) text.now at read.octet read.end) }
     ensures only { (c : ℕ) → escape_value octet ≡ Some c → IsOkUnless result FormFault.Memory }
-    ensures refused { IfErr result (λ fault. IsPartFault (length text.now) fault) }
+    ensures refused { IfErr result (λ fault. IsNoLetter octet at fault) }
 {
     match meant_by(octet) {
         None => Err(FormFault::Bad(at)),
@@ -145,7 +147,7 @@ fn read_hexadecimal_digit(text: &[u8], at: usize) -> Result<u8, FormFault>
     requires { at ≤ length text.now }
     ensures read { IfOk result (λ digit. ReadsDigit text.now at digit) }
     ensures only { (c digit : ℕ) (rest : List ℕ) → hex_digit_value c ≡ Some digit → drop at text.now ≡ c ∷ rest → IsOkUnless result FormFault.Memory }
-    ensures refused { IfErr result (λ fault. IsPartFault (length text.now) fault) }
+    ensures refused { IfErr result (λ fault. RefusesPart (DigitStands at) text.now at fault) }
 {
     let Some(octet) = octet_at(text, at) else {
         return Err(FormFault::Short);
@@ -161,7 +163,7 @@ fn read_hexadecimal_escape(text: &[u8], at: usize) -> Result<Escape, FormFault>
     requires { at ≤ length text.now }
     ensures read { IfOk result (λ read. ReadsEscape (92 ∷ 120 ∷ []) text.now at read.octet read.end) }
     ensures only { (piece : Piece) (rest : List ℕ) → IsPiece piece rest → 92 ∷ 120 ∷ drop at text.now ≡ piece_text piece ++ rest → IsOkUnless result FormFault.Memory }
-    ensures refused { IfErr result (λ fault. IsPartFault (length text.now) fault) }
+    ensures refused { IfErr result (λ fault. RefusesPart (PieceStands (92 ∷ 120 ∷ []) at) text.now at fault) }
 {
     let high = read_hexadecimal_digit(text, at)?;
     let low = read_hexadecimal_digit(text, at + 1)?;
@@ -175,7 +177,7 @@ fn read_octal_digit(text: &[u8], at: usize) -> Result<u8, FormFault>
     requires { at ≤ length text.now }
     ensures read { IfOk result (λ digit. (digit < 8) × StandsAt text.now at (48 + digit)) }
     ensures only { (digit : ℕ) (rest : List ℕ) → digit < 8 → drop at text.now ≡ (48 + digit) ∷ rest → IsOkUnless result FormFault.Memory }
-    ensures refused { IfErr result (λ fault. IsPartFault (length text.now) fault) }
+    ensures refused { IfErr result (λ fault. RefusesPart (OctalStands at) text.now at fault) }
 {
     let Some(octet) = octet_at(text, at) else {
         return Err(FormFault::Short);
@@ -192,7 +194,7 @@ fn read_octal_escape(text: &[u8], at: usize, first: u8) -> Result<Escape, FormFa
     requires low { first < 4 }
     ensures read { IfOk result (λ read. ReadsEscape (92 ∷ []) text.now at read.octet read.end) }
     ensures only { (piece : Piece) (rest : List ℕ) → IsPiece piece rest → 92 ∷ drop at text.now ≡ piece_text piece ++ rest → IsOkUnless result FormFault.Memory }
-    ensures refused { IfErr result (λ fault. IsPartFault (length text.now) fault) }
+    ensures refused { IfErr result (λ fault. RefusesPart (PieceStands (92 ∷ []) at) text.now at fault) }
 {
     let second = read_octal_digit(text, at + 1)?;
     let third = read_octal_digit(text, at + 2)?;

@@ -1,21 +1,21 @@
-//! The reader of advanced form (RFC 9804, section 6.3).
+//! The reader of advanced form (RFC 9804, section 6.4).
 
 ghost use Rattle.std.specs.Prelude.{◌≡◌, ℕ, List, ◌<◌, ◌≤◌, ◌↔◌, ◌∷◌, length, drop, map, IfOk, IfErr, IsErrOf, IsOkUnless, IsTrue};
-ghost use Rattle.sexpr_core.specs.Bounds.{LiesWithin, IsPartFault};
+ghost use Rattle.sexpr_core.specs.Prefix.{RefusesPart};
 ghost use Rattle.sexpr_core.specs.Reading.{StandsAt};
 ghost use Rattle.sexpr_core.specs.Spaces.{AreSpaces};
 ghost use Rattle.sexpr_core.specs.Tree.{sexp_value};
 ghost use Rattle.sexpr_core.specs.Value.{Value, Values, values};
-ghost use Rattle.sexpr_text.specs.Reads.{ReadsValue, ValueAt, ReadsMembers, MembersAt, IsValueFault, IsTrailingBehind};
+ghost use Rattle.sexpr_text.specs.Reads.{ReadsValue, ValueAt, ReadsMembers, MembersAt, IsValueFault};
+ghost use Rattle.sexpr_text.specs.Stands.{ValueStands, MembersStand};
 ghost use Rattle.sexpr_text.specs.Refusal.{RefusesSpelling, RefusesText};
 ghost use Rattle.sexpr_text.specs.Spelling.{IsSpelledWithin, IsTextWithin};
 
 use crate::hinted::{HintedString, read_hinted_string};
 use crate::strings::{ReadString, read_string};
-use crate::whole::{ended, opens_braces};
-use sexpr_core::{
-    Atom, FormFault, MOST_LISTS, MOST_OCTETS, Sexp, octet_at, skip_spaces, unwrap_braces,
-};
+use crate::whole::opens_braces;
+use sexpr_core::reading::{ended, octet_at, skip_spaces};
+use sexpr_core::{Atom, FormFault, MOST_LISTS, MOST_OCTETS, Sexp, unwrap_braces};
 use std::alloc::Global;
 
 #[derive(Drop)]
@@ -30,7 +30,7 @@ struct ReadMembers {
     end: usize,
 }
 
-/// Reads a text in advanced form, which contains canonical form (RFC 9804, section 6.3), of at most `MOST_OCTETS`
+/// Reads a text in advanced form, which contains canonical form (RFC 9804, section 6.4), of at most `MOST_OCTETS`
 /// octets and with at most `MOST_LISTS` lists open at once.
 ///
 /// TooLong: the text has more octets. Then the first fault from the left. TooDeep: a list begins while `MOST_LISTS`
@@ -74,7 +74,7 @@ fn read_tree(alloc: Global, text: &[u8], at: usize, room: usize) -> Result<ReadT
     requires begins { at ≤ length text.now }
     ensures read { IfOk result (λ read. ReadsValue room text.now at (sexp_value read.tree) read.end) }
     ensures only { (v : Value) (rest : List ℕ) → ValueAt room text.now at v rest → IsOkUnless result FormFault.Memory }
-    ensures refused { IfErr result (λ fault. IsValueFault room text.now at fault) }
+    ensures refused { IfErr result (λ fault. IsValueFault room (ValueStands at) text.now at fault) }
 {
     match octet_at(text, at) {
         None => Err(FormFault::Short),
@@ -100,7 +100,7 @@ fn read_list(alloc: Global, text: &[u8], at: usize, room: usize) -> Result<ReadT
     requires begins { StandsAt text.now at 40 }
     ensures read { IfOk result (λ read. ReadsValue room text.now at (sexp_value read.tree) read.end) }
     ensures only { (v : Value) (rest : List ℕ) → ValueAt room text.now at v rest → IsOkUnless result FormFault.Memory }
-    ensures refused { IfErr result (λ fault. IsValueFault room text.now at fault) }
+    ensures refused { IfErr result (λ fault. IsValueFault room (ValueStands at) text.now at fault) }
 {
     if room == 0 {
         return Err(FormFault::TooDeep);
@@ -124,7 +124,7 @@ fn read_members(
     requires begins { at ≤ length text.now }
     ensures read { IfOk result (λ read. ReadsMembers room text.now at (values (map sexp_value read.members.items)) read.end) }
     ensures only { (vs : Values) (rest : List ℕ) → MembersAt room text.now at vs rest → IsOkUnless result FormFault.Memory }
-    ensures refused { IfErr result (λ fault. IsValueFault room text.now at fault) }
+    ensures refused { IfErr result (λ fault. IsValueFault room (MembersStand at) text.now at fault) }
 {
     let mut members = Vec::new(alloc);
     let mut i = skip_spaces(text, at);
@@ -148,7 +148,7 @@ fn read_hinted(alloc: Global, text: &[u8], at: usize) -> Result<ReadTree, FormFa
     requires begins { StandsAt text.now at 91 }
     ensures read { IfOk result (λ read. ReadsValue 0 text.now at (sexp_value read.tree) read.end) }
     ensures only { (room : ℕ) (v : Value) (rest : List ℕ) → ValueAt room text.now at v rest → IsOkUnless result FormFault.Memory }
-    ensures refused { IfErr result (λ fault. IsPartFault (length text.now) fault) }
+    ensures refused { IfErr result (λ fault. RefusesPart (ValueStands at) text.now at fault) }
 {
     let HintedString { hint, octets, end } = read_hinted_string(alloc, text, at)?;
     Ok(ReadTree {

@@ -1,15 +1,18 @@
-//! Strings without display hint, read (RFC 9804, sections 4.1 to 4.6).
+//! Strings without display hint, read (RFC 9804, sections 4.1 to 4.5).
 
 ghost use Rattle.std.specs.Prelude.{◌≡◌, ℕ, List, ◌++◌, true, false, ◌+◌, ◌<◌, ◌≤◌, ◌⊎◌, length, drop, IfOk, IfErr, IsOkUnless};
-ghost use Rattle.sexpr_core.specs.Bounds.{IsPartFault};
+ghost use Rattle.sexpr_core.specs.Bounds.{IsShort};
+ghost use Rattle.sexpr_core.specs.Prefix.{RefusesPart};
 ghost use Rattle.sexpr_text.specs.Reads.{Reads, ReadsToken, ReadsCount, ReadsOctets, ReadsString, StringAt, Stops};
+ghost use Rattle.sexpr_text.specs.Stands.{Stands, StringStands};
 ghost use Rattle.sexpr_text.specs.Strings.{is_digit, is_token_octet, IsApart, IsMarked};
 ghost use Rattle.sexpr_core.specs.Reading.{StandsAt};
 
 use crate::hexadecimal::read_hexadecimal;
 use crate::printer::stands_in_token;
 use crate::quoted::read_quoted;
-use sexpr_core::{FormFault, MOST_OCTETS, Unpacked, octet_at, read_base64};
+use sexpr_core::reading::{Unpacked, octet_at, read_base64};
+use sexpr_core::{FormFault, MOST_OCTETS};
 use std::alloc::Global;
 
 /// The octets of a string, and where its text has ended.
@@ -32,7 +35,7 @@ pub(crate) fn read_string(alloc: Global, text: &[u8], at: usize) -> Result<ReadS
     requires begins { at ≤ length text.now }
     ensures read { IfOk result (λ read. ReadsString text.now at read.octets.items read.end) }
     ensures only { (octets rest : List ℕ) → StringAt text.now at octets rest → IsOkUnless result FormFault.Memory }
-    ensures refused { IfErr result (λ fault. IsPartFault (length text.now) fault) }
+    ensures refused { IfErr result (λ fault. RefusesPart (StringStands at) text.now at fault) }
 {
     let Some(octet) = octet_at(text, at) else {
         return Err(FormFault::Short);
@@ -53,7 +56,6 @@ fn read_token(alloc: Global, text: &[u8], at: usize, first: u8) -> Result<ReadSt
     requires token { is_token_octet first ≡ true }
     ensures read { IfOk result (λ read. ReadsToken text.now at read.octets.items read.end × IsApart true (drop read.end text.now)) }
     ensures only { IsOkUnless result FormFault.Memory }
-    ensures refused { IfErr result (λ fault. IsPartFault (length text.now) fault) }
 {
     let mut octets = Vec::new(alloc);
     octets.push(first)?;
@@ -73,7 +75,7 @@ fn read_marked(alloc: Global, text: &[u8], at: usize) -> Result<ReadString, Form
     requires { at ≤ length text.now }
     ensures read { IfOk result (λ read. Reads IsMarked text.now at read.octets.items read.end) }
     ensures only { (spelling octets rest : List ℕ) → IsMarked spelling octets → drop at text.now ≡ spelling ++ rest → IsOkUnless result FormFault.Memory }
-    ensures refused { IfErr result (λ fault. IsPartFault (length text.now) fault) }
+    ensures refused { IfErr result (λ fault. RefusesPart (Stands IsMarked at) text.now at fault) }
 {
     match octet_at(text, at) {
         None => Err(FormFault::Short),
@@ -116,7 +118,7 @@ fn read_counted(alloc: Global, text: &[u8], at: usize, first: u8) -> Result<Read
     requires digit { (48 ≤ first) × (first < 58) }
     ensures read { IfOk result (λ read. ReadsString text.now at read.octets.items read.end) }
     ensures only { (octets rest : List ℕ) → StringAt text.now at octets rest → IsOkUnless result FormFault.Memory }
-    ensures refused { IfErr result (λ fault. IsPartFault (length text.now) fault) }
+    ensures refused { IfErr result (λ fault. RefusesPart (StringStands at) text.now at fault) }
 {
     let count = read_count(text, at, first);
     let Some(octet) = octet_at(text, count.end) else {
@@ -143,7 +145,7 @@ fn read_verbatim(
     requires begins { at ≤ length text.now }
     ensures read { IfOk result (λ read. ReadsOctets text.now at number read.octets.items read.end) }
     ensures only { (at + number ≤ length text.now) → IsOkUnless result FormFault.Memory }
-    ensures refused { IfErr result (λ fault. IsPartFault (length text.now) fault) }
+    ensures refused { IfErr result (λ fault. IsShort fault) }
 {
     if number > text.len() - at {
         return Err(FormFault::Short);

@@ -14,14 +14,7 @@ fn command<R: Env + AllocGlobal>(rt: &R) -> Option<Command> {
     if words.next().is_some() {
         return None;
     }
-    match word.as_str() {
-        "canonical" => Some(Command::Canonical),
-        "advanced" => Some(Command::Advanced),
-        "transport" => Some(Command::Transport),
-        "intersect" => Some(Command::Intersect),
-        "check" => Some(Command::Check),
-        _ => None,
-    }
+    Command::named(word.as_str())
 }
 
 /// Says on standard error why a run was cut off.

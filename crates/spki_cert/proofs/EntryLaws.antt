@@ -1,61 +1,205 @@
--- Entries that were read one after the other.
-use Rattle.std.proofs.Common.{◌≡◌, ℕ, inl, inr, List, [], ◌∷◌, ◌++◌, length, true, false, refl, sym, ap, subst, arith}
+-- Entries and access lists that were read, and those that are none.
+use Rattle.std.proofs.Common.{◌≡◌, ℕ, ◌⊎◌, inl, inr, Bool, true, false, cond, List, [], ◌∷◌, ◌++◌, Option, Some, None, refl, sym, ap, subst, ◌∙◌}
 use Rattle.std.specs.Prelude.{codes}
-use Rattle.std.specs.List.{AllByRecursion, AllZip}
+use Rattle.std.specs.List.{AllZip}
 use Rattle.sexpr_core.specs.Value.{Value, plain, group}
+use Rattle.sexpr_core.specs.Shapes.{IsNotHeaded}
+use Rattle.spki_tag.specs.Read.{ReadsAs}
 use Rattle.spki_cert.specs.declared.entry.Entry.{Entry}
-use Rattle.spki_cert.specs.Entries.{EntryOf, IsReadEntry, IsNoAcl, IsRefusedAt, AclRefused, IsVersion, is_headed}
-use Rattle.spki_cert.proofs.Groups.{same_others}
+use Rattle.spki_cert.specs.declared.entry.Subject.{Subject}
+use Rattle.spki_cert.specs.declared.principal.Principal.{Principal}
+use Rattle.spki_cert.specs.declared.window.Window.{Window}
+use Rattle.spki_cert.specs.declared.fields.Known.{Known}
+use Rattle.spki_cert.specs.declared.fault.CertFault.{CertFault}
+use Rattle.spki_cert.specs.declared.fault.CertFaultKind.{CertFaultKind}
+use Rattle.spki_cert.specs.declared.fault.CertFaultKind.TheVariants as kinds
+use Rattle.spki_cert.specs.Readings.{DateOf}
+use Rattle.spki_cert.specs.Subjects.{SubjectOf, WhoOf, RelativeOf, PrincipalOf, plains}
+use Rattle.spki_cert.specs.Fields.{is_headed, Sole, Given, ValidOf, LimitsAre, WindowOf, directly, in_valid, version_field, TagOf, AreFields, IsField}
+use Rattle.spki_cert.specs.Refusals.{IsRefusedAt}
+use Rattle.spki_cert.specs.Faults.{Shows, HasRelative, IsUnknownVersion}
+use Rattle.spki_cert.specs.Entries.{EntryOf, AclOf, AclRefused, IsVersion, BeginsMisfit, BeginsWell, behind_version, OuterRefused}
+use Rattle.spki_cert.specs.Gathering.{KnownOf, IsOneWay, IsBothWays}
+use Rattle.spki_cert.proofs.Groups.{same_others, same_rest, same_second, not-headed}
+use Rattle.spki_cert.proofs.Showing.{shown-here}
+use Rattle.spki_cert.proofs.GivenLaws.{given-some, given-else, given-none}
+use Rattle.spki_cert.proofs.SubjectLaws.{name-is_no_principal, string-is_no_principal}
 
-pub entries-push : (vs : List Value) (es : List Entry) (v : Value) (e : Entry) → AllZip EntryOf vs es → EntryOf v e → AllZip EntryOf (vs ++ v ∷ []) (es ++ e ∷ [])
-entries-push [] [] v e zip here = (here, tt)
-entries-push [] (y ∷ ys) v e zip here = absurd zip
-entries-push (x ∷ xs) [] v e zip here = absurd zip
-entries-push (x ∷ xs) (y ∷ ys) v e zip here = (zip.0, entries-push xs ys v e zip.1 here)
+-- ---- windows
 
-pub entries-length : (vs : List Value) (es : List Entry) → AllZip EntryOf vs es → length es ≡ length vs
-entries-length [] [] zip = refl
-entries-length [] (y ∷ ys) zip = absurd zip
-entries-length (x ∷ xs) [] zip = absurd zip
-entries-length (x ∷ xs) (y ∷ ys) zip = omega (arith, entries-length xs ys zip.1)
+pub known-window : (fields : List Value) (k : Known) (w : Window) → KnownOf fields k → IsOneWay k.limits k.valid w → WindowOf fields w
+known-window fields k w known is = by k.valid known.valid_is is
+  where
+    by : (valid : Option Window) → Given (codes "valid") ValidOf fields valid → IsOneWay k.limits valid w → WindowOf fields w
+    by None given e = directly given (subst (λ (x : Window). LimitsAre fields x) (sym e) known.limits_are)
+    by (Some window) given e =
+        in_valid
+        (subst (λ (x : Window). Given (codes "valid") ValidOf fields (Some x)) (sym e.2) given)
+        (subst (λ (o : Option (List ℕ)). Given (codes "not-before") (Sole DateOf) fields o) e.0 known.limits_are.0)
+        (subst (λ (o : Option (List ℕ)). Given (codes "not-after") (Sole DateOf) fields o) e.1 known.limits_are.1)
 
--- the entry and its reading at one place
-entry-at : (xs : List Value) (v : Value) (ys : List Value) (es : List Entry) → AllZip EntryOf (xs ++ v ∷ ys) es → (e : Entry) × EntryOf v e
-entry-at [] v ys [] zip = absurd zip
-entry-at [] v ys (e ∷ es) zip = (e, zip.0)
-entry-at (x ∷ xs) v ys [] zip = absurd zip
-entry-at (x ∷ xs) v ys (e ∷ es) zip = entry-at xs v ys es zip.1
+-- what is given in a (valid ..) isn't nothing
+both-ways_stop : (fields : List Value) (k : Known) (valid : Option Window) → Given (codes "valid") ValidOf fields valid → LimitsAre fields k.limits
+    → IsBothWays k.limits valid → (w : Window) → WindowOf fields w → ⊥
+both-ways_stop fields k None given limits both w read = both
+both-ways_stop fields k (Some window) given limits both w (directly none are) = given-some (codes "valid") ValidOf fields (Some window) given refl none
+both-ways_stop fields k (Some window) given limits (inl both) w (in_valid is first last) = given-some (codes "not-before") (Sole DateOf) fields k.limits.not_before limits.0 both first
+both-ways_stop fields k (Some window) given limits (inr both) w (in_valid is first last) = given-some (codes "not-after") (Sole DateOf) fields k.limits.not_after limits.1 both last
 
-each-at : (xs : List Value) (v : Value) (ys : List Value) → AllByRecursion IsReadEntry (xs ++ v ∷ ys) → IsReadEntry v
-each-at [] v ys all = all.0
-each-at (x ∷ xs) v ys all = each-at xs v ys all.1
+pub no-window : (fields : List Value) (k : Known) → KnownOf fields k → IsBothWays k.limits k.valid → (w : Window) → WindowOf fields w → ⊥
+no-window fields k known both w read = both-ways_stop fields k k.valid known.valid_is known.limits_are both w read
 
--- no list of entries has a member that is none
-no-entries : (vs : List Value) (item : ℕ) → IsRefusedAt vs item → (es : List Entry) → AllZip EntryOf vs es → AllByRecursion IsReadEntry vs → ⊥
-no-entries vs item r es zip each =
-    let here = entry-at r.front r.refused r.behind es (subst (λ (ws : List Value). AllZip EntryOf ws es) r.parts zip) in
-    let plainly = each-at r.front r.refused r.behind (subst (AllByRecursion IsReadEntry) r.parts each) in
-    r.none here.0 here.1 plainly
+-- ---- subjects
 
--- a version is no entry
-not-entry : (v : Value) → v ≡ group (plain (codes "version") ∷ plain (codes "0") ∷ []) → IsReadEntry v → ⊥
-not-entry v e plainly =
-    let no : is_headed (codes "entry") v ≡ false = ap (is_headed (codes "entry")) e in
-    let yes : is_headed (codes "entry") v ≡ true = ap (is_headed (codes "entry")) plainly.written in
-    absurd cc
+pub no-subject : (v : Value) → ((p : Option Principal) (names : List (List ℕ)) → WhoOf v p names → ⊥) → (s : Subject) → SubjectOf v s → ⊥
+no-subject v none s read = none (Some s.principal) s.names.items read
 
-first-of : (vs : List Value) (w : Value) (ws : List Value) → vs ≡ w ∷ ws → AllByRecursion IsReadEntry vs → IsReadEntry w
-first-of vs w ws e each = (let all : AllByRecursion IsReadEntry (w ∷ ws) = subst (AllByRecursion IsReadEntry) e each in all.0)
+-- a relative name is no name
+pub relative-is_no_subject : (v : Value) (names : List (List ℕ)) → RelativeOf v names → (s : Subject) → SubjectOf v s → ⊥
+relative-is_no_subject v names relative s (inl read) = name-is_no_principal v (plains names) relative.written s.principal read.0
+relative-is_no_subject v names relative s (inr read) =
+    let e : read.owner ∷ plains s.names.items ≡ plains names = same_others v (codes "name") (read.owner ∷ plains s.names.items) (plains names) read.written relative.written in
+    let f : read.owner ∷ plains s.names.items ≡ plain relative.first ∷ plains relative.others = e ∙ ap plains relative.names_are in
+    let g : read.owner ≡ plain relative.first = cc in
+    string-is_no_principal relative.first s.principal (subst (λ (w : Value). PrincipalOf w s.principal) g read.owner_is)
 
-behind-version : (vs : List Value) (item : ℕ) (es : List Entry) (version entries : List Value) → IsVersion version → vs ≡ version ++ entries → IsRefusedAt vs item → AllZip EntryOf entries es → AllByRecursion IsReadEntry vs → ⊥
-behind-version vs item es [] entries is e r zip each = no-entries vs item r es (subst (λ (ws : List Value). AllZip EntryOf ws es) (sym e) zip) each
-behind-version vs item es (w ∷ []) entries is e r zip each = not-entry w is (first-of vs w entries e each)
-behind-version vs item es (w ∷ x ∷ xs) entries is e r zip each = absurd is
+pub relative-shown : (v : Value) (names : List (List ℕ)) → RelativeOf v names → (rest : List Value) → Shows kinds.RelativeInEntry (group (plain (codes "entry") ∷ v ∷ rest))
+relative-shown v names relative rest =
+    shown-here HasRelative (group (plain (codes "entry") ∷ v ∷ rest)) (record { subject = v; names = names; relative = relative; rest = rest; written = refl })
 
--- what is refused is no access list of the forms that are read
-pub refused-acl : (v : Value) (item : ℕ) → AclRefused v item → IsNoAcl v
-refused-acl v item (inl h) es read plainly = h.1 (read.version ++ read.entries) read.written
-refused-acl v item (inr r) es read plainly =
-    let e : r.0 ≡ read.version ++ read.entries = same_others v (codes "acl") r.0 (read.version ++ read.entries) r.1 read.written in
-    let f : plainly.entries ≡ r.0 = same_others v (codes "acl") plainly.entries r.0 plainly.written r.1 in
-    behind-version r.0 item es read.version read.entries read.version_is e r.2 read.each (subst (AllByRecursion IsReadEntry) f plainly.each)
+-- ---- entries in a row
+
+pub items-push : {A : Type 0} (R : Value → A → Type 0) (vs : List Value) (es : List A) (v : Value) (e : A) → AllZip R vs es → R v e → AllZip R (vs ++ v ∷ []) (es ++ e ∷ [])
+items-push R [] [] v e zip here = (here, tt)
+items-push R [] (y ∷ ys) v e zip here = absurd zip
+items-push R (x ∷ xs) [] v e zip here = absurd zip
+items-push R (x ∷ xs) (y ∷ ys) v e zip here = (zip.0, items-push R xs ys v e zip.1 here)
+
+-- the item and its reading at one place
+pub item-at : {A : Type 0} (R : Value → A → Type 0) (xs : List Value) (v : Value) (ys : List Value) (es : List A) → AllZip R (xs ++ v ∷ ys) es → (e : A) × R v e
+item-at R [] v ys [] zip = absurd zip
+item-at R [] v ys (e ∷ es) zip = (e, zip.0)
+item-at R (x ∷ xs) v ys [] zip = absurd zip
+item-at R (x ∷ xs) v ys (e ∷ es) zip = item-at R xs v ys es zip.1
+
+-- no list of items has a member that is none
+pub no-items : {A : Type 0} (R : Value → A → Type 0) (vs : List Value) (item : ℕ) (v : Value) → IsRefusedAt R vs item v → (es : List A) → AllZip R vs es → ⊥
+no-items R vs item v r es zip =
+    let here = item-at R r.front v r.behind es (subst (λ (ws : List Value). AllZip R ws es) r.parts zip) in
+    r.none here.0 here.1
+
+-- ---- one entry
+
+-- what an entry is made of, where these are its subject and its fields
+pub entry-subject : (v subject : Value) (fields : List Value) → v ≡ group (plain (codes "entry") ∷ subject ∷ fields) → (e : Entry) → EntryOf v e → SubjectOf subject e.subject
+entry-subject v subject fields e entry read =
+    subst (λ (w : Value). SubjectOf w entry.subject) (same_second v (codes "entry") read.subject subject read.fields fields read.written e) read.subject_is
+
+entry-rest : (v subject : Value) (fields : List Value) → v ≡ group (plain (codes "entry") ∷ subject ∷ fields) → (e : Entry) (read : EntryOf v e) → read.fields ≡ fields
+entry-rest v subject fields e entry read = same_rest v (codes "entry") read.subject subject read.fields fields read.written e
+
+pub entry-fields : (v subject : Value) (fields : List Value) → v ≡ group (plain (codes "entry") ∷ subject ∷ fields) → (e : Entry) → EntryOf v e → AreFields IsField fields
+entry-fields v subject fields e entry read = subst (AreFields IsField) (entry-rest v subject fields e entry read) read.are_fields
+
+pub entry-window : (v subject : Value) (fields : List Value) → v ≡ group (plain (codes "entry") ∷ subject ∷ fields) → (e : Entry) → EntryOf v e → WindowOf fields e.window
+entry-window v subject fields e entry read = subst (λ (vs : List Value). WindowOf vs entry.window) (entry-rest v subject fields e entry read) read.window_is
+
+pub entry-tag : (v subject : Value) (fields : List Value) → v ≡ group (plain (codes "entry") ∷ subject ∷ fields) → (k : Known) → KnownOf fields k → k.tag ≡ None → (e : Entry) → EntryOf v e → ⊥
+entry-tag v subject fields e k known none entry read =
+    given-else (codes "tag") (Sole ReadsAs) fields entry.tag (subst (λ (vs : List Value). TagOf vs entry.tag) (entry-rest v subject fields e entry read) read.tag_is)
+    (given-none (codes "tag") (Sole ReadsAs) fields k.tag known.tag_is none)
+
+-- ---- access lists
+
+-- an entry isn't headed version
+entry-unversioned : (v : Value) (e : Entry) → EntryOf v e → is_headed (codes "version") v ≡ false
+entry-unversioned v e read = ap (is_headed (codes "version")) read.written
+
+pub entries-behind : (version entries : List Value) (es : List Entry) → IsVersion version → AllZip EntryOf entries es → behind_version (version ++ entries) ≡ entries
+entries-behind [] [] es is zip = refl
+entries-behind [] (x ∷ xs) [] is zip = absurd zip
+entries-behind [] (x ∷ xs) (e ∷ es) is zip = ap (λ (b : Bool). cond b xs (x ∷ xs)) (entry-unversioned x e zip.0)
+entries-behind (w ∷ []) entries es is zip = ap (λ (b : Bool). cond b entries (w ∷ entries)) (ap (is_headed (codes "version")) is)
+entries-behind (w ∷ x ∷ xs) entries es is zip = absurd is
+
+no-misfit : (version entries : List Value) (es : List Entry) → IsVersion version → AllZip EntryOf entries es → BeginsMisfit (version ++ entries) → ⊥
+no-misfit [] [] es is zip misfit = misfit
+no-misfit [] (x ∷ xs) [] is zip misfit = absurd zip
+no-misfit [] (x ∷ xs) (e ∷ es) is zip misfit = absurd (let f : true ≡ false = sym misfit.0 ∙ entry-unversioned x e zip.0 in cc)
+no-misfit (w ∷ []) entries es is zip misfit = misfit.1 is
+no-misfit (w ∷ x ∷ xs) entries es is zip misfit = absurd is
+
+-- what is refused is no access list
+pub refused-acl : (v : Value) (fault : CertFault) → AclRefused v fault → (es : List Entry) → AclOf v es → ⊥
+refused-acl v fault (inl (zero_is, inl other)) es read = other.1 (read.version ++ read.entries) read.written
+refused-acl v fault (inl (zero_is, inr outer)) es read =
+    let e : outer.0 ≡ read.version ++ read.entries = same_others v (codes "acl") outer.0 (read.version ++ read.entries) outer.1 read.written in
+    no-misfit read.version read.entries es read.version_is read.each (subst BeginsMisfit e outer.2)
+refused-acl v fault (inr refused) es read =
+    let e : refused.all ≡ read.version ++ read.entries = same_others v (codes "acl") refused.all (read.version ++ read.entries) refused.written read.written in
+    let f : behind_version refused.all ≡ read.entries = ap behind_version e ∙ entries-behind read.version read.entries es read.version_is read.each in
+    no-items EntryOf (behind_version refused.all) fault.item refused.refused refused.place es (subst (λ (vs : List Value). AllZip EntryOf vs es) (sym f) read.each)
+
+-- ---- the outer list
+
+version-written : (first : Value) (rest : List Value) → first ≡ group (plain (codes "version") ∷ rest) → rest ≡ plain (codes "0") ∷ [] → first ≡ version_field
+version-written first rest e f = e ∙ ap (λ (vs : List Value). group (plain (codes "version") ∷ vs)) f
+
+-- behind a version
+pub versioned : (v : Value) (all : List Value) (first : Value) (others rest : List Value) → v ≡ group (plain (codes "acl") ∷ all) → all ≡ first ∷ others
+    → first ≡ group (plain (codes "version") ∷ rest) → rest ≡ plain (codes "0") ∷ []
+    → (vs : List Value) × (v ≡ group (plain (codes "acl") ∷ vs)) × BeginsWell vs × (others ≡ behind_version vs)
+versioned v all first others rest e f g h =
+    let here : is_headed (codes "version") first ≡ true = ap (is_headed (codes "version")) g in (
+      first ∷ others,
+      e ∙ ap (λ (vs : List Value). group (plain (codes "acl") ∷ vs)) f,
+      (λ _. version-written first rest g h),
+      sym (ap (λ (b : Bool). cond b others (first ∷ others)) here),
+    )
+
+-- a version that is none
+pub misfit : (v : Value) (all : List Value) (first : Value) (others rest : List Value) (kind : CertFaultKind) → v ≡ group (plain (codes "acl") ∷ all) → all ≡ first ∷ others
+    → first ≡ group (plain (codes "version") ∷ rest) → (rest ≡ plain (codes "0") ∷ [] → ⊥)
+    → (kind ≡ kinds.Shape) ⊎ ((kind ≡ kinds.UnknownVersion) × IsUnknownVersion first) → OuterRefused v kind
+misfit v all first others rest kind e f g none shown =
+    inr (
+      first ∷ others,
+      e ∙ ap (λ (vs : List Value). group (plain (codes "acl") ∷ vs)) f,
+      (ap (is_headed (codes "version")) g, λ same. none (same_others first (codes "version") rest (plain (codes "0") ∷ []) g same)),
+      shown,
+    )
+
+-- no version stands first
+pub unversioned : (v : Value) (all : List Value) (first : Value) (others : List Value) → v ≡ group (plain (codes "acl") ∷ all) → all ≡ first ∷ others
+    → IsNotHeaded first (codes "version")
+    → (vs : List Value) × (v ≡ group (plain (codes "acl") ∷ vs)) × BeginsWell vs × (all ≡ behind_version vs)
+unversioned v all first others e f other =
+    let here : is_headed (codes "version") first ≡ false = not-headed (codes "version") first other in (
+      first ∷ others,
+      e ∙ ap (λ (vs : List Value). group (plain (codes "acl") ∷ vs)) f,
+      (λ headed. absurd (let g : true ≡ false = sym headed ∙ here in cc)),
+      f ∙ sym (ap (λ (b : Bool). cond b others (first ∷ others)) here),
+    )
+
+-- a list whose entries are read is an access list
+pub acl-read : (v : Value) (all members : List Value) (es : List Entry) → v ≡ group (plain (codes "acl") ∷ all) → BeginsWell all → members ≡ behind_version all
+    → AllZip EntryOf members es → AclOf v es
+acl-read v [] members es e well f zip =
+    record { version = []; entries = []; version_is = tt; written = e; each = subst (λ (vs : List Value). AllZip EntryOf vs es) f zip }
+acl-read v (first ∷ others) members es e well f zip = by (is_headed (codes "version") first) refl
+  where
+    by : (b : Bool) → is_headed (codes "version") first ≡ b → AclOf v es
+    by true here = record {
+      version = first ∷ [];
+      entries = others;
+      version_is = well here;
+      written = e;
+      each = subst (λ (vs : List Value). AllZip EntryOf vs es) (f ∙ ap (λ (b : Bool). cond b others (first ∷ others)) here) zip;
+    }
+    by false here = record {
+      version = [];
+      entries = first ∷ others;
+      version_is = tt;
+      written = e;
+      each = subst (λ (vs : List Value). AllZip EntryOf vs es) (f ∙ ap (λ (b : Bool). cond b others (first ∷ others)) here) zip;
+    }

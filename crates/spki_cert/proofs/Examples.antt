@@ -13,7 +13,11 @@ use Rattle.spki_cert.specs.declared.window.Window.{Window}
 use Rattle.spki_cert.specs.Naming.{names}
 use Rattle.spki_cert.specs.Time.{within, meet_of}
 use Rattle.spki_cert.specs.Readings.{KeyOf, DateOf}
-use Rattle.spki_cert.specs.Entries.{WindowOf, tag, tag_field, limit_field, EntryOf, NameOf}
+use Rattle.spki_cert.specs.Subjects.{NameOf}
+use Rattle.spki_cert.specs.Fields.{WindowOf, directly, in_valid, tag}
+use Rattle.spki_cert.specs.Entries.{EntryOf}
+use Rattle.spki_cert.specs.Sequences.{AreInPlace, waits_after}
+use Rattle.spki_cert.proofs.GivenLaws.{once-push}
 
 -- (public-key (test a))
 abbrev ka_body : Value
@@ -74,18 +78,31 @@ never_met = refl
 
 -- ---- the fields of an entry
 
+june_limit : DateOf (plain june) june
+unfolding is_date is_time
+june_limit = record { written = refl; date = refl }
+
+abbrev limit_field : List ℕ → List ℕ → Value
+limit_field word date = group (plain word ∷ plain date ∷ [])
+
 -- (valid (not-before d))
 valid_from_june : WindowOf (group (plain (codes "valid") ∷ limit_field (codes "not-before") june ∷ []) ∷ []) from_june
-valid_from_june = record {
-  one_valid = omega arith;
-  one_way = inr refl;
-  first = (refl, (0, omega arith, refl));
-  last = refl;
-}
+valid_from_june =
+    in_valid (
+      limit_field (codes "not-before") june ∷ [],
+      refl,
+      record {
+        each = ((codes "not-before", plain june ∷ [], june, inl refl, refl, (plain june, refl, june_limit)), tt);
+        once = once-push [] (limit_field (codes "not-before") june) (λ word. omega arith) (λ word e. refl);
+        limits_are = ((plain june ∷ [], refl, (plain june, refl, june_limit)), refl);
+      },
+    )
+    refl refl
 
 -- (valid) beside (not-before d) is both ways at once
 both_ways : (w : Window) → WindowOf (group (plain (codes "valid") ∷ []) ∷ limit_field (codes "not-before") june ∷ []) w → ⊥
-both_ways w read = elim read.one_way [ inl e ↦ absurd (omega arith) | inr e ↦ absurd (omega arith) ]
+both_ways w (directly none limits) = absurd (cc)
+both_ways w (in_valid limits first last) = absurd (cc)
 
 -- (ftp host)
 abbrev ftp_host : tags.Tag
@@ -94,24 +111,23 @@ ftp_host = tags.list (codes "ftp") (tags.more (tags.string (codes "host")) tags.
 abbrev ftp_value : Value
 ftp_value = group (plain (codes "ftp") ∷ plain (codes "host") ∷ [])
 
+abbrev ftp_field : Value
+ftp_field = group (plain (codes "tag") ∷ ftp_value ∷ [])
+
 -- the entry of the first run: (entry (public-key (test a)) (tag (ftp host)))
-first_run : (no_names : Vec (List ℕ) Global) → no_names.items ≡ [] → ReadsAs ftp_value ftp_host → EntryOf (group (plain (codes "entry") ∷ ka ∷ tag_field ftp_value ∷ [])) (record { subject = record { principal = Key ka_octets; names = no_names }; propagate = false; tag = ftp_host; window = record { not_before = None; not_after = None } })
+first_run : (no_names : Vec (List ℕ) Global) → no_names.items ≡ [] → ReadsAs ftp_value ftp_host → EntryOf (group (plain (codes "entry") ∷ ka ∷ ftp_field ∷ [])) (record { subject = record { principal = Key ka_octets; names = no_names }; propagate = false; tag = ftp_host; window = record { not_before = None; not_after = None } })
 first_run no_names none reads = record {
   subject = ka;
-  fields = tag_field ftp_value ∷ [];
+  fields = ftp_field ∷ [];
   written = refl;
   subject_is = inl (ka_is_key, none);
-  fields_are = record {
-    each = (tag ftp_value refl, tt);
-    one_propagate = omega arith;
-    propagates_is = refl;
-    one_tag = refl;
-    tag_value = ftp_value;
-    tag_stands = (0, omega arith, refl);
-    tag_is = reads;
-    one_comment = omega arith;
-    window_is = record { one_valid = omega arith; one_way = inl refl; first = refl; last = refl };
+  are_fields = record {
+    each = (tag (ftp_value ∷ []) ftp_host refl (ftp_value, refl, reads), tt);
+    once = once-push [] ftp_field (λ word. omega arith) (λ word e. refl);
   };
+  propagates_is = refl;
+  tag_is = (ftp_value ∷ [], refl, (ftp_value, refl, reads));
+  window_is = directly refl (refl, refl);
 }
 
 -- (name (public-key (test a)) friends bob)
@@ -124,3 +140,26 @@ friends_bob = record {
   names_are = refl;
   written = refl;
 }
+
+-- ---- sequences
+
+abbrev a_cert : Value
+a_cert = group (plain (codes "cert") ∷ [])
+
+abbrev a_signature : Value
+a_signature = group (plain (codes "signature") ∷ [])
+
+abbrev an_operation : Value
+an_operation = group (plain (codes "do") ∷ [])
+
+-- an operation between a certificate and its signature doesn't end the wait
+signed_behind_operation : AreInPlace false (a_cert ∷ an_operation ∷ a_signature ∷ []) × (waits_after false (a_cert ∷ an_operation ∷ a_signature ∷ []) ≡ false)
+signed_behind_operation = ((refl, (inl refl, (inr refl, tt))), refl)
+
+-- a key doesn't stand there
+key_between : AreInPlace false (a_cert ∷ ka ∷ a_signature ∷ []) → ⊥
+key_between places = elim places.1.0 [ inl e ↦ absurd (cc) | inr e ↦ absurd (cc) ]
+
+-- nor does a second signature behind the first
+second_signature : AreInPlace false (a_cert ∷ a_signature ∷ a_signature ∷ []) → ⊥
+second_signature places = absurd (let e = places.1.1.0 in cc)

@@ -1,221 +1,167 @@
--- Fields that were read one after the other.
-use Rattle.std.proofs.Common.{◌≡◌, ℕ, ◌+◌, ◌≤◌, Bool, true, false, ◌||◌, ◌⊎◌, inl, inr, List, [], ◌∷◌, ◌++◌, Option, Some, None, refl, sym, ap, subst, ◌∙◌, arith}
-use Rattle.std.specs.Prelude.{Contains, codes, is_some}
-use Rattle.std.specs.List.{AllByRecursion, list_any}
-use Rattle.std.proofs.lemmas.List.Folds.{list_any-append}
-use Rattle.std.proofs.lemmas.List.Elements.{Contains-append_left, Contains-append_right, Contains-append_cases, Contains-push_cases}
-use Rattle.sexpr_core.specs.Value.{Value}
+-- Which fields there are, by their heads.
+use Rattle.std.proofs.Common.{◌≡◌, ◌≢◌, ℕ, inl, inr, true, false, List, [], ◌∷◌, Option, refl, sym, ap, subst, ◌∙◌}
+use Rattle.std.specs.Prelude.{codes}
+use Rattle.sexpr_core.specs.Value.{Value, plain, group}
+use Rattle.sexpr_core.specs.Shapes.{IsNotHeaded}
 use Rattle.spki_tag.specs.Tag as tags
 use Rattle.spki_tag.specs.Read.{ReadsAs}
-use Rattle.spki_cert.specs.declared.fields.Fields.{Fields}
+use Rattle.spki_cert.specs.declared.principal.Principal.{Principal}
 use Rattle.spki_cert.specs.declared.window.Window.{Window}
-use Rattle.spki_cert.specs.Entries.{one_if, is_headed, count_headed, propagate_field, tag_field, spread, IsField, propagate, tag, WindowOf, FieldsOf, IsReadField}
-use Rattle.spki_cert.specs.Fields.{IsWholeField, Adds, delegates, gives, IsRepeated, TagAmong, AreRead, always}
+use Rattle.spki_cert.specs.Readings.{DateOf}
+use Rattle.spki_cert.specs.Fields.{Sole, IsLimitField, ValidOf, IsTimeField, limit, valid, IsField, propagate, tag, time, comment, IssuerIn, WhoIn, IsUnread, display, issuer_info, subject_info, IsCertField, common, version, issuer, subject, unread}
+use Rattle.spki_tag.specs.declared.fault.TagFault.{TagFault}
+use Rattle.spki_tag.specs.Read.{IsNoTag}
+use Rattle.spki_tag.specs.Faults.{TagShows}
+use Rattle.spki_cert.specs.declared.fault.CertFaultKind.{CertFaultKind}
+use Rattle.spki_cert.specs.declared.fault.CertFaultKind.TheVariants as kinds
+use Rattle.spki_cert.specs.Faults.{Shows, HasTagFault}
+use Rattle.spki_cert.specs.Gathering.{is_among, IsTagKind}
+use Rattle.spki_cert.proofs.Showing.{shown-here}
+use Rattle.spki_cert.proofs.Groups.{same_others, headed-by, head-same}
+use Rattle.spki_cert.proofs.ValidLaws.{first-limit, last-limit}
 
--- ---- lists
+-- ---- heads
 
-count-append : (word : List ℕ) (xs ys : List Value) → count_headed word (xs ++ ys) ≡ count_headed word xs + count_headed word ys
-count-append word [] ys = omega arith
-count-append word (x ∷ xs) ys = omega (arith, count-append word xs ys)
+-- a list whose head is one of these words
+abbrev HeadAmong : List (List ℕ) → Value → Type 0
+HeadAmong words v = (word : List ℕ) × (rest : List Value) × (v ≡ group (plain word ∷ rest)) × (is_among words word ≡ true)
 
-each-push : (P : Value → Type 0) (xs : List Value) (v : Value) → AllByRecursion P xs → P v → AllByRecursion P (xs ++ v ∷ [])
-each-push P [] v all this = (this, tt)
-each-push P (x ∷ xs) v all this = (all.0, each-push P xs v all.1 this)
+-- its head is no other word
+other-word : (words : List (List ℕ)) (v : Value) (word : List ℕ) (rest : List Value) → v ≡ group (plain word ∷ rest) → is_among words word ≡ false → HeadAmong words v → ⊥
+other-word words v word rest e unknown among =
+    let same : among.0 ≡ word = head-same v among.0 word among.1 among.2 (headed-by v word rest e) in
+    absurd (let f : true ≡ false = sym among.3 ∙ ap (is_among words) same ∙ unknown in cc)
 
-each-at : (P : Value → Type 0) (xs : List Value) (v : Value) (ys : List Value) → AllByRecursion P (xs ++ v ∷ ys) → P v
-each-at P [] v ys all = all.0
-each-at P (x ∷ xs) v ys all = each-at P xs v ys all.1
+abbrev time_words : List (List ℕ)
+time_words = codes "not-before" ∷ codes "not-after" ∷ codes "valid" ∷ []
 
-each-weaker : (P Q : Value → Type 0) → ((v : Value) → P v → Q v) → (xs : List Value) → AllByRecursion P xs → AllByRecursion Q xs
-each-weaker P Q weaker [] all = tt
-each-weaker P Q weaker (x ∷ xs) all = (weaker x all.0, each-weaker P Q weaker xs all.1)
+abbrev field_words : List (List ℕ)
+field_words = codes "propagate" ∷ codes "tag" ∷ codes "comment" ∷ time_words
 
--- one more behind others, with this head or not
-count-push : (word : List ℕ) (xs : List Value) (v : Value) (b : Bool) → is_headed word v ≡ b → count_headed word (xs ++ v ∷ []) ≡ count_headed word xs + one_if b
-count-push word xs v b e =
-    let one : one_if (is_headed word v) ≡ one_if b = ap (λ (x : Bool). one_if x) e in
-    let all : count_headed word (xs ++ v ∷ []) ≡ count_headed word xs + (one_if (is_headed word v) + 0) = count-append word xs (v ∷ []) in
-    omega arith
+abbrev unread_words : List (List ℕ)
+unread_words = codes "display" ∷ codes "issuer-info" ∷ codes "subject-info" ∷ []
 
-or-false : (b : Bool) → (b || false) ≡ b
-or-false true = refl
-or-false false = refl
+time-head : (v : Value) → IsTimeField v → HeadAmong time_words v
+time-head v (limit (word, rest, date, inl is, written, read)) = (codes "not-before", rest, written ∙ ap (λ (w : List ℕ). group (plain w ∷ rest)) is, refl)
+time-head v (limit (word, rest, date, inr is, written, read)) = (codes "not-after", rest, written ∙ ap (λ (w : List ℕ). group (plain w ∷ rest)) is, refl)
+time-head v (valid limits w written read) = (codes "valid", limits, written, refl)
 
-or-true : (b : Bool) → (b || true) ≡ true
-or-true true = refl
-or-true false = refl
+time-head_field : (v : Value) → IsTimeField v → HeadAmong field_words v
+time-head_field v (limit (word, rest, date, inl is, written, read)) = (codes "not-before", rest, written ∙ ap (λ (w : List ℕ). group (plain w ∷ rest)) is, refl)
+time-head_field v (limit (word, rest, date, inr is, written, read)) = (codes "not-after", rest, written ∙ ap (λ (w : List ℕ). group (plain w ∷ rest)) is, refl)
+time-head_field v (valid limits w written read) = (codes "valid", limits, written, refl)
 
-any-push : (word : List ℕ) (xs : List Value) (v : Value) (b : Bool) → is_headed word v ≡ b → list_any (is_headed word) (xs ++ v ∷ []) ≡ (list_any (is_headed word) xs || b)
-any-push word xs v b e =
-    list_any-append (is_headed word) xs (v ∷ [])
-    ∙ ap (λ (x : Bool). list_any (is_headed word) xs || x) (or-false (is_headed word v) ∙ e)
+field-head : (v : Value) → IsField v → HeadAmong field_words v
+field-head v (propagate written) = (codes "propagate", [], written, refl)
+field-head v (tag rest t written read) = (codes "tag", rest, written, refl)
+field-head v (time f) = time-head_field v f
+field-head v (comment xs written) = (codes "comment", xs, written, refl)
 
--- ---- one more field
+unread-head : (v : Value) → IsUnread v → HeadAmong unread_words v
+unread-head v (display xs written) = (codes "display", xs, written, refl)
+unread-head v (issuer_info xs written) = (codes "issuer-info", xs, written, refl)
+unread-head v (subject_info xs written) = (codes "subject-info", xs, written, refl)
 
-tag-kept : (xs : List Value) (v : Value) (t : Option tags.Tag) → is_headed (codes "tag") v ≡ false → TagAmong xs t → TagAmong (xs ++ v ∷ []) t
-tag-kept xs v None e among = let n = count-push (codes "tag") xs v false e in omega arith
-tag-kept xs v (Some t) e among =
-    ((let n = count-push (codes "tag") xs v false e in let one = among.0 in omega arith), (among.1.0, Contains-append_left xs (v ∷ []) (tag_field among.1.0) among.1.1, among.1.2))
+-- ---- validity
 
-contains-last : (xs : List Value) (v w : Value) → v ≡ w → Contains (xs ++ v ∷ []) w
-contains-last xs v w e = Contains-append_right xs (v ∷ []) w (0, (omega arith), e)
+pub time-first : (v : Value) (rest : List Value) → v ≡ group (plain (codes "not-before") ∷ rest) → IsTimeField v → (date : List ℕ) × Sole DateOf rest date
+time-first v rest e (limit l) = first-limit v rest e l
+time-first v rest e (valid limits w written read) =
+    absurd (other-word (codes "valid" ∷ []) v (codes "not-before") rest e refl (codes "valid", limits, written, refl))
 
-none-among : (xs : List Value) (t : Option tags.Tag) → t ≡ None → TagAmong xs t → count_headed (codes "tag") xs ≡ 0
-none-among xs None e among = among
-none-among xs (Some t) e among = absurd cc
+pub time-last : (v : Value) (rest : List Value) → v ≡ group (plain (codes "not-after") ∷ rest) → IsTimeField v → (date : List ℕ) × Sole DateOf rest date
+time-last v rest e (limit l) = last-limit v rest e l
+time-last v rest e (valid limits w written read) =
+    absurd (other-word (codes "valid" ∷ []) v (codes "not-after") rest e refl (codes "valid", limits, written, refl))
 
-some-among : (xs : List Value) (t : Option tags.Tag) → is_some t ≡ true → TagAmong xs t → count_headed (codes "tag") xs ≡ 1
-some-among xs None e among = absurd cc
-some-among xs (Some t) e among = among.0
+abbrev limit_words : List (List ℕ)
+limit_words = codes "not-before" ∷ codes "not-after" ∷ []
 
-delegated : (xs : List Value) (v : Value) (known : Fields) → AreRead xs known → v ≡ propagate_field → known.propagates ≡ false → AreRead (xs ++ v ∷ []) (record { propagates = true; tag = known.tag })
-delegated xs v known read e none =
-    let yes : is_headed (codes "propagate") v ≡ true = ap (is_headed (codes "propagate")) e in
-    let no : is_headed (codes "tag") v ≡ false = ap (is_headed (codes "tag")) e in
-    let before : count_headed (codes "propagate") xs ≡ 0 = read.count ∙ ap (λ (b : Bool). one_if b) none in
-    record {
-      each = each-push IsReadField xs v read.each (inl e);
-      count = count-push (codes "propagate") xs v true yes ∙ (omega arith);
-      propagates_is = sym (any-push (codes "propagate") xs v true yes ∙ or-true (list_any (is_headed (codes "propagate")) xs));
-      tag_is = tag-kept xs v known.tag no read.tag_is;
-    }
+limit-head : (v : Value) → IsLimitField v → HeadAmong limit_words v
+limit-head v (word, rest, date, inl is, written, read) = (codes "not-before", rest, written ∙ ap (λ (w : List ℕ). group (plain w ∷ rest)) is, refl)
+limit-head v (word, rest, date, inr is, written, read) = (codes "not-after", rest, written ∙ ap (λ (w : List ℕ). group (plain w ∷ rest)) is, refl)
 
-given : (xs : List Value) (v : Value) (known : Fields) (value : Value) (t : tags.Tag) → AreRead xs known → v ≡ tag_field value → ReadsAs value t → known.tag ≡ None → AreRead (xs ++ v ∷ []) (record { propagates = known.propagates; tag = Some t })
-given xs v known value t read e reads none =
-    let yes : is_headed (codes "tag") v ≡ true = ap (is_headed (codes "tag")) e in
-    let no : is_headed (codes "propagate") v ≡ false = ap (is_headed (codes "propagate")) e in
-    let before : count_headed (codes "tag") xs ≡ 0 = none-among xs known.tag none read.tag_is in
-    record {
-      each = each-push IsReadField xs v read.each (inr (value, e));
-      count = count-push (codes "propagate") xs v false no ∙ (let so_far = read.count in omega arith);
-      propagates_is = read.propagates_is ∙ sym (any-push (codes "propagate") xs v false no ∙ or-false (list_any (is_headed (codes "propagate")) xs));
-      tag_is = (count-push (codes "tag") xs v true yes ∙ (omega arith), (value, contains-last xs v (tag_field value) e, reads));
-    }
+pub time-valid : (v : Value) (rest : List Value) → v ≡ group (plain (codes "valid") ∷ rest) → IsTimeField v → (w : Window) × ValidOf rest w
+time-valid v rest e (limit l) = absurd (other-word limit_words v (codes "valid") rest e refl (limit-head v l))
+time-valid v rest e (valid limits w written read) = (w, subst (λ (vs : List Value). ValidOf vs w) (same_others v (codes "valid") limits rest written e) read)
 
-pub AreRead-more : (xs : List Value) (v : Value) (known after : Fields) → AreRead xs known → Adds v known after → AreRead (xs ++ v ∷ []) after
-AreRead-more xs v known after read (delegates e none is) = subst (AreRead (xs ++ v ∷ [])) (sym is) (delegated xs v known read e none)
-AreRead-more xs v known after read (gives value t e reads none is) = subst (AreRead (xs ++ v ∷ [])) (sym is) (given xs v known value t read e reads none)
+-- ---- fields of entries
 
--- ---- a field that isn't read
+pub field-tag : (v : Value) (rest : List Value) → v ≡ group (plain (codes "tag") ∷ rest) → IsField v → (t : tags.Tag) × Sole ReadsAs rest t
+field-tag v rest e (propagate written) = absurd (other-word (codes "propagate" ∷ []) v (codes "tag") rest e refl (codes "propagate", [], written, refl))
+field-tag v rest e (tag behind t written read) = (t, subst (λ (vs : List Value). Sole ReadsAs vs t) (same_others v (codes "tag") behind rest written e) read)
+field-tag v rest e (time f) = absurd (other-word time_words v (codes "tag") rest e refl (time-head v f))
+field-tag v rest e (comment xs written) = absurd (other-word (codes "comment" ∷ []) v (codes "tag") rest e refl (codes "comment", xs, written, refl))
 
--- a member is the first or one of the others
-first_or_other : (x : Value) (xs : List Value) (u : Value) → Contains (x ∷ xs) u → (x ≡ u) ⊎ Contains xs u
-first_or_other x xs u h = elim (Contains-append_cases (x ∷ []) xs u h) [
-  | inl this ↦ elim (Contains-push_cases [] x u this) [
-    | inl none ↦ absurd (omega (arith, none.1))
-    | inr e ↦ inl e
-  ]
-  | inr other ↦ inr other
-]
+pub field-time : (v : Value) → IsNotHeaded v (codes "tag") → IsNotHeaded v (codes "propagate") → IsNotHeaded v (codes "comment") → IsField v → IsTimeField v
+field-time v no-tag no-propagate no-comment (propagate written) = absurd (no-propagate [] written)
+field-time v no-tag no-propagate no-comment (tag rest t written read) = absurd (no-tag rest written)
+field-time v no-tag no-propagate no-comment (time f) = f
+field-time v no-tag no-propagate no-comment (comment xs written) = absurd (no-comment xs written)
 
-counted : (word : List ℕ) (xs : List Value) (u : Value) → is_headed word u ≡ true → Contains xs u → 1 ≤ count_headed word xs
-counted word [] u e h = absurd (omega (arith, h.1))
-counted word (x ∷ xs) u e h = elim (first_or_other x xs u h) [
-  | inl same ↦
-      let here : one_if (is_headed word x) ≡ 1 = ap (λ (v : Value). one_if (is_headed word v)) same ∙ ap (λ (b : Bool). one_if b) e in
-      omega arith
-  | inr other ↦ omega (arith, counted word xs u e other)
-]
+-- ---- fields of certificates
 
--- where one alone has a head, a field with this head is that one
-one-alone : (word : List ℕ) (xs : List Value) (v : Value) (ys : List Value) (u : Value) → count_headed word (xs ++ v ∷ ys) ≡ 1
-    → is_headed word v ≡ true → is_headed word u ≡ true → Contains (xs ++ v ∷ ys) u → v ≡ u
-one-alone word xs v ys u one e f h =
-    let all = count-append word xs (v ∷ ys) in
-    let here : one_if (is_headed word v) ≡ 1 = ap (λ (b : Bool). one_if b) e in
-    elim (Contains-append_cases xs (v ∷ ys) u h) [
-      | inl before ↦ absurd (omega (arith, counted word xs u f before))
-      | inr others ↦ elim (first_or_other v ys u others) [
-        | inl same ↦ same
-        | inr behind ↦ absurd (omega (arith, counted word ys u f behind))
-      ]
-    ]
+pub cert-issuer : (v : Value) (rest : List Value) → v ≡ group (plain (codes "issuer") ∷ rest) → IsCertField v → (i : Principal × Option (List ℕ)) × IssuerIn rest i
+cert-issuer v rest e (common f) = absurd (other-word field_words v (codes "issuer") rest e refl (field-head v f))
+cert-issuer v rest e (version written) = absurd (other-word (codes "version" ∷ []) v (codes "issuer") rest e refl (codes "version", plain (codes "0") ∷ [], written, refl))
+cert-issuer v rest e (issuer behind i written read) = (i, subst (λ (vs : List Value). IssuerIn vs i) (same_others v (codes "issuer") behind rest written e) read)
+cert-issuer v rest e (subject behind s written read) = absurd (other-word (codes "subject" ∷ []) v (codes "issuer") rest e refl (codes "subject", behind, written, refl))
+cert-issuer v rest e (unread u) = absurd (other-word unread_words v (codes "issuer") rest e refl (unread-head v u))
 
-same-tag : (x y : Value) → tag_field x ≡ tag_field y → x ≡ y
-same-tag x y e = cc
+pub cert-subject : (v : Value) (rest : List Value) → v ≡ group (plain (codes "subject") ∷ rest) → IsCertField v → (s : Option Principal × List (List ℕ)) × WhoIn rest s
+cert-subject v rest e (common f) = absurd (other-word field_words v (codes "subject") rest e refl (field-head v f))
+cert-subject v rest e (version written) = absurd (other-word (codes "version" ∷ []) v (codes "subject") rest e refl (codes "version", plain (codes "0") ∷ [], written, refl))
+cert-subject v rest e (issuer behind i written read) = absurd (other-word (codes "issuer" ∷ []) v (codes "subject") rest e refl (codes "issuer", behind, written, refl))
+cert-subject v rest e (subject behind s written read) = (s, subst (λ (vs : List Value). WhoIn vs s) (same_others v (codes "subject") behind rest written e) read)
+cert-subject v rest e (unread u) = absurd (other-word unread_words v (codes "subject") rest e refl (unread-head v u))
 
--- the tag among the fields of an entry is read
-whole-field : (xs : List Value) (v : Value) (ys : List Value) (p : Bool) (t : tags.Tag) (w : Window)
-    → FieldsOf (xs ++ v ∷ ys) p t w → IsReadField v → IsWholeField v
-whole-field xs v ys p t w fields (inl e) = inl e
-whole-field xs v ys p t w fields (inr f) =
-    let yes : is_headed (codes "tag") v ≡ true = ap (is_headed (codes "tag")) f.1 in
-    let same : v ≡ tag_field fields.tag_value = one-alone (codes "tag") xs v ys (tag_field fields.tag_value) fields.one_tag yes refl fields.tag_stands in
-    let e : fields.tag_value ≡ f.0 = same-tag fields.tag_value f.0 (sym same ∙ f.1) in
-    inr (f.0, t, f.1, subst (λ (value : Value). ReadsAs value t) e fields.tag_is)
+pub cert-version : (v : Value) (rest : List Value) → v ≡ group (plain (codes "version") ∷ rest) → IsCertField v → rest ≡ plain (codes "0") ∷ []
+cert-version v rest e (common f) = absurd (other-word field_words v (codes "version") rest e refl (field-head v f))
+cert-version v rest e (version written) = same_others v (codes "version") rest (plain (codes "0") ∷ []) e written
+cert-version v rest e (issuer behind i written read) = absurd (other-word (codes "issuer" ∷ []) v (codes "version") rest e refl (codes "issuer", behind, written, refl))
+cert-version v rest e (subject behind s written read) = absurd (other-word (codes "subject" ∷ []) v (codes "version") rest e refl (codes "subject", behind, written, refl))
+cert-version v rest e (unread u) = absurd (other-word unread_words v (codes "version") rest e refl (unread-head v u))
 
-pub AreRead-stops : (xs : List Value) (v : Value) (ys : List Value) (known : Fields) → AreRead xs known → (IsWholeField v → IsRepeated v known)
-    → (p : Bool) (t : tags.Tag) (w : Window) → FieldsOf (xs ++ v ∷ ys) p t w → AllByRecursion IsReadField (xs ++ v ∷ ys) → ⊥
-AreRead-stops xs v ys known read stops p t w fields each =
-    elim (stops (whole-field xs v ys p t w fields (each-at IsReadField xs v ys each))) [
-      | inl again ↦
-          let here : one_if (is_headed (codes "propagate") v) ≡ 1 = ap (λ (b : Bool). one_if b) again.0 in
-          let before : count_headed (codes "propagate") xs ≡ 1 = read.count ∙ ap (λ (b : Bool). one_if b) again.1 in
-          let all = count-append (codes "propagate") xs (v ∷ ys) in
-          let most = fields.one_propagate in
-          absurd (omega arith)
-      | inr again ↦
-          let here : one_if (is_headed (codes "tag") v) ≡ 1 = ap (λ (b : Bool). one_if b) again.0 in
-          let before : count_headed (codes "tag") xs ≡ 1 = some-among xs known.tag again.1 read.tag_is in
-          let all = count-append (codes "tag") xs (v ∷ ys) in
-          let one = fields.one_tag in
-          absurd (omega arith)
-    ]
+pub cert-field : (v : Value) → IsNotHeaded v (codes "issuer") → IsNotHeaded v (codes "subject") → IsNotHeaded v (codes "version") → (IsUnread v → ⊥) → IsCertField v → IsField v
+cert-field v no-issuer no-subject no-version read (common f) = f
+cert-field v no-issuer no-subject no-version read (version written) = absurd (no-version (plain (codes "0") ∷ []) written)
+cert-field v no-issuer no-subject no-version read (issuer behind i written _) = absurd (no-issuer behind written)
+cert-field v no-issuer no-subject no-version read (subject behind s written _) = absurd (no-subject behind written)
+cert-field v no-issuer no-subject no-version read (unread u) = absurd (read u)
 
--- ---- all fields
+-- ---- tags
 
--- of no field is this the head
-count-other : (word : List ℕ) → is_headed word propagate_field ≡ false → ((value : Value) → is_headed word (tag_field value) ≡ false) → (xs : List Value) → AllByRecursion IsReadField xs → count_headed word xs ≡ 0
-count-other word p q [] each = refl
-count-other word p q (x ∷ xs) each =
-    let rest = count-other word p q xs each.1 in
-    elim each.0 [
-      | inl e ↦ (let here : one_if (is_headed word x) ≡ 0 = ap (λ (v : Value). one_if (is_headed word v)) e ∙ ap (λ (b : Bool). one_if b) p in omega arith)
-      | inr f ↦ (let here : one_if (is_headed word x) ≡ 0 = ap (λ (v : Value). one_if (is_headed word v)) f.1 ∙ ap (λ (b : Bool). one_if b) (q f.0) in omega arith)
-    ]
+pub tag-none : (fault : TagFault) (kind : CertFaultKind) (members : List Value) (value : Value) (rest : List Value) → IsTagKind fault kind → IsNoTag fault value → members ≡ value ∷ rest
+    → kind ≢ kinds.Memory → (t : tags.Tag) → Sole ReadsAs members t → ⊥
+tag-none fault kind members value rest (inl is) none e known t read = known is.1
+tag-none fault kind members value rest (inr is) none e known t read =
+    let same : read.0 ≡ value = (let f = read.1 in cc) in
+    is.0 (none read.2.w read.2.written read.2.few (read.2.spelled ∙ same))
 
-spread-plain : (xs : List Value) → AllByRecursion IsReadField xs → spread xs ≡ xs
-spread-plain [] each = refl
-spread-plain (x ∷ xs) each =
-    let rest = spread-plain xs each.1 in
-    elim each.0 as (λ _. spread (x ∷ xs) ≡ x ∷ xs) [
-      | inl e ↦ subst (λ (v : Value). spread (v ∷ xs) ≡ v ∷ xs) (sym e) (ap (λ (vs : List Value). propagate_field ∷ vs) rest)
-      | inr f ↦ subst (λ (v : Value). spread (v ∷ xs) ≡ v ∷ xs) (sym f.1) (ap (λ (vs : List Value). tag_field f.0 ∷ vs) rest)
-    ]
+pub tag-shown : (fault : TagFault) (kind : CertFaultKind) (members : List Value) (value : Value) (rest : List Value) → IsTagKind fault kind → TagShows fault value → members ≡ value ∷ rest
+    → Shows kind (group (plain (codes "tag") ∷ members))
+tag-shown fault kind members value rest (inl is) shown e = subst (λ (k : CertFaultKind). Shows k (group (plain (codes "tag") ∷ members))) (sym is.1) tt
+tag-shown fault kind members value rest (inr is) shown e =
+    subst (λ (k : CertFaultKind). Shows k (group (plain (codes "tag") ∷ members))) (sym is.1)
+    (shown-here (HasTagFault fault) (group (plain (codes "tag") ∷ members)) (record {
+      tag = value;
+      rest = rest;
+      written = ap (λ (vs : List Value). group (plain (codes "tag") ∷ vs)) e;
+      known = is.0;
+      shown = shown;
+    }))
 
-no-limits : (xs : List Value) → AllByRecursion IsReadField xs → WindowOf xs always
-no-limits xs each =
-    let valid : count_headed (codes "valid") xs ≡ 0 = count-other (codes "valid") refl (λ _. refl) xs each in
-    let same = spread-plain xs each in
-    record {
-      one_valid = omega arith;
-      one_way = inl valid;
-      first = ap (count_headed (codes "not-before")) same ∙ count-other (codes "not-before") refl (λ _. refl) xs each;
-      last = ap (count_headed (codes "not-after")) same ∙ count-other (codes "not-after") refl (λ _. refl) xs each;
-    }
+-- ---- each field has a head
 
-plain-field : (v : Value) → IsReadField v → IsField v
-plain-field v (inl e) = propagate e
-plain-field v (inr f) = tag f.0 f.1
+abbrev pub HasHead : Value → Type 0
+HasHead v = (word : List ℕ) × (rest : List Value) × (v ≡ group (plain word ∷ rest))
 
-whole : (xs : List Value) (known : Fields) (t : tags.Tag) → AreRead xs known → TagAmong xs (Some t) → FieldsOf xs known.propagates t always
-whole xs known t read among =
-    let count = read.count in
-    record {
-      each = each-weaker IsReadField IsField plain-field xs read.each;
-      one_propagate = at_most known.propagates count;
-      propagates_is = read.propagates_is;
-      one_tag = among.0;
-      tag_value = among.1.0;
-      tag_stands = among.1.1;
-      tag_is = among.1.2;
-      one_comment = (let none : count_headed (codes "comment") xs ≡ 0 = count-other (codes "comment") refl (λ _. refl) xs read.each in omega arith);
-      window_is = no-limits xs read.each;
-    }
-  where
-    at_most : (b : Bool) → count_headed (codes "propagate") xs ≡ one_if b → count_headed (codes "propagate") xs ≤ 1
-    at_most true e = omega arith
-    at_most false e = omega arith
+pub field-word : (v : Value) → IsField v → HasHead v
+field-word v f = (let h = field-head v f in (h.0, h.1, h.2))
 
-pub AreRead-all : (xs : List Value) (known : Fields) (t : tags.Tag) → AreRead xs known → known.tag ≡ Some t → FieldsOf xs known.propagates t always
-AreRead-all xs known t read e = whole xs known t read (subst (TagAmong xs) e read.tag_is)
+pub cert-word : (v : Value) → IsCertField v → HasHead v
+cert-word v (common f) = field-word v f
+cert-word v (version written) = (codes "version", plain (codes "0") ∷ [], written)
+cert-word v (issuer rest i written read) = (codes "issuer", rest, written)
+cert-word v (subject rest s written read) = (codes "subject", rest, written)
+cert-word v (unread u) = (let h = unread-head v u in (h.0, h.1, h.2))

@@ -1,6 +1,6 @@
 -- Moments are in order, and what follows for windows.
-use Rattle.std.proofs.Common.{◌≡◌, ℕ, Bool, true, false, cond, ◌&&◌, List, Option, Some, None, refl, sym, ap, ◌∙◌, subst}
-use Rattle.std.specs.Prelude.{IfSome, IfNone, codes}
+use Rattle.std.proofs.Common.{◌≡◌, ℕ, Bool, true, false, cond, ◌&&◌, List, Option, Some, None, refl, sym, ap, ◌∙◌}
+use Rattle.std.specs.Prelude.{codes}
 use Rattle.std.specs.Cmp.Lexicographic.{slice_cmp}
 use Rattle.std.specs.declared.cmp.Ordering.{Ordering}
 use Rattle.std.specs.declared.cmp.Ordering.TheVariants.{Less, Equal, Greater}
@@ -8,7 +8,7 @@ use Rattle.std.specs.Ordering.{nat_cmp, is_le, is_gt, ordering_reverse}
 use Rattle.std.proofs.lemmas.Cmp.{nat_list_cmp_total, upto as goes_on, tied_itself}
 use Rattle.spki_cert.specs.declared.window.Window.{Window}
 use Rattle.spki_tag.specs.Time.{is_time, is_date}
-use Rattle.spki_cert.specs.Time.{upto, is_from, is_until, within, later, earlier, in_order, meet_of, IsLimit, IsMeet, Overlap, AreApart}
+use Rattle.spki_cert.specs.Time.{upto, is_from, is_until, within, later, earlier, in_order, IsLimit, IsMeet, Overlap, AreApart}
 
 le_or_gt : (o : Ordering) → is_le o ≡ true → is_gt o ≡ false
 le_or_gt Less e = refl
@@ -87,10 +87,10 @@ is_until-earlier (Some s) (Some r) t = until-chosen s r t (upto s r) refl
 -- ---- windows
 
 -- the window of the later not-before and the earlier not-after, in order or not
-abbrev inner : Window → Window → Window
+abbrev pub inner : Window → Window → Window
 inner v w = record { not_before = later v.not_before w.not_before; not_after = earlier v.not_after w.not_after }
 
-within-inner : (v w : Window) → IsMeet v w (inner v w)
+pub within-inner : (v w : Window) → IsMeet v w (inner v w)
 within-inner v w t =
     (λ i. is_from-later v.not_before w.not_before t i && is_until-earlier v.not_after w.not_after t i)
     ∙ regrouped (is_from v.not_before t) (is_from w.not_before t) (is_until v.not_after t) (is_until w.not_after t)
@@ -109,7 +109,7 @@ moment-between None (Some r) d e h = (r, e, refl, upto-self r)
 moment-between (Some s) None d e h = (s, d, upto-self s, refl)
 moment-between (Some s) (Some r) d e h = (s, d, upto-self s, h)
 
-none-apart : (v w : Window) → in_order (inner v w).not_before (inner v w).not_after ≡ false → AreApart v w
+pub none-apart : (v w : Window) → in_order (inner v w).not_before (inner v w).not_after ≡ false → AreApart v w
 none-apart v w h t a = by (within t w) refl
   where
     by : (b : Bool) → within t w ≡ b → b ≡ false
@@ -120,32 +120,9 @@ none-apart v w h t a = by (within t w) refl
         absurd (let x : true ≡ false = sym o ∙ h in cc)
     by false e = refl
 
-some-overlaps : (v w : Window) → IsLimit (inner v w).not_before → IsLimit (inner v w).not_after → in_order (inner v w).not_before (inner v w).not_after ≡ true → Overlap v w
+pub some-overlaps : (v w : Window) → IsLimit (inner v w).not_before → IsLimit (inner v w).not_after → in_order (inner v w).not_before (inner v w).not_after ≡ true → Overlap v w
 some-overlaps v w d e h =
     let m = moment-between (inner v w).not_before (inner v w).not_after d e h in
     let k : within m.0 (inner v w) ≡ true = λ i. m.2 i && m.3 i in
     let p = and_true (within m.0 v) (within m.0 w) (sym (within-inner v w m.0) ∙ k) in
     (m.0, m.1, p.0, p.1)
-
--- ---- what a meet promises
-
-pub meet-moments : (v w : Window) (r : Option Window) → r ≡ meet_of v w → IfSome r (λ met. IsMeet v w met)
-meet-moments v w r e = subst (λ (x : Option Window). IfSome x (λ met. IsMeet v w met)) (sym e) (by (in_order (inner v w).not_before (inner v w).not_after))
-  where
-    by : (b : Bool) → IfSome (cond b (Some (inner v w)) None) (λ met. IsMeet v w met)
-    by true = within-inner v w
-    by false = tt
-
-pub meet-some : (v w : Window) (r : Option Window) → IsLimit (later v.not_before w.not_before) → IsLimit (earlier v.not_after w.not_after) → r ≡ meet_of v w → IfSome r (λ _. Overlap v w)
-meet-some v w r d l e = subst (λ (x : Option Window). IfSome x (λ _. Overlap v w)) (sym e) (by (in_order (inner v w).not_before (inner v w).not_after) refl)
-  where
-    by : (b : Bool) → in_order (inner v w).not_before (inner v w).not_after ≡ b → IfSome (cond b (Some (inner v w)) None) (λ _. Overlap v w)
-    by true h = some-overlaps v w d l h
-    by false h = tt
-
-pub meet-none : (v w : Window) (r : Option Window) → r ≡ meet_of v w → IfNone r (AreApart v w)
-meet-none v w r e = subst (λ (x : Option Window). IfNone x (AreApart v w)) (sym e) (by (in_order (inner v w).not_before (inner v w).not_after) refl)
-  where
-    by : (b : Bool) → in_order (inner v w).not_before (inner v w).not_after ≡ b → IfNone (cond b (Some (inner v w)) None) (AreApart v w)
-    by true h = tt
-    by false h = none-apart v w h

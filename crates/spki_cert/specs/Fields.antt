@@ -1,44 +1,133 @@
--- What is known of an entry's fields while they are read.
-use Rattle.std.specs.Prelude.{◌≡◌, Bool, true, false, ◌⊎◌, List, Option, Some, None, Contains, codes, is_some}
+-- What the fields of an entry and of a certificate say, in any order (RFC 2693, sections 3.3, 3.4 and 5; the forms
+-- are those of the SPKI working group's structure draft).
+use Rattle.std.specs.Prelude.{◌≡◌, ℕ, ◌≤◌, Bool, false, ◌⊎◌, List, [], ◌∷◌, length, Option, Some, None, codes, if◌then◌else◌}
+use Rattle.std.specs.Str.{bytes_eq}
 use Rattle.std.specs.List.{AllByRecursion, list_any}
-use Rattle.sexpr_core.specs.Value.{Value}
+use Rattle.sexpr_core.specs.Value.{Value, string, list, none, more, members, plain, group}
 use Rattle.spki_tag.specs.Tag as tags
 use Rattle.spki_tag.specs.Read.{ReadsAs}
-use Rattle.spki_cert.specs.declared.fields.Fields.{Fields}
+use Rattle.spki_cert.specs.declared.principal.Principal.{Principal}
 use Rattle.spki_cert.specs.declared.window.Window.{Window}
-use Rattle.spki_cert.specs.Entries.{one_if, is_headed, count_headed, propagate_field, tag_field, FieldsOf, IsReadField}
+use Rattle.spki_cert.specs.Readings.{DateOf}
+use Rattle.spki_cert.specs.Subjects.{WhoOf, IssuerOf}
 
--- (propagate), or (tag T) of a tag that is read
-abbrev pub IsWholeField : Value → Type 0
-IsWholeField v = (v ≡ propagate_field) ⊎ ((value : Value) × (t : tags.Tag) × (v ≡ tag_field value) × ReadsAs value t)
+-- ---- heads
 
--- what is known when one more field has been read
-pub data Adds (v : Value) (before after : Fields) : Type 0 where
-  delegates : v ≡ propagate_field → before.propagates ≡ false → after ≡ record { propagates = true; tag = before.tag } → Adds v before after
-  gives : (tag : Value) (t : tags.Tag) → v ≡ tag_field tag → ReadsAs tag t → before.tag ≡ None → after ≡ record { propagates = before.propagates; tag = Some t } → Adds v before after
+-- whether a value is a list with this head
+abbrev pub is_headed : List ℕ → Value → Bool
+is_headed word (string hint octets) = false
+is_headed word (list none) = false
+is_headed word (list (more (list vs) others)) = false
+is_headed word (list (more (string (Some hint) head) others)) = false
+is_headed word (list (more (string None head) others)) = bytes_eq head word
 
--- a field whose head has been met
-abbrev pub IsRepeated : Value → Fields → Type 0
-IsRepeated v before =
-    ((is_headed (codes "propagate") v ≡ true) × (before.propagates ≡ true)) ⊎ ((is_headed (codes "tag") v ≡ true) × (is_some before.tag ≡ true))
+-- what stands behind a list's head
+abbrev pub behind_head : Value → List Value
+behind_head (string hint octets) = []
+behind_head (list none) = []
+behind_head (list (more head others)) = members others
 
--- the tag among fields, or none
-abbrev pub TagAmong : List Value → Option tags.Tag → Type 0
-TagAmong fields None = count_headed (codes "tag") fields ≡ 0
-TagAmong fields (Some t) = (count_headed (codes "tag") fields ≡ 1) × ((tag : Value) × Contains fields (tag_field tag) × ReadsAs tag t)
+-- what stands behind the head, of each list with this head, in order
+abbrev pub contents : List ℕ → List Value → List (List Value)
+contents word [] = []
+contents word (v ∷ vs) = if is_headed word v then behind_head v ∷ contents word vs else contents word vs
 
--- fields that were read, and what they say
-pub record AreRead (fields : List Value) (known : Fields) : Type 0 where
-  pub each : AllByRecursion IsReadField fields
-  pub count : count_headed (codes "propagate") fields ≡ one_if known.propagates
-  pub propagates_is : known.propagates ≡ list_any (is_headed (codes "propagate")) fields
-  pub tag_is : TagAmong fields known.tag
+-- no two have one head
+abbrev pub AreOnce : List Value → Type 0
+AreOnce vs = (word : List ℕ) → length (contents word vs) ≤ 1
 
--- no limits
-abbrev pub always : Window
-always = record { not_before = None; not_after = None }
+-- one value stands there, and it is read so
+abbrev pub Sole : {A : Type 0} → (Value → A → Type 0) → List Value → A → Type 0
+Sole R vs a = (v : Value) × (vs ≡ v ∷ []) × R v a
 
--- what the fields of no entry of the forms that are read so far are
-abbrev pub AreNoFields : List Value → Type 0
-AreNoFields fields =
-    (propagates : Bool) (t : tags.Tag) (w : Window) → FieldsOf fields propagates t w → AllByRecursion IsReadField fields → ⊥
+-- what is read behind the one field with this head, where there is one
+abbrev pub Given : {A : Type 0} → List ℕ → (List Value → A → Type 0) → List Value → Option A → Type 0
+Given word R fields None = contents word fields ≡ []
+Given word R fields (Some a) = (rest : List Value) × (contents word fields ≡ rest ∷ []) × R rest a
+
+-- ---- validity (section 5)
+
+abbrev pub IsLimitWord : List ℕ → Type 0
+IsLimitWord word = (word ≡ codes "not-before") ⊎ (word ≡ codes "not-after")
+
+-- (not-before date) or (not-after date)
+abbrev pub IsLimitField : Value → Type 0
+IsLimitField v =
+    (word : List ℕ) × (rest : List Value) × (date : List ℕ)
+    × IsLimitWord word × (v ≡ group (plain word ∷ rest)) × Sole DateOf rest date
+
+-- the limits that stand among these
+abbrev pub LimitsAre : List Value → Window → Type 0
+LimitsAre vs w =
+    Given (codes "not-before") (Sole DateOf) vs w.not_before
+    × Given (codes "not-after") (Sole DateOf) vs w.not_after
+
+-- what stands behind the head valid: limits, each at most once
+pub record ValidOf (limits : List Value) (w : Window) : Type 0 where
+  pub each : AllByRecursion IsLimitField limits
+  pub once : AreOnce limits
+  pub limits_are : LimitsAre limits w
+
+-- ---- which fields there are
+
+-- a limit, or (valid limit ..)
+pub data IsTimeField (v : Value) : Type 0 where
+  limit : IsLimitField v → IsTimeField v
+  valid : (limits : List Value) (w : Window) → v ≡ group (plain (codes "valid") ∷ limits) → ValidOf limits w → IsTimeField v
+
+-- (propagate), (tag T), a field of validity, or (comment x ..)
+pub data IsField (v : Value) : Type 0 where
+  propagate : v ≡ group (plain (codes "propagate") ∷ []) → IsField v
+  tag : (rest : List Value) (t : tags.Tag) → v ≡ group (plain (codes "tag") ∷ rest) → Sole ReadsAs rest t → IsField v
+  time : IsTimeField v → IsField v
+  comment : (xs : List Value) → v ≡ group (plain (codes "comment") ∷ xs) → IsField v
+
+-- what is behind the head issuer, and behind the head subject
+abbrev pub IssuerIn : List Value → Principal × Option (List ℕ) → Type 0
+IssuerIn rest i = Sole (λ v (j : Principal × Option (List ℕ)). IssuerOf v j.0 j.1) rest i
+
+abbrev pub WhoIn : List Value → Option Principal × List (List ℕ) → Type 0
+WhoIn rest s = Sole (λ v (t : Option Principal × List (List ℕ)). WhoOf v t.0 t.1) rest s
+
+abbrev pub version_field : Value
+version_field = group (plain (codes "version") ∷ plain (codes "0") ∷ [])
+
+-- one that isn't looked at: (display x ..), (issuer-info x ..) or (subject-info x ..)
+pub data IsUnread (v : Value) : Type 0 where
+  display : (xs : List Value) → v ≡ group (plain (codes "display") ∷ xs) → IsUnread v
+  issuer_info : (xs : List Value) → v ≡ group (plain (codes "issuer-info") ∷ xs) → IsUnread v
+  subject_info : (xs : List Value) → v ≡ group (plain (codes "subject-info") ∷ xs) → IsUnread v
+
+-- a field of an entry, (version 0), (issuer ..), (subject ..), or one that isn't looked at
+pub data IsCertField (v : Value) : Type 0 where
+  common : IsField v → IsCertField v
+  version : v ≡ version_field → IsCertField v
+  issuer :
+      (rest : List Value) (i : Principal × Option (List ℕ)) → v ≡ group (plain (codes "issuer") ∷ rest) → IssuerIn rest i
+      → IsCertField v
+  subject :
+      (rest : List Value) (s : Option Principal × List (List ℕ)) → v ≡ group (plain (codes "subject") ∷ rest) → WhoIn rest s
+      → IsCertField v
+  unread : IsUnread v → IsCertField v
+
+-- fields, each at most once
+pub record AreFields (IsOne : Value → Type 0) (fields : List Value) : Type 0 where
+  pub each : AllByRecursion IsOne fields
+  pub once : AreOnce fields
+
+-- ---- what they say
+
+-- whether (propagate) is among the fields
+abbrev pub propagates : List Value → Bool
+propagates fields = list_any (is_headed (codes "propagate")) fields
+
+-- the tag of the fields
+abbrev pub TagOf : List Value → tags.Tag → Type 0
+TagOf fields t = Given (codes "tag") (Sole ReadsAs) fields (Some t)
+
+-- The window of the fields: each limit stands at most once, directly or in one (valid ..), and not both ways at once.
+pub data WindowOf (fields : List Value) (w : Window) : Type 0 where
+  directly : contents (codes "valid") fields ≡ [] → LimitsAre fields w → WindowOf fields w
+  in_valid :
+      Given (codes "valid") ValidOf fields (Some w)
+      → contents (codes "not-before") fields ≡ [] → contents (codes "not-after") fields ≡ [] → WindowOf fields w

@@ -1,6 +1,12 @@
 pub mod Naming
 pub mod Time
-pub mod Shapes
 pub mod Readings
-pub mod Entries
+pub mod Subjects
 pub mod Fields
+pub mod Faults
+pub mod Refusals
+pub mod Entries
+pub mod Certificates
+pub mod Sequences
+pub mod Sameness
+pub mod Gathering

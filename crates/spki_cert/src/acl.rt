@@ -1,52 +1,77 @@
 //! Entries and access lists, as they are read.
 
-ghost use Rattle.std.specs.Prelude.{◌≡◌, ◌≢◌, IsSome, IfSome, IfOk, IfErr};
-ghost use Rattle.sexpr_core.specs.Value.{node};
-ghost use Rattle.spki_cert.specs.Entries.{EntryOf, AclOf, IsNoEntry, IsNoAcl, IsRefusedAt, AclRefused};
+ghost use Rattle.std.specs.Prelude.{◌≡◌, ◌≢◌, ◌∷◌, [], IsSome, IfSome, IfOk, IfErr, codes, List};
 ghost use Rattle.std.specs.List.{AllZip};
+ghost use Rattle.sexpr_core.specs.Value.{Value, node, plain, group};
+ghost use Rattle.spki_cert.specs.declared.entry.Entry as spec;
+ghost use Rattle.spki_cert.specs.declared.entry.Subject as subjects;
+ghost use Rattle.spki_cert.specs.Subjects.{SubjectOf};
+ghost use Rattle.spki_cert.specs.Faults.{Shows};
+ghost use Rattle.spki_cert.specs.Refusals.{IsRefusedAt};
+ghost use Rattle.spki_cert.specs.Entries.{EntryOf, AclOf, AclRefused, OuterRefused, BeginsWell, behind_version};
 
 use crate::entry::{Entry, Subject};
 use crate::fault::{CertFault, CertFaultKind};
-use crate::fields::fields_of;
-use crate::principal::Principal;
-use crate::reading::key_of;
-use crate::shape::headed;
-use crate::window::Window;
-use sexpr_core::{Doc, Members, Node, NodeId};
+use crate::fields::{Fields, Known, Place, fields_of};
+use crate::naming::{Who, who_of};
+use crate::validity::one_way;
+use crate::version::check_version;
+use sexpr_core::reading::{Members, Node};
+use sexpr_core::{Doc, NodeId};
 use std::alloc::Global;
+
+/// The subject of an entry: a principal or a whole name.
+fn entry_subject<'a>(alloc: Global, node: &Node<'_, 'a>) -> Result<Subject<'a>, CertFaultKind>
+    ensures found { IfOk result (λ subject. SubjectOf node.now subject) }
+    ensures refused { IfErr result (λ kind. kind ≢ CertFaultKind.Memory → (s : subjects.Subject) → SubjectOf node.now s → ⊥) }
+    ensures shown { IfErr result (λ kind. (rest : List Value) → Shows kind (group (plain (codes "entry") ∷ node.now ∷ rest))) }
+{
+    let Who { principal, names } = who_of(alloc, node)?;
+    match principal {
+        Some(principal) => Ok(Subject { principal, names }),
+        None => Err(CertFaultKind::RelativeInEntry),
+    }
+}
 
 /// The entry that a node is.
 fn entry_of<'a>(alloc: Global, node: &Node<'_, 'a>) -> Result<Entry<'a>, CertFaultKind>
     ensures entry { IfOk result (λ entry. EntryOf node.now entry) }
-    ensures refused { IfErr result (λ kind. kind ≢ CertFaultKind.Memory → IsNoEntry node.now) }
+    ensures refused { IfErr result (λ kind. kind ≢ CertFaultKind.Memory → (e : spec.Entry) → EntryOf node.now e → ⊥) }
+    ensures shown { IfErr result (λ kind. Shows kind node.now) }
 {
-    let Some(rest) = headed(node, b"entry") else {
+    let Some(rest) = node.headed(b"entry") else {
         return Err(CertFaultKind::Shape);
     };
     let Some((subject, rest)) = rest.split_first() else {
         return Err(CertFaultKind::Shape);
     };
-    let key = key_of(&subject)?;
-    let (propagate, tag) = fields_of(alloc, rest)?;
+    let subject = entry_subject(alloc, &subject)?;
+    let Fields { propagate, known } = fields_of(alloc, Place::Entry, rest)?;
+    let Known {
+        tag,
+        limits,
+        valid,
+        ..
+    } = known;
+    let Some(window) = one_way(limits, valid) else {
+        return Err(CertFaultKind::Shape);
+    };
+    let Some(tag) = tag else {
+        return Err(CertFaultKind::Shape);
+    };
     Ok(Entry {
-        subject: Subject {
-            principal: Principal::Key(key),
-            names: Vec::new(alloc),
-        },
+        subject,
         propagate,
         tag,
-        window: Window {
-            not_before: None,
-            not_after: None,
-        },
+        window,
     })
 }
 
-/// The entries of an access list, behind its head.
+/// The entries of an access list, behind its head and its version.
 fn entries_of<'a>(alloc: Global, members: Members<'_, 'a>) -> Result<Vec<Entry<'a>>, CertFault>
     ensures entries { IfOk result (λ entries. AllZip EntryOf members.entry entries.items) }
-    ensures refused { IfErr result (λ fault.
-        fault.kind ≢ CertFaultKind.Memory → IsRefusedAt members.entry fault.item) }
+    ensures refused { IfErr result (λ fault. fault.kind ≢ CertFaultKind.Memory →
+        (v : Value) × IsRefusedAt EntryOf members.entry fault.item v × Shows fault.kind v) }
 {
     let mut rest = members;
     let mut entries = Vec::new(alloc);
@@ -69,32 +94,48 @@ fn entries_of<'a>(alloc: Global, members: Members<'_, 'a>) -> Result<Vec<Entry<'
     Ok(entries)
 }
 
-/// The access list that a node is, as `read_acl` reads it.
+/// What stands behind the head `acl`, and behind a version if one stands first.
+fn behind_version<'d, 'a>(node: &Node<'d, 'a>) -> Result<Members<'d, 'a>, CertFaultKind>
+    ensures found { IfOk result (λ entries. (all : List Value) × (node.now ≡ group (plain (codes "acl") ∷ all))
+        × BeginsWell all × (entries ≡ behind_version all)) }
+    ensures refused { IfErr result (λ kind. OuterRefused node.now kind) }
+{
+    let Some(all) = node.headed(b"acl") else {
+        return Err(CertFaultKind::Shape);
+    };
+    // Taken twice, since a walk over members uses them up.
+    let Some(members) = node.headed(b"acl") else {
+        return Err(CertFaultKind::Shape);
+    };
+    let Some((first, others)) = members.split_first() else {
+        return Ok(all);
+    };
+    let Some(version) = first.headed(b"version") else {
+        return Ok(all);
+    };
+    check_version(version)?;
+    Ok(others)
+}
+
+/// The access list that a node is, as `read_acl` reads it, with the same errors.
 pub fn acl_of<'a>(alloc: Global, node: &Node<'_, 'a>) -> Result<Vec<Entry<'a>>, CertFault>
     ensures acl { IfOk result (λ entries. AclOf node.now entries.items) }
-    // The entries before the item have readings, and the item has none; at item 0 there is no list.
-    ensures place { IfErr result (λ fault.
-        fault.kind ≢ CertFaultKind.Memory → AclRefused node.now fault.item) }
+    // What is refused is named, and the fault shows on it.
+    ensures refused { IfErr result (λ fault. fault.kind ≢ CertFaultKind.Memory → AclRefused node.now fault) }
 {
-    match headed(node, b"acl") {
-        Some(members) => match entries_of(alloc, members) {
-            Ok(entries) => Ok(entries),
-            Err(fault) => Err(fault),
-        },
-        None => Err(CertFault {
-            item: 0,
-            kind: CertFaultKind::Shape,
-        }),
+    match behind_version(node) {
+        Ok(members) => entries_of(alloc, members),
+        Err(kind) => Err(CertFault { item: 0, kind }),
     }
 }
 
-/// Reads node n of a document as an access list: `(acl entry ..)`.
+/// Reads node n of a document as an access list (RFC 2693, section 3.4): `(acl entry ..)`, with `(version 0)` in
+/// front of the entries or without.
 ///
 /// # Errors
 ///
-/// The first fault from the left, with the number of the entry, from 1, or 0 where the outer list isn't headed
-/// `acl`. So far an entry is `(entry key field ..)` with the fields `(tag T)`, which is needed, and `(propagate)`;
-/// another subject, another field and a version in the list are `Shape`. `Memory` where memory ran out.
+/// The first fault from the left, with the number of the entry, from 1 and behind the version, or 0 where the outer
+/// list isn't headed `acl` (`Shape`) and for its version. `Memory` where memory ran out.
 pub fn read_acl<'a>(
     alloc: Global,
     document: &Doc<'a>,
@@ -103,12 +144,13 @@ pub fn read_acl<'a>(
     requires { IsSome (node document.now n.0) }
     ensures acl { IfSome (node document.now n.0) (λ value.
         IfOk result (λ entries. AclOf value entries.items)) }
-    // Refused, other than by Memory, is only what is no list of the forms that are read so far,
+    // Refused, other than by Memory, is only what is no access list,
+    ensures none { IfSome (node document.now n.0) (λ value.
+        IfErr result (λ fault. fault.kind ≢ CertFaultKind.Memory →
+        (entries : List spec.Entry) → AclOf value entries → ⊥)) }
+    // and what is refused is named, where the entries before it have readings and the fault shows on it.
     ensures refused { IfSome (node document.now n.0) (λ value.
-        IfErr result (λ fault. fault.kind ≢ CertFaultKind.Memory → IsNoAcl value)) }
-    // and the entries before the item have readings, where the item has none.
-    ensures place { IfSome (node document.now n.0) (λ value.
-        IfErr result (λ fault. fault.kind ≢ CertFaultKind.Memory → AclRefused value fault.item)) }
+        IfErr result (λ fault. fault.kind ≢ CertFaultKind.Memory → AclRefused value fault)) }
 {
     match document.node(n) {
         Some(value) => acl_of(alloc, &value),

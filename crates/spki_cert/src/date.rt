@@ -51,13 +51,6 @@ impl Date {
         &self.octets
     }
 
-    /// The octets of a date always write one.
-    pub fn known(&self)
-        ensures { is_date self.now ≡ true }
-    {
-        let _ = &self.octets;
-    }
-
     /// Whether this moment isn't after the other, by octets.
     pub fn upto(&self, other: &Date) -> bool
         ensures { result ≡ upto self.now other.now }

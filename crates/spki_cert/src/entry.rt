@@ -1,9 +1,12 @@
 //! Subjects and entries.
 
+ghost use Rattle.std.specs.Prelude.{◌≡◌};
+
 use crate::octets::Octets;
 use crate::principal::Principal;
 use crate::window::Window;
 use spki_tag::Tag;
+use std::alloc::AllocError;
 
 /// Who is given an authorization (RFC 2693, section 6.1): a principal, or a name that is defined by one.
 #[derive(Drop)]
@@ -12,6 +15,19 @@ pub struct Subject<'a> {
     pub principal: Principal<'a>,
     /// The names behind it; none where the principal itself is the subject.
     pub names: Vec<Octets<'a>>,
+}
+
+/// A copy has the same principal and the same names.
+impl<'a> Clone for Subject<'a> {
+    ghost is_clone = { λ subject copy.
+        (copy.principal ≡ subject.principal) × (copy.names.items ≡ subject.names.items) };
+
+    fn clone(&self) -> Result<Subject<'a>, AllocError> {
+        Ok(Subject {
+            principal: self.principal.share(),
+            names: self.names.clone()?,
+        })
+    }
 }
 
 /// An entry of an access list (RFC 2693, section 3.4): what its owner gives to a subject.

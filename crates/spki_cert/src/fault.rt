@@ -1,6 +1,10 @@
 //! Why a structure is refused.
 
+ghost use Rattle.std.specs.Prelude.{◌≡◌};
+ghost use Rattle.spki_cert.specs.declared.fault.CertFaultKind.TheVariants.{Memory};
+
 use spki_tag::TagFault;
+use std::alloc::{AllocError, AllocFailed};
 use thiserror::Error;
 
 /// What is wrong with a structure. It is read from the left, and the first fault met is answered.
@@ -51,6 +55,22 @@ pub enum CertFaultKind {
     /// Memory was refused.
     #[error("out of memory")]
     Memory,
+}
+
+impl From<AllocError> for CertFaultKind {
+    ghost from_gives = { λ _ kind. kind ≡ Memory };
+
+    fn from(_e: AllocError) -> CertFaultKind {
+        CertFaultKind::Memory
+    }
+}
+
+impl<T: Drop> From<AllocFailed<T>> for CertFaultKind {
+    ghost from_gives = { λ _ kind. kind ≡ Memory };
+
+    fn from(_e: AllocFailed<T>) -> CertFaultKind {
+        CertFaultKind::Memory
+    }
 }
 
 /// A structure that is refused.

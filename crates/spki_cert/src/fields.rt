@@ -1,37 +1,85 @@
-//! The fields of an entry.
+//! The fields of entries and of certificates.
 
-ghost use Rattle.std.specs.Prelude.{◌≡◌, ◌≢◌, ◌∷◌, [], IfOk, IfErr, true, false};
+ghost use Rattle.std.specs.Prelude.{◌≡◌, ◌≢◌, ◌∷◌, [], ℕ, List, Option, true, false, IfOk, IfErr, MatchOption, MatchBool, codes};
 ghost use Rattle.sexpr_core.specs.Value.{Value, plain, group};
 ghost use Rattle.spki_tag.specs.Read.{ReadsAs};
-ghost use Rattle.spki_tag.specs.Tag.{Tag};
-ghost use Rattle.spki_cert.specs.Entries.{FieldsOf};
-ghost use Rattle.spki_cert.specs.Fields.{IsWholeField, Adds, IsRepeated, AreNoFields, always};
+ghost use Rattle.spki_tag.specs.Tag as tags;
+ghost use Rattle.spki_cert.specs.declared.principal.Principal.{Principal};
+ghost use Rattle.spki_cert.specs.Fields.{Sole, IssuerIn, WhoIn, IsTimeField, IsField, IsCertField, IsUnread, AreFields, propagates};
+ghost use Rattle.spki_cert.specs.Faults.{Shows};
+ghost use Rattle.spki_cert.specs.Gathering.{IsTagKind, IssuerAt, WhoAt, Says, gather, KnownOf, IsFieldOf, is_among, IsNew, AreParts};
 
+use crate::date::Date;
 use crate::fault::CertFaultKind;
-use crate::shape::headed;
-use sexpr_core::{Members, Node};
+use crate::naming::{Issuer, Who, issuer_of, who_of};
+use crate::octets::Octets;
+use crate::validity::{date_in, valid_in};
+use crate::version::check_version;
+use crate::window::Window;
+use sexpr_core::reading::{Members, Node};
 use spki_tag::{Tag, TagFault};
 use std::alloc::Global;
 
-/// What the fields so far say.
-#[derive(Drop)]
-pub(crate) struct Fields {
-    pub propagates: bool,
-    pub tag: Option<Tag>,
+/// What the fields are those of.
+#[derive(Clone, Copy, Debug)]
+pub(crate) enum Place {
+    Entry,
+    Certificate,
 }
 
-/// The tag that stands behind the head `tag`.
-fn tag_of(alloc: Global, rest: Members) -> Result<Tag, CertFaultKind>
-    ensures found { IfOk result (λ t. (v : Value) × (rest.entry ≡ v ∷ []) × ReadsAs v t) }
-    ensures refused { IfErr result (λ kind. kind ≢ CertFaultKind.Memory →
-        (v : Value) (t : Tag) → rest.entry ≡ v ∷ [] → ReadsAs v t → ⊥) }
+/// What one field says.
+#[derive(Drop)]
+pub(crate) enum Said<'a> {
+    Nothing,
+    Issuer(Issuer<'a>),
+    Subject(Who<'a>),
+    Tag(Tag),
+    NotBefore(Date),
+    NotAfter(Date),
+    Valid(Window),
+}
+
+/// What some fields say.
+#[derive(Drop)]
+pub(crate) struct Known<'a> {
+    pub issuer: Option<Issuer<'a>>,
+    pub subject: Option<Who<'a>>,
+    pub tag: Option<Tag>,
+    /// The limits that stand directly.
+    pub limits: Window,
+    /// Those that stand in `(valid ..)`.
+    pub valid: Option<Window>,
+}
+
+/// What all fields say.
+#[derive(Drop)]
+pub(crate) struct Fields<'a> {
+    pub propagate: bool,
+    pub known: Known<'a>,
+}
+
+/// A tag's fault as one of a structure.
+fn tag_kind(fault: TagFault) -> CertFaultKind
+    ensures { IsTagKind fault result }
 {
-    let Some((value, more)) = rest.split_first() else {
+    match fault {
+        TagFault::Memory => CertFaultKind::Memory,
+        _ => CertFaultKind::Tag(fault),
+    }
+}
+
+/// The one tag that stands behind the head `tag`.
+fn tag_in(alloc: Global, members: Members) -> Result<Tag, CertFaultKind>
+    ensures found { IfOk result (λ tag. Sole ReadsAs members.entry tag) }
+    ensures refused { IfErr result (λ kind. kind ≢ CertFaultKind.Memory →
+        (t : tags.Tag) → Sole ReadsAs members.entry t → ⊥) }
+    ensures shown { IfErr result (λ kind. Shows kind (group (plain (codes "tag") ∷ members.entry))) }
+{
+    let Some((value, more)) = members.split_first() else {
         return Err(CertFaultKind::Shape);
     };
     match Tag::of(alloc, &value) {
-        Err(TagFault::Memory) => Err(CertFaultKind::Memory),
-        Err(fault) => Err(CertFaultKind::Tag(fault)),
+        Err(fault) => Err(tag_kind(fault)),
         Ok(tag) => {
             if more.is_empty() {
                 Ok(tag)
@@ -42,60 +90,234 @@ fn tag_of(alloc: Global, rest: Members) -> Result<Tag, CertFaultKind>
     }
 }
 
-/// What is known behind one more field.
-fn with_field(alloc: Global, field: &Node, known: Fields) -> Result<Fields, CertFaultKind>
-    ensures found { IfOk result (λ after. Adds field.now known after) }
+/// The one issuer that stands behind the head `issuer`.
+fn issuer_in<'a>(members: Members<'_, 'a>) -> Result<Issuer<'a>, CertFaultKind>
+    ensures found { IfOk result (λ issuer. IssuerAt members.entry issuer) }
+    ensures refused { IfErr result (λ _. (issuer : Principal × Option (List ℕ)) → IssuerIn members.entry issuer → ⊥) }
+    ensures shown { IfErr result (λ kind. Shows kind (group (plain (codes "issuer") ∷ members.entry))) }
+    ensures fault { IfErr result (λ kind. kind ≢ CertFaultKind.Memory) }
+{
+    let Some((value, more)) = members.split_first() else {
+        return Err(CertFaultKind::Shape);
+    };
+    let issuer = issuer_of(&value)?;
+    if more.is_empty() {
+        Ok(issuer)
+    } else {
+        Err(CertFaultKind::Shape)
+    }
+}
+
+/// The one subject that stands behind the head `subject`.
+fn subject_in<'a>(alloc: Global, members: Members<'_, 'a>) -> Result<Who<'a>, CertFaultKind>
+    ensures found { IfOk result (λ who. WhoAt members.entry who) }
     ensures refused { IfErr result (λ kind. kind ≢ CertFaultKind.Memory →
-        IsWholeField field.now → IsRepeated field.now known) }
+        (who : Option Principal × List (List ℕ)) → WhoIn members.entry who → ⊥) }
+    ensures shown { IfErr result (λ kind. Shows kind (group (plain (codes "subject") ∷ members.entry))) }
 {
-    if let Some(rest) = headed(field, b"propagate") {
-        return with_propagate(rest, known);
-    }
-    let Some(rest) = headed(field, b"tag") else {
+    let Some((value, more)) = members.split_first() else {
         return Err(CertFaultKind::Shape);
     };
-    if known.tag.is_some() {
-        return Err(CertFaultKind::Shape);
+    let who = who_of(alloc, &value)?;
+    if more.is_empty() {
+        Ok(who)
+    } else {
+        Err(CertFaultKind::Shape)
     }
-    let tag = tag_of(alloc, rest)?;
-    Ok(Fields {
-        propagates: known.propagates,
-        tag: Some(tag),
-    })
 }
 
-/// The same, where the field's head is `propagate`.
-fn with_propagate(rest: Members, known: Fields) -> Result<Fields, CertFaultKind>
-    ensures found { IfOk result (λ after. (rest.entry ≡ []) × (known.propagates ≡ false)
-        × (after ≡ record { propagates = true; tag = known.tag })) }
-    ensures refused { IfErr result (λ _. rest.entry ≡ [] → known.propagates ≡ true) }
+/// What a field says that an entry may have and a certificate too.
+fn said_in_both<'a>(alloc: Global, field: &Node) -> Result<Said<'a>, CertFaultKind>
+    ensures says { IfOk result (λ said. Says field.now said) }
+    ensures found { IfOk result (λ _. IsField field.now) }
+    ensures refused { IfErr result (λ kind. kind ≢ CertFaultKind.Memory → IsField field.now → ⊥) }
+    ensures shown { IfErr result (λ kind. Shows kind field.now) }
 {
-    if known.propagates || !rest.is_empty() {
-        return Err(CertFaultKind::Shape);
+    if let Some(members) = field.headed(b"tag") {
+        return Ok(Said::Tag(tag_in(alloc, members)?));
     }
-    Ok(Fields {
-        propagates: true,
-        tag: known.tag,
-    })
+    if let Some(members) = field.headed(b"propagate") {
+        return if members.is_empty() {
+            Ok(Said::Nothing)
+        } else {
+            Err(CertFaultKind::Shape)
+        };
+    }
+    if let Some(_) = field.headed(b"comment") {
+        return Ok(Said::Nothing);
+    }
+    said_of_time(field)
 }
 
-/// Whether the fields of an entry delegate, and their tag.
-pub fn fields_of(alloc: Global, fields: Members) -> Result<(bool, Tag), CertFaultKind>
-    ensures found { IfOk result (λ found. FieldsOf fields.entry found.0 found.1 always) }
-    ensures refused { IfErr result (λ kind. kind ≢ CertFaultKind.Memory → AreNoFields fields.entry) }
+/// What a field says of validity.
+fn said_of_time<'a>(field: &Node) -> Result<Said<'a>, CertFaultKind>
+    ensures says { IfOk result (λ said. Says field.now said) }
+    ensures found { IfOk result (λ _. IsTimeField field.now) }
+    ensures refused { IfErr result (λ _. IsTimeField field.now → ⊥) }
+    ensures shown { IfErr result (λ kind. Shows kind field.now) }
+    ensures fault { IfErr result (λ kind. kind ≢ CertFaultKind.Memory) }
 {
-    let mut rest = fields;
-    let mut known = Fields {
-        propagates: false,
-        tag: None,
-    };
-    while let Some((field, others)) = rest.split_first() {
-        known = with_field(alloc, &field, known)?;
-        rest = others;
+    if let Some(members) = field.headed(b"not-before") {
+        return Ok(Said::NotBefore(date_in(members)?));
     }
-    let Fields { propagates, tag } = known;
-    match tag {
-        Some(tag) => Ok((propagates, tag)),
+    if let Some(members) = field.headed(b"not-after") {
+        return Ok(Said::NotAfter(date_in(members)?));
+    }
+    if let Some(members) = field.headed(b"valid") {
+        return Ok(Said::Valid(valid_in(members)?));
+    }
+    match field.headed(b"online") {
+        Some(_) => Err(CertFaultKind::Online),
         None => Err(CertFaultKind::Shape),
     }
+}
+
+/// What a field of a certificate says.
+fn said_in_certificate<'a>(alloc: Global, field: &Node<'_, 'a>) -> Result<Said<'a>, CertFaultKind>
+    ensures says { IfOk result (λ said. Says field.now said) }
+    ensures found { IfOk result (λ _. IsCertField field.now) }
+    ensures refused { IfErr result (λ kind. kind ≢ CertFaultKind.Memory → IsCertField field.now → ⊥) }
+    ensures shown { IfErr result (λ kind. Shows kind field.now) }
+{
+    if let Some(members) = field.headed(b"issuer") {
+        return Ok(Said::Issuer(issuer_in(members)?));
+    }
+    if let Some(members) = field.headed(b"subject") {
+        return Ok(Said::Subject(subject_in(alloc, members)?));
+    }
+    if let Some(members) = field.headed(b"version") {
+        check_version(members)?;
+        return Ok(Said::Nothing);
+    }
+    if is_unread(field) {
+        return Ok(Said::Nothing);
+    }
+    said_in_both(alloc, field)
+}
+
+/// Whether the field isn't looked at, whatever it holds.
+fn is_unread(field: &Node) -> bool
+    ensures { MatchBool result (IsUnread field.now) (IsUnread field.now → ⊥) }
+{
+    if let Some(_) = field.headed(b"display") {
+        return true;
+    }
+    if let Some(_) = field.headed(b"issuer-info") {
+        return true;
+    }
+    match field.headed(b"subject-info") {
+        Some(_) => true,
+        None => false,
+    }
+}
+
+/// What one more field says.
+fn said_by<'a>(alloc: Global, place: Place, field: &Node<'_, 'a>) -> Result<Said<'a>, CertFaultKind>
+    ensures says { IfOk result (λ said. Says field.now said) }
+    ensures found { IfOk result (λ _. IsFieldOf place field.now) }
+    ensures refused { IfErr result (λ kind. kind ≢ CertFaultKind.Memory → IsFieldOf place field.now → ⊥) }
+    ensures shown { IfErr result (λ kind. Shows kind field.now) }
+{
+    match place {
+        Place::Entry => said_in_both(alloc, field),
+        Place::Certificate => said_in_certificate(alloc, field),
+    }
+}
+
+/// What is known behind one more field.
+fn gathered<'a>(known: Known<'a>, said: Said<'a>) -> Known<'a>
+    ensures { result ≡ gather known.entry said.entry }
+{
+    match said {
+        Said::Nothing => known,
+        Said::Issuer(issuer) => Known {
+            issuer: Some(issuer),
+            ..known
+        },
+        Said::Subject(who) => Known {
+            subject: Some(who),
+            ..known
+        },
+        Said::Tag(tag) => Known {
+            tag: Some(tag),
+            ..known
+        },
+        Said::NotBefore(date) => Known {
+            limits: Window {
+                not_before: Some(date),
+                not_after: known.limits.not_after,
+            },
+            ..known
+        },
+        Said::NotAfter(date) => Known {
+            limits: Window {
+                not_before: known.limits.not_before,
+                not_after: Some(date),
+            },
+            ..known
+        },
+        Said::Valid(window) => Known {
+            valid: Some(window),
+            ..known
+        },
+    }
+}
+
+/// Whether one of the words is this one.
+fn is_among(words: &[Octets], word: &[u8]) -> bool
+    ensures { result ≡ is_among words.now word.now }
+{
+    words.iter().any(|w| w.as_slice() == word)
+}
+
+/// The head of a field whose head none of these is.
+fn new_head<'a>(field: &Node<'_, 'a>, heads: &[Octets]) -> Option<&'a [u8]>
+    ensures { MatchOption result ((head : List ℕ) → IsNew field.now heads.now head → ⊥) (λ head. IsNew field.now heads.now head.now) }
+{
+    let Some(members) = field.members() else {
+        return None;
+    };
+    let (first, _) = members.split_first()?;
+    let head = first.plain_octets()?;
+    if is_among(heads, head) {
+        None
+    } else {
+        Some(head)
+    }
+}
+
+/// What the fields say, each at most once.
+pub(crate) fn fields_of<'a>(
+    alloc: Global,
+    place: Place,
+    members: Members<'_, 'a>,
+) -> Result<Fields<'a>, CertFaultKind>
+    ensures found { IfOk result (λ fields. AreFields (IsFieldOf place) members.entry
+        × (fields.propagate ≡ propagates members.entry) × KnownOf members.entry fields.known) }
+    ensures refused { IfErr result (λ kind. kind ≢ CertFaultKind.Memory → AreFields (IsFieldOf place) members.entry → ⊥) }
+    ensures shown { IfErr result (λ kind. (v : Value) → AreParts members.entry v → Shows kind v) }
+{
+    let mut rest = members;
+    let mut heads = Vec::new(alloc);
+    let mut known = Known {
+        issuer: None,
+        subject: None,
+        tag: None,
+        limits: Window {
+            not_before: None,
+            not_after: None,
+        },
+        valid: None,
+    };
+    while let Some((field, others)) = rest.split_first() {
+        let Some(head) = new_head(&field, &heads) else {
+            return Err(CertFaultKind::Shape);
+        };
+        let said = said_by(alloc, place, &field)?;
+        heads.push(Octets::new(head))?;
+        known = gathered(known, said);
+        rest = others;
+    }
+    let propagate = is_among(&heads, b"propagate");
+    Ok(Fields { propagate, known })
 }

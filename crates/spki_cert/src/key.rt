@@ -2,18 +2,19 @@
 
 ghost use Rattle.std.specs.Prelude.{◌≡◌, ◌↔◌, ℕ, List, IsTrue};
 
+use crate::octets::Octets;
 use std::marker::Model;
 
 /// A public key, known by its canonical octets (RFC 2693, section 2.5). Two keys are the same if these are.
 #[derive(Debug, Drop)]
 pub struct Key<'a> {
-    octets: &'a [u8],
+    canonical: Octets<'a>,
 }
 
 impl<'a> Model for Key<'a> {
     ghost Value = { List ℕ };
 
-    ghost view = { λ k. k.octets.now };
+    ghost view = { λ k. k.canonical };
 }
 
 impl<'a> Key<'a> {
@@ -21,14 +22,16 @@ impl<'a> Key<'a> {
     pub(crate) fn new(octets: &'a [u8]) -> Key<'a>
         ensures { result ≡ octets.now }
     {
-        Key { octets }
+        Key {
+            canonical: Octets::new(octets),
+        }
     }
 
     /// Its canonical octets.
     pub fn as_slice(&self) -> &'a [u8]
         ensures { result.now ≡ self.now }
     {
-        self.octets
+        self.canonical.as_slice()
     }
 
     /// The same key once more, which takes no memory.
@@ -36,7 +39,7 @@ impl<'a> Key<'a> {
         ensures { result ≡ self.now }
     {
         Key {
-            octets: self.octets,
+            canonical: self.canonical.share(),
         }
     }
 
@@ -44,6 +47,6 @@ impl<'a> Key<'a> {
     pub fn same(&self, other: &Key) -> bool
         ensures { IsTrue result ↔ (self.now ≡ other.now) }
     {
-        self.octets == other.octets
+        self.canonical.same(&other.canonical)
     }
 }

@@ -24,7 +24,8 @@ pub fn is_until(limit: Option<Date>, moment: &Date) -> bool
 }
 
 pub fn later(one: Option<Date>, other: Option<Date>) -> Option<Date>
-    ensures { result ≡ later one other }
+    ensures chosen { result ≡ later one other }
+    ensures limit { IsLimit result }
 {
     match (one, other) {
         (None, found) => found,
@@ -34,7 +35,8 @@ pub fn later(one: Option<Date>, other: Option<Date>) -> Option<Date>
 }
 
 pub fn earlier(one: Option<Date>, other: Option<Date>) -> Option<Date>
-    ensures { result ≡ earlier one other }
+    ensures chosen { result ≡ earlier one other }
+    ensures limit { IsLimit result }
 {
     match (one, other) {
         (None, found) => found,
@@ -50,13 +52,5 @@ pub fn is_in_order(first: &Option<Date>, last: &Option<Date>) -> bool
         (None, _) => true,
         (Some(_), None) => true,
         (Some(s), Some(t)) => s.upto(t),
-    }
-}
-
-pub fn known(limit: &Option<Date>)
-    ensures { IsLimit limit.now }
-{
-    if let Some(date) = limit {
-        date.known();
     }
 }

@@ -2,6 +2,7 @@
 
 ghost use Rattle.std.specs.Prelude.{◌≡◌, ◌↔◌, ℕ, List, IsTrue};
 
+use std::alloc::AllocError;
 use std::marker::Model;
 
 /// Octets of a text that was read: a digest, a name, or the canonical form of a certificate or of a
@@ -46,5 +47,14 @@ impl<'a> Octets<'a> {
         ensures { IsTrue result ↔ (self.now ≡ other.now) }
     {
         self.octets == other.octets
+    }
+}
+
+/// A copy has the same octets. It takes no memory.
+impl<'a> Clone for Octets<'a> {
+    ghost is_clone = { λ octets copy. copy ≡ octets };
+
+    fn clone(&self) -> Result<Octets<'a>, AllocError> {
+        Ok(self.share())
     }
 }

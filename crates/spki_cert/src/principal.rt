@@ -32,6 +32,19 @@ pub enum Principal<'a> {
 impl<'a> Principal<'a> {
     ghost use Rattle.spki_cert.specs.Naming.{names};
 
+    /// The same principal once more, which takes no memory.
+    pub fn share(&self) -> Principal<'a>
+        ensures { result ≡ self.now }
+    {
+        match self {
+            Principal::Key(key) => Principal::Key(key.share()),
+            Principal::Hash { alg, digest } => Principal::Hash {
+                alg: *alg,
+                digest: digest.share(),
+            },
+        }
+    }
+
     /// Whether the principal names the key: a key names the key with the same octets, and a hash each key
     /// whose canonical octets have its digest, but a SHA-1 hash none under the strict policy. Takes no memory.
     pub fn names(&self, key: &Key, policy: Policy) -> bool

@@ -1,8 +1,10 @@
 //! Keys, hashes and dates, as they are read.
 
-ghost use Rattle.std.specs.Prelude.{◌≡◌, ◌≢◌, IfOk, IfErr, ◌∷◌, ℕ, List, Some, IsSome, MatchOption, MatchResult, IfSome, MatchBool};
+ghost use Rattle.std.specs.Prelude.{◌≡◌, ◌≢◌, IfOk, IfErr, codes, ◌∷◌, ℕ, List, Some, IsSome, MatchOption, MatchResult, IfSome, MatchBool};
 ghost use Rattle.spki_cert.specs.declared.hash.HashAlg.{HashAlg};
-ghost use Rattle.sexpr_core.specs.Value.{node, plain, group, canon};
+ghost use Rattle.sexpr_core.specs.Value.{Value, node, plain, group, canon};
+ghost use Rattle.spki_cert.specs.Faults.{Shows};
+ghost use Rattle.spki_cert.specs.Gathering.{AlgShows};
 ghost use Rattle.spki_cert.specs.Readings.{KeyOf, IsNoKey, HashOf, IsNoHash, DateOf, IsNoDate, DigestOf, AreUris, IsAlgorithm, alg_name, digest_len};
 
 use crate::date::Date;
@@ -10,16 +12,17 @@ use crate::fault::{CertFault, CertFaultKind};
 use crate::hash::HashAlg;
 use crate::key::Key;
 use crate::octets::Octets;
-use crate::shape::{headed, members, plain_octets};
-use sexpr_core::{Doc, Form, Members, Node, NodeId};
+use sexpr_core::reading::{Members, Node, NodeKind};
+use sexpr_core::{Doc, NodeId};
 
 /// The key that a node is.
 pub fn key_of<'a>(node: &Node<'_, 'a>) -> Result<Key<'a>, CertFaultKind>
     ensures key { IfOk result (λ key. KeyOf node.now key) }
     ensures refused { IfErr result (λ _. IsNoKey node.now) }
+    ensures shown { IfErr result (λ kind. Shows kind node.now) }
     ensures fault { IfErr result (λ kind. kind ≢ CertFaultKind.Memory) }
 {
-    let Some(rest) = headed(node, b"public-key") else {
+    let Some(rest) = node.headed(b"public-key") else {
         return Err(CertFaultKind::Shape);
     };
     let Some((body, rest)) = rest.split_first() else {
@@ -30,7 +33,10 @@ pub fn key_of<'a>(node: &Node<'_, 'a>) -> Result<Key<'a>, CertFaultKind>
     }
     match rest.split_first() {
         None => Ok(Key::new(node.slice())),
-        Some((third, _)) => Err(behind_key(&third)),
+        Some((third, _)) => match third.headed(b"uri") {
+            Some(_) => Err(CertFaultKind::KeyUris),
+            None => Err(CertFaultKind::Shape),
+        },
     }
 }
 
@@ -38,23 +44,12 @@ pub fn key_of<'a>(node: &Node<'_, 'a>) -> Result<Key<'a>, CertFaultKind>
 fn is_algorithm(node: &Node) -> bool
     ensures { MatchBool result (IsAlgorithm node.now) (IsAlgorithm node.now → ⊥) }
 {
-    let Some(all) = members(node) else {
+    let Some(all) = node.members() else {
         return false;
     };
     match all.split_first() {
         None => false,
-        Some((alg, _)) => plain_octets(&alg).is_some(),
-    }
-}
-
-/// The fault of what stands behind a key's algorithm.
-fn behind_key(third: &Node) -> CertFaultKind
-    ensures { result ≢ CertFaultKind.Memory }
-{
-    if headed(third, b"uri").is_some() {
-        CertFaultKind::KeyUris
-    } else {
-        CertFaultKind::Shape
+        Some((alg, _)) => alg.plain_octets().is_some(),
     }
 }
 
@@ -64,7 +59,7 @@ pub fn date_of(node: &Node) -> Result<Date, CertFaultKind>
     ensures refused { IfErr result (λ _. IsNoDate node.now) }
     ensures fault { IfErr result (λ kind. kind ≡ CertFaultKind.BadDate) }
 {
-    let Some(octets) = plain_octets(node) else {
+    let Some(octets) = node.plain_octets() else {
         return Err(CertFaultKind::BadDate);
     };
     match Date::of(octets) {
@@ -74,15 +69,16 @@ pub fn date_of(node: &Node) -> Result<Date, CertFaultKind>
 }
 
 /// The algorithm that a node names.
-fn algorithm_of(node: &Node) -> Result<HashAlg, CertFaultKind>
+pub(crate) fn algorithm_of(node: &Node) -> Result<HashAlg, CertFaultKind>
     ensures named { IfOk result (λ alg. node.now ≡ plain (alg_name alg)) }
     ensures refused { IfErr result (λ _. (alg : HashAlg) → node.now ≢ plain (alg_name alg)) }
+    ensures shown { IfErr result (λ kind. AlgShows kind node.now) }
     ensures fault { IfErr result (λ kind. kind ≢ CertFaultKind.Memory) }
 {
-    match node.form() {
-        Form::List(_) => Err(CertFaultKind::Shape),
-        Form::String { hint: Some(_), .. } => Err(CertFaultKind::HashAlg),
-        Form::String { hint: None, body } => match HashAlg::named(body) {
+    match node.kind() {
+        NodeKind::List(_) => Err(CertFaultKind::Shape),
+        NodeKind::String { hint: Some(_), .. } => Err(CertFaultKind::HashAlg),
+        NodeKind::String { hint: None, body } => match HashAlg::named(body) {
             Some(alg) => Ok(alg),
             None => Err(CertFaultKind::HashAlg),
         },
@@ -93,9 +89,11 @@ fn algorithm_of(node: &Node) -> Result<HashAlg, CertFaultKind>
 fn digest_of<'a>(alg: HashAlg, node: &Node<'_, 'a>) -> Result<Octets<'a>, CertFaultKind>
     ensures digest { IfOk result (λ digest. DigestOf node.now alg digest) }
     ensures refused { IfErr result (λ _. (digest : List ℕ) → DigestOf node.now alg digest → ⊥) }
+    ensures shown { IfErr result (λ kind. (rest : List Value) →
+        Shows kind (group (plain (codes "hash") ∷ plain (alg_name alg) ∷ node.now ∷ rest))) }
     ensures fault { IfErr result (λ kind. kind ≢ CertFaultKind.Memory) }
 {
-    let Some(octets) = plain_octets(node) else {
+    let Some(octets) = node.plain_octets() else {
         return Err(CertFaultKind::Shape);
     };
     if octets.len() == alg.digest_len() {
@@ -111,7 +109,7 @@ fn ends_in_uris(rest: Members) -> bool
 {
     match rest.split_first() {
         None => true,
-        Some((uris, more)) => headed(&uris, b"uri").is_some() && more.is_empty(),
+        Some((uris, more)) => uris.headed(b"uri").is_some() && more.is_empty(),
     }
 }
 
@@ -119,9 +117,10 @@ fn ends_in_uris(rest: Members) -> bool
 pub fn hash_of<'a>(node: &Node<'_, 'a>) -> Result<(HashAlg, Octets<'a>), CertFaultKind>
     ensures hash { IfOk result (λ h. HashOf node.now h.0 h.1) }
     ensures refused { IfErr result (λ _. IsNoHash node.now) }
+    ensures shown { IfErr result (λ kind. Shows kind node.now) }
     ensures fault { IfErr result (λ kind. kind ≢ CertFaultKind.Memory) }
 {
-    let Some(rest) = headed(node, b"hash") else {
+    let Some(rest) = node.headed(b"hash") else {
         return Err(CertFaultKind::Shape);
     };
     let Some((word, rest)) = rest.split_first() else {
@@ -149,6 +148,8 @@ pub fn read_key<'a>(document: &Doc<'a>, n: NodeId) -> Result<Key<'a>, CertFault>
     requires { IsSome (node document.now n.0) }
     ensures key { IfSome (node document.now n.0) (λ value. IfOk result (λ key. KeyOf value key)) }
     ensures refused { IfSome (node document.now n.0) (λ value. IfErr result (λ _. IsNoKey value)) }
+    // A kind other than Shape shows on the value.
+    ensures shown { IfSome (node document.now n.0) (λ value. IfErr result (λ fault. Shows fault.kind value)) }
     ensures fault { IfErr result (λ fault. (fault.item ≡ 0) × (fault.kind ≢ CertFaultKind.Memory)) }
 {
     match document.node(n) {
@@ -170,6 +171,8 @@ pub fn read_hash<'a>(document: &Doc<'a>, n: NodeId) -> Result<(HashAlg, Octets<'
     requires { IsSome (node document.now n.0) }
     ensures hash { IfSome (node document.now n.0) (λ value. IfOk result (λ hash. HashOf value hash.0 hash.1)) }
     ensures refused { IfSome (node document.now n.0) (λ value. IfErr result (λ _. IsNoHash value)) }
+    // A kind other than Shape shows on the value.
+    ensures shown { IfSome (node document.now n.0) (λ value. IfErr result (λ fault. Shows fault.kind value)) }
     ensures fault { IfErr result (λ fault. (fault.item ≡ 0) × (fault.kind ≢ CertFaultKind.Memory)) }
 {
     match document.node(n) {

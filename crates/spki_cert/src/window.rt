@@ -1,10 +1,7 @@
 //! Windows of validity (RFC 2693, section 6.3.2).
 
-ghost use Rattle.std.specs.Prelude.{◌≡◌};
-ghost use Rattle.spki_cert.specs.Time.{between, IsLimit};
-
 use crate::date::Date;
-use crate::limit::{earlier, is_from, is_in_order, is_until, known, later};
+use crate::limit::{earlier, is_from, is_in_order, is_until, later};
 
 /// The moments from a first to a last, both within it. A missing limit is no limit.
 #[derive(Clone, Copy, Debug)]
@@ -16,7 +13,7 @@ pub struct Window {
 }
 
 impl Window {
-    ghost use Rattle.std.specs.Prelude.{IfSome, IfNone};
+    ghost use Rattle.std.specs.Prelude.{◌≡◌, IfSome, IfNone};
     ghost use Rattle.spki_cert.specs.Time.{within, meet_of, IsMeet, Overlap, AreApart};
 
     /// Whether the moment is within the window. Takes no memory.
@@ -39,23 +36,13 @@ impl Window {
     {
         let first = later(self.not_before, other.not_before);
         let last = earlier(self.not_after, other.not_after);
-        window_between(first, last)
-    }
-}
-
-fn window_between(first: Option<Date>, last: Option<Date>) -> Option<Window>
-    ensures window { result ≡ between first last }
-    ensures first_is_date { IsLimit first }
-    ensures last_is_date { IsLimit last }
-{
-    known(&first);
-    known(&last);
-    if is_in_order(&first, &last) {
-        Some(Window {
-            not_before: first,
-            not_after: last,
-        })
-    } else {
-        None
+        if is_in_order(&first, &last) {
+            Some(Window {
+                not_before: first,
+                not_after: last,
+            })
+        } else {
+            None
+        }
     }
 }

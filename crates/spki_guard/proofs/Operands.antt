@@ -2,10 +2,10 @@
 use Rattle.std.proofs.Common.{◌≡◌, ◌≢◌, List, [], ◌∷◌, Option, Some, None, MatchOption, sym, ap, ◌∙◌}
 use Rattle.std.specs.Prelude.{codes}
 use Rattle.sexpr_core.specs.Value.{Value}
-use Rattle.spki_guard.specs.CaseForm.{headed}
+use Rattle.spki_case.specs.CaseForm.{headed}
 use Rattle.spki_guard.specs.Intersect.{intersect_value}
 use Rattle.spki_guard.specs.declared.intersection.Operands.{Operands}
-use Rattle.spki_guard.proofs.Building.{behind_head}
+use Rattle.spki_case.proofs.Building.{behind_head}
 
 -- the two behind a head are those of the value
 pub lifted : (v : Value) (ms : List Value) (r : Option Operands) → v ≡ headed (codes "intersect") ms

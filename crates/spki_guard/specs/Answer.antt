@@ -1,5 +1,5 @@
 -- What is answered to a text that was read to its end.
-use Rattle.std.specs.Prelude.{◌≡◌, ◌≢◌, ◌⊎◌, ℕ, List, [], ◌∷◌, ◌++◌}
+use Rattle.std.specs.Prelude.{◌≡◌, ◌≢◌, ◌⊎◌, ℕ, ◌<◌, List, [], ◌∷◌, ◌++◌, length}
 use Rattle.sexpr_core.specs.declared.fault.FormFault.{FormFault}
 use Rattle.sexpr_core.specs.declared.fault.FormFault.TheVariants as form
 use Rattle.sexpr_core.specs.Value.{Value, canon}
@@ -9,56 +9,48 @@ use Rattle.sexpr_text.specs.declared.converter.Form.{Form}
 use Rattle.sexpr_text.specs.declared.converter.Form.TheVariants as forms
 use Rattle.sexpr_text.specs.Refusal.{RefusesText}
 use Rattle.sexpr_text.specs.Spelling.{IsTextWithin}
-use Rattle.spki_guard.specs.declared.answers.Verdict.{Verdict}
-use Rattle.spki_guard.specs.declared.answers.Verdict.TheVariants.{Done, No, Refused}
-use Rattle.spki_guard.specs.declared.cases.Case.{Case}
-use Rattle.spki_guard.specs.declared.cases.CaseFault.{CaseFault}
-use Rattle.spki_guard.specs.declared.cases.CaseFault.TheVariants.{Memory}
+use Rattle.spki_tag.specs.Tag.{Tag, tag_value}
+use Rattle.spki_case.specs.Case.{Case, accepted_by}
+use Rattle.spki_case.specs.CaseForm.{IsCaseText, TextRefused}
+use Rattle.spki_guard.specs.declared.answers.Refusal.{Refusal}
+use Rattle.spki_guard.specs.declared.answers.Refusal.TheVariants as refusals
+use Rattle.spki_guard.specs.declared.answers.Output as output
+use Rattle.spki_guard.specs.declared.answers.Output.TheVariants.{Made, Fixed}
 use Rattle.spki_guard.specs.declared.commands.Command.{Command}
 use Rattle.spki_guard.specs.declared.commands.Command.TheVariants.{Canonical, Advanced, Transport, Intersect, Check}
-use Rattle.spki_guard.specs.declared.deciding.Decision.{Decision}
-use Rattle.spki_guard.specs.declared.deciding.Decision.TheVariants as decision
-use Rattle.spki_tag.specs.Tag.{Tag, tag_value}
-use Rattle.spki_guard.specs.declared.intersection.IntersectFault.{IntersectFault}
-use Rattle.spki_guard.specs.declared.intersection.IntersectFault.TheVariants as intersect
+use Rattle.spki_guard.specs.declared.answers.Verdict.{Verdict}
+use Rattle.spki_guard.specs.declared.answers.Verdict.TheVariants.{Done, No, Refused}
+use Rattle.spki_decision.specs.declared.deciding.Decision.{Decision}
+use Rattle.spki_decision.specs.declared.deciding.Decision.TheVariants as decision
+use Rattle.spki_decision.specs.declared.deciding.GuardFault.{GuardFault}
+use Rattle.spki_decision.specs.declared.deciding.GuardFault.TheVariants as guard
+use Rattle.spki_decision.specs.Decision.{IsDecision}
+use Rattle.spki_decision.specs.Granted.{IsTooLarge}
 use Rattle.spki_guard.specs.Intersect.{IsMetText, TextNotMet}
-use Rattle.spki_guard.specs.CaseForm.{IsCaseText, TextRefused}
-use Rattle.spki_guard.specs.View.{model, verified_by, IsDecision}
-use Rattle.spki_guard.specs.Lines.{yes_entry, no_line, refused_form, refused_case, refused_intersect}
+use Rattle.spki_guard.specs.Lines.{yes_entry, no_line, refused_form, refused_intersect, refused_case, refused_decision, refused_memory}
 
 -- ---- decisions
 
 -- the line of a decision
-pub record IsDone (n : ℕ) (verdict : Verdict) (output : List ℕ) : Type 0 where
-  pub verdict_is : verdict ≡ Done
-  pub line : output ≡ yes_entry n
-
-pub record IsNo (verdict : Verdict) (output : List ℕ) : Type 0 where
-  pub verdict_is : verdict ≡ No
-  pub line : output ≡ no_line
-
 abbrev pub IsLineOf : Decision → Verdict → List ℕ → Type 0
-IsLineOf (decision.Yes n) verdict output = IsDone n verdict output
-IsLineOf decision.No verdict output = IsNo verdict output
+IsLineOf (decision.Yes n) verdict output = (verdict ≡ Done) × (output ≡ yes_entry n)
+IsLineOf decision.No verdict output = (verdict ≡ No) × (output ≡ no_line)
 
 -- The canonical text is that of a case, and the line is that of its decision, with the case's own accepted list as the verifier.
 pub record Decides (text : List ℕ) (verdict : Verdict) (output : List ℕ) : Type 0 where
   pub case_read : Case
   pub text_is : IsCaseText text case_read
   pub decided : Decision
-  pub decision_is : IsDecision (model case_read) (verified_by case_read.accepted) decided
+  pub decision_is : IsDecision case_read (accepted_by case_read) decided
   pub line : IsLineOf decided verdict output
 
--- The canonical text is that of no case, and the line is that of its first fault.
-pub record Refuses (text : List ℕ) (verdict : Verdict) (output : List ℕ) : Type 0 where
-  pub fault : CaseFault
-  pub found : fault ≢ Memory
-  pub refused : TextRefused text fault
-  pub verdict_is : verdict ≡ Refused
-  pub line : output ≡ refused_case fault
-
-abbrev pub IsCheck : List ℕ → Verdict → List ℕ → Type 0
-IsCheck text verdict output = Decides text verdict output ⊎ Refuses text verdict output
+-- The canonical text is that of a case that isn't decided, with the case's own accepted list as the verifier, since
+-- tags are too large.
+pub record IsUndecided (text : List ℕ) (fault : GuardFault) : Type 0 where
+  pub case_read : Case
+  pub text_is : IsCaseText text case_read
+  pub named : fault ≡ guard.TooLarge
+  pub large : IsTooLarge case_read (accepted_by case_read)
 
 -- ---- intersections
 
@@ -68,17 +60,6 @@ pub record WritesMeet (text : List ℕ) (verdict : Verdict) (output : List ℕ) 
   pub met : IsMetText text tag
   pub verdict_is : verdict ≡ Done
   pub line : output ≡ adv (tag_value tag) ++ 10 ∷ []
-
--- The canonical text has no intersection, and the line is that of its first fault.
-pub record RefusesMeet (text : List ℕ) (verdict : Verdict) (output : List ℕ) : Type 0 where
-  pub fault : IntersectFault
-  pub found : fault ≢ intersect.Memory
-  pub refused : TextNotMet text fault
-  pub verdict_is : verdict ≡ Refused
-  pub line : output ≡ refused_intersect fault
-
-abbrev pub IsIntersection : List ℕ → Verdict → List ℕ → Type 0
-IsIntersection text verdict output = WritesMeet text verdict output ⊎ RefusesMeet text verdict output
 
 -- ---- all commands
 
@@ -96,8 +77,18 @@ abbrev pub AnswersValue : Command → Value → Verdict → List ℕ → Type 0
 AnswersValue Canonical v verdict output = (verdict ≡ Done) × (output ≡ canon v)
 AnswersValue Advanced v verdict output = (verdict ≡ Done) × (output ≡ adv v ++ 10 ∷ [])
 AnswersValue Transport v verdict output = (verdict ≡ Done) × (output ≡ transport v ++ 10 ∷ [])
-AnswersValue Intersect v verdict output = IsIntersection (canon v) verdict output
-AnswersValue Check v verdict output = IsCheck (canon v) verdict output
+AnswersValue Intersect v verdict output = WritesMeet (canon v) verdict output
+AnswersValue Check v verdict output = Decides (canon v) verdict output
+
+-- What a refusal says of the value that was read, or rather of its canonical form. Of memory nothing is said.
+abbrev pub RefusesValue : Command → Value → Refusal → Type 0
+RefusesValue command v (refusals.Form fault) = ⊥
+RefusesValue command v (refusals.Intersect fault) = (command ≡ Intersect) × TextNotMet (canon v) fault
+RefusesValue command v (refusals.Case fault) = (command ≡ Check) × TextRefused (canon v) fault
+RefusesValue command v (refusals.Decision fault) = (command ≡ Check) × IsUndecided (canon v) fault
+RefusesValue command v refusals.Memory = Unit {0}
+
+-- ---- texts
 
 -- The text spells or braces a value within the limits, and this is the answer to it.
 pub record AnswersRead (command : Command) (text : List ℕ) (verdict : Verdict) (output : List ℕ) : Type 0 where
@@ -105,14 +96,47 @@ pub record AnswersRead (command : Command) (text : List ℕ) (verdict : Verdict)
   pub read : IsTextWithin text value
   pub answer : AnswersValue command value verdict output
 
--- The text spells and braces no value within the limits, and the line is that of its fault.
-pub record RefusesForm (text : List ℕ) (verdict : Verdict) (output : List ℕ) : Type 0 where
-  pub fault : FormFault
+-- The text spells or braces a value within the limits, of which the refusal is said.
+pub record RefusesRead (command : Command) (text : List ℕ) (refusal : Refusal) : Type 0 where
+  pub value : Value
+  pub read : IsTextWithin text value
+  pub refused : RefusesValue command value refusal
+
+-- The text spells and braces no value within the limits, and the fault says why.
+pub record RefusesForm (text : List ℕ) (fault : FormFault) : Type 0 where
   pub found : fault ≢ form.Memory
-  pub none : (v : Value) → IsTextWithin text v → ⊥
+  pub none : (v : Value) → ¬ IsTextWithin text v
+  pub long : fault ≡ form.TooLong → 1048576 < length text
   pub refused : RefusesText text fault
+
+-- What a refusal says of a text. Of memory nothing is said.
+abbrev pub RefusesAnswer : Command → List ℕ → Refusal → Type 0
+RefusesAnswer command text (refusals.Form fault) = RefusesForm text fault
+RefusesAnswer command text (refusals.Intersect fault) = RefusesRead command text (refusals.Intersect fault)
+RefusesAnswer command text (refusals.Case fault) = RefusesRead command text (refusals.Case fault)
+RefusesAnswer command text (refusals.Decision fault) = RefusesRead command text (refusals.Decision fault)
+RefusesAnswer command text refusals.Memory = Unit {0}
+
+-- the line of a refusal
+abbrev pub refused_line : Refusal → List ℕ
+refused_line (refusals.Form fault) = refused_form fault
+refused_line (refusals.Intersect fault) = refused_intersect fault
+refused_line (refusals.Case fault) = refused_case fault
+refused_line (refusals.Decision fault) = refused_decision fault
+refused_line refusals.Memory = refused_memory
+
+-- The text is refused, and the line is that of the refusal.
+pub record Refuses (command : Command) (text : List ℕ) (verdict : Verdict) (output : List ℕ) : Type 0 where
+  pub refusal : Refusal
+  pub refused : RefusesAnswer command text refusal
   pub verdict_is : verdict ≡ Refused
-  pub line : output ≡ refused_form fault
+  pub line : output ≡ refused_line refusal
 
 abbrev pub IsAnswer : Command → List ℕ → Verdict → List ℕ → Type 0
-IsAnswer command text verdict output = AnswersRead command text verdict output ⊎ RefusesForm text verdict output
+IsAnswer command text verdict output = AnswersRead command text verdict output ⊎ Refuses command text verdict output
+
+-- ---- as it is kept
+
+abbrev pub octets_of : output.Output → List ℕ
+octets_of (Made octets) = octets.items
+octets_of (Fixed octets) = octets.now

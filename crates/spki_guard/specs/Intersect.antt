@@ -1,16 +1,17 @@
 -- The intersection of two written tags (RFC 2693, section 6.3.1).
 use Rattle.std.specs.Prelude.{◌≡◌, ◌≢◌, ℕ, ◌*◌, ◌<◌, ◌≤◌, max, ◌&&◌, ◌⊎◌, List, [], ◌∷◌, codes}
-use Rattle.sexpr_core.specs.declared.fault.FormFault.TheVariants as form
-use Rattle.sexpr_core.specs.Value.{Value, canon, IsWithinLimits}
-use Rattle.sexpr_core.specs.Refusal.{Refused}
+use Rattle.sexpr_core.specs.Value.{Value}
 use Rattle.spki_tag.specs.declared.fault.TagFault.{TagFault}
 use Rattle.spki_tag.specs.declared.fault.TagFault.TheVariants as tag_faults
 use Rattle.spki_tag.specs.declared.fault.MeetFault.{MeetFault}
-use Rattle.spki_tag.specs.declared.fault.MeetFault.TheVariants as meet
+use Rattle.spki_tag.specs.declared.fault.MeetFault.TheVariants as meet_faults
 use Rattle.spki_tag.specs.Request.{Request, IsRequest}
-use Rattle.spki_tag.specs.Tag.{Tag, contains, nodes, ldepth}
+use Rattle.spki_tag.specs.Tag.{Tag, IsNormalTag, contains, nodes, ldepth}
+use Rattle.spki_tag.specs.Meet.{meet}
+use Rattle.spki_tag.specs.Faults.{TagShows}
 use Rattle.spki_tag.specs.Read.{ReadsAs, IsNoTag}
-use Rattle.spki_guard.specs.CaseForm.{headed}
+use Rattle.spki_case.specs.CaseForm.{headed}
+use Rattle.spki_case.specs.Texts.{IsTextOf, IsMalformed}
 use Rattle.spki_guard.specs.declared.intersection.IntersectFault.{IntersectFault}
 use Rattle.spki_guard.specs.declared.intersection.IntersectFault.TheVariants as faults
 
@@ -18,8 +19,8 @@ use Rattle.spki_guard.specs.declared.intersection.IntersectFault.TheVariants as 
 abbrev pub intersect_value : Value → Value → Value
 intersect_value a b = headed (codes "intersect") (a ∷ b ∷ [])
 
--- The value is (intersect A B), and the tag contains exactly the requests that both A and B contain. It has at
--- most as many nodes as the product of theirs, and its lists are no deeper.
+-- The value is (intersect A B), and the tag is the meet of A and B: it is in normal form, and contains exactly the
+-- requests that both contain. It has at most as many nodes as the product of theirs, and its lists are no deeper.
 pub record Intersects (v : Value) (c : Tag) : Type 0 where
   pub first : Value
   pub second : Value
@@ -28,6 +29,8 @@ pub record Intersects (v : Value) (c : Tag) : Type 0 where
   pub b : Tag
   pub first_read : ReadsAs first a
   pub second_read : ReadsAs second b
+  pub which : c ≡ meet a b
+  pub normal : IsNormalTag c
   pub exact : (g : Request) → IsRequest g → contains c g ≡ (contains a g && contains b g)
   pub few : nodes c ≤ nodes a * nodes b
   pub shallow : ldepth c ≤ max (ldepth a) (ldepth b)
@@ -40,6 +43,7 @@ pub record NoFirst (v : Value) (fault : TagFault) : Type 0 where
   pub second : Value
   pub written : v ≡ intersect_value first second
   pub found : fault ≢ tag_faults.Memory
+  pub shows : TagShows fault first
   pub none : IsNoTag fault first
 
 -- the value is (intersect A B), A is a tag, and B is none
@@ -50,6 +54,7 @@ pub record NoSecond (v : Value) (fault : TagFault) : Type 0 where
   pub a : Tag
   pub first_read : ReadsAs first a
   pub found : fault ≢ tag_faults.Memory
+  pub shows : TagShows fault second
   pub none : IsNoTag fault second
 
 -- the value is (intersect A B), both are tags, and the product of their nodes is too large
@@ -65,49 +70,24 @@ pub record AreTooLarge (v : Value) : Type 0 where
 
 -- a refusal of the intersection itself
 abbrev pub outer_fault : MeetFault → IntersectFault
-outer_fault meet.TooLarge = faults.TooLarge
-outer_fault meet.Memory = faults.Memory
+outer_fault meet_faults.TooLarge = faults.TooLarge
+outer_fault meet_faults.Memory = faults.Memory
 
--- What a refusal says of a value, in the order of what is looked at.
+-- What a fault other than of memory says of a value, in the order of what is looked at.
 abbrev pub ValueNotMet : Value → IntersectFault → Type 0
 ValueNotMet v (faults.Form fault) = ⊥
 ValueNotMet v faults.Shape = (a b : Value) → v ≢ intersect_value a b
 ValueNotMet v (faults.First fault) = NoFirst v fault
 ValueNotMet v (faults.Second fault) = NoSecond v fault
 ValueNotMet v faults.TooLarge = AreTooLarge v
-ValueNotMet v faults.Memory = Unit {0}
-
--- one of the two is no tag, which a fault says of it
-pub record IsFaultOf (named : TagFault → IntersectFault) (v : Value) (outer : IntersectFault) : Type 0 where
-  pub fault : TagFault
-  pub is : outer ≡ named fault
-  pub found : fault ≢ tag_faults.Memory
-  pub none : IsNoTag fault v
-
-abbrev pub IsOperandFault : (TagFault → IntersectFault) → Value → IntersectFault → Type 0
-IsOperandFault named v outer = (outer ≡ faults.Memory) ⊎ IsFaultOf named v outer
+ValueNotMet v faults.Memory = ⊥
 
 -- ---- texts
 
 -- the text is the canonical form, within the limits, of a value whose two tags leave this one
-pub record IsMetText (text : List ℕ) (c : Tag) : Type 0 where
-  pub value : Value
-  pub within : IsWithinLimits value
-  pub written : text ≡ canon value
-  pub met : Intersects value c
+abbrev pub IsMetText : List ℕ → Tag → Type 0
+IsMetText text c = IsTextOf (λ v. Intersects v c) text
 
--- the text is that of a value that is refused so
-pub record IsNoMetText (text : List ℕ) (fault : IntersectFault) : Type 0 where
-  pub value : Value
-  pub within : IsWithinLimits value
-  pub written : text ≡ canon value
-  pub refused : ValueNotMet value fault
-
--- What a refusal says of a text: its form is refused so, or its value is.
+-- What a fault other than of memory says of a text: it is none in canonical form, or the fault is said of its value.
 abbrev pub TextNotMet : List ℕ → IntersectFault → Type 0
-TextNotMet text (faults.Form fault) = (fault ≢ form.Memory) × Refused text fault
-TextNotMet text faults.Shape = IsNoMetText text faults.Shape
-TextNotMet text (faults.First fault) = IsNoMetText text (faults.First fault)
-TextNotMet text (faults.Second fault) = IsNoMetText text (faults.Second fault)
-TextNotMet text faults.TooLarge = IsNoMetText text faults.TooLarge
-TextNotMet text faults.Memory = Unit {0}
+TextNotMet text fault = IsMalformed faults.Form text fault ⊎ IsTextOf (λ v. ValueNotMet v fault) text

@@ -1,14 +1,5 @@
-pub mod Metered
-pub mod Sent
+pub mod Command
 pub mod Lines
-pub mod Answer
-pub mod Reply
-pub mod Run
-pub mod Case
 pub mod Intersect
-pub mod Shown
-pub mod Granted
-pub mod View
-pub mod CaseForm
-pub mod Parts
-pub mod Passing
+pub mod Answer
+pub mod Run

@@ -7,8 +7,10 @@ use Rattle.spki_tag.specs.declared.fault.TagFault.{TagFault}
 use Rattle.spki_tag.specs.declared.fault.TagFault.TheVariants as tag
 use Rattle.spki_cert.specs.declared.fault.CertFaultKind.{CertFaultKind}
 use Rattle.spki_cert.specs.declared.fault.CertFaultKind.TheVariants as kind
-use Rattle.spki_guard.specs.declared.cases.CaseFault.{CaseFault}
-use Rattle.spki_guard.specs.declared.cases.CaseFault.TheVariants as faults
+use Rattle.spki_case.specs.declared.cases.CaseFault.{CaseFault}
+use Rattle.spki_case.specs.declared.cases.CaseFault.TheVariants as faults
+use Rattle.spki_decision.specs.declared.deciding.GuardFault.{GuardFault}
+use Rattle.spki_decision.specs.declared.deciding.GuardFault.TheVariants as guard
 use Rattle.spki_guard.specs.declared.intersection.IntersectFault.{IntersectFault}
 use Rattle.spki_guard.specs.declared.intersection.IntersectFault.TheVariants as intersect
 
@@ -35,6 +37,10 @@ refused why = line (codes "refused" ∷ why)
 -- memory ran out
 abbrev pub refused_memory : List ℕ
 refused_memory = refused (codes "Memory" ∷ [])
+
+-- tags are too large
+abbrev pub refused_large : List ℕ
+refused_large = refused (codes "TooLarge" ∷ [])
 
 -- a fault in a part of what was read
 abbrev pub refused_part : List ℕ → List ℕ → List ℕ
@@ -121,11 +127,16 @@ refused_case (faults.Request fault) = refused_part (codes "request") (tag_kind f
 refused_case (faults.At fault) = refused_part (codes "at") (kind_name fault.kind)
 refused_case faults.Memory = refused_memory
 
+-- why a case isn't decided
+abbrev pub refused_decision : GuardFault → List ℕ
+refused_decision guard.TooLarge = refused_large
+refused_decision guard.Memory = refused_memory
+
 -- why there is no intersection; the two tags are counted from 1
 abbrev pub refused_intersect : IntersectFault → List ℕ
 refused_intersect (intersect.Form fault) = refused_form fault
 refused_intersect intersect.Shape = refused_part (codes "intersect") (codes "Shape")
 refused_intersect (intersect.First fault) = refused_item (codes "tag") 1 (tag_kind fault)
 refused_intersect (intersect.Second fault) = refused_item (codes "tag") 2 (tag_kind fault)
-refused_intersect intersect.TooLarge = refused (codes "TooLarge" ∷ [])
+refused_intersect intersect.TooLarge = refused_large
 refused_intersect intersect.Memory = refused_memory

@@ -1,17 +1,45 @@
 -- How a run ends, and what it writes.
-use Rattle.std.specs.Prelude.{◌≡◌, ℕ, ◌+◌, ◌<◌, ◌≤◌, ◌⊎◌, List, length, Option, IsTrue}
+use Rattle.std.specs.Prelude.{◌≡◌, ℕ, ◌+◌, ◌<◌, ◌≤◌, ◌⊎◌, List, length, Option, IfSome, Bool, IsTrue}
+use Rattle.std.specs.Io.KnownBytes.{Consumes}
+use Rattle.metered_io.specs.declared.meters.Metered.{Metered}
+use Rattle.metered_io.specs.Metered.{Takes}
+use Rattle.metered_io.specs.Sent.{SendsFront}
+use Rattle.sexpr_core.specs.declared.fault.FormFault.TheVariants as form
+use Rattle.spki_guard.specs.declared.commands.Command.{Command}
 use Rattle.spki_guard.specs.declared.answers.Verdict.{Verdict}
-use Rattle.spki_guard.specs.declared.answers.Verdict.TheVariants.{Done, No, Refused}
-use Rattle.spki_guard.specs.declared.running.Status.{Status}
-use Rattle.spki_guard.specs.declared.running.Status.TheVariants as status
-use Rattle.spki_guard.specs.declared.meters.Metered.{Metered}
-use Rattle.spki_guard.specs.Metered.{Takes}
-use Rattle.spki_guard.specs.Sent.{SendsFront}
+use Rattle.spki_guard.specs.declared.answers.Verdict.TheVariants.{Refused}
+use Rattle.spki_guard.specs.Lines.{refused_form, refused_memory}
+use Rattle.spki_guard.specs.Answer.{IsAnswer}
 
-abbrev pub status_of : Verdict → Status
-status_of Done = status.Done
-status_of No = status.No
-status_of Refused = status.Refused
+-- ---- what is replied
+
+-- The text came to its end, and this is the answer to it. Known is what the reader had, where it tells that.
+pub record AnswersText (command : Command) (known : Option (List ℕ)) (ended : Bool) (verdict : Verdict) (output : List ℕ) : Type 0 where
+  pub text : List ℕ
+  pub at_end : IsTrue ended
+  pub whole : IfSome known (λ octets. octets ≡ text)
+  pub short : length text ≤ 1048576
+  pub answer : IsAnswer command text verdict output
+
+-- The text has too many octets. Of what the reader had, where it tells that, one octet too many was taken.
+pub record RefusesLong (known left : Option (List ℕ)) (verdict : Verdict) (output : List ℕ) : Type 0 where
+  pub octets : List ℕ
+  pub long : length octets ≡ 1048577
+  pub taken : Consumes known left octets
+  pub verdict_is : verdict ≡ Refused
+  pub line : output ≡ refused_form form.TooLong
+
+-- memory ran out
+pub record RefusesForMemory (verdict : Verdict) (output : List ℕ) : Type 0 where
+  pub verdict_is : verdict ≡ Refused
+  pub line : output ≡ refused_memory
+
+-- what is replied to what a reader had, and what of it is left
+abbrev pub IsReply : Command → Option (List ℕ) → Option (List ℕ) → Bool → Verdict → List ℕ → Type 0
+IsReply command known left ended verdict output =
+    AnswersText command known ended verdict output ⊎ (RefusesLong known left verdict output ⊎ RefusesForMemory verdict output)
+
+-- ---- how it is written
 
 -- Some call failed, or the end was as many asks as this.
 abbrev pub IsFaulty : {T : Type 0} → Metered T → ℕ → Type 0
@@ -29,11 +57,3 @@ pub record IsCutOff {W : Type 0} (contents : W → Option (List ℕ)) (old new :
   pub front : SendsFront contents old new output rest
   pub faulty : IsFaulty new (length output + 2097152)
   pub asks : new.asks ≤ length output + 2097152
-
--- the exit status
-abbrev pub code_of : Status → ℕ
-code_of status.Done = 0
-code_of status.No = 1
-code_of status.Refused = 2
-code_of status.ReadFault = 3
-code_of status.WriteFault = 3

@@ -1,25 +1,47 @@
-//! The answer to a text.
-ghost use Rattle.std.specs.Prelude.{◌≡◌, [], ◌∷◌, ◌++◌, IfOk};
+//! The answer to a text: what is found out of it, and what is written.
+ghost use Rattle.std.specs.Prelude.{◌≡◌, [], ◌∷◌, ◌++◌, ◌⊎◌, IfOk, IfErr};
 ghost use Rattle.sexpr_core.specs.Value.{Value, canon};
-ghost use Rattle.sexpr_core.specs.Braces.{transport};
 ghost use Rattle.sexpr_text.specs.Printed.{adv};
 ghost use Rattle.sexpr_text.specs.Written.{written};
 ghost use Rattle.spki_tag.specs.Tag.{tag_value};
-ghost use Rattle.spki_guard.specs.Lines.{refused_form, refused_case, refused_intersect};
-ghost use Rattle.spki_guard.specs.Answer.{form_of, IsAnswer, AnswersValue, IsIntersection, IsCheck, IsLineOf};
+ghost use Rattle.spki_case.specs.Texts.{IsOuter};
+ghost use Rattle.spki_guard.specs.Answer.{form_of, IsAnswer, AnswersValue, RefusesValue, AnswersRead, RefusesAnswer, WritesMeet, Decides, IsLineOf, refused_line, octets_of};
+ghost use Rattle.spki_guard.specs.Lines.{refused_memory};
 
-use crate::cases::{Case, CaseFault};
 use crate::commands::Command;
-use crate::deciding::{Decision, decide};
 use crate::intersection::{IntersectFault, intersect};
 use crate::lines::{
-    push_no, push_refused_case, push_refused_form, push_refused_intersect, push_yes_entry,
+    push_no, push_refused_case, push_refused_decision, push_refused_form, push_refused_intersect,
+    push_refused_memory, push_yes_entry,
 };
 use crate::printing::push_tag;
-use sexpr_core::{FormFault, wrap_octets};
+use sexpr_core::FormFault;
+use sexpr_core::reading::wrap_octets;
 use sexpr_text::{Form, convert};
+use spki_case::{Case, CaseFault};
+use spki_decision::{Decision, GuardFault, decide};
 use spki_tag::Tag;
 use std::alloc::{AllocError, Global};
+
+/// The octets that are written.
+#[derive(Drop)]
+pub(crate) enum Output {
+    /// What was made of a text.
+    Made(Vec<u8>),
+    /// A line that takes no memory.
+    Fixed(&'static [u8]),
+}
+
+impl Output {
+    pub(crate) fn as_slice(&self) -> &[u8]
+        ensures { result.now ≡ octets_of self.now }
+    {
+        match self {
+            Output::Made(octets) => octets.as_slice(),
+            Output::Fixed(octets) => octets,
+        }
+    }
+}
 
 /// What was found out.
 #[derive(Clone, Copy, Debug, PartialEq, Eq)]
@@ -32,26 +54,115 @@ pub enum Verdict {
     Refused,
 }
 
-/// What was found out, and what is written of it.
+/// What was found out of a text, and what is written of it.
 #[derive(Drop)]
-pub struct Answer {
+pub(crate) struct Answer {
     pub verdict: Verdict,
-    pub output: Vec<u8>,
+    pub output: Output,
+}
+
+/// Why a text has no answer but a refusal.
+#[derive(Clone, Copy)]
+pub(crate) enum Refusal {
+    /// It is no text of a value.
+    Form(FormFault),
+    /// It has no intersection.
+    Intersect(IntersectFault),
+    /// It is no case.
+    Case(CaseFault),
+    /// Its case isn't decided.
+    Decision(GuardFault),
+    /// Memory was refused.
+    Memory,
+}
+
+impl From<FormFault> for Refusal {
+    ghost use Rattle.sexpr_core.specs.declared.fault.FormFault.{FormFault};
+    ghost use Rattle.spki_guard.specs.declared.answers.Refusal.{Refusal};
+
+    ghost from_gives = { λ fault refusal.
+        IsOuter (fault ≡ FormFault.Memory) Refusal.Memory (Refusal.Form fault) refusal };
+
+    fn from(fault: FormFault) -> Refusal {
+        match fault {
+            FormFault::Memory => Refusal::Memory,
+            _ => Refusal::Form(fault),
+        }
+    }
+}
+
+impl From<IntersectFault> for Refusal {
+    ghost use Rattle.spki_guard.specs.declared.intersection.IntersectFault.{IntersectFault};
+    ghost use Rattle.spki_guard.specs.declared.answers.Refusal.{Refusal};
+
+    ghost from_gives = { λ fault refusal.
+        IsOuter (fault ≡ IntersectFault.Memory) Refusal.Memory (Refusal.Intersect fault) refusal };
+
+    fn from(fault: IntersectFault) -> Refusal {
+        match fault {
+            IntersectFault::Memory => Refusal::Memory,
+            _ => Refusal::Intersect(fault),
+        }
+    }
+}
+
+impl From<CaseFault> for Refusal {
+    ghost use Rattle.spki_case.specs.declared.cases.CaseFault.{CaseFault};
+    ghost use Rattle.spki_guard.specs.declared.answers.Refusal.{Refusal};
+
+    ghost from_gives = { λ fault refusal.
+        IsOuter (fault ≡ CaseFault.Memory) Refusal.Memory (Refusal.Case fault) refusal };
+
+    fn from(fault: CaseFault) -> Refusal {
+        match fault {
+            CaseFault::Memory => Refusal::Memory,
+            _ => Refusal::Case(fault),
+        }
+    }
+}
+
+impl From<GuardFault> for Refusal {
+    ghost use Rattle.spki_decision.specs.declared.deciding.GuardFault.{GuardFault};
+    ghost use Rattle.spki_guard.specs.declared.answers.Refusal.{Refusal};
+
+    ghost from_gives = { λ fault refusal.
+        IsOuter (fault ≡ GuardFault.Memory) Refusal.Memory (Refusal.Decision fault) refusal };
+
+    fn from(fault: GuardFault) -> Refusal {
+        match fault {
+            GuardFault::TooLarge => Refusal::Decision(GuardFault::TooLarge),
+            GuardFault::Memory => Refusal::Memory,
+        }
+    }
+}
+
+impl From<AllocError> for Refusal {
+    ghost use Rattle.spki_guard.specs.declared.answers.Refusal.{Refusal};
+
+    ghost from_gives = { λ _ refusal. refusal ≡ Refusal.Memory };
+
+    fn from(_: AllocError) -> Refusal {
+        Refusal::Memory
+    }
 }
 
 /// The answer to a whole text, in any of the three forms.
-///
-/// # Errors
-///
-/// Where memory was refused.
-pub fn answer_text(alloc: Global, command: Command, text: &[u8]) -> Result<Answer, AllocError>
-    ensures { IfOk result (λ a. IsAnswer command text.now a.verdict a.output.items) }
+pub(crate) fn answer_text(alloc: Global, command: Command, text: &[u8]) -> Answer
+    ensures { IsAnswer command text.now result.verdict (octets_of result.output) }
 {
-    match convert(alloc, form_of(command), text) {
-        Ok(octets) => answer_octets(alloc, command, octets),
-        Err(FormFault::Memory) => Err(AllocError),
-        Err(fault) => refuse_form(alloc, fault),
+    match answered(alloc, command, text) {
+        Ok(answer) => answer,
+        Err(refusal) => refuse(alloc, refusal),
     }
+}
+
+/// The answer to a text that isn't refused.
+fn answered(alloc: Global, command: Command, text: &[u8]) -> Result<Answer, Refusal>
+    ensures answered { IfOk result (λ a. AnswersRead command text.now a.verdict (octets_of a.output)) }
+    ensures refused { IfErr result (λ refusal. RefusesAnswer command text.now refusal) }
+{
+    let octets = convert(alloc, form_of(command), text)?;
+    answer_octets(alloc, command, octets)
 }
 
 /// The form that a command wants a value in.
@@ -68,131 +179,119 @@ fn form_of(command: Command) -> Form
 }
 
 /// The answer to the value of which these octets are the text, in the form that the command wants.
-fn answer_octets(alloc: Global, command: Command, octets: Vec<u8>) -> Result<Answer, AllocError>
-    ensures { (v : Value) → octets.items ≡ written (form_of command) v
-        → IfOk result (λ a. AnswersValue command v a.verdict a.output.items) }
+fn answer_octets(alloc: Global, command: Command, octets: Vec<u8>) -> Result<Answer, Refusal>
+    ensures answered { (v : Value) → octets.items ≡ written (form_of command) v
+        → IfOk result (λ a. AnswersValue command v a.verdict (octets_of a.output)) }
+    ensures refused { (v : Value) → octets.items ≡ written (form_of command) v
+        → IfErr result (λ refusal. RefusesValue command v refusal) }
 {
     match command {
         Command::Canonical => Ok(done(octets)),
-        Command::Advanced => done_line(octets),
-        Command::Transport => transport_line(alloc, &octets),
-        Command::Intersect => intersect_octets(alloc, &octets),
+        Command::Advanced => Ok(done_line(octets)?),
+        Command::Transport => Ok(done_line(wrap_octets(alloc, &octets)?)?),
+        Command::Intersect => Ok(tag_line(alloc, &intersect(alloc, &octets)?)?),
         Command::Check => check(alloc, &octets),
     }
 }
 
-/// The transport form of the value of which these octets are the canonical form, on a line of its own.
-fn transport_line(alloc: Global, octets: &[u8]) -> Result<Answer, AllocError>
-    ensures { (v : Value) → octets.now ≡ canon v
-        → IfOk result (λ a. (a.verdict ≡ Verdict.Done) × (a.output.items ≡ transport v ++ 10 ∷ [])) }
+/// Decides the case that a canonical text is.
+fn check(alloc: Global, text: &[u8]) -> Result<Answer, Refusal>
+    ensures answered { IfOk result (λ a. Decides text.now a.verdict (octets_of a.output)) }
+    ensures refused { (v : Value) → text.now ≡ canon v → IfErr result (λ refusal. RefusesValue Command.Check v refusal) }
 {
-    done_line(wrap_octets(alloc, octets)?)
+    let case = Case::read(alloc, text)?;
+    let decision = decide(alloc, &case, case.accepted())?;
+    Ok(decision_line(alloc, decision)?)
 }
 
 /// What was asked for is written.
 fn done(output: Vec<u8>) -> Answer
-    ensures { (result.verdict ≡ Verdict.Done) × (result.output.items ≡ output.items) }
+    ensures verdict { result.verdict ≡ Verdict.Done }
+    ensures output { octets_of result.output ≡ output.items }
 {
     Answer {
         verdict: Verdict::Done,
-        output,
+        output: Output::Made(output),
     }
 }
 
 /// What was asked for is written, on a line of its own.
 fn done_line(output: Vec<u8>) -> Result<Answer, AllocError>
-    ensures { IfOk result (λ a. (a.verdict ≡ Verdict.Done) × (a.output.items ≡ output.items ++ 10 ∷ [])) }
+    ensures verdict { IfOk result (λ a. a.verdict ≡ Verdict.Done) }
+    ensures output { IfOk result (λ a. octets_of a.output ≡ output.items ++ 10 ∷ []) }
 {
     let mut line = output;
     line.push(b'\n')?;
     Ok(done(line))
 }
 
-/// What the two tags that a canonical text has leave together.
-fn intersect_octets(alloc: Global, text: &[u8]) -> Result<Answer, AllocError>
-    ensures { IfOk result (λ a. IsIntersection text.now a.verdict a.output.items) }
-{
-    match intersect(alloc, text) {
-        Ok(tag) => tag_line(alloc, &tag),
-        Err(IntersectFault::Memory) => Err(AllocError),
-        Err(fault) => refuse_intersect(alloc, fault),
-    }
-}
-
 /// A tag as it is written, in advanced form, on a line of its own.
 fn tag_line(alloc: Global, tag: &Tag) -> Result<Answer, AllocError>
-    ensures { IfOk result (λ a. (a.verdict ≡ Verdict.Done) × (a.output.items ≡ adv (tag_value tag.now) ++ 10 ∷ [])) }
+    ensures verdict { IfOk result (λ a. a.verdict ≡ Verdict.Done) }
+    ensures output { IfOk result (λ a. octets_of a.output ≡ adv (tag_value tag.now) ++ 10 ∷ []) }
 {
     let mut line = Vec::new(alloc);
     push_tag(alloc, &mut line, tag)?;
     done_line(line)
 }
 
-/// The line of a refusal of an intersection.
-fn refuse_intersect(alloc: Global, fault: IntersectFault) -> Result<Answer, AllocError>
-    ensures { IfOk result (λ a. (a.verdict ≡ Verdict.Refused) × (a.output.items ≡ refused_intersect fault)) }
-{
-    let mut output = Vec::new(alloc);
-    push_refused_intersect(alloc, &mut output, fault)?;
-    Ok(Answer {
-        verdict: Verdict::Refused,
-        output,
-    })
-}
-
-/// Decides the case that a canonical text is.
-fn check(alloc: Global, text: &[u8]) -> Result<Answer, AllocError>
-    ensures { IfOk result (λ a. IsCheck text.now a.verdict a.output.items) }
-{
-    let case = match Case::read(alloc, text) {
-        Ok(case) => case,
-        Err(CaseFault::Memory) => return Err(AllocError),
-        Err(fault) => return refuse(alloc, fault),
-    };
-    let Ok(decision) = decide(alloc, &case, case.accepted()) else {
-        return Err(AllocError);
-    };
-    grant(alloc, decision)
-}
-
 /// The line of a decision.
-fn grant(alloc: Global, decision: Decision) -> Result<Answer, AllocError>
-    ensures { IfOk result (λ a. IsLineOf decision a.verdict a.output.items) }
+fn decision_line(alloc: Global, decision: Decision) -> Result<Answer, AllocError>
+    ensures { IfOk result (λ a. IsLineOf decision a.verdict (octets_of a.output)) }
 {
-    let mut output = Vec::new(alloc);
+    let mut line = Vec::new(alloc);
     let verdict = match decision {
         Decision::Yes(entry) => {
-            push_yes_entry(alloc, &mut output, entry)?;
+            push_yes_entry(alloc, &mut line, entry)?;
             Verdict::Done
         }
         Decision::No => {
-            push_no(&mut output)?;
+            push_no(&mut line)?;
             Verdict::No
         }
     };
-    Ok(Answer { verdict, output })
-}
-
-/// The line of a refusal of a text's form.
-fn refuse_form(alloc: Global, fault: FormFault) -> Result<Answer, AllocError>
-    ensures { IfOk result (λ a. (a.verdict ≡ Verdict.Refused) × (a.output.items ≡ refused_form fault)) }
-{
-    let mut output = Vec::new(alloc);
-    push_refused_form(alloc, &mut output, fault)?;
     Ok(Answer {
-        verdict: Verdict::Refused,
-        output,
+        verdict,
+        output: Output::Made(line),
     })
 }
 
-/// The line of a refusal of a case.
-fn refuse(alloc: Global, fault: CaseFault) -> Result<Answer, AllocError>
-    ensures { IfOk result (λ a. (a.verdict ≡ Verdict.Refused) × (a.output.items ≡ refused_case fault)) }
+/// The line of a refusal, or that of want of memory where there is none for the line.
+fn refuse(alloc: Global, refusal: Refusal) -> Answer
+    ensures verdict { result.verdict ≡ Verdict.Refused }
+    ensures line { (octets_of result.output ≡ refused_line refusal) ⊎ (octets_of result.output ≡ refused_memory) }
 {
-    let mut output = Vec::new(alloc);
-    push_refused_case(alloc, &mut output, fault)?;
-    Ok(Answer {
+    match refused_line(alloc, refusal) {
+        Ok(line) => Answer {
+            verdict: Verdict::Refused,
+            output: Output::Made(line),
+        },
+        Err(_) => out_of_memory(),
+    }
+}
+
+/// The answer where memory ran out, which takes none.
+pub(crate) fn out_of_memory() -> Answer
+    ensures verdict { result.verdict ≡ Verdict.Refused }
+    ensures line { octets_of result.output ≡ refused_memory }
+{
+    Answer {
         verdict: Verdict::Refused,
-        output,
-    })
+        output: Output::Fixed(b"refused Memory\n"),
+    }
+}
+
+/// The line of a refusal.
+fn refused_line(alloc: Global, refusal: Refusal) -> Result<Vec<u8>, AllocError>
+    ensures { IfOk result (λ line. line.items ≡ refused_line refusal) }
+{
+    let mut line = Vec::new(alloc);
+    match refusal {
+        Refusal::Form(fault) => push_refused_form(alloc, &mut line, fault)?,
+        Refusal::Intersect(fault) => push_refused_intersect(alloc, &mut line, fault)?,
+        Refusal::Case(fault) => push_refused_case(alloc, &mut line, fault)?,
+        Refusal::Decision(fault) => push_refused_decision(&mut line, fault)?,
+        Refusal::Memory => push_refused_memory(&mut line)?,
+    }
+    Ok(line)
 }

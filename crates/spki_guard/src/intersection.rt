@@ -2,11 +2,11 @@
 
 ghost use Rattle.std.specs.Prelude.{◌≡◌, ◌≢◌, [], ◌∷◌, MatchOption, IfOk, IfErr};
 ghost use Rattle.sexpr_core.specs.Value.{Value};
-ghost use Rattle.spki_tag.specs.Read.{ReadsAs};
-ghost use Rattle.spki_guard.specs.Intersect.{intersect_value, outer_fault, Intersects, IsOperandFault, ValueNotMet, IsMetText, TextNotMet};
+ghost use Rattle.spki_case.specs.Texts.{IsOuter};
+ghost use Rattle.spki_guard.specs.Intersect.{intersect_value, outer_fault, Intersects, ValueNotMet, IsMetText, TextNotMet};
 
-use sexpr_core::{Doc, FormFault, Members, Node};
-use spki_cert::shape::headed;
+use sexpr_core::reading::{Members, Node};
+use sexpr_core::{Doc, FormFault};
 use spki_tag::{MeetFault, Tag, TagFault};
 use std::alloc::Global;
 use thiserror::Error;
@@ -71,42 +71,43 @@ fn operands_of<'d, 'a>(node: &Node<'d, 'a>) -> Option<Operands<'d, 'a>>
     ensures { MatchOption result ((a b : Value) → node.now ≢ intersect_value a b)
         (λ p. node.now ≡ intersect_value p.first p.second) }
 {
-    two(headed(node, b"intersect")?)
+    two(node.headed(b"intersect")?)
 }
 
-/// One of the two, as a tag; the fault is made by what says which one it is.
-fn first_of(alloc: Global, node: &Node) -> Result<Tag, IntersectFault>
-    ensures read { IfOk result (λ tag. ReadsAs node.now tag) }
-    ensures refused { IfErr result (λ fault. IsOperandFault IntersectFault.First node.now fault) }
+fn first_fault(fault: TagFault) -> IntersectFault
+    ensures { IsOuter (fault ≡ TagFault.Memory) IntersectFault.Memory (IntersectFault.First fault) result }
 {
-    match Tag::of(alloc, node) {
-        Ok(tag) => Ok(tag),
-        Err(TagFault::Memory) => Err(IntersectFault::Memory),
-        Err(fault) => Err(IntersectFault::First(fault)),
+    match fault {
+        TagFault::Memory => IntersectFault::Memory,
+        _ => IntersectFault::First(fault),
     }
 }
 
-fn second_of(alloc: Global, node: &Node) -> Result<Tag, IntersectFault>
-    ensures read { IfOk result (λ tag. ReadsAs node.now tag) }
-    ensures refused { IfErr result (λ fault. IsOperandFault IntersectFault.Second node.now fault) }
+fn second_fault(fault: TagFault) -> IntersectFault
+    ensures { IsOuter (fault ≡ TagFault.Memory) IntersectFault.Memory (IntersectFault.Second fault) result }
 {
-    match Tag::of(alloc, node) {
-        Ok(tag) => Ok(tag),
-        Err(TagFault::Memory) => Err(IntersectFault::Memory),
-        Err(fault) => Err(IntersectFault::Second(fault)),
+    match fault {
+        TagFault::Memory => IntersectFault::Memory,
+        _ => IntersectFault::Second(fault),
     }
 }
 
 /// What the two tags of a value leave together.
 fn meet_in(alloc: Global, node: &Node) -> Result<Tag, IntersectFault>
     ensures read { IfOk result (λ tag. Intersects node.now tag) }
-    ensures refused { IfErr result (λ fault. ValueNotMet node.now fault) }
+    ensures refused { IfErr result (λ fault. fault ≢ IntersectFault.Memory → ValueNotMet node.now fault) }
 {
     let Some(operands) = operands_of(node) else {
         return Err(IntersectFault::Shape);
     };
-    let first = first_of(alloc, &operands.first)?;
-    let second = second_of(alloc, &operands.second)?;
+    let first = match Tag::of(alloc, &operands.first) {
+        Ok(tag) => tag,
+        Err(fault) => return Err(first_fault(fault)),
+    };
+    let second = match Tag::of(alloc, &operands.second) {
+        Ok(tag) => tag,
+        Err(fault) => return Err(second_fault(fault)),
+    };
     Ok(first.meet(alloc, &second)?)
 }
 
@@ -120,7 +121,7 @@ fn meet_in(alloc: Global, node: &Node) -> Result<Tag, IntersectFault>
 /// 1,000,000. `Memory` where memory was refused.
 pub fn intersect(alloc: Global, text: &[u8]) -> Result<Tag, IntersectFault>
     ensures read { IfOk result (λ tag. IsMetText text.now tag) }
-    ensures refused { IfErr result (λ fault. TextNotMet text.now fault) }
+    ensures refused { IfErr result (λ fault. fault ≢ IntersectFault.Memory → TextNotMet text.now fault) }
 {
     match Doc::open(alloc, text) {
         Ok(document) => meet_in(alloc, &document.top()),

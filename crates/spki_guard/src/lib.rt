@@ -2,26 +2,15 @@
 #![tactic(auto)]
 
 mod answers;
-mod cases;
 mod commands;
-mod deciding;
 mod intersection;
 mod lines;
-mod meters;
-mod parts;
 mod printing;
-mod reading;
-mod reply;
 mod running;
-mod verifying;
-mod writing;
 
-pub use cases::{Case, CaseFault};
-pub use commands::Command;
-pub use deciding::{Decision, GuardFault, decide};
+pub use commands::{Command, Status};
 pub use intersection::{IntersectFault, intersect};
-pub use meters::Metered;
-pub use reading::READER_ASKS;
-pub use running::{Status, run};
-pub use verifying::{AcceptedTable, Row, Verifier};
-pub use writing::WRITER_ASKS;
+pub use metered_io::Metered;
+pub use running::run;
+pub use spki_case::{AcceptedTable, Case, CaseFault, Row, Verifier};
+pub use spki_decision::{Decision, GuardFault, Stop, decide, first_named, laws};

@@ -1,11 +1,12 @@
 //! The lines that are written, put behind what is there.
 ghost use Rattle.std.specs.Prelude.{◌≡◌, ◌++◌, OnOk, OnErr};
-ghost use Rattle.spki_guard.specs.Lines.{yes_entry, no_line, refused_part, refused_item, refused_tag, refused_at, refused_form, refused_in, refused_case, refused_intersect, tag_kind, kind_name};
+ghost use Rattle.spki_guard.specs.Lines.{yes_entry, no_line, refused_part, refused_item, refused_tag, refused_at, refused_form, refused_in, refused_case, refused_decision, refused_intersect, refused_memory, tag_kind, kind_name};
 
-use crate::cases::CaseFault;
 use crate::intersection::IntersectFault;
 use sexpr_core::FormFault;
+use spki_case::CaseFault;
 use spki_cert::{CertFault, CertFaultKind};
+use spki_decision::GuardFault;
 use spki_tag::TagFault;
 use std::alloc::{AllocError, Global};
 
@@ -45,7 +46,7 @@ pub fn push_refused_form(
         FormFault::Short => push(out, b"refused form Short\n"),
         FormFault::Bad(at) => push_form_at(alloc, out, "Bad", at),
         FormFault::Trailing(at) => push_form_at(alloc, out, "Trailing", at),
-        FormFault::Memory => push(out, b"refused Memory\n"),
+        FormFault::Memory => push_refused_memory(out),
     }
 }
 
@@ -153,7 +154,7 @@ fn push_refused_in(
 {
     match fault.kind {
         CertFaultKind::Tag(met) => push_refused_tag(alloc, out, part, fault.item, tag_kind(met)),
-        CertFaultKind::Memory => push(out, b"refused Memory\n"),
+        CertFaultKind::Memory => push_refused_memory(out),
         kind => push_refused_item(alloc, out, part, fault.item, kind_name(kind)),
     }
 }
@@ -176,8 +177,27 @@ pub fn push_refused_case(
         CaseFault::Key(met) => push_refused_part(alloc, out, "key", kind_name(met.kind)),
         CaseFault::Request(met) => push_refused_part(alloc, out, "request", tag_kind(met)),
         CaseFault::At(met) => push_refused_part(alloc, out, "at", kind_name(met.kind)),
-        CaseFault::Memory => push(out, b"refused Memory\n"),
+        CaseFault::Memory => push_refused_memory(out),
     }
+}
+
+/// Puts the line of a case that isn't decided behind what is written; of want of memory it is `refused Memory`.
+pub fn push_refused_decision(out: &mut Vec<u8>, fault: GuardFault) -> Result<(), AllocError>
+    ensures ok { OnOk result (out.new.items ≡ out.old.items ++ refused_decision fault) }
+    ensures err { OnErr result (out.new.items ≡ out.old.items) }
+{
+    match fault {
+        GuardFault::TooLarge => push(out, b"refused TooLarge\n"),
+        GuardFault::Memory => push_refused_memory(out),
+    }
+}
+
+/// Puts the line of want of memory behind what is written.
+pub fn push_refused_memory(out: &mut Vec<u8>) -> Result<(), AllocError>
+    ensures ok { OnOk result (out.new.items ≡ out.old.items ++ refused_memory) }
+    ensures err { OnErr result (out.new.items ≡ out.old.items) }
+{
+    push(out, b"refused Memory\n")
 }
 
 /// Puts the line of a fault of an intersection behind what is written; of want of memory it is `refused Memory`.
@@ -195,7 +215,7 @@ pub fn push_refused_intersect(
         IntersectFault::First(met) => push_refused_item(alloc, out, "tag", 1, tag_kind(met)),
         IntersectFault::Second(met) => push_refused_item(alloc, out, "tag", 2, tag_kind(met)),
         IntersectFault::TooLarge => push(out, b"refused TooLarge\n"),
-        IntersectFault::Memory => push(out, b"refused Memory\n"),
+        IntersectFault::Memory => push_refused_memory(out),
     }
 }
 

@@ -1,59 +1,16 @@
 //! A command from the octets that are read to those that are written.
-ghost use Rattle.std.specs.Prelude.{◌≡◌, ℕ, ◌≤◌, ◌⊎◌, List, IsTrue};
-ghost use Rattle.spki_guard.specs.declared.answers.Verdict.{Verdict};
-ghost use Rattle.spki_guard.specs.Metered.{inner_of, TakesNone};
-ghost use Rattle.spki_guard.specs.Reply.{IsReply, verdict_of, octets_of};
-ghost use Rattle.spki_guard.specs.Run.{IsFaulty, IsWritten, IsCutOff, status_of, code_of};
+ghost use Rattle.std.specs.Prelude.{◌≡◌, ℕ, ◌<◌, ◌≤◌, ◌⊎◌, List, length, max, IsTrue, IfNone, IfSome, OnSome};
+ghost use Rattle.metered_io.specs.Metered.{inner_of, Gives, TakesNone};
+ghost use Rattle.spki_guard.specs.Answer.{octets_of};
+ghost use Rattle.spki_guard.specs.Command.{status_of};
+ghost use Rattle.spki_guard.specs.Run.{IsReply, IsFaulty, IsWritten, IsCutOff};
 
-use crate::answers::Verdict;
-use crate::commands::Command;
-use crate::meters::Metered;
-use crate::reading::READER_ASKS;
-use crate::reply::{Reply, reply_to};
-use crate::writing::write_whole;
+use crate::answers::{Answer, Output, Verdict, answer_text, out_of_memory};
+use crate::commands::{Command, Status};
+use metered_io::{Metered, ReadFault, read_whole, write_whole};
+use sexpr_core::MOST_OCTETS;
 use std::alloc::Global;
 use std::io::{Read, Write};
-
-/// How a run ended.
-#[derive(Clone, Copy, Debug, PartialEq, Eq)]
-pub enum Status {
-    /// The answer is yes, or what was asked for is written.
-    Done,
-    /// The answer is no.
-    No,
-    /// The text is no input, or its answer is a refusal.
-    Refused,
-    /// The reader failed.
-    ReadFault,
-    /// The writer failed.
-    WriteFault,
-}
-
-impl Status {
-    /// The exit status: 0, 1, 2, and 3 for both faults.
-    pub fn code(self) -> u8
-        ensures { result ≡ code_of self }
-    {
-        match self {
-            Status::Done => 0,
-            Status::No => 1,
-            Status::Refused => 2,
-            Status::ReadFault | Status::WriteFault => 3,
-        }
-    }
-}
-
-impl From<Verdict> for Status {
-    ghost from_gives = { λ verdict status. status ≡ status_of verdict };
-
-    fn from(verdict: Verdict) -> Status {
-        match verdict {
-            Verdict::Done => Status::Done,
-            Verdict::No => Status::No,
-            Verdict::Refused => Status::Refused,
-        }
-    }
-}
 
 /// Reads a text, does the command with it and writes the answer, which is made before its first octet goes out.
 /// Both meters begin at 0.
@@ -63,10 +20,11 @@ pub fn run<R: Read, W: Write>(
     reader: &mut Metered<R>,
     writer: &mut Metered<W>,
 ) -> Status
-    ensures reader_asks { reader.new.asks ≤ READER_ASKS }
+    ensures reader_asks { reader.new.asks ≤ 2097152 }
+    ensures no_more { (octets : List ℕ) × (length octets ≤ 1048577) × Gives R.remaining reader.old reader.new octets }
     ensures ended_at_done { result ≡ Status.Done → IsTrue reader.new.ended }
     ensures ended_at_no { result ≡ Status.No → IsTrue reader.new.ended }
-    ensures read_fault { result ≡ Status.ReadFault → IsFaulty reader.new READER_ASKS }
+    ensures read_fault { result ≡ Status.ReadFault → IsFaulty reader.new 2097152 }
     ensures no_read_fault { (result ≡ Status.ReadFault) ⊎ (reader.new.faults ≡ 0) }
     ensures no_write_fault { (result ≡ Status.WriteFault) ⊎ (writer.new.faults ≡ 0) }
     ensures unwritten { result ≡ Status.ReadFault → (writer.new.asks ≡ 0)
@@ -74,32 +32,52 @@ pub fn run<R: Read, W: Write>(
 
     // With any other status there is a reply, and all or a front of it was written.
     ensures written { (verdict : Verdict) → result ≡ status_of verdict → (output : List ℕ)
-        × IsReply command (R.remaining (inner_of reader.old)) reader.new.ended verdict output
+        × IsReply command (R.remaining (inner_of reader.old)) (R.remaining (inner_of reader.new)) reader.new.ended verdict output
         × IsWritten W.contents writer.old writer.new output }
     ensures write_fault { result ≡ Status.WriteFault → (verdict : Verdict) × (output : List ℕ)
-        × IsReply command (R.remaining (inner_of reader.old)) reader.new.ended verdict output
+        × IsReply command (R.remaining (inner_of reader.old)) (R.remaining (inner_of reader.new)) reader.new.ended verdict output
         × IsCutOff W.contents writer.old writer.new output }
 {
     reader.restart();
     writer.restart();
     match reply_to(alloc, command, reader) {
         None => Status::ReadFault,
-        Some(reply) => send(writer, &reply),
+        Some(answer) => send(writer, &answer),
     }
 }
 
-/// Writes a reply.
-fn send<W: Write>(writer: &mut Metered<W>, reply: &Reply) -> Status
+/// Reads a text and makes the reply to it; none where the reader failed.
+fn reply_to<R: Read>(alloc: Global, command: Command, reader: &mut Metered<R>) -> Option<Answer>
+    ensures asks { reader.new.asks ≤ max reader.old.asks 2097152 }
+    ensures no_more { (octets : List ℕ) × (length octets ≤ 1048577) × Gives R.remaining reader.old reader.new octets }
+    ensures fault { IfNone result ((0 < reader.new.faults) ⊎ (2097152 ≤ reader.new.asks)) }
+    ensures no_fault { OnSome result (reader.new.faults ≡ reader.old.faults) }
+    ensures reply { IfSome result (λ answer. IsReply command (R.remaining (inner_of reader.old))
+        (R.remaining (inner_of reader.new)) reader.new.ended answer.verdict (octets_of answer.output)) }
+{
+    match read_whole(alloc, reader, MOST_OCTETS) {
+        Ok(text) => Some(answer_text(alloc, command, &text)),
+        Err(ReadFault::Failed) => None,
+        Err(ReadFault::TooLong) => Some(Answer {
+            verdict: Verdict::Refused,
+            output: Output::Fixed(b"refused form TooLong\n"),
+        }),
+        Err(ReadFault::Memory) => Some(out_of_memory()),
+    }
+}
+
+/// Writes an answer.
+fn send<W: Write>(writer: &mut Metered<W>, answer: &Answer) -> Status
     requires { writer.old.asks ≡ 0 }
     ensures read_fault { result ≡ Status.ReadFault → ⊥ }
-    ensures written { (verdict : Verdict) → result ≡ status_of verdict → (verdict ≡ verdict_of reply.now)
-        × IsWritten W.contents writer.old writer.new (octets_of reply.now) }
+    ensures written { (verdict : Verdict) → result ≡ status_of verdict → (verdict ≡ answer.now.verdict)
+        × IsWritten W.contents writer.old writer.new (octets_of answer.now.output) }
     ensures no_fault { (result ≡ Status.WriteFault) ⊎ (writer.new.faults ≡ writer.old.faults) }
     ensures write_fault { result ≡ Status.WriteFault
-        → IsCutOff W.contents writer.old writer.new (octets_of reply.now) }
+        → IsCutOff W.contents writer.old writer.new (octets_of answer.now.output) }
 {
-    if write_whole(writer, reply.octets()).is_err() {
+    if write_whole(writer, answer.output.as_slice()).is_err() {
         return Status::WriteFault;
     }
-    Status::from(reply.verdict())
+    Status::from(answer.verdict)
 }

@@ -34,9 +34,9 @@ only_from_left policy = (
   (
     five middle,
     five certificate,
-    (five entry, four definition, refl, refl, record { rest = []; named = refl; name = refl; result_is = refl }),
+    (five entry, four definition, refl, refl, record { begins = record { rest = []; named = refl; name = refl }; result_is = refl }),
     refl,
-    record { holder = []; issued = refl; whole = refl; named = refl; allowed = refl; result_is = refl },
+    record { issues = record { holder = []; issued = refl; is_for = record { whole = refl; named = refl } }; allowed = refl; result_is = refl },
   ),
   λ another d. refused policy d.3.0 d.3.1 d.1 d.3.2 d.3.3 d.3.4,
 )

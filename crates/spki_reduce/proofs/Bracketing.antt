@@ -55,18 +55,20 @@ module _ (policy : Policy) where
       → Delegate policy a b (delegated a b) × Delegate policy (delegated a b) c r
   delegate-delegate a b c m r h k = (
     record {
-      holder = k.holder;
-      issued = sym (ap (λ (t : FiveTuple). t.issuer) h.result_is) ∙ k.issued;
-      whole = k.whole;
-      named = k.named;
+      issues = record {
+        holder = k.issues.holder;
+        issued = sym (ap (λ (t : FiveTuple). t.issuer) h.result_is) ∙ k.issues.issued;
+        is_for = k.issues.is_for;
+      };
       allowed = k.allowed;
       result_is = refl;
     },
     record {
-      holder = h.holder;
-      issued = h.issued;
-      whole = h.whole;
-      named = h.named;
+      issues = record {
+        holder = h.issues.holder;
+        issued = h.issues.issued;
+        is_for = record { whole = h.issues.is_for.whole; named = h.issues.is_for.named };
+      };
       allowed = h.allowed;
       result_is = simp append_assoc (k.result_is ∙ ap (delegated a) h.result_is);
     },
@@ -76,53 +78,60 @@ module _ (policy : Policy) where
       → Delegate policy a b (delegated a b) × Resolve policy (delegated a b) c r
   delegate-resolve a b c m r h k = (
     record {
-      holder = k.holder;
-      issued = sym (ap (λ (t : FiveTuple). t.issuer) h.result_is) ∙ k.issued;
-      whole = k.whole;
-      named = k.named;
+      issues = record {
+        holder = k.issues.holder;
+        issued = sym (ap (λ (t : FiveTuple). t.issuer) h.result_is) ∙ k.issues.issued;
+        is_for = k.issues.is_for;
+      };
       allowed = k.allowed;
       result_is = refl;
     },
     record {
-      rest = h.rest;
-      named = h.named;
-      name = h.name;
+      begins = record { rest = h.begins.rest; named = h.begins.named; name = h.begins.name };
       result_is = simp append_assoc (k.result_is ∙ ap (delegated a) h.result_is);
     },
   )
 
   resolve-link : (a : FiveTuple) (b c m : FourTuple) (r : FiveTuple) → Link policy b c m → (k : Resolve policy a m r)
-      → Resolve policy a b (resolved a b k.rest) × Resolve policy (resolved a b k.rest) c r
+      → Resolve policy a b (resolved a b k.begins.rest) × Resolve policy (resolved a b k.begins.rest) c r
   resolve-link a b c m r h k =
-      let made = k.result_is ∙ ap (λ (t : FourTuple). resolved a t k.rest) h.result_is in (
+      let made = k.result_is ∙ ap (λ (t : FourTuple). resolved a t k.begins.rest) h.result_is in (
         record {
-          rest = k.rest;
-          named = rw (← ap (λ (t : FourTuple). t.key) h.result_is) k.named;
-          name = k.name ∙ ap (λ (t : FourTuple). t.name ∷ k.rest) h.result_is;
+          begins = record {
+            rest = k.begins.rest;
+            named = rw (← ap (λ (t : FourTuple). t.key) h.result_is) k.begins.named;
+            name = k.begins.name ∙ ap (λ (t : FourTuple). t.name ∷ k.begins.rest) h.result_is;
+          };
           result_is = refl;
         },
         record {
-          rest = h.rest ++ k.rest;
-          named = h.named;
-          name = ap (λ ns. ns ++ k.rest) h.name;
+          begins = record {
+            rest = h.begins.rest ++ k.begins.rest;
+            named = h.begins.named;
+            name = ap (λ ns. ns ++ k.begins.rest) h.begins.name;
+          };
           result_is = simp append_assoc (simp append_assoc at made);
         },
       )
 
   link-link : (a b c m r : FourTuple) → Link policy b c m → (k : Link policy a m r)
-      → Link policy a b (linked a b k.rest) × Link policy (linked a b k.rest) c r
+      → Link policy a b (linked a b k.begins.rest) × Link policy (linked a b k.begins.rest) c r
   link-link a b c m r h k =
-      let made = k.result_is ∙ ap (λ (t : FourTuple). linked a t k.rest) h.result_is in (
+      let made = k.result_is ∙ ap (λ (t : FourTuple). linked a t k.begins.rest) h.result_is in (
         record {
-          rest = k.rest;
-          named = rw (← ap (λ (t : FourTuple). t.key) h.result_is) k.named;
-          name = k.name ∙ ap (λ (t : FourTuple). t.name ∷ k.rest) h.result_is;
+          begins = record {
+            rest = k.begins.rest;
+            named = rw (← ap (λ (t : FourTuple). t.key) h.result_is) k.begins.named;
+            name = k.begins.name ∙ ap (λ (t : FourTuple). t.name ∷ k.begins.rest) h.result_is;
+          };
           result_is = refl;
         },
         record {
-          rest = h.rest ++ k.rest;
-          named = h.named;
-          name = ap (λ ns. ns ++ k.rest) h.name;
+          begins = record {
+            rest = h.begins.rest ++ k.begins.rest;
+            named = h.begins.named;
+            name = ap (λ ns. ns ++ k.begins.rest) h.begins.name;
+          };
           result_is = simp append_assoc (simp append_assoc at made);
         },
       )
@@ -138,9 +147,9 @@ module _ (policy : Policy) where
   regrouped a (five b) (four c) (four m) r h k = absurd h
   regrouped a (four b) (five c) m r h k = absurd h
   regrouped a (four b) (four c) (five m) r h k = absurd h
-  regrouped (five a) (four b) (four c) (four m) (five r) h k = let e = resolve-link a b c m r h k in (five (resolved a b k.rest), e.0, e.1)
+  regrouped (five a) (four b) (four c) (four m) (five r) h k = let e = resolve-link a b c m r h k in (five (resolved a b k.begins.rest), e.0, e.1)
   regrouped (five a) (four b) (four c) (four m) (four r) h k = absurd k
-  regrouped (four a) (four b) (four c) (four m) (four r) h k = let e = link-link a b c m r h k in (four (linked a b k.rest), e.0, e.1)
+  regrouped (four a) (four b) (four c) (four m) (four r) h k = let e = link-link a b c m r h k in (four (linked a b k.begins.rest), e.0, e.1)
   regrouped (four a) (four b) (four c) (four m) (five r) h k = absurd k
 
   -- ---- whole trees
@@ -179,11 +188,11 @@ module _ (policy : Policy) where
 
   same_resolve : (a : FiveTuple) (b : FourTuple) (r s : FiveTuple) → Resolve policy a b r → Resolve policy a b s → r ≡ s
   same_resolve a b r s h k =
-      h.result_is ∙ ap (resolved a b) (same_rest a.names h.rest k.rest b.name h.name k.name) ∙ sym k.result_is
+      h.result_is ∙ ap (resolved a b) (same_rest a.names h.begins.rest k.begins.rest b.name h.begins.name k.begins.name) ∙ sym k.result_is
 
   same_link : (a b r s : FourTuple) → Link policy a b r → Link policy a b s → r ≡ s
   same_link a b r s h k =
-      h.result_is ∙ ap (linked a b) (same_rest a.names h.rest k.rest b.name h.name k.name) ∙ sym k.result_is
+      h.result_is ∙ ap (linked a b) (same_rest a.names h.begins.rest k.begins.rest b.name h.begins.name k.begins.name) ∙ sym k.result_is
 
   same_join : (a b r s : Tuple) → Joins policy a b r → Joins policy a b s → r ≡ s
   same_join (five a) (five b) (five r) (five s) h k = ap five (h.result_is ∙ sym k.result_is)

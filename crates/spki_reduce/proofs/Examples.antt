@@ -9,6 +9,8 @@ use Rattle.spki_reduce.specs.Tuples.{FiveTuple, FourTuple, Tuple, own, key, five
 use Rattle.spki_reduce.specs.Rules.{Joins, Delegate, delegated}
 use Rattle.spki_reduce.specs.Derivation.{Tree, leaf, join, leaves, Derives, from_left}
 use Rattle.spki_reduce.specs.Supports.{Supports}
+use Rattle.spki_reduce.specs.declared.fold.Cause.TheVariants.{NotTheName, NoDelegation}
+use Rattle.spki_reduce.specs.Stops.{Stops}
 use Rattle.spki_reduce.proofs.Bracketing.{bracketed}
 
 -- the keys a, b and c
@@ -73,9 +75,9 @@ linked_names request moment = record {
   derived = (
     five partly,
     four bob,
-    (five entry, four friends, refl, refl, record { rest = codes "bob" ∷ []; named = refl; name = refl; result_is = refl }),
+    (five entry, four friends, refl, refl, record { begins = record { rest = codes "bob" ∷ []; named = refl; name = refl }; result_is = refl }),
     refl,
-    record { rest = []; named = refl; name = refl; result_is = refl },
+    record { begins = record { rest = []; named = refl; name = refl }; result_is = refl },
   );
   grants = record { issuer = refl; whole = refl; named = refl; asked = refl; timely = refl };
 }
@@ -86,7 +88,7 @@ two a b r d = rw (← d.2, ← d.3) d.4
 
 -- the entry's principal is not the key whose name bob is
 misfit : (r : Tuple) → Joins Open (five entry) (four bob) r → ⊥
-misfit (five r) h = let e : false ≡ true = h.named in cc
+misfit (five r) h = let e : false ≡ true = h.begins.named in cc
 misfit (four r) h = h
 
 -- With the two certificates in the other order there is no derivation, in no bracketing.
@@ -95,6 +97,33 @@ linked_names-swapped : (tree : Tree) (root : Tuple) → leaves tree ≡ five ent
 linked_names-swapped tree root e d =
     let left = bracketed Open tree root _ _ d e in
     misfit left.0 (two (five entry) (four bob) left.0 left.2)
+
+-- So the chain stops at its first step.
+linked_names-stops : Stops Open (five entry) (four bob) NotTheName
+linked_names-stops b = let e : false ≡ true = b.named in cc
+
+-- ---- names behind names
+
+-- (cert (issuer (name KA friends)) (subject (name KB al)))
+abbrev friends_of_al : FourTuple
+friends_of_al = record { key = ka; name = codes "friends"; principal = Key kb; names = codes "al" ∷ []; windows = always ∷ [] }
+
+-- (name KB al bob)
+abbrev al_bob : FiveTuple
+al_bob = record {
+  issuer = own;
+  principal = Key kb;
+  names = codes "al" ∷ codes "bob" ∷ [];
+  delegation = false;
+  tags = star ∷ [];
+  windows = always ∷ always ∷ [];
+}
+
+names_behind_names : Joins Open (five entry) (four friends_of_al) (five al_bob)
+names_behind_names = record {
+  begins = record { rest = codes "bob" ∷ []; named = refl; name = refl };
+  result_is = refl;
+}
 
 -- ---- two definitions of names
 
@@ -119,7 +148,7 @@ friends_linked = record {
 }
 
 linked_definitions : Joins Open (four friends_of_friends) (four bob) (four friends_linked)
-linked_definitions = record { rest = []; named = refl; name = refl; result_is = refl }
+linked_definitions = record { begins = record { rest = []; named = refl; name = refl }; result_is = refl }
 
 -- ---- delegation
 
@@ -165,10 +194,14 @@ delegation request moment = record {
     five first_cert,
     refl,
     refl,
-    record { holder = ka; issued = refl; whole = refl; named = refl; allowed = refl; result_is = refl },
+    record { issues = record { holder = ka; issued = refl; is_for = record { whole = refl; named = refl } }; allowed = refl; result_is = refl },
   );
   grants = record { issuer = refl; whole = refl; named = refl; asked = refl; timely = refl };
 }
+
+-- The second certificate doesn't join what the first one made of the entry, since that may not be delegated.
+delegation-stops : Stops Open (five (delegated root_entry first_cert)) (five second_cert) NoDelegation
+delegation-stops = (record { holder = kb; issued = refl; is_for = record { whole = refl; named = refl } }, refl)
 
 -- what can't be delegated isn't
 undelegated : (left right result : FiveTuple) → Delegate Open left right result → left.delegation ≡ false → ⊥

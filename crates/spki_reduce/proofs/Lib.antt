@@ -3,4 +3,7 @@ pub mod Examples
 pub mod Between
 pub mod Parts
 pub mod Policies
-pub mod Granting
+pub mod Pairs
+pub mod Folding
+pub mod Chains
+pub mod Lacking

@@ -20,23 +20,31 @@ named_openly (Hash Sha512 digest) holder h = h
 
 joined_openly : (a b r : Tuple) → Joins Strict a b r → Joins Open a b r
 joined_openly (five a) (five b) (five r) h = record {
-  holder = h.holder;
-  issued = h.issued;
-  whole = h.whole;
-  named = named_openly a.principal h.holder h.named;
+  issues = record {
+    holder = h.issues.holder;
+    issued = h.issues.issued;
+    is_for = record {
+      whole = h.issues.is_for.whole;
+      named = named_openly a.principal h.issues.holder h.issues.is_for.named;
+    };
+  };
   allowed = h.allowed;
   result_is = h.result_is;
 }
 joined_openly (five a) (four b) (five r) h = record {
-  rest = h.rest;
-  named = named_openly a.principal b.key h.named;
-  name = h.name;
+  begins = record {
+    rest = h.begins.rest;
+    named = named_openly a.principal b.key h.begins.named;
+    name = h.begins.name;
+  };
   result_is = h.result_is;
 }
 joined_openly (four a) (four b) (four r) h = record {
-  rest = h.rest;
-  named = named_openly a.principal b.key h.named;
-  name = h.name;
+  begins = record {
+    rest = h.begins.rest;
+    named = named_openly a.principal b.key h.begins.named;
+    name = h.begins.name;
+  };
   result_is = h.result_is;
 }
 joined_openly (five a) (five b) (four r) h = absurd h

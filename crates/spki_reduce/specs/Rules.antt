@@ -2,8 +2,26 @@
 -- depends on the policy.
 use Rattle.std.specs.Prelude.{◌≡◌, ℕ, List, [], ◌∷◌, ◌++◌, IsTrue}
 use Rattle.spki_cert.specs.declared.principal.Policy.{Policy}
+use Rattle.spki_cert.specs.declared.principal.Principal.{Principal}
 use Rattle.spki_cert.specs.Naming.{names}
 use Rattle.spki_reduce.specs.Tuples.{FiveTuple, FourTuple, Tuple, key, five, four}
+
+-- An authorization is for a key: its subject is a principal without names, which names the key.
+pub record IsFor (policy : Policy) (given : FiveTuple) (holder : List ℕ) : Type 0 where
+  pub whole : given.names ≡ []
+  pub named : IsTrue (names policy given.principal holder)
+
+-- The left subject is the right issuer (section 6.3): the left one is for the key of the right one's issuer.
+pub record Issues (policy : Policy) (left right : FiveTuple) : Type 0 where
+  pub holder : List ℕ
+  pub issued : right.issuer ≡ key holder
+  pub is_for : IsFor policy left holder
+
+-- A subject, a principal and the names behind it, begins with the name that a definition is of (section 6.4).
+pub record Begins (policy : Policy) (principal : Principal) (path : List (List ℕ)) (definition : FourTuple) : Type 0 where
+  pub rest : List (List ℕ)
+  pub named : IsTrue (names policy principal definition.key)
+  pub name : path ≡ definition.name ∷ rest
 
 -- what a delegated authorization says: from the left issuer to the right subject
 abbrev pub delegated : FiveTuple → FiveTuple → FiveTuple
@@ -18,10 +36,7 @@ delegated left right = record {
 
 -- Two authorizations (section 6.3): the left subject is the right issuer, and the left one may delegate.
 pub record Delegate (policy : Policy) (left right result : FiveTuple) : Type 0 where
-  pub holder : List ℕ
-  pub issued : right.issuer ≡ key holder
-  pub whole : left.names ≡ []
-  pub named : IsTrue (names policy left.principal holder)
+  pub issues : Issues policy left right
   pub allowed : IsTrue left.delegation
   pub result_is : result ≡ delegated left right
 
@@ -36,10 +51,8 @@ resolved left right rest = record left {
 -- An authorization and a name's definition (section 6.4): the left subject begins with the name that the
 -- right one defines. The names behind it come behind those of the definition's subject.
 pub record Resolve (policy : Policy) (left : FiveTuple) (right : FourTuple) (result : FiveTuple) : Type 0 where
-  pub rest : List (List ℕ)
-  pub named : IsTrue (names policy left.principal right.key)
-  pub name : left.names ≡ right.name ∷ rest
-  pub result_is : result ≡ resolved left right rest
+  pub begins : Begins policy left.principal left.names right
+  pub result_is : result ≡ resolved left right begins.rest
 
 -- a name's definition whose subject's first name was resolved
 abbrev pub linked : FourTuple → FourTuple → List (List ℕ) → FourTuple
@@ -51,10 +64,8 @@ linked left right rest = record left {
 
 -- Two definitions of names (section 6.4): as an authorization and a definition, and the left name is kept.
 pub record Link (policy : Policy) (left right result : FourTuple) : Type 0 where
-  pub rest : List (List ℕ)
-  pub named : IsTrue (names policy left.principal right.key)
-  pub name : left.names ≡ right.name ∷ rest
-  pub result_is : result ≡ linked left right rest
+  pub begins : Begins policy left.principal left.names right
+  pub result_is : result ≡ linked left right begins.rest
 
 -- Two tuples become a third by one of the rules. A definition never takes an authorization behind it.
 abbrev pub Joins : Policy → Tuple → Tuple → Tuple → Type 0

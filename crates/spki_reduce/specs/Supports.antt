@@ -1,13 +1,11 @@
 -- What a derivation grants (RFC 2693, section 6.3).
 use Rattle.std.specs.Prelude.{◌≡◌, ℕ, List, [], IsTrue}
-use Rattle.std.specs.List.{list_all}
 use Rattle.spki_cert.specs.declared.principal.Policy.{Policy}
 use Rattle.spki_tag.specs.Request.{Request}
 use Rattle.spki_cert.specs.Naming.{names}
-use Rattle.spki_tag.specs.Tag.{contains}
-use Rattle.spki_cert.specs.Time.{within}
 use Rattle.spki_reduce.specs.Tuples.{FiveTuple, own, five}
 use Rattle.spki_reduce.specs.Derivation.{Tree, Derives}
+use Rattle.spki_reduce.specs.Restrictions.{in_each, within_each}
 
 -- An authorization by the keeper of the access list grants a key a request at a moment: its subject is a
 -- principal that names the key, each of its tags contains the request, and the moment is within each of its
@@ -16,8 +14,8 @@ pub record Grants (policy : Policy) (root : FiveTuple) (holder : List ℕ) (requ
   pub issuer : root.issuer ≡ own
   pub whole : root.names ≡ []
   pub named : IsTrue (names policy root.principal holder)
-  pub asked : IsTrue (list_all (λ tag. contains tag request) root.tags)
-  pub timely : IsTrue (list_all (λ window. within moment window) root.windows)
+  pub asked : IsTrue (in_each request root.tags)
+  pub timely : IsTrue (within_each moment root.windows)
 
 -- The tree is a derivation of such an authorization.
 pub record Supports (policy : Policy) (tree : Tree) (holder : List ℕ) (request : Request) (moment : List ℕ) : Type 0 where

@@ -2,7 +2,9 @@
 
 ghost use Rattle.std.specs.Prelude.{◌≡◌};
 ghost use Rattle.spki_reduce.specs.declared.fault.ReduceFault.TheVariants.{Memory};
+ghost use Rattle.spki_reduce.specs.Refusal.{refusal};
 
+use spki_tag::MeetFault;
 use std::alloc::{AllocError, AllocFailed};
 use thiserror::Error;
 
@@ -30,5 +32,16 @@ impl<T: Drop> From<AllocFailed<T>> for ReduceFault {
 
     fn from(_error: AllocFailed<T>) -> ReduceFault {
         ReduceFault::Memory
+    }
+}
+
+impl From<MeetFault> for ReduceFault {
+    ghost from_gives = { λ inner fault. fault ≡ refusal inner };
+
+    fn from(inner: MeetFault) -> ReduceFault {
+        match inner {
+            MeetFault::TooLarge => ReduceFault::TooLarge,
+            MeetFault::Memory => ReduceFault::Memory,
+        }
     }
 }

@@ -1,13 +1,16 @@
 //! Reduction of tuples (RFC 2693, section 6).
 #![tactic(auto)]
 
+mod chain;
 mod fault;
 mod fold;
-mod grant;
+mod joining;
+mod last_tests;
 pub mod laws;
 mod tuple;
 
+pub use chain::fold_chain;
 pub use fault::ReduceFault;
 pub use fold::{Cause, Fold, Joined};
-pub use grant::grants;
+pub use last_tests::Lack;
 pub use tuple::{Five, Four, Issuer, Step};

@@ -1,5 +1,7 @@
 //! Tuples (RFC 2693, sections 6.1 and 6.2).
 
+ghost use Rattle.std.specs.Prelude.{◌≡◌};
+
 use spki_cert::{Key, Octets, Subject, Window};
 use spki_tag::Tag;
 
@@ -47,4 +49,16 @@ pub enum Step<'a> {
     Auth(Five<'a>),
     /// A name certificate's 4-tuple.
     Name(Four<'a>),
+}
+
+impl<'a> Issuer<'a> {
+    /// The same issuer once more, which takes no memory.
+    pub fn share(&self) -> Issuer<'a>
+        ensures { result ≡ self.now }
+    {
+        match self {
+            Issuer::Own => Issuer::Own,
+            Issuer::Key(key) => Issuer::Key(key.share()),
+        }
+    }
 }

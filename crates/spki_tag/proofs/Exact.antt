@@ -308,7 +308,7 @@ listed-exact head ts g = by (has_nothing ts) refl g
     by : (b : Bool) → has_nothing ts ≡ b → (g : Request)
         → contains (if b then nothing else list head (tags ts)) g ≡ contains (list head (tags ts)) g
     by true e (request.string x) = refl
-    by true e (request.list asked gs) = and_false _ ∙ sym (ap (λ c. bytes_eq head asked && c) (has_nothing-none ts gs e))
+    by true e (request.list requested gs) = and_false _ ∙ sym (ap (λ c. bytes_eq head requested && c) (has_nothing-none ts gs e))
     by false e g = refl
 
 list-exact : (head : List ℕ) (ts : Tags) (f : Tags → List Tag) (b : Tag) (g : Request) → IsRequest g
@@ -318,28 +318,28 @@ list-exact : (head : List ℕ) (ts : Tags) (f : Tags → List Tag) (b : Tag) (g 
     → contains (list_meet head f b) g ≡ (contains (list head ts) g && contains b g)
 list-exact head ts f star g k n m e = absurd (true≢false n)
 list-exact head ts f (string s) (request.string x) k n m e = refl
-list-exact head ts f (string s) (request.list asked gs) k n m e = and_false _
+list-exact head ts f (string s) (request.list requested gs) k n m e = and_false _
 list-exact head ts f (prefix s) (request.string x) k n m e = refl
-list-exact head ts f (prefix s) (request.list asked gs) k n m e = and_false _
+list-exact head ts f (prefix s) (request.list requested gs) k n m e = and_false _
 list-exact head ts f (range o l u) (request.string x) k n m e = refl
-list-exact head ts f (range o l u) (request.list asked gs) k n m e = and_false _
+list-exact head ts f (range o l u) (request.list requested gs) k n m e = and_false _
 list-exact head ts f (set us) g k n m e = absurd (true≢false n)
 list-exact head ts f (list other us) g k n m e = by (bytes_eq head other) refl g k
   where
     by : (b : Bool) → bytes_eq head other ≡ b → (g : Request) → IsRequest g
         → contains (if b then listed head (f us) else nothing) g ≡ (contains (list head ts) g && contains (list other us) g)
     by true h (request.string x) k = listed-exact head (f us) (request.string x)
-    by true h (request.list asked gs) k =
-        listed-exact head (f us) (request.list asked gs)
-        ∙ (λ i. twofold (bytes_eq head asked) i && e us gs k.2 m i)
-        ∙ twice (bytes_eq head asked) (bytes_eq head asked) (contain_each ts gs) (contain_each us gs)
-        ∙ ap (λ z. (bytes_eq head asked && contain_each ts gs) && (bytes_eq z asked && contain_each us gs)) (same_text head other (sym h))
+    by true h (request.list requested gs) k =
+        listed-exact head (f us) (request.list requested gs)
+        ∙ (λ i. twofold (bytes_eq head requested) i && e us gs k.2 m i)
+        ∙ twice (bytes_eq head requested) (bytes_eq head requested) (contain_each ts gs) (contain_each us gs)
+        ∙ ap (λ z. (bytes_eq head requested && contain_each ts gs) && (bytes_eq z requested && contain_each us gs)) (same_text head other (sym h))
     by false h (request.string x) k = refl
-    by false h (request.list asked gs) k =
-        and_never (bytes_eq head asked && contain_each ts gs) (bytes_eq other asked && contain_each us gs) (λ p q.
+    by false h (request.list requested gs) k =
+        and_never (bytes_eq head requested && contain_each ts gs) (bytes_eq other requested && contain_each us gs) (λ p q.
         sym h ∙ (bytes_decides head other).1
-        (same_text head asked (sym (first_true (bytes_eq head asked) (contain_each ts gs) p))
-        ∙ sym (same_text other asked (sym (first_true (bytes_eq other asked) (contain_each us gs) q)))))
+        (same_text head requested (sym (first_true (bytes_eq head requested) (contain_each ts gs) p))
+        ∙ sym (same_text other requested (sym (first_true (bytes_eq other requested) (contain_each us gs) q)))))
 
 -- ---- tags
 

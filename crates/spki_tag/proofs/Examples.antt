@@ -10,8 +10,8 @@ use Rattle.spki_tag.specs.Meet.{nothing}
 use Rattle.spki_tag.specs.NormalForm.{IsNormalOf}
 use Rattle.spki_tag.proofs.Gathered.{gathered_set, star_of_set, nothing_of_list}
 
-abbrev ask : List ℕ → Request
-ask octets = request.string octets
+abbrev text_request : List ℕ → Request
+text_request octets = request.string octets
 
 abbrev at_least : List ℕ → Option Limit
 at_least octets = Some (record { strict = false; octets = octets })
@@ -24,23 +24,23 @@ below octets = Some (record { strict = true; octets = octets })
 abbrev hours : Tag
 hours = range time (at_least (codes "09:00:00")) (below (codes "17:00:00"))
 
-time-leap_second : contains hours (ask (codes "12:30:60")) ≡ true
+time-leap_second : contains hours (text_request (codes "12:30:60")) ≡ true
 unfolding is_time
 time-leap_second = refl
 
-time-at_least : contains hours (ask (codes "09:00:00")) ≡ true
+time-at_least : contains hours (text_request (codes "09:00:00")) ≡ true
 unfolding is_time
 time-at_least = refl
 
-time-below : contains hours (ask (codes "17:00:00")) ≡ false
+time-below : contains hours (text_request (codes "17:00:00")) ≡ false
 unfolding is_time
 time-below = refl
 
-time-short : contains hours (ask (codes "9:00")) ≡ false
+time-short : contains hours (text_request (codes "9:00")) ≡ false
 unfolding is_time
 time-short = refl
 
-time-hour_24 : contains hours (ask (codes "24:00:00")) ≡ false
+time-hour_24 : contains hours (text_request (codes "24:00:00")) ≡ false
 unfolding is_time
 time-hour_24 = refl
 
@@ -49,19 +49,19 @@ time-hour_24 = refl
 abbrev since_2024 : Tag
 since_2024 = range date (at_least (codes "2024")) None
 
-date-first : contains since_2024 (ask (codes "2024-01-01_00:00:00")) ≡ true
+date-first : contains since_2024 (text_request (codes "2024-01-01_00:00:00")) ≡ true
 unfolding is_date is_time
 date-first = refl
 
-date-no_calendar : contains since_2024 (ask (codes "2024-02-31_00:00:00")) ≡ true
+date-no_calendar : contains since_2024 (text_request (codes "2024-02-31_00:00:00")) ≡ true
 unfolding is_date is_time
 date-no_calendar = refl
 
-date-before : contains since_2024 (ask (codes "2023-12-31_23:59:59")) ≡ false
+date-before : contains since_2024 (text_request (codes "2023-12-31_23:59:59")) ≡ false
 unfolding is_date is_time
 date-before = refl
 
-date-year_alone : contains since_2024 (ask (codes "2024")) ≡ false
+date-year_alone : contains since_2024 (text_request (codes "2024")) ≡ false
 unfolding is_date is_time
 date-year_alone = refl
 
@@ -70,13 +70,13 @@ date-year_alone = refl
 abbrev from_a : Tag
 from_a = range alpha (at_least (codes "a")) None
 
-alpha-same : contains from_a (ask (codes "a")) ≡ true
+alpha-same : contains from_a (text_request (codes "a")) ≡ true
 alpha-same = refl
 
-alpha-longer : contains from_a (ask (codes "ab")) ≡ true
+alpha-longer : contains from_a (text_request (codes "ab")) ≡ true
 alpha-longer = refl
 
-alpha-empty : contains from_a (ask []) ≡ false
+alpha-empty : contains from_a (text_request []) ≡ false
 alpha-empty = refl
 
 alpha-list : contains from_a (request.list (codes "a") request.none) ≡ false
@@ -84,7 +84,7 @@ alpha-list = refl
 
 -- ---- the tag (* prefix "")
 
-prefix-any : contains (prefix []) (ask (codes "any")) ≡ true
+prefix-any : contains (prefix []) (text_request (codes "any")) ≡ true
 prefix-any = refl
 
 prefix-list : contains (prefix []) (request.list (codes "a") request.none) ≡ false
@@ -98,19 +98,19 @@ either = list (codes "f") (tags (set (tags (string (codes "a") ∷ string (codes
 abbrev f_of : List Request → Request
 f_of gs = request.list (codes "f") (request.requests gs)
 
-set-member : contains either (f_of (ask (codes "a") ∷ [])) ≡ true
+set-member : contains either (f_of (text_request (codes "a") ∷ [])) ≡ true
 set-member = refl
 
-set-longer : contains either (f_of (ask (codes "b") ∷ ask (codes "c") ∷ [])) ≡ true
+set-longer : contains either (f_of (text_request (codes "b") ∷ text_request (codes "c") ∷ [])) ≡ true
 set-longer = refl
 
 set-shorter : contains either (f_of []) ≡ false
 set-shorter = refl
 
-set-string : contains either (ask (codes "f")) ≡ false
+set-string : contains either (text_request (codes "f")) ≡ false
 set-string = refl
 
-set-other : contains either (f_of (ask (codes "c") ∷ [])) ≡ false
+set-other : contains either (f_of (text_request (codes "c") ∷ [])) ≡ false
 set-other = refl
 
 -- ---- first-run and shorter-request
@@ -118,7 +118,7 @@ set-other = refl
 abbrev ftp_host : Tag
 ftp_host = list (codes "ftp") (tags (string (codes "host") ∷ []))
 
-first-run : contains ftp_host (request.list (codes "ftp") (request.requests (ask (codes "host") ∷ ask (codes "dir") ∷ []))) ≡ true
+first-run : contains ftp_host (request.list (codes "ftp") (request.requests (text_request (codes "host") ∷ text_request (codes "dir") ∷ []))) ≡ true
 first-run = refl
 
 shorter-request : contains ftp_host (request.list (codes "ftp") request.none) ≡ false

@@ -4,9 +4,9 @@ use Rattle.std.specs.List.{list_any}
 use Rattle.std.specs.Str.{bytes_eq}
 use Rattle.spki_tag.specs.Request as request
 use Rattle.spki_tag.specs.Request.{Request, Requests, IsHead}
-use Rattle.spki_tag.specs.Tag.{Tag, Tags, tags, star, string, prefix, range, list, set, none, more, IsTag, AreTags, contains, contain_each, some_contains, nodes, nodes_all, is_nothing, is_set_or_star, is_none_or_many, is_normal, each_normal, most_nodes, IsNormalTag}
+use Rattle.spki_tag.specs.Tag.{Tag, Tags, tags, star, string, prefix, range, list, set, none, more, IsTag, AreTags, contains, contain_each, some_contains, nodes, nodes_all, is_star, is_nothing, is_set_or_star, is_none_or_many, is_normal, each_normal, most_nodes, IsNormalTag}
 use Rattle.spki_tag.specs.Meet.{items, gather, nothing, has_nothing}
-use Rattle.spki_tag.specs.NormalForm.{IsNormalOf, AreNormalOf, AreNormal, is_star}
+use Rattle.spki_tag.specs.NormalForm.{IsNormalOf, AreNormalOf, AreNormal}
 use Rattle.spki_tag.specs.Index.{members as in_place}
 use Rattle.spki_tag.proofs.Exact.{second_true, or_false, and_false, append-exact, gather-exact, tags-items, not_barred, its_normal, rest_normal, has_nothing-none}
 use Rattle.spki_tag.proofs.Bounds.{append-nodes, gather-le}
@@ -190,7 +190,7 @@ nothing_of_list head ts h = record { written = tt; normal = refl; same = same; n
   where
     same : (g : Request) → contains nothing g ≡ contains (list head (tags ts)) g
     same (request.string s) = refl
-    same (request.list asked gs) = and_false _ ∙ ap (λ b. bytes_eq head asked && b) (sym (has_nothing-none ts gs (any_nothing ts ∙ h)))
+    same (request.list requested gs) = and_false _ ∙ ap (λ b. bytes_eq head requested && b) (sym (has_nothing-none ts gs (any_nothing ts ∙ h)))
 
 list-members : (ts : List Tag) → AreNormal ts → list_any is_nothing ts ≡ false
     → AreTags (tags ts) × (each_normal is_nothing (tags ts) ≡ true)
@@ -267,4 +267,4 @@ list-of head ws ts t h k = record {
   where
     same : (g : Request) → contains (list head (tags ts)) g ≡ contains (list head (tags ws)) g
     same (request.string s) = refl
-    same (request.list asked gs) = ap (λ b. bytes_eq head asked && b) (contain_each-of ws ts gs h)
+    same (request.list requested gs) = ap (λ b. bytes_eq head requested && b) (contain_each-of ws ts gs h)

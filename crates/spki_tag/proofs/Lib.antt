@@ -7,6 +7,9 @@ pub mod Depth
 pub mod NormalTag
 pub mod MeetSteps
 pub mod OneTag
+pub mod Shown
+pub mod Refusals
+pub mod Found
 pub mod Spelling
 pub mod Requests
 pub mod Weight
@@ -15,7 +18,6 @@ pub mod Prefixes
 pub mod Exact
 pub mod Bounds
 pub mod Gathered
-pub mod Starred
 pub mod Places
 pub mod Entries
 pub mod Sharing

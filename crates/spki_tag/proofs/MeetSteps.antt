@@ -3,10 +3,8 @@ use Rattle.std.proofs.Common.{◌≡◌, ℕ, zero, suc, ◌+◌, ◌*◌, ◌<�
 use Rattle.std.proofs.lemmas.Nat.{mul-le}
 use Rattle.std.proofs.Math.Seq.{drop-cons}
 use Rattle.std.proofs.lemmas.List.{append-nil}
-use Rattle.spki_tag.specs.Tag.{Tag, Tags, tags, star, string, prefix, range, list, set, none, more, IsNormalTag, is_nothing, is_set_or_star, is_normal, each_normal, is_none_or_many, nodes, nodes_all, most_nodes}
+use Rattle.spki_tag.specs.Tag.{Tag, Tags, tags, star, string, prefix, range, list, set, none, more, IsNormalTag, is_star, is_set, is_nothing, is_set_or_star, is_normal, each_normal, is_none_or_many, nodes, nodes_all, most_nodes}
 use Rattle.spki_tag.specs.Meet.{nothing, string_meet, prefix_meet, range_meet, items, kept, row, gather, has_nothing, list_meet, across, meet, each_meet, pairs}
-use Rattle.spki_tag.specs.Met.{is_set}
-use Rattle.spki_tag.specs.NormalForm.{is_star}
 use Rattle.spki_tag.specs.Index.{members}
 use Rattle.spki_tag.proofs.Exact.{second_true, not_barred, rest_normal, tags-items}
 use Rattle.spki_tag.proofs.NormalTag.{meet-normal_tag}

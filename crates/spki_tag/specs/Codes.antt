@@ -117,18 +117,18 @@ abbrev mutual
   requests_labels request.none rest = rest
   requests_labels (request.more g gs) rest = requests_labels gs (request_labels g rest)
 
-abbrev ask : Request → List Requests → List Requests
-ask g [] = []
-ask g (top ∷ below) = request.more g top ∷ below
+abbrev put_request : Request → List Requests → List Requests
+put_request g [] = []
+put_request g (top ∷ below) = request.more g top ∷ below
 
-abbrev fold_asked : (Requests → Request) → List Requests → List Requests
-fold_asked f [] = []
-fold_asked f (top ∷ below) = ask (f top) below
+abbrev fold_requests : (Requests → Request) → List Requests → List Requests
+fold_requests f [] = []
+fold_requests f (top ∷ below) = put_request (f top) below
 
 abbrev request_step : ℕ → List ℕ → List Requests → List Requests
 request_step zero octets made = request.none ∷ made
-request_step (suc zero) octets made = ask (request.string octets) made
-request_step (suc (suc n)) octets made = fold_asked (request.list octets) made
+request_step (suc zero) octets made = put_request (request.string octets) made
+request_step (suc (suc n)) octets made = fold_requests (request.list octets) made
 
 abbrev requests_made : List (ℕ × List ℕ) → List Requests → List Requests
 requests_made [] made = made

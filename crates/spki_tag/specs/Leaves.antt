@@ -1,10 +1,11 @@
--- What a leaf is seen as.
+-- What a tag without members is seen as.
 use Rattle.std.specs.Prelude.{Option, Some, None}
 use Rattle.spki_tag.specs.declared.leaf.RangeOrdering.{RangeOrdering}
 use Rattle.spki_tag.specs.declared.leaf.RangeOrdering.TheVariants as orderings
 use Rattle.spki_tag.specs.declared.leaf.Limit as source
 use Rattle.spki_tag.specs.declared.leaf.Leaf.{Leaf}
 use Rattle.spki_tag.specs.declared.leaf.Leaf.TheVariants as leaves
+use Rattle.spki_tag.specs.Meet.{nothing}
 use Rattle.spki_tag.specs.Tag.{Tag, Limit, Ordering, alpha, time, date, star, string, prefix, range}
 
 abbrev pub ordering_of : RangeOrdering → Ordering
@@ -21,3 +22,8 @@ leaf_tag leaves.Star = star
 leaf_tag (leaves.String octets) = string octets.items
 leaf_tag (leaves.Prefix octets) = prefix octets.items
 leaf_tag (leaves.Range ordering low up) = range (ordering_of ordering) (limit_of low) (limit_of up)
+
+-- a tag without members, or (* set)
+abbrev pub leaf_or_nothing : Option Leaf → Tag
+leaf_or_nothing None = nothing
+leaf_or_nothing (Some leaf) = leaf_tag leaf

@@ -1,26 +1,23 @@
 -- What a reading of a tag means.
-use Rattle.std.specs.Prelude.{◌≡◌, ℕ, ◌≤◌, true}
+use Rattle.std.specs.Prelude.{◌≡◌, ℕ, ◌≤◌}
 use Rattle.spki_tag.specs.declared.fault.TagFault.{TagFault}
 use Rattle.spki_tag.specs.declared.fault.TagFault.TheVariants as faults
 use Rattle.sexpr_core.specs.Value.{Value}
 use Rattle.spki_tag.specs.Request.{Request, IsRequest, request_value}
-use Rattle.spki_tag.specs.Tag.{Tag, IsTag, tag_value, contains, nodes, is_normal}
+use Rattle.spki_tag.specs.NormalForm.{IsNormalOf}
+use Rattle.spki_tag.specs.Tag.{Tag, IsTag, tag_value, nodes}
 
 -- the most nodes that a tag has where it is read
 abbrev pub most_read : ℕ
 most_read = 1024
 
--- The value is a written tag w of at most 1,024 nodes, and t is a tag in normal form that contains the same
--- requests and has no more nodes (RFC 2693, section 6.3.1).
+-- The value is a written tag w of at most 1,024 nodes, of which t is a normal form (RFC 2693, section 6.3.1).
 pub record ReadsAs (v : Value) (t : Tag) : Type 0 where
   pub w : Tag
   pub written : IsTag w
   pub spelled : tag_value w ≡ v
   pub few : nodes w ≤ most_read
-  pub normal : is_normal t ≡ true
-  pub tag : IsTag t
-  pub same : (g : Request) → contains t g ≡ contains w g
-  pub no_more : nodes t ≤ nodes w
+  pub normal : IsNormalOf w t
 
 -- Unless memory ran out, no tag of at most 1,024 nodes is written as the value.
 abbrev pub IsNoTag : TagFault → Value → Type 0

@@ -1,4 +1,4 @@
--- Requests: what is asked for, and what a tag contains or does not (RFC 2693, section 6.3.1).
+-- Requests: what is requested for, and what a tag contains or does not (RFC 2693, section 6.3.1).
 use Rattle.std.specs.Prelude.{◌≢◌, ℕ, ◌+◌, ◌<◌, List, [], ◌∷◌, All, codes}
 use Rattle.sexpr_core.specs.Value as value
 use Rattle.sexpr_core.specs.Value.{Value, Values, plain}

@@ -126,15 +126,15 @@ abbrev mutual
   -- tag holds its place, and what is missing at the end of the tag is not restricted.
   pub contains : Tag → Request → Bool
   contains star g = true
-  contains (string octets) (request.string asked) = bytes_eq octets asked
+  contains (string octets) (request.string requested) = bytes_eq octets requested
   contains (string octets) (request.list head further) = false
-  contains (prefix octets) (request.string asked) = starts_with nat_eq asked octets
+  contains (prefix octets) (request.string requested) = starts_with nat_eq requested octets
   contains (prefix octets) (request.list head further) = false
-  contains (range ordering low up) (request.string asked) =
-      is_ordered ordering asked && is_above low asked && is_below up asked
+  contains (range ordering low up) (request.string requested) =
+      is_ordered ordering requested && is_above low requested && is_below up requested
   contains (range ordering low up) (request.list head further) = false
-  contains (list head further) (request.string asked) = false
-  contains (list head further) (request.list asked others) = bytes_eq head asked && contain_each further others
+  contains (list head further) (request.string requested) = false
+  contains (list head further) (request.list requested others) = bytes_eq head requested && contain_each further others
   contains (set members) g = some_contains members g
 
   -- each tag contains the request in its place
@@ -178,16 +178,27 @@ abbrev mutual
   ldepth_most none = 0
   ldepth_most (more t ts) = max (ldepth t) (ldepth_most ts)
 
--- ---- normal form
+-- ---- tests
 
--- a set has no member of its own kind, and no star
+-- the tag (*)
+abbrev pub is_star : Tag → Bool
+is_star star = true
+is_star (string octets) = false
+is_star (prefix octets) = false
+is_star (range ordering low up) = false
+is_star (list head further) = false
+is_star (set members) = false
+
+abbrev pub is_set : Tag → Bool
+is_set star = false
+is_set (string octets) = false
+is_set (prefix octets) = false
+is_set (range ordering low up) = false
+is_set (list head further) = false
+is_set (set members) = true
+
 abbrev pub is_set_or_star : Tag → Bool
-is_set_or_star star = true
-is_set_or_star (set members) = true
-is_set_or_star (string octets) = false
-is_set_or_star (prefix octets) = false
-is_set_or_star (range ordering low up) = false
-is_set_or_star (list head further) = false
+is_set_or_star t = is_set t || is_star t
 
 -- (* set), which contains no request
 abbrev pub is_nothing : Tag → Bool
@@ -198,6 +209,8 @@ is_nothing (string octets) = false
 is_nothing (prefix octets) = false
 is_nothing (range ordering low up) = false
 is_nothing (list head further) = false
+
+-- ---- normal form
 
 -- there isn't just one
 abbrev pub is_none_or_many : Tags → Bool

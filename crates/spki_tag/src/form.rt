@@ -1,7 +1,11 @@
-//! How a tag is built, for those who go down into it.
+//! How a tag is built: its members, for those who go down into it, and what it is.
 
+ghost use Rattle.std.specs.Prelude.{◌≡◌, ◌↔◌, ◌||◌, IsTrue};
+ghost use Rattle.std.specs.List.{list_any};
+ghost use Rattle.spki_tag.specs.Tag as spec;
 ghost use Rattle.spki_tag.specs.TagForms.{IsFormOf};
 
+use crate::leaf::Leaf;
 use crate::tag::{Node, Tag};
 
 /// A tag without members, or its members (RFC 2693, section 6.3.1).
@@ -39,4 +43,61 @@ impl Tag {
             },
         }
     }
+
+    /// Whether this is `(*)`.
+    pub(crate) fn is_everything(&self) -> bool
+        ensures value { result ≡ spec.is_star self.now }
+        ensures normal { spec.IsNormalTag self.now }
+    {
+        match &self.node {
+            Node::Leaf(Leaf::Star) => true,
+            Node::Leaf(_) => false,
+            Node::List(_, _) => false,
+            Node::Set(_) => false,
+        }
+    }
+
+    /// Whether this is `(* set)`, the tag that contains no request. Another tag may contain none too, as a range
+    /// whose limits exclude each other.
+    pub fn is_nothing(&self) -> bool
+        ensures { IsTrue result ↔ (self.now ≡ spec.set spec.none) }
+    {
+        match &self.node {
+            Node::Leaf(_) => false,
+            Node::List(_, _) => false,
+            Node::Set(members) => members.is_empty(),
+        }
+    }
+}
+
+/// Whether the tag is a set.
+fn is_set(tag: &Tag) -> bool
+    ensures { result ≡ spec.is_set tag.now }
+{
+    match &tag.node {
+        Node::Leaf(_) => false,
+        Node::List(_, _) => false,
+        Node::Set(_) => true,
+    }
+}
+
+/// Whether one of two tags is a set.
+pub(crate) fn has_set(one: &Tag, other: &Tag) -> bool
+    ensures { result ≡ (spec.is_set one.now || spec.is_set other.now) }
+{
+    is_set(one) || is_set(other)
+}
+
+/// Whether `(*)` is among some tags.
+pub(crate) fn has_everything(members: &[Tag]) -> bool
+    ensures { result ≡ list_any spec.is_star members.now }
+{
+    members.iter().any(|member| member.is_everything())
+}
+
+/// Whether `(* set)` is among some tags.
+pub(crate) fn has_nothing(members: &[Tag]) -> bool
+    ensures { result ≡ list_any spec.is_nothing members.now }
+{
+    members.iter().any(|member| member.is_nothing())
 }

@@ -1,10 +1,10 @@
 //! Whether a request is in a tag.
 
 ghost use Rattle.std.specs.Prelude.{◌≡◌};
-ghost use Rattle.spki_tag.specs.Request.{requests};
+ghost use Rattle.spki_tag.specs.Request as spec;
 ghost use Rattle.spki_tag.specs.Tag.{tags, contains, contain_each, some_contains};
 
-use crate::request::{Ask, Ground};
+use crate::request::{Ground, GroundNode};
 use crate::tag::{Node, Tag};
 
 impl Tag {
@@ -15,13 +15,13 @@ impl Tag {
     {
         match &self.node {
             Node::Leaf(leaf) => match &request.node {
-                Ask::String(octets) => leaf.holds(octets),
-                Ask::List(_, _) => leaf.holds_lists(),
+                GroundNode::String(octets) => leaf.holds(octets),
+                GroundNode::List(_, _) => leaf.holds_lists(),
             },
             Node::List(head, further) => match &request.node {
-                Ask::String(_) => false,
-                Ask::List(asked, others) => {
-                    head.as_slice() == asked.as_slice() && each_holds(further, others)
+                GroundNode::String(_) => false,
+                GroundNode::List(other, others) => {
+                    head.as_slice() == other.as_slice() && each_holds(further, others)
                 }
             },
             Node::Set(members) => some_holds(members, request),
@@ -31,14 +31,14 @@ impl Tag {
 
 /// Whether each tag contains the request in its place.
 #[cycle(holds)]
-fn each_holds(members: &[Tag], asked: &[Ground]) -> bool
-    ensures { result ≡ contain_each (tags members.now) (requests asked.now) }
+fn each_holds(members: &[Tag], requests: &[Ground]) -> bool
+    ensures { result ≡ contain_each (tags members.now) (spec.requests requests.now) }
 {
-    if asked.len() < members.len() {
+    if requests.len() < members.len() {
         return false;
     }
     for i in 0..members.len() {
-        if !members[i].holds(&asked[i]) {
+        if !members[i].holds(&requests[i]) {
             return false;
         }
     }

@@ -1,11 +1,9 @@
 //! The members of a tag by kind and string, so that a tag is met only with those that it can have a request in
 //! common with.
 
-ghost use Rattle.std.specs.Prelude.{◌≡◌, ◌+◌, ◌∷◌, ◌++◌, [], ℕ, List, IfOk, OnOk, false};
+ghost use Rattle.std.specs.Prelude.{◌≡◌, ◌++◌, [], ℕ, List, IfOk, OnOk};
 ghost use Rattle.std.specs.Str.{bytes_eq};
-ghost use Rattle.spki_tag.specs.Tag.{Tag, tags};
-ghost use Rattle.spki_tag.specs.Meet.{meet, nothing, row};
-ghost use Rattle.spki_tag.specs.Index.{kind, may_share, members, places_where, tags_at};
+ghost use Rattle.spki_tag.specs.Index.{kind, may_share, members, places_where};
 ghost use Rattle.spki_tag.specs.Places.{kind_of, found_at, place_if, ArePlacesOf, IsAdded, merge};
 
 use crate::leaf::Leaf;
@@ -248,15 +246,3 @@ impl<'a> Index<'a> {
         }
     }
 }
-
-/// Two tags that can have no request in common, as far as their kinds and strings tell, leave nothing together.
-pub fn meet_apart()
-    ensures { (t u : Tag) → may_share t u ≡ false → meet t u ≡ nothing }
-{}
-
-/// A tag leaves of some tags, one after the other, what it leaves of those at the places where they may share a
-/// request with it.
-pub fn row_at_places()
-    ensures { (t : Tag) (us : List Tag)
-        → row (meet t) (tags us) ≡ row (meet t) (tags (tags_at us (places_where (may_share t) 1 us))) }
-{}

@@ -1,10 +1,14 @@
-//! Laws of tags and requests as they are written.
+//! Laws of tags and requests: as they are written, of their intersection, and of what tags can share.
 
-ghost use Rattle.std.specs.Prelude.{◌≡◌};
+ghost use Rattle.std.specs.Prelude.{◌≡◌, ◌*◌, ◌≤◌, ◌&&◌, ℕ, List, true, false, nat_eq};
+ghost use Rattle.std.specs.List.{starts_with};
 ghost use Rattle.sexpr_core.specs.Value.{Value};
+ghost use Rattle.spki_tag.specs.Faults.{tag_nodes};
+ghost use Rattle.spki_tag.specs.Index.{may_share, places_where, tags_at};
+ghost use Rattle.spki_tag.specs.Meet.{least_above, strict_limit, from, meet, nothing, row};
 ghost use Rattle.spki_tag.specs.Read.{ReadsAs};
-ghost use Rattle.spki_tag.specs.Request.{Request, request_value};
-ghost use Rattle.spki_tag.specs.Tag.{Tag, IsTag, tag_value, contains};
+ghost use Rattle.spki_tag.specs.Request.{AreOctets, Request, IsRequest, request_value};
+ghost use Rattle.spki_tag.specs.Tag.{Tag, IsTag, tag_value, tags, contains, is_above, is_below, is_normal, nodes};
 
 /// At most one tag is written as a value.
 pub fn one_tag()
@@ -19,4 +23,38 @@ pub fn one_request()
 /// Two tags that a value reads as contain the same requests.
 pub fn readings_agree()
     ensures { (v : Value) (t u : Tag) (g : Request) → ReadsAs v t → ReadsAs v u → contains t g ≡ contains u g }
+{}
+
+/// The value that a tag is written as has as many nodes of tags as the tag.
+pub fn nodes_as_written()
+    ensures { (t : Tag) → IsTag t → tag_nodes (tag_value t) ≡ nodes t }
+{}
+
+/// A prefix holds the strings from itself to below the least string above all that start with it.
+pub fn prefix_is_range()
+    ensures { (p x : List ℕ) → AreOctets x
+        → starts_with nat_eq x p ≡ (is_above (from p) x && is_below (strict_limit (least_above p)) x) }
+{}
+
+/// What two tags leave together contains a request exactly if both do.
+pub fn meet_exact()
+    ensures { (a b : Tag) (g : Request) → IsRequest g → is_normal a ≡ true → is_normal b ≡ true
+        → contains (meet a b) g ≡ (contains a g && contains b g) }
+{}
+
+/// What two tags leave together has at most as many nodes as the product of theirs.
+pub fn meet_bounded()
+    ensures { (a b : Tag) → nodes (meet a b) ≤ nodes a * nodes b }
+{}
+
+/// Two tags that can have no request in common, as far as their kinds and strings tell, leave nothing together.
+pub fn meet_apart()
+    ensures { (t u : Tag) → may_share t u ≡ false → meet t u ≡ nothing }
+{}
+
+/// A tag leaves of some tags, one after the other, what it leaves of those at the places where they may share a
+/// request with it.
+pub fn row_at_places()
+    ensures { (t : Tag) (us : List Tag)
+        → row (meet t) (tags us) ≡ row (meet t) (tags (tags_at us (places_where (may_share t) 1 us))) }
 {}

@@ -1,9 +1,8 @@
 //! The intersection of tags without members.
 
 ghost use Rattle.std.specs.Prelude.{◌≡◌, IfOk, option_map};
-ghost use Rattle.spki_tag.specs.Leaves.{ordering_of, limit_of, leaf_tag};
+ghost use Rattle.spki_tag.specs.Leaves.{ordering_of, limit_of, leaf_tag, leaf_or_nothing};
 ghost use Rattle.spki_tag.specs.Meet.{greater_low, lesser_up, ordering_meet, ranged, prefixes_meet, string_meet, meet};
-ghost use Rattle.spki_tag.specs.Met.{leaf_or_nothing};
 
 use crate::leaf::{Leaf, Limit, RangeOrdering, copied_limit};
 use crate::limit_meeting::{below_others, exclude, from_string, greater_low, lesser_up};

@@ -1,12 +1,11 @@
 //! Authorization tags and requests (RFC 2693, section 6.3.1).
 #![tactic(auto)]
 
-mod asking;
 mod fault;
 mod form;
 mod holding;
 mod index;
-mod laws;
+pub mod laws;
 mod leaf;
 mod leaf_meeting;
 mod limit_meeting;
@@ -22,9 +21,7 @@ mod writing;
 
 pub use fault::{MeetFault, TagFault};
 pub use form::TagForm;
-pub use index::{Index, meet_apart, row_at_places};
-pub use laws::{one_request, one_tag, readings_agree};
-pub use meeting::{meet_bounded, meet_exact, prefix_is_range};
+pub use index::Index;
 pub use moment::{is_date, is_time};
 pub use request::Ground;
 pub use tag::Tag;

@@ -1,15 +1,15 @@
 //! The intersection of tags (RFC 2693, section 6.3.1).
 
-ghost use Rattle.std.specs.Prelude.{◌≡◌, ◌+◌, ◌*◌, ◌<◌, ◌≤◌, ◌↔◌, ◌++◌, ◌&&◌, [], max, true, false, ℕ, List, nat_eq, IfOk, OnOk, IsErrOf, MatchOption, All, length};
-ghost use Rattle.std.specs.List.{starts_with};
-ghost use Rattle.spki_tag.specs.Request.{AreOctets, Request, IsRequest};
-ghost use Rattle.spki_tag.specs.Tag.{Tag, is_above, is_below, is_normal, IsNormalTag, contains, each_normal, is_nothing, is_set_or_star, most_nodes, nodes, nodes_all, ldepth, list, tags};
-ghost use Rattle.spki_tag.specs.Meet.{least_above, strict_limit, from, meet, each_meet, pairs, row, gather, has_nothing};
+ghost use Rattle.std.specs.Prelude.{◌≡◌, ◌+◌, ◌*◌, ◌<◌, ◌≤◌, ◌↔◌, ◌++◌, ◌&&◌, [], max, true, false, IfOk, OnOk, IsErrOf, MatchOption, All, length};
+ghost use Rattle.spki_tag.specs.Request.{Request, IsRequest};
+ghost use Rattle.spki_tag.specs.Tag.{IsNormalTag, contains, each_normal, is_nothing, is_set_or_star, most_nodes, nodes, nodes_all, ldepth, list, tags};
+ghost use Rattle.spki_tag.specs.Meet.{meet, each_meet, pairs, row, gather, has_nothing};
 ghost use Rattle.spki_tag.specs.Index.{tags_at};
 
 use crate::fault::MeetFault;
+use crate::form::has_set;
 use crate::index::Index;
-use crate::parts::{has_set, leaf_or_nothing, push_copies, push_kept};
+use crate::parts::{leaf_or_nothing, push_copies, push_kept};
 use crate::tag::{Node, Tag};
 use std::alloc::{AllocError, Global};
 
@@ -141,13 +141,15 @@ fn push_row(
 }
 
 impl Tag {
-    /// The intersection: the tag that contains a request exactly if both do (RFC 2693, section 6.3.1).
+    /// The intersection: the tag that contains a request exactly if both do (RFC 2693, section 6.3.1). What two sets
+    /// leave is ordered by this tag's members, then by the other's, and a member that repeats stays.
     ///
     /// # Errors
     ///
     /// `TooLarge` where the product of the numbers of their nodes is over 1,000,000, and `Memory` where memory ran
     /// out.
     pub fn meet(&self, alloc: Global, other: &Tag) -> Result<Tag, MeetFault>
+        ensures which { IfOk result (λ c. c ≡ meet self.now other.now) }
         ensures exact { IfOk result (λ c. (g : Request) → IsRequest g
             → contains c g ≡ (contains self.now g && contains other.now g)) }
         ensures bounds { IfOk result (λ c. (nodes c ≤ nodes self.now * nodes other.now)
@@ -160,20 +162,3 @@ impl Tag {
         Ok(meet_tags(alloc, self, other)?)
     }
 }
-
-/// A prefix holds the strings from itself to below the least string above all that start with it.
-pub fn prefix_is_range()
-    ensures { (p x : List ℕ) → AreOctets x
-        → starts_with nat_eq x p ≡ (is_above (from p) x && is_below (strict_limit (least_above p)) x) }
-{}
-
-/// What two tags leave together contains a request exactly if both do.
-pub fn meet_exact()
-    ensures { (a b : Tag) (g : Request) → IsRequest g → is_normal a ≡ true → is_normal b ≡ true
-        → contains (meet a b) g ≡ (contains a g && contains b g) }
-{}
-
-/// What two tags leave together has at most as many nodes as the product of theirs.
-pub fn meet_bounded()
-    ensures { (a b : Tag) → nodes (meet a b) ≤ nodes a * nodes b }
-{}

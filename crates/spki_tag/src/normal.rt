@@ -1,12 +1,12 @@
 //! Tags in normal form, which are made from the inside out.
 
 ghost use Rattle.std.specs.Prelude.{◌≡◌, ◌+◌, ◌≤◌, ◌++◌, IfOk, OnOk};
-ghost use Rattle.std.specs.List.{list_any};
 ghost use Rattle.spki_tag.specs.Request.{IsHead};
-ghost use Rattle.spki_tag.specs.Tag.{tags, list, set, is_nothing, nodes, most_nodes};
-ghost use Rattle.spki_tag.specs.NormalForm.{IsNormalOf, AreNormal, is_star};
+ghost use Rattle.spki_tag.specs.Tag.{tags, list, set, nodes, most_nodes};
+ghost use Rattle.spki_tag.specs.NormalForm.{IsNormalOf, AreNormal};
 ghost use Rattle.spki_tag.specs.Index.{members as in_place};
 
+use crate::form::{has_everything, has_nothing};
 use crate::tag::{Node, Tag};
 use std::alloc::{AllocError, Global};
 
@@ -23,20 +23,6 @@ fn push_member(members: &mut Vec<Tag>, tag: Tag) -> Result<(), AllocError>
         }
     }
     Ok(())
-}
-
-/// Whether `(*)` is among some tags.
-fn has_everything(members: &[Tag]) -> bool
-    ensures { result ≡ list_any is_star members.now }
-{
-    members.iter().any(|member| member.is_everything())
-}
-
-/// Whether `(* set)` is among some tags.
-fn has_nothing(members: &[Tag]) -> bool
-    ensures { result ≡ list_any is_nothing members.now }
-{
-    members.iter().any(|member| member.is_nothing())
 }
 
 impl Tag {

@@ -1,37 +1,34 @@
 //! Reading ranges (RFC 2693, section 6.3.1).
 
 ghost use Rattle.std.specs.Prelude.{◌≡◌, ◌≢◌, ◌∷◌, [], Some, List, ℕ, IfOk, IfErr, MatchOption, codes};
+ghost use Rattle.std.specs.List.{list_any};
 ghost use Rattle.sexpr_core.specs.Value.{plain, values};
 ghost use Rattle.spki_tag.specs.Leaves.{ordering_of, limit_of, leaf_tag};
 ghost use Rattle.spki_tag.specs.Tag.{Ordering, tag_value, starred, ordering_name, limit_values};
-ghost use Rattle.spki_tag.specs.Read.{IsNoTag};
-ghost use Rattle.spki_tag.specs.Steps.{is_hinted, AreLimits, AreNoLimits, IsNoLimit, IsNoOrdering};
+ghost use Rattle.spki_tag.specs.Faults.{AreNoLimits, TagShows};
+ghost use Rattle.spki_tag.specs.Steps.{is_hinted, AreLimits, IsNoLimit, LimitsShow, OrderingShows};
 
 use crate::fault::TagFault;
 use crate::leaf::{Leaf, Limit, RangeOrdering};
-use sexpr_core::{Form, Members, Node};
+use sexpr_core::reading::{Members, Node, NodeKind};
 use std::alloc::{AllocError, Global};
 
 /// Whether a value is a string with a display hint.
 fn is_hinted(value: &Node<'_, '_>) -> bool
     ensures { result ≡ is_hinted value.now }
 {
-    match value.form() {
-        Form::List(_) => false,
-        Form::String { hint: None, .. } => false,
-        Form::String { hint: Some(_), .. } => true,
+    match value.kind() {
+        NodeKind::List(_) => false,
+        NodeKind::String { hint: None, .. } => false,
+        NodeKind::String { hint: Some(_), .. } => true,
     }
 }
 
-/// The octets of a string without display hint.
-fn plain_octets<'a>(value: &Node<'_, 'a>) -> Option<&'a [u8]>
-    ensures { MatchOption result ((octets : List ℕ) → value.now ≢ plain octets) (λ octets. value.now ≡ plain octets.now) }
+/// Whether a string with a display hint is among some values.
+fn has_hint(values: &[Node<'_, '_>]) -> bool
+    ensures { result ≡ list_any is_hinted values.now }
 {
-    match value.form() {
-        Form::List(_) => None,
-        Form::String { hint: None, body } => Some(body),
-        Form::String { hint: Some(_), .. } => None,
-    }
+    values.iter().any(|value| is_hinted(value))
 }
 
 /// The ordering with this name.
@@ -53,15 +50,15 @@ fn ordering_named(name: &[u8]) -> Option<RangeOrdering>
 /// Reads the name of an ordering.
 fn read_ordering(name: &Node<'_, '_>) -> Result<RangeOrdering, TagFault>
     ensures read { IfOk result (λ ordering. name.now ≡ plain (ordering_name (ordering_of ordering))) }
-    ensures refused { IfErr result (λ _. IsNoOrdering name.now) }
+    ensures shows { IfErr result (λ fault. OrderingShows fault name.now) }
 {
-    match name.form() {
-        Form::List(_) => Err(TagFault::RangeOrdering),
-        Form::String { hint: None, body } => match ordering_named(body) {
+    match name.kind() {
+        NodeKind::List(_) => Err(TagFault::RangeOrdering),
+        NodeKind::String { hint: None, body } => match ordering_named(body) {
             Some(ordering) => Ok(ordering),
             None => Err(TagFault::RangeOrdering),
         },
-        Form::String { hint: Some(_), .. } => Err(TagFault::Hint),
+        NodeKind::String { hint: Some(_), .. } => Err(TagFault::Hint),
     }
 }
 
@@ -77,10 +74,10 @@ fn read_limit(
     ensures { IfOk result (λ found. MatchOption found (IsNoLimit strict.now inclusive.now (word.now ∷ limit.now ∷ []))
         (λ l. limit_values strict.now inclusive.now (limit_of (Some l)) ≡ word.now ∷ limit.now ∷ [])) }
 {
-    let Some(named) = plain_octets(word) else {
+    let Some(named) = word.plain_octets() else {
         return Ok(None);
     };
-    let Some(octets) = plain_octets(limit) else {
+    let Some(octets) = limit.plain_octets() else {
         return Ok(None);
     };
     if named == strict {
@@ -98,76 +95,97 @@ fn read_limit(
     }
 }
 
-/// Reads two values as the one limit of a range.
+/// The limits of a range.
+type Limits = (Option<Limit>, Option<Limit>);
+
+/// Reads two values as the one limit of a range. None where they are none.
 fn read_one_limit(
     alloc: Global,
     word: &Node<'_, '_>,
     limit: &Node<'_, '_>,
-) -> Result<(Option<Limit>, Option<Limit>), TagFault>
-    ensures read { IfOk result (λ p. AreLimits (limit_of p.0) (limit_of p.1) (word.now ∷ limit.now ∷ [])) }
-    ensures refused { IfErr result (λ fault. AreNoLimits fault (word.now ∷ limit.now ∷ [])) }
+) -> Result<Option<Limits>, AllocError>
+    ensures { IfOk result (λ found. MatchOption found (AreNoLimits (word.now ∷ limit.now ∷ []))
+        (λ p. AreLimits (limit_of p.0) (limit_of p.1) (word.now ∷ limit.now ∷ []))) }
 {
     let low = read_limit(alloc, word, limit, b"g", b"ge")?;
     if low.is_some() {
-        return Ok((low, None));
+        return Ok(Some((low, None)));
     }
     let up = read_limit(alloc, word, limit, b"l", b"le")?;
     if up.is_none() {
-        return Err(TagFault::RangeLimit);
+        return Ok(None);
     }
-    Ok((None, up))
+    Ok(Some((None, up)))
 }
 
-/// Reads four values as the limits of a range.
+/// Reads four values as the limits of a range. None where they are none.
 fn read_two_limits(
     alloc: Global,
     low_word: &Node<'_, '_>,
     low_limit: &Node<'_, '_>,
     up_word: &Node<'_, '_>,
     up_limit: &Node<'_, '_>,
-) -> Result<(Option<Limit>, Option<Limit>), TagFault>
-    ensures read { IfOk result (λ p.
-        AreLimits (limit_of p.0) (limit_of p.1) (low_word.now ∷ low_limit.now ∷ up_word.now ∷ up_limit.now ∷ [])) }
-    ensures refused { IfErr result (λ fault.
-        AreNoLimits fault (low_word.now ∷ low_limit.now ∷ up_word.now ∷ up_limit.now ∷ [])) }
+) -> Result<Option<Limits>, AllocError>
+    ensures { IfOk result (λ found. MatchOption found
+        (AreNoLimits (low_word.now ∷ low_limit.now ∷ up_word.now ∷ up_limit.now ∷ []))
+        (λ p. AreLimits (limit_of p.0) (limit_of p.1) (low_word.now ∷ low_limit.now ∷ up_word.now ∷ up_limit.now ∷ []))) }
 {
     let low = read_limit(alloc, low_word, low_limit, b"g", b"ge")?;
     if low.is_none() {
-        return Err(TagFault::RangeLimit);
+        return Ok(None);
     }
     let up = read_limit(alloc, up_word, up_limit, b"l", b"le")?;
     if up.is_none() {
-        return Err(TagFault::RangeLimit);
+        return Ok(None);
     }
-    Ok((low, up))
+    Ok(Some((low, up)))
 }
 
-/// Reads what is behind a range's ordering: at most a lower limit, and then at most an upper one.
-fn read_limits(
-    alloc: Global,
-    rest: Members<'_, '_>,
-) -> Result<(Option<Limit>, Option<Limit>), TagFault>
-    ensures read { IfOk result (λ p. AreLimits (limit_of p.0) (limit_of p.1) rest.entry) }
-    ensures refused { IfErr result (λ fault. AreNoLimits fault rest.entry) }
+/// Reads some values as the limits of a range: at most a lower limit, and then at most an upper one. None where they
+/// are none.
+fn limits_of(alloc: Global, values: &[Node<'_, '_>]) -> Result<Option<Limits>, AllocError>
+    ensures { IfOk result (λ found. MatchOption found (AreNoLimits values.now)
+        (λ p. AreLimits (limit_of p.0) (limit_of p.1) values.now)) }
 {
-    let values: Vec<Node<'_, '_>> = rest.collect(alloc)?;
-    if values.iter().any(|value| is_hinted(value)) {
-        return Err(TagFault::Hint);
-    }
-    match values.as_slice() {
-        [] => Ok((None, None)),
+    match values {
+        [] => Ok(Some((None, None))),
         [word, limit] => read_one_limit(alloc, word, limit),
         [low_word, low_limit, up_word, up_limit] => {
             read_two_limits(alloc, low_word, low_limit, up_word, up_limit)
         }
-        _ => Err(TagFault::RangeLimit),
+        _ => Ok(None),
+    }
+}
+
+/// The members of a list that are left, as a vector.
+fn values_of<'d, 'a>(
+    alloc: Global,
+    members: Members<'d, 'a>,
+) -> Result<Vec<Node<'d, 'a>>, AllocError>
+    ensures { IfOk result (λ values. values.items ≡ members.entry) }
+{
+    members.collect(alloc)
+}
+
+/// Reads what is behind a range's ordering.
+fn read_limits(alloc: Global, rest: Members<'_, '_>) -> Result<Limits, TagFault>
+    ensures read { IfOk result (λ p. AreLimits (limit_of p.0) (limit_of p.1) rest.entry) }
+    ensures shows { IfErr result (λ fault. LimitsShow fault rest.entry) }
+{
+    let values = values_of(alloc, rest)?;
+    if has_hint(&values) {
+        return Err(TagFault::Hint);
+    }
+    match limits_of(alloc, &values)? {
+        Some(limits) => Ok(limits),
+        None => Err(TagFault::RangeLimit),
     }
 }
 
 /// Reads what is behind `*` and `range`.
 pub(crate) fn read_range(alloc: Global, further: Members<'_, '_>) -> Result<Leaf, TagFault>
     ensures read { IfOk result (λ leaf. tag_value (leaf_tag leaf) ≡ starred (codes "range") (values further.entry)) }
-    ensures refused { IfErr result (λ fault. IsNoTag fault (starred (codes "range") (values further.entry))) }
+    ensures shows { IfErr result (λ fault. TagShows fault (starred (codes "range") (values further.entry))) }
 {
     match further.split_first() {
         None => Err(TagFault::RangeOrdering),

@@ -1,18 +1,20 @@
 //! Reading tags.
 
-ghost use Rattle.std.specs.Prelude.{◌≡◌, ◌+◌, ◌≤◌, ◌<◌, ◌∷◌, IfOk, IfErr, IfSome, IsSome, IsOkUnless, codes};
-ghost use Rattle.sexpr_core.specs.Value.{plain, group, values, node};
+ghost use Rattle.std.specs.Prelude.{◌≡◌, ◌+◌, ◌≤◌, ◌<◌, ◌∷◌, List, IfOk, IfErr, IfSome, IsSome, IsOkUnless, codes};
+ghost use Rattle.sexpr_core.specs.Value.{Value, plain, group, values, node};
 ghost use Rattle.spki_tag.specs.Leaves.{leaf_tag};
 ghost use Rattle.spki_tag.specs.Tag.{Tag, IsTag, tag_value, starred, nodes};
 ghost use Rattle.spki_tag.specs.Request.{IsHead};
 ghost use Rattle.spki_tag.specs.Read.{ReadsAs, IsNoTag, most_read};
-ghost use Rattle.spki_tag.specs.Steps.{IsRead, AreRead, IsNoTagAfter, AreNoTagsAfter, IsNoHead};
+ghost use Rattle.spki_tag.specs.Faults.{TagShows, RequestShows};
+ghost use Rattle.spki_tag.specs.Steps.{IsRead, AreRead, TagShowsAfter, TagsShowAfter};
 
 use crate::fault::TagFault;
 use crate::leaf::Leaf;
 use crate::ranges::read_range;
 use crate::tag::Tag;
-use sexpr_core::{Doc, Form, Members, Node, NodeId};
+use sexpr_core::reading::{Members, Node, NodeKind};
+use sexpr_core::{Doc, NodeId};
 use std::alloc::Global;
 
 /// The most nodes that a tag has where it is read.
@@ -21,19 +23,20 @@ const MOST_READ: usize = 1024;
 /// The octets of a list's first member, a string without display hint.
 pub(crate) fn head_of<'a>(first: &Node<'_, 'a>) -> Result<&'a [u8], TagFault>
     ensures string { IfOk result (λ head. first.now ≡ plain head.now) }
-    ensures other { IfErr result (λ fault. IsNoHead fault first.now) }
+    ensures shows { IfErr result (λ fault. (vs : List Value)
+        → TagShows fault (group (first.now ∷ vs)) × RequestShows fault (group (first.now ∷ vs))) }
 {
-    match first.form() {
-        Form::List(_) => Err(TagFault::ListHead),
-        Form::String { hint: None, body } => Ok(body),
-        Form::String { hint: Some(_), .. } => Err(TagFault::Hint),
+    match first.kind() {
+        NodeKind::List(_) => Err(TagFault::ListHead),
+        NodeKind::String { hint: None, body } => Ok(body),
+        NodeKind::String { hint: Some(_), .. } => Err(TagFault::Hint),
     }
 }
 
 /// Reads what is behind `*` and `prefix`.
 fn read_prefix(alloc: Global, further: Members<'_, '_>) -> Result<Leaf, TagFault>
     ensures read { IfOk result (λ leaf. tag_value (leaf_tag leaf) ≡ starred (codes "prefix") (values further.entry)) }
-    ensures refused { IfErr result (λ fault. IsNoTag fault (starred (codes "prefix") (values further.entry))) }
+    ensures shows { IfErr result (λ fault. TagShows fault (starred (codes "prefix") (values further.entry))) }
 {
     match further.split_first() {
         None => Err(TagFault::UnknownStar),
@@ -41,12 +44,12 @@ fn read_prefix(alloc: Global, further: Members<'_, '_>) -> Result<Leaf, TagFault
             if !rest.is_empty() {
                 return Err(TagFault::UnknownStar);
             }
-            match prefix.form() {
-                Form::List(_) => Err(TagFault::UnknownStar),
-                Form::String { hint: None, body } => {
+            match prefix.kind() {
+                NodeKind::List(_) => Err(TagFault::UnknownStar),
+                NodeKind::String { hint: None, body } => {
                     Ok(Leaf::Prefix(Vec::from_slice(alloc, body)?))
                 }
-                Form::String { hint: Some(_), .. } => Err(TagFault::Hint),
+                NodeKind::String { hint: Some(_), .. } => Err(TagFault::Hint),
             }
         }
     }
@@ -56,18 +59,18 @@ fn read_prefix(alloc: Global, further: Members<'_, '_>) -> Result<Leaf, TagFault
 #[cycle(read)]
 fn read_tag(alloc: Global, value: &Node<'_, '_>, used: usize) -> Result<(Tag, usize), TagFault>
     ensures read { IfOk result (λ p. IsRead used value.now p.0 p.1) }
-    ensures refused { IfErr result (λ fault. IsNoTagAfter used fault value.now) }
+    ensures shows { IfErr result (λ fault. TagShowsAfter used fault value.now) }
 {
     if used >= MOST_READ {
         return Err(TagFault::TooManyNodes);
     }
-    match value.form() {
-        Form::List(members) => read_list(alloc, members, used),
-        Form::String { hint: None, body } => Ok((
+    match value.kind() {
+        NodeKind::List(members) => read_list(alloc, members, used),
+        NodeKind::String { hint: None, body } => Ok((
             Tag::string(Vec::from_slice(alloc, body)?),
             used + 1,
         )),
-        Form::String { hint: Some(_), .. } => Err(TagFault::Hint),
+        NodeKind::String { hint: Some(_), .. } => Err(TagFault::Hint),
     }
 }
 
@@ -76,7 +79,7 @@ fn read_tag(alloc: Global, value: &Node<'_, '_>, used: usize) -> Result<(Tag, us
 fn read_list(alloc: Global, members: Members<'_, '_>, used: usize) -> Result<(Tag, usize), TagFault>
     requires { used < most_read }
     ensures read { IfOk result (λ p. IsRead used (group members.entry) p.0 p.1) }
-    ensures refused { IfErr result (λ fault. IsNoTagAfter used fault (group members.entry)) }
+    ensures shows { IfErr result (λ fault. TagShowsAfter used fault (group members.entry)) }
 {
     match members.split_first() {
         None => Err(TagFault::EmptyList),
@@ -100,14 +103,14 @@ fn read_starred(
 ) -> Result<(Tag, usize), TagFault>
     requires { used < most_read }
     ensures read { IfOk result (λ p. IsRead used (group (plain (codes "*") ∷ further.entry)) p.0 p.1) }
-    ensures refused { IfErr result (λ fault. IsNoTagAfter used fault (group (plain (codes "*") ∷ further.entry))) }
+    ensures shows { IfErr result (λ fault. TagShowsAfter used fault (group (plain (codes "*") ∷ further.entry))) }
 {
     match further.split_first() {
         None => Ok((Tag::everything(), used + 1)),
-        Some((form, rest)) => match form.form() {
-            Form::List(_) => Err(TagFault::UnknownStar),
-            Form::String { hint: None, body } => read_form(alloc, body, rest, used),
-            Form::String { hint: Some(_), .. } => Err(TagFault::Hint),
+        Some((form, rest)) => match form.kind() {
+            NodeKind::List(_) => Err(TagFault::UnknownStar),
+            NodeKind::String { hint: None, body } => read_form(alloc, body, rest, used),
+            NodeKind::String { hint: Some(_), .. } => Err(TagFault::Hint),
         },
     }
 }
@@ -122,7 +125,7 @@ fn read_form(
 ) -> Result<(Tag, usize), TagFault>
     requires { used < most_read }
     ensures read { IfOk result (λ p. IsRead used (starred word.now (values further.entry)) p.0 p.1) }
-    ensures refused { IfErr result (λ fault. IsNoTagAfter used fault (starred word.now (values further.entry))) }
+    ensures shows { IfErr result (λ fault. TagShowsAfter used fault (starred word.now (values further.entry))) }
 {
     if word == b"set".as_slice() {
         read_set(alloc, further, used)
@@ -140,7 +143,7 @@ fn read_form(
 fn read_set(alloc: Global, further: Members<'_, '_>, used: usize) -> Result<(Tag, usize), TagFault>
     requires { used < most_read }
     ensures read { IfOk result (λ p. IsRead used (starred (codes "set") (values further.entry)) p.0 p.1) }
-    ensures refused { IfErr result (λ fault. IsNoTagAfter used fault (starred (codes "set") (values further.entry))) }
+    ensures shows { IfErr result (λ fault. TagShowsAfter used fault (starred (codes "set") (values further.entry))) }
 {
     let (members, after) = read_members(alloc, further, used + 1)?;
     Ok((Tag::set_of(alloc, members)?, after))
@@ -157,7 +160,7 @@ fn read_plain_list(
     requires room { used < most_read }
     requires head { IsHead head.now }
     ensures read { IfOk result (λ p. IsRead used (group (plain head.now ∷ further.entry)) p.0 p.1) }
-    ensures refused { IfErr result (λ fault. IsNoTagAfter used fault (group (plain head.now ∷ further.entry))) }
+    ensures shows { IfErr result (λ fault. TagShowsAfter used fault (group (plain head.now ∷ further.entry))) }
 {
     if used + 1 >= MOST_READ {
         return Err(TagFault::TooManyNodes);
@@ -176,7 +179,7 @@ fn read_members(
 ) -> Result<(Vec<Tag>, usize), TagFault>
     requires { used ≤ most_read }
     ensures read { IfOk result (λ p. AreRead used members.entry p.0.items p.1) }
-    ensures refused { IfErr result (λ fault. AreNoTagsAfter used fault members.entry) }
+    ensures shows { IfErr result (λ fault. TagsShowAfter used fault members.entry) }
 {
     let mut tags = Vec::new(alloc);
     let mut counted = used;
@@ -205,6 +208,7 @@ impl Tag {
         ensures only { (t : Tag) → IsTag t → nodes t ≤ most_read → tag_value t ≡ value.now
             → IsOkUnless result TagFault.Memory }
         ensures refused { IfErr result (λ fault. IsNoTag fault value.now) }
+        ensures shows { IfErr result (λ fault. TagShows fault value.now) }
     {
         let (tag, _) = read_tag(alloc, value, 0)?;
         Ok(tag)
@@ -221,6 +225,7 @@ impl Tag {
         ensures only { IfSome (node document.now n.0) (λ value.
             (t : Tag) → IsTag t → nodes t ≤ most_read → tag_value t ≡ value → IsOkUnless result TagFault.Memory) }
         ensures refused { IfSome (node document.now n.0) (λ value. IfErr result (λ fault. IsNoTag fault value)) }
+        ensures shows { IfSome (node document.now n.0) (λ value. IfErr result (λ fault. TagShows fault value)) }
     {
         match document.node(n) {
             Some(value) => Tag::of(alloc, &value),

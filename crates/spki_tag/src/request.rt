@@ -1,21 +1,31 @@
-//! Requests.
+//! Requests, and how they are read.
 
-ghost use Rattle.std.specs.Prelude.{◌≡◌};
+ghost use Rattle.std.specs.Prelude.{◌≡◌, ◌∷◌, IfOk, IfErr, IfSome, IsSome};
+ghost use Rattle.sexpr_core.specs.Value.{plain, group, node};
+ghost use Rattle.spki_tag.specs.Faults.{RequestShows};
+ghost use Rattle.spki_tag.specs.Read.{IsNoRequest};
 ghost use Rattle.spki_tag.specs.Request as spec;
+ghost use Rattle.spki_tag.specs.Request.{IsHead, IsRequest, request_value};
+ghost use Rattle.spki_tag.specs.Steps.{AreReadRequests, RequestsShow};
 
+use crate::fault::TagFault;
+use crate::reading::head_of;
+use sexpr_core::reading::{Members, Node, NodeKind};
+use sexpr_core::{Doc, NodeId};
+use std::alloc::Global;
 use std::marker::Model;
 
-/// A request: what is asked for. It is a string, or a list of a head that isn't `*` and further requests, without
+/// A request: what is requested for. It is a string, or a list of a head that isn't `*` and further requests, without
 /// display hints (RFC 2693, section 6.3.1).
 #[cycle(ground)]
 #[derive(Debug, Drop)]
 pub struct Ground {
-    pub(crate) node: Ask,
+    pub(crate) node: GroundNode,
 }
 
 #[cycle(ground)]
 #[derive(Debug, Drop)]
-pub(crate) enum Ask {
+pub(crate) enum GroundNode {
     String(Vec<u8>),
     List(Vec<u8>, Vec<Ground>),
 }
@@ -28,15 +38,15 @@ impl Model for Ground {
 
     ghost coded = { request_code };
 
-    ghost use Rattle.spki_tag.specs.Asks.{ask_request};
+    ghost use Rattle.spki_tag.specs.Grounds.{ground_request};
 
-    ghost view = { λ a. ask_request a.node };
+    ghost view = { λ a. ground_request a.node };
 
-    ghost invariant = { λ a. IsRequest (ask_request a.node) };
+    ghost invariant = { λ a. IsRequest (ground_request a.node) };
 
     ghost size = { request_size };
 
-    ghost use Rattle.spki_tag.specs.AskFalls.{deep_le-request_size};
+    ghost use Rattle.spki_tag.specs.GroundFalls.{deep_le-request_size};
 
     ghost size_decreases = { λ a h. deep_le-request_size a.node };
 }
@@ -47,7 +57,7 @@ impl Ground {
         ensures { result ≡ spec.string octets.items }
     {
         Ground {
-            node: Ask::String(octets),
+            node: GroundNode::String(octets),
         }
     }
 
@@ -58,7 +68,112 @@ impl Ground {
         ensures { result ≡ spec.list head.items (spec.requests further.items) }
     {
         Ground {
-            node: Ask::List(head, further),
+            node: GroundNode::List(head, further),
         }
+    }
+}
+
+/// Reads a value as a request.
+#[cycle(read_request)]
+fn read_request(alloc: Global, value: &Node<'_, '_>) -> Result<Ground, TagFault>
+    ensures request { IfOk result (λ g. IsRequest g) }
+    ensures read { IfOk result (λ g. request_value g ≡ value.now) }
+    ensures shows { IfErr result (λ fault. RequestShows fault value.now) }
+{
+    match value.kind() {
+        NodeKind::List(members) => read_list(alloc, members),
+        NodeKind::String { hint: None, body } => Ok(Ground::string(Vec::from_slice(alloc, body)?)),
+        NodeKind::String { hint: Some(_), .. } => Err(TagFault::Hint),
+    }
+}
+
+/// Reads a list of these members as a request.
+#[cycle(read_request)]
+fn read_list(alloc: Global, members: Members<'_, '_>) -> Result<Ground, TagFault>
+    ensures request { IfOk result (λ g. IsRequest g) }
+    ensures read { IfOk result (λ g. request_value g ≡ group members.entry) }
+    ensures shows { IfErr result (λ fault. RequestShows fault (group members.entry)) }
+{
+    match members.split_first() {
+        None => Err(TagFault::EmptyList),
+        Some((first, further)) => {
+            let head = head_of(&first)?;
+            if head == b"*".as_slice() {
+                Err(TagFault::StarInRequest)
+            } else {
+                read_headed(alloc, head, further)
+            }
+        }
+    }
+}
+
+/// Reads a list with this head, which isn't `*`, and these members behind it as a request.
+#[cycle(read_request)]
+fn read_headed(alloc: Global, head: &[u8], further: Members<'_, '_>) -> Result<Ground, TagFault>
+    requires { IsHead head.now }
+    ensures request { IfOk result (λ g. IsRequest g) }
+    ensures read { IfOk result (λ g. request_value g ≡ group (plain head.now ∷ further.entry)) }
+    ensures shows { IfErr result (λ fault. RequestShows fault (group (plain head.now ∷ further.entry))) }
+{
+    let members = read_members(alloc, further)?;
+    let octets = Vec::from_slice(alloc, head)?;
+    Ok(Ground::list(octets, members))
+}
+
+/// Reads each of the members as a request.
+#[cycle(read_request)]
+fn read_members(alloc: Global, members: Members<'_, '_>) -> Result<Vec<Ground>, TagFault>
+    ensures read { IfOk result (λ gs. AreReadRequests members.entry gs.items) }
+    ensures shows { IfErr result (λ fault. RequestsShow fault members.entry) }
+{
+    let mut requests = Vec::new(alloc);
+    let mut left = members;
+    while let Some((first, further)) = left.split_first() {
+        requests.push(read_request(alloc, &first)?)?;
+        left = further;
+    }
+    Ok(requests)
+}
+
+impl Ground {
+    /// Reads a node of a document as a request.
+    ///
+    /// # Errors
+    ///
+    /// The first fault, depth first from the left: a string with a display hint is `Hint`, a list without members
+    /// `EmptyList`, one that begins with a list `ListHead`, and one that begins with `*` `StarInRequest`. `Memory`
+    /// where memory ran out. There is no limit of nodes.
+    pub fn of(alloc: Global, value: &Node<'_, '_>) -> Result<Ground, TagFault>
+        ensures request { IfOk result (λ g. IsRequest g) }
+        ensures read { IfOk result (λ g. request_value g ≡ value.now) }
+        ensures refused { IfErr result (λ fault. IsNoRequest fault value.now) }
+        ensures shows { IfErr result (λ fault. RequestShows fault value.now) }
+    {
+        read_request(alloc, value)
+    }
+
+    /// Reads node n of a document as a request, as `of` does.
+    ///
+    /// # Errors
+    ///
+    /// Those of `of`.
+    pub fn read(alloc: Global, document: &Doc<'_>, n: NodeId) -> Result<Ground, TagFault>
+        requires { IsSome (node document.now n.0) }
+        ensures request { IfOk result (λ g. IsRequest g) }
+        ensures read { IfSome (node document.now n.0) (λ value. IfOk result (λ g. request_value g ≡ value)) }
+        ensures refused { IfSome (node document.now n.0) (λ value. IfErr result (λ fault. IsNoRequest fault value)) }
+        ensures shows { IfSome (node document.now n.0) (λ value. IfErr result (λ fault. RequestShows fault value)) }
+    {
+        match document.node(n) {
+            Some(value) => Ground::of(alloc, &value),
+            None => unreachable!(),
+        }
+    }
+
+    /// A request is always well-formed, however it was made.
+    pub fn known(&self)
+        ensures { spec.IsRequest self.now }
+    {
+        let _ = &self.node;
     }
 }

@@ -1,10 +1,9 @@
 //! Tags.
 
-ghost use Rattle.std.specs.Prelude.{◌≡◌, ◌≤◌, ◌↔◌, IsTrue, IfOk};
+ghost use Rattle.std.specs.Prelude.{◌≡◌, ◌≤◌, IfOk};
 ghost use Rattle.spki_tag.specs.Tag as spec;
 ghost use Rattle.spki_tag.specs.Leaves.{leaf_tag};
 ghost use Rattle.spki_tag.specs.Meet.{gather};
-ghost use Rattle.spki_tag.specs.NormalForm.{is_star};
 
 use crate::leaf::Leaf;
 use std::alloc::{AllocError, Global};
@@ -105,31 +104,6 @@ impl Tag {
             Tag {
                 node: Node::Set(members),
             }
-        }
-    }
-
-    /// Whether this is `(*)`.
-    pub(crate) fn is_everything(&self) -> bool
-        ensures value { result ≡ is_star self.now }
-        ensures normal { spec.IsNormalTag self.now }
-    {
-        match &self.node {
-            Node::Leaf(Leaf::Star) => true,
-            Node::Leaf(_) => false,
-            Node::List(_, _) => false,
-            Node::Set(_) => false,
-        }
-    }
-
-    /// Whether this is `(* set)`, the tag that contains no request. Another tag may contain none too, as a range
-    /// whose limits exclude each other.
-    pub fn is_nothing(&self) -> bool
-        ensures { IsTrue result ↔ (self.now ≡ spec.set spec.none) }
-    {
-        match &self.node {
-            Node::Leaf(_) => false,
-            Node::List(_, _) => false,
-            Node::Set(members) => members.is_empty(),
         }
     }
 

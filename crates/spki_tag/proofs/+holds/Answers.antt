@@ -2,8 +2,8 @@ use Rattle.std.proofs.Common.{sym, arith}
 use Rattle.spki_tag.proofs.Members.{nodes_le-of_read, contain_each-too_few}
 use Rattle.spki_tag.proofs.+holds.Goals as goal
 
-pub holding::each_holds-returns-then-asked-members : goal.holding::each_holds-returns-then-asked-members
-holding::each_holds-returns-then-asked-members t c = sym (contain_each-too_few _ _ c.if-asked-members.true)
+pub holding::each_holds-returns-then-requests-members : goal.holding::each_holds-returns-then-requests-members
+holding::each_holds-returns-then-requests-members t c = sym (contain_each-too_few _ _ c.if-requests-members.true)
 
 pub holding::each_holds-holds-requires : goal.holding::each_holds-holds-requires
 holding::each_holds-holds-requires t c =

@@ -5,7 +5,7 @@ use Rattle.spki_tag.proofs.+holds.Given as goal
 
 abbrev pub invariant-holding::each_holds-loop-i : goal.invariant-holding::each_holds-loop-i
 invariant-holding::each_holds-loop-i l =
-    contain_each (tags (drop l.i l.members)) (requests (drop l.i l.asked)) ≡ contain_each (tags l.members) (requests l.asked)
+    contain_each (tags (drop l.i l.members)) (requests (drop l.i l.requests)) ≡ contain_each (tags l.members) (requests l.requests)
 
 abbrev pub invariant-holding::some_holds-loop-member : goal.invariant-holding::some_holds-loop-member
 invariant-holding::some_holds-loop-member l =

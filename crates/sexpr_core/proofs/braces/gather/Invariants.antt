@@ -1,5 +1,5 @@
 use Rattle.std.proofs.Common.{◌-◌, length}
-use Rattle.sexpr_core.specs.Gathering.{Gathers}
+use Rattle.sexpr_core.proofs.Gathered.{Gathers}
 use Rattle.sexpr_core.proofs.braces.gather.Given as goal
 
 abbrev pub invariant-loop-octet : goal.invariant-loop-octet

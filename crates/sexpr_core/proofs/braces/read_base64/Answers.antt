@@ -3,6 +3,7 @@ use Rattle.std.proofs.lemmas.Result.{err_from_is_err_and}
 use Rattle.sexpr_core.specs.Braces.{IsBase64}
 use Rattle.sexpr_core.proofs.Base64Laws.{body_octets}
 use Rattle.sexpr_core.proofs.Gathered.{same_body}
+use Rattle.sexpr_core.proofs.BraceLaws.{body_not_packed, packed_refused}
 use Rattle.sexpr_core.proofs.braces.read_base64.Goals as goal
 
 pub returns-in_err-symbols-clause-only : goal.returns-in_err-symbols-clause-only
@@ -16,3 +17,13 @@ returns-in_err-octets-clause-only c =
     rw (p.1, p.2) (λ body rest octets b e.
     let same = same_body _ _ _ _ _ body rest c.in_ok-symbols.ensures.read c.requires.apart (body_octets body octets b) e in
     c.in_err-octets.ensures.only octets (subst (λ s. IsBase64 s octets) (sym same.0) b))
+
+pub returns-in_err-symbols-clause-refused : goal.returns-in_err-symbols-clause-refused
+returns-in_err-symbols-clause-refused c =
+    let p = err_from_is_err_and c.from_residual.result c.from_residual.ensures.1 in
+    rw (p.1, p.2) (body_not_packed _ _ _ _ c.in_err-symbols.ensures.refused)
+
+pub returns-in_err-octets-clause-refused : goal.returns-in_err-octets-clause-refused
+returns-in_err-octets-clause-refused c =
+    let p = err_from_is_err_and c.from_residual-in_err-octets.result c.from_residual-in_err-octets.ensures.1 in
+    rw (p.1, p.2) (packed_refused _ _ _ _ _ _ c.in_ok-symbols.ensures.read c.requires.apart c.in_err-octets.ensures.refused c.in_err-octets.ensures.only)

@@ -1,6 +1,6 @@
 use Rattle.std.proofs.Common.{◌-◌, refl, arith}
-use Rattle.std.proofs.lemmas.Result.{err_from_is_err_and, IfOk-weaker}
-use Rattle.sexpr_text.proofs.Openings.{later_fault}
+use Rattle.std.proofs.lemmas.Result.{err_from_is_err_and, IfOk-weaker, IfErr-weaker}
+use Rattle.sexpr_text.proofs.RefusedValues.{part_fault, string_missed, members_missed, member_missed}
 use Rattle.sexpr_text.proofs.Trees.{no_value, string_at, inside_list, member_at, no_members_end}
 use Rattle.sexpr_text.proofs.Converted.{string_converted, roomier, none_converted, more_converted, members_converted, list_converted}
 use Rattle.sexpr_text.proofs.converter.+converting.Goals as goal
@@ -38,7 +38,7 @@ convert_members-returns-in_err-end-clause-only t c =
 pub convert_members-returns-in_err-end-clause-refused : goal.convert_members-returns-in_err-end-clause-refused
 convert_members-returns-in_err-end-clause-refused t c =
     let p = err_from_is_err_and c.from_residual-in_err-end.result c.from_residual-in_err-end.ensures.1 in
-    rw (p.1, p.2) (later_fault _ _ _ _ _ c.loop-octet.invariant.read.ordered c.in_err-end.ensures.refused)
+    rw (p.1, p.2) (member_missed _ _ _ _ _ _ _ c.loop-octet.invariant.read c.in-Some.ensures c.if-octet-eq41.false c.in_err-end.ensures.refused)
 
 pub convert_members-loop-octet-preserved : goal.convert_members-loop-octet-preserved
 convert_members-loop-octet-preserved t c =
@@ -70,3 +70,15 @@ pub convert_value-returns-in_ok-write_string-in-Some-clause-read : goal.convert_
 convert_value-returns-in_ok-write_string-in-Some-clause-read t c =
     string_converted _ _ _ _ c.args.form _ _ _ c.in_ok-string-in-Some.ensures.read
     (rw c.deref.ensures.value at c.in_ok-write_string-in-Some.ensures)
+
+pub convert_list-returns-clause-refused : goal.convert_list-returns-clause-refused
+convert_list-returns-clause-refused t c =
+    IfErr-weaker c.convert_members.result _ _ (λ fault h. members_missed _ _ _ fault c.requires.begins (omega arith) h) c.convert_members.ensures.refused
+
+pub convert_value-returns-in_err-string-in-Some-clause-refused : goal.convert_value-returns-in_err-string-in-Some-clause-refused
+convert_value-returns-in_err-string-in-Some-clause-refused t c =
+    let p = err_from_is_err_and c.from_residual.result c.from_residual.ensures.1 in
+    rw (p.1, p.2) (string_missed _ _ _ _ _ c.in-Some.ensures c.in-Some.field-0-test.0.1 c.in-Some.field-0-test.1 c.in_err-string-in-Some.ensures.refused)
+
+pub convert_value-returns-in-Some-eq91-clause-refused : goal.convert_value-returns-in-Some-eq91-clause-refused
+convert_value-returns-in-Some-eq91-clause-refused t c = IfErr-weaker c.convert_hinted.result _ _ (λ fault h. part_fault _ _ _ _ fault h) c.convert_hinted.ensures.refused

@@ -1,7 +1,8 @@
 use Rattle.std.proofs.Common.{inl, inr}
 use Rattle.std.proofs.lemmas.Bool.{both_ways}
 use Rattle.std.proofs.lemmas.Result.{IfOk-weaker, IfErr-weaker}
-use Rattle.sexpr_text.proofs.Trees.{opened, braced_text, spelled_text}
+use Rattle.sexpr_text.proofs.Trees.{braced_text, spelled_text}
+use Rattle.sexpr_text.proofs.Openings.{spelling_refused, braces_refused}
 use Rattle.sexpr_text.proofs.converter.convert.Goals as goal
 
 pub returns-then-opens_braces-clause-read : goal.returns-then-opens_braces-clause-read
@@ -15,7 +16,7 @@ returns-then-opens_braces-clause-only c = λ v h.
 pub returns-then-opens_braces-clause-refused : goal.returns-then-opens_braces-clause-refused
 returns-then-opens_braces-clause-refused c =
     let brace = c.opens_braces.ensures.0 c.if-opens_braces.true in
-    IfErr-weaker c.convert_braces.result _ _ (λ fault h. inr (opened _ _ brace.0 c.skip_spaces-begin.ensures brace.1, h)) c.convert_braces.ensures.refused
+    IfErr-weaker c.convert_braces.result _ _ (λ fault h. braces_refused _ brace.0 _ fault c.skip_spaces-begin.ensures brace.1 h) c.convert_braces.ensures.refused
 
 pub returns-clause-read : goal.returns-clause-read
 returns-clause-read c = IfOk-weaker c.convert_advanced.result _ _ (λ out p. (p.0, inl p.1, p.2)) c.convert_advanced.ensures.read
@@ -26,4 +27,7 @@ returns-clause-only c = λ v h.
     (spelled_text _ _ v c.skip_spaces-begin.ensures (λ brace. both_ways _ c.if-opens_braces.false (c.opens_braces.ensures.1 brace)) h)
 
 pub returns-clause-refused : goal.returns-clause-refused
-returns-clause-refused c = IfErr-weaker c.convert_advanced.result _ _ (λ fault h. inl h) c.convert_advanced.ensures.refused
+returns-clause-refused c =
+    IfErr-weaker c.convert_advanced.result _ _
+    (λ fault h. spelling_refused _ _ fault c.skip_spaces-begin.ensures (λ brace. both_ways _ c.if-opens_braces.false (c.opens_braces.ensures.1 brace)) h)
+    c.convert_advanced.ensures.refused

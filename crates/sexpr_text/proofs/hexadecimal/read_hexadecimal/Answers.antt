@@ -1,6 +1,7 @@
 use Rattle.std.proofs.lemmas.Result.{err_from_is_err_and}
 use Rattle.sexpr_text.proofs.Marked.{behind_opening}
 use Rattle.sexpr_text.proofs.HexadecimalLaws.{hexadecimal_read, digits_refused}
+use Rattle.sexpr_text.proofs.RefusedDigits.{body_refused, mark_refused}
 use Rattle.sexpr_text.proofs.hexadecimal.read_hexadecimal.Goals as goal
 
 pub returns-in_err-digits-clause-only : goal.returns-in_err-digits-clause-only
@@ -16,3 +17,13 @@ pub returns-clause-only : goal.returns-clause-only
 returns-clause-only c = λ s a rest h e.
     digits_refused _ _ _ _ s a rest _ _ c.requires c.in_ok-digits.ensures.read.0 c.in_ok-digits.ensures.read.1 h e
     (rw c.as_slice.ensures.value at c.in-Err.ensures.err) c.digits_fault.ensures.fault
+
+pub returns-in_err-digits-clause-refused : goal.returns-in_err-digits-clause-refused
+returns-in_err-digits-clause-refused c =
+    let p = err_from_is_err_and c.from_residual.result c.from_residual.ensures.1 in
+    rw (p.1, p.2) (body_refused _ _ _ c.requires c.in_err-digits.ensures.refused)
+
+pub returns-clause-refused : goal.returns-clause-refused
+returns-clause-refused c =
+    mark_refused _ _ _ _ _ _ c.requires c.in_ok-digits.ensures.read.0 c.in_ok-digits.ensures.read.1
+    (rw c.as_slice.ensures.value at c.in-Err.ensures.err) c.digits_fault.ensures.fault c.digits_fault.ensures.there

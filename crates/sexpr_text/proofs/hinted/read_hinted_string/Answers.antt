@@ -2,6 +2,7 @@ use Rattle.std.proofs.Common.{subst}
 use Rattle.std.proofs.lemmas.Result.{err_from_is_err_and}
 use Rattle.sexpr_core.specs.Reading.{StandsAt}
 use Rattle.sexpr_text.proofs.Trees.{nothing_at, octet_is, hinted_at, hint_at, closing_at, body_at, hinted_read}
+use Rattle.sexpr_text.proofs.RefusedStrings.{hint_missed, closing_missed, body_missed}
 use Rattle.sexpr_text.proofs.hinted.read_hinted_string.Goals as goal
 
 pub returns-in_err-hint-clause-only : goal.returns-in_err-hint-clause-only
@@ -34,3 +35,18 @@ pub returns-clause-read : goal.returns-clause-read
 returns-clause-read c =
     hinted_read _ _ _ _ _ _ _ _ _ c.requires.begins c.skip_spaces-begin.ensures c.in_ok-hint.ensures.read c.skip_spaces-close.ensures
     (subst (StandsAt _ _) c.in-Some-eq93.field-0-test c.in-Some-eq93.ensures) c.skip_spaces-begin-2.ensures c.in_ok-body.ensures.read
+
+pub returns-in_err-hint-clause-refused : goal.returns-in_err-hint-clause-refused
+returns-in_err-hint-clause-refused c =
+    let p = err_from_is_err_and c.from_residual.result c.from_residual.ensures.1 in
+    rw (p.1, p.2) (hint_missed _ _ _ _ c.requires.begins c.skip_spaces-begin.ensures c.in_err-hint.ensures.refused)
+
+pub returns-in-Some-clause-refused : goal.returns-in-Some-clause-refused
+returns-in-Some-clause-refused c =
+    closing_missed _ _ _ _ _ _ _ c.requires.begins c.skip_spaces-begin.ensures c.in_ok-hint.ensures.read c.skip_spaces-close.ensures c.in-Some.ensures c.in-Some.field-0-test.1
+
+pub returns-in_err-body-clause-refused : goal.returns-in_err-body-clause-refused
+returns-in_err-body-clause-refused c =
+    let p = err_from_is_err_and c.from_residual-in_err-body.result c.from_residual-in_err-body.ensures.1 in
+    rw (p.1, p.2) (body_missed _ _ _ _ _ _ _ _ c.requires.begins c.skip_spaces-begin.ensures c.in_ok-hint.ensures.read c.skip_spaces-close.ensures
+    (subst (StandsAt _ _) c.in-Some-eq93.field-0-test c.in-Some-eq93.ensures) c.skip_spaces-begin-2.ensures c.in_err-body.ensures.refused)

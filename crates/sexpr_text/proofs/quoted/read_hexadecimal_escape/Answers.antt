@@ -1,6 +1,7 @@
 use Rattle.std.proofs.lemmas.Result.{err_from_is_err_and}
 use Rattle.sexpr_text.proofs.Escapes.{hexadecimal_piece}
 use Rattle.sexpr_text.proofs.QuotedLaws.{hexadecimal_escape, second_octet}
+use Rattle.sexpr_text.proofs.RefusedPieces.{high_refused, low_refused}
 use Rattle.sexpr_text.proofs.quoted.read_hexadecimal_escape.Goals as goal
 
 pub returns-in_err-high-clause-only : goal.returns-in_err-high-clause-only
@@ -17,3 +18,13 @@ returns-in_err-low-clause-only c =
 
 pub returns-clause-read : goal.returns-clause-read
 returns-clause-read c = hexadecimal_escape _ _ _ _ c.in_ok-high.ensures.read c.in_ok-low.ensures.read
+
+pub returns-in_err-low-clause-refused : goal.returns-in_err-low-clause-refused
+returns-in_err-low-clause-refused c =
+    let p = err_from_is_err_and c.from_residual-in_err-low.result c.from_residual-in_err-low.ensures.1 in
+    rw (p.1, p.2) (low_refused _ _ _ _ c.in_ok-high.ensures.read c.in_err-low.ensures.refused)
+
+pub returns-in_err-high-clause-refused : goal.returns-in_err-high-clause-refused
+returns-in_err-high-clause-refused c =
+    let p = err_from_is_err_and c.from_residual.result c.from_residual.ensures.1 in
+    rw (p.1, p.2) (high_refused _ _ _ c.in_err-high.ensures.refused)

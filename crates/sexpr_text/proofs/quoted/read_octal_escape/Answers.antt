@@ -1,6 +1,7 @@
 use Rattle.std.proofs.lemmas.Result.{err_from_is_err_and}
 use Rattle.sexpr_text.proofs.Escapes.{octal_piece}
 use Rattle.sexpr_text.proofs.QuotedLaws.{octal_escape, third_octet, octal_behind}
+use Rattle.sexpr_text.proofs.RefusedPieces.{second_refused, third_refused}
 use Rattle.sexpr_text.proofs.quoted.read_octal_escape.Goals as goal
 
 pub returns-in_err-second-clause-only : goal.returns-in_err-second-clause-only
@@ -17,3 +18,13 @@ returns-in_err-third-clause-only c =
 
 pub returns-clause-read : goal.returns-clause-read
 returns-clause-read c = octal_escape _ _ _ _ _ c.requires.low c.requires.begins c.in_ok-second.ensures.read c.in_ok-third.ensures.read
+
+pub returns-in_err-second-clause-refused : goal.returns-in_err-second-clause-refused
+returns-in_err-second-clause-refused c =
+    let p = err_from_is_err_and c.from_residual.result c.from_residual.ensures.1 in
+    rw (p.1, p.2) (second_refused _ _ _ _ c.requires.low c.requires.begins c.in_err-second.ensures.refused)
+
+pub returns-in_err-third-clause-refused : goal.returns-in_err-third-clause-refused
+returns-in_err-third-clause-refused c =
+    let p = err_from_is_err_and c.from_residual-in_err-third.result c.from_residual-in_err-third.ensures.1 in
+    rw (p.1, p.2) (third_refused _ _ _ _ _ c.requires.low c.requires.begins c.in_ok-second.ensures.read.1 c.in_err-third.ensures.refused)

@@ -3,6 +3,7 @@ use Rattle.std.proofs.lemmas.Result.{err_from_is_err_and}
 use Rattle.sexpr_core.specs.Reading.{StandsAt}
 use Rattle.sexpr_text.proofs.StringLaws.{more_quoted, quoted_read}
 use Rattle.sexpr_text.proofs.QuotedLaws.{quoted_left, left_ended, left_next}
+use Rattle.sexpr_text.proofs.RefusedPieces.{quoted_refused}
 use Rattle.sexpr_text.proofs.quoted.read_quoted.Goals as goal
 
 pub returns-then-octet-eq34-clause-read : goal.returns-then-octet-eq34-clause-read
@@ -23,3 +24,8 @@ loop-octet-preserved c = more_quoted _ _ _ _ _ _ c.loop-octet.invariant c.in_ok-
 pub returns-clause-only : goal.returns-clause-only
 returns-clause-only c = λ s a rest q e.
     absurd (left_ended _ _ _ _ (quoted_left _ _ _ _ s a rest c.requires c.loop-octet.invariant q e) c.in_default.ensures)
+
+pub returns-in_err-i-clause-refused : goal.returns-in_err-i-clause-refused
+returns-in_err-i-clause-refused c =
+    let p = err_from_is_err_and c.from_residual.result c.from_residual.ensures.1 in
+    rw (p.1, p.2) (quoted_refused _ _ _ _ _ _ c.requires c.loop-octet.invariant c.in-Some.ensures c.if-octet-eq34.false c.in_err-i.ensures.refused)

@@ -1,5 +1,5 @@
 use Rattle.std.proofs.Common.{◌+◌, ◌-◌, length}
-use Rattle.sexpr_text.specs.Reads.{ReadsPieces}
+use Rattle.sexpr_text.proofs.StringLaws.{ReadsPieces}
 use Rattle.sexpr_text.proofs.quoted.read_quoted.Given as goal
 
 abbrev pub invariant-loop-octet : goal.invariant-loop-octet

@@ -1,7 +1,7 @@
 use Rattle.std.proofs.Common.{◌-◌, arith}
-use Rattle.std.proofs.lemmas.Result.{err_from_is_err_and}
+use Rattle.std.proofs.lemmas.Result.{err_from_is_err_and, IfErr-weaker}
 use Rattle.sexpr_core.specs.Tree.{sexp_value}
-use Rattle.sexpr_text.proofs.Openings.{later_fault}
+use Rattle.sexpr_text.proofs.RefusedValues.{part_fault, string_missed, members_missed, member_missed}
 use Rattle.sexpr_text.proofs.Trees.{no_value, string_at, inside_list, tree_read, no_members, more_members, members_end, member_at, no_members_end}
 use Rattle.sexpr_text.proofs.reader.+reading.Goals as goal
 
@@ -36,7 +36,7 @@ read_members-returns-in_err-tree-clause-only t c =
 pub read_members-returns-in_err-tree-clause-refused : goal.read_members-returns-in_err-tree-clause-refused
 read_members-returns-in_err-tree-clause-refused t c =
     let p = err_from_is_err_and c.from_residual.result c.from_residual.ensures.1 in
-    rw (p.1, p.2) (later_fault _ _ _ _ _ c.loop-octet.invariant.ordered c.in_err-tree.ensures.refused)
+    rw (p.1, p.2) (member_missed _ _ _ _ _ _ _ c.loop-octet.invariant c.in-Some.ensures c.if-octet-eq41.false c.in_err-tree.ensures.refused)
 
 pub read_members-loop-octet-preserved : goal.read_members-loop-octet-preserved
 read_members-loop-octet-preserved t c =
@@ -58,3 +58,16 @@ read_tree-returns-in-None-clause-only t c = λ v rest h. absurd (no_value _ _ _ 
 
 pub read_tree-returns-in-Some-eq91-clause-only : goal.read_tree-returns-in-Some-eq91-clause-only
 read_tree-returns-in-Some-eq91-clause-only t c = λ v rest h. c.read_hinted.ensures.only c.args.room v rest h
+
+pub read_list-returns-in_err-members-clause-refused : goal.read_list-returns-in_err-members-clause-refused
+read_list-returns-in_err-members-clause-refused t c =
+    let p = err_from_is_err_and c.from_residual.result c.from_residual.ensures.1 in
+    rw (p.1, p.2) (members_missed _ _ _ _ c.requires.begins (omega arith) c.in_err-members.ensures.refused)
+
+pub read_tree-returns-in_err-octets-in-Some-clause-refused : goal.read_tree-returns-in_err-octets-in-Some-clause-refused
+read_tree-returns-in_err-octets-in-Some-clause-refused t c =
+    let p = err_from_is_err_and c.from_residual.result c.from_residual.ensures.1 in
+    rw (p.1, p.2) (string_missed _ _ _ _ _ c.in-Some.ensures c.in-Some.field-0-test.0.1 c.in-Some.field-0-test.1 c.in_err-octets-in-Some.ensures.refused)
+
+pub read_tree-returns-in-Some-eq91-clause-refused : goal.read_tree-returns-in-Some-eq91-clause-refused
+read_tree-returns-in-Some-eq91-clause-refused t c = IfErr-weaker c.read_hinted.result _ _ (λ fault h. part_fault _ _ _ _ fault h) c.read_hinted.ensures.refused

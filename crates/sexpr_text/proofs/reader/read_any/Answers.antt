@@ -1,7 +1,7 @@
-use Rattle.std.proofs.Common.{inl, inr}
 use Rattle.std.proofs.lemmas.Bool.{both_ways}
 use Rattle.std.proofs.lemmas.Result.{IfErr-weaker}
-use Rattle.sexpr_text.proofs.Trees.{opened, braced_text, spelled_text}
+use Rattle.sexpr_text.proofs.Trees.{braced_text, spelled_text}
+use Rattle.sexpr_text.proofs.Openings.{spelling_refused, braces_refused}
 use Rattle.sexpr_text.proofs.reader.read_any.Goals as goal
 
 pub returns-then-opens_braces-clause-only : goal.returns-then-opens_braces-clause-only
@@ -17,7 +17,10 @@ returns-clause-only c = λ v h.
 pub returns-then-opens_braces-clause-refused : goal.returns-then-opens_braces-clause-refused
 returns-then-opens_braces-clause-refused c =
     let brace = c.opens_braces.ensures.0 c.if-opens_braces.true in
-    IfErr-weaker c.unwrap_braces.result _ _ (λ fault h. inr (opened _ _ brace.0 c.skip_spaces-begin.ensures brace.1, h)) c.unwrap_braces.ensures.refused
+    IfErr-weaker c.unwrap_braces.result _ _ (λ fault h. braces_refused _ brace.0 _ fault c.skip_spaces-begin.ensures brace.1 h) c.unwrap_braces.ensures.refused
 
 pub returns-clause-refused : goal.returns-clause-refused
-returns-clause-refused c = IfErr-weaker c.read_advanced.result _ _ (λ fault h. inl h) c.read_advanced.ensures.refused
+returns-clause-refused c =
+    IfErr-weaker c.read_advanced.result _ _
+    (λ fault h. spelling_refused _ _ fault c.skip_spaces-begin.ensures (λ brace. both_ways _ c.if-opens_braces.false (c.opens_braces.ensures.1 brace)) h)
+    c.read_advanced.ensures.refused

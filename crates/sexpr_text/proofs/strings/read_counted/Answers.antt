@@ -1,6 +1,7 @@
 use Rattle.std.proofs.Common.{sym, ◌∙◌}
-use Rattle.std.proofs.lemmas.Result.{err_from_is_err_and, IfOk-weaker}
+use Rattle.std.proofs.lemmas.Result.{err_from_is_err_and, IfOk-weaker, IfErr-weaker}
 use Rattle.sexpr_text.proofs.CountedLaws.{counted_ended, marked_stands, verbatim_fits, verbatim_string, counted_string, counted_right}
+use Rattle.sexpr_text.proofs.RefusedStrings.{short_refused, marked_missed, count_missed}
 use Rattle.sexpr_text.proofs.strings.read_counted.Goals as goal
 
 pub returns-in_default-clause-only : goal.returns-in_default-clause-only
@@ -31,3 +32,17 @@ pub returns-clause-read : goal.returns-clause-read
 returns-clause-read c =
     counted_string _ _ _ _ _ _ c.requires.short c.read_count-count.ensures.read c.in_ok-read.ensures.read
     (sym (c.len.ensures ∙ c.in_ok-read.read.octets.ok.0) ∙ c.if-len-count.false)
+
+pub returns-then-octet-eq58-clause-refused : goal.returns-then-octet-eq58-clause-refused
+returns-then-octet-eq58-clause-refused c = IfErr-weaker c.read_verbatim.result _ _ (λ fault h. short_refused _ _ _ fault h) c.read_verbatim.ensures.refused
+
+pub returns-in_err-read-clause-refused : goal.returns-in_err-read-clause-refused
+returns-in_err-read-clause-refused c =
+    let p = err_from_is_err_and c.from_residual.result c.from_residual.ensures.1 in
+    rw (p.1, p.2) (marked_missed _ _ _ _ _ _ _ c.requires.begins c.requires.digit c.read_count-count.ensures.read c.read_count-count.ensures.ends
+    c.in-Some.ensures c.if-octet-eq58.false c.in_err-read.ensures.refused)
+
+pub returns-then-len-count-clause-refused : goal.returns-then-len-count-clause-refused
+returns-then-len-count-clause-refused c =
+    count_missed _ _ _ _ _ _ _ _ _ c.requires.short c.requires.begins c.requires.digit c.read_count-count.ensures.read c.read_count-count.ensures.ends
+    c.in-Some.ensures c.if-octet-eq58.false c.in_ok-read.ensures.read (c.len.ensures ∙ c.in_ok-read.read.octets.ok.0) c.if-len-count.true

@@ -1,8 +1,9 @@
 use Rattle.std.proofs.Common.{subst}
-use Rattle.std.proofs.lemmas.Result.{err_from_is_err_and}
+use Rattle.std.proofs.lemmas.Result.{err_from_is_err_and, IfErr-weaker}
 use Rattle.sexpr_core.specs.Reading.{StandsAt}
 use Rattle.sexpr_text.proofs.StringLaws.{packed_read, packed_marked}
 use Rattle.sexpr_text.proofs.Marked.{quoted_of, hexadecimal_of, packed_of, behind_opening}
+use Rattle.sexpr_text.proofs.RefusedStrings.{quoted_missed, hexadecimal_missed, packed_missed, mark_missed}
 use Rattle.sexpr_text.proofs.strings.read_marked.Goals as goal
 
 pub returns-in-Some-eq34-clause-only : goal.returns-in-Some-eq34-clause-only
@@ -23,3 +24,20 @@ returns-in_err-octets-in-Some-eq124-clause-only c =
 pub returns-in_ok-octets-in-Some-eq124-clause-read : goal.returns-in_ok-octets-in-Some-eq124-clause-read
 returns-in_ok-octets-in-Some-eq124-clause-read c =
     packed_marked _ _ _ _ (packed_read _ _ _ _ (subst (StandsAt c.args.text.now c.args.at) c.in-Some-eq124.field-0-test c.in-Some-eq124.ensures) c.in_ok-octets-in-Some-eq124.ensures.read)
+
+pub returns-in-Some-eq34-clause-refused : goal.returns-in-Some-eq34-clause-refused
+returns-in-Some-eq34-clause-refused c =
+    IfErr-weaker c.read_quoted.result _ _ (λ fault h. quoted_missed _ _ _ fault c.in-Some-eq34.ensures c.in-Some-eq34.field-0-test h) c.read_quoted.ensures.refused
+
+pub returns-in-Some-eq35-clause-refused : goal.returns-in-Some-eq35-clause-refused
+returns-in-Some-eq35-clause-refused c =
+    IfErr-weaker c.read_hexadecimal.result _ _ (λ fault h. hexadecimal_missed _ _ _ fault c.in-Some-eq35.ensures c.in-Some-eq35.field-0-test h) c.read_hexadecimal.ensures.refused
+
+pub returns-in_err-octets-in-Some-eq124-clause-refused : goal.returns-in_err-octets-in-Some-eq124-clause-refused
+returns-in_err-octets-in-Some-eq124-clause-refused c =
+    let p = err_from_is_err_and c.from_residual.result c.from_residual.ensures.1 in
+    rw (p.1, p.2) (packed_missed _ _ _ _ c.in-Some-eq124.ensures c.in-Some-eq124.field-0-test c.in_err-octets-in-Some-eq124.ensures.refused)
+
+pub returns-in-Some-clause-refused : goal.returns-in-Some-clause-refused
+returns-in-Some-clause-refused c =
+    mark_missed _ _ _ c.in-Some.ensures c.in-Some.field-0-test.0.0.1 c.in-Some.field-0-test.0.1 c.in-Some.field-0-test.1

@@ -1,24 +1,51 @@
-use Rattle.std.proofs.Common.{◌≡◌, ◌∷◌, List, ap, subst, ◌∙◌}
+use Rattle.std.proofs.Common.{◌≡◌, ◌≢◌, ◌∷◌, [], List, ap, ◌∙◌}
 use Rattle.std.specs.Prelude.{codes}
-use Rattle.std.specs.List.{AllByRecursion}
-use Rattle.std.proofs.lemmas.Result.{err_from_is_err_and}
 use Rattle.sexpr_core.specs.Value.{Value, plain, group}
-use Rattle.spki_cert.specs.Entries.{FieldsOf, IsReadField}
-use Rattle.spki_cert.proofs.Groups.{same_rest}
+use Rattle.spki_cert.specs.declared.entry.Entry.{Entry}
+use Rattle.spki_cert.specs.declared.fault.CertFaultKind.{CertFaultKind}
+use Rattle.spki_cert.specs.declared.fault.CertFaultKind.TheVariants.{Memory}
+use Rattle.spki_cert.specs.Faults.{Shows}
+use Rattle.spki_cert.specs.Entries.{EntryOf}
+use Rattle.spki_cert.proofs.Showing.{carried, parts-behind}
+use Rattle.spki_cert.proofs.EntryLaws.{entry-subject, entry-fields, entry-window, entry-tag, no-window}
 use Rattle.spki_cert.proofs.acl.entry_of.Goals as goal
 
+-- the entry's parts
+written : (v : Value) (all : List Value) (subject : Value) (rest : List Value) → v ≡ group (plain (codes "entry") ∷ all) → all ≡ subject ∷ rest → v ≡ group (plain (codes "entry") ∷ subject ∷ rest)
+written v all subject rest e f = e ∙ ap (λ (vs : List Value). group (plain (codes "entry") ∷ vs)) f
+
 pub returns-in_default-clause-refused : goal.returns-in_default-clause-refused
-returns-in_default-clause-refused c = λ kind e read plainly. c.in_default.ensures (read.subject ∷ read.fields) read.written
+returns-in_default-clause-refused c = λ _ e read. c.in_default.ensures (read.subject ∷ read.fields) read.written
+
+pub returns-in_err-subject-clause-refused : goal.returns-in_err-subject-clause-refused
+returns-in_err-subject-clause-refused c =
+    let e = written c.args.node.now c.in-Some.rest c.in-Some-split_first.subject c.in-Some-split_first.rest c.in-Some.ensures c.in-Some-split_first.ensures in
+    carried c.from_residual.result _ (λ (kind : CertFaultKind). kind ≢ Memory → (e : Entry) → EntryOf c.args.node.now e → ⊥) c.from_residual.ensures.1
+    (λ known entry read. c.in_err-subject.ensures.refused known entry.subject (entry-subject c.args.node.now c.in-Some-split_first.subject c.in-Some-split_first.rest e entry read))
 
 pub returns-in_err-propagate-clause-refused : goal.returns-in_err-propagate-clause-refused
 returns-in_err-propagate-clause-refused c =
-    let p = err_from_is_err_and c.from_residual-in_err-propagate.result c.from_residual-in_err-propagate.ensures.1 in
-    let v = c.args.node.now in
-    let subject = c.in-Some-split_first.subject in
-    let rest = c.in-Some-split_first.rest in
-    let written : v ≡ group (plain (codes "entry") ∷ subject ∷ rest) =
-    c.in-Some.ensures ∙ ap (λ (vs : List Value). group (plain (codes "entry") ∷ vs)) c.in-Some-split_first.ensures in
-    rw (p.1, p.2) (λ kind e read plainly.
-    c.in_err-propagate.ensures.refused kind e.propagate e.tag e.window
-    (subst (λ (vs : List Value). FieldsOf vs e.propagate e.tag e.window) (same_rest v (codes "entry") read.subject subject read.fields rest read.written written) read.fields_are)
-    (subst (AllByRecursion IsReadField) (same_rest v (codes "entry") plainly.subject subject plainly.fields rest plainly.written written) plainly.each))
+    let e = written c.args.node.now c.in-Some.rest c.in-Some-split_first.subject c.in-Some-split_first.rest c.in-Some.ensures c.in-Some-split_first.ensures in
+    carried c.from_residual-in_err-propagate.result _ (λ (kind : CertFaultKind). kind ≢ Memory → (e : Entry) → EntryOf c.args.node.now e → ⊥) c.from_residual-in_err-propagate.ensures.1
+    (λ known entry read. c.in_err-propagate.ensures.refused known (entry-fields c.args.node.now c.in-Some-split_first.subject c.in-Some-split_first.rest e entry read))
+
+pub returns-in_err-propagate-clause-shown : goal.returns-in_err-propagate-clause-shown
+returns-in_err-propagate-clause-shown c =
+    let e = written c.args.node.now c.in-Some.rest c.in-Some-split_first.subject c.in-Some-split_first.rest c.in-Some.ensures c.in-Some-split_first.ensures in
+    carried c.from_residual-in_err-propagate.result _ (λ (kind : CertFaultKind). Shows kind c.args.node.now) c.from_residual-in_err-propagate.ensures.1
+    (c.in_err-propagate.ensures.shown c.args.node.now
+    (parts-behind c.args.node.now (plain (codes "entry") ∷ c.in-Some-split_first.subject ∷ []) c.in-Some-split_first.rest e))
+
+pub returns-in_default-one_way-clause-refused : goal.returns-in_default-one_way-clause-refused
+returns-in_default-one_way-clause-refused c =
+    let e = written c.args.node.now c.in-Some.rest c.in-Some-split_first.subject c.in-Some-split_first.rest c.in-Some.ensures c.in-Some-split_first.ensures in
+    λ _ entry read.
+    no-window c.in-Some-split_first.rest c.in_ok-propagate.field-0.known c.in_ok-propagate.ensures.found.2 c.in_default-one_way.ensures
+    entry.window (entry-window c.args.node.now c.in-Some-split_first.subject c.in-Some-split_first.rest e entry read)
+
+pub returns-in_default-tag-clause-refused : goal.returns-in_default-tag-clause-refused
+returns-in_default-tag-clause-refused c =
+    let e = written c.args.node.now c.in-Some.rest c.in-Some-split_first.subject c.in-Some-split_first.rest c.in-Some.ensures c.in-Some-split_first.ensures in
+    λ _ entry read.
+    entry-tag c.args.node.now c.in-Some-split_first.subject c.in-Some-split_first.rest e c.in_ok-propagate.field-0.known c.in_ok-propagate.ensures.found.2 c.in_default-tag.is
+    entry read

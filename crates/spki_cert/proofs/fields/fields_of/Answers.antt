@@ -1,35 +1,51 @@
-use Rattle.std.proofs.Common.{◌≡◌, ◌∷◌, ◌++◌, [], List, sym, ap, subst, ◌∙◌, append_assoc}
-use Rattle.std.specs.List.{AllByRecursion}
-use Rattle.std.proofs.lemmas.List.{append-nil}
-use Rattle.std.proofs.lemmas.Result.{err_from_is_err_and}
+use Rattle.std.proofs.Common.{◌≡◌, ◌≢◌, ◌∷◌, ◌++◌, [], ℕ, List, sym, ap, subst, ◌∙◌}
 use Rattle.sexpr_core.specs.Value.{Value}
-use Rattle.spki_cert.specs.Entries.{FieldsOf, IsReadField}
-use Rattle.spki_cert.specs.Fields.{always}
-use Rattle.spki_cert.proofs.FieldLaws.{AreRead-more, AreRead-stops, AreRead-all}
+use Rattle.spki_cert.specs.declared.fault.CertFaultKind.{CertFaultKind}
+use Rattle.spki_cert.specs.declared.fault.CertFaultKind.TheVariants.{Memory}
+use Rattle.spki_cert.specs.declared.fields.Known.{Known}
+use Rattle.spki_cert.specs.Faults.{Shows}
+use Rattle.spki_cert.specs.Fields.{AreFields}
+use Rattle.spki_cert.specs.Gathering.{IsFieldOf, AreParts, AreRead, IsNew, gather}
+use Rattle.spki_cert.proofs.Showing.{carried, shows-in}
+use Rattle.spki_cert.proofs.Groups.{split, moved}
+use Rattle.spki_cert.proofs.KnownLaws.{read-more, next-field, next-new, first-part}
 use Rattle.spki_cert.proofs.fields.fields_of.Goals as goal
 
--- where a field stands among all
-split : (all seen rest others : List Value) (field : Value) → all ≡ seen ++ rest → rest ≡ field ∷ others → all ≡ seen ++ field ∷ others
-split all seen rest others field e f = e ∙ ap (λ (vs : List Value). seen ++ vs) f
-
-pub returns-in_err-known-clause-refused : goal.returns-in_err-known-clause-refused
-returns-in_err-known-clause-refused c =
-    let p = err_from_is_err_and c.from_residual.result c.from_residual.ensures.1 in
+pub returns-in_default-new_head-clause-refused : goal.returns-in_default-new_head-clause-refused
+returns-in_default-new_head-clause-refused c =
     let i = c.loop-field.invariant in
-    let e : c.args.fields ≡ i.0 ++ c.in-Some.field ∷ c.in-Some.others = split c.args.fields i.0 c.loop-field.rest c.in-Some.others c.in-Some.field i.1 c.in-Some.ensures in
-    rw (p.1, p.2) (λ kind p t w fields each.
-    AreRead-stops i.0 c.in-Some.field c.in-Some.others c.loop-field.known i.2 (c.in_err-known.ensures.refused kind)
-    p t w (subst (λ (vs : List Value). FieldsOf vs p t w) e fields) (subst (AllByRecursion IsReadField) e each))
+    let e : c.args.members ≡ i.0 ++ c.in-Some.field ∷ c.in-Some.others = split c.args.members i.0 c.loop-field.rest c.in-Some.others c.in-Some.field i.1 c.in-Some.ensures in
+    let none : (head : List ℕ) → IsNew c.in-Some.field c.loop-field.heads.items head → ⊥ =
+    subst (λ (hs : List (List ℕ)). (head : List ℕ) → IsNew c.in-Some.field hs head → ⊥) c.deref.ensures.value c.in_default-new_head.ensures in
+    λ _ all.
+    next-new c.args.place i.0 c.loop-field.heads.items c.loop-field.known c.in-Some.field c.in-Some.others i.2 none
+    (subst (AreFields (IsFieldOf c.args.place)) e all)
+
+pub returns-in_err-said-clause-refused : goal.returns-in_err-said-clause-refused
+returns-in_err-said-clause-refused c =
+    let i = c.loop-field.invariant in
+    let e : c.args.members ≡ i.0 ++ c.in-Some.field ∷ c.in-Some.others = split c.args.members i.0 c.loop-field.rest c.in-Some.others c.in-Some.field i.1 c.in-Some.ensures in
+    carried c.from_residual.result _ (λ (kind : CertFaultKind). kind ≢ Memory → AreFields (IsFieldOf c.args.place) c.args.members → ⊥) c.from_residual.ensures.1
+    (λ known all. c.in_err-said.ensures.refused known (next-field c.args.place i.0 c.in-Some.field c.in-Some.others (subst (AreFields (IsFieldOf c.args.place)) e all)))
+
+pub returns-in_err-said-clause-shown : goal.returns-in_err-said-clause-shown
+returns-in_err-said-clause-shown c =
+    let i = c.loop-field.invariant in
+    let e : c.args.members ≡ i.0 ++ c.in-Some.field ∷ c.in-Some.others = split c.args.members i.0 c.loop-field.rest c.in-Some.others c.in-Some.field i.1 c.in-Some.ensures in
+    carried c.from_residual.result _ (λ (kind : CertFaultKind). (v : Value) → AreParts c.args.members v → Shows kind v) c.from_residual.ensures.1
+    (λ v parts. shows-in _ c.in-Some.field v (first-part c.args.members i.0 c.in-Some.field c.in-Some.others v e parts) c.in_err-said.ensures.shown)
 
 pub loop-field-preserved : goal.loop-field-preserved
 loop-field-preserved c =
     let i = c.loop-field.invariant in
-    let e : c.args.fields ≡ i.0 ++ c.in-Some.field ∷ c.in-Some.others = split c.args.fields i.0 c.loop-field.rest c.in-Some.others c.in-Some.field i.1 c.in-Some.ensures in
-    (i.0 ++ c.in-Some.field ∷ [], (e ∙ sym (append_assoc i.0 (c.in-Some.field ∷ []) c.in-Some.others)), AreRead-more i.0 c.in-Some.field c.loop-field.known c.in_ok-known.known i.2 c.in_ok-known.ensures.found)
-
-pub returns-in-Some-tag-clause-found : goal.returns-in-Some-tag-clause-found
-returns-in-Some-tag-clause-found c =
-    let i = c.loop-field.invariant in
-    let e : c.args.fields ≡ i.0 = i.1 ∙ ap (λ (vs : List Value). i.0 ++ vs) c.in_default.ensures ∙ append-nil i.0 in
-    subst (λ (vs : List Value). FieldsOf vs c.loop-field.known.propagates c.in-Some-tag.tag always) (sym e)
-    (AreRead-all i.0 c.loop-field.known c.in-Some-tag.tag i.2 c.in-Some-tag.is)
+    let e : c.args.members ≡ i.0 ++ c.in-Some.field ∷ c.in-Some.others = split c.args.members i.0 c.loop-field.rest c.in-Some.others c.in-Some.field i.1 c.in-Some.ensures in
+    let new : IsNew c.in-Some.field c.loop-field.heads.items c.in-Some-new_head.head.now =
+    subst (λ (hs : List (List ℕ)). IsNew c.in-Some.field hs c.in-Some-new_head.head.now) c.deref.ensures.value c.in-Some-new_head.ensures in
+    let more = read-more c.args.place i.0 c.loop-field.heads.items c.loop-field.known c.in-Some.field c.in-Some-new_head.head.now c.in_ok-said.said
+    i.2 new c.in_ok-said.ensures.found c.in_ok-said.ensures.says in (
+      i.0 ++ c.in-Some.field ∷ [],
+      moved c.args.members i.0 c.in-Some.others c.in-Some.field e,
+      subst (λ (k : Known). AreRead c.args.place (i.0 ++ c.in-Some.field ∷ []) c.push.new.self.items k) (sym c.gathered-known.ensures)
+          (subst (λ (hs : List (List ℕ)). AreRead c.args.place (i.0 ++ c.in-Some.field ∷ []) hs (gather c.loop-field.known c.in_ok-said.said))
+          (sym (c.in_ok-push.ensures.items ∙ ap (λ (h : List ℕ). c.loop-field.heads.items ++ h ∷ []) c.new.ensures)) more),
+    )

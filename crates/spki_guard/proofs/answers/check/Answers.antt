@@ -1,14 +1,23 @@
-use Rattle.std.proofs.Common.{inl}
-use Rattle.std.proofs.lemmas.Result.{IfOk-weaker}
+use Rattle.std.proofs.Common.{ap, Err}
+use Rattle.spki_case.specs.View.{model}
+use Rattle.spki_guard.proofs.Undecided.{err_lifted, undecided}
 use Rattle.spki_guard.proofs.answers.check.Goals as goal
 
-pub returns : goal.returns
-returns c =
-    let exact = rw c.accepted.ensures at c.in-Ok-decide.ensures.exact in
-    IfOk-weaker c.grant.result _ _ (λ a line. inl (record {
-      case_read = c.in-Ok.case;
-      text_is = c.in-Ok.ensures.read;
-      decided = c.in-Ok-decide.decision;
+pub returns-clause-answered : goal.returns-clause-answered
+returns-clause-answered c =
+    let exact = rw c.accepted.ensures at c.in_ok-decision.ensures.exact in
+    record {
+      case_read = model c.in_ok-case.case;
+      text_is = c.in_ok-case.ensures.read;
+      decided = c.in_ok-decision.decision;
       decision_is = exact;
-      line = line;
-    })) c.grant.ensures
+      line = c.in_ok-decision_line.ensures;
+    }
+
+pub returns-in_err-decision-clause-refused : goal.returns-in_err-decision-clause-refused
+returns-in_err-decision-clause-refused c v e =
+    let large = rw c.accepted.ensures at c.in_err-decision.ensures.too_large in
+    let from = c.from_residual-in_err-decision.ensures in
+    err_lifted c.from_residual-in_err-decision.result _ _ from.1
+    (λ outer h. undecided v c.args.text.now (model c.in_ok-case.case) c.in_err-decision.field-0.0 outer e c.in_ok-case.ensures.read
+    (λ is. large (ap Err is)) h)

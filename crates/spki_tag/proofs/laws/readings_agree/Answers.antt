@@ -5,4 +5,4 @@ use Rattle.spki_tag.proofs.laws.readings_agree.Goals as goal
 
 pub returns : goal.returns
 returns c = λ v t u g r s.
-    r.same g ∙ ap (λ w. contains w g) (tag_only s.w r.w s.written r.written (r.spelled ∙ sym s.spelled)) ∙ sym (s.same g)
+    r.normal.same g ∙ ap (λ w. contains w g) (tag_only s.w r.w s.written r.written (r.spelled ∙ sym s.spelled)) ∙ sym (s.normal.same g)

@@ -41,13 +41,17 @@ meet_members-push_row-requires t c =
 pub meet_members-loop-one-preserved : goal.meet_members-loop-one-preserved
 meet_members-loop-one-preserved t c =
     let one = c.one-item.result in
-    pairs-step c.args.ones.now c.args.others.now c.loop-one.met.items c.push_row.new.met.items
-    (pairs (tags c.args.ones.now) (tags c.args.others.now)) (row (meet one) (tags (tags_at c.args.others.now c.in_ok-places.places.items)))
-    c.loop-one.one-index one c.loop-one-test.true c.loop-one.invariant c.one-item.is
-    (c.in_ok-push_row.ensures ∙ ap (λ (ps : List ℕ). c.loop-one.met.items ++ row (meet one) (tags (tags_at c.args.others.now ps))) c.deref.ensures.value)
-    (ap (λ (ps : List ℕ). row (meet one) (tags (tags_at c.args.others.now ps)))
-    (c.in_ok-places.ensures ∙ ap (places_where (may_share one) 1) c.in_ok-index.ensures)
-    ∙ sym (row-at_places one c.args.others.now))
+    let others = c.args.others.now in
+    let places = c.in_ok-places.places.items in
+    let found : places ≡ places_where (may_share one) 1 others =
+    c.in_ok-places.ensures ∙ ap (places_where (may_share one) 1) c.in_ok-index.ensures in
+    let same : row (meet one) (tags (tags_at others places)) ≡ row (meet one) (tags others) =
+    ap (λ (ps : List ℕ). row (meet one) (tags (tags_at others ps))) found ∙ sym (row-at_places one others) in
+    let pushed : c.push_row.new.met.items ≡ c.loop-one.met.items ++ row (meet one) (tags (tags_at others places)) =
+    rw c.deref.ensures.value at c.in_ok-push_row.ensures in
+    pairs-step c.args.ones.now others c.loop-one.met.items c.push_row.new.met.items
+    (pairs (tags c.args.ones.now) (tags others)) (row (meet one) (tags (tags_at others places)))
+    c.loop-one.one-index one c.loop-one-test.true c.loop-one.invariant c.one-item.is pushed same
 
 pub meet_single-meet_lists-requires : goal.meet_single-meet_lists-requires
 meet_single-meet_lists-requires t c =

@@ -1,23 +1,21 @@
-use Rattle.spki_tag.specs.declared.fault.TagFault.TheVariants as faults
 use Rattle.std.proofs.Common.{true≢false, sym, ◌∙◌}
-use Rattle.spki_tag.proofs.Starred.{prefix_missing, prefix_more, prefix_other, list_is_no_string, hinted_is_no_string}
+use Rattle.spki_tag.proofs.Found.{prefix_missing, prefix_more, prefix_list, prefix_hinted}
 use Rattle.spki_tag.proofs.reading.read_prefix.Goals as goal
 
-pub returns-then-not-is_empty-clause-refused : goal.returns-then-not-is_empty-clause-refused
-returns-then-not-is_empty-clause-refused c =
-    prefix_more faults.UnknownStar c.args.further c.in-Some.prefix c.in-Some.rest c.in-Some.ensures
+pub returns-then-not-is_empty-clause-shows : goal.returns-then-not-is_empty-clause-shows
+returns-then-not-is_empty-clause-shows c =
+    prefix_more c.args.further c.in-Some.prefix c.in-Some.rest c.in-Some.ensures
     (λ e. true≢false (sym (c.is_empty.ensures.1 e) ∙ c.if-not-is_empty.true))
 
-pub returns-in-None-clause-refused : goal.returns-in-None-clause-refused
-returns-in-None-clause-refused c = prefix_missing faults.UnknownStar c.args.further c.in-None.ensures
+pub returns-in-None-clause-shows : goal.returns-in-None-clause-shows
+returns-in-None-clause-shows c = prefix_missing c.args.further c.in-None.ensures
 
-pub returns-in-List-clause-refused : goal.returns-in-List-clause-refused
-returns-in-List-clause-refused c =
-    prefix_other faults.UnknownStar c.args.further c.in-Some.prefix c.in-Some.rest c.in-Some.ensures
-    (list_is_no_string c.in-Some.prefix c.in-List.field-0 c.in-List.ensures)
+pub returns-in-List-clause-shows : goal.returns-in-List-clause-shows
+returns-in-List-clause-shows c =
+    prefix_list c.args.further c.in-Some.prefix c.in-Some.rest c.in-List.field-0 c.in-Some.ensures c.in-List.ensures
 
-pub returns-in-String-Some-default-clause-refused : goal.returns-in-String-Some-default-clause-refused
-returns-in-String-Some-default-clause-refused c =
+pub returns-in-String-Some-default-clause-shows : goal.returns-in-String-Some-default-clause-shows
+returns-in-String-Some-default-clause-shows c =
     let e = rw c.in-String-Some-default.hint-is at c.in-String-Some-default.ensures in
-    prefix_other faults.Hint c.args.further c.in-Some.prefix c.in-Some.rest c.in-Some.ensures
-    (hinted_is_no_string c.in-Some.prefix c.in-String-Some-default.hint-0.now c.in-String-Some-default.body.now e)
+    prefix_hinted c.args.further c.in-Some.prefix c.in-Some.rest c.in-Some.ensures
+    (c.in-String-Some-default.hint-0.now, c.in-String-Some-default.body.now, sym e)

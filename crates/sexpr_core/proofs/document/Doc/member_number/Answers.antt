@@ -1,8 +1,9 @@
-use Rattle.std.proofs.Common.{◌+◌, ◌≡◌, sym, arith}
+use Rattle.std.proofs.Common.{◌+◌, ◌≡◌, sym, ap, ◌∙◌, arith}
+use Rattle.sexpr_core.specs.Value.{node}
 use Rattle.sexpr_core.specs.Places.{node_at}
 use Rattle.sexpr_core.specs.Parts.{member_number}
 use Rattle.sexpr_core.proofs.PlaceLaws.{size_is}
-use Rattle.sexpr_core.proofs.SiblingLaws.{member_of}
+use Rattle.sexpr_core.proofs.SiblingLaws.{member_of, member_is}
 use Rattle.sexpr_core.proofs.document.Doc.member_number.Goals as goal
 
 pub record-number-requires : goal.record-number-requires
@@ -22,3 +23,9 @@ pub loop-preserved : goal.loop-preserved
 loop-preserved c =
     let m = member_of c.args.self.now c.args.n c.loop.counter c.requires.known (omega (arith, c.requires.has_it)) in
     rw (size_is _ _ _ c.record-number.ensures.place, c.loop.invariant) (sym m.next)
+
+pub returns-clause-member : goal.returns-clause-member
+returns-clause-member c =
+    let all : c.loop.counter ≡ c.args.i = omega arith in
+    ap (node c.args.self.now) (c.loop.invariant ∙ ap (λ k. member_number c.args.n k (node_at c.args.self.now c.args.n)) all)
+    ∙ member_is c.args.self.now c.args.n c.args.i c.requires.known c.requires.has_it

@@ -1,21 +1,21 @@
-use Rattle.std.proofs.Common.{◌≡◌, ◌∙◌, subst}
-use Rattle.spki_cert.specs.Time.{between, meet_of, IsLimit}
-use Rattle.spki_cert.proofs.Order.{meet-moments, meet-some, meet-none}
+use Rattle.std.proofs.Common.{◌∙◌, subst, sym}
+use Rattle.spki_cert.specs.Time.{IsLimit, in_order, within}
+use Rattle.spki_cert.proofs.Order.{within-inner, some-overlaps, none-apart}
 use Rattle.spki_cert.proofs.window.Window.meet.Goals as goal
 
--- the result is the window of the later not-before and the earlier not-after
-found : (c : goal.After-window_between) → c.window_between.result ≡ meet_of c.args.self.now c.args.other.now
-found c = c.window_between.ensures.window ∙ (λ i. between (c.later-first.ensures i) (c.earlier-last.ensures i))
+pub returns-then-is_in_order-clause-moments : goal.returns-then-is_in_order-clause-moments
+returns-then-is_in_order-clause-moments c = λ t.
+    (λ i. within t (record { not_before = c.later-first.ensures.chosen i; not_after = c.earlier-last.ensures.chosen i }))
+    ∙ within-inner c.args.self.now c.args.other.now t
 
-pub returns-clause-moments : goal.returns-clause-moments
-returns-clause-moments c = meet-moments c.args.self.now c.args.other.now c.window_between.result (found c)
+pub returns-then-is_in_order-clause-some : goal.returns-then-is_in_order-clause-some
+returns-then-is_in_order-clause-some c =
+    some-overlaps c.args.self.now c.args.other.now
+    (subst IsLimit c.later-first.ensures.chosen c.later-first.ensures.limit)
+    (subst IsLimit c.earlier-last.ensures.chosen c.earlier-last.ensures.limit)
+    (sym (c.is_in_order.ensures ∙ (λ i. in_order (c.later-first.ensures.chosen i) (c.earlier-last.ensures.chosen i))) ∙ c.if-is_in_order.true)
 
-pub returns-clause-some : goal.returns-clause-some
-returns-clause-some c =
-    meet-some c.args.self.now c.args.other.now c.window_between.result
-    (subst IsLimit c.later-first.ensures c.window_between.ensures.first_is_date)
-    (subst IsLimit c.earlier-last.ensures c.window_between.ensures.last_is_date)
-    (found c)
-
-pub returns-clause-none : goal.returns-clause-none
-returns-clause-none c = meet-none c.args.self.now c.args.other.now c.window_between.result (found c)
+pub returns-else-is_in_order-clause-none : goal.returns-else-is_in_order-clause-none
+returns-else-is_in_order-clause-none c =
+    none-apart c.args.self.now c.args.other.now
+    (sym (c.is_in_order.ensures ∙ (λ i. in_order (c.later-first.ensures.chosen i) (c.earlier-last.ensures.chosen i))) ∙ c.if-is_in_order.false)

@@ -1,8 +1,7 @@
 use Rattle.std.proofs.Common.{◌≡◌, false, true, sym, ap, ◌∙◌}
 use Rattle.std.specs.List.{list_any}
-use Rattle.spki_tag.specs.Tag.{tags, set}
+use Rattle.spki_tag.specs.Tag.{tags, set, is_star}
 use Rattle.spki_tag.specs.Meet.{gather}
-use Rattle.spki_tag.specs.NormalForm.{is_star}
 use Rattle.spki_tag.proofs.Gathered.{spread, spread-all, star_of_set, gathered_set, IsNormalTag-of}
 use Rattle.spki_tag.proofs.tag.Tag.set_of.Goals as goal
 

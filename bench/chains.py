@@ -1,0 +1,143 @@
+#!/usr/bin/env python3
+"""Times `spki check` on long chains of certificates and on the widest work that one text can ask for, and beside `openssl`.
+
+Build the program first (`rt run` in crates/spki). Usage: bench/chains.py [PROGRAM]
+"""
+import hashlib
+import subprocess
+import sys
+import tempfile
+import time
+
+from check import LIMIT_MEMORY, LIMIT_RATIO, PROGRAM, STAR, group, key, run, string
+from memory import peak
+
+LENGTHS = [94, 375, 1500]
+RUNS = 5
+LIMIT_SECONDS = 10.0
+MOST_OCTETS = 1024 * 1024
+NOW = string("2024-01-01_00:00:00")
+
+
+def digest(octets):
+    return group(string("hash"), string("sha256"), string(hashlib.sha256(octets).digest()))
+
+
+def name(principal, *names):
+    return group(string("name"), principal, *map(string, names))
+
+
+def entry(subject, tag=STAR):
+    return group(string("entry"), subject, group(string("propagate")), group(string("tag"), tag))
+
+
+def certificate(issuer, subject, tag=STAR):
+    return group(
+        string("cert"), group(string("issuer"), issuer), group(string("subject"), subject), group(string("propagate")),
+        group(string("tag"), tag))
+
+
+def definition(issuer, subject):
+    return group(string("cert"), group(string("issuer"), issuer), group(string("subject"), subject))
+
+
+def case(entries, links, keys=(), asks=None):
+    """A case of certificates, each with the key that signs it."""
+    rows = [group(string("by"), signer, digest(octets), string("sig")) for octets, signer in links]
+    items = [octets + group(string("signature"), digest(octets), signer, string("sig")) for octets, signer in links]
+    return group(
+        string("case"), group(string("acl"), *entries), group(string("accepted"), *rows), group(string("sequence"), *keys, *items),
+        group(string("key"), asks), group(string("request"), string("ftp")), group(string("at"), NOW))
+
+
+def keys_of(length):
+    return [key(f"k{place:05}") for place in range(length + 1)]
+
+
+def by_keys(length, tag=STAR, entries=1, asks=None):
+    """Each certificate delegates from one key to the next."""
+    keys = keys_of(length)
+    links = [(certificate(issuer, subject, tag), issuer) for issuer, subject in zip(keys, keys[1:])]
+    return case([entry(keys[0], tag)] * entries, links, asks=asks or keys[-1])
+
+
+def by_hashes(length):
+    """The same, where the issuers are hashes of keys that are shown, and the subjects are hashes."""
+    keys = keys_of(length)
+    links = [(certificate(digest(issuer), digest(subject)), issuer) for issuer, subject in zip(keys, keys[1:])]
+    return case([entry(digest(keys[0]))], links, keys[:-1], keys[-1])
+
+
+def through_names(length):
+    """Each certificate defines one key's friends as the next key's."""
+    keys = keys_of(length)
+    links = [(definition(name(issuer, "friends"), name(subject, "friends")), issuer) for issuer, subject in zip(keys, keys[1:-1])]
+    links.append((definition(name(keys[-2], "friends"), keys[-1]), keys[-2]))
+    return case([entry(name(keys[0], "friends"))], links, asks=keys[-1])
+
+
+def grown():
+    """The times of long chains, the ratios for four times the certificates, and the peak of the longest."""
+    worst = 0.0
+    print(f"{'chain':<16}" + "".join(f"{length:>9} certs" for length in LENGTHS) + "   ratios      peak")
+    for make in (by_keys, by_hashes, through_names):
+        times = [min(run(make(length), b"yes entry 1\n") for _ in range(RUNS)) for length in LENGTHS]
+        ratios = [after / before for before, after in zip(times, times[1:])]
+        memory = peak(PROGRAM, "check", make(LENGTHS[-1]))
+        print(f"{make.__name__:<16}" + "".join(f"{took * 1000:>12.1f} ms" for took in times)
+              + "   " + " ".join(f"{ratio:.2f}" for ratio in ratios) + f"   {memory:.1f} MiB")
+        worst = max([worst] + ratios)
+        if memory > LIMIT_MEMORY:
+            sys.exit(f"a peak of over {LIMIT_MEMORY} MiB")
+    return worst
+
+
+def widest():
+    """The texts of at most 1 MiB that ask for the most work known, each with the answer that it has."""
+    one = len(entry(key("k00000")))
+    link = len(by_keys(2)) - len(by_keys(1))
+    half = MOST_OCTETS // 2
+    certificates, entries = (half - 1024) // link, half // one
+    yield f"{entries} entries times {certificates} certificates", by_keys(certificates, entries=entries, asks=key("other")), b"no\n"
+    tag = group(string("ftp"), *[string("x")] * 998)
+    link = len(by_keys(2, tag)) - len(by_keys(1, tag))
+    certificates = (MOST_OCTETS - 8 * 1024) // link
+    yield f"{certificates} lists of 1,000 nodes", by_keys(certificates, tag, asks=key("other")), b"no\n"
+    tag = group(string("*"), string("set"), *[string(f"{place:03}") for place in range(998)])
+    link = len(by_keys(2, tag)) - len(by_keys(1, tag))
+    certificates = (MOST_OCTETS - 16 * 1024) // link
+    yield f"{certificates} sets of 999 nodes", by_keys(certificates, tag, asks=key("other")), b"no\n"
+
+
+def beside_openssl():
+    """A decision by three certificates, and the SHA-256 of the same octets by `openssl`, each a process of its own."""
+    text = by_keys(3)
+    decided = min(run(text, b"yes entry 1\n") for _ in range(50))
+    with tempfile.NamedTemporaryFile() as file:
+        file.write(text)
+        file.flush()
+        times = []
+        for _ in range(50):
+            begun = time.perf_counter()
+            subprocess.run(["openssl", "dgst", "-sha256", file.name], stdout=subprocess.DEVNULL, check=True)
+            times.append(time.perf_counter() - begun)
+    return decided, min(times)
+
+
+def main():
+    worst = grown()
+    print(f"largest ratio for 4 times the certificates: {worst:.2f} (at most {LIMIT_RATIO})")
+    slowest = 0.0
+    for what, text, wanted in widest():
+        took = run(text, wanted)
+        slowest = max(slowest, took)
+        print(f"{what}, {len(text)} octets: {took:.2f} s, {peak(PROGRAM, 'check', text):.1f} MiB")
+    print(f"longest: {slowest:.2f} s (at most {LIMIT_SECONDS})")
+    decided, hashed = beside_openssl()
+    print(f"a chain of three certificates: {decided * 1000:.2f} ms, openssl {hashed * 1000:.2f} ms, ratio {decided / hashed:.2f}")
+    if worst > LIMIT_RATIO or slowest > LIMIT_SECONDS:
+        sys.exit(1)
+
+
+if __name__ == "__main__":
+    main()

@@ -1,0 +1,29 @@
+//! Worked examples of keys, lists, cases and of the program's commands: calls, and runs over memory.
+#![tactic(auto)]
+
+#[cfg(test)]
+mod cases;
+#[cfg(test)]
+mod chains;
+#[cfg(test)]
+mod conversions;
+#[cfg(test)]
+mod decisions;
+#[cfg(test)]
+mod ends;
+#[cfg(test)]
+mod fault_texts;
+#[cfg(test)]
+mod inner_ends;
+#[cfg(test)]
+mod intersections;
+#[cfg(test)]
+mod meters;
+#[cfg(test)]
+mod runs;
+#[cfg(test)]
+mod structures;
+#[cfg(test)]
+mod texts;
+#[cfg(test)]
+mod verifiers;

@@ -1,0 +1,103 @@
+//! Decisions by verifiers other than a case's own list.
+
+ghost use Rattle.std.specs.Prelude.{◌↔◌, IsTrue, IfOk};
+
+use crate::chains::{ALL, C1, KA, KB, case_of, signed};
+use crate::texts::FIRST_RUN;
+use sexpr_text::{Form, convert};
+use spki_cert::Key;
+use spki_guard::{Case, Decision, GuardFault, Verifier, decide};
+use std::alloc::{AllocError, Global};
+use std::test::Fail;
+
+/// Accepts no signature.
+struct AcceptsNone;
+
+impl Verifier for AcceptsNone {
+    ghost accepted = { λ verifier key message value. ⊥ };
+
+    fn accepts(
+        &self,
+        _alloc: Global,
+        _key: &Key,
+        _message: &[u8],
+        _value: &[u8],
+    ) -> Result<bool, AllocError>
+        ensures { IfOk result (λ yes. IsTrue yes ↔ ⊥) }
+    {
+        Ok(false)
+    }
+}
+
+/// Accepts every signature.
+struct AcceptsAll;
+
+impl Verifier for AcceptsAll {
+    ghost accepted = { λ verifier key message value. Unit {0} };
+
+    fn accepts(
+        &self,
+        _alloc: Global,
+        _key: &Key,
+        _message: &[u8],
+        _value: &[u8],
+    ) -> Result<bool, AllocError>
+        ensures { IfOk result (λ yes. IsTrue yes ↔ Unit {0}) }
+    {
+        Ok(true)
+    }
+}
+
+/// Has no memory.
+struct OutOfMemory;
+
+impl Verifier for OutOfMemory {
+    ghost accepted = { λ verifier key message value. ⊥ };
+
+    fn accepts(
+        &self,
+        _alloc: Global,
+        _key: &Key,
+        _message: &[u8],
+        _value: &[u8],
+    ) -> Result<bool, AllocError>
+        ensures { IfOk result (λ yes. IsTrue yes ↔ ⊥) }
+    {
+        Err(AllocError)
+    }
+}
+
+/// The canonical text of a case in which KA passes its right on to KB, by these items, with no row in the accepted list.
+fn delegation(alloc: Global, items: &str) -> Result<Vec<u8>, Fail> {
+    let text = case_of(alloc, ALL, "", items, KB, "")?;
+    Ok(convert(alloc, Form::Canonical, text.as_bytes())?)
+}
+
+/// What is decided of a canonical text by a verifier.
+fn decided<V: Verifier>(alloc: Global, text: &[u8], verifier: &V) -> Result<Decision, GuardFault> {
+    match Case::read(alloc, text) {
+        Ok(case) => decide(alloc, &case, verifier),
+        Err(_) => Err(GuardFault::TooLarge),
+    }
+}
+
+#[test]
+fn verifiers(rt: HostRuntime) -> Result<(), Fail> {
+    let alloc = rt.alloc();
+    let first_run = FIRST_RUN.as_bytes();
+    assert!(rt; decided(alloc, first_run, &AcceptsNone) == Ok(Decision::Yes(1)));
+    assert!(rt; decided(alloc, first_run, &OutOfMemory) == Ok(Decision::Yes(1)));
+    let text = delegation(alloc, &signed(alloc, C1, KA)?)?;
+    assert!(rt; decided(alloc, &text, &AcceptsNone) == Ok(Decision::No));
+    assert!(rt; decided(alloc, &text, &AcceptsAll) == Ok(Decision::Yes(1)));
+    assert!(rt; decided(alloc, &text, &OutOfMemory) == Err(GuardFault::Memory));
+    Ok(())
+}
+
+#[test]
+fn signer_differs(rt: HostRuntime) -> Result<(), Fail> {
+    let alloc = rt.alloc();
+    let text = delegation(alloc, &signed(alloc, C1, KB)?)?;
+    assert!(rt; decided(alloc, &text, &AcceptsAll) == Ok(Decision::No));
+    Ok(())
+}

@@ -1,0 +1,196 @@
+//! Two tuples.
+
+use crate::tuples::{CERTIFICATE, DEFINITION, ENTRY, Given, KA, KB, KC, five, four, is_subject};
+use spki_cert::Policy;
+use spki_reduce::{Cause, Five, Four, Joined};
+use std::alloc::Global;
+use std::test::Fail;
+
+/// Whether two tuples became an authorization of a key with these names behind it.
+fn is_five(joined: &Joined<Five>, key: &[u8], names: &[&[u8]]) -> bool {
+    match joined {
+        Joined::Done(five) => is_subject(&five.subject, key, names),
+        Joined::Stopped(_) => false,
+    }
+}
+
+/// Whether two definitions became one of a key's name, for another key.
+fn is_four(joined: &Joined<Four>, key: &[u8], name: &[u8], subject: &[u8]) -> bool {
+    match joined {
+        Joined::Done(four) => {
+            four.key.as_slice() == key
+                && four.name.as_slice() == name
+                && is_subject(&four.subject, subject, &[])
+        }
+        Joined::Stopped(_) => false,
+    }
+}
+
+fn cause<T>(joined: &Joined<T>) -> Option<Cause> {
+    match joined {
+        Joined::Done(_) => None,
+        Joined::Stopped(cause) => Some(*cause),
+    }
+}
+
+/// What two authorizations become.
+fn delegated(alloc: Global, left: &Given, right: &Given) -> Result<Joined<Five<'static>>, Fail> {
+    let left = five(alloc, left)?;
+    let right = five(alloc, right)?;
+    Ok(left.then(alloc, &right, Policy::Open)?)
+}
+
+/// What an authorization and a definition become.
+fn resolved(alloc: Global, left: &Given, right: &Given) -> Result<Joined<Five<'static>>, Fail> {
+    let left = five(alloc, left)?;
+    let right = four(alloc, right)?;
+    Ok(left.resolve(alloc, &right, Policy::Open)?)
+}
+
+/// What two definitions become.
+fn linked(alloc: Global, left: &Given, right: &Given) -> Result<Joined<Four<'static>>, Fail> {
+    let left = four(alloc, left)?;
+    let right = four(alloc, right)?;
+    Ok(left.then(alloc, &right, Policy::Open)?)
+}
+
+/// `(cert (issuer KB) (subject KC) (tag (*)))`
+const SECOND: Given = Given {
+    issuer: Some(KB),
+    subject: KC,
+    ..CERTIFICATE
+};
+
+/// Two authorizations, and why they don't join, if they don't.
+const DELEGATED: &[(Given, Given, Option<Cause>)] = &[
+    // delegation
+    (ENTRY, CERTIFICATE, None),
+    (CERTIFICATE, SECOND, Some(Cause::NoDelegation)),
+    // second-entry
+    (
+        Given {
+            subject: KC,
+            ..ENTRY
+        },
+        CERTIFICATE,
+        Some(Cause::NotIssuer),
+    ),
+    (CERTIFICATE, ENTRY, Some(Cause::NotIssuer)),
+    // windows
+    (
+        Given {
+            not_after: Some(b"19:2024-06-01_00:00:00"),
+            ..ENTRY
+        },
+        Given {
+            not_before: Some(b"19:2024-06-01_00:00:00"),
+            ..CERTIFICATE
+        },
+        None,
+    ),
+    (
+        Given {
+            not_after: Some(b"19:2024-06-01_00:00:00"),
+            ..ENTRY
+        },
+        Given {
+            not_before: Some(b"19:2024-06-01_00:00:01"),
+            ..CERTIFICATE
+        },
+        Some(Cause::NoValidity),
+    ),
+    // reduced-sets
+    (
+        Given {
+            tag: b"(1:*3:set4:read5:write)",
+            ..ENTRY
+        },
+        Given {
+            tag: b"(1:*3:set5:write(1:*6:prefix2:re))",
+            ..CERTIFICATE
+        },
+        None,
+    ),
+    (
+        Given {
+            tag: b"(1:*3:set4:read5:write)",
+            ..ENTRY
+        },
+        Given {
+            tag: b"1:x",
+            ..CERTIFICATE
+        },
+        Some(Cause::NoTag),
+    ),
+];
+
+#[test]
+fn then(rt: HostRuntime) -> Result<(), Fail> {
+    for (left, right, why) in DELEGATED {
+        let joined = delegated(rt.alloc(), left, right)?;
+        assert!(rt; cause(&joined) == *why);
+        assert!(rt; why.is_some() || is_five(&joined, KB, &[]));
+    }
+    Ok(())
+}
+
+/// `(cert (issuer (name KA friends)) (subject (name KB bob)))`
+const FRIENDS: Given = Given {
+    names: &[b"bob"],
+    ..DEFINITION
+};
+
+/// `(cert (issuer (name KB bob)) (subject KC))`
+const BOB: Given = Given {
+    issuer: Some(KB),
+    name: Some(b"bob"),
+    subject: KC,
+    ..DEFINITION
+};
+
+/// An authorization and a definition, and the key and the names of the subject of what they become.
+const RESOLVED: &[(Given, Given, &[u8], &[&[u8]])] = &[
+    // linked-names
+    (
+        Given {
+            names: &[b"friends", b"bob"],
+            ..ENTRY
+        },
+        DEFINITION,
+        KB,
+        &[b"bob"],
+    ),
+    // names
+    (
+        Given {
+            names: &[b"friends", b"bob"],
+            ..ENTRY
+        },
+        Given {
+            names: &[b"al"],
+            ..DEFINITION
+        },
+        KB,
+        &[b"al", b"bob"],
+    ),
+];
+
+#[test]
+fn resolve(rt: HostRuntime) -> Result<(), Fail> {
+    for (left, right, key, names) in RESOLVED {
+        let joined = resolved(rt.alloc(), left, right)?;
+        assert!(rt; is_five(&joined, key, names));
+    }
+    let other = resolved(rt.alloc(), &ENTRY, &DEFINITION)?;
+    assert!(rt; cause(&other) == Some(Cause::NotTheName));
+    Ok(())
+}
+
+#[test]
+fn linked_names(rt: HostRuntime) -> Result<(), Fail> {
+    let both = linked(rt.alloc(), &FRIENDS, &BOB)?;
+    assert!(rt; is_four(&both, KA, b"friends", KC));
+    let swapped = linked(rt.alloc(), &BOB, &FRIENDS)?;
+    assert!(rt; cause(&swapped) == Some(Cause::NotTheName));
+    Ok(())
+}

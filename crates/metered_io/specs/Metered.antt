@@ -1,0 +1,57 @@
+-- What a meter counts of the calls that it passes on.
+use Rattle.std.specs.Prelude.{◌≡◌, ◌≢◌, ℕ, ◌+◌, ◌-◌, ◌^◌, ◌<◌, min, List, length, Option, Result, MatchResult}
+use Rattle.std.specs.Io.KnownBytes.{Appends, Consumes, IsAtEnd, Keeps}
+use Rattle.std.specs.IoError.{error_kind}
+use Rattle.std.specs.declared.io.Error.{Error}
+use Rattle.std.specs.declared.io.ErrorKind.TheVariants.{Interrupted}
+use Rattle.metered_io.specs.declared.meters.Metered.{Metered}
+
+-- the reader or the writer inside
+abbrev pub inner_of : {T : Type 0} → Metered T → T
+inner_of m = m.inner
+
+-- the reader inside gave these octets, where it tells them
+abbrev pub Gives : {R : Type 0} → (R → Option (List ℕ)) → Metered R → Metered R → List ℕ → Type 0
+Gives remaining old new octets = Consumes (remaining (inner_of old)) (remaining (inner_of new)) octets
+
+-- it gave nothing
+abbrev pub GivesNone : {R : Type 0} → (R → Option (List ℕ)) → Metered R → Metered R → Type 0
+GivesNone remaining old new = Keeps (remaining (inner_of old)) (remaining (inner_of new))
+
+-- it has no more to give
+abbrev pub HasGivenAll : {R : Type 0} → (R → Option (List ℕ)) → Metered R → Type 0
+HasGivenAll remaining reader = IsAtEnd (remaining (inner_of reader))
+
+-- the writer inside took these octets, where it tells them
+abbrev pub Takes : {W : Type 0} → (W → Option (List ℕ)) → Metered W → Metered W → List ℕ → Type 0
+Takes contents old new octets = Appends (contents (inner_of old)) (contents (inner_of new)) octets
+
+-- it took nothing
+abbrev pub TakesNone : {W : Type 0} → (W → Option (List ℕ)) → Metered W → Metered W → Type 0
+TakesNone contents old new = Keeps (contents (inner_of old)) (contents (inner_of new))
+
+-- one more, up to the greatest `u64`
+abbrev pub counted : ℕ → ℕ
+counted n = min (n + 1) (2 ^ 64 - 1)
+
+-- an error is a fault, unless it only asks for the call to be made again
+abbrev pub IsFault : Error → Type 0
+IsFault e = error_kind e ≢ Interrupted
+
+-- a write of none of some octets is a fault too
+abbrev pub IsEmptyWrite : List ℕ → ℕ → Type 0
+IsEmptyWrite octets n = (n ≡ 0) × (0 < length octets)
+
+-- the count of faults goes up by one at a fault, and else stays
+pub record CountsIf (fault : Type 0) (old new : ℕ) : Type 0 where
+  pub faulty : fault → new ≡ counted old
+  pub faultless : ¬ fault → new ≡ old
+
+-- the faults before and after a read or a flush
+abbrev pub CountsErrors : {A : Type 0} → ℕ → ℕ → Result A Error → Type 0
+CountsErrors old new r = MatchResult r (λ _. new ≡ old) (λ e. CountsIf (IsFault e) old new)
+
+-- the faults before and after a write of these octets
+abbrev pub CountsWrite : List ℕ → ℕ → ℕ → Result ℕ Error → Type 0
+CountsWrite octets old new r =
+    MatchResult r (λ n. CountsIf (IsEmptyWrite octets n) old new) (λ e. CountsIf (IsFault e) old new)

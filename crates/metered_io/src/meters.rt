@@ -1,0 +1,154 @@
+//! A meter round a reader or a writer.
+ghost use Rattle.std.specs.Prelude.{◌≡◌, ◌↔◌, ◌<◌, length, IsTrue, IsOk, false};
+ghost use Rattle.std.specs.IoError.{error_kind};
+ghost use Rattle.std.specs.Io.{ReadsAtMost, WritesAtMost};
+ghost use Rattle.std.specs.Io.KnownBytes.{Keeps, ReadConsumes, WriteAppends};
+ghost use Rattle.metered_io.specs.Metered.{counted, inner_of, CountsIf, IsFault, CountsErrors, CountsWrite};
+
+use std::io;
+use std::io::{Error, ErrorKind, Read, Write};
+
+/// Passes calls on to a reader or a writer, and counts them.
+#[derive(Drop)]
+pub struct Metered<T> {
+    /// How many reads, writes and flushes were passed on; it stays at its type's end.
+    pub asks: u64,
+    /// How many of them failed other than by `Interrupted`, or wrote none of some octets; it stays at its type's end.
+    pub faults: u64,
+    /// Whether the last read into a buffer with room was answered by 0 octets.
+    pub ended: bool,
+    /// Whether the last write or flush was a flush that was answered.
+    pub flushed: bool,
+    inner: T,
+}
+
+impl<T> Metered<T> {
+    /// A meter that has counted nothing yet, round `inner`.
+    pub fn new(inner: T) -> Metered<T>
+        ensures asks { result.asks ≡ 0 }
+        ensures faults { result.faults ≡ 0 }
+        ensures ended { result.ended ≡ false }
+        ensures flushed { result.flushed ≡ false }
+        ensures inner { inner_of result ≡ inner }
+    {
+        Metered {
+            asks: 0,
+            faults: 0,
+            ended: false,
+            flushed: false,
+            inner,
+        }
+    }
+
+    /// Begins to count anew.
+    pub fn restart(&mut self)
+        ensures asks { self.new.asks ≡ 0 }
+        ensures faults { self.new.faults ≡ 0 }
+        ensures ended { self.new.ended ≡ false }
+        ensures flushed { self.new.flushed ≡ false }
+        ensures inner { inner_of self.new ≡ inner_of self.old }
+    {
+        self.asks = 0;
+        self.faults = 0;
+        self.ended = false;
+        self.flushed = false;
+    }
+
+    /// The reader or the writer inside.
+    pub fn into_inner(self) -> T
+        ensures { result ≡ inner_of self }
+    {
+        self.inner
+    }
+}
+
+/// Whether an error only asks for the call to be made again.
+pub(crate) fn is_interrupted(error: &Error) -> bool
+    ensures { IsTrue result ↔ (error_kind error.now ≡ ErrorKind.Interrupted) }
+{
+    error.kind() == ErrorKind::Interrupted
+}
+
+fn count_error(faults: u64, error: &Error) -> u64
+    ensures { CountsIf (IsFault error.now) faults result }
+{
+    if is_interrupted(error) {
+        faults
+    } else {
+        faults.saturating_add(1)
+    }
+}
+
+impl<R: Read> Read for Metered<R> {
+    ghost remaining = { λ m. R.remaining (inner_of m) };
+
+    fn read(&mut self, buf: &mut [u8]) -> io::Result<usize>
+        ensures bound { ReadsAtMost result buf.new }
+        ensures bytes { ReadConsumes (R.remaining (inner_of self.old)) (R.remaining (inner_of self.new)) result buf.new }
+        ensures asks { self.new.asks ≡ counted self.old.asks }
+        ensures faults { CountsErrors self.old.faults self.new.faults result }
+        ensures ended { 0 < length buf.old → (IsTrue self.new.ended ↔ (result ≡ Ok 0)) }
+        ensures no_room { length buf.old ≡ 0 → self.new.ended ≡ self.old.ended }
+        ensures flushed { self.new.flushed ≡ self.old.flushed }
+    {
+        self.asks = self.asks.saturating_add(1);
+        let has_room = !buf.is_empty();
+        let answer = self.inner.read(buf);
+        match &answer {
+            Ok(count) => {
+                if has_room {
+                    self.ended = *count == 0;
+                }
+            }
+            Err(error) => {
+                self.faults = count_error(self.faults, error);
+                if has_room {
+                    self.ended = false;
+                }
+            }
+        }
+        answer
+    }
+}
+
+impl<W: Write> Write for Metered<W> {
+    ghost contents = { λ m. W.contents (inner_of m) };
+
+    fn write(&mut self, buf: &[u8]) -> io::Result<usize>
+        ensures bound { WritesAtMost result buf.now }
+        ensures bytes { WriteAppends (W.contents (inner_of self.old)) (W.contents (inner_of self.new)) result buf.now }
+        ensures asks { self.new.asks ≡ counted self.old.asks }
+        ensures faults { CountsWrite buf.now self.old.faults self.new.faults result }
+        ensures ended { self.new.ended ≡ self.old.ended }
+        ensures flushed { self.new.flushed ≡ false }
+    {
+        self.asks = self.asks.saturating_add(1);
+        self.flushed = false;
+        let answer = self.inner.write(buf);
+        match &answer {
+            Ok(count) => {
+                if *count == 0 && !buf.is_empty() {
+                    self.faults = self.faults.saturating_add(1);
+                }
+            }
+            Err(error) => self.faults = count_error(self.faults, error),
+        }
+        answer
+    }
+
+    fn flush(&mut self) -> io::Result<()>
+        ensures bytes { Keeps (W.contents (inner_of self.old)) (W.contents (inner_of self.new)) }
+        ensures asks { self.new.asks ≡ counted self.old.asks }
+        ensures faults { CountsErrors self.old.faults self.new.faults result }
+        ensures ended { self.new.ended ≡ self.old.ended }
+        ensures flushed { IsTrue self.new.flushed ↔ IsOk result }
+    {
+        self.asks = self.asks.saturating_add(1);
+        let answer = self.inner.flush();
+        self.flushed = answer.is_ok();
+        if let Err(error) = &answer {
+            self.faults = count_error(self.faults, error);
+        }
+        answer
+    }
+}

@@ -1,0 +1,141 @@
+//! The text that a reader gives, within a limit.
+ghost use Rattle.std.specs.Prelude.{◌≡◌, ℕ, ◌+◌, ◌<◌, ◌≤◌, ◌⊎◌, ◌++◌, List, length, take, max, vec_len, IsTrue, IfOk, OnOk, OnErr, IfSome, IfNone, IsErrOf};
+ghost use Rattle.metered_io.specs.Metered.{counted, Gives, GivesNone, HasGivenAll};
+
+use crate::meters::{Metered, is_interrupted};
+use std::alloc::Global;
+use std::io::Read;
+use thiserror::Error;
+
+/// The most asks of a reader.
+const READER_ASKS: u64 = 2_097_152;
+
+/// How many octets one read may give.
+const PIECE_OCTETS: usize = 8192;
+
+/// Why there is no text.
+#[derive(Clone, Copy, Debug, PartialEq, Eq, Error)]
+pub enum ReadFault {
+    /// The reader failed other than by `Interrupted`, or was asked too often.
+    #[error("read fault")]
+    Failed,
+    /// The text has more octets than the limit.
+    #[error("text too long")]
+    TooLong,
+    /// Memory ran out.
+    #[error("out of memory")]
+    Memory,
+}
+
+/// One read: how many octets it gave, or none where it is to be asked again.
+fn ask<R: Read>(reader: &mut Metered<R>, buffer: &mut [u8]) -> Result<Option<usize>, ReadFault>
+    ensures asks { reader.new.asks ≡ counted reader.old.asks }
+    ensures fault { IsErrOf result ReadFault.Failed → reader.new.faults ≡ counted reader.old.faults }
+    ensures only_failed { OnErr result (IsErrOf result ReadFault.Failed) }
+    ensures no_fault { OnOk result (reader.new.faults ≡ reader.old.faults) }
+    ensures bound { IfOk result (λ o. IfSome o (λ n. n ≤ length buffer.new)) }
+    ensures octets { IfOk result (λ o. IfSome o (λ n.
+        Gives R.remaining reader.old reader.new (take n buffer.new))) }
+    ensures end { IfOk result (λ o. IfSome o (λ n. n ≡ 0 → 0 < length buffer.old
+        → HasGivenAll R.remaining reader.new × IsTrue reader.new.ended)) }
+    ensures again { IfOk result (λ o. IfNone o (GivesNone R.remaining reader.old reader.new)) }
+    ensures err { OnErr result (GivesNone R.remaining reader.old reader.new) }
+{
+    match reader.read(buffer) {
+        Ok(count) => Ok(Some(count)),
+        Err(error) => {
+            if is_interrupted(&error) {
+                Ok(None)
+            } else {
+                Err(ReadFault::Failed)
+            }
+        }
+    }
+}
+
+/// One read, of no more than is needed to see that a text is too long, put behind the text. Says whether the
+/// reader has ended.
+fn read_piece<R: Read>(
+    reader: &mut Metered<R>,
+    buffer: &mut [u8],
+    text: &mut Vec<u8>,
+    most: usize,
+) -> Result<bool, ReadFault>
+    requires room { 0 < length buffer.old }
+    requires short { vec_len text.old ≤ most }
+    ensures asks { reader.new.asks ≡ counted reader.old.asks }
+    ensures fault { IsErrOf result ReadFault.Failed → reader.new.faults ≡ counted reader.old.faults }
+    ensures no_fault { IsErrOf result ReadFault.Failed ⊎ (reader.new.faults ≡ reader.old.faults) }
+    ensures short { OnOk result (vec_len text.new ≤ most) }
+    ensures octets { OnOk result ((octets : List ℕ) × (text.new.items ≡ text.old.items ++ octets)
+        × Gives R.remaining reader.old reader.new octets) }
+    ensures end { IfOk result (λ ended. IsTrue ended
+        → HasGivenAll R.remaining reader.new × IsTrue reader.new.ended) }
+    ensures too_long { IsErrOf result ReadFault.TooLong → ((octets : List ℕ)
+        × (length (text.old.items ++ octets) ≡ most + 1)
+        × Gives R.remaining reader.old reader.new octets) }
+    ensures no_more { OnErr result ((octets : List ℕ) × (length (text.old.items ++ octets) ≤ most + 1)
+        × Gives R.remaining reader.old reader.new octets) }
+{
+    let wanted = buffer.len().min((most - text.len()).saturating_add(1));
+    let piece = &mut buffer[..wanted];
+    match ask(reader, piece)? {
+        None => Ok(false),
+        Some(0) => Ok(true),
+        Some(count) => {
+            append(text, &piece[..count], most)?;
+            Ok(false)
+        }
+    }
+}
+
+/// Puts octets behind the text.
+fn append(text: &mut Vec<u8>, octets: &[u8], most: usize) -> Result<(), ReadFault>
+    requires short { vec_len text.old ≤ most }
+    requires wanted { vec_len text.old + length octets.now ≤ most + 1 }
+    ensures ok { OnOk result ((vec_len text.new ≤ most) × (text.new.items ≡ text.old.items ++ octets.now)) }
+    ensures too_long { IsErrOf result ReadFault.TooLong → length (text.old.items ++ octets.now) ≡ most + 1 }
+    ensures not_failed { IsErrOf result ReadFault.Failed → ⊥ }
+{
+    if text.extend_from_slice(octets).is_err() {
+        return Err(ReadFault::Memory);
+    }
+    if text.len() > most {
+        return Err(ReadFault::TooLong);
+    }
+    Ok(())
+}
+
+/// The whole text of a reader, of at most `most` octets. The reader is asked again where it answers `Interrupted`,
+/// and is asked until its count of asks is 2,097,152. No more octets are taken of it than one above `most`.
+///
+/// # Errors
+///
+/// `Failed` at another error and at that count; `TooLong` where one octet more than `most` came; `Memory` where it
+/// ran out.
+pub fn read_whole<R: Read>(
+    alloc: Global,
+    reader: &mut Metered<R>,
+    most: usize,
+) -> Result<Vec<u8>, ReadFault>
+    ensures octets { IfOk result (λ text. Gives R.remaining reader.old reader.new text.items) }
+    ensures end { OnOk result (HasGivenAll R.remaining reader.new × IsTrue reader.new.ended) }
+    ensures short { IfOk result (λ text. vec_len text ≤ most) }
+    ensures too_long { IsErrOf result ReadFault.TooLong → ((octets : List ℕ) × (length octets ≡ most + 1)
+        × Gives R.remaining reader.old reader.new octets) }
+    ensures no_more { OnErr result ((octets : List ℕ) × (length octets ≤ most + 1)
+        × Gives R.remaining reader.old reader.new octets) }
+    ensures asks { reader.new.asks ≤ max reader.old.asks 2097152 }
+    ensures fault { IsErrOf result ReadFault.Failed
+        → (reader.new.faults ≡ counted reader.old.faults) ⊎ (2097152 ≤ reader.new.asks) }
+    ensures no_fault { IsErrOf result ReadFault.Failed ⊎ (reader.new.faults ≡ reader.old.faults) }
+{
+    let mut text = Vec::new(alloc);
+    let mut buffer = [0; PIECE_OCTETS];
+    while reader.asks < READER_ASKS {
+        if read_piece(reader, &mut buffer, &mut text, most)? {
+            return Ok(text);
+        }
+    }
+    Err(ReadFault::Failed)
+}

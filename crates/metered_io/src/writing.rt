@@ -1,0 +1,91 @@
+//! What goes to a writer, all of it or a front of it.
+ghost use Rattle.std.specs.Prelude.{◌≡◌, ℕ, ◌+◌, ◌<◌, ◌≤◌, ◌⊎◌, ◌++◌, List, length, take, max, IsTrue, IfOk, OnOk, OnErr};
+ghost use Rattle.metered_io.specs.Metered.{counted, Takes, TakesNone};
+ghost use Rattle.metered_io.specs.Sent.{SendsFront};
+
+use crate::meters::{Metered, is_interrupted};
+use std::io::Write;
+use thiserror::Error;
+
+/// The most asks of a writer, beside one for each octet.
+const WRITER_ASKS: u64 = 2_097_152;
+
+/// The writer failed other than by `Interrupted`, took none of some octets, or was asked too often.
+#[derive(Debug, Drop, Error)]
+#[error("write fault")]
+pub struct WriteFault;
+
+/// One write of some octets: how many went out, none where the writer is to be asked again.
+fn write_piece<W: Write>(writer: &mut Metered<W>, octets: &[u8]) -> Result<usize, WriteFault>
+    requires some { 0 < length octets.now }
+    ensures asks { writer.new.asks ≡ counted writer.old.asks }
+    ensures fault { OnErr result (writer.new.faults ≡ counted writer.old.faults) }
+    ensures no_fault { OnOk result (writer.new.faults ≡ writer.old.faults) }
+    ensures bound { IfOk result (λ n. n ≤ length octets.now) }
+    ensures octets { IfOk result (λ n. Takes W.contents writer.old writer.new (take n octets.now)) }
+    ensures err { OnErr result (TakesNone W.contents writer.old writer.new) }
+{
+    match writer.write(octets) {
+        Ok(0) => Err(WriteFault),
+        Ok(count) => Ok(count),
+        Err(error) => {
+            if is_interrupted(&error) {
+                Ok(0)
+            } else {
+                Err(WriteFault)
+            }
+        }
+    }
+}
+
+/// One flush. Says whether it was answered, and not to be asked for again.
+fn flush_once<W: Write>(writer: &mut Metered<W>) -> Result<bool, WriteFault>
+    ensures asks { writer.new.asks ≡ counted writer.old.asks }
+    ensures fault { OnErr result (writer.new.faults ≡ counted writer.old.faults) }
+    ensures no_fault { OnOk result (writer.new.faults ≡ writer.old.faults) }
+    ensures flushed { IfOk result (λ done. IsTrue done → IsTrue writer.new.flushed) }
+    ensures octets { TakesNone W.contents writer.old writer.new }
+{
+    match writer.flush() {
+        Ok(()) => Ok(true),
+        Err(error) => {
+            if is_interrupted(&error) {
+                Ok(false)
+            } else {
+                Err(WriteFault)
+            }
+        }
+    }
+}
+
+/// Writes all the octets and flushes the writer, which is asked again where it answers `Interrupted`. It is asked
+/// until its count of asks is 2,097,152 above the number of the octets.
+///
+/// # Errors
+///
+/// `WriteFault` at another error, at a write of none of some octets, and at that count. A front of the octets went
+/// out then.
+pub fn write_whole<W: Write>(writer: &mut Metered<W>, octets: &[u8]) -> Result<(), WriteFault>
+    ensures octets { OnOk result (Takes W.contents writer.old writer.new octets.now) }
+    ensures flushed { OnOk result (IsTrue writer.new.flushed) }
+    ensures front { OnErr result ((rest : List ℕ)
+        × SendsFront W.contents writer.old writer.new octets.now rest) }
+    ensures asks { writer.new.asks ≤ max writer.old.asks (length octets.now + 2097152) }
+    ensures fault { OnErr result ((writer.new.faults ≡ counted writer.old.faults)
+        ⊎ (length octets.now + 2097152 ≤ writer.new.asks)) }
+    ensures no_fault { OnOk result (writer.new.faults ≡ writer.old.faults) }
+{
+    let most = octets.len() as u64 + WRITER_ASKS;
+    let mut rest = octets;
+    while writer.asks < most {
+        if rest.is_empty() {
+            if flush_once(writer)? {
+                return Ok(());
+            }
+        } else {
+            let count = write_piece(writer, rest)?;
+            rest = rest.split_at(count).1;
+        }
+    }
+    Err(WriteFault)
+}

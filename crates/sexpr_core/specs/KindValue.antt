@@ -1,0 +1,9 @@
+-- The value that a reader of a node sees.
+use Rattle.std.specs.Option.{option_copied}
+use Rattle.sexpr_core.specs.declared.handle.NodeKind.{NodeKind}
+use Rattle.sexpr_core.specs.declared.handle.NodeKind.TheVariants.{String, List as Group}
+use Rattle.sexpr_core.specs.Value.{Value, string, group}
+
+abbrev pub kind_value : NodeKind → Value
+kind_value (String hint body) = string (option_copied hint) body.now
+kind_value (Group ms) = group ms

@@ -1,0 +1,69 @@
+-- How a case is built of its parts.
+use Rattle.std.proofs.Common.{◌≡◌, ◌≢◌, ℕ, List, [], ◌∷◌, Option, Some, None, MatchOption, refl, sym, ap, ◌∙◌}
+use Rattle.std.specs.Prelude.{codes}
+use Rattle.sexpr_core.specs.Value.{Value, string, list, none, more, members, plain}
+use Rattle.sexpr_core.specs.Labels.{members-values}
+use Rattle.spki_case.specs.CaseForm as spec
+use Rattle.spki_cert.specs.declared.principal.Policy.{Policy}
+use Rattle.spki_cert.specs.declared.principal.Policy.TheVariants.{Open, Strict}
+use Rattle.spki_case.specs.CaseForm.{headed, part_values, case_value, policy_values}
+use Rattle.spki_case.specs.Parts.{IsPart, ArePartsOf}
+use Rattle.spki_case.specs.declared.parts.Parts.{Parts}
+use Rattle.spki_case.specs.declared.parts.Part.{Part}
+
+abbrev behind : Value → List Value
+behind (string hint octets) = []
+behind (list none) = []
+behind (list (more head others)) = members others
+
+-- two lists with one head have the same members behind it
+pub behind_head : (word : List ℕ) (xs ys : List Value) → headed word xs ≡ headed word ys → xs ≡ ys
+behind_head word xs ys e = sym (members-values xs) ∙ ap behind e ∙ members-values ys
+
+abbrev first_or : Value → List Value → Value
+first_or v [] = v
+first_or v (x ∷ xs) = x
+
+abbrev others : List Value → List Value
+others [] = []
+others (x ∷ xs) = xs
+
+-- what stands behind a part
+pub after : (vs : List Value) (word : List ℕ) (p : Part) (y : Value) (ys : List Value) → IsPart vs word p → vs ≡ y ∷ ys → p.rest ≡ ys
+after vs word p y ys part e = ap others (sym part.parts ∙ e)
+
+-- what stands in it
+pub inside : (vs : List Value) (word : List ℕ) (p : Part) (inner ys : List Value) → IsPart vs word p → vs ≡ headed word inner ∷ ys → p.members ≡ inner
+inside vs word p inner ys part e =
+    behind_head word p.members inner (sym part.written ∙ ap (first_or (plain [])) (sym part.parts ∙ e))
+
+-- a part and what stands behind it
+pub joined : (vs : List Value) (word : List ℕ) (p : Part) (inner ys : List Value) → IsPart vs word p → p.members ≡ inner → p.rest ≡ ys → vs ≡ headed word inner ∷ ys
+joined vs word p inner ys part m r = part.parts ∙ rw (part.written, m, r) refl
+
+-- the parts behind a head are those of the value
+pub lifted : (v : Value) (ms : List Value) (r : Option Parts) → v ≡ headed (codes "case") ms
+    → MatchOption r ((p : spec.Parts) → ms ≢ part_values p) (λ p. (parts : spec.Parts) × ArePartsOf ms p parts)
+    → MatchOption r ((p : spec.Parts) → v ≢ case_value p) (λ p. (parts : spec.Parts) × (v ≡ case_value parts) × ArePartsOf (part_values parts) p parts)
+lifted v ms None e h = λ p k. h p (behind_head (codes "case") ms (part_values p) (sym e ∙ k))
+lifted v ms (Some p) e h =
+    let a = h.1 in
+    (h.0, e ∙ ap (headed (codes "case")) a.written, record { written = refl; acl = a.acl; rows = a.rows; sequence = a.sequence; key = a.key; request = a.request; at = a.at; policy = a.policy })
+
+-- ---- the policy
+
+-- one member that isn't headed policy
+pub no_policy : (ms : List Value) (v : Value) → ms ≡ v ∷ [] → ((rest : List Value) → v ≢ headed (codes "policy") rest)
+    → (policy : Policy) → ms ≢ policy_values policy
+no_policy ms v e unlike Open h = let k : v ∷ [] ≡ [] = sym e ∙ h in cc
+no_policy ms v e unlike Strict h =
+    let k : v ∷ [] ≡ headed (codes "policy") (plain (codes "strict") ∷ []) ∷ [] = sym e ∙ h in
+    unlike (plain (codes "strict") ∷ []) (ap (first_or v) k)
+
+-- one that is, and names another policy
+pub other_policy : (ms : List Value) (v : Value) (inner : List Value) → ms ≡ v ∷ [] → v ≡ headed (codes "policy") inner
+    → inner ≢ plain (codes "strict") ∷ [] → (policy : Policy) → ms ≢ policy_values policy
+other_policy ms v inner e w unlike Open h = let k : v ∷ [] ≡ [] = sym e ∙ h in cc
+other_policy ms v inner e w unlike Strict h =
+    let k : v ∷ [] ≡ headed (codes "policy") (plain (codes "strict") ∷ []) ∷ [] = sym e ∙ h in
+    unlike (behind_head (codes "policy") inner (plain (codes "strict") ∷ []) (sym w ∙ ap (first_or v) k))

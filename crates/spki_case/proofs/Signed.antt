@@ -1,0 +1,69 @@
+-- In a sequence each certificate is followed by its signature.
+use Rattle.std.proofs.Common.{◌≡◌, ℕ, suc, List, [], ◌∷◌, Bool, true, false, ◌&&◌, refl, sym, ap, ◌∙◌, inl, inr}
+use Rattle.std.specs.Prelude.{◌⊎◌, codes, IsSome, is_some}
+use Rattle.std.specs.List.{AllZip, list_all}
+use Rattle.sexpr_core.specs.Value.{Value, plain, group}
+use Rattle.spki_cert.specs.declared.certificate.SeqItem.{SeqItem}
+use Rattle.spki_cert.specs.declared.certificate.SeqItem.TheVariants.{Key, DoHash, Auth, Name, Signature}
+use Rattle.spki_cert.specs.Fields.{is_headed}
+use Rattle.spki_cert.specs.Sequences.{ItemOf, waits_behind, waits_after, IsInPlace, AreInPlace, SeqOf}
+use Rattle.spki_case.specs.Sequence.{signature_in, certificates_from, are_signed}
+
+-- where a certificate waits, what is neither do nor signature isn't in place
+stray : (v : Value) → is_headed (codes "do") v ≡ false → is_headed (codes "signature") v ≡ false → IsInPlace true v → ⊥
+stray v d s (inl h) = let clash : false ≡ true = sym d ∙ h in cc
+stray v d s (inr h) = let clash : false ≡ true = sym s ∙ h in cc
+
+late : (v : Value) → is_headed (codes "signature") v ≡ true → IsInPlace false v → ⊥
+late v s h = let clash : true ≡ false = sym s ∙ h in cc
+
+-- a list with a head, of which a test of lists with that head holds
+by_head : (P : Value → Type 0) (v : Value) (word : List ℕ) (rest : List Value) → v ≡ group (plain word ∷ rest)
+    → P (group (plain word ∷ rest)) → P v
+by_head P v word rest e h = rw e h
+
+-- a certificate that waits gets its signature
+pub signature_comes : (vs : List Value) (is : List SeqItem) → AllZip ItemOf vs is → AreInPlace true vs → waits_after true vs ≡ false
+    → IsSome (signature_in is)
+signature_comes [] [] zip placed end = absurd cc
+signature_comes [] (i ∷ is) zip placed end = absurd zip
+signature_comes (v ∷ vs) [] zip placed end = absurd zip
+signature_comes (v ∷ vs) (Key octets ∷ is) zip placed end =
+    let e = zip.0.written in
+    absurd (stray v (rw e refl) (rw e refl) placed.0)
+signature_comes (v ∷ vs) (DoHash alg ∷ is) zip placed end =
+    let e = zip.0 in
+    let waits : waits_behind true v ≡ true = rw e refl in
+    signature_comes vs is zip.1 (rw waits at placed.1) (rw waits at end)
+signature_comes (v ∷ vs) (Auth c ∷ is) zip placed end =
+    let e = zip.0.written in
+    absurd (stray v (rw e refl) (rw e refl) placed.0)
+signature_comes (v ∷ vs) (Name c ∷ is) zip placed end =
+    let e = zip.0.written in
+    absurd (stray v (rw e refl) (rw e refl) placed.0)
+signature_comes (v ∷ vs) (Signature s ∷ is) zip placed end = refl
+
+both : (a b : Bool) → a ≡ true → b ≡ true → (a && b) ≡ true
+both a b h k = rw (h, k) refl
+
+pub each_signed : (n : ℕ) (waits : Bool) (vs : List Value) (is : List SeqItem) → AllZip ItemOf vs is → AreInPlace waits vs
+    → waits_after waits vs ≡ false → list_all (λ s. is_some s.signature) (certificates_from n is) ≡ true
+each_signed n waits [] [] zip placed end = refl
+each_signed n waits [] (i ∷ is) zip placed end = absurd zip
+each_signed n waits (v ∷ vs) [] zip placed end = absurd zip
+each_signed n waits (v ∷ vs) (Key octets ∷ is) zip placed end = each_signed (suc n) (waits_behind waits v) vs is zip.1 placed.1 end
+each_signed n waits (v ∷ vs) (DoHash alg ∷ is) zip placed end = each_signed (suc n) (waits_behind waits v) vs is zip.1 placed.1 end
+each_signed n waits (v ∷ vs) (Auth c ∷ is) zip placed end =
+    let e = zip.0.written in
+    let now : waits_behind waits v ≡ true = rw e refl in
+    both _ _ (signature_comes vs is zip.1 (rw now at placed.1) (rw now at end))
+    (each_signed (suc n) (waits_behind waits v) vs is zip.1 placed.1 end)
+each_signed n waits (v ∷ vs) (Name c ∷ is) zip placed end =
+    let e = zip.0.written in
+    let now : waits_behind waits v ≡ true = rw e refl in
+    both _ _ (signature_comes vs is zip.1 (rw now at placed.1) (rw now at end))
+    (each_signed (suc n) (waits_behind waits v) vs is zip.1 placed.1 end)
+each_signed n waits (v ∷ vs) (Signature s ∷ is) zip placed end = each_signed (suc n) (waits_behind waits v) vs is zip.1 placed.1 end
+
+pub signed : (v : Value) (is : List SeqItem) → SeqOf v is → are_signed is ≡ true
+signed v is s = each_signed 1 false s.values is s.each s.in_place s.all_signed

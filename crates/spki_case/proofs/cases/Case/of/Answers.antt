@@ -1,0 +1,94 @@
+use Rattle.std.proofs.Common.{◌≡◌, ◌≢◌, [], List, refl, sym, subst, ◌∙◌, rules, inr}
+use Rattle.sexpr_core.specs.Value.{Value}
+use Rattle.spki_cert.specs.declared.fault.CertFaultKind.TheVariants as kinds
+use Rattle.spki_cert.specs.Entries.{AclRefused}
+use Rattle.spki_cert.specs.Sequences.{SeqOf, SeqRefused}
+use Rattle.spki_cert.proofs.EntryLaws.{refused-acl}
+use Rattle.spki_cert.proofs.SeqLaws.{refused-sequence}
+use Rattle.spki_case.specs.CaseForm.{Parts, acl_value, sequence_value, ReadsAcl, ReadsRows, ReadsItems, ReadsKey, ReadsRequest}
+use Rattle.spki_case.specs.Rows.{RowsRefused}
+use Rattle.spki_case.proofs.Lacking.{lacks}
+use Rattle.spki_case.proofs.RowLaws.{no_rows_at}
+use Rattle.spki_case.proofs.Signed.{signed}
+use Rattle.spki_case.proofs.cases.Case.of.Goals as goal
+
+pub returns-in-Err-clause-refused : goal.returns-in-Err-clause-refused
+returns-in-Err-clause-refused c =
+    let h = c.in-Some.ensures in
+    let parts : Parts = h.0 in
+    lacks c.args.node.now parts _ _ c.acl_fault.result h.1 c.acl_fault.ensures (λ known.
+    let refused : AclRefused (acl_value parts) c.in-Err.fault = subst (λ (v : Value). AclRefused v c.in-Err.fault) h.2.acl (c.in-Err.ensures.refused known) in
+    record { found = known; refused = refused; none = refused-acl (acl_value parts) c.in-Err.fault refused })
+
+pub returns-in-Err-rows_of-clause-refused : goal.returns-in-Err-rows_of-clause-refused
+returns-in-Err-rows_of-clause-refused c =
+    let h = c.in-Some.ensures in
+    let parts : Parts = h.0 in
+    let reads : ReadsAcl parts = search rules in
+    lacks c.args.node.now parts _ _ c.rows_fault.result h.1 c.rows_fault.ensures (λ known.
+    let refused : RowsRefused parts.rows c.in-Err-rows_of.fault =
+    subst (λ (vs : List Value). RowsRefused vs c.in-Err-rows_of.fault) h.2.rows (c.in-Err-rows_of.ensures.refused known) in
+    record { before = reads; refused = refused; none = no_rows_at parts.rows c.in-Err-rows_of.fault refused })
+
+pub returns-in-Err-sequence_of-clause-refused : goal.returns-in-Err-sequence_of-clause-refused
+returns-in-Err-sequence_of-clause-refused c =
+    let h = c.in-Some.ensures in
+    let parts : Parts = h.0 in
+    let reads : ReadsRows parts = search rules in
+    lacks c.args.node.now parts _ _ c.sequence_fault.result h.1 c.sequence_fault.ensures (λ known.
+    let refused : SeqRefused (sequence_value parts) c.in-Err-sequence_of.fault =
+    subst (λ (v : Value). SeqRefused v c.in-Err-sequence_of.fault) h.2.sequence (c.in-Err-sequence_of.ensures.refused known) in
+    record {
+      before = reads;
+      found = known;
+      refused = refused;
+      none = refused-sequence (sequence_value parts) c.in-Err-sequence_of.fault refused;
+    })
+
+pub returns-in-Err-key_of-clause-refused : goal.returns-in-Err-key_of-clause-refused
+returns-in-Err-key_of-clause-refused c =
+    let h = c.in-Some.ensures in
+    let parts : Parts = h.0 in
+    let reads : ReadsItems parts = search rules in
+    let found : c.outer_fault.result.kind ≢ kinds.Memory = rw c.outer_fault.ensures c.in-Err-key_of.ensures.fault in
+    λ other. inr (record {
+      parts = parts;
+      written = h.1;
+      refused = record {
+        before = reads;
+        outer = rw c.outer_fault.ensures refl;
+        found = found;
+        shows = (let shown = rw h.2.key at c.in-Err-key_of.ensures.shown in rw c.outer_fault.ensures shown);
+        none = λ key e. c.in-Err-key_of.ensures.refused key (rw h.2.key e);
+      };
+    })
+
+pub returns-in-Err-of-clause-refused : goal.returns-in-Err-of-clause-refused
+returns-in-Err-of-clause-refused c =
+    let h = c.in-Some.ensures in
+    let parts : Parts = h.0 in
+    let reads : ReadsKey parts = search rules in
+    lacks c.args.node.now parts _ _ c.request_fault.result h.1 c.request_fault.ensures (λ known. record {
+      before = reads;
+      found = known;
+      shows = (rw h.2.request at c.in-Err-of.ensures.shows);
+      none = λ g e. known (c.in-Err-of.ensures.refused g e.is_request (e.written ∙ sym h.2.request));
+    })
+
+pub returns-in-Err-date_of-clause-refused : goal.returns-in-Err-date_of-clause-refused
+returns-in-Err-date_of-clause-refused c =
+    let h = c.in-Some.ensures in
+    let parts : Parts = h.0 in
+    let reads : ReadsRequest parts = search rules in
+    λ other. inr (record {
+      parts = parts;
+      written = h.1;
+      refused = record {
+        before = reads;
+        no_date = rw (c.outer_fault-in-Err-date_of.ensures, c.in-Err-date_of.ensures.fault) refl;
+        none = λ date e. c.in-Err-date_of.ensures.refused date (rw h.2.at e);
+      };
+    })
+
+pub invariant_of-result : goal.invariant_of-result
+invariant_of-result c = record { signed = signed c.in-Some.parts.sequence c.in-Ok-sequence_of.items.items c.in-Ok-sequence_of.ensures.sequence }

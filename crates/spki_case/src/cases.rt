@@ -1,0 +1,186 @@
+//! Cases: an access list, what was accepted, what was shown, and what is asked.
+
+ghost use Rattle.std.specs.Prelude.{◌≡◌, ◌≢◌, IfOk, IfErr};
+ghost use Rattle.spki_case.specs.CaseForm.{CaseOf, ValueRefused, IsCaseText, TextRefused};
+ghost use Rattle.spki_case.specs.Sequence.{AreSigned};
+ghost use Rattle.spki_case.specs.Texts.{IsOuter};
+
+use crate::parts::parts_of;
+use crate::rows::rows_of;
+use crate::verifying::AcceptedTable;
+use sexpr_core::reading::Node;
+use sexpr_core::{Doc, FormFault};
+use spki_cert::{
+    CertFault, CertFaultKind, Date, Entry, Key, Policy, SeqItem, acl_of, date_of, key_of,
+    sequence_of,
+};
+use spki_tag::{Ground, TagFault};
+use std::alloc::Global;
+use thiserror::Error;
+
+/// Why a text is no case. The parts are read in the order of the variants, and the first that has no reading is named.
+#[derive(Clone, Copy, Debug, PartialEq, Eq, Error)]
+pub enum CaseFault {
+    /// The text is no canonical form within the limits.
+    #[error("form: {0}")]
+    Form(FormFault),
+    /// The value isn't built as a case: the number of its members, their heads, and the one member behind `key`,
+    /// `request` and `at`.
+    #[error("not built as a case")]
+    Shape,
+    /// The access list; the fault's item is the entry, from 1.
+    #[error("access list: {0}")]
+    Acl(CertFault),
+    /// The accepted list; the fault's item is the row, from 1.
+    #[error("accepted list: {0}")]
+    Accepted(CertFault),
+    /// The sequence; the fault's item is that of the sequence, from 1.
+    #[error("sequence: {0}")]
+    Sequence(CertFault),
+    /// The key; the fault's item is 0.
+    #[error("key: {0}")]
+    Key(CertFault),
+    /// The request.
+    #[error("request: {0}")]
+    Request(TagFault),
+    /// The moment; the fault's item is 0.
+    #[error("moment: {0}")]
+    At(CertFault),
+    /// Memory was refused.
+    #[error("out of memory")]
+    Memory,
+}
+
+/// A case.
+#[derive(Drop)]
+pub struct Case<'a> {
+    /// The access list: what the keeper of the service gives to whom.
+    pub acl: Vec<Entry<'a>>,
+    /// The signatures that another tool has verified.
+    pub accepted: AcceptedTable<'a>,
+    /// The certificates that are shown, with their signatures and the keys that they need.
+    pub sequence: Vec<SeqItem<'a>>,
+    /// The key that asks.
+    pub key: Key<'a>,
+    /// What it asks for.
+    pub request: Ground,
+    /// When.
+    pub moment: Date,
+    /// Which hashes name keys.
+    pub policy: Policy,
+    /// Each certificate is followed by its signature.
+    ghost signed: { AreSigned sequence.items },
+}
+
+impl<'a> Case<'a> {
+    ghost use Rattle.spki_case.specs.View.{model};
+
+    /// Reads a case in canonical form.
+    ///
+    /// # Errors
+    ///
+    /// `Form` where the text is no canonical form within the limits, `Shape` where the value isn't built as a case, and
+    /// else the first part, in the order of `CaseFault`, that has no reading. `Memory` where memory was refused.
+    pub fn read(alloc: Global, text: &'a [u8]) -> Result<Case<'a>, CaseFault>
+        ensures read { IfOk result (λ c. IsCaseText text.entry.now (model c)) }
+        ensures refused { IfErr result (λ fault. fault ≢ CaseFault.Memory → TextRefused text.entry.now fault) }
+    {
+        match Doc::open(alloc, text) {
+            Ok(document) => Case::of(alloc, &document.top()),
+            Err(FormFault::Memory) => Err(CaseFault::Memory),
+            Err(fault) => Err(CaseFault::Form(fault)),
+        }
+    }
+
+    /// The case that a node is.
+    fn of(alloc: Global, node: &Node<'_, 'a>) -> Result<Case<'a>, CaseFault>
+        ensures read { IfOk result (λ c. CaseOf node.now (model c)) }
+        ensures refused { IfErr result (λ fault. fault ≢ CaseFault.Memory → ValueRefused node.now fault) }
+    {
+        let Some(parts) = parts_of(node) else {
+            return Err(CaseFault::Shape);
+        };
+        let acl = match acl_of(alloc, &parts.acl) {
+            Ok(acl) => acl,
+            Err(fault) => return Err(acl_fault(fault)),
+        };
+        let rows = match rows_of(alloc, parts.rows) {
+            Ok(rows) => rows,
+            Err(fault) => return Err(rows_fault(fault)),
+        };
+        let sequence = match sequence_of(alloc, &parts.sequence) {
+            Ok(items) => items,
+            Err(fault) => return Err(sequence_fault(fault)),
+        };
+        let key = match key_of(&parts.key) {
+            Ok(key) => key,
+            Err(kind) => return Err(CaseFault::Key(outer_fault(kind))),
+        };
+        let request = match Ground::of(alloc, &parts.request) {
+            Ok(request) => request,
+            Err(fault) => return Err(request_fault(fault)),
+        };
+        let moment = match date_of(&parts.at) {
+            Ok(moment) => moment,
+            Err(kind) => return Err(CaseFault::At(outer_fault(kind))),
+        };
+        Ok(Case {
+            acl,
+            accepted: AcceptedTable { rows },
+            sequence,
+            key,
+            request,
+            moment,
+            policy: parts.policy,
+        })
+    }
+
+    /// What another tool has verified, as a verifier.
+    pub fn accepted(&self) -> &AcceptedTable<'a>
+        ensures { result.now ≡ self.now.accepted }
+    {
+        &self.accepted
+    }
+}
+
+fn outer_fault(kind: CertFaultKind) -> CertFault
+    ensures { result ≡ record { item = 0; kind = kind } }
+{
+    CertFault { item: 0, kind }
+}
+
+fn acl_fault(fault: CertFault) -> CaseFault
+    ensures { IsOuter (fault.kind ≡ CertFaultKind.Memory) CaseFault.Memory (CaseFault.Acl fault) result }
+{
+    match fault.kind {
+        CertFaultKind::Memory => CaseFault::Memory,
+        _ => CaseFault::Acl(fault),
+    }
+}
+
+fn rows_fault(fault: CertFault) -> CaseFault
+    ensures { IsOuter (fault.kind ≡ CertFaultKind.Memory) CaseFault.Memory (CaseFault.Accepted fault) result }
+{
+    match fault.kind {
+        CertFaultKind::Memory => CaseFault::Memory,
+        _ => CaseFault::Accepted(fault),
+    }
+}
+
+fn sequence_fault(fault: CertFault) -> CaseFault
+    ensures { IsOuter (fault.kind ≡ CertFaultKind.Memory) CaseFault.Memory (CaseFault.Sequence fault) result }
+{
+    match fault.kind {
+        CertFaultKind::Memory => CaseFault::Memory,
+        _ => CaseFault::Sequence(fault),
+    }
+}
+
+fn request_fault(fault: TagFault) -> CaseFault
+    ensures { IsOuter (fault ≡ TagFault.Memory) CaseFault.Memory (CaseFault.Request fault) result }
+{
+    match fault {
+        TagFault::Memory => CaseFault::Memory,
+        _ => CaseFault::Request(fault),
+    }
+}

@@ -1,0 +1,10 @@
+//! Cases: what is to be decided, and by what.
+#![tactic(auto)]
+
+mod cases;
+mod parts;
+mod rows;
+mod verifying;
+
+pub use cases::{Case, CaseFault};
+pub use verifying::{AcceptedTable, Row, Verifier};

@@ -1,0 +1,112 @@
+//! The parts of a case.
+
+ghost use Rattle.std.specs.Prelude.{◌≡◌, ◌≢◌, ◌∷◌, [], MatchOption, MatchBool};
+ghost use Rattle.sexpr_core.specs.Value.{Value, plain};
+ghost use Rattle.spki_cert.specs.declared.principal.Policy.{Policy};
+ghost use Rattle.spki_case.specs.CaseForm as spec;
+ghost use Rattle.spki_case.specs.CaseForm.{case_value, part_values, policy_values};
+ghost use Rattle.spki_case.specs.Parts.{IsPart, IsNoPart, ArePartsOf};
+
+use sexpr_core::reading::{Members, Node};
+use spki_cert::Policy;
+
+/// The parts of a case, behind their heads; the access list and the sequence stand with theirs.
+#[derive(Drop)]
+pub(crate) struct Parts<'d, 'a> {
+    pub acl: Node<'d, 'a>,
+    pub rows: Members<'d, 'a>,
+    pub sequence: Node<'d, 'a>,
+    pub key: Node<'d, 'a>,
+    pub request: Node<'d, 'a>,
+    pub at: Node<'d, 'a>,
+    pub policy: Policy,
+}
+
+/// A member that is a list with this head: the member, what stands behind its head, and the members behind it.
+#[derive(Drop)]
+struct Part<'d, 'a> {
+    node: Node<'d, 'a>,
+    members: Members<'d, 'a>,
+    rest: Members<'d, 'a>,
+}
+
+fn take_part<'d, 'a>(members: Members<'d, 'a>, word: &[u8]) -> Option<Part<'d, 'a>>
+    ensures { MatchOption result (IsNoPart members.entry word.now) (IsPart members.entry word.now) }
+{
+    let (node, rest) = members.split_first()?;
+    let members = node.headed(word)?;
+    Some(Part {
+        node,
+        members,
+        rest,
+    })
+}
+
+/// The one member.
+fn sole<'d, 'a>(members: Members<'d, 'a>) -> Option<Node<'d, 'a>>
+    ensures { MatchOption result ((v : Value) → members.entry ≢ v ∷ []) (λ v. members.entry ≡ v ∷ []) }
+{
+    let (only, rest) = members.split_first()?;
+    if rest.is_empty() { Some(only) } else { None }
+}
+
+/// Whether the one member is the word.
+fn is_word(members: Members, word: &[u8]) -> bool
+    ensures { MatchBool result (members.entry ≡ plain word.now ∷ []) (members.entry ≢ plain word.now ∷ []) }
+{
+    let Some(only) = sole(members) else {
+        return false;
+    };
+    match only.plain_octets() {
+        None => false,
+        Some(octets) => octets == word,
+    }
+}
+
+/// What stands behind the moment: `(policy strict)`, or nothing for the open policy.
+fn policy_in(members: Members) -> Option<Policy>
+    ensures { MatchOption result ((policy : Policy) → members.entry ≢ policy_values policy)
+        (λ policy. members.entry ≡ policy_values policy) }
+{
+    if members.is_empty() {
+        return Some(Policy::Open);
+    }
+    let only = sole(members)?;
+    let strict = only.headed(b"policy")?;
+    if is_word(strict, b"strict") {
+        Some(Policy::Strict)
+    } else {
+        None
+    }
+}
+
+/// A value's parts, if it is built as a case.
+pub(crate) fn parts_of<'d, 'a>(node: &Node<'d, 'a>) -> Option<Parts<'d, 'a>>
+    ensures { MatchOption result ((p : spec.Parts) → node.now ≢ case_value p)
+        (λ p. (parts : spec.Parts) × (node.now ≡ case_value parts) × ArePartsOf (part_values parts) p parts) }
+{
+    parts_in(node.headed(b"case")?)
+}
+
+/// The parts that stand behind the head of a case.
+fn parts_in<'d, 'a>(members: Members<'d, 'a>) -> Option<Parts<'d, 'a>>
+    ensures { MatchOption result ((p : spec.Parts) → members.entry ≢ part_values p)
+        (λ p. (parts : spec.Parts) × ArePartsOf members.entry p parts) }
+{
+    let acl = take_part(members, b"acl")?;
+    let accepted = take_part(acl.rest, b"accepted")?;
+    let sequence = take_part(accepted.rest, b"sequence")?;
+    let key = take_part(sequence.rest, b"key")?;
+    let request = take_part(key.rest, b"request")?;
+    let at = take_part(request.rest, b"at")?;
+    let policy = policy_in(at.rest)?;
+    Some(Parts {
+        acl: acl.node,
+        rows: accepted.members,
+        sequence: sequence.node,
+        key: sole(key.members)?,
+        request: sole(request.members)?,
+        at: sole(at.members)?,
+        policy,
+    })
+}

@@ -1,0 +1,83 @@
+//! Who judges signatures.
+
+ghost use Rattle.std.specs.Prelude.{◌≡◌, ◌↔◌, ℕ, List, IsTrue, IsOk, IfOk};
+ghost use Rattle.std.specs.List.{list_any};
+ghost use Rattle.spki_case.specs.Case.{is_row_of};
+ghost use Rattle.sha2.specs.Sha256.{sha256};
+ghost use Rattle.spki_case.specs.View.{row_of, verified_by};
+
+use sha2::{Digest, Sha256};
+use spki_cert::{Key, Octets};
+use std::alloc::{AllocError, Global};
+
+/// Judges signatures: states which values are signatures of a key over a message, and answers that.
+pub trait Verifier {
+    /// Of a key's canonical octets, a message and a value's canonical octets: the value is a signature of the key over
+    /// the message.
+    ghost accepted: { Self → List ℕ → List ℕ → List ℕ → Type 0 };
+
+    /// Whether the value, in canonical form, is a signature of the key over the message.
+    ///
+    /// # Errors
+    ///
+    /// Where memory was refused.
+    fn accepts(
+        &self,
+        alloc: Global,
+        key: &Key,
+        message: &[u8],
+        value: &[u8],
+    ) -> Result<bool, AllocError>
+        ensures { IfOk result (λ yes. IsTrue yes ↔ accepted self.now key.now message.now value.now) };
+}
+
+/// A signature that another tool has verified.
+#[derive(Drop)]
+pub struct Row<'a> {
+    /// The key that signed.
+    pub key: Key<'a>,
+    /// The SHA-256 digest of the message.
+    pub digest: Octets<'a>,
+    /// The signature's value, in canonical form.
+    pub value: Octets<'a>,
+}
+
+/// Signatures that another tool has verified. As a verifier it accepts these and no others.
+#[derive(Drop)]
+pub struct AcceptedTable<'a> {
+    /// The signatures, in any order.
+    pub rows: Vec<Row<'a>>,
+}
+
+impl<'a> Verifier for AcceptedTable<'a> {
+    ghost accepted = { verified_by };
+
+    fn accepts(
+        &self,
+        _alloc: Global,
+        key: &Key,
+        message: &[u8],
+        value: &[u8],
+    ) -> Result<bool, AllocError>
+        ensures ok { IsOk result }
+        ensures answer { IfOk result (λ yes. IsTrue yes ↔ verified_by self.now key.now message.now value.now) }
+    {
+        Ok(any_accepts(&self.rows, key, message, value))
+    }
+}
+
+/// Whether some row is of this key, this message and this value. The message's digest is taken once for all rows.
+fn any_accepts(rows: &[Row], key: &Key, message: &[u8], value: &[u8]) -> bool
+    ensures { result ≡ list_any (λ row. is_row_of key.now message.now value.now (row_of row)) rows.now }
+{
+    let digest = Sha256::digest(message);
+    rows.iter()
+        .any(|row| row_accepts(row, key, digest.as_slice(), value))
+}
+
+/// Whether the row is of this key, of a message with this SHA-256 digest, and of this value.
+fn row_accepts(row: &Row, key: &Key, digest: &[u8], value: &[u8]) -> bool
+    ensures { (message : List ℕ) → sha256 message ≡ digest.now → result ≡ is_row_of key.now message value.now (row_of row.now) }
+{
+    row.key.same(key) && digest == row.digest.as_slice() && row.value.as_slice() == value
+}

@@ -1,0 +1,185 @@
+-- What is known of fields that were read one after the other.
+use Rattle.std.proofs.Common.{◌≡◌, ℕ, ◌||◌, Bool, true, false, List, [], ◌∷◌, ◌++◌, Some, None, refl, sym, ap, subst, ◌∙◌, arith}
+use Rattle.std.specs.Prelude.{Contains, codes}
+use Rattle.std.specs.Str.{bytes_eq}
+use Rattle.std.specs.List.{list_any}
+use Rattle.std.proofs.lemmas.List.Folds.{list_any-append}
+use Rattle.sexpr_core.specs.Value.{Value, plain, group}
+use Rattle.sexpr_core.specs.PartOf.{IsPartOf}
+use Rattle.spki_tag.specs.Read.{ReadsAs}
+use Rattle.spki_cert.specs.declared.fields.Known.{Known}
+use Rattle.spki_cert.specs.declared.fields.Place.{Place}
+use Rattle.spki_cert.specs.declared.fields.Place.TheVariants as places
+use Rattle.spki_cert.specs.declared.fields.Said.{Said}
+use Rattle.spki_cert.specs.declared.fields.Said.TheVariants as said
+use Rattle.spki_cert.specs.Readings.{DateOf}
+use Rattle.spki_cert.specs.Fields.{is_headed, contents, Sole, Given, ValidOf, AreFields}
+use Rattle.spki_cert.specs.Gathering.{IssuerAt, WhoAt, Headed, IsSilent, Says, gather, KnownOf, IsFieldOf, is_among, IsNew, AreRead, AreParts}
+use Rattle.spki_cert.proofs.Showing.{contains-middle}
+use Rattle.spki_cert.proofs.Groups.{head-same, headed-by, behind-group}
+use Rattle.spki_cert.proofs.GivenLaws.{each-push, each-at, contents-headed, contents-other, once-before, once-push, given-kept, given-first}
+use Rattle.spki_cert.proofs.FieldLaws.{field-word, cert-word}
+
+-- ---- whether a head was met
+
+none-headed : (word : List ℕ) (xs : List Value) → list_any (is_headed word) xs ≡ false → contents word xs ≡ []
+none-headed word [] e = refl
+none-headed word (x ∷ xs) e = by (none-headed word xs) (is_headed word x) refl
+  where
+    by : (list_any (is_headed word) xs ≡ false → contents word xs ≡ []) → (b : Bool) → is_headed word x ≡ b → contents word (x ∷ xs) ≡ []
+    by below true h = absurd (let f : (true || list_any (is_headed word) xs) ≡ false = ap (λ (b : Bool). b || list_any (is_headed word) xs) (sym h) ∙ e in cc)
+    by below false h = contents-other word x xs h ∙ below (ap (λ (b : Bool). b || list_any (is_headed word) xs) (sym h) ∙ e)
+
+headed-none : (word : List ℕ) (xs : List Value) → contents word xs ≡ [] → list_any (is_headed word) xs ≡ false
+headed-none word [] e = refl
+headed-none word (x ∷ xs) e = by (headed-none word xs) (is_headed word x) refl
+  where
+    by : (contents word xs ≡ [] → list_any (is_headed word) xs ≡ false) → (b : Bool) → is_headed word x ≡ b → list_any (is_headed word) (x ∷ xs) ≡ false
+    by below true h = absurd (let f = sym (contents-headed word x xs h) ∙ e in cc)
+    by below false h = ap (λ (b : Bool). b || list_any (is_headed word) xs) h ∙ below (sym (contents-other word x xs h) ∙ e)
+
+-- the head of a new field wasn't met
+pub new-first : (place : Place) (xs : List Value) (heads : List (List ℕ)) (k : Known) (v : Value) (head : List ℕ) → AreRead place xs heads k → IsNew v heads head
+    → (word : List ℕ) → is_headed word v ≡ true → contents word xs ≡ []
+new-first place xs heads k v head read new word e =
+    let same : head ≡ word = head-same v head word new.rest new.written e in
+    none-headed word xs (sym (read.heads_are word) ∙ ap (is_among heads) (sym same) ∙ new.fresh)
+
+or-false : (b : Bool) → (b || false) ≡ b
+or-false true = refl
+or-false false = refl
+
+heads-push : (xs : List Value) (heads : List (List ℕ)) (v : Value) (head : List ℕ) (rest : List Value) → v ≡ group (plain head ∷ rest)
+    → ((word : List ℕ) → is_among heads word ≡ list_any (is_headed word) xs)
+    → (word : List ℕ) → is_among (heads ++ head ∷ []) word ≡ list_any (is_headed word) (xs ++ v ∷ [])
+heads-push xs heads v head rest e are word =
+    list_any-append (λ (w : List ℕ). bytes_eq w word) heads (head ∷ [])
+    ∙ (λ i. are word i || (sym (ap (is_headed word) e) i || false))
+    ∙ sym (list_any-append (is_headed word) xs (v ∷ []))
+
+-- ---- what one more field says
+
+silent-more : (xs : List Value) (v : Value) (k : Known) → KnownOf xs k → IsSilent v → KnownOf (xs ++ v ∷ []) k
+silent-more xs v k known says = record {
+  issuer_is = given-kept (codes "issuer") IssuerAt xs v k.issuer says.issuer known.issuer_is;
+  subject_is = given-kept (codes "subject") WhoAt xs v k.subject says.subject known.subject_is;
+  tag_is = given-kept (codes "tag") (Sole ReadsAs) xs v k.tag says.tag known.tag_is;
+  limits_are = (
+    given-kept (codes "not-before") (Sole DateOf) xs v k.limits.not_before says.first known.limits_are.0,
+    given-kept (codes "not-after") (Sole DateOf) xs v k.limits.not_after says.last known.limits_are.1,
+  );
+  valid_is = given-kept (codes "valid") ValidOf xs v k.valid says.valid known.valid_is;
+}
+
+abbrev Fresh : List Value → Value → Type 0
+Fresh xs v = (word : List ℕ) → is_headed word v ≡ true → contents word xs ≡ []
+
+-- the field with this head is the first with it
+filled : {A : Type 0} (word : List ℕ) (R : List Value → A → Type 0) (xs : List Value) (v : Value) (a : A) → Headed word R v a → Fresh xs v → Given word R (xs ++ v ∷ []) (Some a)
+filled word R xs v a says fresh =
+    let here = headed-by v word says.0 says.1 in
+    given-first word R xs v says.0 a here (behind-group v (plain word) says.0 says.1) says.2 (fresh word here)
+
+gather-more : (xs : List Value) (v : Value) (k : Known) (s : Said) → KnownOf xs k → Says v s → Fresh xs v → KnownOf (xs ++ v ∷ []) (gather k s)
+gather-more xs v k said.Nothing known says fresh = silent-more xs v k known says
+gather-more xs v k (said.Issuer i) known says fresh = record {
+  issuer_is = filled (codes "issuer") IssuerAt xs v i says fresh;
+  subject_is = given-kept (codes "subject") WhoAt xs v k.subject (ap (is_headed (codes "subject")) says.1) known.subject_is;
+  tag_is = given-kept (codes "tag") (Sole ReadsAs) xs v k.tag (ap (is_headed (codes "tag")) says.1) known.tag_is;
+  limits_are = (
+    given-kept (codes "not-before") (Sole DateOf) xs v k.limits.not_before (ap (is_headed (codes "not-before")) says.1) known.limits_are.0,
+    given-kept (codes "not-after") (Sole DateOf) xs v k.limits.not_after (ap (is_headed (codes "not-after")) says.1) known.limits_are.1,
+  );
+  valid_is = given-kept (codes "valid") ValidOf xs v k.valid (ap (is_headed (codes "valid")) says.1) known.valid_is;
+}
+gather-more xs v k (said.Subject s) known says fresh = record {
+  issuer_is = given-kept (codes "issuer") IssuerAt xs v k.issuer (ap (is_headed (codes "issuer")) says.1) known.issuer_is;
+  subject_is = filled (codes "subject") WhoAt xs v s says fresh;
+  tag_is = given-kept (codes "tag") (Sole ReadsAs) xs v k.tag (ap (is_headed (codes "tag")) says.1) known.tag_is;
+  limits_are = (
+    given-kept (codes "not-before") (Sole DateOf) xs v k.limits.not_before (ap (is_headed (codes "not-before")) says.1) known.limits_are.0,
+    given-kept (codes "not-after") (Sole DateOf) xs v k.limits.not_after (ap (is_headed (codes "not-after")) says.1) known.limits_are.1,
+  );
+  valid_is = given-kept (codes "valid") ValidOf xs v k.valid (ap (is_headed (codes "valid")) says.1) known.valid_is;
+}
+gather-more xs v k (said.Tag t) known says fresh = record {
+  issuer_is = given-kept (codes "issuer") IssuerAt xs v k.issuer (ap (is_headed (codes "issuer")) says.1) known.issuer_is;
+  subject_is = given-kept (codes "subject") WhoAt xs v k.subject (ap (is_headed (codes "subject")) says.1) known.subject_is;
+  tag_is = filled (codes "tag") (Sole ReadsAs) xs v t says fresh;
+  limits_are = (
+    given-kept (codes "not-before") (Sole DateOf) xs v k.limits.not_before (ap (is_headed (codes "not-before")) says.1) known.limits_are.0,
+    given-kept (codes "not-after") (Sole DateOf) xs v k.limits.not_after (ap (is_headed (codes "not-after")) says.1) known.limits_are.1,
+  );
+  valid_is = given-kept (codes "valid") ValidOf xs v k.valid (ap (is_headed (codes "valid")) says.1) known.valid_is;
+}
+gather-more xs v k (said.NotBefore date) known says fresh = record {
+  issuer_is = given-kept (codes "issuer") IssuerAt xs v k.issuer (ap (is_headed (codes "issuer")) says.1) known.issuer_is;
+  subject_is = given-kept (codes "subject") WhoAt xs v k.subject (ap (is_headed (codes "subject")) says.1) known.subject_is;
+  tag_is = given-kept (codes "tag") (Sole ReadsAs) xs v k.tag (ap (is_headed (codes "tag")) says.1) known.tag_is;
+  limits_are = (
+    filled (codes "not-before") (Sole DateOf) xs v date says fresh,
+    given-kept (codes "not-after") (Sole DateOf) xs v k.limits.not_after (ap (is_headed (codes "not-after")) says.1) known.limits_are.1,
+  );
+  valid_is = given-kept (codes "valid") ValidOf xs v k.valid (ap (is_headed (codes "valid")) says.1) known.valid_is;
+}
+gather-more xs v k (said.NotAfter date) known says fresh = record {
+  issuer_is = given-kept (codes "issuer") IssuerAt xs v k.issuer (ap (is_headed (codes "issuer")) says.1) known.issuer_is;
+  subject_is = given-kept (codes "subject") WhoAt xs v k.subject (ap (is_headed (codes "subject")) says.1) known.subject_is;
+  tag_is = given-kept (codes "tag") (Sole ReadsAs) xs v k.tag (ap (is_headed (codes "tag")) says.1) known.tag_is;
+  limits_are = (
+    given-kept (codes "not-before") (Sole DateOf) xs v k.limits.not_before (ap (is_headed (codes "not-before")) says.1) known.limits_are.0,
+    filled (codes "not-after") (Sole DateOf) xs v date says fresh,
+  );
+  valid_is = given-kept (codes "valid") ValidOf xs v k.valid (ap (is_headed (codes "valid")) says.1) known.valid_is;
+}
+gather-more xs v k (said.Valid w) known says fresh = record {
+  issuer_is = given-kept (codes "issuer") IssuerAt xs v k.issuer (ap (is_headed (codes "issuer")) says.1) known.issuer_is;
+  subject_is = given-kept (codes "subject") WhoAt xs v k.subject (ap (is_headed (codes "subject")) says.1) known.subject_is;
+  tag_is = given-kept (codes "tag") (Sole ReadsAs) xs v k.tag (ap (is_headed (codes "tag")) says.1) known.tag_is;
+  limits_are = (
+    given-kept (codes "not-before") (Sole DateOf) xs v k.limits.not_before (ap (is_headed (codes "not-before")) says.1) known.limits_are.0,
+    given-kept (codes "not-after") (Sole DateOf) xs v k.limits.not_after (ap (is_headed (codes "not-after")) says.1) known.limits_are.1,
+  );
+  valid_is = filled (codes "valid") ValidOf xs v w says fresh;
+}
+
+-- ---- all fields
+
+pub read-none : (place : Place) → AreRead place [] [] (record { issuer = None; subject = None; tag = None; limits = record { not_before = None; not_after = None }; valid = None })
+read-none place = record {
+  are_fields = record { each = tt; once = (λ word. omega arith) };
+  heads_are = (λ word. refl);
+  known = record { issuer_is = refl; subject_is = refl; tag_is = refl; limits_are = (refl, refl); valid_is = refl };
+}
+
+pub read-more : (place : Place) (xs : List Value) (heads : List (List ℕ)) (k : Known) (v : Value) (head : List ℕ) (s : Said)
+    → AreRead place xs heads k → IsNew v heads head → IsFieldOf place v → Says v s → AreRead place (xs ++ v ∷ []) (heads ++ head ∷ []) (gather k s)
+read-more place xs heads k v head s read new field says =
+    let fresh = new-first place xs heads k v head read new in
+    record {
+      are_fields = record {
+        each = each-push (IsFieldOf place) xs v read.are_fields.each field;
+        once = once-push xs v read.are_fields.once fresh;
+      };
+      heads_are = heads-push xs heads v head new.rest new.written read.heads_are;
+      known = gather-more xs v k s read.known says fresh;
+    }
+
+has-head : (place : Place) (v : Value) → IsFieldOf place v → (word : List ℕ) × (rest : List Value) × (v ≡ group (plain word ∷ rest))
+has-head places.Entry v f = field-word v f
+has-head places.Certificate v f = cert-word v f
+
+-- where fields go on, the next one is a field, and a new one
+pub next-field : (place : Place) (xs : List Value) (v : Value) (ys : List Value) → AreFields (IsFieldOf place) (xs ++ v ∷ ys) → IsFieldOf place v
+next-field place xs v ys all = each-at (IsFieldOf place) xs v ys all.each
+
+pub next-new : (place : Place) (xs : List Value) (heads : List (List ℕ)) (k : Known) (v : Value) (ys : List Value) → AreRead place xs heads k
+    → ((head : List ℕ) → IsNew v heads head → ⊥) → AreFields (IsFieldOf place) (xs ++ v ∷ ys) → ⊥
+next-new place xs heads k v ys read none all =
+    let h = has-head place v (next-field place xs v ys all) in
+    let before = once-before h.0 xs v ys all.once (headed-by v h.0 h.1 h.2) in
+    none h.0 (record { rest = h.1; written = h.2; fresh = read.heads_are h.0 ∙ headed-none h.0 xs before })
+
+-- a member is part of what all members are parts of
+pub first-part : (all xs : List Value) (v : Value) (ys : List Value) (w : Value) → all ≡ xs ++ v ∷ ys → AreParts all w → IsPartOf v w
+first-part all xs v ys w e parts = parts v (subst (λ (vs : List Value). Contains vs v) (sym e) (contains-middle xs v ys))

@@ -1,0 +1,293 @@
+-- A value has one reading, but for the form of its tags.
+use Rattle.std.proofs.Common.{◌≡◌, ℕ, inl, inr, false, List, [], ◌∷◌, ◌++◌, Option, Some, None, refl, sym, ap, subst, ◌∙◌}
+use Rattle.std.specs.Prelude.{codes}
+use Rattle.std.specs.Str.{bytes_eq}
+use Rattle.std.specs.List.{AllZip}
+use Rattle.std.specs.Cmp.Lexicographic.{other_text}
+use Rattle.sexpr_core.specs.Value.{Value, plain, canon}
+use Rattle.spki_tag.specs.Tag as tags
+use Rattle.spki_tag.specs.Tag.{contains}
+use Rattle.spki_tag.specs.Read.{ReadsAs}
+use Rattle.spki_tag.proofs.OneTag.{tag_only}
+use Rattle.spki_cert.specs.declared.hash.HashAlg.{HashAlg}
+use Rattle.spki_cert.specs.declared.hash.HashAlg.TheVariants.{Sha1, Sha256, Sha512}
+use Rattle.spki_cert.specs.declared.principal.Principal.{Principal}
+use Rattle.spki_cert.specs.declared.principal.Principal.TheVariants.{Key, Hash}
+use Rattle.spki_cert.specs.declared.entry.Subject.{Subject}
+use Rattle.spki_cert.specs.declared.entry.Entry.{Entry}
+use Rattle.spki_cert.specs.declared.window.Window.{Window}
+use Rattle.spki_cert.specs.declared.certificate.AuthCert.{AuthCert}
+use Rattle.spki_cert.specs.declared.certificate.NameCert.{NameCert}
+use Rattle.spki_cert.specs.declared.certificate.Signature.{Signature}
+use Rattle.spki_cert.specs.declared.certificate.SeqItem.{SeqItem}
+use Rattle.spki_cert.specs.declared.certificate.SeqItem.TheVariants as items
+use Rattle.spki_cert.specs.Readings.{KeyOf, HashOf, DateOf, alg_name}
+use Rattle.spki_cert.specs.Subjects.{PrincipalOf, plains, NameOf, IsWho, SubjectOf, IssuedTo, IssuerOf}
+use Rattle.spki_cert.specs.Fields.{Sole, Given, LimitsAre, ValidOf, WindowOf, directly, in_valid, TagOf, propagates, IssuerIn}
+use Rattle.spki_cert.specs.Entries.{EntryOf, AclOf, behind_version}
+use Rattle.spki_cert.specs.Certificates.{IssuedBy, IssuedFor, AuthCertOf, NameCertOf, SignatureOf, DoHashOf}
+use Rattle.spki_cert.specs.Sequences.{ItemOf, SeqOf}
+use Rattle.spki_cert.specs.Sameness.{SameRequests, SameSubject, SameEntry, SameAuth, SameName, SameItem}
+use Rattle.spki_cert.proofs.Groups.{same_others, same_second, same_rest, apart}
+use Rattle.spki_cert.proofs.GivenLaws.{given-else}
+use Rattle.spki_cert.proofs.SubjectLaws.{name-is_no_principal}
+use Rattle.spki_cert.proofs.EntryLaws.{relative-is_no_subject, entries-behind}
+use Rattle.spki_cert.proofs.CertLaws.{one-issuer}
+
+-- ---- keys, hashes and dates
+
+pub key-one : (v : Value) (k l : List ℕ) → KeyOf v k → KeyOf v l → k ≡ l
+key-one v k l read other = read.canonical ∙ sym other.canonical
+
+plain-one : (a b : List ℕ) → plain a ≡ plain b → a ≡ b
+plain-one a b e = cc
+
+word-apart : (a b : List ℕ) → false ≡ bytes_eq a b → a ≡ b → ⊥
+word-apart a b d e = other_text a b d e
+
+pub alg-one : (a b : HashAlg) → alg_name a ≡ alg_name b → a ≡ b
+alg-one Sha1 Sha1 e = refl
+alg-one Sha1 Sha256 e = absurd (word-apart (codes "sha1") (codes "sha256") refl e)
+alg-one Sha1 Sha512 e = absurd (word-apart (codes "sha1") (codes "sha512") refl e)
+alg-one Sha256 Sha1 e = absurd (word-apart (codes "sha256") (codes "sha1") refl e)
+alg-one Sha256 Sha256 e = refl
+alg-one Sha256 Sha512 e = absurd (word-apart (codes "sha256") (codes "sha512") refl e)
+alg-one Sha512 Sha1 e = absurd (word-apart (codes "sha512") (codes "sha1") refl e)
+alg-one Sha512 Sha256 e = absurd (word-apart (codes "sha512") (codes "sha256") refl e)
+alg-one Sha512 Sha512 e = refl
+
+pub hash-one : (v : Value) (a b : HashAlg) (d e : List ℕ) → HashOf v a d → HashOf v b e → (a ≡ b) × (d ≡ e)
+hash-one v a b d e read other =
+    let names = same_second v (codes "hash") (plain (alg_name a)) (plain (alg_name b)) (read.octets ∷ read.further) (other.octets ∷ other.further) read.written other.written in
+    let rests : read.octets ∷ read.further ≡ other.octets ∷ other.further =
+    same_rest v (codes "hash") (plain (alg_name a)) (plain (alg_name b)) (read.octets ∷ read.further) (other.octets ∷ other.further) read.written other.written in
+    let octets : read.octets ≡ other.octets = cc in
+    (alg-one a b (plain-one (alg_name a) (alg_name b) names), plain-one d e (sym read.digest_is.written ∙ octets ∙ other.digest_is.written))
+
+pub date-one : (v : Value) (s t : List ℕ) → DateOf v s → DateOf v t → s ≡ t
+date-one v s t read other = plain-one s t (sym read.written ∙ other.written)
+
+-- ---- who is meant
+
+principal-one : (v : Value) (p q : Principal) → PrincipalOf v p → PrincipalOf v q → p ≡ q
+principal-one v (Key k) (Key l) read other = ap Key (key-one v k l read other)
+principal-one v (Key k) (Hash b e) read other = absurd (apart (codes "hash") v _ _ other.written read.written refl refl)
+principal-one v (Hash a d) (Key l) read other = absurd (apart (codes "hash") v _ _ read.written other.written refl refl)
+principal-one v (Hash a d) (Hash b e) read other = (let same = hash-one v a b d e read other in λ i. Hash (same.0 i) (same.1 i))
+
+names-one : (ns ms : List (List ℕ)) → plains ns ≡ plains ms → ns ≡ ms
+names-one [] [] e = refl
+names-one [] (m ∷ ms) e = absurd (cc)
+names-one (n ∷ ns) [] e = absurd (cc)
+names-one (n ∷ ns) (m ∷ ms) e =
+    let first : n ≡ m = cc in
+    let others : ns ≡ ms = names-one ns ms (cc) in
+    λ i. first i ∷ others i
+
+-- the same principal and names
+abbrev Same : Principal → Principal → List (List ℕ) → List (List ℕ) → Type 0
+Same p q ns ms = (p ≡ q) × (ns ≡ ms)
+
+name-one : (v : Value) (p q : Principal) (ns ms : List (List ℕ)) → NameOf v p ns → NameOf v q ms → Same p q ns ms
+name-one v p q ns ms read other =
+    let all : read.owner ∷ plains ns ≡ other.owner ∷ plains ms = same_others v (codes "name") (read.owner ∷ plains ns) (other.owner ∷ plains ms) read.written other.written in
+    let owner : read.owner ≡ other.owner = cc in
+    let names : plains ns ≡ plains ms = cc in
+    (principal-one other.owner p q (subst (λ (w : Value). PrincipalOf w p) owner read.owner_is) other.owner_is, names-one ns ms names)
+
+who-one : (v : Value) (p q : Principal) (ns ms : List (List ℕ)) → IsWho v p ns → IsWho v q ms → Same p q ns ms
+who-one v p q ns ms (inl read) (inl other) = (principal-one v p q read.0 other.0, read.1 ∙ sym other.1)
+who-one v p q ns ms (inl read) (inr other) = absurd (name-is_no_principal v (other.owner ∷ plains ms) other.written p read.0)
+who-one v p q ns ms (inr read) (inl other) = absurd (name-is_no_principal v (read.owner ∷ plains ns) read.written q other.0)
+who-one v p q ns ms (inr read) (inr other) = name-one v p q ns ms read other
+
+issued-one : (issuer : Principal) (v : Value) (s t : Subject) → IssuedTo issuer v s → IssuedTo issuer v t → SameSubject s t
+issued-one issuer v s t (inl read) (inl other) = who-one v s.principal t.principal s.names.items t.names.items read other
+issued-one issuer v s t (inl read) (inr other) = absurd (relative-is_no_subject v t.names.items other.1 s read)
+issued-one issuer v s t (inr read) (inl other) = absurd (relative-is_no_subject v s.names.items read.1 t other)
+issued-one issuer v s t (inr read) (inr other) = (
+  read.0 ∙ sym other.0,
+  names-one s.names.items t.names.items (same_others v (codes "name") (plains s.names.items) (plains t.names.items) read.1.written other.1.written),
+)
+
+-- ---- fields
+
+-- what one field with a head says
+sole-one : {A : Type 0} (R : Value → A → Type 0) (S : A → A → Type 0) → ((v : Value) (a b : A) → R v a → R v b → S a b)
+    → (vs : List Value) (a b : A) → Sole R vs a → Sole R vs b → S a b
+sole-one R S one vs a b (v, e, read) (w, f, other) =
+    let same : v ≡ w = (let g : v ∷ [] ≡ w ∷ [] = sym e ∙ f in cc) in
+    one w a b (subst (λ (u : Value). R u a) same read) other
+
+given-one : {A : Type 0} (word : List ℕ) (R : List Value → A → Type 0) (S : A → A → Type 0) → ((vs : List Value) (a b : A) → R vs a → R vs b → S a b)
+    → (fields : List Value) (a b : A) → Given word R fields (Some a) → Given word R fields (Some b) → S a b
+given-one word R S one fields a b (rest, e, read) (behind, f, other) =
+    let same : rest ≡ behind = (let g : rest ∷ [] ≡ behind ∷ [] = sym e ∙ f in cc) in
+    one behind a b (subst (λ (vs : List Value). R vs a) same read) other
+
+limit-one : (word : List ℕ) (fields : List Value) (o p : Option (List ℕ)) → Given word (Sole DateOf) fields o → Given word (Sole DateOf) fields p → o ≡ p
+limit-one word fields None None read other = refl
+limit-one word fields None (Some t) read other = absurd (given-else word (Sole DateOf) fields t other read)
+limit-one word fields (Some s) None read other = absurd (given-else word (Sole DateOf) fields s read other)
+limit-one word fields (Some s) (Some t) read other =
+    ap Some (given-one word (Sole DateOf) (λ (a b : List ℕ). a ≡ b) (sole-one DateOf (λ (a b : List ℕ). a ≡ b) date-one) fields s t read other)
+
+limits-one : (fields : List Value) (v w : Window) → LimitsAre fields v → LimitsAre fields w → v ≡ w
+limits-one fields v w read other =
+    let first = limit-one (codes "not-before") fields v.not_before w.not_before read.0 other.0 in
+    let last = limit-one (codes "not-after") fields v.not_after w.not_after read.1 other.1 in
+    λ i. record { not_before = first i; not_after = last i }
+
+window-one : (fields : List Value) (v w : Window) → WindowOf fields v → WindowOf fields w → v ≡ w
+window-one fields v w (directly none limits) (directly no_valid others) = limits-one fields v w limits others
+window-one fields v w (directly none limits) (in_valid given first last) = absurd (given-else (codes "valid") ValidOf fields w given none)
+window-one fields v w (in_valid given first last) (directly none limits) = absurd (given-else (codes "valid") ValidOf fields v given none)
+window-one fields v w (in_valid given first last) (in_valid other no_first no_last) =
+    given-one (codes "valid") ValidOf (λ (a b : Window). a ≡ b) (λ vs a b read also. limits-one vs a b read.limits_are also.limits_are) fields v w given other
+
+reads-one : (v : Value) (t u : tags.Tag) → ReadsAs v t → ReadsAs v u → SameRequests t u
+reads-one v t u r s g =
+    r.normal.same g ∙ ap (λ (w : tags.Tag). contains w g) (tag_only s.w r.w s.written r.written (r.spelled ∙ sym s.spelled)) ∙ sym (s.normal.same g)
+
+tag-one : (fields : List Value) (t u : tags.Tag) → TagOf fields t → TagOf fields u → SameRequests t u
+tag-one fields t u read other = given-one (codes "tag") (Sole ReadsAs) SameRequests (sole-one ReadsAs SameRequests reads-one) fields t u read other
+
+-- ---- entries and access lists
+
+pub entry-one : (v : Value) (e f : Entry) → EntryOf v e → EntryOf v f → SameEntry e f
+entry-one v e f read other =
+    let subject = same_second v (codes "entry") read.subject other.subject read.fields other.fields read.written other.written in
+    let fields : read.fields ≡ other.fields = same_rest v (codes "entry") read.subject other.subject read.fields other.fields read.written other.written in
+    record {
+      subject = who-one other.subject e.subject.principal f.subject.principal e.subject.names.items f.subject.names.items
+          (subst (λ (w : Value). SubjectOf w e.subject) subject read.subject_is) other.subject_is;
+      propagate = read.propagates_is ∙ ap propagates fields ∙ sym other.propagates_is;
+      tag = tag-one other.fields e.tag f.tag (subst (λ (vs : List Value). TagOf vs e.tag) fields read.tag_is) other.tag_is;
+      window = window-one other.fields e.window f.window (subst (λ (vs : List Value). WindowOf vs e.window) fields read.window_is) other.window_is;
+    }
+
+-- place by place
+items-one : {A : Type 0} (R : Value → A → Type 0) (S : A → A → Type 0) → ((v : Value) (a b : A) → R v a → R v b → S a b)
+    → (vs : List Value) (xs ys : List A) → AllZip R vs xs → AllZip R vs ys → AllZip S xs ys
+items-one R S one [] [] [] read other = tt
+items-one R S one [] [] (b ∷ ys) read other = absurd other
+items-one R S one [] (a ∷ xs) ys read other = absurd read
+items-one R S one (v ∷ vs) [] ys read other = absurd read
+items-one R S one (v ∷ vs) (a ∷ xs) [] read other = absurd other
+items-one R S one (v ∷ vs) (a ∷ xs) (b ∷ ys) read other = (one v a b read.0 other.0, items-one R S one vs xs ys read.1 other.1)
+
+pub acl-one : (v : Value) (es fs : List Entry) → AclOf v es → AclOf v fs → AllZip SameEntry es fs
+acl-one v es fs read other =
+    let all : read.version ++ read.entries ≡ other.version ++ other.entries =
+    same_others v (codes "acl") (read.version ++ read.entries) (other.version ++ other.entries) read.written other.written in
+    let entries : read.entries ≡ other.entries =
+    sym (entries-behind read.version read.entries es read.version_is read.each) ∙ ap behind_version all
+    ∙ entries-behind other.version other.entries fs other.version_is other.each in
+    items-one EntryOf SameEntry entry-one other.entries es fs (subst (λ (vs : List Value). AllZip EntryOf vs es) entries read.each) other.each
+
+-- ---- certificates and sequences
+
+abbrev SameIssuer : Principal × Option (List ℕ) → Principal × Option (List ℕ) → Type 0
+SameIssuer i j = (i.0 ≡ j.0) × (i.1 ≡ j.1)
+
+issuer-one : (v : Value) (i j : Principal × Option (List ℕ)) → IssuerOf v i.0 i.1 → IssuerOf v j.0 j.1 → SameIssuer i j
+issuer-one v (p, None) (q, None) read other = (principal-one v p q read other, refl)
+issuer-one v (p, None) (q, Some m) read other = absurd (name-is_no_principal v (other.owner ∷ plain m ∷ []) other.written p read)
+issuer-one v (p, Some n) (q, None) read other = absurd (name-is_no_principal v (read.owner ∷ plain n ∷ []) read.written q other)
+issuer-one v (p, Some n) (q, Some m) read other =
+    let same = name-one v p q (n ∷ []) (m ∷ []) read other in
+    let names : n ∷ [] ≡ m ∷ [] = same.1 in
+    (same.0, ap Some (let e : n ≡ m = cc in e))
+
+issued_by-one : (fields : List Value) (i j : Principal × Option (List ℕ)) → Given (codes "issuer") IssuerIn fields (Some i) → Given (codes "issuer") IssuerIn fields (Some j) → SameIssuer i j
+issued_by-one fields i j read other =
+    given-one (codes "issuer") IssuerIn SameIssuer (sole-one (λ (v : Value) (k : Principal × Option (List ℕ)). IssuerOf v k.0 k.1) SameIssuer issuer-one) fields i j read other
+
+issued_for-one : (fields : List Value) (p : Principal) (s t : Subject) → IssuedFor fields p s → IssuedFor fields p t → SameSubject s t
+issued_for-one fields p s t read other =
+    given-one (codes "subject") (Sole (IssuedTo p)) SameSubject (sole-one (IssuedTo p) SameSubject (issued-one p)) fields s t read other
+
+auth-one : (v : Value) (b c : AuthCert) → AuthCertOf v b → AuthCertOf v c → SameAuth b c
+auth-one v b c read other =
+    let fields : read.fields ≡ other.fields = same_others v (codes "cert") read.fields other.fields read.written other.written in
+    let issuer = issued_by-one other.fields (b.issuer, None) (c.issuer, None) (subst (λ (vs : List Value). IssuedBy vs b.issuer None) fields read.issuer_is) other.issuer_is in
+    record {
+      issuer = issuer.0;
+      subject = issued_for-one other.fields c.issuer b.subject c.subject
+          (subst (λ (p : Principal). IssuedFor other.fields p b.subject) issuer.0 (subst (λ (vs : List Value). IssuedFor vs b.issuer b.subject) fields read.subject_is))
+          other.subject_is;
+      propagate = read.propagates_is ∙ ap propagates fields ∙ sym other.propagates_is;
+      tag = tag-one other.fields b.tag c.tag (subst (λ (vs : List Value). TagOf vs b.tag) fields read.tag_is) other.tag_is;
+      window = window-one other.fields b.window c.window (subst (λ (vs : List Value). WindowOf vs b.window) fields read.window_is) other.window_is;
+      octets = read.octets_are ∙ sym other.octets_are;
+    }
+
+name_cert-one : (v : Value) (b c : NameCert) → NameCertOf v b → NameCertOf v c → SameName b c
+name_cert-one v b c read other =
+    let fields : read.fields ≡ other.fields = same_others v (codes "cert") read.fields other.fields read.written other.written in
+    let issuer = issued_by-one other.fields (b.issuer, Some b.name) (c.issuer, Some c.name) (subst (λ (vs : List Value). IssuedBy vs b.issuer (Some b.name)) fields read.issuer_is) other.issuer_is in
+    let some : Some b.name ≡ Some c.name = issuer.1 in
+    record {
+      issuer = issuer.0;
+      name = (let e : b.name ≡ c.name = cc in e);
+      subject = issued_for-one other.fields c.issuer b.subject c.subject
+          (subst (λ (p : Principal). IssuedFor other.fields p b.subject) issuer.0 (subst (λ (vs : List Value). IssuedFor vs b.issuer b.subject) fields read.subject_is))
+          other.subject_is;
+      window = window-one other.fields b.window c.window (subst (λ (vs : List Value). WindowOf vs b.window) fields read.window_is) other.window_is;
+      octets = read.octets_are ∙ sym other.octets_are;
+    }
+
+no-auth_and_name : (v : Value) (b : AuthCert) (c : NameCert) → AuthCertOf v b → NameCertOf v c → ⊥
+no-auth_and_name v b c read other =
+    let fields : read.fields ≡ other.fields = same_others v (codes "cert") read.fields other.fields read.written other.written in
+    one-issuer other.fields b.issuer c.issuer c.name (subst (λ (vs : List Value). IssuedBy vs b.issuer None) fields read.issuer_is) other.issuer_is
+
+signature-one : (v : Value) (s t : Signature) → SignatureOf v s → SignatureOf v t → s ≡ t
+signature-one v s t read other =
+    let all : read.digest ∷ read.signer ∷ read.value ∷ [] ≡ other.digest ∷ other.signer ∷ other.value ∷ [] =
+    same_others v (codes "signature") (read.digest ∷ read.signer ∷ read.value ∷ []) (other.digest ∷ other.signer ∷ other.value ∷ []) read.written other.written in
+    let digest : read.digest ≡ other.digest = cc in
+    let signer : read.signer ≡ other.signer = cc in
+    let value : read.value ≡ other.value = cc in
+    let hash = hash-one other.digest s.alg t.alg s.digest t.digest (subst (λ (w : Value). HashOf w s.alg s.digest) digest read.digest_is) other.digest_is in
+    let who = principal-one other.signer s.signer t.signer (subst (λ (w : Value). PrincipalOf w s.signer) signer read.signer_is) other.signer_is in
+    let octets : s.value ≡ t.value = read.value_is ∙ ap canon value ∙ sym other.value_is in
+    λ i. record { alg = hash.0 i; digest = hash.1 i; signer = who i; value = octets i }
+
+do-one : (v : Value) (a b : HashAlg) → DoHashOf v a → DoHashOf v b → a ≡ b
+do-one v a b read other =
+    let rests : plain (alg_name a) ∷ [] ≡ plain (alg_name b) ∷ [] =
+    same_rest v (codes "do") (plain (codes "hash")) (plain (codes "hash")) (plain (alg_name a) ∷ []) (plain (alg_name b) ∷ []) read other in
+    alg-one a b (cc)
+
+item-one : (v : Value) (i j : SeqItem) → ItemOf v i → ItemOf v j → SameItem i j
+item-one v (items.Key k) (items.Key l) read other = key-one v k l read other
+item-one v (items.Key k) (items.DoHash b) read other = apart (codes "do") v _ _ other read.written refl refl
+item-one v (items.Key k) (items.Auth c) read other = apart (codes "cert") v _ _ other.written read.written refl refl
+item-one v (items.Key k) (items.Name c) read other = apart (codes "cert") v _ _ other.written read.written refl refl
+item-one v (items.Key k) (items.Signature t) read other = apart (codes "signature") v _ _ other.written read.written refl refl
+item-one v (items.DoHash a) (items.Key l) read other = apart (codes "do") v _ _ read other.written refl refl
+item-one v (items.DoHash a) (items.DoHash b) read other = do-one v a b read other
+item-one v (items.DoHash a) (items.Auth c) read other = apart (codes "cert") v _ _ other.written read refl refl
+item-one v (items.DoHash a) (items.Name c) read other = apart (codes "cert") v _ _ other.written read refl refl
+item-one v (items.DoHash a) (items.Signature t) read other = apart (codes "signature") v _ _ other.written read refl refl
+item-one v (items.Auth b) (items.Key l) read other = apart (codes "cert") v _ _ read.written other.written refl refl
+item-one v (items.Auth b) (items.DoHash a) read other = apart (codes "cert") v _ _ read.written other refl refl
+item-one v (items.Auth b) (items.Auth c) read other = auth-one v b c read other
+item-one v (items.Auth b) (items.Name c) read other = no-auth_and_name v b c read other
+item-one v (items.Auth b) (items.Signature t) read other = apart (codes "cert") v _ _ read.written other.written refl refl
+item-one v (items.Name b) (items.Key l) read other = apart (codes "cert") v _ _ read.written other.written refl refl
+item-one v (items.Name b) (items.DoHash a) read other = apart (codes "cert") v _ _ read.written other refl refl
+item-one v (items.Name b) (items.Auth c) read other = no-auth_and_name v c b other read
+item-one v (items.Name b) (items.Name c) read other = name_cert-one v b c read other
+item-one v (items.Name b) (items.Signature t) read other = apart (codes "cert") v _ _ read.written other.written refl refl
+item-one v (items.Signature s) (items.Key l) read other = apart (codes "signature") v _ _ read.written other.written refl refl
+item-one v (items.Signature s) (items.DoHash a) read other = apart (codes "signature") v _ _ read.written other refl refl
+item-one v (items.Signature s) (items.Auth c) read other = apart (codes "signature") v _ _ read.written other.written refl refl
+item-one v (items.Signature s) (items.Name c) read other = apart (codes "signature") v _ _ read.written other.written refl refl
+item-one v (items.Signature s) (items.Signature t) read other = signature-one v s t read other
+
+pub sequence-one : (v : Value) (is js : List SeqItem) → SeqOf v is → SeqOf v js → AllZip SameItem is js
+sequence-one v is js read other =
+    let values : read.values ≡ other.values = same_others v (codes "sequence") read.values other.values read.written other.written in
+    items-one ItemOf SameItem item-one other.values is js (subst (λ (vs : List Value). AllZip ItemOf vs is) values read.each) other.each

@@ -1,0 +1,24 @@
+use Rattle.std.proofs.Common.{subst, sym, ◌∙◌}
+use Rattle.std.specs.Prelude.{codes}
+use Rattle.sexpr_core.specs.Value.{Value}
+use Rattle.spki_cert.specs.declared.fault.CertFaultKind.{CertFaultKind}
+use Rattle.spki_cert.specs.Entries.{OuterRefused}
+use Rattle.spki_cert.specs.Gathering.{IsVersionFault}
+use Rattle.spki_cert.proofs.Showing.{carried}
+use Rattle.spki_cert.proofs.Groups.{same_others}
+use Rattle.spki_cert.proofs.EntryLaws.{unversioned, misfit}
+use Rattle.spki_cert.proofs.acl.behind_version.Goals as goal
+
+pub returns-in_default-headed-2-clause-found : goal.returns-in_default-headed-2-clause-found
+returns-in_default-headed-2-clause-found c =
+    let same = same_others c.args.node.now (codes "acl") c.in-Some.all c.in-Some-headed.members c.in-Some.ensures c.in-Some-headed.ensures in
+    let found = unversioned c.args.node.now c.in-Some-headed.members c.in-Some-split_first.first c.in-Some-split_first.others
+    c.in-Some-headed.ensures c.in-Some-split_first.ensures c.in_default-headed-2.ensures in
+    (found.0, found.1, found.2, same ∙ found.3)
+
+pub returns-in_err-check_version-clause-refused : goal.returns-in_err-check_version-clause-refused
+returns-in_err-check_version-clause-refused c =
+    carried c.from_residual.result _ (λ (kind : CertFaultKind). OuterRefused c.args.node.now kind) c.from_residual.ensures.1
+    (misfit c.args.node.now c.in-Some-headed.members c.in-Some-split_first.first c.in-Some-split_first.others c.in-Some-headed-2.version _
+    c.in-Some-headed.ensures c.in-Some-split_first.ensures c.in-Some-headed-2.ensures c.in_err-check_version.ensures.refused
+    (subst (λ (v : Value). IsVersionFault c.in_err-check_version.field-0.0 v) (sym c.in-Some-headed-2.ensures) c.in_err-check_version.ensures.fault))

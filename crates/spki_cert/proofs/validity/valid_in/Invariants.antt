@@ -1,0 +1,10 @@
+use Rattle.std.proofs.Common.{◌≡◌, ◌++◌, List, length}
+use Rattle.sexpr_core.specs.Value.{Value}
+use Rattle.spki_cert.specs.Fields.{ValidOf}
+use Rattle.spki_cert.proofs.validity.valid_in.Given as goal
+
+abbrev pub invariant-loop-field : goal.invariant-loop-field
+invariant-loop-field l = (seen : List Value) × (l.fn.members ≡ seen ++ l.rest) × ValidOf seen l.window
+
+abbrev pub decreases-loop-field : goal.decreases-loop-field
+decreases-loop-field l = length l.rest

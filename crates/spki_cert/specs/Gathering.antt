@@ -1,0 +1,243 @@
+-- What is known while subjects and fields are read.
+use Rattle.std.specs.Prelude.{◌≡◌, ◌≢◌, ℕ, ◌⊎◌, Bool, true, false, List, ◌∷◌, ◌++◌, ◌+◌, length, Option, Some, None, Contains, codes, is_some, if◌then◌else◌}
+use Rattle.std.specs.Str.{bytes_eq}
+use Rattle.std.specs.List.{AllByRecursion, list_any}
+use Rattle.sexpr_core.specs.Value.{Value, plain, group}
+use Rattle.sexpr_core.specs.PartOf.{IsPartOf}
+use Rattle.spki_tag.specs.Read.{ReadsAs}
+use Rattle.spki_cert.specs.declared.principal.Principal.{Principal}
+use Rattle.spki_cert.specs.declared.window.Window.{Window}
+use Rattle.spki_cert.specs.declared.naming.Issuer.{Issuer}
+use Rattle.spki_cert.specs.declared.naming.Who.{Who}
+use Rattle.spki_cert.specs.declared.fields.Known.{Known}
+use Rattle.spki_cert.specs.declared.fields.Place.{Place}
+use Rattle.spki_cert.specs.declared.fields.Place.TheVariants as places
+use Rattle.spki_cert.specs.declared.fields.Said.{Said}
+use Rattle.spki_cert.specs.declared.fields.Said.TheVariants as said
+use Rattle.spki_tag.specs.declared.fault.TagFault.{TagFault}
+use Rattle.spki_tag.specs.declared.fault.TagFault.TheVariants as tag_faults
+use Rattle.spki_cert.specs.declared.fault.CertFaultKind.{CertFaultKind}
+use Rattle.spki_cert.specs.declared.fault.CertFaultKind.TheVariants as kinds
+use Rattle.spki_cert.specs.declared.entry.Subject.{Subject}
+use Rattle.spki_cert.specs.declared.issuing.CertParts.{CertParts}
+use Rattle.spki_cert.specs.declared.certificate.SeqItem.{SeqItem}
+use Rattle.spki_cert.specs.declared.certificate.SeqItem.TheVariants as items
+use Rattle.spki_cert.specs.declared.fault.CertFault.{CertFault}
+use Rattle.spki_cert.specs.Readings.{DateOf}
+use Rattle.spki_cert.specs.Subjects.{PrincipalOf, plains}
+use Rattle.spki_cert.specs.Fields.{is_headed, Sole, Given, IssuerIn, WhoIn, LimitsAre, ValidOf, IsField, IsCertField, AreFields, propagates, WindowOf}
+use Rattle.spki_cert.specs.Certificates.{IssuedBy, IssuedFor, AuthCertOf, NameCertOf}
+use Rattle.spki_cert.specs.Sequences.{AreInPlace, waits_after}
+use Rattle.spki_cert.specs.Faults.{Shows, IsUnknownVersion}
+
+-- ---- subjects
+
+-- names behind a principal, or alone
+abbrev pub NamesWho : List Value → Option Principal → List (List ℕ) → Type 0
+NamesWho vs None names =
+    (first : List ℕ) × (others : List (List ℕ)) × (names ≡ first ∷ others) × (vs ≡ plains names)
+NamesWho vs (Some principal) names =
+    (owner : Value) × (first : List ℕ) × (others : List (List ℕ))
+    × PrincipalOf owner principal × (names ≡ first ∷ others) × (vs ≡ owner ∷ plains names)
+
+-- a fault of a subject shows where the subject stands: in an entry, or in the field subject
+abbrev pub SubjectShows : CertFaultKind → Value → Type 0
+SubjectShows kind v =
+    (word : List ℕ) (rest : List Value) → (word ≡ codes "entry") ⊎ (word ≡ codes "subject") → Shows kind (group (plain word ∷ v ∷ rest))
+
+-- a fault of an algorithm shows where it stands: behind hash, or behind do and hash
+abbrev pub AlgShows : CertFaultKind → Value → Type 0
+AlgShows kind v =
+    (w : Value) (rest : List Value)
+    → (w ≡ group (plain (codes "hash") ∷ v ∷ rest)) ⊎ (w ≡ group (plain (codes "do") ∷ plain (codes "hash") ∷ v ∷ rest))
+    → Shows kind w
+
+-- ---- fields
+
+-- a tag's fault as one of a structure: want of memory is one thing
+abbrev pub IsTagKind : TagFault → CertFaultKind → Type 0
+IsTagKind fault kind =
+    ((fault ≡ tag_faults.Memory) × (kind ≡ kinds.Memory)) ⊎ ((fault ≢ tag_faults.Memory) × (kind ≡ kinds.Tag fault))
+
+-- a list with this head, behind which something is read so
+abbrev pub Headed : {A : Type 0} → List ℕ → (List Value → A → Type 0) → Value → A → Type 0
+Headed word R v a = (rest : List Value) × (v ≡ group (plain word ∷ rest)) × R rest a
+
+-- a limit is added to a window that had no such limit
+pub data AddsLimit (v : Value) (before after : Window) : Type 0 where
+  first :
+      (date : List ℕ) → Headed (codes "not-before") (Sole DateOf) v date → before.not_before ≡ None
+      → after ≡ record { not_before = Some date; not_after = before.not_after } → AddsLimit v before after
+  last :
+      (date : List ℕ) → Headed (codes "not-after") (Sole DateOf) v date → before.not_after ≡ None
+      → after ≡ record { not_before = before.not_before; not_after = Some date } → AddsLimit v before after
+
+-- the window has the limit with this head
+abbrev pub HasLimit : Value → Window → Type 0
+HasLimit v w =
+    ((is_headed (codes "not-before") v ≡ true) × (is_some w.not_before ≡ true))
+    ⊎ ((is_headed (codes "not-after") v ≡ true) × (is_some w.not_after ≡ true))
+
+-- what one field says
+abbrev pub IssuerAt : List Value → Issuer → Type 0
+IssuerAt rest i = IssuerIn rest (i.principal, i.name)
+
+abbrev pub WhoAt : List Value → Who → Type 0
+WhoAt rest s = WhoIn rest (s.principal, s.names.items)
+
+-- a field that says none of what is gathered
+pub record IsSilent (v : Value) : Type 0 where
+  pub issuer : is_headed (codes "issuer") v ≡ false
+  pub subject : is_headed (codes "subject") v ≡ false
+  pub tag : is_headed (codes "tag") v ≡ false
+  pub first : is_headed (codes "not-before") v ≡ false
+  pub last : is_headed (codes "not-after") v ≡ false
+  pub valid : is_headed (codes "valid") v ≡ false
+
+abbrev pub Says : Value → Said → Type 0
+Says v said.Nothing = IsSilent v
+Says v (said.Issuer i) = Headed (codes "issuer") IssuerAt v i
+Says v (said.Subject s) = Headed (codes "subject") WhoAt v s
+Says v (said.Tag t) = Headed (codes "tag") (Sole ReadsAs) v t
+Says v (said.NotBefore date) = Headed (codes "not-before") (Sole DateOf) v date
+Says v (said.NotAfter date) = Headed (codes "not-after") (Sole DateOf) v date
+Says v (said.Valid window) = Headed (codes "valid") ValidOf v window
+
+-- what is known when one more field has said this
+abbrev pub gather : Known → Said → Known
+gather k said.Nothing = k
+gather k (said.Issuer i) = record { issuer = Some i; subject = k.subject; tag = k.tag; limits = k.limits; valid = k.valid }
+gather k (said.Subject s) = record { issuer = k.issuer; subject = Some s; tag = k.tag; limits = k.limits; valid = k.valid }
+gather k (said.Tag t) = record { issuer = k.issuer; subject = k.subject; tag = Some t; limits = k.limits; valid = k.valid }
+gather k (said.NotBefore date) =
+    record {
+      issuer = k.issuer;
+      subject = k.subject;
+      tag = k.tag;
+      valid = k.valid;
+      limits = record { not_before = Some date; not_after = k.limits.not_after };
+    }
+gather k (said.NotAfter date) =
+    record {
+      issuer = k.issuer;
+      subject = k.subject;
+      tag = k.tag;
+      valid = k.valid;
+      limits = record { not_before = k.limits.not_before; not_after = Some date };
+    }
+gather k (said.Valid window) =
+    record { issuer = k.issuer; subject = k.subject; tag = k.tag; limits = k.limits; valid = Some window }
+
+-- what fields say
+pub record KnownOf (fields : List Value) (k : Known) : Type 0 where
+  pub issuer_is : Given (codes "issuer") IssuerAt fields k.issuer
+  pub subject_is : Given (codes "subject") WhoAt fields k.subject
+  pub tag_is : Given (codes "tag") (Sole ReadsAs) fields k.tag
+  pub limits_are : LimitsAre fields k.limits
+  pub valid_is : Given (codes "valid") ValidOf fields k.valid
+
+-- the fields of an entry, and those of a certificate
+abbrev pub IsFieldOf : Place → Value → Type 0
+IsFieldOf places.Entry v = IsField v
+IsFieldOf places.Certificate v = IsCertField v
+
+-- whether this is one of the words
+abbrev pub is_among : List (List ℕ) → List ℕ → Bool
+is_among words word = list_any (λ w. bytes_eq w word) words
+
+-- the field with this head, where none of these heads is it
+pub record IsNew (v : Value) (heads : List (List ℕ)) (head : List ℕ) : Type 0 where
+  pub rest : List Value
+  pub written : v ≡ group (plain head ∷ rest)
+  pub fresh : is_among heads head ≡ false
+
+-- values that stand in another one
+abbrev pub AreParts : List Value → Value → Type 0
+AreParts vs v = (u : Value) → Contains vs u → IsPartOf u v
+
+-- fields that were read, with these heads
+pub record AreRead (place : Place) (fields : List Value) (heads : List (List ℕ)) (k : Known) : Type 0 where
+  pub are_fields : AreFields (IsFieldOf place) fields
+  pub heads_are : (word : List ℕ) → is_among heads word ≡ list_any (is_headed word) fields
+  pub known : KnownOf fields k
+
+-- ---- validity, directly or in one (valid ..)
+
+-- the window, where limits don't stand both ways
+abbrev pub IsOneWay : Window → Option Window → Window → Type 0
+IsOneWay limits None w = w ≡ limits
+IsOneWay limits (Some window) w = (limits.not_before ≡ None) × (limits.not_after ≡ None) × (w ≡ window)
+
+abbrev pub IsBothWays : Window → Option Window → Type 0
+IsBothWays limits None = ⊥
+IsBothWays limits (Some window) = (is_some limits.not_before ≡ true) ⊎ (is_some limits.not_after ≡ true)
+
+-- ---- versions
+
+-- what a version is refused for
+abbrev pub IsVersionFault : CertFaultKind → Value → Type 0
+IsVersionFault kind v = (kind ≡ kinds.Shape) ⊎ ((kind ≡ kinds.UnknownVersion) × IsUnknownVersion v)
+
+-- ---- certificates
+
+-- who a certificate's subject is, where the issuer's principal stands for one that isn't written
+abbrev pub IsSubjectOf : Principal → Option Principal → List (List ℕ) → Subject → Type 0
+IsSubjectOf issuer None names s = (s.principal ≡ issuer) × (s.names.items ≡ names)
+IsSubjectOf issuer (Some principal) names s = (s.principal ≡ principal) × (s.names.items ≡ names)
+
+-- what the fields of a certificate say, whichever certificate it is
+pub record PartsOf (fields : List Value) (p : CertParts) : Type 0 where
+  pub are_fields : AreFields IsCertField fields
+  pub issuer_is : IssuedBy fields p.issuer.principal p.issuer.name
+  pub subject_is : IssuedFor fields p.issuer.principal p.subject
+  pub propagates_is : p.propagate ≡ propagates fields
+  pub tag_is : Given (codes "tag") (Sole ReadsAs) fields p.tag
+  pub window_is : WindowOf fields p.window
+
+-- these are the fields of no certificate
+abbrev pub AreNoParts : List Value → Type 0
+AreNoParts fields =
+    (principal : Principal) (name : Option (List ℕ)) (subject : Subject) (window : Window)
+    → AreFields IsCertField fields → IssuedBy fields principal name → IssuedFor fields principal subject → WindowOf fields window → ⊥
+
+-- a certificate of either kind
+abbrev pub CertOf : Value → SeqItem → Type 0
+CertOf v (items.Key octets) = ⊥
+CertOf v (items.DoHash alg) = ⊥
+CertOf v (items.Auth c) = AuthCertOf v c
+CertOf v (items.Name c) = NameCertOf v c
+CertOf v (items.Signature s) = ⊥
+
+abbrev pub IsNoCert : Value → Type 0
+IsNoCert v = (item : SeqItem) → CertOf v item → ⊥
+
+-- ---- sequences
+
+-- The certificate that waits for its signature behind these items, by its number.
+pub record WaitsAt (vs : List Value) (item : ℕ) : Type 0 where
+  pub front : List Value
+  pub cert : Value
+  pub between : List Value
+  pub parts : vs ≡ front ++ cert ∷ between
+  pub place : item ≡ length front + 1
+  pub in_place : AreInPlace false front
+  pub all_signed : waits_after false front ≡ false
+  pub is_cert : is_headed (codes "cert") cert ≡ true
+  pub only_do : AllByRecursion (λ w. is_headed (codes "do") w ≡ true) between
+
+abbrev pub Waits : List Value → Option ℕ → Type 0
+Waits vs None = waits_after false vs ≡ false
+Waits vs (Some item) = WaitsAt vs item
+
+-- what is wrong with an item's place
+abbrev pub IsMisplaced : Option ℕ → ℕ → Value → CertFault → Type 0
+IsMisplaced None number v fault =
+    (fault.item ≡ number) × (fault.kind ≡ kinds.StraySignature) × (is_headed (codes "signature") v ≡ true)
+IsMisplaced (Some item) number v fault =
+    (fault.item ≡ item) × (fault.kind ≡ kinds.UnsignedCert)
+    × (is_headed (codes "do") v ≡ false) × (is_headed (codes "signature") v ≡ false)
+
+-- which certificate waits behind an item with this number
+abbrev pub waiting : Value → Option ℕ → ℕ → Option ℕ
+waiting v before number =
+    if is_headed (codes "cert") v then Some number else if is_headed (codes "signature") v then None else before

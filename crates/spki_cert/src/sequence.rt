@@ -1,0 +1,172 @@
+//! Sequences, as they are read.
+
+ghost use Rattle.std.specs.Prelude.{◌≡◌, ◌≢◌, ◌∷◌, ◌+◌, IsSome, IfSome, IfOk, IfErr, List, is_some, false};
+ghost use Rattle.std.specs.List.{AllZip};
+ghost use Rattle.sexpr_core.specs.Value.{Value, node};
+ghost use Rattle.spki_cert.specs.declared.certificate.SeqItem as spec;
+ghost use Rattle.spki_cert.specs.Faults.{Shows};
+ghost use Rattle.spki_cert.specs.Fields.{is_headed};
+ghost use Rattle.spki_cert.specs.Sequences.{ItemOf, IsInPlace, AreInPlace, waits_after, SeqOf, ItemsRefused, SeqRefused};
+ghost use Rattle.spki_cert.specs.Gathering.{IsMisplaced, waiting};
+
+use crate::certificate::SeqItem;
+use crate::fault::{CertFault, CertFaultKind};
+use crate::issuing::cert_of;
+use crate::reading::key_of;
+use crate::signature::{do_hash_of, signature_of};
+use sexpr_core::reading::{Members, Node};
+use sexpr_core::{Doc, NodeId};
+use std::alloc::Global;
+
+/// Whether a node is a list with this head.
+fn is_headed(node: &Node, word: &[u8]) -> bool
+    ensures { result ≡ is_headed word.now node.now }
+{
+    match node.headed(word) {
+        Some(_) => true,
+        None => false,
+    }
+}
+
+/// The item that a node is: a certificate, a signature, an operation, or else a key.
+fn item_of<'a>(alloc: Global, node: &Node<'_, 'a>) -> Result<SeqItem<'a>, CertFaultKind>
+    ensures found { IfOk result (λ item. ItemOf node.now item) }
+    ensures refused { IfErr result (λ kind. kind ≢ CertFaultKind.Memory → (item : spec.SeqItem) → ItemOf node.now item → ⊥) }
+    ensures shown { IfErr result (λ kind. Shows kind node.now) }
+{
+    if let Some(_) = node.headed(b"cert") {
+        return cert_of(alloc, node);
+    }
+    if let Some(_) = node.headed(b"signature") {
+        return Ok(SeqItem::Signature(signature_of(node)?));
+    }
+    if let Some(_) = node.headed(b"do") {
+        return Ok(SeqItem::DoHash(do_hash_of(node)?));
+    }
+    Ok(SeqItem::Key(key_of(node)?))
+}
+
+/// Whether an item may stand behind the others, of which this certificate waits for its signature.
+fn check_place(node: &Node, waits: Option<usize>, number: usize) -> Result<(), CertFault>
+    ensures found { IfOk result (λ _. IsInPlace (is_some waits) node.now) }
+    ensures refused { IfErr result (λ fault. IsMisplaced waits number node.now fault) }
+{
+    let signature = is_headed(node, b"signature");
+    let Some(item) = waits else {
+        return if signature {
+            Err(CertFault {
+                item: number,
+                kind: CertFaultKind::StraySignature,
+            })
+        } else {
+            Ok(())
+        };
+    };
+    if signature || is_headed(node, b"do") {
+        Ok(())
+    } else {
+        Err(CertFault {
+            item,
+            kind: CertFaultKind::UnsignedCert,
+        })
+    }
+}
+
+/// The certificate that waits for its signature behind an item with this number.
+fn waiting(node: &Node, before: Option<usize>, number: usize) -> Option<usize>
+    ensures { result ≡ waiting node.now before number }
+{
+    if is_headed(node, b"cert") {
+        return Some(number);
+    }
+    if is_headed(node, b"signature") {
+        None
+    } else {
+        before
+    }
+}
+
+/// The items of a sequence, behind its head.
+fn items_of<'a>(alloc: Global, members: Members<'_, 'a>) -> Result<Vec<SeqItem<'a>>, CertFault>
+    ensures items { IfOk result (λ items. AllZip ItemOf members.entry items.items) }
+    ensures in_place { IfOk result (λ _. AreInPlace false members.entry × (waits_after false members.entry ≡ false)) }
+    ensures refused { IfErr result (λ fault. fault.kind ≢ CertFaultKind.Memory → ItemsRefused members.entry fault) }
+{
+    let mut rest = members;
+    let mut items = Vec::new(alloc);
+    let mut waits = None;
+    while let Some((member, others)) = rest.split_first() {
+        let item = items.len() + 1;
+        check_place(&member, waits, item)?;
+        match item_of(alloc, &member) {
+            Ok(read) => match items.push(read) {
+                Ok(()) => {}
+                Err(_) => {
+                    return Err(CertFault {
+                        item,
+                        kind: CertFaultKind::Memory,
+                    });
+                }
+            },
+            Err(kind) => return Err(CertFault { item, kind }),
+        }
+        waits = waiting(&member, waits, item);
+        rest = others;
+    }
+    match waits {
+        None => Ok(items),
+        Some(item) => Err(CertFault {
+            item,
+            kind: CertFaultKind::UnsignedCert,
+        }),
+    }
+}
+
+/// The items of the sequence that a node is, as `read_sequence` reads it, with the same errors.
+pub fn sequence_of<'a>(alloc: Global, node: &Node<'_, 'a>) -> Result<Vec<SeqItem<'a>>, CertFault>
+    ensures sequence { IfOk result (λ items. SeqOf node.now items.items) }
+    // What is refused is named, and the fault shows on it.
+    ensures refused { IfErr result (λ fault. fault.kind ≢ CertFaultKind.Memory → SeqRefused node.now fault) }
+{
+    match node.headed(b"sequence") {
+        Some(members) => match items_of(alloc, members) {
+            Ok(items) => Ok(items),
+            Err(fault) => Err(fault),
+        },
+        None => Err(CertFault {
+            item: 0,
+            kind: CertFaultKind::Shape,
+        }),
+    }
+}
+
+/// Reads node n of a document as a sequence: `(sequence item ..)`. An item is a key, `(do hash alg)`, a certificate or
+/// a signature. Each certificate is followed by its signature, and only `do` items may stand between.
+///
+/// # Errors
+///
+/// The first fault from the left, with the number of the item, from 1, or 0 where the outer list isn't headed
+/// `sequence` (`Shape`). `UnsignedCert` has the number of the certificate; it goes before the faults of the item that
+/// stands in the signature's place. `StraySignature` where a signature stands and no certificate waits, whatever its
+/// members. `Memory` where memory ran out.
+pub fn read_sequence<'a>(
+    alloc: Global,
+    document: &Doc<'a>,
+    n: NodeId,
+) -> Result<Vec<SeqItem<'a>>, CertFault>
+    requires { IsSome (node document.now n.0) }
+    ensures sequence { IfSome (node document.now n.0) (λ value.
+        IfOk result (λ items. SeqOf value items.items)) }
+    // Refused, other than by Memory, is only what is no sequence,
+    ensures none { IfSome (node document.now n.0) (λ value.
+        IfErr result (λ fault. fault.kind ≢ CertFaultKind.Memory →
+        (items : List spec.SeqItem) → SeqOf value items → ⊥)) }
+    // and what is refused is named, where the items before it have readings and the fault shows on it.
+    ensures refused { IfSome (node document.now n.0) (λ value.
+        IfErr result (λ fault. fault.kind ≢ CertFaultKind.Memory → SeqRefused value fault)) }
+{
+    match document.node(n) {
+        Some(value) => sequence_of(alloc, &value),
+        None => unreachable!(),
+    }
+}

@@ -1,0 +1,77 @@
+//! Signatures and operations, as they are read.
+
+ghost use Rattle.std.specs.Prelude.{◌≡◌, ◌≢◌, IfOk, IfErr};
+ghost use Rattle.spki_cert.specs.declared.certificate.Signature as spec;
+ghost use Rattle.spki_cert.specs.declared.hash.HashAlg.{HashAlg};
+ghost use Rattle.spki_cert.specs.Faults.{Shows};
+ghost use Rattle.spki_cert.specs.Certificates.{SignatureOf, DoHashOf};
+
+use crate::certificate::Signature;
+use crate::fault::CertFaultKind;
+use crate::hash::HashAlg;
+use crate::naming::principal_of;
+use crate::octets::Octets;
+use crate::reading::{algorithm_of, hash_of};
+use sexpr_core::reading::Node;
+
+/// The signature that a node is.
+pub(crate) fn signature_of<'a>(node: &Node<'_, 'a>) -> Result<Signature<'a>, CertFaultKind>
+    ensures found { IfOk result (λ signature. SignatureOf node.now signature) }
+    ensures refused { IfErr result (λ _. (s : spec.Signature) → SignatureOf node.now s → ⊥) }
+    ensures shown { IfErr result (λ kind. Shows kind node.now) }
+    ensures fault { IfErr result (λ kind. kind ≢ CertFaultKind.Memory) }
+{
+    let Some(members) = node.headed(b"signature") else {
+        return Err(CertFaultKind::Shape);
+    };
+    let Some((first, rest)) = members.split_first() else {
+        return Err(CertFaultKind::Shape);
+    };
+    let (alg, digest) = hash_of(&first)?;
+    let Some((second, rest)) = rest.split_first() else {
+        return Err(CertFaultKind::Shape);
+    };
+    let signer = principal_of(&second)?;
+    let Some((value, more)) = rest.split_first() else {
+        return Err(CertFaultKind::Shape);
+    };
+    if !more.is_empty() {
+        return Err(CertFaultKind::Shape);
+    }
+    Ok(Signature {
+        alg,
+        digest,
+        signer,
+        value: Octets::new(value.slice()),
+    })
+}
+
+/// The algorithm of the operation that a node is: `(do hash alg)`.
+pub(crate) fn do_hash_of(node: &Node) -> Result<HashAlg, CertFaultKind>
+    ensures found { IfOk result (λ alg. DoHashOf node.now alg) }
+    ensures refused { IfErr result (λ _. (alg : HashAlg) → DoHashOf node.now alg → ⊥) }
+    ensures shown { IfErr result (λ kind. Shows kind node.now) }
+    ensures fault { IfErr result (λ kind. kind ≢ CertFaultKind.Memory) }
+{
+    let Some(members) = node.headed(b"do") else {
+        return Err(CertFaultKind::Shape);
+    };
+    let Some((operation, rest)) = members.split_first() else {
+        return Err(CertFaultKind::UnknownOp);
+    };
+    let Some(word) = operation.plain_octets() else {
+        return Err(CertFaultKind::UnknownOp);
+    };
+    if word != b"hash".as_slice() {
+        return Err(CertFaultKind::UnknownOp);
+    }
+    let Some((name, more)) = rest.split_first() else {
+        return Err(CertFaultKind::Shape);
+    };
+    let alg = algorithm_of(&name)?;
+    if more.is_empty() {
+        Ok(alg)
+    } else {
+        Err(CertFaultKind::Shape)
+    }
+}

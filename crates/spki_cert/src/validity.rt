@@ -1,0 +1,100 @@
+//! Validity, as it is read (RFC 2693, section 5).
+
+ghost use Rattle.std.specs.Prelude.{◌≡◌, ◌≢◌, ◌∷◌, [], ℕ, List, codes, IfOk, IfErr, MatchOption};
+ghost use Rattle.sexpr_core.specs.Value.{Value, plain, group};
+ghost use Rattle.spki_cert.specs.declared.window.Window.{Window};
+ghost use Rattle.spki_cert.specs.Readings.{DateOf};
+ghost use Rattle.spki_cert.specs.Fields.{Sole, IsLimitWord, IsLimitField, ValidOf};
+ghost use Rattle.spki_cert.specs.Faults.{Shows};
+ghost use Rattle.spki_cert.specs.Gathering.{AddsLimit, HasLimit, IsOneWay, IsBothWays};
+
+use crate::date::Date;
+use crate::fault::CertFaultKind;
+use crate::reading::date_of;
+use crate::window::Window;
+use sexpr_core::reading::{Members, Node};
+
+/// The one date that stands behind the head of a limit.
+pub(crate) fn date_in(members: Members) -> Result<Date, CertFaultKind>
+    ensures found { IfOk result (λ date. Sole DateOf members.entry date) }
+    ensures refused { IfErr result (λ _. (date : List ℕ) → Sole DateOf members.entry date → ⊥) }
+    ensures shown { IfErr result (λ kind. (word : List ℕ) → IsLimitWord word →
+        Shows kind (group (plain word ∷ members.entry))) }
+    ensures fault { IfErr result (λ kind. kind ≢ CertFaultKind.Memory) }
+{
+    let Some((value, more)) = members.split_first() else {
+        return Err(CertFaultKind::Shape);
+    };
+    let date = date_of(&value)?;
+    if more.is_empty() {
+        Ok(date)
+    } else {
+        Err(CertFaultKind::Shape)
+    }
+}
+
+/// The window with one more limit.
+fn with_limit(field: &Node, window: Window) -> Result<Window, CertFaultKind>
+    ensures found { IfOk result (λ after. AddsLimit field.now window after) }
+    ensures refused { IfErr result (λ _. IsLimitField field.now → HasLimit field.now window) }
+    ensures shown { IfErr result (λ kind. Shows kind field.now) }
+    ensures fault { IfErr result (λ kind. kind ≢ CertFaultKind.Memory) }
+{
+    if let Some(members) = field.headed(b"not-before") {
+        if window.not_before.is_some() {
+            return Err(CertFaultKind::Shape);
+        }
+        let date = date_in(members)?;
+        return Ok(Window {
+            not_before: Some(date),
+            not_after: window.not_after,
+        });
+    }
+    if let Some(members) = field.headed(b"not-after") {
+        if window.not_after.is_some() {
+            return Err(CertFaultKind::Shape);
+        }
+        let date = date_in(members)?;
+        return Ok(Window {
+            not_before: window.not_before,
+            not_after: Some(date),
+        });
+    }
+    match field.headed(b"online") {
+        Some(_) => Err(CertFaultKind::Online),
+        None => Err(CertFaultKind::Shape),
+    }
+}
+
+/// The window of the limits that stand behind the head `valid`, each at most once.
+pub(crate) fn valid_in(members: Members) -> Result<Window, CertFaultKind>
+    ensures found { IfOk result (λ window. ValidOf members.entry window) }
+    ensures refused { IfErr result (λ _. (window : Window) → ValidOf members.entry window → ⊥) }
+    ensures shown { IfErr result (λ kind. Shows kind (group (plain (codes "valid") ∷ members.entry))) }
+    ensures fault { IfErr result (λ kind. kind ≢ CertFaultKind.Memory) }
+{
+    let mut rest = members;
+    let mut window = Window {
+        not_before: None,
+        not_after: None,
+    };
+    while let Some((field, others)) = rest.split_first() {
+        window = with_limit(&field, window)?;
+        rest = others;
+    }
+    Ok(window)
+}
+
+/// The window that limits and a `(valid ..)` give; None where both ways stand at once.
+pub(crate) fn one_way(limits: Window, valid: Option<Window>) -> Option<Window>
+    ensures { MatchOption result (IsBothWays limits valid) (IsOneWay limits valid) }
+{
+    let Some(window) = valid else {
+        return Some(limits);
+    };
+    if limits.not_before.is_some() || limits.not_after.is_some() {
+        None
+    } else {
+        Some(window)
+    }
+}

@@ -1,0 +1,35 @@
+//! Versions, as they are read.
+
+ghost use Rattle.std.specs.Prelude.{◌≡◌, ◌≢◌, ◌∷◌, [], codes, IfOk, IfErr};
+ghost use Rattle.sexpr_core.specs.Value.{plain, group};
+ghost use Rattle.spki_cert.specs.Faults.{Shows};
+ghost use Rattle.spki_cert.specs.Gathering.{IsVersionFault};
+
+use crate::fault::CertFaultKind;
+use sexpr_core::reading::{Members, NodeKind};
+
+/// Reads what stands behind the head `version`: the string 0 alone.
+pub(crate) fn check_version(members: Members) -> Result<(), CertFaultKind>
+    ensures found { IfOk result (λ _. members.entry ≡ plain (codes "0") ∷ []) }
+    ensures refused { IfErr result (λ _. members.entry ≢ plain (codes "0") ∷ []) }
+    ensures shown { IfErr result (λ kind. Shows kind (group (plain (codes "version") ∷ members.entry))) }
+    ensures fault { IfErr result (λ kind. IsVersionFault kind (group (plain (codes "version") ∷ members.entry))) }
+{
+    let Some((number, more)) = members.split_first() else {
+        return Err(CertFaultKind::Shape);
+    };
+    match number.kind() {
+        NodeKind::List(_) => return Err(CertFaultKind::Shape),
+        NodeKind::String { hint: Some(_), .. } => return Err(CertFaultKind::UnknownVersion),
+        NodeKind::String { hint: None, body } => {
+            if body != b"0".as_slice() {
+                return Err(CertFaultKind::UnknownVersion);
+            }
+        }
+    }
+    if more.is_empty() {
+        Ok(())
+    } else {
+        Err(CertFaultKind::Shape)
+    }
+}

@@ -1,0 +1,92 @@
+-- Certificates that stand, one more at a time, up to one that doesn't.
+use Rattle.std.proofs.Common.{◌≡◌, ℕ, zero, suc, ◌+◌, ◌<◌, List, [], ◌∷◌, ◌++◌, Bool, true, false, ◌&&◌, IsSome, is_some, map, length, take, drop, get_or, refl, sym, ap, ◌∙◌, arith, add-one, drop-cons}
+use Rattle.std.proofs.lemmas.List.{take_more, take-append-drop, get_or-map, map-append, length-map}
+use Rattle.std.specs.List.{AllZip, AllByRecursion, list_all}
+use Rattle.spki_cert.specs.declared.principal.Policy.{Policy}
+use Rattle.spki_cert.specs.declared.certificate.SeqItem.{SeqItem}
+use Rattle.spki_reduce.specs.declared.tuple.Step.{Step}
+use Rattle.spki_reduce.specs.Tuples.{Tuple}
+use Rattle.spki_reduce.specs.Views.{step_tuple}
+use Rattle.spki_decision.specs.declared.certificates.ShownCert.{ShownCert}
+use Rattle.spki_decision.specs.declared.judging.Stop.{Stop}
+use Rattle.spki_case.specs.Case.{Verified}
+use Rattle.spki_case.specs.Sequence.{AreSigned, Shown, certificates, keys_of}
+use Rattle.spki_decision.specs.Standing.{tuple_of}
+use Rattle.spki_decision.specs.Standing.{Stands, StandsAs, FailsBy, FailsAt}
+use Rattle.spki_decision.specs.Views.{shown_of}
+
+-- ---- lists
+
+zip_more : {A B : Type 0} (R : A → B → Type 0) (xs : List A) (ys : List B) (x : A) (y : B)
+    → AllZip R xs ys → R x y → AllZip R (xs ++ x ∷ []) (ys ++ y ∷ [])
+zip_more R [] [] x y h k = (k, tt)
+zip_more R [] (z ∷ ys) x y h k = absurd h
+zip_more R (z ∷ xs) [] x y h k = absurd h
+zip_more R (z ∷ xs) (w ∷ ys) x y h k = (h.0, zip_more R xs ys x y h.1 k)
+
+both_true : (a b : Bool) → (a && b) ≡ true → (a ≡ true) × (b ≡ true)
+both_true true b h = (refl, h)
+both_true false b h = absurd cc
+
+each_at : {A : Type 0} (p : A → Bool) (xs : List A) (i : ℕ) (d : A) → list_all p xs ≡ true → i < length xs → p (get_or xs i d) ≡ true
+each_at p [] i d h k = absurd (omega arith)
+each_at p (x ∷ xs) zero d h k = (both_true (p x) (list_all p xs) h).0
+each_at p (x ∷ xs) (suc i) d h k = each_at p xs i d (both_true (p x) (list_all p xs) h).1 (omega arith)
+
+-- ---- one certificate of those that are kept
+
+module _ (items : List SeqItem) (kept : List ShownCert) (same : map shown_of kept ≡ certificates items)
+    (i : ℕ) (within : i < length kept) (one : ShownCert) (here : one ≡ get_or kept i one) where
+  at_place : get_or (map shown_of kept) i (shown_of one) ≡ shown_of one
+  at_place = get_or-map shown_of kept i one (shown_of one) within ∙ ap shown_of (sym here)
+
+  below : i < length (map shown_of kept)
+  below = rw length-map within
+
+  pub signed_here : AreSigned items → IsSome (shown_of one).signature
+  signed_here signed =
+      let all : list_all (λ s. is_some s.signature) (map shown_of kept) ≡ true = rw same signed in
+      rw at_place at (each_at (λ s. is_some s.signature) (map shown_of kept) i (shown_of one) all below)
+
+  taken : take (i + 1) (map shown_of kept) ≡ take i (map shown_of kept) ++ shown_of one ∷ []
+  taken = rw at_place at (take_more (map shown_of kept) i (shown_of one) below)
+
+  parted : certificates items ≡ take i (map shown_of kept) ++ shown_of one ∷ drop (i + 1) (map shown_of kept)
+  parted =
+      let parts = take-append-drop i (map shown_of kept) in
+      let first = rw at_place at (drop-cons (map shown_of kept) i (shown_of one) below) in
+      sym same ∙ sym parts ∙ ap (λ rest. take i (map shown_of kept) ++ rest) (rw (← add-one) at first)
+
+  module _ (policy : Policy) (verified : Verified) where
+    stood : (front : List Shown) (ts : List Tuple) → AllZip (StandsAs policy (keys_of items) verified) front ts
+        → AllByRecursion (λ s. (holder : List ℕ) × Stands policy (keys_of items) verified s holder) front
+    stood [] [] h = tt
+    stood [] (t ∷ ts) h = absurd h
+    stood (s ∷ front) [] h = absurd h
+    stood (s ∷ front) (t ∷ ts) h = ((h.0.holder, h.0.stands), stood front ts h.1)
+
+    pub failing_here : (ts : List Tuple) (stop : Stop)
+        → AllZip (StandsAs policy (keys_of items) verified) (take i (map shown_of kept)) ts
+        → FailsBy policy (keys_of items) verified (shown_of one) stop → FailsAt policy verified items one.item stop
+    failing_here ts stop h k = record {
+      before = take i (map shown_of kept);
+      failing = shown_of one;
+      after = drop (i + 1) (map shown_of kept);
+      parts = parted;
+      standing = stood (take i (map shown_of kept)) ts h;
+      place = refl;
+      fails = k;
+    }
+
+    pub numbered : (ns : List ℕ) → ns ≡ map (λ s. s.item) (take i (map shown_of kept))
+        → ns ++ one.item ∷ [] ≡ map (λ s. s.item) (take (i + 1) (map shown_of kept))
+    numbered ns h = rw (taken, map-append, ← h) refl
+
+    pub standing_more : (steps : List Step) (step : Step) (holder : List ℕ)
+        → AllZip (StandsAs policy (keys_of items) verified) (take i (map shown_of kept)) (map step_tuple steps)
+        → Stands policy (keys_of items) verified (shown_of one) holder
+        → step_tuple step ≡ tuple_of holder (shown_of one).certificate
+        → AllZip (StandsAs policy (keys_of items) verified) (take (i + 1) (map shown_of kept)) (map step_tuple (steps ++ step ∷ []))
+    standing_more steps step holder h k e =
+        rw (taken, map-append) (zip_more (StandsAs policy (keys_of items) verified) (take i (map shown_of kept)) (map step_tuple steps)
+        (shown_of one) (step_tuple step) h (record { holder = holder; stands = k; tuple_is = e }))

@@ -1,0 +1,8 @@
+use Rattle.std.proofs.Common.{◌≡◌, ◌++◌, suc, map, drop}
+use Rattle.spki_case.specs.Sequence.{certificates, certificates_from}
+use Rattle.spki_decision.specs.Views.{shown_of}
+use Rattle.spki_decision.proofs.certificates.certificates_of.Given as goal
+
+abbrev pub invariant-loop-place : goal.invariant-loop-place
+invariant-loop-place l =
+    certificates l.sequence ≡ map shown_of l.shown.items ++ certificates_from (suc l.place) (drop l.place l.sequence)

@@ -1,0 +1,56 @@
+-- What a case grants: the model's answer.
+use Rattle.std.specs.Prelude.{◌≡◌, ℕ, suc, ◌<◌, List, ◌∷◌, Some, slice_get}
+use Rattle.spki_cert.specs.declared.principal.Policy.TheVariants.{Open, Strict}
+use Rattle.spki_cert.specs.declared.entry.Entry.{Entry}
+use Rattle.spki_reduce.specs.Tuples.{Tuple, five}
+use Rattle.spki_reduce.specs.Restrictions.{nodes_product}
+use Rattle.spki_reduce.specs.Chain.{all_tags}
+use Rattle.spki_reduce.specs.Views.{entry_tuple}
+use Rattle.spki_reduce.specs.Derivation.{Tree, leaves}
+use Rattle.spki_reduce.specs.Supports.{Supports}
+use Rattle.spki_case.specs.Case.{Case, Verified}
+use Rattle.spki_decision.specs.Standing.{AreShown}
+
+-- Entry number n, from 1, is granted: every certificate stands, and some derivation from the entry and all
+-- of them in their order, however it is bracketed, supports what is asked (RFC 2693, section 6.3).
+pub record Granted (n : ℕ) (c : Case) (verified : Verified) : Type 0 where
+  pub place : ℕ
+  pub numbered : n ≡ suc place
+  pub entry : Entry
+  pub stands : slice_get c.entries place ≡ Some entry
+  pub tuples : List Tuple
+  pub shown : AreShown c.policy verified c.items tuples
+  pub tree : Tree
+  pub leaves_are : leaves tree ≡ five (entry_tuple entry) ∷ tuples
+  pub supports : Supports c.policy tree c.key c.request c.moment
+
+-- Entry number n is the first that is granted.
+pub record IsFirstGranted (n : ℕ) (c : Case) (verified : Verified) : Type 0 where
+  pub granted : Granted n c verified
+  pub none_before : (m : ℕ) → m < n → ¬ Granted m c verified
+
+-- No entry is granted.
+abbrev pub IsNoneGranted : Case → Verified → Type 0
+IsNoneGranted c verified = (n : ℕ) → ¬ Granted n c verified
+
+-- ---- limits
+
+-- Every certificate stands, and there is an entry, with none before it granted, for which the product of the nodes of
+-- its tag and of all the certificates' tags is over 1,000,000.
+pub record IsTooLarge (c : Case) (verified : Verified) : Type 0 where
+  pub place : ℕ
+  pub entry : Entry
+  pub stands : slice_get c.entries place ≡ Some entry
+  pub none_granted : (n : ℕ) → n < suc place → ¬ Granted n c verified
+  pub tuples : List Tuple
+  pub shown : AreShown c.policy verified c.items tuples
+  pub large : 1000000 < nodes_product (all_tags (five (entry_tuple entry) ∷ tuples))
+
+-- ---- policies
+
+-- the same case under the open policy, and under the strict one
+abbrev pub opened : Case → Case
+opened c = record c { policy = Open }
+
+abbrev pub strict : Case → Case
+strict c = record c { policy = Strict }

@@ -1,0 +1,10 @@
+-- Which certificates of a sequence stand (RFC 2693, section 6).
+pub mod Views
+pub mod Standing
+pub mod Steps
+pub mod Judged
+pub mod FirstNamed
+pub mod Granted
+pub mod Decision
+pub mod Refusal
+pub mod Supported

@@ -1,0 +1,53 @@
+-- What the steps of the judge find.
+use Rattle.std.specs.Prelude.{◌≡◌, ℕ, List, [], ◌∷◌, Option, Some, None, Bool, true, false}
+use Rattle.spki_cert.specs.declared.principal.Policy.{Policy}
+use Rattle.spki_cert.specs.declared.certificate.SeqItem.{SeqItem}
+use Rattle.spki_cert.specs.declared.certificate.SeqItem.TheVariants.{Key, DoHash, Auth, Name, Signature}
+use Rattle.spki_decision.specs.declared.judging.Tested.{Tested}
+use Rattle.spki_decision.specs.declared.judging.Tested.TheVariants.{Stands as Passes, Fails}
+use Rattle.spki_case.specs.Case.{Verified}
+use Rattle.spki_cert.specs.declared.certificate.Signature as signature
+use Rattle.spki_case.specs.Sequence.{Certificate, auth, name, Shown, signature_in}
+use Rattle.spki_decision.specs.Standing.{Stands, FailsBy}
+
+-- the item is this certificate
+abbrev pub IsItem : SeqItem → Certificate → Type 0
+IsItem item (auth cert) = item ≡ Auth cert
+IsItem item (name cert) = item ≡ Name cert
+
+-- the item is no certificate
+abbrev pub IsOther : SeqItem → Type 0
+IsOther (Key octets) = Unit {0}
+IsOther (DoHash alg) = Unit {0}
+IsOther (Auth cert) = ⊥
+IsOther (Name cert) = ⊥
+IsOther (Signature s) = Unit {0}
+
+-- (do ..)
+abbrev pub is_operation : SeqItem → Bool
+is_operation (Key octets) = false
+is_operation (DoHash alg) = true
+is_operation (Auth cert) = false
+is_operation (Name cert) = false
+is_operation (Signature s) = false
+
+-- the signature that an item is
+abbrev pub signature_of : SeqItem → Option signature.Signature
+signature_of (Key octets) = None
+signature_of (DoHash alg) = None
+signature_of (Auth cert) = None
+signature_of (Name cert) = None
+signature_of (Signature s) = Some s
+
+-- the certificate that an item is, if it is one
+abbrev pub certificate_at : ℕ → SeqItem → List SeqItem → List Shown
+certificate_at n (Key octets) behind = []
+certificate_at n (DoHash alg) behind = []
+certificate_at n (Auth cert) behind = record { item = n; certificate = auth cert; signature = signature_in behind } ∷ []
+certificate_at n (Name cert) behind = record { item = n; certificate = name cert; signature = signature_in behind } ∷ []
+certificate_at n (Signature s) behind = []
+
+-- what the four tests of a certificate say
+abbrev pub IsTested : Policy → List (List ℕ) → Verified → Shown → Tested → Type 0
+IsTested policy keys verified shown (Passes holder) = Stands policy keys verified shown holder
+IsTested policy keys verified shown (Fails stop) = FailsBy policy keys verified shown stop

@@ -1,0 +1,176 @@
+//! The certificates that a sequence shows, with their signatures.
+
+ghost use Rattle.std.specs.Prelude.{◌≡◌, ◌++◌, map, IfOk, OnOk, MatchOption};
+ghost use Rattle.std.specs.Option.{option_copied};
+ghost use Rattle.spki_reduce.specs.Views.{step_tuple, five_tuple, four_tuple, auth_tuple, name_tuple};
+ghost use Rattle.spki_case.specs.Sequence.{certificates, signature_in, issuer_of, octets_of};
+ghost use Rattle.spki_decision.specs.Standing.{tuple_of};
+ghost use Rattle.spki_decision.specs.Views.{certificate_of, shown_of};
+ghost use Rattle.spki_decision.specs.Steps.{IsItem, IsOther, is_operation, signature_of, certificate_at};
+
+use spki_cert::{AuthCert, Key, NameCert, Principal, SeqItem, Signature};
+use spki_reduce::{Five, Four, Issuer, Step};
+use std::alloc::{AllocError, Global};
+
+/// A certificate of either kind.
+#[derive(Drop)]
+pub enum Certificate<'s, 'a> {
+    /// An authorization.
+    Auth(&'s AuthCert<'a>),
+    /// A definition of a name.
+    Name(&'s NameCert<'a>),
+}
+
+/// A certificate that a sequence shows.
+#[derive(Drop)]
+pub struct ShownCert<'s, 'a> {
+    /// The number of its item, from 1.
+    pub item: usize,
+    /// The certificate.
+    pub certificate: Certificate<'s, 'a>,
+    /// Its signature: the next item behind it, past what is to be done; none where another item stands there.
+    pub signature: Option<&'s Signature<'a>>,
+}
+
+impl<'s, 'a> Certificate<'s, 'a> {
+    /// Who issued it.
+    pub fn issuer(&self) -> Principal<'a>
+        ensures { result ≡ issuer_of (certificate_of self.now) }
+    {
+        match self {
+            Certificate::Auth(cert) => cert.issuer.share(),
+            Certificate::Name(cert) => cert.issuer.share(),
+        }
+    }
+
+    /// Its canonical octets.
+    pub fn octets(&self) -> &'a [u8]
+        ensures { result.now ≡ octets_of (certificate_of self.now) }
+    {
+        match self {
+            Certificate::Auth(cert) => cert.octets.as_slice(),
+            Certificate::Name(cert) => cert.octets.as_slice(),
+        }
+    }
+
+    /// The tuple that it is where this key is its issuer's (RFC 2693, sections 6.1 and 6.2).
+    pub fn step(&self, holder: &Key<'a>) -> Result<Step<'a>, AllocError>
+        ensures { IfOk result (λ step. step_tuple step ≡ tuple_of holder.now (certificate_of self.now)) }
+    {
+        match self {
+            Certificate::Auth(cert) => Ok(Step::Auth(five_of(cert, holder)?)),
+            Certificate::Name(cert) => Ok(Step::Name(four_of(cert, holder)?)),
+        }
+    }
+}
+
+/// An authorization certificate's 5-tuple.
+fn five_of<'a>(cert: &AuthCert<'a>, holder: &Key<'a>) -> Result<Five<'a>, AllocError>
+    ensures { IfOk result (λ f. five_tuple f ≡ auth_tuple holder.now cert.now) }
+{
+    Ok(Five {
+        issuer: Issuer::Key(holder.share()),
+        subject: cert.subject.clone()?,
+        propagate: cert.propagate,
+        tag: cert.tag.clone()?,
+        window: cert.window,
+    })
+}
+
+/// A name certificate's 4-tuple.
+fn four_of<'a>(cert: &NameCert<'a>, holder: &Key<'a>) -> Result<Four<'a>, AllocError>
+    ensures { IfOk result (λ f. four_tuple f ≡ name_tuple holder.now cert.now) }
+{
+    Ok(Four {
+        key: holder.share(),
+        name: cert.name.share(),
+        subject: cert.subject.clone()?,
+        window: cert.window,
+    })
+}
+
+/// Whether the item is `(do ..)`.
+fn is_operation(item: &SeqItem) -> bool
+    ensures { result ≡ is_operation item.now }
+{
+    match item {
+        SeqItem::DoHash(_) => true,
+        SeqItem::Key(_) => false,
+        SeqItem::Auth(_) => false,
+        SeqItem::Name(_) => false,
+        SeqItem::Signature(_) => false,
+    }
+}
+
+/// The signature that an item is.
+fn signature_of<'s, 'a>(item: &'s SeqItem<'a>) -> Option<&'s Signature<'a>>
+    ensures { option_copied result ≡ signature_of item.entry.now }
+{
+    match item {
+        SeqItem::Signature(signature) => Some(signature),
+        SeqItem::Key(_) => None,
+        SeqItem::DoHash(_) => None,
+        SeqItem::Auth(_) => None,
+        SeqItem::Name(_) => None,
+    }
+}
+
+/// The signature of a certificate that stands before these items.
+fn signature_in<'s, 'a>(items: &'s [SeqItem<'a>]) -> Option<&'s Signature<'a>>
+    ensures { option_copied result ≡ signature_in items.entry.now }
+{
+    for item in items {
+        if !is_operation(item) {
+            return signature_of(item);
+        }
+    }
+    None
+}
+
+/// The certificate that an item is.
+fn certificate_in<'s, 'a>(item: &'s SeqItem<'a>) -> Option<Certificate<'s, 'a>>
+    ensures { MatchOption result (IsOther item.entry.now) (λ cert. IsItem item.entry.now (certificate_of cert)) }
+{
+    match item {
+        SeqItem::Auth(cert) => Some(Certificate::Auth(cert)),
+        SeqItem::Name(cert) => Some(Certificate::Name(cert)),
+        SeqItem::Key(_) => None,
+        SeqItem::DoHash(_) => None,
+        SeqItem::Signature(_) => None,
+    }
+}
+
+/// Puts an item with this number behind the certificates, if it is one. These items stand behind it.
+fn push_certificate<'s, 'a>(
+    shown: &mut Vec<ShownCert<'s, 'a>>,
+    number: usize,
+    item: &'s SeqItem<'a>,
+    behind: &'s [SeqItem<'a>],
+) -> Result<(), AllocError>
+    ensures { OnOk result (map shown_of shown.new.items
+        ≡ map shown_of shown.old.items ++ certificate_at number item.entry.now behind.entry.now) }
+{
+    let Some(certificate) = certificate_in(item) else {
+        return Ok(());
+    };
+    shown.push(ShownCert {
+        item: number,
+        certificate,
+        signature: signature_in(behind),
+    })?;
+    Ok(())
+}
+
+/// The certificates that a sequence shows, in order.
+pub fn certificates_of<'s, 'a>(
+    alloc: Global,
+    sequence: &'s [SeqItem<'a>],
+) -> Result<Vec<ShownCert<'s, 'a>>, AllocError>
+    ensures { IfOk result (λ shown. map shown_of shown.items ≡ certificates sequence.entry.now) }
+{
+    let mut shown = Vec::new(alloc);
+    for (place, item) in sequence.iter().enumerate() {
+        push_certificate(&mut shown, place + 1, item, &sequence[place + 1..])?;
+    }
+    Ok(shown)
+}

@@ -1,0 +1,130 @@
+//! Deciding a case (RFC 2693, section 6).
+
+ghost use Rattle.std.specs.Prelude.{◌≡◌, ◌∷◌, ◌<◌, ◌↔◌, List, IsTrue, IfOk, IsErrOf};
+ghost use Rattle.spki_case.specs.View.{model};
+ghost use Rattle.spki_reduce.specs.Tuples.{five};
+ghost use Rattle.spki_reduce.specs.Restrictions.{nodes_product};
+ghost use Rattle.spki_reduce.specs.Chain.{tuples_of, all_tags};
+ghost use Rattle.spki_reduce.specs.Views.{entry_tuple, five_tuple};
+ghost use Rattle.spki_decision.specs.Supported.{Supported, Names, HasLarge};
+ghost use Rattle.spki_decision.specs.Granted.{IsTooLarge};
+ghost use Rattle.spki_decision.specs.Decision.{IsDecision};
+
+use crate::judging::{Evidence, judge};
+use spki_case::{Case, Verifier};
+use spki_cert::Entry;
+use spki_reduce::{Five, Fold, Issuer, ReduceFault, Step, fold_chain};
+use std::alloc::{AllocError, Global};
+use thiserror::Error;
+
+/// What a case's access list answers.
+#[derive(Clone, Copy, Debug, PartialEq, Eq)]
+pub enum Decision {
+    /// This entry, counted from 1, grants what is asked, and none before it does.
+    Yes(usize),
+    /// No entry does.
+    No,
+}
+
+/// Why a case was not decided.
+#[derive(Clone, Copy, Debug, PartialEq, Eq, Error)]
+pub enum GuardFault {
+    /// The product of the nodes of an entry's tag and of the certificates' tags is over 1,000,000.
+    #[error("the tags are too large")]
+    TooLarge,
+    /// Memory was refused, to the guard or to the verifier.
+    #[error("out of memory")]
+    Memory,
+}
+
+impl From<AllocError> for GuardFault {
+    ghost use Rattle.spki_decision.specs.declared.deciding.GuardFault.TheVariants.{Memory};
+
+    ghost from_gives = { λ _ fault. fault ≡ Memory };
+
+    fn from(_error: AllocError) -> GuardFault {
+        GuardFault::Memory
+    }
+}
+
+impl From<ReduceFault> for GuardFault {
+    ghost use Rattle.spki_decision.specs.Refusal.{guard_fault};
+
+    ghost from_gives = { λ fault outer. outer ≡ guard_fault fault };
+
+    fn from(fault: ReduceFault) -> GuardFault {
+        match fault {
+            ReduceFault::TooLarge => GuardFault::TooLarge,
+            ReduceFault::Memory => GuardFault::Memory,
+        }
+    }
+}
+
+/// Decides a case (RFC 2693, section 6): yes exactly if every certificate of its sequence stands, with the verifier's word
+/// for the signatures, and an entry and all of them, in their order, reduce to an authorization that grants what is asked.
+///
+/// # Errors
+///
+/// `TooLarge` only where the certificates stand, and for an entry with none before it granted the product of the
+/// nodes of all tags is over 1,000,000. `Memory` where memory was refused, to this or to the verifier.
+pub fn decide<V: Verifier>(alloc: Global, case: &Case, verifier: &V) -> Result<Decision, GuardFault>
+    ensures exact { IfOk result (IsDecision (model case.now) (V.accepted verifier.now)) }
+    ensures too_large { IsErrOf result GuardFault.TooLarge → IsTooLarge (model case.now) (V.accepted verifier.now) }
+{
+    match judge(alloc, &case.sequence, case.policy, verifier)? {
+        Evidence::Fails { .. } => Ok(Decision::No),
+        Evidence::Stands { steps, .. } => first_granted(alloc, case, &steps),
+    }
+}
+
+/// The first entry that grants what is asked, where the certificates that are shown are these steps.
+fn first_granted<'a>(
+    alloc: Global,
+    case: &Case<'a>,
+    steps: &[Step<'a>],
+) -> Result<Decision, GuardFault>
+    ensures named { IfOk result (Names (model case.now) (tuples_of steps.now)) }
+    ensures too_large { IsErrOf result GuardFault.TooLarge → HasLarge (model case.now) (tuples_of steps.now) }
+{
+    for (place, entry) in case.acl.iter().enumerate() {
+        if grants(alloc, entry, steps, case)? {
+            return Ok(Decision::Yes(place + 1));
+        }
+    }
+    Ok(Decision::No)
+}
+
+/// Whether an entry and the steps behind it grant what is asked.
+fn grants<'a>(
+    alloc: Global,
+    entry: &Entry<'a>,
+    steps: &[Step<'a>],
+    case: &Case<'a>,
+) -> Result<bool, GuardFault>
+    ensures exact { IfOk result (λ yes. IsTrue yes ↔ Supported (model case.now) (tuples_of steps.now) entry.now) }
+    ensures too_large { IsErrOf result GuardFault.TooLarge →
+        1000000 < nodes_product (all_tags (five (entry_tuple entry.now) ∷ tuples_of steps.now)) }
+{
+    case.request.known();
+    let own = own_five(entry)?;
+    match fold_chain(alloc, &own, steps, case.policy)? {
+        Fold::Stopped { .. } => Ok(false),
+        Fold::Done(five) => {
+            let lack = five.first_lack(&case.key, &case.request, &case.moment, case.policy);
+            Ok(lack.is_none())
+        }
+    }
+}
+
+/// An entry's 5-tuple, whose issuer is the keeper of the access list (RFC 2693, section 6.1).
+fn own_five<'a>(entry: &Entry<'a>) -> Result<Five<'a>, AllocError>
+    ensures { IfOk result (λ f. five_tuple f ≡ entry_tuple entry.now) }
+{
+    Ok(Five {
+        issuer: Issuer::Own,
+        subject: entry.subject.clone()?,
+        propagate: entry.propagate,
+        tag: entry.tag.clone()?,
+        window: entry.window,
+    })
+}

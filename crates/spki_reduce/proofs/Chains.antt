@@ -1,0 +1,249 @@
+-- What a chain that stops says of its tuples in any bracketing.
+use Rattle.std.proofs.Common.{◌≡◌, ℕ, suc, ◌+◌, ◌*◌, ◌≤◌, ◌<◌, Bool, true, false, ◌&&◌, List, [], ◌∷◌, ◌++◌, Some, refl, sym, ◌∙◌, ap, subst, arith, flat_map, append-nil, take, drop, slice_get, length, get_or, add-one, option_map}
+use Rattle.std.proofs.Math.Nat.{mul-le-mul_left, mul-le-mul_right}
+use Rattle.std.proofs.Math.Seq.{take-suc}
+use Rattle.std.proofs.lemmas.List.{take-append-drop}
+use Rattle.std.proofs.lemmas.List.Folds.{list_all-append}
+use Rattle.std.proofs.lemmas.Grind.{flat_map-append}
+use Rattle.std.proofs.lemmas.Option.{slice_get_within, get_or_from_slice_get, slice_get-map, slice_get-get_or}
+use Rattle.spki_cert.specs.declared.principal.Policy.{Policy}
+use Rattle.spki_cert.specs.Time.{within}
+use Rattle.spki_tag.specs.Tag.{Tag, contains, set, none}
+use Rattle.spki_tag.proofs.Bounds.{nodes-some}
+use Rattle.spki_reduce.specs.declared.fold.Cause.{Cause}
+use Rattle.spki_reduce.specs.declared.fold.Cause.TheVariants.{NotIssuer, NotTheName, NoDelegation, NoValidity, NoTag}
+use Rattle.spki_reduce.specs.declared.tuple.Five.{Five}
+use Rattle.spki_reduce.specs.declared.tuple.Step.{Step}
+use Rattle.spki_reduce.specs.Tuples.{FiveTuple, Tuple, five, four, tags_of, windows_of}
+use Rattle.spki_reduce.specs.Rules.{Joins}
+use Rattle.spki_reduce.specs.Derivation.{Tree, leaf, join, Derives, from_left}
+use Rattle.spki_reduce.specs.Restrictions.{in_each, within_each, NoMoment, NoRequest, nodes_product}
+use Rattle.spki_reduce.specs.Stops.{Stops, TooLargeFor}
+use Rattle.spki_reduce.specs.Views.{five_tuple, step_tuple}
+use Rattle.spki_reduce.specs.Reduced.{BecomesFive}
+use Rattle.spki_reduce.specs.Chain.{tuples_of, FoldsTo, StopsAt, TooLargeAt, NoDerivation, Excludes, SupportsNothing, all_tags, all_windows}
+use Rattle.spki_reduce.proofs.Bracketing.{from_left-more, from_left-leaves, front, one_root}
+use Rattle.spki_reduce.proofs.Parts as parts
+use Rattle.spki_reduce.proofs.Folding as folding
+use Rattle.spki_reduce.proofs.Folding.{nodes_product-append, stops, grown}
+
+-- ---- lists
+
+more_at : (xs : List Tuple) (n : ℕ) (x : Tuple) → slice_get xs n ≡ Some x → take (suc n) xs ≡ take n xs ++ x ∷ []
+more_at xs n x is =
+    take-suc xs n x (slice_get_within xs n x is) ∙ ap (λ y. take n xs ++ y ∷ []) (get_or_from_slice_get xs n x x is)
+
+never : (b : Bool) → b ≡ false → b ≡ true → ⊥
+never b e f = let g : false ≡ true = sym e ∙ f in cc
+
+first_false : (a b : Bool) → a ≡ false → (a && b) ≡ false
+first_false a b e = ap (λ x. x && b) e
+
+-- ---- a tuple that doesn't join
+
+-- a cause that isn't a matter of what tags or windows leave
+abbrev IsMisfit : Cause → Type 0
+IsMisfit NotIssuer = Unit {0}
+IsMisfit NotTheName = Unit {0}
+IsMisfit NoDelegation = Unit {0}
+IsMisfit NoValidity = ⊥
+IsMisfit NoTag = ⊥
+
+unjoined : (policy : Policy) (root : FiveTuple) (tuple made : Tuple) (cause : Cause) → IsMisfit cause
+    → Stops policy (five root) tuple cause → Joins policy (five root) tuple made → ⊥
+unjoined policy root (five right) (five made) NotIssuer m h k = h k.issues
+unjoined policy root (five right) (five made) NotTheName m h k = h
+unjoined policy root (five right) (five made) NoDelegation m h k = never root.delegation h.1 k.allowed
+unjoined policy root (five right) (five made) NoValidity m h k = m
+unjoined policy root (five right) (five made) NoTag m h k = m
+unjoined policy root (four right) (five made) NotIssuer m h k = h
+unjoined policy root (four right) (five made) NotTheName m h k = h k.begins
+unjoined policy root (four right) (five made) NoDelegation m h k = h
+unjoined policy root (four right) (five made) NoValidity m h k = m
+unjoined policy root (four right) (five made) NoTag m h k = m
+unjoined policy root (five right) (four made) cause m h k = k
+unjoined policy root (four right) (four made) cause m h k = k
+
+no_moment : (policy : Policy) (root : FiveTuple) (tuple : Tuple) → Stops policy (five root) tuple NoValidity
+    → NoMoment (root.windows ++ windows_of tuple)
+no_moment policy root (five right) h = h.2
+no_moment policy root (four right) h = h.1
+
+no_request : (policy : Policy) (root : FiveTuple) (tuple : Tuple) → Stops policy (five root) tuple NoTag
+    → NoRequest (root.tags ++ tags_of tuple)
+no_request policy root (five right) h = h.1
+no_request policy root (four right) h = absurd h
+
+module _ (policy : Policy) (first : Tuple) where
+  -- ---- roots have what their leaves have
+
+  pub tags_so_far : (before : List Tuple) (root : FiveTuple) → Derives policy (from_left first before) (five root)
+      → root.tags ≡ all_tags (first ∷ before)
+  tags_so_far before root d =
+      parts.all_tags policy (from_left first before) (five root) d ∙ ap (flat_map tags_of) (from_left-leaves first before)
+
+  windows_so_far : (before : List Tuple) (root : FiveTuple) → Derives policy (from_left first before) (five root)
+      → root.windows ≡ all_windows (first ∷ before)
+  windows_so_far before root d =
+      parts.all_windows policy (from_left first before) (five root) d
+      ∙ ap (flat_map windows_of) (from_left-leaves first before)
+
+  last_joins : (left : Tree) (tuple root made : Tuple) → Derives policy left root → Derives policy (join left (leaf tuple)) made
+      → Joins policy root tuple made
+  last_joins left tuple root made d e =
+      let same : e.0 ≡ root = one_root policy left left e.0 root refl e.2 d in
+      let P : Tuple → Type 0 = λ x. Joins policy x tuple made in
+      let Q : Tuple → Type 0 = λ x. Joins policy e.0 x made in
+      subst P same (subst Q e.3 e.4)
+
+  -- ---- a chain that stops
+
+  module _ (others : List Tuple) (step : ℕ) where
+    up_to : (cause : Cause) (h : StopsAt policy first others step cause)
+        → take step others ≡ take h.place others ++ h.tuple ∷ []
+    up_to cause h = ap (λ n. take n others) h.numbered ∙ more_at others h.place h.tuple h.stands
+
+    windows_up_to : (h : StopsAt policy first others step NoValidity)
+        → h.root.windows ++ windows_of h.tuple ≡ all_windows (first ∷ take step others)
+    windows_up_to h =
+        ap (λ ws. ws ++ windows_of h.tuple) (windows_so_far (take h.place others) h.root h.derived)
+        ∙ ap (λ ws. all_windows (first ∷ take h.place others) ++ ws) (sym (append-nil (windows_of h.tuple)))
+        ∙ sym (flat_map-append windows_of (first ∷ take h.place others) (h.tuple ∷ []))
+        ∙ ap (λ ts. all_windows (first ∷ ts)) (sym (up_to NoValidity h))
+
+    tags_up_to : (h : StopsAt policy first others step NoTag)
+        → h.root.tags ++ tags_of h.tuple ≡ all_tags (first ∷ take step others)
+    tags_up_to h =
+        ap (λ ts. ts ++ tags_of h.tuple) (tags_so_far (take h.place others) h.root h.derived)
+        ∙ ap (λ ts. all_tags (first ∷ take h.place others) ++ ts) (sym (append-nil (tags_of h.tuple)))
+        ∙ sym (flat_map-append tags_of (first ∷ take h.place others) (h.tuple ∷ []))
+        ∙ ap (λ ts. all_tags (first ∷ ts)) (sym (up_to NoTag h))
+
+    underivable : (cause : Cause) → IsMisfit cause → StopsAt policy first others step cause
+        → NoDerivation policy (first ∷ others)
+    underivable cause m h tree root e d =
+        let before = take h.place others in
+        let whole : others ≡ (before ++ h.tuple ∷ []) ++ drop step others =
+        sym (take-append-drop step others) ∙ ap (λ ts. ts ++ drop step others) (up_to cause h) in
+        let begun = front policy tree root first (before ++ h.tuple ∷ []) (drop step others) d
+        (e ∙ ap (λ ts. first ∷ ts) whole) in
+        let P : Tree → Type 0 = λ t. Derives policy t begun.0 in
+        let last = last_joins (from_left first before) h.tuple (five h.root) begun.0 h.derived
+        (subst P (from_left-more first h.tuple before) begun.1) in
+        unjoined policy h.root h.tuple begun.0 cause m h.stopped last
+
+    pub excluded : (cause : Cause) → StopsAt policy first others step cause → Excludes policy first others step cause
+    excluded NotIssuer h = underivable NotIssuer tt h
+    excluded NotTheName h = underivable NotTheName tt h
+    excluded NoDelegation h = underivable NoDelegation tt h
+    excluded NoValidity h = subst NoMoment (windows_up_to h) (no_moment policy h.root h.tuple h.stopped)
+    excluded NoTag h = subst NoRequest (tags_up_to h) (no_request policy h.root h.tuple h.stopped)
+
+    underived : NoDerivation policy (first ∷ others) → SupportsNothing policy (first ∷ others)
+    underived h tree holder request moment e is s = h tree (five s.root) e s.derived
+
+    untimely : NoMoment (all_windows (first ∷ take step others)) → SupportsNothing policy (first ∷ others)
+    untimely h tree holder request moment e is s =
+        let all : s.root.windows ≡ all_windows (first ∷ take step others) ++ all_windows (drop step others) =
+        parts.all_windows policy tree (five s.root) s.derived ∙ ap (flat_map windows_of) e
+        ∙ ap (λ ts. all_windows (first ∷ ts)) (sym (take-append-drop step others))
+        ∙ flat_map-append windows_of (first ∷ take step others) (drop step others) in
+        never (within_each moment s.root.windows)
+        (ap (within_each moment) all ∙ list_all-append (λ w. within moment w) (all_windows (first ∷ take step others))
+        (all_windows (drop step others))
+        ∙ first_false (within_each moment (all_windows (first ∷ take step others))) _ (h moment))
+        s.grants.timely
+
+    unasked : NoRequest (all_tags (first ∷ take step others)) → SupportsNothing policy (first ∷ others)
+    unasked h tree holder request moment e is s =
+        let all : s.root.tags ≡ all_tags (first ∷ take step others) ++ all_tags (drop step others) =
+        parts.all_tags policy tree (five s.root) s.derived ∙ ap (flat_map tags_of) e
+        ∙ ap (λ ts. all_tags (first ∷ ts)) (sym (take-append-drop step others))
+        ∙ flat_map-append tags_of (first ∷ take step others) (drop step others) in
+        never (in_each request s.root.tags)
+        (ap (in_each request) all ∙ list_all-append (λ t. contains t request) (all_tags (first ∷ take step others))
+        (all_tags (drop step others))
+        ∙ first_false (in_each request (all_tags (first ∷ take step others))) _ (h request is))
+        s.grants.asked
+
+    pub unsupported : (cause : Cause) → StopsAt policy first others step cause → SupportsNothing policy (first ∷ others)
+    unsupported NotIssuer h = underived (excluded NotIssuer h)
+    unsupported NotTheName h = underived (excluded NotTheName h)
+    unsupported NoDelegation h = underived (excluded NoDelegation h)
+    unsupported NoValidity h = untimely (excluded NoValidity h)
+    unsupported NoTag h = unasked (excluded NoTag h)
+
+-- ---- products
+
+product-some : (tags : List Tag) → 1 ≤ nodes_product tags
+product-some [] = omega arith
+product-some (t ∷ ts) = omega (arith, mul-le-mul_right (nodes_product ts) (nodes-some t), product-some ts)
+
+larger : (n a d : ℕ) → 1 ≤ d → n < a → n < a * d
+larger n a d h k = let out : a * 1 ≤ a * d = mul-le-mul_left a h in omega arith
+
+too_many : (policy : Policy) (root : FiveTuple) (tuple : Tuple) → TooLargeFor policy root tuple
+    → 1000000 < nodes_product (root.tags ++ tags_of tuple)
+too_many policy root (five right) h = h.1
+too_many policy root (four right) h = absurd h
+
+module _ (policy : Policy) (first : Tuple) (others : List Tuple) where
+  -- what is too large at a step is too large for the chain
+  pub too_large : TooLargeAt policy first others → 1000000 < nodes_product (all_tags (first ∷ others))
+  too_large h =
+      let before = first ∷ take h.place others in
+      let after = drop (suc h.place) others in
+      let parted : others ≡ (take h.place others ++ h.tuple ∷ []) ++ after =
+      sym (take-append-drop (suc h.place) others)
+      ∙ ap (λ ts. ts ++ after) (more_at others h.place h.tuple h.stands) in
+      let all : all_tags (first ∷ others) ≡ (h.root.tags ++ tags_of h.tuple) ++ all_tags after =
+      ap (λ ts. all_tags (first ∷ ts)) parted ∙ flat_map-append tags_of (before ++ h.tuple ∷ []) after
+      ∙ ap (λ ts. ts ++ all_tags after) (flat_map-append tags_of before (h.tuple ∷ [])
+      ∙ ap (λ ts. all_tags before ++ ts) (append-nil (tags_of h.tuple))
+      ∙ ap (λ ts. ts ++ tags_of h.tuple) (sym (tags_so_far policy first (take h.place others) h.root h.derived))) in
+      let product = ap nodes_product all ∙ nodes_product-append (h.root.tags ++ tags_of h.tuple) (all_tags after) in
+      let P : ℕ → Type 0 = λ x. 1000000 < x in
+      subst P (sym product) (larger 1000000 (nodes_product (h.root.tags ++ tags_of h.tuple)) (nodes_product (all_tags after))
+      (product-some (all_tags after)) (too_many policy h.root h.tuple h.too_large))
+
+-- ---- the code's steps
+
+module _
+    (policy : Policy) (first : Tuple) (steps : List Step) (place : ℕ) (step : Step) (f : Five)
+    (within : place < length steps) (read : step ≡ get_or steps place step)
+    (so_far : FoldsTo policy first (take place (tuples_of steps)) f) where
+  step_stands : slice_get (tuples_of steps) place ≡ Some (step_tuple step)
+  step_stands = slice_get-map step_tuple steps place ∙ ap (option_map step_tuple)
+      (slice_get-get_or steps place step within ∙ ap Some (sym read))
+
+  pub stops_here : (cause : Cause) → Stops policy (five (five_tuple f)) (step_tuple step) cause
+      → StopsAt policy first (tuples_of steps) (place + 1) cause
+  stops_here cause h = record {
+    place = place;
+    numbered = add-one place;
+    tuple = step_tuple step;
+    stands = step_stands;
+    root = so_far.root;
+    derived = so_far.derived;
+    stopped = stops policy so_far.root f so_far.reduced (step_tuple step) cause h;
+  }
+
+  pub goes_on : (g : Five)
+      → BecomesFive policy (five (five_tuple f)) (step_tuple step) g
+      × (g.tag ≡ set none → (f.tag ≡ set none) × (tags_of (step_tuple step) ≡ []))
+      → FoldsTo policy first (take (place + 1) (tuples_of steps)) g
+  goes_on g h =
+      let P : List Tuple → Type 0 = λ ts. FoldsTo policy first ts g in
+      let more : take (place + 1) (tuples_of steps) ≡ take place (tuples_of steps) ++ step_tuple step ∷ [] =
+      ap (λ n. take n (tuples_of steps)) (add-one place) ∙ more_at (tuples_of steps) place (step_tuple step) step_stands in
+      subst P (sym more) (grown policy first (take place (tuples_of steps)) (step_tuple step) f g so_far h.0 h.1)
+
+  pub too_large_here : TooLargeFor policy (five_tuple f) (step_tuple step) → TooLargeAt policy first (tuples_of steps)
+  too_large_here h = record {
+    place = place;
+    tuple = step_tuple step;
+    stands = step_stands;
+    root = so_far.root;
+    derived = so_far.derived;
+    too_large = folding.too_large policy so_far.root f so_far.reduced (step_tuple step) h;
+  }

@@ -1,0 +1,236 @@
+-- One more tuple joins a chain as it joins what the chain became.
+use Rattle.std.proofs.Common.{◌≡◌, ℕ, ◌*◌, ◌<◌, ◌≤◌, max, ◌&&◌, List, [], ◌∷◌, ◌++◌, refl, sym, ◌∙◌, ap, subst, arith, append-nil}
+use Rattle.std.proofs.Math.Bool.{and-true}
+use Rattle.std.proofs.Math.Nat.{mul-le-mul_right}
+use Rattle.std.proofs.lemmas.List.Folds.{list_all-append}
+use Rattle.std.proofs.lemmas.Grind.{flat_map-append}
+use Rattle.spki_cert.specs.declared.principal.Policy.{Policy}
+use Rattle.spki_cert.specs.declared.window.Window.{Window}
+use Rattle.spki_cert.specs.Time.{within}
+use Rattle.spki_cert.specs.Naming.{names}
+use Rattle.spki_tag.specs.Request.{Request}
+use Rattle.spki_tag.specs.Tag.{Tag, contains, nodes, ldepth, set, none}
+use Rattle.spki_reduce.specs.declared.fold.Cause.{Cause}
+use Rattle.spki_reduce.specs.declared.fold.Cause.TheVariants.{NotIssuer, NotTheName, NoDelegation, NoValidity, NoTag}
+use Rattle.spki_reduce.specs.declared.tuple.Five.{Five}
+use Rattle.spki_reduce.specs.Tuples.{FiveTuple, FourTuple, Tuple, five, four, tags_of}
+use Rattle.spki_reduce.specs.Rules.{IsFor, Issues, Begins, Joins, Delegate, Resolve, delegated, resolved}
+use Rattle.spki_reduce.specs.Restrictions.{in_each, within_each, SomeMoment, NoMoment, nodes_product, deepest}
+use Rattle.spki_reduce.specs.Views.{five_tuple, issuer_of}
+use Rattle.spki_reduce.specs.Stops.{Stops, TooLargeFor}
+use Rattle.spki_reduce.specs.Reduced.{ReducesToFive, BecomesFive}
+use Rattle.spki_reduce.specs.Chain.{FoldsTo}
+use Rattle.spki_reduce.proofs.Bracketing.{from_left-more}
+
+-- ---- tags and windows, one for several
+
+pub nodes_product-append : (xs ys : List Tag) → nodes_product (xs ++ ys) ≡ nodes_product xs * nodes_product ys
+nodes_product-append [] ys = omega arith
+nodes_product-append (x ∷ xs) ys = rw (nodes_product-append xs ys) (omega arith)
+
+deepest-append : (xs ys : List Tag) → deepest (xs ++ ys) ≡ max (deepest xs) (deepest ys)
+deepest-append [] ys = omega arith
+deepest-append (x ∷ xs) ys = omega (arith, deepest-append xs ys)
+
+fewer : (tag : Tag) (tags more : List Tag) (n : ℕ) → nodes tag ≤ nodes_product tags → n ≤ nodes_product (tag ∷ more)
+    → n ≤ nodes_product (tags ++ more)
+fewer tag tags more n h k = rw nodes_product-append (omega (arith, mul-le-mul_right (nodes_product more) h))
+
+pub more_nodes : (tag : Tag) (tags more : List Tag) → nodes tag ≤ nodes_product tags → (n : ℕ) → n < nodes_product (tag ∷ more)
+    → n < nodes_product (tags ++ more)
+more_nodes tag tags more h n k = rw nodes_product-append (omega (arith, mul-le-mul_right (nodes_product more) h))
+
+shallower : (tag : Tag) (tags more : List Tag) (n : ℕ) → ldepth tag ≤ deepest tags → n ≤ deepest (tag ∷ more)
+    → n ≤ deepest (tags ++ more)
+shallower tag tags more n h k = rw deepest-append (omega arith)
+
+module _ (tag : Tag) (tags more : List Tag) where
+  in_more : (request : Request) → contains tag request ≡ in_each request tags
+      → in_each request (tag ∷ more) ≡ in_each request (tags ++ more)
+  in_more request h =
+      ap (λ x. x && in_each request more) h ∙ sym (list_all-append (λ t. contains t request) tags more)
+
+module _ (window : Window) (windows more : List Window) (same : (t : List ℕ) → within t window ≡ within_each t windows) where
+  within_more : (t : List ℕ) → within_each t (window ∷ more) ≡ within_each t (windows ++ more)
+  within_more t = ap (λ x. x && within_each t more) (same t) ∙ sym (list_all-append (λ w. within t w) windows more)
+
+  some_more : SomeMoment (window ∷ more) → SomeMoment (windows ++ more)
+  some_more h = (h.0, h.1, sym (within_more h.0) ∙ h.2)
+
+  none_more : NoMoment (window ∷ more) → NoMoment (windows ++ more)
+  none_more h t = sym (within_more t) ∙ h t
+
+-- ---- a root, and what it reduces to
+
+module _ (policy : Policy) (root : FiveTuple) (f : Five) (reduced : ReducesToFive root f) where
+  pub is_for : (holder : List ℕ) → IsFor policy (five_tuple f) holder → IsFor policy root holder
+  is_for holder h = record {
+    whole = sym reduced.names ∙ h.whole;
+    named = ap (λ p. names policy p holder) (sym reduced.principal) ∙ h.named;
+  }
+
+  pub is_for_back : (holder : List ℕ) → IsFor policy root holder → IsFor policy (five_tuple f) holder
+  is_for_back holder h = record {
+    whole = reduced.names ∙ h.whole;
+    named = ap (λ p. names policy p holder) reduced.principal ∙ h.named;
+  }
+
+  issues : (right : FiveTuple) → Issues policy (five_tuple f) right → Issues policy root right
+  issues right h = record { holder = h.holder; issued = h.issued; is_for = is_for h.holder h.is_for }
+
+  issues_back : (right : FiveTuple) → Issues policy root right → Issues policy (five_tuple f) right
+  issues_back right h = record { holder = h.holder; issued = h.issued; is_for = is_for_back h.holder h.is_for }
+
+  abbrev begins : (right : FourTuple) → Begins policy f.subject.principal f.subject.names.items right
+      → Begins policy root.principal root.names right
+  begins right h = record {
+    rest = h.rest;
+    named = ap (λ p. names policy p right.key) (sym reduced.principal) ∙ h.named;
+    name = sym reduced.names ∙ h.name;
+  }
+
+  begins_back : (right : FourTuple) → Begins policy root.principal root.names right
+      → Begins policy f.subject.principal f.subject.names.items right
+  begins_back right h = record {
+    rest = h.rest;
+    named = ap (λ p. names policy p right.key) reduced.principal ∙ h.named;
+    name = reduced.names ∙ h.name;
+  }
+
+  -- ---- joins
+
+  delegates : (right : FiveTuple) (made : FiveTuple) (g : Five) → Delegate policy (five_tuple f) right made
+      → ReducesToFive made g → SomeMoment made.windows → BecomesFive policy (five root) (five right) g
+  delegates right made g h k m =
+      let is = h.result_is in
+      let tags = ap (λ (t : FiveTuple). t.tags) is in
+      let windows = ap (λ (t : FiveTuple). t.windows) is in
+      record {
+        root = delegated root right;
+        joined = record { issues = issues right h.issues; allowed = sym reduced.delegation ∙ h.allowed; result_is = refl };
+        reduced = record {
+          issuer = k.issuer ∙ ap (λ (t : FiveTuple). t.issuer) is ∙ reduced.issuer;
+          principal = k.principal ∙ ap (λ (t : FiveTuple). t.principal) is;
+          names = k.names ∙ ap (λ (t : FiveTuple). t.names) is;
+          delegation = k.delegation ∙ ap (λ (t : FiveTuple). t.delegation) is;
+          requests = λ q is_request. k.requests q is_request ∙ ap (λ ts. in_each q ts) tags
+              ∙ in_more f.tag root.tags right.tags q (reduced.requests q is_request);
+          moments = λ t. k.moments t ∙ ap (λ ws. within_each t ws) windows
+              ∙ within_more f.window root.windows right.windows reduced.moments t;
+          nodes = fewer f.tag root.tags right.tags (nodes g.tag) reduced.nodes (rw tags at k.nodes);
+          depth = shallower f.tag root.tags right.tags (ldepth g.tag) reduced.depth (rw tags at k.depth);
+        };
+        timely = some_more f.window root.windows right.windows reduced.moments (subst SomeMoment windows m);
+      }
+
+  resolves : (right : FourTuple) (made : FiveTuple) (g : Five) → Resolve policy (five_tuple f) right made
+      → ReducesToFive made g → SomeMoment made.windows → BecomesFive policy (five root) (four right) g
+  resolves right made g h k m =
+      let is = h.result_is in
+      let tags = ap (λ (t : FiveTuple). t.tags) is in
+      let windows = ap (λ (t : FiveTuple). t.windows) is in
+      record {
+        root = resolved root right h.begins.rest;
+        joined = record { begins = begins right h.begins; result_is = refl };
+        reduced = record {
+          issuer = k.issuer ∙ ap (λ (t : FiveTuple). t.issuer) is ∙ reduced.issuer;
+          principal = k.principal ∙ ap (λ (t : FiveTuple). t.principal) is;
+          names = k.names ∙ ap (λ (t : FiveTuple). t.names) is;
+          delegation = k.delegation ∙ ap (λ (t : FiveTuple). t.delegation) is ∙ reduced.delegation;
+          requests = λ q is_request. k.requests q is_request ∙ ap (λ ts. in_each q ts) tags
+              ∙ in_more f.tag root.tags [] q (reduced.requests q is_request) ∙ ap (λ ts. in_each q ts) (append-nil root.tags);
+          moments = λ t. k.moments t ∙ ap (λ ws. within_each t ws) windows
+              ∙ within_more f.window root.windows right.windows reduced.moments t;
+          nodes = omega (arith, reduced.nodes, rw tags at k.nodes);
+          depth = omega (arith, reduced.depth, rw tags at k.depth);
+        };
+        timely = some_more f.window root.windows right.windows reduced.moments (subst SomeMoment windows m);
+      }
+
+  joins : (right made : Tuple) (g : Five) (r : FiveTuple) → made ≡ five r → Joins policy (five (five_tuple f)) right (five r)
+      → ReducesToFive r g → SomeMoment r.windows → BecomesFive policy (five root) right g
+  joins (five right) made g r e h k m = delegates right r g h k m
+  joins (four right) made g r e h k m = resolves right r g h k m
+
+  pub becomes : (right : Tuple) (g : Five) → BecomesFive policy (five (five_tuple f)) right g → BecomesFive policy (five root) right g
+  becomes right g h = joins right (five h.root) g h.root refl h.joined h.reduced h.timely
+
+  -- ---- stops
+
+  pub stops : (right : Tuple) (cause : Cause) → Stops policy (five (five_tuple f)) right cause → Stops policy (five root) right cause
+  stops (five right) NotIssuer h = λ k. h (issues_back right k)
+  stops (five right) NotTheName h = h
+  stops (five right) NoDelegation h = (issues right h.0, sym reduced.delegation ∙ h.1)
+  stops (five right) NoValidity h = (
+    issues right h.0,
+    sym reduced.delegation ∙ h.1,
+    none_more f.window root.windows right.windows reduced.moments h.2,
+  )
+  stops (five right) NoTag h = (
+    record {
+      issues = issues right h.0.issues;
+      allowed = sym reduced.delegation ∙ h.0.allowed;
+      timely = some_more f.window root.windows right.windows reduced.moments h.0.timely;
+    },
+    λ q is. sym (in_more f.tag root.tags right.tags q (reduced.requests q is)) ∙ h.1 q is,
+  )
+  stops (four right) NotIssuer h = h
+  stops (four right) NotTheName h = λ k. h (begins_back right k)
+  stops (four right) NoDelegation h = h
+  stops (four right) NoValidity h = (
+    begins right h.0,
+    none_more f.window root.windows right.windows reduced.moments h.1,
+  )
+  stops (four right) NoTag h = h
+
+  pub too_large : (right : Tuple) → TooLargeFor policy (five_tuple f) right → TooLargeFor policy root right
+  too_large (five right) h = (
+    record {
+      issues = issues right h.0.issues;
+      allowed = sym reduced.delegation ∙ h.0.allowed;
+      timely = some_more f.window root.windows right.windows reduced.moments h.0.timely;
+    },
+    more_nodes f.tag root.tags right.tags reduced.nodes 1000000 h.1,
+  )
+  too_large (four right) h = h
+
+-- what two tuples become is from the left issuer
+pub same_issuer : (policy : Policy) (f g : Five) (right : Tuple) → BecomesFive policy (five (five_tuple f)) right g
+    → issuer_of g.issuer ≡ issuer_of f.issuer
+same_issuer policy f g (five right) h = h.reduced.issuer ∙ ap (λ (t : FiveTuple). t.issuer) h.joined.result_is
+same_issuer policy f g (four right) h = h.reduced.issuer ∙ ap (λ (t : FiveTuple). t.issuer) h.joined.result_is
+
+-- ---- chains
+
+module _ (policy : Policy) (first : Tuple) where
+  pub begun : (f g : Five) → first ≡ five (five_tuple f) → (five_tuple g ≡ five_tuple f) → FoldsTo policy first [] g
+  begun f g is same = record {
+    root = five_tuple f;
+    derived = sym is;
+    reduced = record {
+      issuer = ap (λ (t : FiveTuple). t.issuer) same;
+      principal = ap (λ (t : FiveTuple). t.principal) same;
+      names = ap (λ (t : FiveTuple). t.names) same;
+      delegation = ap (λ (t : FiveTuple). t.delegation) same;
+      requests = λ q _. sym (and-true (contains g.tag q)) ∙ ap (λ (t : FiveTuple). in_each q t.tags) same;
+      moments = λ t. sym (and-true (within t g.window)) ∙ ap (λ (u : FiveTuple). within_each t u.windows) same;
+      nodes = omega (arith, ap (λ (t : FiveTuple). nodes_product t.tags) same);
+      depth = omega (arith, ap (λ (t : FiveTuple). deepest t.tags) same);
+    };
+    timely = λ some. absurd (some refl);
+    tagged = λ _. refl;
+  }
+
+  pub grown : (before : List Tuple) (tuple : Tuple) (f g : Five) → FoldsTo policy first before f
+      → BecomesFive policy (five (five_tuple f)) tuple g → (g.tag ≡ set none → (f.tag ≡ set none) × (tags_of tuple ≡ []))
+      → FoldsTo policy first (before ++ tuple ∷ []) g
+  grown before tuple f g h k tags =
+      let made = becomes policy h.root f h.reduced tuple g k in
+      record {
+        root = made.root;
+        derived = rw (from_left-more first tuple before) (five h.root, tuple, h.derived, refl, made.joined);
+        reduced = made.reduced;
+        timely = λ _. made.timely;
+        tagged = λ e. let d = tags e in
+            rw (flat_map-append tags_of before (tuple ∷ []), h.tagged d.0, d.1) refl;
+      }

@@ -1,0 +1,5 @@
+use Rattle.std.proofs.Common.{arith}
+use Rattle.spki_reduce.proofs.tuple.Five.joined.Goals as goal
+
+pub returns-in-Auth-clause-too_large : goal.returns-in-Auth-clause-too_large
+returns-in-Auth-clause-too_large c e = let h = c.then.ensures.too_large.0 e in rw c.in-Auth.is (h.0, omega (arith, h.1))

@@ -1,0 +1,30 @@
+-- What an authorization lacks to grant what is asked (RFC 2693, section 6.3).
+use Rattle.std.specs.Prelude.{◌≡◌, ℕ, true, false, List, ◌∷◌, Option, Some, None}
+use Rattle.spki_cert.specs.declared.principal.Policy.{Policy}
+use Rattle.spki_tag.specs.Request.{Request}
+use Rattle.spki_reduce.specs.declared.last_tests.Lack.{Lack}
+use Rattle.spki_reduce.specs.declared.last_tests.Lack.TheVariants.{NotTheKey, TagLacks, WindowLacks}
+use Rattle.spki_reduce.specs.Tuples.{FiveTuple, Tuple}
+use Rattle.spki_reduce.specs.Rules.{IsFor}
+use Rattle.spki_reduce.specs.Derivation.{Tree, leaves}
+use Rattle.spki_reduce.specs.Supports.{Supports}
+use Rattle.spki_reduce.specs.Restrictions.{in_each, within_each}
+
+-- The first that is true: the subject has names left or doesn't name the key; the request isn't in every tag; the
+-- moment isn't within every window. None where none of these is.
+abbrev pub IsFirstLack : Policy → FiveTuple → List ℕ → Request → List ℕ → Option Lack → Type 0
+IsFirstLack policy root holder request moment (Some NotTheKey) = ¬ IsFor policy root holder
+IsFirstLack policy root holder request moment (Some TagLacks) =
+    IsFor policy root holder × (in_each request root.tags ≡ false)
+IsFirstLack policy root holder request moment (Some WindowLacks) =
+    IsFor policy root holder × (in_each request root.tags ≡ true) × (within_each moment root.windows ≡ false)
+IsFirstLack policy root holder request moment None =
+    IsFor policy root holder × (in_each request root.tags ≡ true) × (within_each moment root.windows ≡ true)
+
+-- some derivation with these leaves, however it is bracketed, supports what is asked
+pub record IsSupported
+    (policy : Policy) (first : Tuple) (others : List Tuple) (holder : List ℕ) (request : Request) (moment : List ℕ)
+    : Type 0 where
+  pub tree : Tree
+  pub leaves_are : leaves tree ≡ first ∷ others
+  pub supports : Supports policy tree holder request moment

@@ -1,0 +1,100 @@
+//! Chains of tuples, taken from the left (RFC 2693, section 6.3).
+
+ghost use Rattle.std.specs.Prelude.{◌≡◌, ◌∷◌, [], ◌<◌, IfOk, IsErrOf};
+ghost use Rattle.spki_tag.specs.Tag.{set, none};
+ghost use Rattle.spki_reduce.specs.Tuples.{five, tags_of};
+ghost use Rattle.spki_reduce.specs.Views.{issuer_of, five_tuple, step_tuple};
+ghost use Rattle.spki_reduce.specs.Restrictions.{nodes_product};
+ghost use Rattle.spki_reduce.specs.Stops.{Stops, TooLargeFor};
+ghost use Rattle.spki_reduce.specs.Reduced.{BecomesFive, MatchJoined};
+ghost use Rattle.spki_reduce.specs.Chain.{tuples_of, all_tags, FoldsTo, StopsAt, TooLargeAt, Excludes, SupportsNothing, MatchFold};
+
+use crate::fault::ReduceFault;
+use crate::fold::{Fold, Joined};
+use crate::tuple::{Five, Step};
+use spki_cert::Policy;
+use std::alloc::{AllocError, Global};
+
+/// What an authorization and the steps behind it become, joined in turn from the left (RFC 2693, sections 6.3 and 6.4):
+/// each authorization by `Five::then` and each definition by `Five::resolve`. Without steps it is a copy of the first.
+///
+/// The first step that doesn't join what those before it became ends the chain, with its place and cause. No other
+/// bracketing of the same tuples grants anything then.
+///
+/// # Errors
+///
+/// `TooLarge` where the product of the numbers of nodes of all tags is over 1,000,000 and a step's tag was too large
+/// for what those before it became, and `Memory` where memory ran out.
+pub fn fold_chain<'a>(
+    alloc: Global,
+    first: &Five<'a>,
+    steps: &[Step<'a>],
+    policy: Policy,
+) -> Result<Fold<'a>, ReduceFault>
+    // What the chain becomes, or where and why it stops.
+    ensures fold { IfOk result (λ fold. MatchFold fold
+        (FoldsTo policy (five (five_tuple first.now)) (tuples_of steps.now))
+        (StopsAt policy (five (five_tuple first.now)) (tuples_of steps.now))) }
+    ensures alone { steps.now ≡ [] → IfOk result (λ fold. MatchFold fold
+        (λ f. five_tuple f ≡ five_tuple first.now) (λ step cause. ⊥)) }
+    ensures issuer { IfOk result (λ fold. MatchFold fold
+        (λ f. issuer_of f.issuer ≡ issuer_of first.now.issuer) (λ step cause. Unit {0})) }
+    // What a stop says of the same tuples in any bracketing.
+    ensures excluded { IfOk result (λ fold. MatchFold fold (λ f. Unit {0})
+        (Excludes policy (five (five_tuple first.now)) (tuples_of steps.now))) }
+    ensures unsupported { IfOk result (λ fold. MatchFold fold (λ f. Unit {0})
+        (λ step cause. SupportsNothing policy (five (five_tuple first.now) ∷ tuples_of steps.now))) }
+    // When it is refused: the chain joins up to a step that is too large, so the product of all nodes is.
+    ensures too_large_at { IsErrOf result ReduceFault.TooLarge →
+        TooLargeAt policy (five (five_tuple first.now)) (tuples_of steps.now) }
+    ensures too_large { IsErrOf result ReduceFault.TooLarge →
+        1000000 < nodes_product (all_tags (five (five_tuple first.now) ∷ tuples_of steps.now)) }
+{
+    let mut folded = first.copy()?;
+    for (place, step) in steps.iter().enumerate() {
+        match folded.joined(alloc, step, policy)? {
+            Joined::Done(next) => folded = next,
+            Joined::Stopped(cause) => {
+                return Ok(Fold::Stopped {
+                    step: place + 1,
+                    cause,
+                });
+            }
+        }
+    }
+    Ok(Fold::Done(folded))
+}
+
+impl<'a> Five<'a> {
+    fn copy(&self) -> Result<Five<'a>, AllocError>
+        ensures { IfOk result (λ f. five_tuple f ≡ five_tuple self.now) }
+    {
+        Ok(Five {
+            issuer: self.issuer.share(),
+            subject: self.subject.clone()?,
+            propagate: self.propagate,
+            tag: self.tag.clone()?,
+            window: self.window,
+        })
+    }
+
+    /// What this authorization and a step become.
+    fn joined(
+        &self,
+        alloc: Global,
+        step: &Step<'a>,
+        policy: Policy,
+    ) -> Result<Joined<Five<'a>>, ReduceFault>
+        ensures joined { IfOk result (λ joined. MatchJoined joined
+            (λ f. BecomesFive policy (five (five_tuple self.now)) (step_tuple step.now) f
+            × (f.tag ≡ set none → (self.now.tag ≡ set none) × (tags_of (step_tuple step.now) ≡ [])))
+            (Stops policy (five (five_tuple self.now)) (step_tuple step.now))) }
+        ensures too_large { IsErrOf result ReduceFault.TooLarge →
+            TooLargeFor policy (five_tuple self.now) (step_tuple step.now) }
+    {
+        match step {
+            Step::Auth(next) => self.then(alloc, next, policy),
+            Step::Name(definition) => self.resolve(alloc, definition, policy),
+        }
+    }
+}

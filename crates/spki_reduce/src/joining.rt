@@ -1,0 +1,220 @@
+//! The rules by which two tuples become one (RFC 2693, sections 6.3 and 6.4).
+
+ghost use Rattle.std.specs.Prelude.{◌≡◌, ◌≢◌, ◌↔◌, [], ◌∷◌, ◌++◌, ◌*◌, ◌<◌, IsTrue, IfOk, IfErr, OnOk, IfSome, IfNone, IsErrOf};
+ghost use Rattle.spki_cert.specs.Naming.{names};
+ghost use Rattle.spki_tag.specs.Tag.{nodes, set, none};
+ghost use Rattle.spki_reduce.specs.Tuples.{five, four};
+ghost use Rattle.spki_reduce.specs.Views.{five_tuple, four_tuple};
+ghost use Rattle.spki_reduce.specs.Rules.{IsFor, Issues, Begins};
+ghost use Rattle.spki_reduce.specs.Stops.{Stops, JoinButForTags};
+ghost use Rattle.spki_reduce.specs.Reduced.{BecomesFive, BecomesFour, IsNarrowed, MatchJoined};
+ghost use Rattle.spki_reduce.specs.Restrictions.{NoRequest};
+
+use crate::fault::ReduceFault;
+use crate::fold::{Cause, Joined};
+use crate::tuple::{Five, Four, Issuer};
+use spki_cert::{Key, Octets, Policy, Subject, Window};
+use std::alloc::{AllocError, Global};
+
+impl<'a> Five<'a> {
+    /// What the rule for two authorizations makes of this one and the next (RFC 2693, section 6.3): an authorization
+    /// from this one's issuer to the next one's subject, for what and when both are. The next one says whether it may
+    /// be delegated further.
+    ///
+    /// They don't join where this one's subject isn't the next one's issuer, this one may not be delegated, no moment
+    /// is within both windows, or what their tags leave together is `(* set)`: the first of these is the cause.
+    ///
+    /// # Errors
+    ///
+    /// `TooLarge` where they join but for their tags, and the product of the numbers of the tags' nodes is over
+    /// 1,000,000, and `Memory` where memory ran out.
+    pub fn then(
+        &self,
+        alloc: Global,
+        next: &Five<'a>,
+        policy: Policy,
+    ) -> Result<Joined<Five<'a>>, ReduceFault>
+        ensures joined { IfOk result (λ joined. MatchJoined joined
+            (λ f. BecomesFive policy (five (five_tuple self.now)) (five (five_tuple next.now)) f × (f.tag ≢ set none))
+            (λ cause. Stops policy (five (five_tuple self.now)) (five (five_tuple next.now)) cause)) }
+        ensures too_large { IsErrOf result ReduceFault.TooLarge ↔
+            (JoinButForTags policy (five_tuple self.now) (five_tuple next.now)
+            × (1000000 < nodes self.now.tag * nodes next.now.tag)) }
+    {
+        if !self.issues(next, policy) {
+            return Ok(Joined::Stopped(Cause::NotIssuer));
+        }
+        if !self.propagate {
+            return Ok(Joined::Stopped(Cause::NoDelegation));
+        }
+        match self.window.meet(&next.window) {
+            None => Ok(Joined::Stopped(Cause::NoValidity)),
+            Some(window) => self.narrowed(alloc, next, window),
+        }
+    }
+
+    /// What a name's definition makes of this authorization (RFC 2693, section 6.4): the definition's subject, the names
+    /// behind this one's first name coming behind its own, when both are; all else stays.
+    ///
+    /// They don't join where this one's subject doesn't begin with the name that is defined, or no moment is within
+    /// both windows: the first of these is the cause.
+    ///
+    /// # Errors
+    ///
+    /// `Memory` where memory ran out, and no other.
+    pub fn resolve(
+        &self,
+        alloc: Global,
+        definition: &Four<'a>,
+        policy: Policy,
+    ) -> Result<Joined<Five<'a>>, ReduceFault>
+        ensures joined { IfOk result (λ joined. MatchJoined joined
+            (λ f. BecomesFive policy (five (five_tuple self.now)) (four (four_tuple definition.now)) f
+            × (f.tag ≡ self.now.tag))
+            (λ cause. Stops policy (five (five_tuple self.now)) (four (four_tuple definition.now)) cause)) }
+        ensures refused { IfErr result (λ fault. fault ≡ ReduceFault.Memory) }
+    {
+        let Some(rest) = names_behind(&self.subject, definition, policy) else {
+            return Ok(Joined::Stopped(Cause::NotTheName));
+        };
+        let Some(window) = self.window.meet(&definition.window) else {
+            return Ok(Joined::Stopped(Cause::NoValidity));
+        };
+        Ok(Joined::Done(Five {
+            issuer: self.issuer.share(),
+            subject: followed(alloc, &definition.subject, rest)?,
+            propagate: self.propagate,
+            tag: self.tag.clone()?,
+            window,
+        }))
+    }
+
+    /// What this authorization and the next become in a window, unless their tags leave nothing together.
+    fn narrowed(
+        &self,
+        alloc: Global,
+        next: &Five<'a>,
+        window: Window,
+    ) -> Result<Joined<Five<'a>>, ReduceFault>
+        ensures joined { IfOk result (λ joined. MatchJoined joined
+            (λ f. IsNarrowed self.now next.now window f)
+            (λ cause. (cause ≡ Cause.NoTag) × NoRequest (self.now.tag ∷ next.now.tag ∷ []))) }
+        ensures too_large { IsErrOf result ReduceFault.TooLarge ↔ (1000000 < nodes self.now.tag * nodes next.now.tag) }
+    {
+        let tag = self.tag.meet(alloc, &next.tag)?;
+        if tag.is_nothing() {
+            return Ok(Joined::Stopped(Cause::NoTag));
+        }
+        Ok(Joined::Done(Five {
+            issuer: self.issuer.share(),
+            subject: next.subject.clone()?,
+            propagate: next.propagate,
+            tag,
+            window,
+        }))
+    }
+
+    /// Whether its subject issued another authorization: it is for the issuer's key.
+    fn issues(&self, next: &Five, policy: Policy) -> bool
+        ensures { IsTrue result ↔ Issues policy (five_tuple self.now) (five_tuple next.now) }
+    {
+        match &next.issuer {
+            Issuer::Own => false,
+            Issuer::Key(key) => self.is_for(key, policy),
+        }
+    }
+
+    /// Whether its subject is a principal without names, which names the key.
+    pub(crate) fn is_for(&self, key: &Key, policy: Policy) -> bool
+        ensures { IsTrue result ↔ IsFor policy (five_tuple self.now) key.now }
+    {
+        self.subject.names.is_empty() && self.subject.principal.names(key, policy)
+    }
+}
+
+impl<'a> Four<'a> {
+    /// What a name's definition makes of this definition (RFC 2693, section 6.4): the next one's subject, the names
+    /// behind this one's first name coming behind its own, when both are; the name that is defined stays.
+    ///
+    /// They don't join where this one's subject doesn't begin with the name that is defined, or no moment is within
+    /// both windows: the first of these is the cause.
+    ///
+    /// # Errors
+    ///
+    /// `Memory` where memory ran out, and no other.
+    pub fn then(
+        &self,
+        alloc: Global,
+        next: &Four<'a>,
+        policy: Policy,
+    ) -> Result<Joined<Four<'a>>, ReduceFault>
+        ensures joined { IfOk result (λ joined. MatchJoined joined
+            (λ f. BecomesFour policy (four (four_tuple self.now)) (four (four_tuple next.now)) f)
+            (λ cause. Stops policy (four (four_tuple self.now)) (four (four_tuple next.now)) cause)) }
+        ensures refused { IfErr result (λ fault. fault ≡ ReduceFault.Memory) }
+    {
+        let Some(rest) = names_behind(&self.subject, next, policy) else {
+            return Ok(Joined::Stopped(Cause::NotTheName));
+        };
+        let Some(window) = self.window.meet(&next.window) else {
+            return Ok(Joined::Stopped(Cause::NoValidity));
+        };
+        Ok(Joined::Done(Four {
+            key: self.key.share(),
+            name: self.name.share(),
+            subject: followed(alloc, &next.subject, rest)?,
+            window,
+        }))
+    }
+}
+
+/// The names behind a subject's first name, if that is the name that the definition is of.
+fn names_behind<'s, 'a>(
+    subject: &'s Subject<'a>,
+    definition: &Four,
+    policy: Policy,
+) -> Option<&'s [Octets<'a>]>
+    ensures begins { IfSome result (λ rest. IsTrue (names policy subject.now.principal definition.now.key)
+        × (subject.now.names.items ≡ definition.now.name ∷ rest.now)) }
+    ensures other { IfNone result
+        (¬ Begins policy subject.now.principal subject.now.names.items (four_tuple definition.now)) }
+{
+    match subject.names.as_slice() {
+        [] => None,
+        [first, rest @ ..] => {
+            let named = subject.principal.names(&definition.key, policy);
+            if named && first.same(&definition.name) {
+                Some(rest)
+            } else {
+                None
+            }
+        }
+    }
+}
+
+/// The definition's subject with further names behind its own.
+fn followed<'a>(
+    alloc: Global,
+    subject: &Subject<'a>,
+    rest: &[Octets<'a>],
+) -> Result<Subject<'a>, AllocError>
+    ensures { IfOk result (λ made. (made.principal ≡ subject.now.principal)
+        × (made.names.items ≡ subject.now.names.items ++ rest.now)) }
+{
+    let mut names = Vec::new(alloc);
+    push_names(&mut names, &subject.names)?;
+    push_names(&mut names, rest)?;
+    Ok(Subject {
+        principal: subject.principal.share(),
+        names,
+    })
+}
+
+fn push_names<'a>(names: &mut Vec<Octets<'a>>, more: &[Octets<'a>]) -> Result<(), AllocError>
+    ensures { OnOk result (names.new.items ≡ names.old.items ++ more.now) }
+{
+    for name in more {
+        names.push(name.share())?;
+    }
+    Ok(())
+}

@@ -1,0 +1,57 @@
+//! What an authorization lacks to grant a request (RFC 2693, section 6.3).
+
+ghost use Rattle.std.specs.Prelude.{◌≡◌, ◌↔◌, List, IsNone};
+ghost use Rattle.spki_reduce.specs.Tuples.{FiveTuple, Tuple, own};
+ghost use Rattle.spki_reduce.specs.Views.{issuer_of};
+ghost use Rattle.spki_reduce.specs.Supports.{Grants};
+ghost use Rattle.spki_reduce.specs.Reduced.{ReducesToFive};
+ghost use Rattle.spki_reduce.specs.Chain.{FoldsTo};
+ghost use Rattle.spki_reduce.specs.LastTests.{IsFirstLack, IsSupported};
+
+use crate::tuple::Five;
+use spki_cert::{Date, Key, Policy};
+use spki_tag::Ground;
+
+/// What an authorization lacks to grant a key a request at a moment: the first of the tests that it doesn't pass.
+#[derive(Clone, Copy, Debug, PartialEq, Eq)]
+pub enum Lack {
+    /// Its subject has names left, or doesn't name the key.
+    NotTheKey,
+    /// Its tag doesn't contain the request.
+    TagLacks,
+    /// The moment isn't within its window.
+    WindowLacks,
+}
+
+impl<'a> Five<'a> {
+    /// What the authorization lacks to grant the key the request at the moment: the first, in the order of `Lack`, of
+    /// the tests that it doesn't pass, or None where it passes all three. Who issued it isn't looked at. Takes no memory.
+    pub fn first_lack(
+        &self,
+        key: &Key,
+        request: &Ground,
+        moment: &Date,
+        policy: Policy,
+    ) -> Option<Lack>
+        // Of every root that it is the reduction of.
+        ensures lack { (root : FiveTuple) → ReducesToFive root self.now →
+            IsFirstLack policy root key.now request.now moment.now result }
+        ensures grants { (root : FiveTuple) → ReducesToFive root self.now → root.issuer ≡ own →
+            (IsNone result ↔ Grants policy root key.now request.now moment.now) }
+        // Of every chain that folds to it, in any bracketing.
+        ensures supported { (first : Tuple) (others : List Tuple) → FoldsTo policy first others self.now →
+            issuer_of self.now.issuer ≡ own →
+            (IsNone result ↔ IsSupported policy first others key.now request.now moment.now) }
+    {
+        request.known();
+        if !self.is_for(key, policy) {
+            Some(Lack::NotTheKey)
+        } else if !self.tag.holds(request) {
+            Some(Lack::TagLacks)
+        } else if !self.window.holds(moment) {
+            Some(Lack::WindowLacks)
+        } else {
+            None
+        }
+    }
+}

@@ -1,5 +1,0 @@
-use Rattle.spki_tag.proofs.Sharing.{meet-apart}
-use Rattle.spki_tag.proofs.index.meet_apart.Goals as goal
-
-pub returns : goal.returns
-returns c = meet-apart

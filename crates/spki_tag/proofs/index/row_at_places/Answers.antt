@@ -1,5 +1,0 @@
-use Rattle.spki_tag.proofs.Sharing.{row-at_places}
-use Rattle.spki_tag.proofs.index.row_at_places.Goals as goal
-
-pub returns : goal.returns
-returns c = row-at_places

@@ -1,0 +1,5 @@
+use Rattle.spki_tag.proofs.Sharing.{meet-apart}
+use Rattle.spki_tag.proofs.laws.meet_apart.Goals as goal
+
+pub returns : goal.returns
+returns c = meet-apart

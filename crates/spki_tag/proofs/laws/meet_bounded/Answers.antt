@@ -1,0 +1,5 @@
+use Rattle.spki_tag.proofs.Bounds.{meet-le}
+use Rattle.spki_tag.proofs.laws.meet_bounded.Goals as goal
+
+pub returns : goal.returns
+returns c = meet-le

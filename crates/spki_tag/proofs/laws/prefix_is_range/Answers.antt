@@ -1,0 +1,5 @@
+use Rattle.spki_tag.proofs.Prefixes.{least_above-exact}
+use Rattle.spki_tag.proofs.laws.prefix_is_range.Goals as goal
+
+pub returns : goal.returns
+returns c = least_above-exact

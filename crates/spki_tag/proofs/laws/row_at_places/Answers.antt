@@ -1,0 +1,5 @@
+use Rattle.spki_tag.proofs.Sharing.{row-at_places}
+use Rattle.spki_tag.proofs.laws.row_at_places.Goals as goal
+
+pub returns : goal.returns
+returns c = row-at_places

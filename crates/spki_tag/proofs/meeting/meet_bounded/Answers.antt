@@ -1,5 +1,0 @@
-use Rattle.spki_tag.proofs.Bounds.{meet-le}
-use Rattle.spki_tag.proofs.meeting.meet_bounded.Goals as goal
-
-pub returns : goal.returns
-returns c = meet-le

@@ -1,0 +1,5 @@
+use Rattle.spki_tag.proofs.Refusals.{request_refused}
+use Rattle.spki_tag.proofs.request.Ground.of.Goals as goal
+
+pub returns-clause-refused : goal.returns-clause-refused
+returns-clause-refused c = request_refused c.read_request.result c.args.value.now c.read_request.ensures.shows

@@ -1,0 +1,8 @@
+-- What the parts of a request are seen as.
+use Rattle.spki_tag.specs.declared.request.GroundNode.{GroundNode}
+use Rattle.spki_tag.specs.declared.request.GroundNode.TheVariants.{String, List}
+use Rattle.spki_tag.specs.Request.{Request, requests, string, list}
+
+abbrev pub ground_request : GroundNode → Request
+ground_request (String octets) = string octets.items
+ground_request (List head further) = list head.items (requests further.items)

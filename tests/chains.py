@@ -1,0 +1,200 @@
+"""Cases with certificates, whose digests are computed here. The answers are worked out by hand from docs/FORMATS.md."""
+import hashlib
+import re
+
+TOKEN = re.compile(r'\s*(?:([()])|"([^"]*)"|#([0-9a-f]*)#|([^\s()"#]+))')
+NOW = '"2024-01-01_00:00:00"'
+
+
+def canonical(text):
+    """The canonical form of a text without hints and escapes."""
+    written = b""
+    for mark, quoted, digits, token in TOKEN.findall(text):
+        octets = bytes.fromhex(digits) if digits else (quoted or token).encode()
+        written += mark.encode() if mark else b"%d:%s" % (len(octets), octets)
+    return written
+
+
+def digest(text, alg="sha256"):
+    return f"(hash {alg} #{hashlib.new(alg, canonical(text)).hexdigest()}#)"
+
+
+def key(letter):
+    return f"(public-key (test {letter}))"
+
+
+def cert(issuer, subject, fields="(propagate) (tag (*))"):
+    return f"(cert (issuer {issuer}) (subject {subject}) {fields})"
+
+
+def signed(certificate, signer, value="sig", of=None):
+    """A certificate and its signature, which may be of another text."""
+    return f"{certificate} (signature {digest(of or certificate)} {signer} {value})"
+
+
+def row(certificate, signer, value="sig"):
+    return f"(by {signer} {digest(certificate)} {value})"
+
+
+def case(entries, rows="", items="", asks=key("d"), request="(ftp)", at=NOW, policy=""):
+    return f"(case (acl {entries}) (accepted {rows}) (sequence {items}) (key {asks}) (request {request}) (at {at}) {policy})"
+
+
+def entry(letter, fields="(propagate) (tag (*))"):
+    return f"(entry {key(letter)} {fields})"
+
+
+YES, NO = (0, "yes entry 1\n"), (1, "no\n")
+
+
+def refused(line):
+    return 2, f"refused {line}\n"
+
+
+# ---- chains from a by b and c to d
+
+CHAIN = [(key("a"), key("b")), (key("b"), key("c")), (key("c"), key("d"))]
+
+
+def chain(changed=None, how=None):
+    """The rows and the items of the chain, of which one certificate fails a test of its evidence."""
+    rows, items = [], []
+    for place, (issuer, subject) in enumerate(CHAIN):
+        fails = how if place == changed else None
+        shown = cert(digest(issuer) if fails == "key not shown" else issuer, subject)
+        signer = key("x") if fails == "signer differs" else issuer
+        other = cert(issuer, key("x")) if fails == "digest differs" else None
+        items.append(signed(shown, signer, of=other))
+        if fails != "not accepted":
+            rows.append(row(shown, issuer))
+    return " ".join(rows), " ".join(items)
+
+
+def chains():
+    yield "whole chain", case(entry("a"), *chain()), YES
+    for place in range(3):
+        for how in ("key not shown", "digest differs", "signer differs", "not accepted"):
+            yield f"certificate {place + 1}: {how}", case(entry("a"), *chain(place, how)), NO
+    rows, items = chain()
+    yield "hashed issuer, its key shown", case(entry("a"), *(lambda c: (row(c, key("a")), signed(c, key("a")) + key("a")))(cert(digest(key("a")), key("d")))), YES
+    yield "chain in another order", case(entry("a"), rows, " ".join(reversed([signed(cert(*link), link[0]) for link in CHAIN]))), NO
+    yield "one certificate left out", case(entry("a"), rows, signed(cert(*CHAIN[0]), key("a"))), NO
+    yield "one certificate twice", case(entry("a"), rows, items + signed(cert(*CHAIN[2]), key("c"))), NO
+    yield "second entry", case(entry("b") + entry("a"), rows, items), (0, "yes entry 2\n")
+    yield "value of another row", case(entry("a"), rows.replace(" sig)", " other)"), items), NO
+    yield "row of another key", case(entry("a"), rows.replace("test c", "test x"), items), NO
+    yield "entry that doesn't delegate", case(entry("a", "(tag (*))"), rows, items), NO
+    last = cert(key("a"), key("d"), "(tag (*))")
+    yield "last certificate needn't delegate", case(entry("a"), row(last, key("a")), signed(last, key("a"))), YES
+
+
+def windows_and_tags():
+    for limit, answer in (('(not-after "2024-01-01_00:00:00")', YES), ('(not-after "2023-12-31_23:59:59")', NO), ('(valid (not-before "2024-01-01_00:00:01"))', NO)):
+        c = cert(key("a"), key("d"), f"(tag (*)) {limit}")
+        yield f"window {limit}", case(entry("a"), row(c, key("a")), signed(c, key("a"))), answer
+    for tag, answer in (("(ftp)", YES), ("(ftp host)", NO), ("(http)", NO), ("(* set (http) (ftp))", YES)):
+        c = cert(key("a"), key("d"), f"(tag {tag})")
+        yield f"tag {tag}", case(entry("a"), row(c, key("a")), signed(c, key("a"))), answer
+
+
+def sizes():
+    """Products of nodes from both sides of 1,000,000, and an entry before and behind a larger one."""
+    set_of = lambda n: "(* set " + " ".join(f"n{i}" for i in range(n)) + ")"
+    big = cert(key("a"), key("d"), f"(tag {set_of(1000)})")
+    large, small = entry("a", f"(propagate) (tag {set_of(999)})"), entry("a", "(propagate) (tag n0)")
+    shown = row(big, key("a")), signed(big, key("a"))
+    yield "too large", case(large + small, *shown, request="n0"), refused("TooLarge")
+    yield "granted before too large", case(small + large, *shown, request="n0"), YES
+    for third, answer in ((101, YES), (102, refused("TooLarge"))):
+        copies = lambda n: "(* set " + " ".join(["a"] * n) + ")"
+        first, second = cert(key("a"), key("b"), f"(propagate) (tag {copies(99)})"), cert(key("b"), key("d"), f"(tag {copies(third)})")
+        both = row(first, key("a")) + row(second, key("b")), signed(first, key("a")) + signed(second, key("b"))
+        yield f"chain with {third} strings", case(entry("a", f"(propagate) (tag {copies(99)})"), *both, request="a"), answer
+
+
+def moments():
+    """A window that holds its own last moment, and two windows that share one moment or none."""
+    alone = f"(entry {key('a')} (tag (*)) (not-after \"2024-12-31_23:59:59\"))"
+    for at, answer in (("2024-12-31_23:59:59", YES), ("2025-01-01_00:00:00", NO)):
+        yield f"windows: entry alone at {at}", case(alone, asks=key("a"), at=f'"{at}"'), answer
+    until = entry("a", '(propagate) (tag (*)) (not-after "2024-06-01_00:00:00")')
+    for start, answer in (("2024-06-01_00:00:00", YES), ("2024-06-01_00:00:01", NO)):
+        c = cert(key("a"), key("b"), f'(tag (*)) (valid (not-before "{start}"))')
+        both = row(c, key("a")), signed(c, key("a"))
+        yield f"windows: certificate from {start}", case(until, *both, asks=key("b"), at='"2024-06-01_00:00:00"'), answer
+    turned = f"(entry {key('a')} (tag (*)) (not-before \"2024-06-01_00:00:00\") (not-after \"2024-01-01_00:00:00\"))"
+    yield "limits: a window without moments", case(turned, asks=key("a"), at='"2024-03-01_00:00:00"'), NO
+
+
+def policies():
+    """What the strict policy refuses: hashes by SHA-1 as subject, issuer and signer, and not as a message's digest."""
+    a, b = key("a"), key("b")
+    c1 = cert(a, b, "(tag (*))")
+    hashed = {alg: cert(digest(a, alg), b, "(tag (*))") for alg in ("sha1", "sha256", "sha512")}
+    sha1_digest = f"{c1} (signature {digest(c1, 'sha1')} {a} sig)"
+    sha1_signer = f"{c1} (signature {digest(c1)} {digest(a, 'sha1')} sig)"
+    examples = [
+        ("subject by sha1", f"(entry {digest(a, 'sha1')} (tag (*)))", "", "", a, NO),
+        ("subject by sha512", f"(entry {digest(a, 'sha512')} (tag (*)))", "", "", a, YES),
+        ("issuer by sha1", entry("a"), row(hashed["sha1"], a), signed(hashed["sha1"], a) + a, b, NO),
+        ("issuer by sha256", entry("a"), row(hashed["sha256"], a), signed(hashed["sha256"], a) + a, b, YES),
+        ("issuer by sha512", entry("a"), row(hashed["sha512"], a), a + signed(hashed["sha512"], a), b, YES),
+        ("digest by sha1", entry("a"), row(c1, a), sha1_digest, b, YES),
+        ("signer by sha1", entry("a"), row(c1, a), sha1_signer, b, NO),
+    ]
+    for name, entries, rows, items, asks, answer in examples:
+        yield f"open: {name}", case(entries, rows, items, asks), YES
+        yield f"strict: {name}", case(entries, rows, items, asks, policy="(policy strict)"), answer
+    for name in ("sha1", "sha256", "sha512"):
+        yield f"issuer by {name}, no key shown", case(entry("a"), row(hashed[name], a), signed(hashed[name], a), b), NO
+    short = f"(entry (hash sha512 #{hashlib.sha256(canonical(a)).hexdigest()}#) (tag (*)))"
+    for policy in ("", "(policy strict)"):
+        yield f"short digest {policy}", case(short, asks=a, policy=policy), refused("acl 1 DigestLength")
+
+
+def order():
+    """Where signatures stand."""
+    a, c1 = key("a"), cert(key("a"), key("b"), "(tag (*))")
+    one = f"(signature {digest(c1)} {a} sig)"
+    for items, line in ((one, "1 StraySignature"), (f"{c1} {a} {one}", "1 UnsignedCert"), (c1, "1 UnsignedCert"), (f"{c1} {one} {one}", "3 StraySignature"), ("(do sign)", "1 UnknownOp")):
+        yield f"sequence {items}", case(entry("a"), "", items), refused(f"sequence {line}")
+    with_operations = f"(do hash sha1) {c1} (do hash sha256) {one}"
+    yield "operations between", case(entry("a"), row(c1, a), with_operations, key("b")), YES
+
+
+# ---- malformed rows, and two faults in one case
+
+HASH = digest("x")
+
+
+def malformed():
+    faults = [
+        ("()", "Shape"), ("x", "Shape"), ("(by)", "Shape"), ("(row)", "Shape"), (f"(by {key('a')})", "Shape"),
+        (f"(by {key('a')} {HASH})", "Shape"), (f"(by {key('a')} {HASH} sig sig)", "Shape"), (f"(by a {HASH} sig)", "Shape"),
+        (f"(by (public-key (test a) (uri x)) {HASH} sig)", "KeyUris"), (f"(by {key('a')} (hash md5 x) sig)", "HashAlg"),
+        (f"(by {key('a')} (hash sha256 x) sig)", "DigestLength"), (f"(by {key('a')} {digest('x', 'sha1')} sig)", "HashAlg"),
+        (f"(by {key('a')} {digest('x', 'sha512')} sig)", "HashAlg"), (f"(by {key('a')} (hash sha1 x) sig)", "DigestLength"),
+        (f"(by {key('a')} (hash) sig)", "Shape"), (f"(by {HASH} {HASH} sig)", "Shape"), (f"({key('a')} {HASH} sig)", "Shape"),
+    ]
+    good = f"(by {key('a')} {HASH} (any (value)))"
+    for written, kind in faults:
+        yield f"row {written}", case("", written), refused(f"accepted 1 {kind}")
+        yield f"row {written} behind two", case("", good + good + written), refused(f"accepted 3 {kind}")
+    for policy, answer in (("", NO), ("(policy strict)", NO), ("(policy lax)", refused("case Shape")), ("(policy)", refused("case Shape")),
+                           ("(policy strict strict)", refused("case Shape")), ("(policy (strict))", refused("case Shape")),
+                           ("strict", refused("case Shape")), ("(policy strict) (policy strict)", refused("case Shape"))):
+        yield f"policy {policy}", case("", policy=policy), answer
+    bad_entry, bad_row, bad_item, bad_key, bad_request, bad_moment = "(entry)", "(by)", "(do)", "k", "()", "x"
+    yield "all parts", case(bad_entry, bad_row, bad_item, bad_key, bad_request, bad_moment, "(policy lax)"), refused("case Shape")
+    yield "all parts but the policy", case(bad_entry, bad_row, bad_item, bad_key, bad_request, bad_moment), refused("acl 1 Shape")
+    yield "from the rows on", case("", bad_row, bad_item, bad_key, bad_request, bad_moment), refused("accepted 1 Shape")
+    yield "from the sequence on", case("", "", bad_item, bad_key, bad_request, bad_moment), refused("sequence 1 UnknownOp")
+    yield "from the key on", case("", "", "", bad_key, bad_request, bad_moment), refused("key Shape")
+    yield "from the request on", case("", "", "", key("a"), bad_request, bad_moment), refused("request EmptyList")
+    yield "the moment", case("", "", "", key("a"), "(ftp)", bad_moment), refused("at BadDate")
+
+
+def rows():
+    for examples in (chains, windows_and_tags, moments, policies, order, sizes, malformed):
+        for name, text, (status, answer) in examples():
+            yield f"chains.py: {name}", "check", text.encode(), status, answer.encode()

@@ -1,0 +1,35 @@
+"""All pairs of sets with at most two members out of some. What two sets leave together is what their members leave, each met with
+each, in the order of the first set's members and then of the second's; members that leave nothing are left out."""
+from itertools import product
+
+MEMBERS = (b"a", b"ab", b"(* prefix a)", b"(* range alpha ge ab)", b"(f)", b"(f a)", b"(g (* set a b))")
+NOTHING = b"(* set)"
+
+
+def sets():
+    """The members of each set."""
+    return [()] + [(one,) for one in MEMBERS] + list(product(MEMBERS, MEMBERS))
+
+
+def written(members):
+    """A set with these members, as it is written."""
+    return b"(" + b" ".join((b"*", b"set") + members) + b")"
+
+
+def gathered(members):
+    """What a set comes to whose members are no sets: one alone is itself."""
+    return members[0] if len(members) == 1 else written(members)
+
+
+def intersection(one, other):
+    return b"(intersect " + one + b" " + other + b")"
+
+
+def rows(intersected):
+    """The rows of all pairs. `intersected` starts the program's command on a text, and gives what waits for its status and answer."""
+    started = {pair: intersected(intersection(*pair)) for pair in product(MEMBERS, MEMBERS)}
+    met = {pair: run.result()[1].rstrip(b"\n") for pair, run in started.items()}
+    for ones, others in product(sets(), sets()):
+        left = tuple(met[pair] for pair in product(ones, others) if met[pair] != NOTHING)
+        text = intersection(written(ones), written(others))
+        yield f"pairs.py: {text.decode()}", "intersect", text, 0, gathered(left) + b"\n"
