@@ -36,6 +36,17 @@ impl HashAlg {
         }
     }
 
+    /// Its name.
+    pub fn name(&self) -> &'static [u8]
+        ensures { result.now ≡ alg_name self.now }
+    {
+        match self {
+            HashAlg::Sha1 => b"sha1",
+            HashAlg::Sha256 => b"sha256",
+            HashAlg::Sha512 => b"sha512",
+        }
+    }
+
     /// How many octets its digests have.
     pub fn digest_len(&self) -> usize
         ensures { result ≡ digest_len self.now }

@@ -16,7 +16,7 @@ gap_suc : (n : ℕ) → gap (suc n) ≡ 32 ∷ []
 gap_suc n = let e : (suc n == 0) ≡ false = grind (arith, nat_tests) in ap (λ b. cond b [] (32 ∷ [])) e
 
 -- past the first member, each has a space before it
-past_first : (n : ℕ) (vs : Values) → adv_all (suc n) vs ≡ adv_all 1 vs
+pub past_first : (n : ℕ) (vs : Values) → adv_all (suc n) vs ≡ adv_all 1 vs
 past_first n value.none = refl
 past_first n (value.more v vs) =
     (λ i. gap_suc n i ++ (adv v ++ past_first (suc n) vs i)) ∙ sym (λ i. gap_suc 0 i ++ (adv v ++ past_first 1 vs i))

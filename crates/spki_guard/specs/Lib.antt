@@ -1,5 +1,6 @@
 pub mod Command
 pub mod Lines
 pub mod Intersect
+pub mod Reports
 pub mod Answer
 pub mod Run

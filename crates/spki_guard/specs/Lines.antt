@@ -11,6 +11,12 @@ use Rattle.spki_case.specs.declared.cases.CaseFault.{CaseFault}
 use Rattle.spki_case.specs.declared.cases.CaseFault.TheVariants as faults
 use Rattle.spki_decision.specs.declared.deciding.GuardFault.{GuardFault}
 use Rattle.spki_decision.specs.declared.deciding.GuardFault.TheVariants as guard
+use Rattle.spki_reduce.specs.declared.fold.Cause.{Cause}
+use Rattle.spki_reduce.specs.declared.fold.Cause.TheVariants as cause
+use Rattle.spki_decision.specs.declared.judging.Stop.{Stop}
+use Rattle.spki_decision.specs.declared.judging.Stop.TheVariants as stop
+use Rattle.spki_decision.specs.declared.explaining.Reason.{Reason}
+use Rattle.spki_decision.specs.declared.explaining.Reason.TheVariants as reason
 use Rattle.spki_guard.specs.declared.intersection.IntersectFault.{IntersectFault}
 use Rattle.spki_guard.specs.declared.intersection.IntersectFault.TheVariants as intersect
 
@@ -28,6 +34,47 @@ yes_entry n = line (codes "yes" ∷ codes "entry" ∷ decimal n ∷ [])
 -- none does
 abbrev pub no_line : List ℕ
 no_line = line (codes "no" ∷ [])
+
+-- ---- answers of `reduce` and `explain`
+
+-- the name of a cause
+abbrev pub cause_name : Cause → List ℕ
+cause_name cause.NotIssuer = codes "NotIssuer"
+cause_name cause.NotTheName = codes "NotTheName"
+cause_name cause.NoDelegation = codes "NoDelegation"
+cause_name cause.NoValidity = codes "NoValidity"
+cause_name cause.NoTag = codes "NoTag"
+
+-- the name of a test of the evidence
+abbrev pub stop_name : Stop → List ℕ
+stop_name stop.KeyNotShown = codes "KeyNotShown"
+stop_name stop.DigestDiffers = codes "DigestDiffers"
+stop_name stop.SignerDiffers = codes "SignerDiffers"
+stop_name stop.NotAccepted = codes "NotAccepted"
+
+-- the certificate that is this item fails
+abbrev pub item_line : ℕ → Stop → List ℕ
+item_line item stop = line (codes "item" ∷ decimal item ∷ stop_name stop ∷ [])
+
+-- the access list is empty
+abbrev pub no_entries : List ℕ
+no_entries = line (codes "no" ∷ codes "entries" ∷ [])
+
+-- what is said of entry n, counted from 1
+abbrev pub entry_line : ℕ → List (List ℕ) → List ℕ
+entry_line n words = line (codes "entry" ∷ decimal n ∷ words)
+
+-- its chain stops at the certificate that is this item
+abbrev pub stopped_line : ℕ → ℕ → Cause → List ℕ
+stopped_line n item cause = entry_line n (codes "item" ∷ decimal item ∷ cause_name cause ∷ [])
+
+-- why it grants what is asked, or doesn't
+abbrev pub reason_line : ℕ → Reason → List ℕ
+reason_line n reason.Grants = entry_line n (codes "grants" ∷ [])
+reason_line n reason.NotTheKey = entry_line n (codes "NotTheKey" ∷ [])
+reason_line n reason.TagLacks = entry_line n (codes "TagLacks" ∷ [])
+reason_line n reason.WindowLacks = entry_line n (codes "WindowLacks" ∷ [])
+reason_line n (reason.Stopped item cause) = stopped_line n item cause
 
 -- ---- refusals
 

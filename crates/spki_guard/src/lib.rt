@@ -3,9 +3,11 @@
 
 mod answers;
 mod commands;
+mod entry_lines;
 mod intersection;
 mod lines;
 mod printing;
+mod reports;
 mod running;
 
 pub use commands::{Command, Status};
@@ -13,4 +15,6 @@ pub use intersection::{IntersectFault, intersect};
 pub use metered_io::Metered;
 pub use running::run;
 pub use spki_case::{AcceptedTable, Case, CaseFault, Row, Verifier};
-pub use spki_decision::{Decision, GuardFault, Stop, decide, first_named, laws};
+pub use spki_decision::{
+    Decision, EntryFold, Explanation, GuardFault, Reason, Reduction, Stop, decide, explain, first_named, laws, reduce_case,
+};

@@ -232,7 +232,7 @@ fn push_form_at(alloc: Global, out: &mut Vec<u8>, kind: &str, at: usize) -> Resu
 }
 
 /// Puts octets behind what is written.
-fn push(out: &mut Vec<u8>, octets: &[u8]) -> Result<(), AllocError>
+pub(crate) fn push(out: &mut Vec<u8>, octets: &[u8]) -> Result<(), AllocError>
     ensures ok { OnOk result (out.new.items ≡ out.old.items ++ octets.now) }
     ensures err { OnErr result (out.new.items ≡ out.old.items) }
 {

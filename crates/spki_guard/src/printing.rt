@@ -1,12 +1,15 @@
-//! Tags, written in advanced form member by member, so that no tree is made of a large one.
+//! Tags and authorizations, written in advanced form member by member, so that no tree is made of a large tag.
 
-ghost use Rattle.std.specs.Prelude.{◌≡◌, ◌++◌, OnOk};
+ghost use Rattle.std.specs.Prelude.{◌≡◌, ◌++◌, OnOk, map};
+ghost use Rattle.sexpr_core.specs.Value.{Value, values};
 ghost use Rattle.sexpr_core.specs.Tree.{sexp_value};
 ghost use Rattle.sexpr_text.specs.Printed.{adv, adv_all};
 ghost use Rattle.spki_tag.specs.Tag.{tag_value, tag_values, tags};
+ghost use Rattle.spki_reduce.specs.Written.{IsWrittenFive};
 
 use sexpr_core::Sexp;
 use sexpr_text::print_advanced;
+use spki_reduce::Five;
 use spki_tag::{Tag, TagForm};
 use std::alloc::{AllocError, Global};
 
@@ -54,5 +57,31 @@ fn push_each(alloc: Global, out: &mut Vec<u8>, members: &[Tag]) -> Result<(), Al
         out.push(b' ')?;
         push_tag(alloc, out, member)?;
     }
+    Ok(())
+}
+
+/// Puts trees, each with a space before it, behind what is written.
+fn push_trees(alloc: Global, out: &mut Vec<u8>, trees: &[Sexp]) -> Result<(), AllocError>
+    ensures { OnOk result (out.new.items ≡ out.old.items ++ adv_all 1 (values (map sexp_value trees.now))) }
+{
+    for tree in trees {
+        out.push(b' ')?;
+        push_tree(alloc, out, tree)?;
+    }
+    Ok(())
+}
+
+/// Puts an authorization, as it is written, in advanced form behind what is written.
+pub fn push_five(alloc: Global, out: &mut Vec<u8>, five: &Five) -> Result<(), AllocError>
+    ensures { OnOk result ((v : Value) × IsWrittenFive five.now v × (out.new.items ≡ out.old.items ++ adv v)) }
+{
+    let parts = five.write_parts(alloc)?;
+    out.extend_from_slice(b"(five")?;
+    push_trees(alloc, out, &parts.before_tag)?;
+    out.extend_from_slice(b" (tag ")?;
+    push_tag(alloc, out, &five.tag)?;
+    out.push(b')')?;
+    push_trees(alloc, out, &parts.behind_tag)?;
+    out.push(b')')?;
     Ok(())
 }

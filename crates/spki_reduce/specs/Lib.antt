@@ -10,3 +10,4 @@ pub mod Reduced
 pub mod Refusal
 pub mod Chain
 pub mod LastTests
+pub mod Written

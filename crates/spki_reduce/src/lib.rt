@@ -8,9 +8,11 @@ mod joining;
 mod last_tests;
 pub mod laws;
 mod tuple;
+mod writing;
 
 pub use chain::fold_chain;
 pub use fault::ReduceFault;
 pub use fold::{Cause, Fold, Joined};
 pub use last_tests::Lack;
 pub use tuple::{Five, Four, Issuer, Step};
+pub use writing::WrittenParts;

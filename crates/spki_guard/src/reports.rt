@@ -1,0 +1,166 @@
+//! What is written of a case's reduction and of its explanation: a line for each entry.
+ghost use Rattle.std.specs.Prelude.{◌≡◌, ℕ, List, ◌++◌, OnOk, IfOk};
+ghost use Rattle.spki_guard.specs.Lines.{reason_line};
+ghost use Rattle.spki_guard.specs.Reports.{verdict_of, IsFoldLine, AreFoldLines, AreFolds, is_done, some_done, IsReductionReport, reason_lines, is_grant, some_grant, AreReasons, IsExplanationReport};
+
+use crate::answers::Verdict;
+use crate::entry_lines::{push_entry, push_item, push_no_entries, push_reason, push_stopped};
+use crate::printing::push_five;
+use spki_decision::{EntryFold, Explanation, Reason, Reduction};
+use std::alloc::{AllocError, Global};
+
+/// Yes if some entry does, else no.
+fn verdict_of(yes: bool) -> Verdict
+    ensures { result ≡ verdict_of yes }
+{
+    if yes { Verdict::Done } else { Verdict::No }
+}
+
+/// Puts what is written of a reduction behind what is there.
+pub fn push_reduction(
+    alloc: Global,
+    out: &mut Vec<u8>,
+    reduction: &Reduction,
+) -> Result<Verdict, AllocError>
+    ensures { IfOk result (λ verdict. (lines : List ℕ) × IsReductionReport reduction.now verdict lines
+        × (out.new.items ≡ out.old.items ++ lines)) }
+{
+    match reduction {
+        Reduction::Evidence { item, stop } => {
+            push_item(alloc, out, *item, *stop)?;
+            Ok(Verdict::No)
+        }
+        Reduction::Entries(folds) => push_folds(alloc, out, folds),
+    }
+}
+
+/// Puts what is written of each entry's chain behind what is there.
+fn push_folds(
+    alloc: Global,
+    out: &mut Vec<u8>,
+    folds: &[EntryFold],
+) -> Result<Verdict, AllocError>
+    ensures { IfOk result (λ verdict. (lines : List ℕ) × AreFolds folds.now verdict lines
+        × (out.new.items ≡ out.old.items ++ lines)) }
+{
+    if folds.is_empty() {
+        push_no_entries(out)?;
+        return Ok(Verdict::No);
+    }
+    let some = push_fold_lines(alloc, out, folds)?;
+    Ok(verdict_of(some))
+}
+
+/// Puts a line for each entry's chain behind what is there, and says whether one comes to a tuple.
+fn push_fold_lines(
+    alloc: Global,
+    out: &mut Vec<u8>,
+    folds: &[EntryFold],
+) -> Result<bool, AllocError>
+    ensures some { IfOk result (λ some. some ≡ some_done folds.now) }
+    ensures lines { OnOk result ((lines : List ℕ) × AreFoldLines 1 folds.now lines
+        × (out.new.items ≡ out.old.items ++ lines)) }
+{
+    let mut some = false;
+    for (place, fold) in folds.iter().enumerate() {
+        push_fold(alloc, out, place + 1, fold)?;
+        some = some || is_done(fold);
+    }
+    Ok(some)
+}
+
+/// Whether a chain comes to a tuple.
+fn is_done(fold: &EntryFold) -> bool
+    ensures { result ≡ is_done fold.now }
+{
+    match fold {
+        EntryFold::Done(_) => true,
+        EntryFold::Stopped { .. } => false,
+    }
+}
+
+/// Puts the line of an entry's chain behind what is there; `entry` is counted from 1.
+fn push_fold(
+    alloc: Global,
+    out: &mut Vec<u8>,
+    entry: usize,
+    fold: &EntryFold,
+) -> Result<(), AllocError>
+    ensures { OnOk result ((line : List ℕ) × IsFoldLine entry fold.now line
+        × (out.new.items ≡ out.old.items ++ line)) }
+{
+    match fold {
+        EntryFold::Done(five) => {
+            push_entry(alloc, out, entry)?;
+            push_five(alloc, out, five)?;
+            out.push(b'\n')?;
+            Ok(())
+        }
+        EntryFold::Stopped { item, cause } => push_stopped(alloc, out, entry, *item, *cause),
+    }
+}
+
+/// Puts what is written of an explanation behind what is there.
+pub fn push_explanation(
+    alloc: Global,
+    out: &mut Vec<u8>,
+    explanation: &Explanation,
+) -> Result<Verdict, AllocError>
+    ensures { IfOk result (λ verdict. (lines : List ℕ) × IsExplanationReport explanation.now verdict lines
+        × (out.new.items ≡ out.old.items ++ lines)) }
+{
+    match explanation {
+        Explanation::Evidence { item, stop } => {
+            push_item(alloc, out, *item, *stop)?;
+            Ok(Verdict::No)
+        }
+        Explanation::Entries(reasons) => push_reasons(alloc, out, reasons),
+    }
+}
+
+/// Puts what is written of each entry's reason behind what is there.
+fn push_reasons(
+    alloc: Global,
+    out: &mut Vec<u8>,
+    reasons: &[Reason],
+) -> Result<Verdict, AllocError>
+    ensures { IfOk result (λ verdict. (lines : List ℕ) × AreReasons reasons.now verdict lines
+        × (out.new.items ≡ out.old.items ++ lines)) }
+{
+    if reasons.is_empty() {
+        push_no_entries(out)?;
+        return Ok(Verdict::No);
+    }
+    let some = push_reason_lines(alloc, out, reasons)?;
+    Ok(verdict_of(some))
+}
+
+/// Puts a line for each entry's reason behind what is there, and says whether one grants what is asked.
+fn push_reason_lines(
+    alloc: Global,
+    out: &mut Vec<u8>,
+    reasons: &[Reason],
+) -> Result<bool, AllocError>
+    ensures some { IfOk result (λ some. some ≡ some_grant reasons.now) }
+    ensures lines { OnOk result (out.new.items ≡ out.old.items ++ reason_lines 1 reasons.now) }
+{
+    let mut some = false;
+    for (place, reason) in reasons.iter().enumerate() {
+        push_reason(alloc, out, place + 1, *reason)?;
+        some = some || is_grant(*reason);
+    }
+    Ok(some)
+}
+
+/// Whether an entry grants what is asked.
+fn is_grant(reason: Reason) -> bool
+    ensures { result ≡ is_grant reason }
+{
+    match reason {
+        Reason::Grants => true,
+        Reason::NotTheKey => false,
+        Reason::TagLacks => false,
+        Reason::WindowLacks => false,
+        Reason::Stopped { .. } => false,
+    }
+}

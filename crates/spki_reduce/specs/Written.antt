@@ -1,0 +1,64 @@
+-- How an authorization is written. The forms are those of the SPKI working group's structure draft; a list of its own,
+-- headed `five`, has the five parts of the tuple (RFC 2693, section 6.1).
+use Rattle.std.specs.Prelude.{◌≡◌, ℕ, Bool, true, false, List, [], ◌∷◌, ◌++◌, Option, Some, None, codes}
+use Rattle.sexpr_core.specs.Value.{Value, plain, group, canon}
+use Rattle.spki_tag.specs.Tag.{Tag, tag_value}
+use Rattle.spki_cert.specs.declared.principal.Principal.{Principal}
+use Rattle.spki_cert.specs.declared.principal.Principal.TheVariants as principal
+use Rattle.spki_cert.specs.declared.window.Window.{Window}
+use Rattle.spki_cert.specs.Readings.{alg_name}
+use Rattle.spki_cert.specs.Subjects.{plains}
+use Rattle.spki_reduce.specs.declared.tuple.Issuer.{Issuer}
+use Rattle.spki_reduce.specs.declared.tuple.Issuer.TheVariants as issuer
+use Rattle.spki_reduce.specs.declared.tuple.Five.{Five}
+
+-- (head member ..)
+abbrev pub headed : List ℕ → List Value → Value
+headed head members = group (plain head ∷ members)
+
+-- a key, by its canonical form, or (hash alg digest) without places to find it at
+abbrev pub IsWrittenPrincipal : Principal → Value → Type 0
+IsWrittenPrincipal (principal.Key octets) v = octets ≡ canon v
+IsWrittenPrincipal (principal.Hash alg digest) v = v ≡ headed (codes "hash") (plain (alg_name alg) ∷ plain digest ∷ [])
+
+-- the principal, or (name principal n n ..) where names lead on from it
+abbrev pub IsWrittenSubject : Principal → List (List ℕ) → Value → Type 0
+IsWrittenSubject p [] v = IsWrittenPrincipal p v
+IsWrittenSubject p (n ∷ ns) v =
+    (owner : Value) × IsWrittenPrincipal p owner × (v ≡ headed (codes "name") (owner ∷ plains (n ∷ ns)))
+
+-- (issuer K); of the keeper of the access list nothing is written
+abbrev pub IsWrittenIssuer : Issuer → List Value → Type 0
+IsWrittenIssuer issuer.Own vs = vs ≡ []
+IsWrittenIssuer (issuer.Key octets) vs = (key : Value) × (octets ≡ canon key) × (vs ≡ headed (codes "issuer") (key ∷ []) ∷ [])
+
+-- (propagate), where the subject may authorize others
+abbrev pub delegation_values : Bool → List Value
+delegation_values true = headed (codes "propagate") [] ∷ []
+delegation_values false = []
+
+-- a limit under its word, where there is one
+abbrev pub limit_values : List ℕ → Option (List ℕ) → List Value
+limit_values word None = []
+limit_values word (Some date) = headed word (plain date ∷ []) ∷ []
+
+-- the limits of a window, in (valid ..), where there is one
+abbrev pub in_valid : List Value → List Value
+in_valid [] = []
+in_valid (limit ∷ limits) = headed (codes "valid") (limit ∷ limits) ∷ []
+
+abbrev pub window_limits : Window → List Value
+window_limits w = limit_values (codes "not-before") w.not_before ++ limit_values (codes "not-after") w.not_after
+
+-- (five .. (tag T) ..), with these members before its tag and behind it
+abbrev pub five_value : List Value → Tag → List Value → Value
+five_value before tag behind = headed (codes "five") (before ++ headed (codes "tag") (tag_value tag ∷ []) ∷ behind)
+
+-- (five (issuer K)? (subject S) (propagate)? (tag T) (valid (not-before d)? (not-after d)?)?)
+pub record IsWrittenFive (f : Five) (v : Value) : Type 0 where
+  pub issuer : List Value
+  pub issuer_is : IsWrittenIssuer f.issuer issuer
+  pub subject : Value
+  pub subject_is : IsWrittenSubject f.subject.principal f.subject.names.items subject
+  pub written : v ≡ five_value ((issuer ++ headed (codes "subject") (subject ∷ []) ∷ []) ++ delegation_values f.propagate)
+    f.tag (in_valid (window_limits f.window))

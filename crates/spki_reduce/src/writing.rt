@@ -1,0 +1,209 @@
+//! Authorizations, written as S-expressions.
+
+ghost use Rattle.std.specs.Prelude.{◌≡◌, List, [], ◌∷◌, ◌++◌, IfOk, OnOk, map};
+ghost use Rattle.sexpr_core.specs.Value.{Value, canon, plain};
+ghost use Rattle.sexpr_core.specs.Tree.{sexp_value};
+ghost use Rattle.spki_cert.specs.Readings.{alg_name};
+ghost use Rattle.spki_cert.specs.Subjects.{plains};
+ghost use Rattle.spki_reduce.specs.Written.{headed, IsWrittenPrincipal, IsWrittenSubject, IsWrittenIssuer, delegation_values, limit_values, in_valid, window_limits, five_value, IsWrittenFive};
+
+use crate::tuple::{Five, Issuer};
+use sexpr_core::{Sexp, decode};
+use spki_cert::{Date, HashAlg, Key, Octets, Principal, Subject, Window};
+use std::alloc::{AllocError, Global};
+
+/// The members of a written authorization, but for its head and its tag.
+#[derive(Drop)]
+pub struct WrittenParts {
+    /// Those before the tag: the issuer, the subject, the delegation.
+    pub before_tag: Vec<Sexp>,
+    /// Those behind it: the window.
+    pub behind_tag: Vec<Sexp>,
+}
+
+impl<'a> Five<'a> {
+    /// The authorization as it is written: `(five (issuer K) (subject S) (propagate) (tag T) (valid ..))`. The issuer is
+    /// left out where it is the keeper of the access list, `(propagate)` where it may not be delegated, and `(valid ..)`
+    /// where the window has no limit. A hash stands without `uri`.
+    ///
+    /// # Errors
+    ///
+    /// `AllocError` where memory ran out.
+    pub fn write(&self, alloc: Global) -> Result<Sexp, AllocError>
+        ensures { IfOk result (λ s. IsWrittenFive self.now (sexp_value s)) }
+    {
+        let WrittenParts { before_tag, behind_tag } = self.write_parts(alloc)?;
+        let mut members = begun(alloc, b"five")?;
+        push_all(&mut members, before_tag)?;
+        push_headed(alloc, &mut members, b"tag", self.tag.write(alloc)?)?;
+        push_all(&mut members, behind_tag)?;
+        Ok(Sexp::list(members))
+    }
+
+    /// What `write` writes beside the tag, which alone may be large.
+    ///
+    /// # Errors
+    ///
+    /// `AllocError` where memory ran out.
+    pub fn write_parts(&self, alloc: Global) -> Result<WrittenParts, AllocError>
+        ensures { IfOk result (λ parts. IsWrittenFive self.now
+            (five_value (map sexp_value parts.before_tag.items) self.now.tag (map sexp_value parts.behind_tag.items))) }
+    {
+        let mut before_tag = Vec::new(alloc);
+        push_issuer(alloc, &mut before_tag, &self.issuer)?;
+        push_headed(alloc, &mut before_tag, b"subject", write_subject(alloc, &self.subject)?)?;
+        push_delegation(alloc, &mut before_tag, self.propagate)?;
+        let mut behind_tag = Vec::new(alloc);
+        push_window(alloc, &mut behind_tag, &self.window)?;
+        Ok(WrittenParts { before_tag, behind_tag })
+    }
+}
+
+/// Adds trees behind others, in their order.
+fn push_all(members: &mut Vec<Sexp>, further: Vec<Sexp>) -> Result<(), AllocError>
+    ensures { OnOk result (members.new.items ≡ members.old.items ++ further.items) }
+{
+    for tree in further {
+        members.push(tree)?;
+    }
+    Ok(())
+}
+
+/// The members of a list that is begun, with its head alone.
+fn begun(alloc: Global, head: &[u8]) -> Result<Vec<Sexp>, AllocError>
+    ensures { IfOk result (λ members. map sexp_value members.items ≡ plain head.now ∷ []) }
+{
+    let mut members = Vec::new(alloc);
+    members.push(Sexp::plain(alloc, head)?)?;
+    Ok(members)
+}
+
+/// Adds a list of a head and one further member.
+fn push_headed(
+    alloc: Global,
+    members: &mut Vec<Sexp>,
+    head: &[u8],
+    further: Sexp,
+) -> Result<(), AllocError>
+    ensures { OnOk result (map sexp_value members.new.items
+        ≡ map sexp_value members.old.items ++ headed head.now (sexp_value further ∷ []) ∷ []) }
+{
+    let mut inner = begun(alloc, head)?;
+    inner.push(further)?;
+    members.push(Sexp::list(inner))?;
+    Ok(())
+}
+
+/// The tree of a key. A key is a canonical form within the limits of what is read, since only the readers make one; the
+/// reader of that form finds no other fault in it than want of memory.
+fn write_key(alloc: Global, key: &Key) -> Result<Sexp, AllocError>
+    ensures { IfOk result (λ s. key.now ≡ canon (sexp_value s)) }
+{
+    decode(alloc, key.as_slice()).map_err(|_| AllocError)
+}
+
+/// A hash, without places to find its key at.
+fn write_hash(alloc: Global, alg: HashAlg, digest: &[u8]) -> Result<Sexp, AllocError>
+    ensures { IfOk result (λ s. IsWrittenPrincipal (Principal.Hash alg digest.now) (sexp_value s)) }
+{
+    let mut members = begun(alloc, b"hash")?;
+    members.push(Sexp::plain(alloc, alg.name())?)?;
+    members.push(Sexp::plain(alloc, digest)?)?;
+    Ok(Sexp::list(members))
+}
+
+fn write_principal(alloc: Global, principal: &Principal) -> Result<Sexp, AllocError>
+    ensures { IfOk result (λ s. IsWrittenPrincipal principal.now (sexp_value s)) }
+{
+    match principal {
+        Principal::Key(key) => write_key(alloc, key),
+        Principal::Hash { alg, digest } => write_hash(alloc, *alg, digest.as_slice()),
+    }
+}
+
+/// Adds each name.
+fn push_names(alloc: Global, members: &mut Vec<Sexp>, names: &[Octets]) -> Result<(), AllocError>
+    ensures { OnOk result (map sexp_value members.new.items ≡ map sexp_value members.old.items ++ plains names.now) }
+{
+    for name in names {
+        members.push(Sexp::plain(alloc, name.as_slice())?)?;
+    }
+    Ok(())
+}
+
+fn write_subject(alloc: Global, subject: &Subject) -> Result<Sexp, AllocError>
+    ensures { IfOk result (λ s. IsWrittenSubject subject.now.principal subject.now.names.items (sexp_value s)) }
+{
+    let principal = write_principal(alloc, &subject.principal)?;
+    if subject.names.is_empty() {
+        return Ok(principal);
+    }
+    let mut members = begun(alloc, b"name")?;
+    members.push(principal)?;
+    push_names(alloc, &mut members, &subject.names)?;
+    Ok(Sexp::list(members))
+}
+
+/// Adds `(issuer K)`, but for the keeper of the access list.
+fn push_issuer(
+    alloc: Global,
+    members: &mut Vec<Sexp>,
+    issuer: &Issuer,
+) -> Result<(), AllocError>
+    ensures { OnOk result ((written : List Value) × IsWrittenIssuer issuer.now written
+        × (map sexp_value members.new.items ≡ map sexp_value members.old.items ++ written)) }
+{
+    match issuer {
+        Issuer::Own => Ok(()),
+        Issuer::Key(key) => push_headed(alloc, members, b"issuer", write_key(alloc, key)?),
+    }
+}
+
+/// Adds `(propagate)` where the subject may authorize others.
+fn push_delegation(
+    alloc: Global,
+    members: &mut Vec<Sexp>,
+    propagate: bool,
+) -> Result<(), AllocError>
+    ensures { OnOk result (map sexp_value members.new.items
+        ≡ map sexp_value members.old.items ++ delegation_values propagate) }
+{
+    if propagate {
+        members.push(Sexp::list(begun(alloc, b"propagate")?))?;
+    }
+    Ok(())
+}
+
+/// Adds a limit under its word, where there is one.
+fn push_limit(
+    alloc: Global,
+    members: &mut Vec<Sexp>,
+    word: &[u8],
+    limit: Option<Date>,
+) -> Result<(), AllocError>
+    ensures { OnOk result (map sexp_value members.new.items
+        ≡ map sexp_value members.old.items ++ limit_values word.now limit) }
+{
+    match limit {
+        None => Ok(()),
+        Some(date) => {
+            let date = Sexp::plain(alloc, date.as_slice())?;
+            push_headed(alloc, members, word, date)
+        }
+    }
+}
+
+/// Adds the limits of a window in one `(valid ..)`, where it has one.
+fn push_window(alloc: Global, members: &mut Vec<Sexp>, window: &Window) -> Result<(), AllocError>
+    ensures { OnOk result (map sexp_value members.new.items
+        ≡ map sexp_value members.old.items ++ in_valid (window_limits window.now)) }
+{
+    if window.not_before.is_none() && window.not_after.is_none() {
+        return Ok(());
+    }
+    let mut limits = begun(alloc, b"valid")?;
+    push_limit(alloc, &mut limits, b"not-before", window.not_before)?;
+    push_limit(alloc, &mut limits, b"not-after", window.not_after)?;
+    members.push(Sexp::list(limits))?;
+    Ok(())
+}
