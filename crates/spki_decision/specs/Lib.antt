@@ -8,3 +8,5 @@ pub mod Granted
 pub mod Decision
 pub mod Refusal
 pub mod Supported
+pub mod Reduced
+pub mod Explained

@@ -5,15 +5,16 @@ ghost use Rattle.spki_case.specs.View.{model};
 ghost use Rattle.spki_reduce.specs.Tuples.{five};
 ghost use Rattle.spki_reduce.specs.Restrictions.{nodes_product};
 ghost use Rattle.spki_reduce.specs.Chain.{tuples_of, all_tags};
-ghost use Rattle.spki_reduce.specs.Views.{entry_tuple, five_tuple};
+ghost use Rattle.spki_reduce.specs.Views.{entry_tuple};
 ghost use Rattle.spki_decision.specs.Supported.{Supported, Names, HasLarge};
 ghost use Rattle.spki_decision.specs.Granted.{IsTooLarge};
 ghost use Rattle.spki_decision.specs.Decision.{IsDecision};
 
+use crate::folding::fold_entry;
 use crate::judging::{Evidence, judge};
 use spki_case::{Case, Verifier};
 use spki_cert::Entry;
-use spki_reduce::{Five, Fold, Issuer, ReduceFault, Step, fold_chain};
+use spki_reduce::{Fold, ReduceFault, Step};
 use std::alloc::{AllocError, Global};
 use thiserror::Error;
 
@@ -106,25 +107,11 @@ fn grants<'a>(
         1000000 < nodes_product (all_tags (five (entry_tuple entry.now) ∷ tuples_of steps.now)) }
 {
     case.request.known();
-    let own = own_five(entry)?;
-    match fold_chain(alloc, &own, steps, case.policy)? {
+    match fold_entry(alloc, entry, steps, case.policy)? {
         Fold::Stopped { .. } => Ok(false),
         Fold::Done(five) => {
             let lack = five.first_lack(&case.key, &case.request, &case.moment, case.policy);
             Ok(lack.is_none())
         }
     }
-}
-
-/// An entry's 5-tuple, whose issuer is the keeper of the access list (RFC 2693, section 6.1).
-fn own_five<'a>(entry: &Entry<'a>) -> Result<Five<'a>, AllocError>
-    ensures { IfOk result (λ f. five_tuple f ≡ entry_tuple entry.now) }
-{
-    Ok(Five {
-        issuer: Issuer::Own,
-        subject: entry.subject.clone()?,
-        propagate: entry.propagate,
-        tag: entry.tag.clone()?,
-        window: entry.window,
-    })
 }

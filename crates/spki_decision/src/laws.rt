@@ -1,8 +1,12 @@
-//! Laws of grants.
+//! Laws of grants and of explanations.
 
 ghost use Rattle.std.specs.Prelude.{ℕ};
 ghost use Rattle.spki_case.specs.Case.{Case};
+ghost use Rattle.spki_decision.specs.declared.deciding.Decision.{Decision};
+ghost use Rattle.spki_decision.specs.declared.explaining.Explanation.{Explanation};
 ghost use Rattle.spki_decision.specs.Granted.{Granted, strict, opened};
+ghost use Rattle.spki_decision.specs.Decision.{IsDecision};
+ghost use Rattle.spki_decision.specs.Explained.{IsExplanation, Agrees};
 
 use spki_case::Verifier;
 
@@ -11,4 +15,12 @@ use spki_case::Verifier;
 pub fn strict_implies_open<V: Verifier>()
     ensures { (verifier : V) (c : Case) (n : ℕ) → Granted n (strict c) (V.accepted verifier)
         → Granted n (opened c) (V.accepted verifier) }
+{}
+
+/// An explanation and a decision of one case agree, whatever the verifier: the decision names the first entry whose reason
+/// is `Grants`, and is no where no entry's is or a certificate doesn't stand.
+pub fn decided_as_explained<V: Verifier>()
+    ensures { (verifier : V) (c : Case) (explanation : Explanation) (decision : Decision)
+        → IsExplanation c (V.accepted verifier) explanation → IsDecision c (V.accepted verifier) decision
+        → Agrees explanation decision }
 {}

@@ -1,0 +1,72 @@
+-- Why each entry of a case grants what is asked, or doesn't (RFC 2693, section 6.3).
+use Rattle.std.specs.Prelude.{◌≡◌, ◌≢◌, ◌↔◌, ℕ, suc, ◌<◌, List, [], Option, Some, None, slice_get}
+use Rattle.std.specs.List.{AllZip}
+use Rattle.spki_cert.specs.declared.entry.Entry.{Entry}
+use Rattle.spki_reduce.specs.declared.last_tests.Lack.{Lack}
+use Rattle.spki_reduce.specs.declared.last_tests.Lack.TheVariants as lack
+use Rattle.spki_reduce.specs.Tuples.{FiveTuple, Tuple, five}
+use Rattle.spki_reduce.specs.Views.{entry_tuple}
+use Rattle.spki_reduce.specs.Derivation.{Derives, from_left}
+use Rattle.spki_reduce.specs.Restrictions.{SomeMoment}
+use Rattle.spki_reduce.specs.LastTests.{IsFirstLack}
+use Rattle.spki_case.specs.Case.{Case, Verified}
+use Rattle.spki_decision.specs.declared.deciding.Decision.{Decision}
+use Rattle.spki_decision.specs.declared.deciding.Decision.TheVariants.{Yes, No}
+use Rattle.spki_decision.specs.declared.explaining.Explanation.{Explanation}
+use Rattle.spki_decision.specs.declared.explaining.Explanation.TheVariants.{Evidence, Entries}
+use Rattle.spki_decision.specs.declared.explaining.Reason.{Reason}
+use Rattle.spki_decision.specs.declared.explaining.Reason.TheVariants.{Grants, NotTheKey, TagLacks, WindowLacks, Stopped}
+use Rattle.spki_decision.specs.Standing.{AreShown}
+use Rattle.spki_decision.specs.Supported.{Supported}
+use Rattle.spki_decision.specs.Granted.{Granted}
+use Rattle.spki_decision.specs.Reduced.{IsFailure, StopsAtItem}
+
+-- An entry's tuple and the certificates' have a derivation, whose windows leave some moment, if there is a certificate.
+-- Of its root this is the first of the last tests that is not passed.
+pub record LacksFirst (c : Case) (tuples : List Tuple) (e : Entry) (lack : Lack) : Type 0 where
+  pub root : FiveTuple
+  pub derived : Derives c.policy (from_left (five (entry_tuple e)) tuples) (five root)
+  pub timely : tuples ≢ [] → SomeMoment root.windows
+  pub first : IsFirstLack c.policy root c.key c.request c.moment (Some lack)
+
+-- why an entry and the certificates grant what is asked, or don't
+abbrev pub IsReason : Case → List Tuple → Entry → Reason → Type 0
+IsReason c tuples e Grants = Supported c tuples e
+IsReason c tuples e NotTheKey = LacksFirst c tuples e lack.NotTheKey
+IsReason c tuples e TagLacks = LacksFirst c tuples e lack.TagLacks
+IsReason c tuples e WindowLacks = LacksFirst c tuples e lack.WindowLacks
+IsReason c tuples e (Stopped item cause) = StopsAtItem c tuples e item cause
+
+-- the reason where the last tests end so
+abbrev pub reason_of : Option Lack → Reason
+reason_of None = Grants
+reason_of (Some lack.NotTheKey) = NotTheKey
+reason_of (Some lack.TagLacks) = TagLacks
+reason_of (Some lack.WindowLacks) = WindowLacks
+
+-- Every certificate stands, each entry, in order, has its reason, and the reason is Grants exactly where the entry is
+-- granted.
+pub record AreReasons (c : Case) (verified : Verified) (reasons : List Reason) : Type 0 where
+  pub tuples : List Tuple
+  pub shown : AreShown c.policy verified c.items tuples
+  pub each : AllZip (IsReason c tuples) c.entries reasons
+  pub grants : (place : ℕ) → (slice_get reasons place ≡ Some Grants) ↔ Granted (suc place) c verified
+
+-- the first certificate that fails, or the entries' reasons
+abbrev pub IsExplanation : Case → Verified → Explanation → Type 0
+IsExplanation c verified (Evidence item stop) = IsFailure c verified item stop
+IsExplanation c verified (Entries reasons) = AreReasons c verified reasons.items
+
+-- ---- explanations and decisions
+
+-- The reason of entry number n, from 1, is the first that is Grants.
+pub record IsFirstGrant (reasons : List Reason) (n : ℕ) : Type 0 where
+  pub place : ℕ
+  pub numbered : n ≡ suc place
+  pub here : slice_get reasons place ≡ Some Grants
+  pub none_before : (k : ℕ) → k < place → slice_get reasons k ≢ Some Grants
+
+-- a decision names the first entry whose reason is Grants, and is no where there is none or a certificate fails
+abbrev pub Agrees : Explanation → Decision → Type 0
+Agrees (Evidence item stop) d = d ≡ No
+Agrees (Entries reasons) d = (n : ℕ) → (d ≡ Yes n) ↔ IsFirstGrant reasons.items n

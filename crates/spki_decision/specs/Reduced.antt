@@ -1,0 +1,69 @@
+-- What a case's entries become, each with all certificates (RFC 2693, section 6.3).
+use Rattle.std.specs.Prelude.{◌≡◌, ℕ, ◌<◌, List, ◌∷◌, Some, slice_get}
+use Rattle.std.specs.List.{AllZip}
+use Rattle.spki_cert.specs.declared.entry.Entry.{Entry}
+use Rattle.spki_reduce.specs.declared.fold.Cause.{Cause}
+use Rattle.spki_reduce.specs.Tuples.{Tuple, five, own}
+use Rattle.spki_reduce.specs.Views.{entry_tuple, issuer_of}
+use Rattle.spki_reduce.specs.Restrictions.{nodes_product}
+use Rattle.spki_reduce.specs.Chain.{FoldsTo, StopsAt, Excludes, all_tags}
+use Rattle.spki_case.specs.Case.{Case, Verified}
+use Rattle.spki_case.specs.Sequence.{Shown, certificates}
+use Rattle.spki_decision.specs.declared.judging.Stop.{Stop}
+use Rattle.spki_decision.specs.declared.reducing.EntryFold.{EntryFold}
+use Rattle.spki_decision.specs.declared.reducing.EntryFold.TheVariants.{Done, Stopped}
+use Rattle.spki_decision.specs.declared.reducing.Reduction.{Reduction}
+use Rattle.spki_decision.specs.declared.reducing.Reduction.TheVariants.{Evidence, Entries}
+use Rattle.spki_decision.specs.Standing.{AreShown, FailsAt}
+
+-- No tuples are shown, and this item is the first certificate that fails, by this test, the first of the four.
+pub record IsFailure (c : Case) (verified : Verified) (item : ℕ) (stop : Stop) : Type 0 where
+  pub fails : FailsAt c.policy verified c.items item stop
+  pub none_shown : (tuples : List Tuple) → ¬ AreShown c.policy verified c.items tuples
+
+-- The chain of an entry's tuple and the certificates' stops at the step that is this item, for a cause that excludes
+-- its other bracketings too.
+pub record StopsAtItem (c : Case) (tuples : List Tuple) (e : Entry) (item : ℕ) (cause : Cause) : Type 0 where
+  pub step : ℕ
+  pub stops : StopsAt c.policy (five (entry_tuple e)) tuples step cause
+  pub excludes : Excludes c.policy (five (entry_tuple e)) tuples step cause
+  pub certificate : Shown
+  pub there : slice_get (certificates c.items) stops.place ≡ Some certificate
+  pub item_is : item ≡ certificate.item
+
+-- an entry and the certificates become this authorization, or stop at this item, for this cause
+abbrev pub IsEntryFold : Case → List Tuple → Entry → EntryFold → Type 0
+IsEntryFold c tuples e (Done f) = FoldsTo c.policy (five (entry_tuple e)) tuples f
+IsEntryFold c tuples e (Stopped item cause) = StopsAtItem c tuples e item cause
+
+-- what an entry becomes is issued by the keeper of the access list
+abbrev pub IsOwn : EntryFold → Type 0
+IsOwn (Done f) = issuer_of f.issuer ≡ own
+IsOwn (Stopped item cause) = Unit {0}
+
+-- Every certificate stands, and of each entry, in order, this is what it and they become.
+pub record AreFolds (c : Case) (verified : Verified) (folds : List EntryFold) : Type 0 where
+  pub tuples : List Tuple
+  pub shown : AreShown c.policy verified c.items tuples
+  pub each : AllZip (IsEntryFold c tuples) c.entries folds
+
+-- the first certificate that fails, or what the entries become
+abbrev pub IsReduction : Case → Verified → Reduction → Type 0
+IsReduction c verified (Evidence item stop) = IsFailure c verified item stop
+IsReduction c verified (Entries folds) = AreFolds c verified folds.items
+
+-- ---- limits
+
+-- for some entry the product of the nodes of its tag and of these tuples' tags is over 1,000,000
+pub record HasLargeTags (c : Case) (tuples : List Tuple) : Type 0 where
+  pub place : ℕ
+  pub entry : Entry
+  pub stands : slice_get c.entries place ≡ Some entry
+  pub large : 1000000 < nodes_product (all_tags (five (entry_tuple entry) ∷ tuples))
+
+-- Every certificate stands, and for some entry the product of the nodes of its tag and of all the certificates' tags
+-- is over 1,000,000.
+pub record SomeTooLarge (c : Case) (verified : Verified) : Type 0 where
+  pub tuples : List Tuple
+  pub shown : AreShown c.policy verified c.items tuples
+  pub large : HasLargeTags c tuples

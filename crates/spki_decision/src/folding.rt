@@ -1,0 +1,47 @@
+//! What an entry and the steps behind it become (RFC 2693, section 6.3).
+
+ghost use Rattle.std.specs.Prelude.{◌≡◌, ◌∷◌, ◌<◌, IfOk, IsErrOf};
+ghost use Rattle.spki_reduce.specs.Tuples.{five, own};
+ghost use Rattle.spki_reduce.specs.Restrictions.{nodes_product};
+ghost use Rattle.spki_reduce.specs.Views.{issuer_of, entry_tuple, five_tuple};
+ghost use Rattle.spki_reduce.specs.Chain.{tuples_of, all_tags, FoldsTo, StopsAt, Excludes, SupportsNothing, MatchFold};
+
+use spki_cert::{Entry, Policy};
+use spki_reduce::{Five, Fold, Issuer, ReduceFault, Step, fold_chain};
+use std::alloc::{AllocError, Global};
+
+/// What an entry's own 5-tuple and the steps behind it become, joined in turn.
+pub(crate) fn fold_entry<'a>(
+    alloc: Global,
+    entry: &Entry<'a>,
+    steps: &[Step<'a>],
+    policy: Policy,
+) -> Result<Fold<'a>, ReduceFault>
+    ensures fold { IfOk result (λ fold. MatchFold fold
+        (FoldsTo policy (five (entry_tuple entry.now)) (tuples_of steps.now))
+        (StopsAt policy (five (entry_tuple entry.now)) (tuples_of steps.now))) }
+    ensures issuer { IfOk result (λ fold. MatchFold fold
+        (λ f. issuer_of f.issuer ≡ own) (λ step cause. Unit {0})) }
+    ensures excluded { IfOk result (λ fold. MatchFold fold (λ f. Unit {0})
+        (Excludes policy (five (entry_tuple entry.now)) (tuples_of steps.now))) }
+    ensures unsupported { IfOk result (λ fold. MatchFold fold (λ f. Unit {0})
+        (λ step cause. SupportsNothing policy (five (entry_tuple entry.now) ∷ tuples_of steps.now))) }
+    ensures too_large { IsErrOf result ReduceFault.TooLarge →
+        1000000 < nodes_product (all_tags (five (entry_tuple entry.now) ∷ tuples_of steps.now)) }
+{
+    let own = own_five(entry)?;
+    fold_chain(alloc, &own, steps, policy)
+}
+
+/// An entry's 5-tuple, whose issuer is the keeper of the access list (RFC 2693, section 6.1).
+fn own_five<'a>(entry: &Entry<'a>) -> Result<Five<'a>, AllocError>
+    ensures { IfOk result (λ f. five_tuple f ≡ entry_tuple entry.now) }
+{
+    Ok(Five {
+        issuer: Issuer::Own,
+        subject: entry.subject.clone()?,
+        propagate: entry.propagate,
+        tag: entry.tag.clone()?,
+        window: entry.window,
+    })
+}

@@ -1,0 +1,115 @@
+//! What the entries of a case become (RFC 2693, section 6.3).
+
+ghost use Rattle.std.specs.Prelude.{◌≡◌, ◌∷◌, ◌<◌, map, length, IfOk, IsErrOf};
+ghost use Rattle.std.specs.List.{AllZip};
+ghost use Rattle.spki_case.specs.View.{model};
+ghost use Rattle.spki_case.specs.Sequence.{certificates};
+ghost use Rattle.spki_reduce.specs.Tuples.{five};
+ghost use Rattle.spki_reduce.specs.Restrictions.{nodes_product};
+ghost use Rattle.spki_reduce.specs.Chain.{tuples_of, all_tags};
+ghost use Rattle.spki_reduce.specs.Views.{entry_tuple};
+ghost use Rattle.spki_decision.specs.Reduced.{IsEntryFold, IsOwn, IsReduction, HasLargeTags, SomeTooLarge};
+
+use crate::deciding::GuardFault;
+use crate::folding::fold_entry;
+use crate::judging::{Evidence, Stop, judge};
+use spki_case::{Case, Verifier};
+use spki_cert::Entry;
+use spki_reduce::{Cause, Five, Fold, ReduceFault, Step};
+use std::alloc::Global;
+
+/// What an entry and all certificates become, joined in turn.
+#[derive(Drop)]
+pub enum EntryFold<'a> {
+    /// The authorization that they become.
+    Done(Five<'a>),
+    /// A certificate doesn't join what the entry and those before it became.
+    Stopped {
+        /// The number of its item, from 1.
+        item: usize,
+        /// Why it doesn't.
+        cause: Cause,
+    },
+}
+
+/// What a case's entries become.
+#[derive(Drop)]
+pub enum Reduction<'a> {
+    /// A certificate doesn't stand, the first that doesn't.
+    Evidence {
+        /// The number of its item, from 1.
+        item: usize,
+        /// The first test that it doesn't pass.
+        stop: Stop,
+    },
+    /// Each of them stands, and this is what the entries become, in their order.
+    Entries(Vec<EntryFold<'a>>),
+}
+
+/// Reduces a case (RFC 2693, section 6.3): where every certificate of its sequence stands, with the verifier's word for
+/// the signatures, what each entry and all of them, in their order, become; else the first that doesn't stand.
+///
+/// # Errors
+///
+/// `TooLarge` only where the certificates stand, and for some entry the product of the nodes of all tags is over
+/// 1,000,000. `Memory` where memory was refused, to this or to the verifier.
+pub fn reduce_case<'a, V: Verifier>(
+    alloc: Global,
+    case: &Case<'a>,
+    verifier: &V,
+) -> Result<Reduction<'a>, GuardFault>
+    ensures exact { IfOk result (IsReduction (model case.now) (V.accepted verifier.now)) }
+    ensures too_large { IsErrOf result GuardFault.TooLarge → SomeTooLarge (model case.now) (V.accepted verifier.now) }
+{
+    match judge(alloc, &case.sequence, case.policy, verifier)? {
+        Evidence::Fails { item, stop } => Ok(Reduction::Evidence { item, stop }),
+        Evidence::Stands { items, steps } => {
+            let folds = entry_folds(alloc, case, &items, &steps)?;
+            Ok(Reduction::Entries(folds))
+        }
+    }
+}
+
+/// What each entry and the steps behind it become. The items are those of the steps.
+fn entry_folds<'a>(
+    alloc: Global,
+    case: &Case<'a>,
+    items: &[usize],
+    steps: &[Step<'a>],
+) -> Result<Vec<EntryFold<'a>>, GuardFault>
+    requires numbered { items.now ≡ map (λ shown. shown.item) (certificates case.now.sequence.items) }
+    requires as_many { length steps.now ≡ length items.now }
+    ensures each { IfOk result (λ folds.
+        AllZip (IsEntryFold (model case.now) (tuples_of steps.now)) case.now.acl.items folds.items) }
+    ensures too_large { IsErrOf result GuardFault.TooLarge → HasLargeTags (model case.now) (tuples_of steps.now) }
+{
+    let mut folds = Vec::new(alloc);
+    for entry in &case.acl {
+        folds.push(entry_fold(alloc, case, entry, items, steps)?)?;
+    }
+    Ok(folds)
+}
+
+/// What an entry and the steps behind it become. The items are those of the steps.
+pub(crate) fn entry_fold<'a>(
+    alloc: Global,
+    case: &Case<'a>,
+    entry: &Entry<'a>,
+    items: &[usize],
+    steps: &[Step<'a>],
+) -> Result<EntryFold<'a>, ReduceFault>
+    requires numbered { items.now ≡ map (λ shown. shown.item) (certificates case.now.sequence.items) }
+    requires as_many { length steps.now ≡ length items.now }
+    ensures exact { IfOk result (IsEntryFold (model case.now) (tuples_of steps.now) entry.now) }
+    ensures issuer { IfOk result IsOwn }
+    ensures too_large { IsErrOf result ReduceFault.TooLarge →
+        1000000 < nodes_product (all_tags (five (entry_tuple entry.now) ∷ tuples_of steps.now)) }
+{
+    match fold_entry(alloc, entry, steps, case.policy)? {
+        Fold::Done(five) => Ok(EntryFold::Done(five)),
+        Fold::Stopped { step, cause } => Ok(EntryFold::Stopped {
+            item: items[step - 1],
+            cause,
+        }),
+    }
+}
