@@ -1,4 +1,5 @@
 """Cases with certificates, whose digests are computed here. The answers are worked out by hand from docs/FORMATS.md."""
+import base64
 import hashlib
 import re
 
@@ -194,7 +195,95 @@ def malformed():
     yield "the moment", case("", "", "", key("a"), "(ftp)", bad_moment), refused("at BadDate")
 
 
+# ---- what `reduce` and `explain` write
+
+B_MAY_ALL = "(five (subject (public-key (test b))) (tag (*)))"
+NONE = (1, "no entries\n")
+
+
+def shown(*certificates):
+    """The rows and the items of certificates, each with its signer."""
+    return " ".join(row(*c) for c in certificates), " ".join(signed(*c) for c in certificates)
+
+
+def explained():
+    """Cases with the reduction and the explanation of each: the status and the lines."""
+    a, b, c = key("a"), key("b"), key("c")
+    all_of_it = entry("a")
+    c1, c2 = cert(a, b, "(tag (*))"), cert(b, c, "(tag (*))")
+    first = shown((c1, a))
+    yield "first run", case(f"(entry {a} (tag (ftp host)))", asks=a, request="(ftp host dir)"), (
+        0, "entry 1 (five (subject (public-key (test a))) (tag (ftp host)))\n"), (0, "entry 1 grants\n")
+    yield "shorter request", case(f"(entry {a} (tag (ftp host)))", asks=a), (
+        0, "entry 1 (five (subject (public-key (test a))) (tag (ftp host)))\n"), (1, "entry 1 TagLacks\n")
+    yield "delegation", case(all_of_it, *first, b), (0, f"entry 1 {B_MAY_ALL}\n"), (0, "entry 1 grants\n")
+    stopped = 1, "entry 1 item 3 NoDelegation\n"
+    yield "delegation: one too many", case(all_of_it, *shown((c1, a), (c2, b)), c), stopped, stopped
+    passed_on = cert(a, b)
+    yield "delegation passed on", case(all_of_it, *shown((passed_on, a)), b), (
+        0, "entry 1 (five (subject (public-key (test b))) (propagate) (tag (*)))\n"), (0, "entry 1 grants\n")
+    alone = f"(entry {a} (tag (*)) (not-after \"2024-12-31_23:59:59\"))"
+    valid = '(valid (not-after "2024-12-31_23:59:59"))'
+    yield "windows: too late", case(alone, asks=a, at='"2025-01-01_00:00:00"'), (
+        0, f"entry 1 (five (subject {a}) (tag (*)) {valid})\n"), (1, "entry 1 WindowLacks\n")
+    until = entry("a", '(propagate) (tag (*)) (not-after "2024-06-01_00:00:00")')
+    for start, reduced, why in (
+        ("2024-06-01_00:00:00", (0, 'entry 1 (five (subject (public-key (test b))) (tag (*)) (valid (not-before "2024-06-01_00:00:00") (not-after "2024-06-01_00:00:00")))\n'), "WindowLacks"),
+        ("2024-06-01_00:00:01", (1, "entry 1 item 1 NoValidity\n"), "item 1 NoValidity"),
+    ):
+        limited = cert(a, b, f'(tag (*)) (valid (not-before "{start}"))')
+        yield f"windows: certificate from {start}", case(until, *shown((limited, a)), b), reduced, (1, f"entry 1 {why}\n")
+    friends, bob = f"(cert (issuer (name {a} friends)) (subject {b}))", f"(cert (issuer (name {b} bob)) (subject {c}))"
+    of_friends = f"(entry (name {a} friends bob) (tag (*)))"
+    yield "linked names", case(of_friends, *shown((friends, a), (bob, b)), c), (
+        0, f"entry 1 (five (subject {c}) (tag (*)))\n"), (0, "entry 1 grants\n")
+    turned = 1, "entry 1 item 1 NotTheName\n"
+    yield "linked names: in the other order", case(of_friends, *shown((bob, b), (friends, a)), c), turned, turned
+    yield "linked names: one left", case(of_friends, *shown((friends, a)), c), (
+        0, f"entry 1 (five (subject (name {b} bob)) (tag (*)))\n"), (1, "entry 1 NotTheKey\n")
+    by_hash = cert(digest(a), b, "(tag (*))")
+    for name, items, line in (
+        ("no key shown", signed(by_hash, a), "item 1 KeyNotShown\n"),
+        ("digest of another text", signed(by_hash, a, of=c1) + a, "item 1 DigestDiffers\n"),
+        ("signed by another", signed(by_hash, b) + a, "item 1 SignerDiffers\n"),
+    ):
+        yield f"hash issuer: {name}", case(all_of_it, row(by_hash, a), items, b), (1, line), (1, line)
+    yield "not accepted", case(all_of_it, "", first[1], b), (1, "item 1 NotAccepted\n"), (1, "item 1 NotAccepted\n")
+    later = 1, "item 4 NotAccepted\n"
+    yield "evidence behind a key", case(all_of_it, first[0], first[1] + a + signed(c2, b), c), later, later
+    yield "no entries where evidence fails", case("", "", first[1], b), (1, "item 1 NotAccepted\n"), (1, "item 1 NotAccepted\n")
+    yield "no entries", case("", *first, b), NONE, NONE
+    yield "second entry", case(f"(entry {c} (tag (*)))" + all_of_it, *first, a), (
+        0, f"entry 1 item 1 NotIssuer\nentry 2 {B_MAY_ALL}\n"), (1, "entry 1 item 1 NotIssuer\nentry 2 NotTheKey\n")
+    both = entry("a", "(propagate) (tag (* set read write))")
+    narrowed = cert(a, b, "(tag (* set write (* prefix re)))")
+    yield "reduced sets", case(both, *shown((narrowed, a)), b, "read"), (
+        0, f"entry 1 (five (subject {b}) (tag (* set read write)))\n"), (0, "entry 1 grants\n")
+    apart = cert(a, b, "(tag x)")
+    none = 1, "entry 1 item 1 NoTag\n"
+    yield "reduced sets: none", case(both, *shown((apart, a)), b, "read"), none, none
+    relative = cert(a, "(name bob)", "(tag (*))"), f"(cert (issuer (name {a} bob)) (subject {b}))"
+    yield "relative name", case(all_of_it, *shown((relative[0], a), (relative[1], a)), b), (
+        0, f"entry 1 {B_MAY_ALL}\n"), (0, "entry 1 grants\n")
+    hashed = f"(hash sha1 |{base64.b64encode(hashlib.sha1(canonical(a)).digest()).decode()}|)"
+    by_sha1 = f"(entry {digest(a, 'sha1')} (tag (*)))"
+    yield "open: subject by sha1", case(by_sha1, asks=a), (0, f"entry 1 (five (subject {hashed}) (tag (*)))\n"), (0, "entry 1 grants\n")
+    yield "strict: subject by sha1", case(by_sha1, asks=a, policy="(policy strict)"), (
+        0, f"entry 1 (five (subject {hashed}) (tag (*)))\n"), (1, "entry 1 NotTheKey\n")
+    backwards = f"(entry {a} (tag (*)) (not-before \"2024-06-01_00:00:00\") (not-after \"2024-01-01_00:00:00\"))"
+    yield "limits: a window without moments", case(backwards, asks=a, at='"2024-03-01_00:00:00"'), (
+        0, f'entry 1 (five (subject {a}) (tag (*)) (valid (not-before "2024-06-01_00:00:00") (not-after "2024-01-01_00:00:00")))\n'), (
+        1, "entry 1 WindowLacks\n")
+    tests = f"(entry {c} (tag (http)) (not-after \"2000-01-01_00:00:00\"))"
+    for asks, request, why in ((a, "(ftp)", "NotTheKey"), (c, "(ftp)", "TagLacks"), (c, "(http)", "WindowLacks")):
+        yield f"three tests: {why}", case(tests, asks=asks, request=request), (
+            0, f'entry 1 (five (subject {c}) (tag (http)) (valid (not-after "2000-01-01_00:00:00")))\n'), (1, f"entry 1 {why}\n")
+
+
 def rows():
     for examples in (chains, windows_and_tags, moments, policies, order, sizes, malformed):
         for name, text, (status, answer) in examples():
             yield f"chains.py: {name}", "check", text.encode(), status, answer.encode()
+    for name, text, reduced, why in explained():
+        for command, (status, answer) in (("reduce", reduced), ("explain", why)):
+            yield f"chains.py: {name}", command, text.encode(), status, answer.encode()

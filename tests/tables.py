@@ -11,7 +11,8 @@ between them. `any` stands for each of the commands. A line that begins with `;`
     %<64*(>     is what stands behind the star, so many times
 
 and every other octet stands for itself. Of each text that `canonical` converts, what `advanced` and `transport` write must be
-read again as the same canonical form.
+read again as the same canonical form. Each text that `check` refuses `reduce` and `explain` must refuse by the same line; of each
+that it decides, the first entry that `explain` says grants must be the one that `check` names.
 
 Build the program first (`rt run` in crates/spki). Prints a line for each row that fails and for each table; the last line counts
 the tables.
@@ -28,7 +29,9 @@ import pairs
 
 HERE = os.path.dirname(os.path.abspath(__file__))
 PROGRAM = os.path.join(HERE, "..", "crates", "spki", "out", "spki")
-COMMANDS = ("canonical", "advanced", "transport", "intersect", "check")
+COMMANDS = ("canonical", "advanced", "transport", "intersect", "reduce", "check", "explain")
+GRANTS = re.compile(rb"entry (\d+) grants")
+TOO_LARGE = (2, b"refused TooLarge\n")
 SECONDS = 20
 ESCAPE = re.compile(rb"%(?:([0-9A-F]{2})|(n)|(-)|<(\d+)\*([^>]*)>|())")
 
@@ -79,11 +82,27 @@ def fault_of(program, row):
     met = run(program, command, text)
     if met != (status, answer):
         return f"{place}: {command}: status {met[0]} and {met[1][:200]!r}, and not {status} and {answer[:200]!r}"
+    if command == "check":
+        return fault_beside(program, place, text, met)
     if command == "canonical" and status == 0:
         for form in ("advanced", "transport"):
             written = run(program, form, text)[1]
             if run(program, "canonical", written) != (0, answer):
                 return f"{place}: what {form} writes is not read again as the same value"
+    return None
+
+
+def fault_beside(program, place, text, decided):
+    """What is wrong with what `reduce` and `explain` say of a text beside the answer of `check`, None if nothing is."""
+    reduced, explained = (run(program, command, text) for command in ("reduce", "explain"))
+    if decided[0] == 2:
+        return None if reduced == explained == decided else f"{place}: reduce or explain refuse it by another line"
+    if explained[0] == 2:
+        return None if explained == reduced == TOO_LARGE else f"{place}: explain refuses what check decides"
+    first = GRANTS.search(explained[1])
+    line = b"yes entry %s\n" % first[1] if first else b"no\n"
+    if decided != (explained[0], line):
+        return f"{place}: explain and check differ"
     return None
 
 

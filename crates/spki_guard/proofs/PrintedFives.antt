@@ -51,14 +51,14 @@ tag_begins v = ap (λ s. codes " (tag " ++ s) (append-nil ((adv v ++ []) ++ 41 �
 -- one piece behind another, and as they stand in the whole
 regroup : (o a b c d e f : List ℕ) → ((((((o ++ a) ++ b) ++ c) ++ d) ++ e) ++ f) ++ e ≡ o ++ (a ++ ((b ++ ((c ++ (d ++ e)) ++ f)) ++ e))
 regroup o a b c d e f =
-    append_assoc ((((( o ++ a) ++ b) ++ c) ++ d) ++ e) f e
+    append_assoc (((((o ++ a) ++ b) ++ c) ++ d) ++ e) f e
     ∙ append_assoc ((((o ++ a) ++ b) ++ c) ++ d) e (f ++ e)
     ∙ append_assoc (((o ++ a) ++ b) ++ c) d (e ++ (f ++ e))
     ∙ append_assoc ((o ++ a) ++ b) c (d ++ (e ++ (f ++ e)))
     ∙ append_assoc (o ++ a) b (c ++ (d ++ (e ++ (f ++ e))))
     ∙ append_assoc o a (b ++ (c ++ (d ++ (e ++ (f ++ e)))))
     ∙ ap (λ s. o ++ (a ++ (b ++ s))) (
-        ap (λ s. c ++ s) (sym (append_assoc d e (f ++ e))) ∙ sym (append_assoc c (d ++ e) (f ++ e)) ∙ sym (append_assoc (c ++ (d ++ e)) f e))
+    ap (λ s. c ++ s) (sym (append_assoc d e (f ++ e))) ∙ sym (append_assoc c (d ++ e) (f ++ e)) ∙ sym (append_assoc (c ++ (d ++ e)) f e))
     ∙ ap (λ s. o ++ (a ++ s)) (sym (append_assoc b ((c ++ (d ++ e)) ++ f) e))
 
 pub five_printed : (before : List Value) (tag : Tag) (behind : List Value) (out opened led tagged named closed followed new : List ℕ)
@@ -68,7 +68,7 @@ pub five_printed : (before : List Value) (tag : Tag) (behind : List Value) (out 
 five_printed before tag behind out opened led tagged named closed followed new a b c d e f g =
     let t = headed (codes "tag") (tag_value tag ∷ []) in
     let inner : spaced (before ++ t ∷ behind) ≡ spaced before ++ ((codes " (tag " ++ (adv (tag_value tag) ++ 41 ∷ [])) ++ spaced behind) =
-        spaced_append before (t ∷ behind) ∙ ap (λ s. spaced before ++ s) (spaced_append (t ∷ []) behind ∙ ap (λ s. s ++ spaced behind) (tag_begins (tag_value tag))) in
+    spaced_append before (t ∷ behind) ∙ ap (λ s. spaced before ++ s) (spaced_append (t ∷ []) behind ∙ ap (λ s. s ++ spaced behind) (tag_begins (tag_value tag))) in
     g ∙ ap (λ s. s ++ 41 ∷ []) (f ∙ ap (λ s. s ++ spaced behind) (e ∙ ap (λ s. s ++ 41 ∷ []) (d ∙ ap (λ s. s ++ adv (tag_value tag)) (c ∙ ap (λ s. s ++ codes " (tag ") (b ∙ ap (λ s. s ++ spaced before) a)))))
     ∙ regroup out (codes "(five") (spaced before) (codes " (tag ") (adv (tag_value tag)) (41 ∷ []) (spaced behind)
     ∙ ap (λ s. out ++ (codes "(five" ++ (s ++ 41 ∷ []))) (sym inner)

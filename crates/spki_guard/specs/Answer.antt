@@ -10,22 +10,27 @@ use Rattle.sexpr_text.specs.declared.converter.Form.TheVariants as forms
 use Rattle.sexpr_text.specs.Refusal.{RefusesText}
 use Rattle.sexpr_text.specs.Spelling.{IsTextWithin}
 use Rattle.spki_tag.specs.Tag.{Tag, tag_value}
-use Rattle.spki_case.specs.Case.{Case, accepted_by}
+use Rattle.spki_case.specs.Case.{Case, Verified, accepted_by}
 use Rattle.spki_case.specs.CaseForm.{IsCaseText, TextRefused}
 use Rattle.spki_guard.specs.declared.answers.Refusal.{Refusal}
 use Rattle.spki_guard.specs.declared.answers.Refusal.TheVariants as refusals
 use Rattle.spki_guard.specs.declared.answers.Output as output
 use Rattle.spki_guard.specs.declared.answers.Output.TheVariants.{Made, Fixed}
 use Rattle.spki_guard.specs.declared.commands.Command.{Command}
-use Rattle.spki_guard.specs.declared.commands.Command.TheVariants.{Canonical, Advanced, Transport, Intersect, Check}
+use Rattle.spki_guard.specs.declared.commands.Command.TheVariants.{Canonical, Advanced, Transport, Intersect, Reduce, Check, Explain}
 use Rattle.spki_guard.specs.declared.answers.Verdict.{Verdict}
 use Rattle.spki_guard.specs.declared.answers.Verdict.TheVariants.{Done, No, Refused}
 use Rattle.spki_decision.specs.declared.deciding.Decision.{Decision}
 use Rattle.spki_decision.specs.declared.deciding.Decision.TheVariants as decision
 use Rattle.spki_decision.specs.declared.deciding.GuardFault.{GuardFault}
 use Rattle.spki_decision.specs.declared.deciding.GuardFault.TheVariants as guard
+use Rattle.spki_decision.specs.declared.reducing.Reduction.{Reduction}
+use Rattle.spki_decision.specs.declared.explaining.Explanation.{Explanation}
 use Rattle.spki_decision.specs.Decision.{IsDecision}
 use Rattle.spki_decision.specs.Granted.{IsTooLarge}
+use Rattle.spki_decision.specs.Reduced.{IsReduction, SomeTooLarge}
+use Rattle.spki_decision.specs.Explained.{IsExplanation}
+use Rattle.spki_guard.specs.Reports.{IsReductionReport, IsExplanationReport}
 use Rattle.spki_guard.specs.Intersect.{IsMetText, TextNotMet}
 use Rattle.spki_guard.specs.Lines.{yes_entry, no_line, refused_form, refused_intersect, refused_case, refused_decision, refused_memory}
 
@@ -44,13 +49,40 @@ pub record Decides (text : List ℕ) (verdict : Verdict) (output : List ℕ) : T
   pub decision_is : IsDecision case_read (accepted_by case_read) decided
   pub line : IsLineOf decided verdict output
 
--- The canonical text is that of a case that isn't decided, with the case's own accepted list as the verifier, since
--- tags are too large.
-pub record IsUndecided (text : List ℕ) (fault : GuardFault) : Type 0 where
+-- The canonical text is that of a case, and these are the lines of its reduction, and of its explanation, with the
+-- case's own accepted list as the verifier.
+pub record Reduces (text : List ℕ) (verdict : Verdict) (output : List ℕ) : Type 0 where
+  pub case_read : Case
+  pub text_is : IsCaseText text case_read
+  pub reduction : Reduction
+  pub reduction_is : IsReduction case_read (accepted_by case_read) reduction
+  pub lines : IsReductionReport reduction verdict output
+
+pub record Explains (text : List ℕ) (verdict : Verdict) (output : List ℕ) : Type 0 where
+  pub case_read : Case
+  pub text_is : IsCaseText text case_read
+  pub explanation : Explanation
+  pub explanation_is : IsExplanation case_read (accepted_by case_read) explanation
+  pub lines : IsExplanationReport explanation verdict output
+
+-- For which cases a command answers that tags are too large: one that decides, those of entries with none before them
+-- granted; one that treats every entry, those of any entry.
+abbrev pub HasTooLarge : Command → Case → Verified → Type 0
+HasTooLarge Canonical c verified = ⊥
+HasTooLarge Advanced c verified = ⊥
+HasTooLarge Transport c verified = ⊥
+HasTooLarge Intersect c verified = ⊥
+HasTooLarge Reduce c verified = SomeTooLarge c verified
+HasTooLarge Check c verified = IsTooLarge c verified
+HasTooLarge Explain c verified = SomeTooLarge c verified
+
+-- The canonical text is that of a case that has no answer but a refusal, with the case's own accepted list as the
+-- verifier, since tags are too large.
+pub record IsUndecided (command : Command) (text : List ℕ) (fault : GuardFault) : Type 0 where
   pub case_read : Case
   pub text_is : IsCaseText text case_read
   pub named : fault ≡ guard.TooLarge
-  pub large : IsTooLarge case_read (accepted_by case_read)
+  pub large : HasTooLarge command case_read (accepted_by case_read)
 
 -- ---- intersections
 
@@ -69,23 +101,37 @@ form_of Canonical = forms.Canonical
 form_of Advanced = forms.Advanced
 form_of Transport = forms.Canonical
 form_of Intersect = forms.Canonical
+form_of Reduce = forms.Canonical
 form_of Check = forms.Canonical
+form_of Explain = forms.Canonical
+
+-- the command is one on a case
+abbrev pub IsOnCase : Command → Type 0
+IsOnCase Canonical = ⊥
+IsOnCase Advanced = ⊥
+IsOnCase Transport = ⊥
+IsOnCase Intersect = ⊥
+IsOnCase Reduce = Unit {0}
+IsOnCase Check = Unit {0}
+IsOnCase Explain = Unit {0}
 
 -- What is answered to the value that was read: it is written in the form that is asked for, or its canonical
--- form is met or decided.
+-- form is met, reduced, decided or explained.
 abbrev pub AnswersValue : Command → Value → Verdict → List ℕ → Type 0
 AnswersValue Canonical v verdict output = (verdict ≡ Done) × (output ≡ canon v)
 AnswersValue Advanced v verdict output = (verdict ≡ Done) × (output ≡ adv v ++ 10 ∷ [])
 AnswersValue Transport v verdict output = (verdict ≡ Done) × (output ≡ transport v ++ 10 ∷ [])
 AnswersValue Intersect v verdict output = WritesMeet (canon v) verdict output
+AnswersValue Reduce v verdict output = Reduces (canon v) verdict output
 AnswersValue Check v verdict output = Decides (canon v) verdict output
+AnswersValue Explain v verdict output = Explains (canon v) verdict output
 
 -- What a refusal says of the value that was read, or rather of its canonical form. Of memory nothing is said.
 abbrev pub RefusesValue : Command → Value → Refusal → Type 0
 RefusesValue command v (refusals.Form fault) = ⊥
 RefusesValue command v (refusals.Intersect fault) = (command ≡ Intersect) × TextNotMet (canon v) fault
-RefusesValue command v (refusals.Case fault) = (command ≡ Check) × TextRefused (canon v) fault
-RefusesValue command v (refusals.Decision fault) = (command ≡ Check) × IsUndecided (canon v) fault
+RefusesValue command v (refusals.Case fault) = IsOnCase command × TextRefused (canon v) fault
+RefusesValue command v (refusals.Decision fault) = IsUndecided command (canon v) fault
 RefusesValue command v refusals.Memory = Unit {0}
 
 -- ---- texts

@@ -5,7 +5,7 @@ ghost use Rattle.sexpr_text.specs.Printed.{adv};
 ghost use Rattle.sexpr_text.specs.Written.{written};
 ghost use Rattle.spki_tag.specs.Tag.{tag_value};
 ghost use Rattle.spki_case.specs.Texts.{IsOuter};
-ghost use Rattle.spki_guard.specs.Answer.{form_of, IsAnswer, AnswersValue, RefusesValue, AnswersRead, RefusesAnswer, WritesMeet, Decides, IsLineOf, refused_line, octets_of};
+ghost use Rattle.spki_guard.specs.Answer.{form_of, IsAnswer, AnswersValue, RefusesValue, AnswersRead, RefusesAnswer, WritesMeet, Decides, Reduces, Explains, IsLineOf, refused_line, octets_of};
 ghost use Rattle.spki_guard.specs.Lines.{refused_memory};
 
 use crate::commands::Command;
@@ -15,11 +15,12 @@ use crate::lines::{
     push_refused_memory, push_yes_entry,
 };
 use crate::printing::push_tag;
+use crate::reports::{push_explanation, push_reduction};
 use sexpr_core::FormFault;
 use sexpr_core::reading::wrap_octets;
 use sexpr_text::{Form, convert};
 use spki_case::{Case, CaseFault};
-use spki_decision::{Decision, GuardFault, decide};
+use spki_decision::{Decision, GuardFault, decide, explain, reduce_case};
 use spki_tag::Tag;
 use std::alloc::{AllocError, Global};
 
@@ -174,7 +175,9 @@ fn form_of(command: Command) -> Form
         Command::Canonical => Form::Canonical,
         Command::Transport => Form::Canonical,
         Command::Intersect => Form::Canonical,
+        Command::Reduce => Form::Canonical,
         Command::Check => Form::Canonical,
+        Command::Explain => Form::Canonical,
     }
 }
 
@@ -190,7 +193,9 @@ fn answer_octets(alloc: Global, command: Command, octets: Vec<u8>) -> Result<Ans
         Command::Advanced => Ok(done_line(octets)?),
         Command::Transport => Ok(done_line(wrap_octets(alloc, &octets)?)?),
         Command::Intersect => Ok(tag_line(alloc, &intersect(alloc, &octets)?)?),
+        Command::Reduce => reduce(alloc, &octets),
         Command::Check => check(alloc, &octets),
+        Command::Explain => answer_why(alloc, &octets),
     }
 }
 
@@ -202,6 +207,36 @@ fn check(alloc: Global, text: &[u8]) -> Result<Answer, Refusal>
     let case = Case::read(alloc, text)?;
     let decision = decide(alloc, &case, case.accepted())?;
     Ok(decision_line(alloc, decision)?)
+}
+
+/// Reduces the case that a canonical text is.
+fn reduce(alloc: Global, text: &[u8]) -> Result<Answer, Refusal>
+    ensures answered { IfOk result (λ a. Reduces text.now a.verdict (octets_of a.output)) }
+    ensures refused { (v : Value) → text.now ≡ canon v → IfErr result (λ refusal. RefusesValue Command.Reduce v refusal) }
+{
+    let case = Case::read(alloc, text)?;
+    let reduction = reduce_case(alloc, &case, case.accepted())?;
+    let mut lines = Vec::new(alloc);
+    let verdict = push_reduction(alloc, &mut lines, &reduction)?;
+    Ok(Answer {
+        verdict,
+        output: Output::Made(lines),
+    })
+}
+
+/// Explains the case that a canonical text is.
+fn answer_why(alloc: Global, text: &[u8]) -> Result<Answer, Refusal>
+    ensures answered { IfOk result (λ a. Explains text.now a.verdict (octets_of a.output)) }
+    ensures refused { (v : Value) → text.now ≡ canon v → IfErr result (λ refusal. RefusesValue Command.Explain v refusal) }
+{
+    let case = Case::read(alloc, text)?;
+    let explanation = explain(alloc, &case, case.accepted())?;
+    let mut lines = Vec::new(alloc);
+    let verdict = push_explanation(alloc, &mut lines, &explanation)?;
+    Ok(Answer {
+        verdict,
+        output: Output::Made(lines),
+    })
 }
 
 /// What was asked for is written.

@@ -16,12 +16,16 @@ pub enum Command {
     Transport,
     /// Writes what two tags leave together, in advanced form, on a line.
     Intersect,
+    /// Writes, of each entry of a case, what it and the certificates become.
+    Reduce,
     /// Decides the request of a case.
     Check,
+    /// Writes, of each entry of a case, why it grants the request or doesn't.
+    Explain,
 }
 
 impl Command {
-    /// The command that a word asks for: `canonical`, `advanced`, `transport`, `intersect` or `check`.
+    /// The command that a word asks for: `canonical`, `advanced`, `transport`, `intersect`, `reduce`, `check` or `explain`.
     pub fn named(word: &str) -> Option<Command>
         ensures { MatchOption result ((c : Command) → word.now ≢ word_of c) (λ c. word.now ≡ word_of c) }
     {
@@ -30,7 +34,9 @@ impl Command {
             "advanced" => Some(Command::Advanced),
             "transport" => Some(Command::Transport),
             "intersect" => Some(Command::Intersect),
+            "reduce" => Some(Command::Reduce),
             "check" => Some(Command::Check),
+            "explain" => Some(Command::Explain),
             _ => None,
         }
     }

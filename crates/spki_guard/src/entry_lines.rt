@@ -74,12 +74,7 @@ pub fn push_stopped(
 
 /// Puts `entry N WORD` behind what is written; `entry` is counted from 1.
 #[tactic(auto, using(crate::proofs::Decimals::decimal_written))]
-fn push_word(
-    alloc: Global,
-    out: &mut Vec<u8>,
-    entry: usize,
-    word: &str,
-) -> Result<(), AllocError>
+fn push_word(alloc: Global, out: &mut Vec<u8>, entry: usize, word: &str) -> Result<(), AllocError>
     ensures { OnOk result (out.new.items ≡ out.old.items ++ entry_line entry (word.now ∷ [])) }
 {
     push(out, format!(in alloc; "entry {entry} {word}\n")?.as_bytes())

@@ -16,5 +16,6 @@ pub use metered_io::Metered;
 pub use running::run;
 pub use spki_case::{AcceptedTable, Case, CaseFault, Row, Verifier};
 pub use spki_decision::{
-    Decision, EntryFold, Explanation, GuardFault, Reason, Reduction, Stop, decide, explain, first_named, laws, reduce_case,
+    Decision, EntryFold, Explanation, GuardFault, Reason, Reduction, Stop, decide, explain,
+    first_named, laws, reduce_case,
 };

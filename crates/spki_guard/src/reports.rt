@@ -35,11 +35,7 @@ pub fn push_reduction(
 }
 
 /// Puts what is written of each entry's chain behind what is there.
-fn push_folds(
-    alloc: Global,
-    out: &mut Vec<u8>,
-    folds: &[EntryFold],
-) -> Result<Verdict, AllocError>
+fn push_folds(alloc: Global, out: &mut Vec<u8>, folds: &[EntryFold]) -> Result<Verdict, AllocError>
     ensures { IfOk result (λ verdict. (lines : List ℕ) × AreFolds folds.now verdict lines
         × (out.new.items ≡ out.old.items ++ lines)) }
 {
@@ -119,11 +115,7 @@ pub fn push_explanation(
 }
 
 /// Puts what is written of each entry's reason behind what is there.
-fn push_reasons(
-    alloc: Global,
-    out: &mut Vec<u8>,
-    reasons: &[Reason],
-) -> Result<Verdict, AllocError>
+fn push_reasons(alloc: Global, out: &mut Vec<u8>, reasons: &[Reason]) -> Result<Verdict, AllocError>
     ensures { IfOk result (λ verdict. (lines : List ℕ) × AreReasons reasons.now verdict lines
         × (out.new.items ≡ out.old.items ++ lines)) }
 {

@@ -7,3 +7,4 @@ pub mod Pairs
 pub mod Folding
 pub mod Chains
 pub mod Lacking
+pub mod WrittenNames

@@ -61,4 +61,4 @@ pub record IsWrittenFive (f : Five) (v : Value) : Type 0 where
   pub subject : Value
   pub subject_is : IsWrittenSubject f.subject.principal f.subject.names.items subject
   pub written : v ≡ five_value ((issuer ++ headed (codes "subject") (subject ∷ []) ∷ []) ++ delegation_values f.propagate)
-    f.tag (in_valid (window_limits f.window))
+      f.tag (in_valid (window_limits f.window))

@@ -32,11 +32,11 @@ impl<'a> Five<'a> {
     pub fn write(&self, alloc: Global) -> Result<Sexp, AllocError>
         ensures { IfOk result (λ s. IsWrittenFive self.now (sexp_value s)) }
     {
-        let WrittenParts { before_tag, behind_tag } = self.write_parts(alloc)?;
+        let mut parts = self.write_parts(alloc)?;
         let mut members = begun(alloc, b"five")?;
-        push_all(&mut members, before_tag)?;
+        members.append(&mut parts.before_tag)?;
         push_headed(alloc, &mut members, b"tag", self.tag.write(alloc)?)?;
-        push_all(&mut members, behind_tag)?;
+        members.append(&mut parts.behind_tag)?;
         Ok(Sexp::list(members))
     }
 
@@ -51,22 +51,20 @@ impl<'a> Five<'a> {
     {
         let mut before_tag = Vec::new(alloc);
         push_issuer(alloc, &mut before_tag, &self.issuer)?;
-        push_headed(alloc, &mut before_tag, b"subject", write_subject(alloc, &self.subject)?)?;
+        push_headed(
+            alloc,
+            &mut before_tag,
+            b"subject",
+            write_subject(alloc, &self.subject)?,
+        )?;
         push_delegation(alloc, &mut before_tag, self.propagate)?;
         let mut behind_tag = Vec::new(alloc);
         push_window(alloc, &mut behind_tag, &self.window)?;
-        Ok(WrittenParts { before_tag, behind_tag })
+        Ok(WrittenParts {
+            before_tag,
+            behind_tag,
+        })
     }
-}
-
-/// Adds trees behind others, in their order.
-fn push_all(members: &mut Vec<Sexp>, further: Vec<Sexp>) -> Result<(), AllocError>
-    ensures { OnOk result (members.new.items ≡ members.old.items ++ further.items) }
-{
-    for tree in further {
-        members.push(tree)?;
-    }
-    Ok(())
 }
 
 /// The members of a list that is begun, with its head alone.
@@ -145,11 +143,7 @@ fn write_subject(alloc: Global, subject: &Subject) -> Result<Sexp, AllocError>
 }
 
 /// Adds `(issuer K)`, but for the keeper of the access list.
-fn push_issuer(
-    alloc: Global,
-    members: &mut Vec<Sexp>,
-    issuer: &Issuer,
-) -> Result<(), AllocError>
+fn push_issuer(alloc: Global, members: &mut Vec<Sexp>, issuer: &Issuer) -> Result<(), AllocError>
     ensures { OnOk result ((written : List Value) × IsWrittenIssuer issuer.now written
         × (map sexp_value members.new.items ≡ map sexp_value members.old.items ++ written)) }
 {

@@ -1,0 +1,23 @@
+-- Names, written one behind another.
+use Rattle.std.proofs.Common.{◌≡◌, ℕ, ◌+◌, ◌<◌, List, [], ◌∷◌, ◌++◌, length, map, take, get_or, refl, sym, ap, ◌∙◌, append_assoc}
+use Rattle.std.proofs.lemmas.List.{take_more}
+use Rattle.sexpr_core.specs.declared.tree.Sexp.{Sexp}
+use Rattle.sexpr_core.specs.Tree.{sexp_value}
+use Rattle.sexpr_core.specs.Value.{plain}
+use Rattle.spki_cert.specs.Subjects.{plains}
+use Rattle.spki_cert.proofs.SubjectLaws.{plains-push}
+
+map_push : (ts : List Sexp) (t : Sexp) → map sexp_value (ts ++ t ∷ []) ≡ map sexp_value ts ++ sexp_value t ∷ []
+map_push [] t = refl
+map_push (u ∷ ts) t = ap (λ vs. sexp_value u ∷ vs) (map_push ts t)
+
+pub name_written : (names : List (List ℕ)) (k : ℕ) (name octets : List ℕ) (t : Sexp) (start before after : List Sexp)
+    → k < length names → name ≡ get_or names k name → octets ≡ name → sexp_value t ≡ plain octets
+    → map sexp_value before ≡ map sexp_value start ++ plains (take k names) → after ≡ before ++ t ∷ []
+    → map sexp_value after ≡ map sexp_value start ++ plains (take (k + 1) names)
+name_written names k name octets t start before after lt at is written e f =
+    ap (map sexp_value) f ∙ map_push before t
+    ∙ ap (λ vs. vs ++ sexp_value t ∷ []) e ∙ append_assoc (map sexp_value start) (plains (take k names)) (sexp_value t ∷ [])
+    ∙ ap (λ v. map sexp_value start ++ (plains (take k names) ++ v ∷ [])) (written ∙ ap plain is)
+    ∙ ap (λ vs. map sexp_value start ++ vs) (sym (plains-push (take k names) name))
+    ∙ ap (λ ns. map sexp_value start ++ plains ns) (ap (λ n. take k names ++ n ∷ []) at ∙ sym (take_more names k name lt))
