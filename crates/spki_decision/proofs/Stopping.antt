@@ -1,0 +1,59 @@
+-- The items of a chain's steps, and the tags of an entry's chain that is too large.
+use Rattle.std.proofs.Common.{◌≡◌, ℕ, suc, ◌-◌, ◌<◌, List, [], ◌∷◌, Some, map, length, get_or, slice_get, sym, ap, ◌∙◌, subst, arith}
+use Rattle.std.proofs.lemmas.List.{get_or-map, length-map}
+use Rattle.std.proofs.lemmas.Option.{slice_get_within, slice_get-get_or}
+use Rattle.std.proofs.lemmas.Slice.Zip.{AllZip-long}
+use Rattle.spki_cert.specs.declared.principal.Policy.{Policy}
+use Rattle.spki_cert.specs.declared.entry.Entry.{Entry}
+use Rattle.spki_cert.specs.declared.certificate.SeqItem.{SeqItem}
+use Rattle.spki_reduce.specs.declared.fold.Cause.{Cause}
+use Rattle.spki_reduce.specs.declared.tuple.Step.{Step}
+use Rattle.spki_reduce.specs.Tuples.{Tuple, five}
+use Rattle.spki_reduce.specs.Views.{entry_tuple, step_tuple}
+use Rattle.spki_reduce.specs.Chain.{tuples_of, StopsAt, Excludes}
+use Rattle.spki_case.specs.Case.{Case, Verified}
+use Rattle.spki_case.specs.Sequence.{Shown, certificates, keys_of}
+use Rattle.spki_decision.specs.declared.judging.Stop.{Stop}
+use Rattle.spki_decision.specs.Standing.{AreShown, StandsAs, FailsAt}
+use Rattle.spki_decision.specs.Reduced.{IsFailure, StopsAtItem}
+use Rattle.spki_decision.proofs.Evident.{none_shown}
+
+-- the certificate at a place, where there is one
+certificate_at : (shown : List Shown) (numbers : List ℕ) (place n : ℕ) → numbers ≡ map (λ s. s.item) shown
+    → place < length numbers → n ≡ get_or numbers place n → (s : Shown) × (slice_get shown place ≡ Some s) × (n ≡ s.item)
+certificate_at [] numbers place n e within read = absurd (let none = ap length e in omega arith)
+certificate_at (s ∷ shown) numbers place n e within read =
+    let long = ap length e ∙ length-map (s ∷ shown) (λ t. t.item) in
+    let below : place < length (s ∷ shown) = omega arith in (
+      get_or (s ∷ shown) place s,
+      slice_get-get_or (s ∷ shown) place s below,
+      read ∙ ap (λ xs. get_or xs place n) e ∙ get_or-map (λ t. t.item) (s ∷ shown) place s n below,
+    )
+
+-- a chain that stops at a step stops at the step's item
+pub stops_at_item : (c : Case) (tuples : List Tuple) (e : Entry) (numbers : List ℕ) (step n : ℕ) (cause : Cause)
+    → numbers ≡ map (λ s. s.item) (certificates c.items) → length tuples ≡ length numbers
+    → StopsAt c.policy (five (entry_tuple e)) tuples step cause → Excludes c.policy (five (entry_tuple e)) tuples step cause
+    → n ≡ get_or numbers (step - 1) n → StopsAtItem c tuples e n cause
+stops_at_item c tuples e numbers step n cause numbered as_many stops excludes read =
+    let below = slice_get_within tuples stops.place stops.tuple stops.stands in
+    let place_is : step - 1 ≡ stops.place = (let e = stops.numbered in omega arith) in
+    let here = certificate_at (certificates c.items) numbers stops.place n numbered (omega arith) (rw place_is at read) in
+    record { step = step; stops = stops; excludes = excludes; certificate = here.0; there = here.1; item_is = here.2 }
+
+-- where every certificate stands there are as many steps as certificates
+pub as_many : (policy : Policy) (verified : Verified) (items : List SeqItem) (numbers : List ℕ) (steps : List Step)
+    → numbers ≡ map (λ s. s.item) (certificates items) → AreShown policy verified items (tuples_of steps)
+    → length steps ≡ length numbers
+as_many policy verified items numbers steps numbered shown =
+    let long = AllZip-long (StandsAs policy (keys_of items) verified) (certificates items) (tuples_of steps) shown in
+    let same = ap length numbered in
+    let shorter = length-map (certificates items) (λ s. s.item) in
+    let steps_long = length-map steps step_tuple in
+    omega arith
+
+-- where a certificate fails none are shown
+pub failure : (c : Case) (verified : Verified) (item : ℕ) (stop : Stop) → FailsAt c.policy verified c.items item stop
+    → IsFailure c verified item stop
+failure c verified item stop h =
+    record { fails = h; none_shown = λ tuples shown. none_shown c.policy verified c.items item stop tuples h shown }

@@ -1,0 +1,18 @@
+use Rattle.std.proofs.Common.{ap}
+use Rattle.spki_reduce.specs.Tuples.{FiveTuple}
+use Rattle.spki_decision.proofs.folding.fold_entry.Goals as goal
+
+pub returns-clause-fold : goal.returns-clause-fold
+returns-clause-fold c = rw c.in_ok-own.ensures at c.fold_chain.ensures.fold
+
+pub returns-clause-issuer : goal.returns-clause-issuer
+returns-clause-issuer c = rw (ap (λ (t : FiveTuple). t.issuer) c.in_ok-own.ensures) at c.fold_chain.ensures.issuer
+
+pub returns-clause-excluded : goal.returns-clause-excluded
+returns-clause-excluded c = rw c.in_ok-own.ensures at c.fold_chain.ensures.excluded
+
+pub returns-clause-unsupported : goal.returns-clause-unsupported
+returns-clause-unsupported c = rw c.in_ok-own.ensures at c.fold_chain.ensures.unsupported
+
+pub returns-clause-too_large : goal.returns-clause-too_large
+returns-clause-too_large c = rw c.in_ok-own.ensures at c.fold_chain.ensures.too_large
