@@ -19,27 +19,35 @@ use Rattle.spki_decision.specs.Reduced.{IsFailure, StopsAtItem}
 use Rattle.spki_decision.proofs.Evident.{none_shown}
 
 -- the certificate at a place, where there is one
-certificate_at : (shown : List Shown) (numbers : List ℕ) (place n : ℕ) → numbers ≡ map (λ s. s.item) shown
-    → place < length numbers → n ≡ get_or numbers place n → (s : Shown) × (slice_get shown place ≡ Some s) × (n ≡ s.item)
-certificate_at [] numbers place n e within read = absurd (let none = ap length e in omega arith)
-certificate_at (s ∷ shown) numbers place n e within read =
+certificate_at : (shown : List Shown) (numbers : List ℕ) (place : ℕ) → numbers ≡ map (λ s. s.item) shown
+    → place < length numbers → (s : Shown) × (slice_get shown place ≡ Some s) × (get_or numbers place 0 ≡ s.item)
+certificate_at [] numbers place e within = absurd (let none = ap length e in omega arith)
+certificate_at (s ∷ shown) numbers place e within =
     let long = ap length e ∙ length-map (s ∷ shown) (λ t. t.item) in
-    let below : place < length (s ∷ shown) = omega arith in (
+    let below : place < length (s ∷ shown) = omega arith in
+    (
       get_or (s ∷ shown) place s,
       slice_get-get_or (s ∷ shown) place s below,
-      read ∙ ap (λ xs. get_or xs place n) e ∙ get_or-map (λ t. t.item) (s ∷ shown) place s n below,
+      ap (λ xs. get_or xs place 0) e ∙ get_or-map (λ t. t.item) (s ∷ shown) place s 0 below,
     )
 
 -- a chain that stops at a step stops at the step's item
-pub stops_at_item : (c : Case) (tuples : List Tuple) (e : Entry) (numbers : List ℕ) (step n : ℕ) (cause : Cause)
+pub stops_at_item : (c : Case) (tuples : List Tuple) (e : Entry) (numbers : List ℕ) (step : ℕ) (cause : Cause)
     → numbers ≡ map (λ s. s.item) (certificates c.items) → length tuples ≡ length numbers
     → StopsAt c.policy (five (entry_tuple e)) tuples step cause → Excludes c.policy (five (entry_tuple e)) tuples step cause
-    → n ≡ get_or numbers (step - 1) n → StopsAtItem c tuples e n cause
-stops_at_item c tuples e numbers step n cause numbered as_many stops excludes read =
+    → StopsAtItem c tuples e (get_or numbers (step - 1) 0) cause
+stops_at_item c tuples e numbers step cause numbered as_many stops excludes =
     let below = slice_get_within tuples stops.place stops.tuple stops.stands in
     let place_is : step - 1 ≡ stops.place = (let e = stops.numbered in omega arith) in
-    let here = certificate_at (certificates c.items) numbers stops.place n numbered (omega arith) (rw place_is at read) in
-    record { step = step; stops = stops; excludes = excludes; certificate = here.0; there = here.1; item_is = here.2 }
+    let here = certificate_at (certificates c.items) numbers stops.place numbered (omega arith) in
+    record {
+      step = step;
+      stops = stops;
+      excludes = excludes;
+      certificate = here.0;
+      there = here.1;
+      item_is = ap (λ k. get_or numbers k 0) place_is ∙ here.2;
+    }
 
 -- where every certificate stands there are as many steps as certificates
 pub as_many : (policy : Policy) (verified : Verified) (items : List SeqItem) (numbers : List ℕ) (steps : List Step)
