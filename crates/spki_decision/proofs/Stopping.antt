@@ -1,8 +1,9 @@
--- The items of a chain's steps, and the tags of an entry's chain that is too large.
-use Rattle.std.proofs.Common.{◌≡◌, ℕ, suc, ◌-◌, ◌<◌, List, [], ◌∷◌, Some, map, length, get_or, slice_get, sym, ap, ◌∙◌, subst, arith}
-use Rattle.std.proofs.lemmas.List.{get_or-map, length-map}
+-- Where chains stop, what fails, and the answers of one entry more.
+use Rattle.std.proofs.Common.{◌≡◌, ℕ, suc, ◌-◌, ◌<◌, List, [], ◌∷◌, Some, map, length, get_or, take, ◌+◌, ◌++◌, slice_get, sym, ap, ◌∙◌, arith}
+use Rattle.std.specs.List.{AllZip}
+use Rattle.std.proofs.lemmas.List.{get_or-map, length-map, take_more}
 use Rattle.std.proofs.lemmas.Option.{slice_get_within, slice_get-get_or}
-use Rattle.std.proofs.lemmas.Slice.Zip.{AllZip-long}
+use Rattle.std.proofs.lemmas.Slice.Zip.{AllZip-long, all_zipped_more}
 use Rattle.spki_cert.specs.declared.principal.Policy.{Policy}
 use Rattle.spki_cert.specs.declared.entry.Entry.{Entry}
 use Rattle.spki_cert.specs.declared.certificate.SeqItem.{SeqItem}
@@ -10,12 +11,13 @@ use Rattle.spki_reduce.specs.declared.fold.Cause.{Cause}
 use Rattle.spki_reduce.specs.declared.tuple.Step.{Step}
 use Rattle.spki_reduce.specs.Tuples.{Tuple, five}
 use Rattle.spki_reduce.specs.Views.{entry_tuple, step_tuple}
-use Rattle.spki_reduce.specs.Chain.{tuples_of, StopsAt, Excludes}
+use Rattle.spki_reduce.specs.Restrictions.{nodes_product}
+use Rattle.spki_reduce.specs.Chain.{tuples_of, all_tags, StopsAt, Excludes}
 use Rattle.spki_case.specs.Case.{Case, Verified}
 use Rattle.spki_case.specs.Sequence.{Shown, certificates, keys_of}
 use Rattle.spki_decision.specs.declared.judging.Stop.{Stop}
 use Rattle.spki_decision.specs.Standing.{AreShown, StandsAs, FailsAt}
-use Rattle.spki_decision.specs.Reduced.{IsFailure, StopsAtItem}
+use Rattle.spki_decision.specs.Reduced.{IsFailure, StopsAtItem, HasLargeTags}
 use Rattle.spki_decision.proofs.Evident.{none_shown}
 
 -- the certificate at a place, where there is one
@@ -65,3 +67,24 @@ pub failure : (c : Case) (verified : Verified) (item : ℕ) (stop : Stop) → Fa
     → IsFailure c verified item stop
 failure c verified item stop h =
     record { fails = h; none_shown = λ tuples shown. none_shown c.policy verified c.items item stop tuples h shown }
+
+-- ---- the entries one by one
+
+module _ (c : Case) (items : List Entry) (place : ℕ) (e : Entry) (same : items ≡ c.entries)
+    (below : place < length items) (read : e ≡ get_or items place e) where
+  pub answered : {A : Type 0} (R : Entry → A → Type 0) (so_far more : List A) (answer : A)
+      → AllZip R (take place c.entries) so_far → R e answer → more ≡ so_far ++ answer ∷ []
+      → AllZip R (take (place + 1) c.entries) more
+  answered R so_far more answer h k grown =
+      let taken : take (place + 1) items ≡ take place items ++ e ∷ [] = rw (← read) at (take_more items place e below) in
+      let before = rw (← same) at h in
+      rw (grown, ← same, taken) (all_zipped_more R (take place items) so_far e answer before k)
+
+  pub large_here : (tuples : List Tuple) → 1000000 < nodes_product (all_tags (five (entry_tuple e) ∷ tuples))
+      → HasLargeTags c tuples
+  large_here tuples h = record {
+    place = place;
+    entry = e;
+    stands = rw same at (slice_get-get_or items place e below ∙ ap Some (sym read));
+    large = h;
+  }
