@@ -1,5 +1,5 @@
 -- Where chains stop, what fails, and the answers of one entry more.
-use Rattle.std.proofs.Common.{◌≡◌, ℕ, suc, ◌-◌, ◌<◌, List, [], ◌∷◌, Some, map, length, get_or, take, ◌+◌, ◌++◌, slice_get, sym, ap, ◌∙◌, arith}
+use Rattle.std.proofs.Common.{◌≡◌, ℕ, ◌-◌, ◌<◌, List, [], ◌∷◌, Some, map, length, get_or, take, ◌+◌, ◌++◌, slice_get, sym, ap, ◌∙◌, arith}
 use Rattle.std.specs.List.{AllZip}
 use Rattle.std.proofs.lemmas.List.{get_or-map, length-map, take_more}
 use Rattle.std.proofs.lemmas.Option.{slice_get_within, slice_get-get_or}
@@ -26,8 +26,7 @@ certificate_at : (shown : List Shown) (numbers : List ℕ) (place : ℕ) → num
 certificate_at [] numbers place e within = absurd (let none = ap length e in omega arith)
 certificate_at (s ∷ shown) numbers place e within =
     let long = ap length e ∙ length-map (s ∷ shown) (λ t. t.item) in
-    let below : place < length (s ∷ shown) = omega arith in
-    (
+    let below : place < length (s ∷ shown) = omega arith in (
       get_or (s ∷ shown) place s,
       slice_get-get_or (s ∷ shown) place s below,
       ap (λ xs. get_or xs place 0) e ∙ get_or-map (λ t. t.item) (s ∷ shown) place s 0 below,
