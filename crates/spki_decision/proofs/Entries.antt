@@ -37,7 +37,7 @@ none_at_all c tuples none k e there = none k e (slice_get_within c.entries k e t
 -- ---- grants
 
 module _ (c : Case) (verified : Verified) (tuples : List Tuple) (shown : AreShown c.policy verified c.items tuples) where
-  granted : (place : ℕ) (e : Entry) → slice_get c.entries place ≡ Some e → Supported c tuples e → Granted (suc place) c verified
+  pub granted : (place : ℕ) (e : Entry) → slice_get c.entries place ≡ Some e → Supported c tuples e → Granted (suc place) c verified
   granted place e stands s = record {
     place = place;
     numbered = refl;
@@ -50,7 +50,7 @@ module _ (c : Case) (verified : Verified) (tuples : List Tuple) (shown : AreShow
     supports = s.supports;
   }
 
-  supported : (n : ℕ) (g : Granted n c verified) → Supported c tuples g.entry
+  pub supported : (n : ℕ) (g : Granted n c verified) → Supported c tuples g.entry
   supported n g =
       let same = one_list c.policy (keys_of c.items) verified (certificates c.items) g.tuples tuples g.shown shown in
       record { tree = g.tree; leaves_are = rw same at g.leaves_are; supports = g.supports }

@@ -15,7 +15,7 @@ use crate::judging::{Evidence, judge};
 use spki_case::{Case, Verifier};
 use spki_cert::Entry;
 use spki_reduce::{Fold, ReduceFault, Step};
-use std::alloc::{AllocError, Global};
+use std::alloc::{AllocError, AllocFailed, Global};
 use thiserror::Error;
 
 /// What a case's access list answers.
@@ -44,6 +44,16 @@ impl From<AllocError> for GuardFault {
     ghost from_gives = { λ _ fault. fault ≡ Memory };
 
     fn from(_error: AllocError) -> GuardFault {
+        GuardFault::Memory
+    }
+}
+
+impl<T: Drop> From<AllocFailed<T>> for GuardFault {
+    ghost use Rattle.spki_decision.specs.declared.deciding.GuardFault.TheVariants.{Memory};
+
+    ghost from_gives = { λ _ fault. fault ≡ Memory };
+
+    fn from(_error: AllocFailed<T>) -> GuardFault {
         GuardFault::Memory
     }
 }

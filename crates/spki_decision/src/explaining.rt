@@ -71,6 +71,7 @@ pub fn explain<V: Verifier>(
     ensures exact { IfOk result (IsExplanation (model case.now) (V.accepted verifier.now)) }
     ensures too_large { IsErrOf result GuardFault.TooLarge → SomeTooLarge (model case.now) (V.accepted verifier.now) }
 {
+    case.request.known();
     match judge(alloc, &case.sequence, case.policy, verifier)? {
         Evidence::Fails { item, stop } => Ok(Explanation::Evidence { item, stop }),
         Evidence::Stands { items, steps } => {

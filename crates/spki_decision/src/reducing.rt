@@ -15,7 +15,7 @@ use crate::folding::fold_entry;
 use crate::judging::{Evidence, Stop, judge};
 use spki_case::{Case, Verifier};
 use spki_cert::Entry;
-use spki_reduce::{Cause, Five, Fold, ReduceFault, Step};
+use spki_reduce::{Cause, Five, Fold, Step};
 use std::alloc::Global;
 
 /// What an entry and all certificates become, joined in turn.
@@ -97,12 +97,12 @@ pub(crate) fn entry_fold<'a>(
     entry: &Entry<'a>,
     items: &[usize],
     steps: &[Step<'a>],
-) -> Result<EntryFold<'a>, ReduceFault>
+) -> Result<EntryFold<'a>, GuardFault>
     requires numbered { items.now ≡ map (λ shown. shown.item) (certificates case.now.sequence.items) }
     requires as_many { length steps.now ≡ length items.now }
     ensures exact { IfOk result (IsEntryFold (model case.now) (tuples_of steps.now) entry.now) }
     ensures issuer { IfOk result IsOwn }
-    ensures too_large { IsErrOf result ReduceFault.TooLarge →
+    ensures too_large { IsErrOf result GuardFault.TooLarge →
         1000000 < nodes_product (all_tags (five (entry_tuple entry.now) ∷ tuples_of steps.now)) }
 {
     match fold_entry(alloc, entry, steps, case.policy)? {

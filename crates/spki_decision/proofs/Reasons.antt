@@ -1,0 +1,161 @@
+-- What the reasons of entries say of what is granted, and of decisions.
+use Rattle.std.proofs.Common.{◌≡◌, ◌↔◌, ℕ, zero, suc, ◌<◌, List, [], ◌∷◌, Option, Some, None, IsNone, slice_get, refl, sym, ap, ◌∙◌, subst, arith}
+use Rattle.std.specs.List.{AllZip}
+use Rattle.spki_tag.specs.Request.{IsRequest}
+use Rattle.spki_cert.specs.declared.entry.Entry.{Entry}
+use Rattle.spki_reduce.specs.declared.last_tests.Lack.{Lack}
+use Rattle.spki_reduce.specs.declared.last_tests.Lack.TheVariants as lack
+use Rattle.spki_reduce.specs.declared.tuple.Five.{Five}
+use Rattle.spki_reduce.specs.Tuples.{FiveTuple, Tuple, five}
+use Rattle.spki_reduce.specs.Views.{entry_tuple}
+use Rattle.spki_reduce.specs.Derivation.{from_left}
+use Rattle.spki_reduce.specs.Supports.{Grants as Allows}
+use Rattle.spki_reduce.specs.Restrictions.{in_each, within_each}
+use Rattle.spki_reduce.specs.Chain.{FoldsTo}
+use Rattle.spki_reduce.specs.LastTests.{IsFirstLack}
+use Rattle.spki_reduce.proofs.Bracketing.{from_left-leaves, one_root}
+use Rattle.spki_reduce.proofs.Chains.{unsupported}
+use Rattle.spki_reduce.proofs.Lacking.{never}
+use Rattle.spki_case.specs.Case.{Case, Verified}
+use Rattle.spki_decision.specs.declared.deciding.Decision.{Decision}
+use Rattle.spki_decision.specs.declared.deciding.Decision.TheVariants.{Yes, No}
+use Rattle.spki_decision.specs.declared.explaining.Explanation.{Explanation}
+use Rattle.spki_decision.specs.declared.explaining.Explanation.TheVariants.{Evidence, Entries}
+use Rattle.spki_decision.specs.declared.explaining.Reason.{Reason}
+use Rattle.spki_decision.specs.declared.explaining.Reason.TheVariants.{Grants, NotTheKey, TagLacks, WindowLacks, Stopped}
+use Rattle.spki_decision.specs.declared.judging.Stop.{Stop}
+use Rattle.spki_decision.specs.Standing.{AreShown}
+use Rattle.spki_decision.specs.Supported.{Supported}
+use Rattle.spki_decision.specs.Granted.{Granted}
+use Rattle.spki_decision.specs.Decision.{IsDecision}
+use Rattle.spki_decision.specs.Reduced.{IsFailure}
+use Rattle.spki_decision.specs.Explained.{LacksFirst, IsReason, reason_of, AreReasons, IsExplanation, IsFirstGrant, Agrees}
+use Rattle.spki_decision.proofs.Entries.{granted, supported}
+
+-- ---- one entry
+
+module _ (c : Case) (tuples : List Tuple) (e : Entry) where
+  first_lack : (f : Five) (lack : Lack) (folds : FoldsTo c.policy (five (entry_tuple e)) tuples f)
+      → IsFirstLack c.policy folds.root c.key c.request c.moment (Some lack) → LacksFirst c tuples e lack
+  first_lack f lack folds h = record { root = folds.root; derived = folds.derived; timely = folds.timely; first = h }
+
+  -- how the last tests end is the reason
+  pub reasoned : (f : Five) (lack : Option Lack) (folds : FoldsTo c.policy (five (entry_tuple e)) tuples f)
+      → IsFirstLack c.policy folds.root c.key c.request c.moment lack → (IsNone lack ↔ Supported c tuples e)
+      → IsReason c tuples e (reason_of lack)
+  reasoned f None folds h s = s.0 refl
+  reasoned f (Some lack.NotTheKey) folds h s = first_lack f lack.NotTheKey folds h
+  reasoned f (Some lack.TagLacks) folds h s = first_lack f lack.TagLacks folds h
+  reasoned f (Some lack.WindowLacks) folds h s = first_lack f lack.WindowLacks folds h
+
+  lacking : (root : FiveTuple) (lack : Lack) → IsFirstLack c.policy root c.key c.request c.moment (Some lack)
+      → Allows c.policy root c.key c.request c.moment → ⊥
+  lacking root lack.NotTheKey h g = h (record { whole = g.whole; named = g.named })
+  lacking root lack.TagLacks h g = never (in_each c.request root.tags) h.1 g.asked
+  lacking root lack.WindowLacks h g = never (within_each c.moment root.windows) h.2 g.timely
+
+  -- what lacks something isn't supported: every derivation has the root that lacks it
+  unsupported_by : (lack : Lack) → LacksFirst c tuples e lack → Supported c tuples e → ⊥
+  unsupported_by lack h s =
+      let first = five (entry_tuple e) in
+      let same : five s.supports.root ≡ five h.root =
+      one_root c.policy s.tree (from_left first tuples) (five s.supports.root) (five h.root)
+      (s.leaves_are ∙ sym (from_left-leaves first tuples)) s.supports.derived h.derived in
+      let P : FiveTuple → Type 0 = λ root. Allows c.policy root c.key c.request c.moment in
+      let roots : s.supports.root ≡ h.root = cc in
+      lacking h.root lack h.first (subst P roots s.supports.grants)
+
+  only_grants : (r : Reason) → IsRequest c.request → IsReason c tuples e r → Supported c tuples e → r ≡ Grants
+  only_grants Grants is h s = refl
+  only_grants NotTheKey is h s = absurd (unsupported_by lack.NotTheKey h s)
+  only_grants TagLacks is h s = absurd (unsupported_by lack.TagLacks h s)
+  only_grants WindowLacks is h s = absurd (unsupported_by lack.WindowLacks h s)
+  only_grants (Stopped item cause) is h s =
+      absurd (unsupported c.policy (five (entry_tuple e)) tuples h.step cause h.stops s.tree c.key c.request c.moment s.leaves_are is s.supports)
+
+-- ---- all entries
+
+module _ {A B : Type 0} (R : A → B → Type 0) where
+  left_at : (xs : List A) (ys : List B) (k : ℕ) (x : A) → AllZip R xs ys → slice_get xs k ≡ Some x
+      → (y : B) × (slice_get ys k ≡ Some y) × R x y
+  left_at [] ys k x h there = absurd cc
+  left_at (z ∷ xs) [] k x h there = absurd h
+  left_at (z ∷ xs) (w ∷ ys) zero x h there = let same : z ≡ x = cc in (w, refl, rw same at h.0)
+  left_at (z ∷ xs) (w ∷ ys) (suc k) x h there = left_at xs ys k x h.1 there
+
+  right_at : (xs : List A) (ys : List B) (k : ℕ) (y : B) → AllZip R xs ys → slice_get ys k ≡ Some y
+      → (x : A) × (slice_get xs k ≡ Some x) × R x y
+  right_at xs [] k y h there = absurd cc
+  right_at [] (w ∷ ys) k y h there = absurd h
+  right_at (z ∷ xs) (w ∷ ys) zero y h there = let same : w ≡ y = cc in (z, refl, rw same at h.0)
+  right_at (z ∷ xs) (w ∷ ys) (suc k) y h there = right_at xs ys k y h.1 there
+
+-- where each entry has its reason, exactly those that are granted have Grants
+module _ (c : Case) (verified : Verified) (tuples : List Tuple) (shown : AreShown c.policy verified c.items tuples)
+    (reasons : List Reason) (each : AllZip (IsReason c tuples) c.entries reasons) (place : ℕ) where
+  has_granted : slice_get reasons place ≡ Some Grants → Granted (suc place) c verified
+  has_granted there =
+      let at = right_at (IsReason c tuples) c.entries reasons place Grants each there in
+      granted c verified tuples shown place at.0 at.1 at.2
+
+  grants_it : IsRequest c.request → Granted (suc place) c verified → slice_get reasons place ≡ Some Grants
+  grants_it is g =
+      let same : g.place ≡ place = (let n = g.numbered in omega arith) in
+      let stands : slice_get c.entries place ≡ Some g.entry = rw same at g.stands in
+      let at = left_at (IsReason c tuples) c.entries reasons place g.entry each stands in
+      let s = supported c verified tuples shown (suc place) g in
+      at.1 ∙ ap Some (only_grants c tuples g.entry at.0 is at.2 s)
+
+pub are_reasons : (c : Case) (verified : Verified) (tuples : List Tuple) (reasons : List Reason) → IsRequest c.request
+    → AreShown c.policy verified c.items tuples → AllZip (IsReason c tuples) c.entries reasons → AreReasons c verified reasons
+are_reasons c verified tuples reasons is shown each = record {
+  tuples = tuples;
+  shown = shown;
+  each = each;
+  grants = λ place.
+      (has_granted c verified tuples shown reasons each place, grants_it c verified tuples shown reasons each place is);
+}
+
+-- ---- decisions
+
+module _ (c : Case) (verified : Verified) (reasons : List Reason) (h : AreReasons c verified reasons) (n : ℕ) where
+  named_first : IsDecision c verified (Yes n) → IsFirstGrant reasons n
+  named_first d =
+      let place_is = d.granted.numbered in
+      record {
+        place = d.granted.place;
+        numbered = place_is;
+        here = (h.grants d.granted.place).1 (rw place_is at d.granted);
+        none_before = λ k below there. d.none_before (suc k) (omega arith) ((h.grants k).0 there);
+      }
+
+  first_granted : (f : IsFirstGrant reasons n) → Granted n c verified
+  first_granted f = let place_is = f.numbered in rw place_is ((h.grants f.place).0 f.here)
+
+one_first : (reasons : List Reason) (m n : ℕ) → IsFirstGrant reasons m → IsFirstGrant reasons n → m < n → ⊥
+one_first reasons m n f g below =
+    let m_is = f.numbered in
+    let n_is = g.numbered in
+    g.none_before f.place (omega arith) f.here
+
+same_number : (m n : ℕ) → (m < n → ⊥) → (n < m → ⊥) → m ≡ n
+same_number m n below above = omega arith
+
+module _ (c : Case) (verified : Verified) where
+  agree : (reasons : List Reason) (d : Decision) → AreReasons c verified reasons → IsDecision c verified d → (n : ℕ)
+      → (d ≡ Yes n) ↔ IsFirstGrant reasons n
+  agree reasons No h d n = (λ e. absurd cc, λ f. absurd (d n (first_granted c verified reasons h n f)))
+  agree reasons (Yes m) h d n =
+      let first = named_first c verified reasons h m d in (
+        λ e. let same : m ≡ n = cc in rw same at first,
+        λ f. ap Yes (same_number m n (one_first reasons m n first f) (one_first reasons n m f first)),
+      )
+
+  failed : (d : Decision) (item : ℕ) (stop : Stop) → IsFailure c verified item stop → IsDecision c verified d → d ≡ No
+  failed No item stop h d = refl
+  failed (Yes n) item stop h d = absurd (h.none_shown d.granted.tuples d.granted.shown)
+
+  pub agrees : (explanation : Explanation) (decision : Decision) → IsExplanation c verified explanation
+      → IsDecision c verified decision → Agrees explanation decision
+  agrees (Evidence item stop) decision h d = failed decision item stop h d
+  agrees (Entries reasons) decision h d = agree reasons.items decision h d

@@ -1,0 +1,89 @@
+-- Where chains stop, what fails, and the answers of one entry more.
+use Rattle.std.proofs.Common.{◌≡◌, ℕ, ◌-◌, ◌<◌, List, [], ◌∷◌, Some, map, length, get_or, take, ◌+◌, ◌++◌, slice_get, sym, ap, ◌∙◌, arith}
+use Rattle.std.specs.List.{AllZip}
+use Rattle.std.proofs.lemmas.List.{get_or-map, length-map, take_more}
+use Rattle.std.proofs.lemmas.Option.{slice_get_within, slice_get-get_or}
+use Rattle.std.proofs.lemmas.Slice.Zip.{AllZip-long, all_zipped_more}
+use Rattle.spki_cert.specs.declared.principal.Policy.{Policy}
+use Rattle.spki_cert.specs.declared.entry.Entry.{Entry}
+use Rattle.spki_cert.specs.declared.certificate.SeqItem.{SeqItem}
+use Rattle.spki_reduce.specs.declared.fold.Cause.{Cause}
+use Rattle.spki_reduce.specs.declared.tuple.Step.{Step}
+use Rattle.spki_reduce.specs.Tuples.{Tuple, five}
+use Rattle.spki_reduce.specs.Views.{entry_tuple, step_tuple}
+use Rattle.spki_reduce.specs.Restrictions.{nodes_product}
+use Rattle.spki_reduce.specs.Chain.{tuples_of, all_tags, StopsAt, Excludes}
+use Rattle.spki_case.specs.Case.{Case, Verified}
+use Rattle.spki_case.specs.Sequence.{Shown, certificates, keys_of}
+use Rattle.spki_decision.specs.declared.judging.Stop.{Stop}
+use Rattle.spki_decision.specs.Standing.{AreShown, StandsAs, FailsAt}
+use Rattle.spki_decision.specs.Reduced.{IsFailure, StopsAtItem, HasLargeTags}
+use Rattle.spki_decision.proofs.Evident.{none_shown}
+
+-- the certificate at a place, where there is one
+certificate_at : (shown : List Shown) (numbers : List ℕ) (place : ℕ) → numbers ≡ map (λ s. s.item) shown
+    → place < length numbers → (s : Shown) × (slice_get shown place ≡ Some s) × (get_or numbers place 0 ≡ s.item)
+certificate_at [] numbers place e within = absurd (let none = ap length e in omega arith)
+certificate_at (s ∷ shown) numbers place e within =
+    let long = ap length e ∙ length-map (s ∷ shown) (λ t. t.item) in
+    let below : place < length (s ∷ shown) = omega arith in (
+      get_or (s ∷ shown) place s,
+      slice_get-get_or (s ∷ shown) place s below,
+      ap (λ xs. get_or xs place 0) e ∙ get_or-map (λ t. t.item) (s ∷ shown) place s 0 below,
+    )
+
+-- a chain that stops at a step stops at the step's item
+pub stops_at_item : (c : Case) (tuples : List Tuple) (e : Entry) (numbers : List ℕ) (step : ℕ) (cause : Cause)
+    → numbers ≡ map (λ s. s.item) (certificates c.items) → length tuples ≡ length numbers
+    → StopsAt c.policy (five (entry_tuple e)) tuples step cause → Excludes c.policy (five (entry_tuple e)) tuples step cause
+    → StopsAtItem c tuples e (get_or numbers (step - 1) 0) cause
+stops_at_item c tuples e numbers step cause numbered as_many stops excludes =
+    let below = slice_get_within tuples stops.place stops.tuple stops.stands in
+    let place_is : step - 1 ≡ stops.place = (let e = stops.numbered in omega arith) in
+    let here = certificate_at (certificates c.items) numbers stops.place numbered (omega arith) in
+    record {
+      step = step;
+      stops = stops;
+      excludes = excludes;
+      certificate = here.0;
+      there = here.1;
+      item_is = ap (λ k. get_or numbers k 0) place_is ∙ here.2;
+    }
+
+-- where every certificate stands there are as many steps as certificates
+pub as_many : (policy : Policy) (verified : Verified) (items : List SeqItem) (numbers : List ℕ) (steps : List Step)
+    → numbers ≡ map (λ s. s.item) (certificates items) → AreShown policy verified items (tuples_of steps)
+    → length steps ≡ length numbers
+as_many policy verified items numbers steps numbered shown =
+    let long = AllZip-long (StandsAs policy (keys_of items) verified) (certificates items) (tuples_of steps) shown in
+    let same = ap length numbered in
+    let shorter = length-map (certificates items) (λ s. s.item) in
+    let steps_long = length-map steps step_tuple in
+    omega arith
+
+-- where a certificate fails none are shown
+pub failure : (c : Case) (verified : Verified) (item : ℕ) (stop : Stop) → FailsAt c.policy verified c.items item stop
+    → IsFailure c verified item stop
+failure c verified item stop h =
+    record { fails = h; none_shown = λ tuples shown. none_shown c.policy verified c.items item stop tuples h shown }
+
+-- ---- the entries one by one
+
+module _ (c : Case) (items : List Entry) (place : ℕ) (e : Entry) (same : items ≡ c.entries)
+    (below : place < length items) (read : e ≡ get_or items place e) where
+  pub answered : {A : Type 0} (R : Entry → A → Type 0) (so_far more : List A) (answer : A)
+      → AllZip R (take place c.entries) so_far → R e answer → more ≡ so_far ++ answer ∷ []
+      → AllZip R (take (place + 1) c.entries) more
+  answered R so_far more answer h k grown =
+      let taken : take (place + 1) items ≡ take place items ++ e ∷ [] = rw (← read) at (take_more items place e below) in
+      let before = rw (← same) at h in
+      rw (grown, ← same, taken) (all_zipped_more R (take place items) so_far e answer before k)
+
+  pub large_here : (tuples : List Tuple) → 1000000 < nodes_product (all_tags (five (entry_tuple e) ∷ tuples))
+      → HasLargeTags c tuples
+  large_here tuples h = record {
+    place = place;
+    entry = e;
+    stands = rw same at (slice_get-get_or items place e below ∙ ap Some (sym read));
+    large = h;
+  }

@@ -1,0 +1,22 @@
+use Rattle.std.proofs.Common.{◌∷◌, ◌<◌, ap, subst}
+use Rattle.spki_reduce.specs.Tuples.{FiveTuple, five}
+use Rattle.spki_reduce.specs.Restrictions.{nodes_product}
+use Rattle.spki_reduce.specs.Chain.{tuples_of, all_tags}
+use Rattle.spki_decision.proofs.folding.fold_entry.Goals as goal
+
+pub returns-clause-fold : goal.returns-clause-fold
+returns-clause-fold c = rw c.in_ok-own.ensures at c.fold_chain.ensures.fold
+
+pub returns-clause-issuer : goal.returns-clause-issuer
+returns-clause-issuer c = rw (ap (λ (t : FiveTuple). t.issuer) c.in_ok-own.ensures) at c.fold_chain.ensures.issuer
+
+pub returns-clause-excluded : goal.returns-clause-excluded
+returns-clause-excluded c = rw c.in_ok-own.ensures at c.fold_chain.ensures.excluded
+
+pub returns-clause-unsupported : goal.returns-clause-unsupported
+returns-clause-unsupported c = rw c.in_ok-own.ensures at c.fold_chain.ensures.unsupported
+
+pub returns-clause-too_large : goal.returns-clause-too_large
+returns-clause-too_large c h =
+    let P : FiveTuple → Type 0 = λ own. 1000000 < nodes_product (all_tags (five own ∷ tuples_of c.args.steps.now)) in
+    subst P c.in_ok-own.ensures (c.fold_chain.ensures.too_large h)

@@ -1,0 +1,19 @@
+use Rattle.std.proofs.Common.{rules}
+use Rattle.spki_case.specs.View.{model}
+use Rattle.spki_reduce.specs.Chain.{tuples_of}
+use Rattle.spki_decision.specs.Reduced.{IsEntryFold}
+use Rattle.spki_decision.proofs.Stopping.{answered, large_here}
+use Rattle.spki_decision.proofs.reducing.entry_folds.Goals as goal
+
+pub returns-in_err-entry_fold-clause-too_large : goal.returns-in_err-entry_fold-clause-too_large
+returns-in_err-entry_fold-clause-too_large c h =
+    large_here (model c.args.case.now) c.deref-entry-items.result.now c.loop-entry.entry-index c.entry-item.result
+    c.deref-entry-items.ensures.value c.loop-entry-test.true c.entry-item.is (tuples_of c.args.steps.now)
+    (c.in_err-entry_fold.ensures.too_large (search (rules, h, c.from_residual.ensures)))
+
+pub loop-entry-preserved : goal.loop-entry-preserved
+loop-entry-preserved c =
+    answered (model c.args.case.now) c.deref-entry-items.result.now c.loop-entry.entry-index c.entry-item.result
+    c.deref-entry-items.ensures.value c.loop-entry-test.true c.entry-item.is
+    (IsEntryFold (model c.args.case.now) (tuples_of c.args.steps.now)) c.loop-entry.folds.items c.push.new.self.items
+    c.in_ok-entry_fold.field-0 c.loop-entry.invariant c.in_ok-entry_fold.ensures.exact c.in_ok-push.ensures.items
