@@ -1,5 +1,5 @@
 -- What is written of a case's reduction and of its explanation.
-use Rattle.std.specs.Prelude.{◌≡◌, ℕ, suc, Bool, true, false, ◌||◌, List, [], ◌∷◌, ◌++◌, if◌then◌else◌}
+use Rattle.std.specs.Prelude.{◌≡◌, ℕ, suc, Bool, true, false, ◌||◌, List, [], ◌∷◌, ◌++◌}
 use Rattle.sexpr_core.specs.Value.{Value}
 use Rattle.sexpr_text.specs.Printed.{adv}
 use Rattle.spki_reduce.specs.Written.{IsWrittenFive}
@@ -17,7 +17,8 @@ use Rattle.spki_guard.specs.Lines.{entry_line, stopped_line, reason_line, item_l
 
 -- yes if some entry does, else no
 abbrev pub verdict_of : Bool → Verdict
-verdict_of yes = if yes then Done else No
+verdict_of true = Done
+verdict_of false = No
 
 -- ---- reductions
 

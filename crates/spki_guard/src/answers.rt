@@ -195,7 +195,7 @@ fn answer_octets(alloc: Global, command: Command, octets: Vec<u8>) -> Result<Ans
         Command::Intersect => Ok(tag_line(alloc, &intersect(alloc, &octets)?)?),
         Command::Reduce => reduce(alloc, &octets),
         Command::Check => check(alloc, &octets),
-        Command::Explain => answer_why(alloc, &octets),
+        Command::Explain => explain_case(alloc, &octets),
     }
 }
 
@@ -225,7 +225,7 @@ fn reduce(alloc: Global, text: &[u8]) -> Result<Answer, Refusal>
 }
 
 /// Explains the case that a canonical text is.
-fn answer_why(alloc: Global, text: &[u8]) -> Result<Answer, Refusal>
+fn explain_case(alloc: Global, text: &[u8]) -> Result<Answer, Refusal>
     ensures answered { IfOk result (λ a. Explains text.now a.verdict (octets_of a.output)) }
     ensures refused { (v : Value) → text.now ≡ canon v → IfErr result (λ refusal. RefusesValue Command.Explain v refusal) }
 {

@@ -43,26 +43,31 @@ fn push_folds(alloc: Global, out: &mut Vec<u8>, folds: &[EntryFold]) -> Result<V
         push_no_entries(out)?;
         return Ok(Verdict::No);
     }
-    let some = push_fold_lines(alloc, out, folds)?;
-    Ok(verdict_of(some))
+    push_fold_lines(alloc, out, folds)?;
+    Ok(verdict_of(some_done(folds)))
 }
 
-/// Puts a line for each entry's chain behind what is there, and says whether one comes to a tuple.
-fn push_fold_lines(
-    alloc: Global,
-    out: &mut Vec<u8>,
-    folds: &[EntryFold],
-) -> Result<bool, AllocError>
-    ensures some { IfOk result (λ some. some ≡ some_done folds.now) }
-    ensures lines { OnOk result ((lines : List ℕ) × AreFoldLines 1 folds.now lines
+/// Puts a line for each entry's chain behind what is there.
+fn push_fold_lines(alloc: Global, out: &mut Vec<u8>, folds: &[EntryFold]) -> Result<(), AllocError>
+    ensures { OnOk result ((lines : List ℕ) × AreFoldLines 1 folds.now lines
         × (out.new.items ≡ out.old.items ++ lines)) }
 {
-    let mut some = false;
     for (place, fold) in folds.iter().enumerate() {
         push_fold(alloc, out, place + 1, fold)?;
-        some = some || is_done(fold);
     }
-    Ok(some)
+    Ok(())
+}
+
+/// Whether some chain comes to a tuple.
+fn some_done(folds: &[EntryFold]) -> bool
+    ensures { result ≡ some_done folds.now }
+{
+    for fold in folds {
+        if is_done(fold) {
+            return true;
+        }
+    }
+    false
 }
 
 /// Whether a chain comes to a tuple.
@@ -123,25 +128,30 @@ fn push_reasons(alloc: Global, out: &mut Vec<u8>, reasons: &[Reason]) -> Result<
         push_no_entries(out)?;
         return Ok(Verdict::No);
     }
-    let some = push_reason_lines(alloc, out, reasons)?;
-    Ok(verdict_of(some))
+    push_reason_lines(alloc, out, reasons)?;
+    Ok(verdict_of(some_grant(reasons)))
 }
 
-/// Puts a line for each entry's reason behind what is there, and says whether one grants what is asked.
-fn push_reason_lines(
-    alloc: Global,
-    out: &mut Vec<u8>,
-    reasons: &[Reason],
-) -> Result<bool, AllocError>
-    ensures some { IfOk result (λ some. some ≡ some_grant reasons.now) }
-    ensures lines { OnOk result (out.new.items ≡ out.old.items ++ reason_lines 1 reasons.now) }
+/// Puts a line for each entry's reason behind what is there.
+fn push_reason_lines(alloc: Global, out: &mut Vec<u8>, reasons: &[Reason]) -> Result<(), AllocError>
+    ensures { OnOk result (out.new.items ≡ out.old.items ++ reason_lines 1 reasons.now) }
 {
-    let mut some = false;
     for (place, reason) in reasons.iter().enumerate() {
         push_reason(alloc, out, place + 1, *reason)?;
-        some = some || is_grant(*reason);
     }
-    Ok(some)
+    Ok(())
+}
+
+/// Whether some entry grants what is asked.
+fn some_grant(reasons: &[Reason]) -> bool
+    ensures { result ≡ some_grant reasons.now }
+{
+    for reason in reasons {
+        if is_grant(*reason) {
+            return true;
+        }
+    }
+    false
 }
 
 /// Whether an entry grants what is asked.

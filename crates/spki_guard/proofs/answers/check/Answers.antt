@@ -1,5 +1,6 @@
 use Rattle.std.proofs.Common.{ap, Err}
 use Rattle.spki_case.specs.View.{model}
+use Rattle.spki_guard.specs.declared.commands.Command.TheVariants.{Check}
 use Rattle.spki_guard.proofs.Undecided.{err_lifted, undecided}
 use Rattle.spki_guard.proofs.answers.check.Goals as goal
 
@@ -19,5 +20,5 @@ returns-in_err-decision-clause-refused c v e =
     let large = rw c.accepted.ensures at c.in_err-decision.ensures.too_large in
     let from = c.from_residual-in_err-decision.ensures in
     err_lifted c.from_residual-in_err-decision.result _ _ from.1
-    (λ outer h. undecided v c.args.text.now (model c.in_ok-case.case) c.in_err-decision.field-0.0 outer e c.in_ok-case.ensures.read
+    (λ outer h. undecided Check v c.args.text.now (model c.in_ok-case.case) c.in_err-decision.field-0.0 outer e c.in_ok-case.ensures.read
     (λ is. large (ap Err is)) h)

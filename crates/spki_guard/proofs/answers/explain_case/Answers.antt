@@ -1,0 +1,26 @@
+use Rattle.std.proofs.Common.{ap, Err, ◌++◌, ◌∙◌}
+use Rattle.spki_case.specs.View.{model}
+use Rattle.spki_guard.specs.declared.commands.Command.TheVariants.{Explain}
+use Rattle.spki_guard.proofs.Undecided.{err_lifted, undecided}
+use Rattle.spki_guard.proofs.answers.explain_case.Goals as goal
+
+pub returns-clause-answered : goal.returns-clause-answered
+returns-clause-answered c =
+    let exact = rw c.accepted.ensures at c.in_ok-explanation.ensures.exact in
+    let (lines, report, e) = c.in_ok-verdict.ensures in
+    let whole = e ∙ ap (λ s. s ++ lines) c.new-lines.ensures.items in
+    record {
+      case_read = model c.in_ok-case.case;
+      text_is = c.in_ok-case.ensures.read;
+      explanation = c.in_ok-explanation.explanation;
+      explanation_is = exact;
+      lines = rw whole report;
+    }
+
+pub returns-in_err-explanation-clause-refused : goal.returns-in_err-explanation-clause-refused
+returns-in_err-explanation-clause-refused c v e =
+    let large = rw c.accepted.ensures at c.in_err-explanation.ensures.too_large in
+    let from = c.from_residual-in_err-explanation.ensures in
+    err_lifted c.from_residual-in_err-explanation.result _ _ from.1
+    (λ outer h. undecided Explain v c.args.text.now (model c.in_ok-case.case) c.in_err-explanation.field-0.0 outer e c.in_ok-case.ensures.read
+    (λ is. large (ap Err is)) h)
