@@ -8,7 +8,7 @@ use Rattle.spki_case.specs.Texts.{IsOuter}
 use Rattle.spki_decision.specs.declared.deciding.GuardFault.{GuardFault}
 use Rattle.spki_decision.specs.declared.deciding.GuardFault.TheVariants as guard
 use Rattle.spki_decision.specs.Granted.{IsTooLarge}
-use Rattle.spki_guard.specs.declared.commands.Command.TheVariants.{Check}
+use Rattle.spki_words.specs.declared.commands.Command.TheVariants.{Check}
 use Rattle.spki_guard.specs.declared.answers.Refusal.{Refusal}
 use Rattle.spki_guard.specs.declared.answers.Refusal.TheVariants as refusals
 use Rattle.spki_guard.specs.Answer.{RefusesValue, IsUndecided}

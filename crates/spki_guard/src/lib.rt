@@ -2,15 +2,16 @@
 #![tactic(auto)]
 
 mod answers;
-mod commands;
 mod intersection;
 mod lines;
 mod printing;
 mod running;
+mod statuses;
 
-pub use commands::{Command, Status};
 pub use intersection::{IntersectFault, intersect};
 pub use metered_io::Metered;
 pub use running::run;
 pub use spki_case::{AcceptedTable, Case, CaseFault, Row, Verifier};
 pub use spki_decision::{Decision, GuardFault, Stop, decide, first_named, laws};
+pub use spki_words::{Command, WordsFault, command_of};
+pub use statuses::Status;

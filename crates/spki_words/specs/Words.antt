@@ -1,5 +1,5 @@
 -- What `clap` reads in the words of a command line, of which the first is the program's name.
-use Rattle.std.specs.Prelude.{◌≡◌, ◌≢◌, ⊤, List, true, false, Option, codes, fold, option_map}
+use Rattle.std.specs.Prelude.{◌≡◌, ◌≢◌, ℕ, ⊤, List, true, false, Option, codes, fold, option_map}
 use Rattle.clap.specs.Words.{App, Kinds, IsAmong, Text, new_app, with_subcommand, subcommand_of, fault_of, app_of}
 use Rattle.clap.specs.Simple.{on_top}
 use Rattle.clap.specs.declared.error.kind.ErrorKind.{ErrorKind}
@@ -40,6 +40,12 @@ abbrev pub IsFaultOf : List Text → WordsFault → Type 0
 IsFaultOf words (Refused text) = (kind : ErrorKind) × (kind ≢ DisplayHelp) × IsAmong kind (faults_of words)
 IsFaultOf words (Help text) = IsAmong DisplayHelp (faults_of words)
 IsFaultOf words Memory = ⊤
+
+-- the exit status
+abbrev pub code_of : WordsFault → ℕ
+code_of (Refused text) = 2
+code_of (Help text) = 0
+code_of Memory = 2
 
 -- what `clap` says where an error has this kind
 abbrev pub IsFault : ErrorKind → WordsFault → Type 0

@@ -3,7 +3,7 @@
 ghost use Rattle.std.specs.Prelude.{◌≡◌, ◌∷◌, [], ◌⊎◌, List, IfOk, IfErr, Ok, Err, Some, MatchResult, map, string_bytes};
 ghost use Rattle.clap.specs.Words.{Text, app_of, kind_of, subcommand_name_of};
 ghost use Rattle.spki_words.specs.Command.{word_of};
-ghost use Rattle.spki_words.specs.Words.{spki, bare, leaf, subcommand_in, faults_of, IsFaultOf, IsProgram, IsFault};
+ghost use Rattle.spki_words.specs.Words.{spki, bare, leaf, subcommand_in, faults_of, IsFaultOf, IsProgram, IsFault, code_of};
 
 use crate::commands::{COMMANDS, Command};
 use crate::helping::{ABOUT, DETAILS, about, details};
@@ -23,6 +23,18 @@ pub enum WordsFault {
     /// Memory was refused.
     #[error("memory was refused")]
     Memory,
+}
+
+impl WordsFault {
+    /// The exit status: 0 where help was asked for, else 2.
+    pub fn code(&self) -> u8
+        ensures { result ≡ code_of self.now }
+    {
+        match self {
+            WordsFault::Help(_) => 0,
+            WordsFault::Refused(_) | WordsFault::Memory => 2,
+        }
+    }
 }
 
 impl From<AllocError> for WordsFault {
