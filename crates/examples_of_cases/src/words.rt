@@ -9,7 +9,9 @@ const NAMED: &[(&str, Command)] = &[
     ("advanced", Command::Advanced),
     ("transport", Command::Transport),
     ("intersect", Command::Intersect),
+    ("reduce", Command::Reduce),
     ("check", Command::Check),
+    ("explain", Command::Explain),
 ];
 
 const REFUSED: &[&[&str]] = &[

@@ -5,7 +5,7 @@ use Rattle.clap.proofs.OnLiterals.{clap_on_literals}
 use Rattle.spki_words.specs.Command.{word_of}
 use Rattle.spki_words.specs.Words.{spki, subcommand_in}
 use Rattle.spki_words.specs.declared.commands.Command.{Command}
-use Rattle.spki_words.specs.declared.commands.Command.TheVariants.{Canonical, Advanced, Transport, Intersect, Check}
+use Rattle.spki_words.specs.declared.commands.Command.TheVariants.{Canonical, Advanced, Transport, Intersect, Reduce, Check, Explain}
 
 pub simple : is_simple spki ≡ true
 simple = refl
@@ -19,7 +19,9 @@ word_taken program Canonical = refl
 word_taken program Advanced = refl
 word_taken program Transport = refl
 word_taken program Intersect = refl
+word_taken program Reduce = refl
 word_taken program Check = refl
+word_taken program Explain = refl
 
 pub word_read : (program : Text) (c : Command) → subcommand_in (program ∷ word_of c ∷ []) ≡ Some (word_of c)
 unfolding clap_on_literals
@@ -27,4 +29,6 @@ word_read program Canonical = refl
 word_read program Advanced = refl
 word_read program Transport = refl
 word_read program Intersect = refl
+word_read program Reduce = refl
 word_read program Check = refl
+word_read program Explain = refl

@@ -14,17 +14,23 @@ pub enum Command {
     Transport,
     /// Writes what two tags leave together, in advanced form, on a line.
     Intersect,
+    /// Writes what each entry of a case comes to with the certificates, on a line.
+    Reduce,
     /// Decides the request of a case.
     Check,
+    /// Says of each entry of a case why it grants the request or doesn't, on a line.
+    Explain,
 }
 
 /// All commands, in the order of the help.
-pub(crate) const COMMANDS: [Command; 5] = [
+pub(crate) const COMMANDS: [Command; 7] = [
     Command::Canonical,
     Command::Advanced,
     Command::Transport,
     Command::Intersect,
+    Command::Reduce,
     Command::Check,
+    Command::Explain,
 ];
 
 impl Command {
@@ -37,7 +43,9 @@ impl Command {
             Command::Advanced => "advanced",
             Command::Transport => "transport",
             Command::Intersect => "intersect",
+            Command::Reduce => "reduce",
             Command::Check => "check",
+            Command::Explain => "explain",
         }
     }
 

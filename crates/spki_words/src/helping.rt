@@ -72,6 +72,23 @@ Example, which writes (ftp a):
   echo '(intersect (ftp) (ftp a))' | spki intersect
 ";
 
+const REDUCE: &str = "\
+Reads a case on standard input, as check does: see spki check --help
+Writes a line for each entry of the access list: entry N and what it comes to with the certificates, as (five ..), or
+entry N item J and why they don't go on at item J. Writes one line item J and why, where certificate J doesn't stand,
+and no entries, where the list has none.
+
+Exit status:
+  0  some entry comes to a (five ..)
+  1  none does
+  2  the text is refused, or its tags are too large to meet; a line says why
+  3  reading or writing failed
+
+Example, which writes entry 1 (five (subject (public-key (test a))) (tag (ftp))):
+  echo '(case (acl (entry (public-key (test a)) (tag (ftp)))) (accepted) (sequence)
+    (key (public-key (test a))) (request (ftp)) (at \"2024-01-01_00:00:00\"))' | spki reduce
+";
+
 const CHECK: &str = "\
 Reads a case on standard input, in any of the three forms of RFC 9804: an access list, the signatures that another tool
 accepted, the certificates, the key that asks, its request, and a moment.
@@ -89,6 +106,23 @@ Example, which writes yes entry 1:
     (key (public-key (test a))) (request (ftp)) (at \"2024-01-01_00:00:00\"))' | spki check
 ";
 
+const EXPLAIN: &str = "\
+Reads a case on standard input, as check does: see spki check --help
+Writes a line for each entry of the access list: entry N grants; or entry N and what it comes to lacks with the
+certificates: NotTheKey, TagLacks the request, WindowLacks the moment; or entry N item J and why they don't go on at
+item J. Writes one line item J and why, where certificate J doesn't stand, and no entries, where the list has none.
+
+Exit status:
+  0  some entry grants the request
+  1  none does
+  2  the text is refused, or its tags are too large to meet; a line says why
+  3  reading or writing failed
+
+Example, which writes entry 1 grants:
+  echo '(case (acl (entry (public-key (test a)) (tag (ftp)))) (accepted) (sequence)
+    (key (public-key (test a))) (request (ftp)) (at \"2024-01-01_00:00:00\"))' | spki explain
+";
+
 /// What a command does, in a line.
 pub(crate) fn about(command: Command) -> &'static str {
     match command {
@@ -96,7 +130,9 @@ pub(crate) fn about(command: Command) -> &'static str {
         Command::Advanced => "Writes a value in advanced form",
         Command::Transport => "Writes a value in transport form",
         Command::Intersect => "Writes the tag of the requests that two tags both contain",
+        Command::Reduce => "Shows what each entry of an access list comes to with the certificates",
         Command::Check => "Decides whether a key may have what it asks for",
+        Command::Explain => "Says of each entry why it grants what is asked, or doesn't",
     }
 }
 
@@ -107,6 +143,8 @@ pub(crate) fn details(command: Command) -> &'static str {
         Command::Advanced => ADVANCED,
         Command::Transport => TRANSPORT,
         Command::Intersect => INTERSECT,
+        Command::Reduce => REDUCE,
         Command::Check => CHECK,
+        Command::Explain => EXPLAIN,
     }
 }
