@@ -27,3 +27,5 @@ mod structures;
 mod texts;
 #[cfg(test)]
 mod verifiers;
+#[cfg(test)]
+mod words;

@@ -1,20 +1,32 @@
 //! `spki`: reads a text on standard input, and writes the answer of a command on standard output.
 #![tactic(auto)]
 
-use spki_guard::{Command, Metered, Status, run};
+use spki_guard::{Command, Metered, Status, WordsFault, command_of, run};
 use std::process::ExitCode;
 use std::rt::Env;
 use std::{env, io};
 
-/// The command that the one argument names.
-fn command<R: Env + AllocGlobal>(rt: &R) -> Option<Command> {
-    let mut words = env::args(rt).ok()?;
-    let _program = words.next()?;
-    let word = words.next()?;
-    if words.next().is_some() {
-        return None;
+/// The command that the words of the command line ask for.
+fn command<R: Env + AllocGlobal>(rt: &R) -> Result<Command, WordsFault> {
+    let alloc = rt.alloc();
+    match env::args(rt) {
+        Ok(args) => {
+            let words: Vec<String> = args.collect(alloc)?;
+            command_of(alloc, &words)
+        }
+        Err(error) if error.kind() == io::ErrorKind::InvalidData => Err(WordsFault::Refused(
+            String::from_str(alloc, "error: the words aren't UTF-8\n")?,
+        )),
+        Err(_) => Err(WordsFault::Memory),
     }
-    Command::named(word.as_str())
+}
+
+/// Says why there is no command: `clap`'s text goes to standard error.
+fn refuse<R: Print + Eprint>(rt: &R, fault: &WordsFault) -> io::Result<()> {
+    match fault {
+        WordsFault::Refused(text) | WordsFault::Help(text) => eprint!(rt; "{text}"),
+        WordsFault::Memory => println!(rt; "refused Memory"),
+    }
 }
 
 /// Says on standard error why a run was cut off.
@@ -27,9 +39,12 @@ fn report(rt: &impl Eprint, status: Status) -> io::Result<()> {
 }
 
 fn main(rt: HostRuntime) -> ExitCode {
-    let Some(command) = command(&rt) else {
-        let _ = eprintln!(rt; "usage: spki canonical|advanced|transport|intersect|check < TEXT");
-        return ExitCode::from(2);
+    let command = match command(&rt) {
+        Ok(command) => command,
+        Err(fault) => {
+            let _ = refuse(&rt, &fault);
+            return ExitCode::from(fault.code());
+        }
     };
     let mut reader = Metered::new(rt.stdin());
     let mut writer = Metered::new(rt.stdout());

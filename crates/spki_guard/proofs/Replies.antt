@@ -1,6 +1,6 @@
 -- What a reply tells.
 use Rattle.std.proofs.Common.{◌≡◌, ℕ, List, Option, Bool, IsTrue, inl, inr}
-use Rattle.spki_guard.specs.declared.commands.Command.{Command}
+use Rattle.spki_words.specs.declared.commands.Command.{Command}
 use Rattle.spki_guard.specs.declared.answers.Verdict.{Verdict}
 use Rattle.spki_guard.specs.declared.answers.Verdict.TheVariants.{Refused}
 use Rattle.spki_guard.specs.Run.{IsReply}

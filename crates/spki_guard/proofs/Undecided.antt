@@ -7,7 +7,7 @@ use Rattle.spki_case.specs.CaseForm.{IsCaseText}
 use Rattle.spki_case.specs.Texts.{IsOuter}
 use Rattle.spki_decision.specs.declared.deciding.GuardFault.{GuardFault}
 use Rattle.spki_decision.specs.declared.deciding.GuardFault.TheVariants as guard
-use Rattle.spki_guard.specs.declared.commands.Command.{Command}
+use Rattle.spki_words.specs.declared.commands.Command.{Command}
 use Rattle.spki_guard.specs.declared.answers.Refusal.{Refusal}
 use Rattle.spki_guard.specs.declared.answers.Refusal.TheVariants as refusals
 use Rattle.spki_guard.specs.Answer.{RefusesValue, HasTooLarge}

@@ -16,8 +16,8 @@ use Rattle.spki_guard.specs.declared.answers.Refusal.{Refusal}
 use Rattle.spki_guard.specs.declared.answers.Refusal.TheVariants as refusals
 use Rattle.spki_guard.specs.declared.answers.Output as output
 use Rattle.spki_guard.specs.declared.answers.Output.TheVariants.{Made, Fixed}
-use Rattle.spki_guard.specs.declared.commands.Command.{Command}
-use Rattle.spki_guard.specs.declared.commands.Command.TheVariants.{Canonical, Advanced, Transport, Intersect, Reduce, Check, Explain}
+use Rattle.spki_words.specs.declared.commands.Command.{Command}
+use Rattle.spki_words.specs.declared.commands.Command.TheVariants.{Canonical, Advanced, Transport, Intersect, Reduce, Check, Explain}
 use Rattle.spki_guard.specs.declared.answers.Verdict.{Verdict}
 use Rattle.spki_guard.specs.declared.answers.Verdict.TheVariants.{Done, No, Refused}
 use Rattle.spki_decision.specs.declared.deciding.Decision.{Decision}

@@ -1,4 +1,4 @@
-pub mod Command
+pub mod Status
 pub mod Lines
 pub mod Intersect
 pub mod Reports

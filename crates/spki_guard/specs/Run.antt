@@ -5,7 +5,7 @@ use Rattle.metered_io.specs.declared.meters.Metered.{Metered}
 use Rattle.metered_io.specs.Metered.{Takes}
 use Rattle.metered_io.specs.Sent.{SendsFront}
 use Rattle.sexpr_core.specs.declared.fault.FormFault.TheVariants as form
-use Rattle.spki_guard.specs.declared.commands.Command.{Command}
+use Rattle.spki_words.specs.declared.commands.Command.{Command}
 use Rattle.spki_guard.specs.declared.answers.Verdict.{Verdict}
 use Rattle.spki_guard.specs.declared.answers.Verdict.TheVariants.{Refused}
 use Rattle.spki_guard.specs.Lines.{refused_form, refused_memory}

@@ -8,7 +8,6 @@ ghost use Rattle.spki_case.specs.Texts.{IsOuter};
 ghost use Rattle.spki_guard.specs.Answer.{form_of, IsAnswer, AnswersValue, RefusesValue, AnswersRead, RefusesAnswer, WritesMeet, Decides, Reduces, Explains, IsLineOf, refused_line, octets_of};
 ghost use Rattle.spki_guard.specs.Lines.{refused_memory};
 
-use crate::commands::Command;
 use crate::intersection::{IntersectFault, intersect};
 use crate::lines::{
     push_no, push_refused_case, push_refused_decision, push_refused_form, push_refused_intersect,
@@ -22,6 +21,7 @@ use sexpr_text::{Form, convert};
 use spki_case::{Case, CaseFault};
 use spki_decision::{Decision, GuardFault, decide, explain, reduce_case};
 use spki_tag::Tag;
+use spki_words::Command;
 use std::alloc::{AllocError, Global};
 
 /// The octets that are written.

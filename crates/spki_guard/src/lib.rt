@@ -2,15 +2,14 @@
 #![tactic(auto)]
 
 mod answers;
-mod commands;
 mod entry_lines;
 mod intersection;
 mod lines;
 mod printing;
 mod reports;
 mod running;
+mod statuses;
 
-pub use commands::{Command, Status};
 pub use intersection::{IntersectFault, intersect};
 pub use metered_io::Metered;
 pub use running::run;
@@ -19,3 +18,5 @@ pub use spki_decision::{
     Decision, EntryFold, Explanation, GuardFault, Reason, Reduction, Stop, decide, explain,
     first_named, laws, reduce_case,
 };
+pub use spki_words::{Command, WordsFault, command_of};
+pub use statuses::Status;

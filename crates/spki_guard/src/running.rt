@@ -2,13 +2,14 @@
 ghost use Rattle.std.specs.Prelude.{◌≡◌, ℕ, ◌<◌, ◌≤◌, ◌⊎◌, List, length, max, IsTrue, IfNone, IfSome, OnSome};
 ghost use Rattle.metered_io.specs.Metered.{inner_of, Gives, TakesNone};
 ghost use Rattle.spki_guard.specs.Answer.{octets_of};
-ghost use Rattle.spki_guard.specs.Command.{status_of};
+ghost use Rattle.spki_guard.specs.Status.{status_of};
 ghost use Rattle.spki_guard.specs.Run.{IsReply, IsFaulty, IsWritten, IsCutOff};
 
 use crate::answers::{Answer, Output, Verdict, answer_text, out_of_memory};
-use crate::commands::{Command, Status};
+use crate::statuses::Status;
 use metered_io::{Metered, ReadFault, read_whole, write_whole};
 use sexpr_core::MOST_OCTETS;
+use spki_words::Command;
 use std::alloc::Global;
 use std::io::{Read, Write};
 

@@ -1,6 +1,6 @@
 use Rattle.std.proofs.Common.{ap, Err, ◌++◌, ◌∙◌}
 use Rattle.spki_case.specs.View.{model}
-use Rattle.spki_guard.specs.declared.commands.Command.TheVariants.{Reduce}
+use Rattle.spki_words.specs.declared.commands.Command.TheVariants.{Reduce}
 use Rattle.spki_guard.proofs.Undecided.{err_lifted, undecided}
 use Rattle.spki_guard.proofs.answers.reduce.Goals as goal
 

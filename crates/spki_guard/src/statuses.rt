@@ -1,0 +1,47 @@
+//! How a run ends.
+
+ghost use Rattle.std.specs.Prelude.{◌≡◌};
+ghost use Rattle.spki_guard.specs.Status.{status_of, code_of};
+
+use crate::answers::Verdict;
+
+/// How a run ended.
+#[derive(Clone, Copy, Debug, PartialEq, Eq)]
+pub enum Status {
+    /// The answer is yes, or what was asked for is written.
+    Done,
+    /// The answer is no.
+    No,
+    /// The text is no input, or its answer is a refusal.
+    Refused,
+    /// The reader failed.
+    ReadFault,
+    /// The writer failed.
+    WriteFault,
+}
+
+impl Status {
+    /// The exit status: 0, 1, 2, and 3 for both faults.
+    pub fn code(self) -> u8
+        ensures { result ≡ code_of self }
+    {
+        match self {
+            Status::Done => 0,
+            Status::No => 1,
+            Status::Refused => 2,
+            Status::ReadFault | Status::WriteFault => 3,
+        }
+    }
+}
+
+impl From<Verdict> for Status {
+    ghost from_gives = { λ verdict status. status ≡ status_of verdict };
+
+    fn from(verdict: Verdict) -> Status {
+        match verdict {
+            Verdict::Done => Status::Done,
+            Verdict::No => Status::No,
+            Verdict::Refused => Status::Refused,
+        }
+    }
+}

@@ -1,0 +1,4 @@
+pub mod EachCommand
+pub mod Faults
+pub mod OneCommand
+pub mod OneWord

@@ -1,0 +1,128 @@
+//! The command that the words of a command line ask for.
+
+ghost use Rattle.std.specs.Prelude.{◌≡◌, ◌∷◌, [], ◌⊎◌, List, IfOk, IfErr, Ok, Err, Some, MatchResult, map, string_bytes};
+ghost use Rattle.clap.specs.Words.{Text, app_of, kind_of, subcommand_name_of};
+ghost use Rattle.spki_words.specs.Command.{word_of};
+ghost use Rattle.spki_words.specs.Words.{spki, bare, leaf, subcommand_in, faults_of, IsFaultOf, IsProgram, IsFault, code_of};
+
+use crate::commands::{COMMANDS, Command};
+use crate::helping::{ABOUT, DETAILS, about, details};
+use clap::error::ErrorKind;
+use std::alloc::{AllocError, Global};
+use thiserror::Error;
+
+/// Why words name no command.
+#[derive(Debug, Drop, Error)]
+pub enum WordsFault {
+    /// They aren't the program's name and one command, as the text says.
+    #[error("{0}")]
+    Refused(String),
+    /// They ask for the text.
+    #[error("{0}")]
+    Help(String),
+    /// Memory was refused.
+    #[error("memory was refused")]
+    Memory,
+}
+
+impl WordsFault {
+    /// The exit status: 0 where help was asked for, else 2.
+    pub fn code(&self) -> u8
+        ensures { result ≡ code_of self.now }
+    {
+        match self {
+            WordsFault::Help(_) => 0,
+            WordsFault::Refused(_) | WordsFault::Memory => 2,
+        }
+    }
+}
+
+impl From<AllocError> for WordsFault {
+    ghost use Rattle.spki_words.specs.declared.words.WordsFault.{WordsFault};
+
+    ghost from_gives = { λ _ fault. fault ≡ WordsFault.Memory };
+
+    fn from(_: AllocError) -> WordsFault {
+        WordsFault::Memory
+    }
+}
+
+/// The command that these words ask for, of which the first is the program's name.
+///
+/// # Errors
+///
+/// `Help` where the words ask for help, `Refused` where `clap` refuses them, both with its text; `Memory` where memory
+/// is refused.
+pub fn command_of(alloc: Global, words: &[String]) -> Result<Command, WordsFault>
+    ensures named { IfOk result (λ c. subcommand_in (map string_bytes words.now) ≡ Some (word_of c)) }
+    ensures taken { (program : Text) (c : Command) → map string_bytes words.now ≡ program ∷ word_of c ∷ []
+        → (result ≡ Ok c) ⊎ (result ≡ Err WordsFault.Memory) }
+    ensures faults { MatchResult result (λ _. faults_of (map string_bytes words.now) ≡ []) (IsFaultOf (map string_bytes words.now)) }
+{
+    match program(alloc)?.try_get_matches_from(words) {
+        Ok(matches) => Ok(met(&matches)),
+        Err(error) => Err(fault(alloc, &error)),
+    }
+}
+
+/// `spki` as `clap` knows it: the commands are its subcommands, and one has to be named.
+fn program<'a>(alloc: Global) -> Result<clap::Command<'a>, AllocError>
+    ensures { IfOk result (λ program. IsProgram spki program) }
+{
+    let mut program = bare(alloc);
+    for command in COMMANDS {
+        program = program.subcommand(subcommand(alloc, command))?;
+    }
+    Ok(program)
+}
+
+/// `spki` without its subcommands.
+fn bare<'a>(alloc: Global) -> clap::Command<'a>
+    ensures { IsProgram bare result }
+{
+    clap::Command::new(alloc, "spki")
+        .about(ABOUT)
+        .after_help(DETAILS)
+        .subcommand_required(true)
+        .disable_help_subcommand(true)
+}
+
+/// The subcommand that a command is.
+fn subcommand<'a>(alloc: Global, command: Command) -> clap::Command<'a>
+    ensures { IsProgram (leaf command) result }
+{
+    let word: &'a str = command.word();
+    let about: &'a str = about(command);
+    let details: &'a str = details(command);
+    clap::Command::new(alloc, word)
+        .about(about)
+        .after_help(details)
+}
+
+/// The command that was met, which is one of the program's.
+fn met(matches: &clap::ArgMatches<'_>) -> Command
+    requires { (c : Command) × (subcommand_name_of matches.now ≡ Some (word_of c)) }
+    ensures { subcommand_name_of matches.now ≡ Some (word_of result) }
+{
+    let Some(name) = matches.subcommand_name() else {
+        unreachable!()
+    };
+    let Some(command) = Command::named(name) else {
+        unreachable!()
+    };
+    command
+}
+
+/// What `clap` says against words.
+fn fault(alloc: Global, error: &clap::Error) -> WordsFault
+    ensures { IsFault (kind_of error.now) result }
+{
+    if error.kind() == ErrorKind::OutOfMemory {
+        return WordsFault::Memory;
+    }
+    match error.to_string(alloc) {
+        Ok(text) if error.kind() == ErrorKind::DisplayHelp => WordsFault::Help(text),
+        Ok(text) => WordsFault::Refused(text),
+        Err(_) => WordsFault::Memory,
+    }
+}
