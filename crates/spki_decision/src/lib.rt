@@ -6,6 +6,7 @@ mod deciding;
 mod holder;
 mod judging;
 pub mod laws;
+mod shown_keys;
 
 pub use certificates::{Certificate, ShownCert, certificates_of};
 pub use deciding::{Decision, GuardFault, decide};
