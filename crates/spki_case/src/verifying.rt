@@ -75,9 +75,10 @@ fn any_accepts(rows: &[Row], key: &Key, message: &[u8], value: &[u8]) -> bool
         .any(|row| row_accepts(row, key, digest.as_slice(), value))
 }
 
-/// Whether the row is of this key, of a message with this SHA-256 digest, and of this value.
+/// Whether the row is of this key, of a message with this SHA-256 digest, and of this value. The digests come first, since
+/// other rows' differ at once, while keys begin alike.
 fn row_accepts(row: &Row, key: &Key, digest: &[u8], value: &[u8]) -> bool
     ensures { (message : List ℕ) → sha256 message ≡ digest.now → result ≡ is_row_of key.now message value.now (row_of row.now) }
 {
-    row.key.same(key) && digest == row.digest.as_slice() && row.value.as_slice() == value
+    digest == row.digest.as_slice() && row.key.same(key) && row.value.as_slice() == value
 }

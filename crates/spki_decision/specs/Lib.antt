@@ -2,6 +2,7 @@
 pub mod Views
 pub mod Standing
 pub mod Steps
+pub mod ByDigest
 pub mod Judged
 pub mod FirstNamed
 pub mod Granted

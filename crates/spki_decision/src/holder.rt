@@ -1,12 +1,10 @@
-//! The keys that a sequence shows, and which of them is an issuer's.
+//! The keys that a sequence shows, and which of them is the first that a principal names.
 
-ghost use Rattle.std.specs.Prelude.{◌≡◌, [], ◌∷◌, ◌++◌, IfOk, OnOk, find, Contains, MatchOption};
-ghost use Rattle.spki_cert.specs.Naming.{names};
+ghost use Rattle.std.specs.Prelude.{◌≡◌, [], ◌∷◌, ◌++◌, IfOk, OnOk, Contains, MatchOption};
 ghost use Rattle.spki_case.specs.Sequence.{keys_of};
-ghost use Rattle.spki_decision.specs.Standing.{issuer_key};
 ghost use Rattle.spki_decision.specs.FirstNamed.{NamesNone, IsFirstNamed};
 
-use spki_cert::{Key, Policy, Principal, SeqItem};
+use spki_cert::{Key, Principal, SeqItem};
 use std::alloc::{AllocError, Global};
 
 /// Puts the key that an item is, if it is one, behind others.
@@ -54,31 +52,4 @@ pub fn first_named<F: Fn(&Principal, &Key) -> bool>(
         }
     }
     None
-}
-
-/// The key of an issuer: the key as written, or the first key shown that the hash names, if there is one.
-pub(crate) fn holder_of<'a>(
-    issuer: &Principal<'a>,
-    keys: &[Key<'a>],
-    policy: Policy,
-) -> Option<Key<'a>>
-    ensures { result ≡ issuer_key policy keys.now issuer.now }
-{
-    match issuer {
-        Principal::Key(key) => Some(key.share()),
-        Principal::Hash { .. } => first_key(issuer, keys, policy),
-    }
-}
-
-/// The first key that the principal names.
-fn first_key<'a>(principal: &Principal<'a>, keys: &[Key<'a>], policy: Policy) -> Option<Key<'a>>
-    ensures { result ≡ find (λ octets. names policy principal.now octets) keys.now }
-{
-    let names = |named: &Principal, key: &Key| -> bool
-        ensures { result ≡ names policy named.entry.now key.entry.now }
-    { named.names(key, policy) };
-    match first_named(principal, keys, names) {
-        Some(place) => Some(keys[place].share()),
-        None => None,
-    }
 }

@@ -1,6 +1,6 @@
 //! The evidence of a sequence: the four tests of each certificate.
 
-ghost use Rattle.std.specs.Prelude.{◌≡◌, IfOk, IsSome};
+ghost use Rattle.std.specs.Prelude.{◌≡◌, IfOk, OnOk, IsSome};
 ghost use Rattle.spki_case.specs.Sequence.{keys_of};
 ghost use Rattle.spki_case.specs.Sequence.{AreSigned};
 ghost use Rattle.spki_decision.specs.Views.{shown_of};
@@ -8,7 +8,8 @@ ghost use Rattle.spki_decision.specs.Steps.{IsTested};
 ghost use Rattle.spki_decision.specs.Judged.{IsEvidence};
 
 use crate::certificates::{ShownCert, certificates_of};
-use crate::holder::{holder_of, keys_of};
+use crate::holder::keys_of;
+use crate::shown_keys::ShownKeys;
 use spki_case::Verifier;
 use spki_cert::{Key, Policy, SeqItem, Signature};
 use spki_reduce::Step;
@@ -70,12 +71,12 @@ pub fn judge<'a, V: Verifier>(
     requires { AreSigned sequence.now }
     ensures { IfOk result (IsEvidence policy (V.accepted verifier.now) sequence.now) }
 {
-    let keys = keys_of(alloc, sequence)?;
+    let mut keys = ShownKeys::new(keys_of(alloc, sequence)?);
     let certificates = certificates_of(alloc, sequence)?;
     let mut items = Vec::new(alloc);
     let mut steps = Vec::new(alloc);
     for shown in &certificates {
-        match test(alloc, shown, &keys, policy, verifier)? {
+        match test(alloc, shown, &mut keys, policy, verifier)? {
             Tested::Stands(holder) => {
                 items.push(shown.item)?;
                 steps.push(shown.certificate.step(&holder)?)?;
@@ -95,18 +96,19 @@ pub fn judge<'a, V: Verifier>(
 fn test<'a, V: Verifier>(
     alloc: Global,
     shown: &ShownCert<'_, 'a>,
-    keys: &[Key<'a>],
+    keys: &mut ShownKeys<'a>,
     policy: Policy,
     verifier: &V,
 ) -> Result<Tested<'a>, AllocError>
     requires { IsSome (shown_of shown.now).signature }
-    ensures { IfOk result (IsTested policy keys.now (V.accepted verifier.now) (shown_of shown.now)) }
+    ensures tested { IfOk result (IsTested policy keys.old (V.accepted verifier.now) (shown_of shown.now)) }
+    ensures kept { OnOk result (keys.new ≡ keys.old) }
 {
     let octets = shown.certificate.octets();
     let Some(signature) = shown.signature else {
         unreachable!()
     };
-    let Some(holder) = holder_of(&shown.certificate.issuer(), keys, policy) else {
+    let Some(holder) = keys.holder(alloc, &shown.certificate.issuer(), policy)? else {
         return Ok(Tested::Fails(Stop::KeyNotShown));
     };
     if !signature.alg.fits(signature.digest.as_slice(), octets) {

@@ -10,6 +10,7 @@ mod holder;
 mod judging;
 pub mod laws;
 mod reducing;
+mod shown_keys;
 
 pub use certificates::{Certificate, ShownCert, certificates_of};
 pub use deciding::{Decision, GuardFault, decide};

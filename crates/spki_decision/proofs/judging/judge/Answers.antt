@@ -20,9 +20,9 @@ returns-in-Fails g c =
     let kept = c.deref-shown-items.result.now in
     let verified = g.V.Verifier.accepted c.args.verifier.now in
     let same : map shown_of kept ≡ certificates items = ap (map shown_of) c.deref-shown-items.ensures.value ∙ c.in_ok-certificates.ensures in
-    let keys : c.deref.result.now ≡ keys_of items = c.deref.ensures.value ∙ c.in_ok-keys.ensures in
-    let tested : IsTested c.args.policy c.deref.result.now verified (shown_of c.shown-item.result) (Fails c.in-Fails.stop) =
-    rw c.in-Fails.is at c.in_ok-holder.ensures in
+    let keys : c.loop-shown.keys ≡ keys_of items = c.loop-shown.invariant.2 in
+    let tested : IsTested c.args.policy c.loop-shown.keys verified (shown_of c.shown-item.result) (Fails c.in-Fails.stop) =
+    rw c.in-Fails.is at c.in_ok-holder.ensures.tested in
     let fails : FailsBy c.args.policy (keys_of items) verified (shown_of c.shown-item.result) c.in-Fails.stop = rw keys at tested in
     failing_here items kept same c.loop-shown.shown-index c.loop-shown-test.true c.shown-item.result c.shown-item.is
     c.args.policy verified (map _ c.loop-shown.steps.items) c.in-Fails.stop c.loop-shown.invariant.1 fails
@@ -33,13 +33,13 @@ loop-shown-preserved g c =
     let kept = c.deref-shown-items.result.now in
     let verified = g.V.Verifier.accepted c.args.verifier.now in
     let same : map shown_of kept ≡ certificates items = ap (map shown_of) c.deref-shown-items.ensures.value ∙ c.in_ok-certificates.ensures in
-    let keys : c.deref.result.now ≡ keys_of items = c.deref.ensures.value ∙ c.in_ok-keys.ensures in
-    let tested : IsTested c.args.policy c.deref.result.now verified (shown_of c.shown-item.result) (Passes c.in-Stands.holder) =
-    rw c.in-Stands.is at c.in_ok-holder.ensures in
+    let keys : c.loop-shown.keys ≡ keys_of items = c.loop-shown.invariant.2 in
+    let tested : IsTested c.args.policy c.loop-shown.keys verified (shown_of c.shown-item.result) (Passes c.in-Stands.holder) =
+    rw c.in-Stands.is at c.in_ok-holder.ensures.tested in
     let stands : Stands c.args.policy (keys_of items) verified (shown_of c.shown-item.result) c.in-Stands.holder = rw keys at tested in
     let i = c.loop-shown.shown-index in
     let one = c.shown-item.result in
     let more = numbered items kept same i c.loop-shown-test.true one c.shown-item.is c.args.policy verified c.loop-shown.items.items c.loop-shown.invariant.0 in
     let grown = standing_more items kept same i c.loop-shown-test.true one c.shown-item.is c.args.policy verified c.loop-shown.steps.items
     c.in_ok-step-in-Stands.field-0 c.in-Stands.holder c.loop-shown.invariant.1 stands c.in_ok-step-in-Stands.ensures in
-    (c.in_ok-push-in-Stands.ensures.items ∙ more, rw c.in_ok-push-in-Stands-2.ensures.items grown)
+    (c.in_ok-push-in-Stands.ensures.items ∙ more, rw c.in_ok-push-in-Stands-2.ensures.items grown, c.in_ok-holder.ensures.kept ∙ keys)

@@ -10,3 +10,4 @@ abbrev pub invariant-loop-shown : goal.invariant-loop-shown
 invariant-loop-shown g l =
     (l.items.items ≡ map (λ s. s.item) (take l.shown-index (map shown_of l.shown-items)))
     × AllZip (StandsAs l.policy (keys_of l.sequence) (g.V.Verifier.accepted l.verifier)) (take l.shown-index (map shown_of l.shown-items)) (map step_tuple l.steps.items)
+    × (l.keys ≡ keys_of l.sequence)

@@ -1,0 +1,159 @@
+//! The keys that a sequence shows, found by their digests.
+
+ghost use Rattle.std.specs.Prelude.{◌≡◌, ◌∷◌, [], ℕ, List, IfOk, OnOk, IfSome, find};
+ghost use Rattle.std.specs.Option.{option_or};
+ghost use Rattle.spki_cert.specs.declared.hash.HashAlg.{HashAlg};
+ghost use Rattle.spki_cert.specs.Naming.{digest_of, is_digest};
+ghost use Rattle.spki_decision.specs.Standing.{issuer_key};
+ghost use Rattle.spki_decision.specs.ByDigest.{key_at, HasFirstKeys};
+
+use sha1::Sha1;
+use sha2::{Digest, Sha256, Sha512};
+use spki_cert::{HashAlg, Key, Policy, Principal};
+use std::alloc::{AllocError, Global};
+use std::collections::BTreeMap;
+use std::marker::Model;
+
+/// Of each digest, the first key that has it.
+type FirstKeys<'a> = BTreeMap<Vec<u8>, Key<'a>>;
+
+/// The keys that a sequence shows, in order, with an index of their digests for each algorithm of which a hash was looked
+/// for. In a contract they are the list of the keys.
+#[derive(Drop)]
+pub(crate) struct ShownKeys<'a> {
+    keys: Vec<Key<'a>>,
+    by_sha1: Option<FirstKeys<'a>>,
+    by_sha256: Option<FirstKeys<'a>>,
+    by_sha512: Option<FirstKeys<'a>>,
+}
+
+impl<'a> Model for ShownKeys<'a> {
+    ghost Value = { List (List ℕ) };
+
+    ghost view = { λ shown. shown.keys.items };
+
+    ghost invariant = { λ shown.
+        IfSome shown.by_sha1 (HasFirstKeys HashAlg.Sha1 shown.keys.items)
+        × IfSome shown.by_sha256 (HasFirstKeys HashAlg.Sha256 shown.keys.items)
+        × IfSome shown.by_sha512 (HasFirstKeys HashAlg.Sha512 shown.keys.items) };
+}
+
+impl<'a> ShownKeys<'a> {
+    /// These keys.
+    pub(crate) fn new(keys: Vec<Key<'a>>) -> ShownKeys<'a>
+        ensures { result ≡ keys.entry.items }
+    {
+        ShownKeys {
+            keys,
+            by_sha1: None,
+            by_sha256: None,
+            by_sha512: None,
+        }
+    }
+
+    /// The key of an issuer: the key as written, or the first key shown that the hash names, if there is one.
+    pub(crate) fn holder(
+        &mut self,
+        alloc: Global,
+        issuer: &Principal<'a>,
+        policy: Policy,
+    ) -> Result<Option<Key<'a>>, AllocError>
+        ensures key { IfOk result (λ key. key ≡ issuer_key policy self.old issuer.now) }
+        ensures kept { OnOk result (self.new ≡ self.old) }
+    {
+        match issuer {
+            Principal::Key(key) => Ok(Some(key.share())),
+            Principal::Hash { alg, digest } => {
+                if policy.admits(*alg) {
+                    self.first_with(alloc, *alg, digest.as_slice())
+                } else {
+                    Ok(None)
+                }
+            }
+        }
+    }
+
+    /// The first key with this digest under the algorithm.
+    fn first_with(
+        &mut self,
+        alloc: Global,
+        alg: HashAlg,
+        digest: &[u8],
+    ) -> Result<Option<Key<'a>>, AllocError>
+        ensures key { IfOk result (λ key. key ≡ find (λ octets. is_digest alg digest.now octets) self.old) }
+        ensures kept { OnOk result (self.new ≡ self.old) }
+    {
+        match alg {
+            HashAlg::Sha1 => first_in(&mut self.by_sha1, alloc, alg, &self.keys, digest),
+            HashAlg::Sha256 => first_in(&mut self.by_sha256, alloc, alg, &self.keys, digest),
+            HashAlg::Sha512 => first_in(&mut self.by_sha512, alloc, alg, &self.keys, digest),
+        }
+    }
+}
+
+/// The first of the keys with this digest under the algorithm, by their index, which is made if there is none.
+fn first_in<'a>(
+    index: &mut Option<FirstKeys<'a>>,
+    alloc: Global,
+    alg: HashAlg,
+    keys: &[Key<'a>],
+    digest: &[u8],
+) -> Result<Option<Key<'a>>, AllocError>
+    requires { IfSome index.old (HasFirstKeys alg keys.now) }
+    ensures key { IfOk result (λ key. key ≡ find (λ octets. is_digest alg digest.now octets) keys.now) }
+    ensures kept { IfSome index.new (HasFirstKeys alg keys.now) }
+{
+    let first = match index.take() {
+        Some(first) => first,
+        None => first_keys(alloc, alg, keys)?,
+    };
+    let found = match first.get(digest) {
+        Some(key) => Some(key.share()),
+        None => None,
+    };
+    *index = Some(first);
+    Ok(found)
+}
+
+/// The index of the keys by their digests under an algorithm.
+fn first_keys<'a>(
+    alloc: Global,
+    alg: HashAlg,
+    keys: &[Key<'a>],
+) -> Result<FirstKeys<'a>, AllocError>
+    ensures { IfOk result (HasFirstKeys alg keys.now) }
+{
+    let mut first = BTreeMap::new(alloc);
+    for key in keys {
+        add_key(&mut first, alloc, alg, key)?;
+    }
+    Ok(first)
+}
+
+/// Adds a key behind others, unless one of them has its digest.
+fn add_key<'a>(
+    first: &mut FirstKeys<'a>,
+    alloc: Global,
+    alg: HashAlg,
+    key: &Key<'a>,
+) -> Result<(), AllocError>
+    ensures { OnOk result ((digest : List ℕ) → key_at first.new digest
+        ≡ option_or (key_at first.old digest) (find (λ octets. is_digest alg digest octets) (key.now ∷ []))) }
+{
+    let digest = digest_of(alloc, alg, key.as_slice())?;
+    if !first.contains_key(digest.as_slice()) {
+        first.insert(digest, key.share())?;
+    }
+    Ok(())
+}
+
+/// The digest of octets.
+fn digest_of(alloc: Global, alg: HashAlg, octets: &[u8]) -> Result<Vec<u8>, AllocError>
+    ensures { IfOk result (λ digest. digest.items ≡ digest_of alg octets.now) }
+{
+    match alg {
+        HashAlg::Sha1 => Ok(Vec::from_array(alloc, Sha1::digest(octets))?),
+        HashAlg::Sha256 => Ok(Vec::from_array(alloc, Sha256::digest(octets))?),
+        HashAlg::Sha512 => Ok(Vec::from_array(alloc, Sha512::digest(octets))?),
+    }
+}
