@@ -5,4 +5,6 @@ pub mod Evident
 pub mod Policies
 pub mod Entries
 pub mod Granting
+pub mod SameTuples
+pub mod OneDecision
 pub mod Examples

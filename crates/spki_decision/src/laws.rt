@@ -1,8 +1,11 @@
-//! Laws of grants.
+//! Laws of grants and decisions.
 
-ghost use Rattle.std.specs.Prelude.{ℕ};
-ghost use Rattle.spki_case.specs.Case.{Case};
+ghost use Rattle.std.specs.Prelude.{◌≡◌, ◌↔◌, ℕ, List};
+ghost use Rattle.spki_case.specs.Case.{Case, accepted_by};
+ghost use Rattle.spki_case.specs.CaseForm.{IsCaseText};
 ghost use Rattle.spki_decision.specs.Granted.{Granted, strict, opened};
+ghost use Rattle.spki_decision.specs.Decision.{IsDecision};
+ghost use Rattle.spki_decision.specs.declared.deciding.Decision.{Decision};
 
 use spki_case::Verifier;
 
@@ -11,4 +14,19 @@ use spki_case::Verifier;
 pub fn strict_implies_open<V: Verifier>()
     ensures { (verifier : V) (c : Case) (n : ℕ) → Granted n (strict c) (V.accepted verifier)
         → Granted n (opened c) (V.accepted verifier) }
+{}
+
+/// Two cases that a text is are granted at the same entries, whatever the verifier: the form in which their tags are
+/// read doesn't matter.
+pub fn one_grant<V: Verifier>()
+    ensures { (verifier : V) (text : List ℕ) (c d : Case) (n : ℕ) → IsCaseText text c → IsCaseText text d
+        → Granted n c (V.accepted verifier) ↔ Granted n d (V.accepted verifier) }
+{}
+
+/// A text has at most one decision, by one verifier or by the accepted list that it has itself.
+pub fn one_decision<V: Verifier>()
+    ensures verified { (verifier : V) (text : List ℕ) (c d : Case) (x y : Decision) → IsCaseText text c → IsCaseText text d
+        → IsDecision c (V.accepted verifier) x → IsDecision d (V.accepted verifier) y → x ≡ y }
+    ensures own { (text : List ℕ) (c d : Case) (x y : Decision) → IsCaseText text c → IsCaseText text d
+        → IsDecision c (accepted_by c) x → IsDecision d (accepted_by d) y → x ≡ y }
 {}
