@@ -52,7 +52,7 @@ found test k ks e = rw e refl
 twice : issuer_key Open (ka ∷ ka ∷ []) (principal.Hash Sha256 (digest_of Sha256 ka)) ≡ Some ka
 twice =
     found (λ octets. names Open (principal.Hash Sha256 (digest_of Sha256 ka)) octets) ka (ka ∷ [])
-        ((bytes_eq-Decides (digest_of Sha256 ka) (digest_of Sha256 ka)).1 refl)
+    ((bytes_eq-Decides (digest_of Sha256 ka) (digest_of Sha256 ka)).1 refl)
 
 -- under the strict policy no key shown is that of a SHA-1 hash
 unnamed : (digest : List ℕ) (keys : List (List ℕ)) → issuer_key Strict keys (principal.Hash Sha1 digest) ≡ None

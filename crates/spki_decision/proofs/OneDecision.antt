@@ -153,7 +153,7 @@ module _ (policy : Policy) (keys : List (List ℕ)) (verified : Verified) where
         stand = (record { holder = holder; stands = stands_same s t holder e.0 h.0.stands; tuple_is = refl }, behind.stand);
         same = (
           subst (λ (v : Tuple). SameTuple v (tuple_of holder t.certificate)) (sym h.0.tuple_is)
-          (tuple_same holder s.certificate t.certificate e.0.certificate),
+              (tuple_same holder s.certificate t.certificate e.0.certificate),
           behind.same,
         );
       }
@@ -174,10 +174,10 @@ pub granted_same : (c d : Case) (verified : Verified) (n : ℕ) → SameCase c d
 granted_same c d verified n same g =
     let here = entry_at c.entries d.entries g.place g.entry same.entries g.stands in
     let evident = shown_same c.policy (keys_of c.items) verified (certificates c.items) (certificates d.items) g.tuples
-        (certificates_same 1 c.items d.items same.items) g.shown in
+    (certificates_same 1 c.items d.items same.items) g.shown in
     let other = supported_same c.policy c.key c.request c.moment g.tree (five (entry_tuple here.0) ∷ evident.others)
-        (subst (λ (ts : List Tuple). AllZip SameTuple ts (five (entry_tuple here.0) ∷ evident.others)) (sym g.leaves_are)
-        (entry_same g.entry here.0 here.2, evident.same)) g.supports in
+    (subst (λ (ts : List Tuple). AllZip SameTuple ts (five (entry_tuple here.0) ∷ evident.others)) (sym g.leaves_are)
+    (entry_same g.entry here.0 here.2, evident.same)) g.supports in
     record {
       place = g.place;
       numbered = g.numbered;
