@@ -15,7 +15,7 @@ pub(crate) const KA: &str = "(public-key (test a))";
 
 pub(crate) const KB: &str = "(public-key (test b))";
 
-const KC: &str = "(public-key (test c))";
+pub(crate) const KC: &str = "(public-key (test c))";
 
 /// From KA to KB, and from KB to KC.
 pub(crate) const C1: &str =
@@ -190,7 +190,7 @@ pub(crate) fn signed(alloc: Global, cert: &str, key: &str) -> Result<String, Fai
 }
 
 /// The row of the accepted list that this signature needs.
-fn accepted(alloc: Global, cert: &str, key: &str) -> Result<String, Fail> {
+pub(crate) fn accepted(alloc: Global, cert: &str, key: &str) -> Result<String, Fail> {
     let digest = digest_of(alloc, cert)?;
     Ok(format!(in alloc; "(by {key} (hash sha256 #{digest}#) sig)")?)
 }
@@ -211,6 +211,17 @@ fn row_of(alloc: Global, item: &Item) -> Result<String, Fail> {
     }
 }
 
+/// A case with what is asked, and by whom.
+pub(crate) fn case_asking(
+    alloc: Global,
+    entries: &str,
+    rows: &str,
+    sequence: &str,
+    asked: &str,
+) -> Result<String, Fail> {
+    Ok(format!(in alloc; "(case (acl {entries}) (accepted {rows}) (sequence {sequence}) {asked})")?)
+}
+
 /// A case that asks for `(ftp)`.
 pub(crate) fn case_of(
     alloc: Global,
@@ -220,9 +231,10 @@ pub(crate) fn case_of(
     key: &str,
     policy: &str,
 ) -> Result<String, Fail> {
-    Ok(format!(in alloc;
-        "(case (acl {entries}) (accepted {rows}) (sequence {sequence}) (key {key}) (request (ftp)) (at \"2024-01-01_00:00:00\") {policy})"
-    )?)
+    let asked = format!(in alloc;
+        "(key {key}) (request (ftp)) (at \"2024-01-01_00:00:00\") {policy}"
+    )?;
+    case_asking(alloc, entries, rows, sequence, &asked)
 }
 
 /// The case of a row.
@@ -302,10 +314,20 @@ fn hash_as_subject(alloc: Global, policy: &str, alg: HashAlg) -> Result<String, 
     case_of(alloc, &entry, "", "", KA, policy)
 }
 
-/// A case whose certificate is issued by the hash of KA, which these items behind it may show.
-fn hash_as_issuer(alloc: Global, policy: &str, alg: HashAlg, behind: &str) -> Result<String, Fail> {
+/// A certificate that is issued by the hash of KA.
+pub(crate) fn issued_by_hash(alloc: Global, alg: HashAlg) -> Result<String, Fail> {
     let hash = hash_of_ka(alloc, alg)?;
-    let cert = format!(in alloc; "(cert (issuer {hash}) (subject {KB}) (tag (*)))")?;
+    Ok(format!(in alloc; "(cert (issuer {hash}) (subject {KB}) (tag (*)))")?)
+}
+
+/// A case whose certificate is issued by the hash of KA, which these items behind it may show.
+pub(crate) fn hash_as_issuer(
+    alloc: Global,
+    policy: &str,
+    alg: HashAlg,
+    behind: &str,
+) -> Result<String, Fail> {
+    let cert = issued_by_hash(alloc, alg)?;
     let items = format!(in alloc; "{} {behind}", signed(alloc, &cert, KA)?)?;
     case_of(alloc, ALL, &accepted(alloc, &cert, KA)?, &items, KB, policy)
 }

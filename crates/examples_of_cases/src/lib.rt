@@ -12,11 +12,15 @@ mod decisions;
 #[cfg(test)]
 mod ends;
 #[cfg(test)]
+mod evidence;
+#[cfg(test)]
 mod fault_texts;
 #[cfg(test)]
 mod inner_ends;
 #[cfg(test)]
 mod intersections;
+#[cfg(test)]
+mod limits;
 #[cfg(test)]
 mod meters;
 #[cfg(test)]

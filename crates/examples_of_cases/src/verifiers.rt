@@ -6,12 +6,12 @@ use crate::chains::{ALL, C1, KA, KB, case_of, signed};
 use crate::texts::FIRST_RUN;
 use sexpr_text::{Form, convert};
 use spki_cert::Key;
-use spki_guard::{Case, Decision, GuardFault, Verifier, decide};
+use spki_guard::{Case, CaseFault, Decision, GuardFault, Verifier, decide};
 use std::alloc::{AllocError, Global};
 use std::test::Fail;
 
 /// Accepts no signature.
-struct AcceptsNone;
+pub(crate) struct AcceptsNone;
 
 impl Verifier for AcceptsNone {
     ghost accepted = { λ verifier key message value. ⊥ };
@@ -30,7 +30,7 @@ impl Verifier for AcceptsNone {
 }
 
 /// Accepts every signature.
-struct AcceptsAll;
+pub(crate) struct AcceptsAll;
 
 impl Verifier for AcceptsAll {
     ghost accepted = { λ verifier key message value. Unit {0} };
@@ -73,24 +73,26 @@ fn delegation(alloc: Global, items: &str) -> Result<Vec<u8>, Fail> {
     Ok(convert(alloc, Form::Canonical, text.as_bytes())?)
 }
 
-/// What is decided of a canonical text by a verifier.
-fn decided<V: Verifier>(alloc: Global, text: &[u8], verifier: &V) -> Result<Decision, GuardFault> {
-    match Case::read(alloc, text) {
-        Ok(case) => decide(alloc, &case, verifier),
-        Err(_) => Err(GuardFault::TooLarge),
-    }
+/// What is decided by a verifier of a canonical text, if it is a case's.
+fn decided<V: Verifier>(
+    alloc: Global,
+    text: &[u8],
+    verifier: &V,
+) -> Result<Result<Decision, GuardFault>, CaseFault> {
+    let case = Case::read(alloc, text)?;
+    Ok(decide(alloc, &case, verifier))
 }
 
 #[test]
 fn verifiers(rt: HostRuntime) -> Result<(), Fail> {
     let alloc = rt.alloc();
     let first_run = FIRST_RUN.as_bytes();
-    assert!(rt; decided(alloc, first_run, &AcceptsNone) == Ok(Decision::Yes(1)));
-    assert!(rt; decided(alloc, first_run, &OutOfMemory) == Ok(Decision::Yes(1)));
+    assert!(rt; decided(alloc, first_run, &AcceptsNone)? == Ok(Decision::Yes(1)));
+    assert!(rt; decided(alloc, first_run, &OutOfMemory)? == Ok(Decision::Yes(1)));
     let text = delegation(alloc, &signed(alloc, C1, KA)?)?;
-    assert!(rt; decided(alloc, &text, &AcceptsNone) == Ok(Decision::No));
-    assert!(rt; decided(alloc, &text, &AcceptsAll) == Ok(Decision::Yes(1)));
-    assert!(rt; decided(alloc, &text, &OutOfMemory) == Err(GuardFault::Memory));
+    assert!(rt; decided(alloc, &text, &AcceptsNone)? == Ok(Decision::No));
+    assert!(rt; decided(alloc, &text, &AcceptsAll)? == Ok(Decision::Yes(1)));
+    assert!(rt; decided(alloc, &text, &OutOfMemory)? == Err(GuardFault::Memory));
     Ok(())
 }
 
@@ -98,6 +100,6 @@ fn verifiers(rt: HostRuntime) -> Result<(), Fail> {
 fn signer_differs(rt: HostRuntime) -> Result<(), Fail> {
     let alloc = rt.alloc();
     let text = delegation(alloc, &signed(alloc, C1, KB)?)?;
-    assert!(rt; decided(alloc, &text, &AcceptsAll) == Ok(Decision::No));
+    assert!(rt; decided(alloc, &text, &AcceptsAll)? == Ok(Decision::No));
     Ok(())
 }

@@ -1,9 +1,11 @@
 //! Two tuples.
 
 use crate::tuples::{CERTIFICATE, DEFINITION, ENTRY, Given, KA, KB, KC, five, four, is_subject};
-use spki_cert::Policy;
-use spki_reduce::{Cause, Five, Four, Joined};
-use std::alloc::Global;
+use sexpr_core::encode;
+use spki_cert::{Date, Policy};
+use spki_reduce::{Cause, Five, Four, Issuer, Joined};
+use spki_tag::Tag;
+use std::alloc::{AllocError, Global};
 use std::test::Fail;
 
 /// Whether two tuples became an authorization of a key with these names behind it.
@@ -192,5 +194,83 @@ fn linked_names(rt: HostRuntime) -> Result<(), Fail> {
     assert!(rt; is_four(&both, KA, b"friends", KC));
     let swapped = linked(rt.alloc(), &BOB, &FRIENDS)?;
     assert!(rt; cause(&swapped) == Some(Cause::NotTheName));
+    Ok(())
+}
+
+/// The text of a tag.
+fn text_of(alloc: Global, tag: &Tag) -> Result<Vec<u8>, AllocError> {
+    encode(alloc, &tag.write(alloc)?)
+}
+
+fn is_same_limit(limit: &Option<Date>, other: &Option<Date>) -> bool {
+    match (limit, other) {
+        (None, None) => true,
+        (Some(date), Some(another)) => date.as_slice() == another.as_slice(),
+        (_, _) => false,
+    }
+}
+
+/// Whether an authorization by the keeper of the access list, for KC, is another one.
+fn are_same(alloc: Global, five: &Five, other: &Five) -> Result<bool, Fail> {
+    let both_own = matches!((&five.issuer, &other.issuer), (Issuer::Own, Issuer::Own));
+    let same_subject = is_subject(&five.subject, KC, &[]) && is_subject(&other.subject, KC, &[]);
+    let same_first = is_same_limit(&five.window.not_before, &other.window.not_before);
+    let same_last = is_same_limit(&five.window.not_after, &other.window.not_after);
+    let same_tag = text_of(alloc, &five.tag)?.as_slice() == text_of(alloc, &other.tag)?.as_slice();
+    let same_right = five.propagate == other.propagate && same_tag;
+    Ok(both_own && same_subject && same_first && same_last && same_right)
+}
+
+/// An entry for what KA calls friends, and the definitions of this name and of the next, with some limits.
+const FOR_FRIENDS: Given = Given {
+    names: &[b"friends"],
+    tag: b"(3:ftp4:host)",
+    not_after: Some(b"19:2024-12-31_00:00:00"),
+    ..ENTRY
+};
+
+const FRIENDS_FROM_MAY: Given = Given {
+    not_before: Some(b"19:2024-05-01_00:00:00"),
+    ..FRIENDS
+};
+
+const BOB_FROM_JUNE: Given = Given {
+    not_before: Some(b"19:2024-06-01_00:00:00"),
+    ..BOB
+};
+
+/// An authorization, resolved by two definitions one after the other.
+fn one_by_one(alloc: Global, first: &Given, second: &Given) -> Result<Joined<Five<'static>>, Fail> {
+    match resolved(alloc, &FOR_FRIENDS, first)? {
+        Joined::Done(five) => Ok(five.resolve(alloc, &four(alloc, second)?, Policy::Open)?),
+        Joined::Stopped(cause) => Ok(Joined::Stopped(cause)),
+    }
+}
+
+/// The same, resolved by what the two definitions become.
+fn both_at_once(
+    alloc: Global,
+    first: &Given,
+    second: &Given,
+) -> Result<Joined<Five<'static>>, Fail> {
+    match linked(alloc, first, second)? {
+        Joined::Done(four) => Ok(five(alloc, &FOR_FRIENDS)?.resolve(alloc, &four, Policy::Open)?),
+        Joined::Stopped(cause) => Ok(Joined::Stopped(cause)),
+    }
+}
+
+/// Whether both became authorizations, and the same.
+fn join_alike(alloc: Global, joined: &Joined<Five>, other: &Joined<Five>) -> Result<bool, Fail> {
+    match (joined, other) {
+        (Joined::Done(five), Joined::Done(another)) => are_same(alloc, five, another),
+        (_, _) => Ok(false),
+    }
+}
+
+#[test]
+fn any_bracketing(rt: HostRuntime) -> Result<(), Fail> {
+    let one_by_one = one_by_one(rt.alloc(), &FRIENDS_FROM_MAY, &BOB_FROM_JUNE)?;
+    let at_once = both_at_once(rt.alloc(), &FRIENDS_FROM_MAY, &BOB_FROM_JUNE)?;
+    assert!(rt; join_alike(rt.alloc(), &one_by_one, &at_once)?);
     Ok(())
 }

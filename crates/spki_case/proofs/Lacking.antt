@@ -1,10 +1,10 @@
 -- The fault of a part as the case's.
 use Rattle.std.proofs.Common.{◌≡◌, inl, inr}
-use Rattle.std.specs.Prelude.{◌≢◌, ◌⊎◌}
+use Rattle.std.specs.Prelude.{◌≢◌}
 use Rattle.sexpr_core.specs.Value.{Value}
 use Rattle.spki_case.specs.declared.cases.CaseFault.{CaseFault}
 use Rattle.spki_case.specs.declared.cases.CaseFault.TheVariants as faults
-use Rattle.spki_case.specs.CaseForm.{Parts, case_value, PartRefused, LacksPart, ValueRefused}
+use Rattle.spki_case.specs.CaseForm.{Parts, case_value, PartRefused, ValueRefused}
 use Rattle.spki_case.specs.Texts.{IsOuter}
 
 lacking : (v : Value) (p : Parts) (named outer : CaseFault) → v ≡ case_value p → outer ≡ named → PartRefused p named → ValueRefused v outer

@@ -4,3 +4,4 @@ pub mod FirstRun
 pub mod RowLaws
 pub mod Signed
 pub mod Lacking
+pub mod OneCase

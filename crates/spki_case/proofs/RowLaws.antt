@@ -1,12 +1,10 @@
 -- Where a value is no row of an accepted list.
-use Rattle.std.proofs.Common.{◌≡◌, ◌≢◌, ℕ, List, [], ◌∷◌, ◌++◌, Result, Ok, Err, IfErr, sym, ap, subst, ◌∙◌, inl, inr}
-use Rattle.std.specs.Prelude.{codes, IsErrAnd}
+use Rattle.std.proofs.Common.{◌≡◌, ℕ, List, [], ◌∷◌, ◌++◌, sym, ap, subst, ◌∙◌, inl, inr}
+use Rattle.std.specs.Prelude.{codes}
 use Rattle.std.specs.List.{AllZip}
 use Rattle.sexpr_core.specs.Value.{Value, plain, group}
-use Rattle.sexpr_core.specs.Labels.{members-values}
 use Rattle.spki_cert.specs.declared.hash.HashAlg.TheVariants.{Sha256}
 use Rattle.spki_cert.specs.declared.fault.CertFaultKind.{CertFaultKind}
-use Rattle.spki_cert.specs.declared.fault.CertFaultKind.TheVariants as kinds
 use Rattle.spki_cert.specs.Readings.{IsNoKey, KeyOf, HashOf}
 use Rattle.spki_cert.specs.Faults.{Shows}
 use Rattle.spki_cert.proofs.Showing.{shows-in_tail}

@@ -1,6 +1,6 @@
 -- In a sequence each certificate is followed by its signature.
-use Rattle.std.proofs.Common.{◌≡◌, ℕ, suc, List, [], ◌∷◌, Bool, true, false, ◌&&◌, refl, sym, ap, ◌∙◌, inl, inr}
-use Rattle.std.specs.Prelude.{◌⊎◌, codes, IsSome, is_some}
+use Rattle.std.proofs.Common.{◌≡◌, ℕ, suc, List, [], ◌∷◌, Bool, true, false, ◌&&◌, refl, sym, ◌∙◌, inl, inr}
+use Rattle.std.specs.Prelude.{codes, IsSome, is_some}
 use Rattle.std.specs.List.{AllZip, list_all}
 use Rattle.sexpr_core.specs.Value.{Value, plain, group}
 use Rattle.spki_cert.specs.declared.certificate.SeqItem.{SeqItem}

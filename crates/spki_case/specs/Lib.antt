@@ -5,3 +5,4 @@ pub mod Rows
 pub mod CaseForm
 pub mod Parts
 pub mod Sequence
+pub mod Sameness

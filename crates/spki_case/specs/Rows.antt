@@ -1,6 +1,5 @@
 -- Which signature, verified elsewhere, a row of an accepted list states.
 use Rattle.std.specs.Prelude.{◌≡◌, ◌≢◌, ◌⊎◌, ℕ, List, [], ◌∷◌, codes}
-use Rattle.std.specs.List.{AllZip}
 use Rattle.sexpr_core.specs.Value.{Value, plain, group, canon}
 use Rattle.spki_cert.specs.declared.hash.HashAlg.{HashAlg}
 use Rattle.spki_cert.specs.declared.hash.HashAlg.TheVariants.{Sha256}

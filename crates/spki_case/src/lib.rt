@@ -2,6 +2,7 @@
 #![tactic(auto)]
 
 mod cases;
+pub mod laws;
 mod parts;
 mod rows;
 mod verifying;

@@ -129,10 +129,7 @@ pub fn sequence_of<'a>(alloc: Global, node: &Node<'_, 'a>) -> Result<Vec<SeqItem
     ensures refused { IfErr result (λ fault. fault.kind ≢ CertFaultKind.Memory → SeqRefused node.now fault) }
 {
     match node.headed(b"sequence") {
-        Some(members) => match items_of(alloc, members) {
-            Ok(items) => Ok(items),
-            Err(fault) => Err(fault),
-        },
+        Some(members) => items_of(alloc, members),
         None => Err(CertFault {
             item: 0,
             kind: CertFaultKind::Shape,

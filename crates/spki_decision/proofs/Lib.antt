@@ -8,4 +8,6 @@ pub mod Entries
 pub mod Granting
 pub mod Stopping
 pub mod Reasons
+pub mod SameTuples
+pub mod OneDecision
 pub mod Examples

@@ -1,7 +1,8 @@
-//! Laws of grants and of explanations.
+//! Laws of grants, decisions and explanations.
 
-ghost use Rattle.std.specs.Prelude.{ℕ};
-ghost use Rattle.spki_case.specs.Case.{Case};
+ghost use Rattle.std.specs.Prelude.{◌≡◌, ◌↔◌, ℕ, List};
+ghost use Rattle.spki_case.specs.Case.{Case, accepted_by};
+ghost use Rattle.spki_case.specs.CaseForm.{IsCaseText};
 ghost use Rattle.spki_decision.specs.declared.deciding.Decision.{Decision};
 ghost use Rattle.spki_decision.specs.declared.explaining.Explanation.{Explanation};
 ghost use Rattle.spki_decision.specs.Granted.{Granted, strict, opened};
@@ -23,4 +24,19 @@ pub fn decided_as_explained<V: Verifier>()
     ensures { (verifier : V) (c : Case) (explanation : Explanation) (decision : Decision)
         → IsExplanation c (V.accepted verifier) explanation → IsDecision c (V.accepted verifier) decision
         → Agrees explanation decision }
+{}
+
+/// Two cases that a text is are granted at the same entries, whatever the verifier: the form in which their tags are
+/// read doesn't matter.
+pub fn one_grant<V: Verifier>()
+    ensures { (verifier : V) (text : List ℕ) (c d : Case) (n : ℕ) → IsCaseText text c → IsCaseText text d
+        → Granted n c (V.accepted verifier) ↔ Granted n d (V.accepted verifier) }
+{}
+
+/// A text has at most one decision, by one verifier or by the accepted list that it has itself.
+pub fn one_decision<V: Verifier>()
+    ensures verified { (verifier : V) (text : List ℕ) (c d : Case) (x y : Decision) → IsCaseText text c → IsCaseText text d
+        → IsDecision c (V.accepted verifier) x → IsDecision d (V.accepted verifier) y → x ≡ y }
+    ensures own { (text : List ℕ) (c d : Case) (x y : Decision) → IsCaseText text c → IsCaseText text d
+        → IsDecision c (accepted_by c) x → IsDecision d (accepted_by d) y → x ≡ y }
 {}

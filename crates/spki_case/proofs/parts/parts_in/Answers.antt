@@ -1,4 +1,4 @@
-use Rattle.std.proofs.Common.{◌≡◌, ◌∷◌, [], refl, rules}
+use Rattle.std.proofs.Common.{◌≡◌, ◌∷◌, [], refl}
 use Rattle.spki_case.specs.CaseForm as spec
 use Rattle.spki_case.specs.CaseForm.{headed, part_values}
 use Rattle.spki_case.proofs.Building.{after, inside, joined}

@@ -1,5 +1,7 @@
+use Rattle.std.proofs.lemmas.Result.{IfErr-weaker}
 use Rattle.spki_cert.specs.Sequences.{inner}
 use Rattle.spki_cert.proofs.sequence.sequence_of.Goals as goal
 
-pub returns-in-Err-clause-refused : goal.returns-in-Err-clause-refused
-returns-in-Err-clause-refused c = λ known. inner c.in-Some.members c.in-Some.ensures (c.in-Err.ensures.refused known)
+pub returns-in-Some-clause-refused : goal.returns-in-Some-clause-refused
+returns-in-Some-clause-refused c =
+    IfErr-weaker c.items_of.result _ _ (λ fault refused known. inner c.in-Some.members c.in-Some.ensures (refused known)) c.items_of.ensures.refused

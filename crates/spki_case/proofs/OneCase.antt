@@ -1,0 +1,112 @@
+-- A value is one case, but for the form of its tags.
+use Rattle.std.proofs.Common.{◌≡◌, ℕ, List, [], ◌∷◌, ◌++◌, refl, sym, ap, subst, ◌∙◌}
+use Rattle.std.specs.Prelude.{codes}
+use Rattle.std.specs.List.{AllZip}
+use Rattle.sexpr_core.specs.Value.{Value, canon}
+use Rattle.sexpr_core.proofs.Texts.{canon_one}
+use Rattle.spki_tag.specs.Request.{Request}
+use Rattle.spki_tag.proofs.Requests.{request_only}
+use Rattle.spki_cert.specs.declared.principal.Policy.{Policy}
+use Rattle.spki_cert.specs.declared.principal.Policy.TheVariants.{Open, Strict}
+use Rattle.spki_cert.specs.declared.hash.HashAlg.TheVariants.{Sha256}
+use Rattle.spki_cert.specs.Readings.{KeyOf, HashOf, DateOf}
+use Rattle.spki_cert.specs.Entries.{AclOf}
+use Rattle.spki_cert.specs.Sequences.{SeqOf}
+use Rattle.spki_cert.proofs.OneReading.{key-one, hash-one, date-one, acl-one, sequence-one}
+use Rattle.spki_case.specs.Case.{Case, Row}
+use Rattle.spki_case.specs.Rows.{RowOf}
+use Rattle.spki_case.specs.CaseForm.{Parts, headed, acl_value, sequence_value, policy_values, part_values, case_value, RequestOf, CaseOf, IsCaseText}
+use Rattle.spki_case.specs.Sameness.{SameCase}
+use Rattle.spki_case.proofs.Building.{behind_head}
+
+-- ---- rows
+
+pub row-one : (v : Value) (r s : Row) → RowOf v r → RowOf v s → r ≡ s
+row-one v r s read other =
+    let all : read.key ∷ read.hash ∷ read.value ∷ [] ≡ other.key ∷ other.hash ∷ other.value ∷ [] =
+    behind_head (codes "by") (read.key ∷ read.hash ∷ read.value ∷ []) (other.key ∷ other.hash ∷ other.value ∷ []) (sym read.written ∙ other.written) in
+    let at_key : read.key ≡ other.key = cc in
+    let at_hash : read.hash ≡ other.hash = cc in
+    let at_value : read.value ≡ other.value = cc in
+    let key : r.key ≡ s.key = key-one other.key r.key s.key (subst (λ (w : Value). KeyOf w r.key) at_key read.key_is) other.key_is in
+    let digests = hash-one other.hash Sha256 Sha256 r.digest s.digest (subst (λ (w : Value). HashOf w Sha256 r.digest) at_hash read.digest_is) other.digest_is in
+    let value : r.value ≡ s.value = read.value_is ∙ ap canon at_value ∙ sym other.value_is in
+    λ i. record { key = key i; digest = digests.1 i; value = value i }
+
+rows-one : (vs : List Value) (rs ss : List Row) → AllZip RowOf vs rs → AllZip RowOf vs ss → rs ≡ ss
+rows-one [] [] [] read other = refl
+rows-one [] [] (s ∷ ss) read other = absurd other
+rows-one [] (r ∷ rs) ss read other = absurd read
+rows-one (v ∷ vs) [] ss read other = absurd read
+rows-one (v ∷ vs) (r ∷ rs) [] read other = absurd other
+rows-one (v ∷ vs) (r ∷ rs) (s ∷ ss) read other =
+    let first : r ≡ s = row-one v r s read.0 other.0 in
+    let others : rs ≡ ss = rows-one vs rs ss read.1 other.1 in
+    λ i. first i ∷ others i
+
+-- ---- the parts of a case
+
+only : (word : List ℕ) (v w : Value) → headed word (v ∷ []) ≡ headed word (w ∷ []) → v ≡ w
+only word v w e = let f : v ∷ [] ≡ w ∷ [] = behind_head word (v ∷ []) (w ∷ []) e in cc
+
+policy-one : (p q : Policy) → policy_values p ≡ policy_values q → p ≡ q
+policy-one Open Open e = refl
+policy-one Open Strict e = absurd (cc)
+policy-one Strict Open e = absurd (cc)
+policy-one Strict Strict e = refl
+
+-- parts that stand at the same places
+record SameParts (p q : Parts) : Type 0 where
+  acl : acl_value p ≡ acl_value q
+  rows : p.rows ≡ q.rows
+  sequence : sequence_value p ≡ sequence_value q
+  key : p.key ≡ q.key
+  request : p.request ≡ q.request
+  at : p.at ≡ q.at
+  policy : p.policy ≡ q.policy
+
+both : (v w : Value) (vs ws : List Value) → v ∷ vs ≡ w ∷ ws → (v ≡ w) × (vs ≡ ws)
+both v w vs ws e = (cc, cc)
+
+parts-one : (p q : Parts) → case_value p ≡ case_value q → SameParts p q
+parts-one p q e =
+    let acl = both _ _ _ _ (behind_head (codes "case") (part_values p) (part_values q) e) in
+    let rows = both _ _ _ _ acl.1 in
+    let sequence = both _ _ _ _ rows.1 in
+    let key = both _ _ _ _ sequence.1 in
+    let request = both _ _ _ _ key.1 in
+    let at = both _ _ _ _ request.1 in
+    record {
+      acl = acl.0;
+      rows = behind_head (codes "accepted") p.rows q.rows rows.0;
+      sequence = sequence.0;
+      key = only (codes "key") p.key q.key key.0;
+      request = only (codes "request") p.request q.request request.0;
+      at = only (codes "at") p.at q.at at.0;
+      policy = policy-one p.policy q.policy at.1;
+    }
+
+request-one : (v : Value) (g h : Request) → RequestOf v g → RequestOf v h → g ≡ h
+request-one v g h read other = request_only h g (read.written ∙ sym other.written)
+
+pub case-one : (v : Value) (c d : Case) → CaseOf v c → CaseOf v d → SameCase c d
+case-one v c d read other =
+    let p = read.parts in
+    let q = other.parts in
+    let same : SameParts p q = parts-one p q (sym read.written ∙ other.written) in
+    record {
+      entries = acl-one (acl_value q) c.entries d.entries (subst (λ (w : Value). AclOf w c.entries) same.acl read.acl) other.acl;
+      rows = rows-one q.rows c.rows d.rows (subst (λ (vs : List Value). AllZip RowOf vs c.rows) same.rows read.rows) other.rows;
+      items = sequence-one (sequence_value q) c.items d.items (subst (λ (w : Value). SeqOf w c.items) same.sequence read.sequence) other.sequence;
+      key = key-one q.key c.key d.key (subst (λ (w : Value). KeyOf w c.key) same.key read.key) other.key;
+      request = request-one q.request c.request d.request (subst (λ (w : Value). RequestOf w c.request) same.request read.request) other.request;
+      moment = date-one q.at c.moment d.moment (subst (λ (w : Value). DateOf w c.moment) same.at read.moment) other.moment;
+      policy = read.policy ∙ same.policy ∙ sym other.policy;
+    }
+
+-- a canonical text is that of one value
+pub text-one : (text : List ℕ) (c d : Case) → IsCaseText text c → IsCaseText text d → SameCase c d
+text-one text c d read other =
+    let same : read.value ≡ other.value =
+    (canon_one read.value other.value [] [] (ap (λ (octets : List ℕ). octets ++ []) (sym read.written ∙ other.written))).0 in
+    case-one other.value c d (subst (λ (w : Value). CaseOf w c) same read.is) other.is
