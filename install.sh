@@ -5,6 +5,8 @@ set -euo pipefail
 prefix=$(realpath -m "${1:-/usr/local}")
 cd "$(dirname "$0")"
 
+command -v rt > /dev/null || { echo "rt is not in the path: it builds the program" >&2; exit 1; }
+
 # Puts a file at a place under the prefix, with this mode.
 placed() {
     install -D -m "$1" "$2" "$prefix/$3"
