@@ -9,6 +9,7 @@ between them. `any` stands for each of the commands. A line that begins with `;`
     %n          is a line feed
     %-          is nothing, where a text or an answer has no octet
     %<64*(>     is what stands behind the star, so many times
+    %[PATH]     is what the file has, the path being one from the top of the repository
 
 and every other octet stands for itself. Of each text that `canonical` converts, what `advanced` and `transport` write must be
 read again as the same canonical form. Each text that `check` refuses `reduce` and `explain` must refuse by the same line; of each
@@ -33,14 +34,14 @@ COMMANDS = ("canonical", "advanced", "transport", "intersect", "reduce", "check"
 GRANTS = re.compile(rb"entry (\d+) grants")
 TOO_LARGE = (2, b"refused TooLarge\n")
 SECONDS = 20
-ESCAPE = re.compile(rb"%(?:([0-9A-F]{2})|(n)|(-)|<(\d+)\*([^>]*)>|())")
+ESCAPE = re.compile(rb"%(?:([0-9A-F]{2})|(n)|(-)|<(\d+)\*([^>]*)>|\[([^]]+)\]|())")
 
 
 def unescaped(field):
     """The octets that a field of a row stands for."""
 
     def octets(found):
-        code, line_feed, nothing, times, repeated, _ = found.groups()
+        code, line_feed, nothing, times, repeated, path, _ = found.groups()
         if code:
             return bytes.fromhex(code.decode())
         if line_feed:
@@ -49,6 +50,9 @@ def unescaped(field):
             return b""
         if times:
             return int(times) * repeated
+        if path:
+            with open(os.path.join(HERE, "..", path.decode()), "rb") as file:
+                return file.read()
         raise ValueError(f"{field!r} has an unknown escape")
 
     return ESCAPE.sub(octets, field)

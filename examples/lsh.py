@@ -1,0 +1,133 @@
+#!/usr/bin/env python3
+"""Reads by `spki` what lsh's tools and nettle's `sexp-conv` write about keys, and asks with it.
+
+Makes keys by `lsh-keygen`, splits and locks them by `lsh-writekey`, lets `lsh-authorize` put them on its list, and goes to OpenSSH's
+form and back by `lsh-export-key` and `ssh-conv`, all in an empty home. `examples/lsh/captured` is what `lsh --capture-to` wrote of a
+host's key. docs/PEERS.md says what is alike and what isn't. Prints a line for each thing that is tried; the last line counts.
+
+Build the program first (`rt run` in crates/spki), and install the tools (Debian: lsh-utils, nettle-bin).
+Usage: examples/lsh.py [PROGRAM]
+"""
+import os
+import shutil
+import subprocess
+import sys
+import tempfile
+
+HERE = os.path.dirname(os.path.abspath(__file__))
+sys.path.insert(0, os.path.join(HERE, "signed"))
+from sexp import canonical, read  # noqa: E402
+
+PROGRAM = os.path.abspath(sys.argv[1] if len(sys.argv) > 1 else os.path.join(HERE, "..", "crates", "spki", "out", "spki"))
+TOOLS = ("lsh-keygen", "lsh-writekey", "lsh-authorize", "lsh-export-key", "ssh-conv", "sexp-conv")
+SECONDS = 120
+
+
+class Home:
+    """An empty home in which the tools are run."""
+
+    def __init__(self, folder):
+        self.folder = folder
+        self.settings = {**os.environ, "HOME": folder, "LOGNAME": "someone"}
+        os.mkdir(os.path.join(folder, ".lsh"))
+        # (lsh-make-seed wants to watch somebody type; a seed is 32 random octets that only their owner may read)
+        seed = os.open(os.path.join(folder, ".lsh", "yarrow-seed-file"), os.O_WRONLY | os.O_CREAT, 0o600)
+        os.write(seed, os.urandom(32))
+        os.close(seed)
+
+    def run(self, words, text=b""):
+        """What a program writes."""
+        return subprocess.run(words, input=text, stdout=subprocess.PIPE, stderr=subprocess.DEVNULL, cwd=self.folder, env=self.settings,
+                              timeout=SECONDS).stdout
+
+    def file(self, name):
+        with open(os.path.join(self.folder, name), "rb") as file:
+            return file.read()
+
+    def key_files(self, name, options):
+        """The files of a new key: as it was made, its private half as it is and locked, its public half."""
+        made = self.run(["lsh-keygen", *options])
+        self.run(["lsh-writekey", "-c", "none", "-l", "a label", "-o", name], made)
+        self.run(["lsh-writekey", "-c", "aes256-cbc", "-p", "secret", "-l", "a label", "-o", f"{name}.locked"], made)
+        return {"as it was made": made, "private": self.file(name), "locked": self.file(f"{name}.locked"), "public": self.file(f"{name}.pub")}
+
+    def authorized(self, name):
+        """The name of the file that `lsh-authorize` makes of a public key, and what is in it."""
+        folder = os.path.join(".lsh", "authorized_keys_sha1")
+        place = os.path.join(self.folder, folder)
+        before = set(os.listdir(place)) if os.path.exists(place) else set()
+        self.run(["lsh-authorize", f"{name}.pub"])
+        (listed,) = set(os.listdir(place)) - before
+        return listed, self.file(os.path.join(folder, listed))
+
+
+def spki(command, text):
+    done = subprocess.run([PROGRAM, command], input=text, stdout=subprocess.PIPE, stderr=subprocess.DEVNULL, timeout=SECONDS)
+    return done.stdout
+
+
+def check(access_list, key, request=b"login", policy=b""):
+    """The answer of `spki check` on a case without certificates, of canonical texts."""
+    case = b"(case %s (accepted) (sequence) (key %s) (request %s) (at \"2026-03-01_12:00:00\") %s)"
+    return spki("check", case % (access_list, key, request, policy)).decode().strip()
+
+
+def of_hash(algorithm, digest):
+    """An access list of one key, by its hash."""
+    return f"(acl (entry (hash {algorithm} #{digest}#) (tag login)))".encode()
+
+
+def of_keys(home):
+    """What is tried with an RSA and a DSA key: a remark, what came out, what is wanted."""
+    for name, options in (("RSA", ("-l", "1024")), ("DSA", ("-a", "dsa", "-l", "0"))):
+        files = home.key_files(name, options)
+        for kind, text in files.items():
+            yield f"{name}, {kind}: read as sexp-conv reads it", spki("canonical", text), home.run(["sexp-conv", "-s", "canonical"], text)
+        key = spki("canonical", files["public"])
+        listed, in_list = home.authorized(name)
+        yield f"{name}: what lsh-authorize keeps is the public key in canonical form", in_list, key
+        yield f"{name}: its name there is the SHA-1 hash that names the key", check(of_hash("sha1", listed), key), "yes entry 1"
+        yield f"{name}: but not under the strict policy", check(of_hash("sha1", listed), key, policy=b"(policy strict)"), "no"
+        digest = home.run(["sexp-conv", "--hash=sha256"], files["public"]).decode().strip()
+        yield f"{name}: sexp-conv --hash=sha256 gives a hash that names it", check(of_hash("sha256", digest), key, policy=b"(policy strict)"), "yes entry 1"
+        yield f"{name}: the private half is no key", check(b"(acl)", spki("canonical", files["private"])), "refused key Shape"
+    exported = home.run(["lsh-export-key", "--openssh"], home.file("RSA.pub"))
+    yield "RSA: by way of OpenSSH's form it is the same key", spki("canonical", home.run(["ssh-conv"], exported)), spki("canonical", home.file("RSA.pub"))
+    _, (algorithm, modulus, exponent) = read(spki("canonical", home.file("RSA.pub")))
+    yield "RSA: the modulus stands first", (algorithm, modulus[0], exponent[0]), (b"rsa-pkcs1-sha1", b"n", b"e")
+    turned = canonical([b"public-key", [algorithm, exponent, modulus]])
+    yield "RSA: with the exponent first it is another key", check(b"(acl (entry %s (tag login)))" % turned, spki("canonical", home.file("RSA.pub"))), "no"
+
+
+def of_captured_list(home):
+    """What is tried with the list of hosts that lsh writes."""
+    with open(os.path.join(HERE, "lsh", "captured"), "rb") as file:
+        text = file.read()
+    braces = text[text.index(b"{"):]
+    yield "list: a remark in front is refused", spki("canonical", text), b"refused form Bad 1\n"
+    yield "list: behind it, read as sexp-conv reads it", spki("canonical", braces), home.run(["sexp-conv", "-s", "canonical"], braces)
+    _, (_, (_, key), tag) = read(spki("canonical", braces))
+    request = canonical(tag[1])
+    yield "list: a subject in a list of its own is refused", check(spki("canonical", braces), canonical(key), request), "refused acl 1 Shape"
+    without = canonical([b"acl", [b"entry", key, tag]])
+    yield "list: without that it grants", check(without, canonical(key), request), "yes entry 1"
+
+
+def main():
+    for program in (PROGRAM, *TOOLS):
+        if shutil.which(program) is None:
+            sys.exit(f"{program} is not there")
+    passed = failed = 0
+    with tempfile.TemporaryDirectory() as folder:
+        home = Home(folder)
+        for tried in (of_keys, of_captured_list):
+            for remark, met, wanted in tried(home):
+                good = met == wanted and bool(met)
+                print(f"{'as wanted' if good else 'OTHERWISE':<10} {remark}{'' if good else f': {met!r}, and not {wanted!r}'}")
+                passed, failed = passed + good, failed + (not good)
+    print(f"{passed} passed, {failed} failed")
+    return 1 if failed else 0
+
+
+if __name__ == "__main__":
+    sys.exit(main())

@@ -1,0 +1,139 @@
+#!/usr/bin/env python3
+"""From keys made by OpenSSL to decisions by `spki`, and why each of them is as it is.
+
+A service keeps packages. Alice may read and write all builds, and pass that on; Bob may read manuals. Alice passes the web builds
+on to her builders, and says that Bob is one; Bob lets Carol read. Carol asks. Then the same with something wrong, in eight ways.
+
+Needs `openssl` (3.0) and Python's standard library (3.10). New keys are made at each run, and the private ones are thrown away.
+Prints what it does; the last line counts the answers that are as wanted. With a folder it keeps the texts of the cases there.
+
+Build the program first (`rt run` in crates/spki).
+Usage: examples/signed/run.py [PROGRAM [FOLDER]]
+"""
+import os
+import shutil
+import sys
+import tempfile
+
+import tools
+from keys import ED25519, RSA, Pair, hash_of
+from sexp import laid_out, read
+from service import ask
+from tools import canonical, spki
+
+NOON = "2026-03-01_12:00:00"
+READ = '(packages read "/builds/web/index.html")'
+WRITE = '(packages write "/builds/web/index.html")'
+
+
+class Story:
+    """The three key pairs, and the texts that their holders write."""
+
+    def __init__(self, room):
+        self.alice, self.bob, self.carol = (Pair(room, name, kind) for name, kind in (("alice", RSA), ("bob", ED25519), ("carol", ED25519)))
+        alice, bob, carol = self.alice.principal, self.bob.principal, self.carol.principal
+        self.access_list = f"""(acl
+            (entry {alice} (propagate) (tag (packages (* set read write) (* prefix "/builds/"))))
+            (entry {bob} (tag (packages read (* prefix "/manuals/")))))"""
+        self.to_builders = f"""(cert (issuer {alice}) (subject (name builders)) (propagate)
+            (tag (packages (* set read write) (* prefix "/builds/web/"))) (not-before "2026-01-01_00:00:00"))"""
+        self.bob_is_builder = f'(cert (issuer (name {alice} builders)) (subject {bob}) (not-after "2026-12-31_23:59:59"))'
+        self.to_carol = f'(cert (issuer {bob}) (subject {carol}) (tag (packages read)) (not-after "2026-06-30_23:59:59"))'
+
+    def sequence(self, last, keys=True):
+        """Alice's key, her two certificates, and the last one as it is given: with its signature."""
+        shown = self.alice.text if keys else ""
+        return f"(sequence {shown} {signed(self.to_builders, self.alice)} {signed(self.bob_is_builder, self.alice)} {last})"
+
+
+def signed(certificate, pair, named=None, changed=None):
+    """A certificate and its signature by a pair: the octets that `openssl` signs are those of `spki canonical`.
+
+    A forger says that it is by another (`named`), or shows another certificate than the one that was signed (`changed`).
+    """
+    octets = canonical(certificate)
+    digest, signer = laid_out(hash_of(read(octets))), (named or pair).principal
+    return f"{changed or certificate} (signature {digest} {signer} #{pair.sign(octets).hex()}#)"
+
+
+def with_digest_of(other, item):
+    """A certificate with its signature, whose digest is made that of another certificate."""
+    certificate, signature = read(canonical(f"({item})"))
+    signature[1] = hash_of(read(canonical(other)))
+    return f"{laid_out(certificate)} {laid_out(signature)}"
+
+
+def attempts(story):
+    """What is tried: a name, a remark, the sequence, the key that asks, the request, the moment, and what is wrong."""
+    bob, carol = story.bob, story.carol
+    good = signed(story.to_carol, bob)
+    longer = story.to_carol.replace("2026-06-30", "2027-06-30")
+    changed = signed(story.to_carol, bob, changed=longer)
+    yield "granted", "all is right", story.sequence(good), carol, READ, NOON, None
+    yield ("changed-octet", "the last certificate has one octet changed: 2026 is 2027",
+           story.sequence(changed), carol, READ, NOON, "item 6 DigestDiffers")
+    yield ("changed-octet-and-digest", "and the digest in its signature is made to fit",
+           story.sequence(with_digest_of(longer, changed)), carol, READ, NOON, "item 6 NotAccepted")
+    yield ("other-key", "the last certificate is signed by Carol's key, and said to be signed by Bob's",
+           story.sequence(signed(story.to_carol, carol, named=bob)), carol, READ, NOON, "item 6 NotAccepted")
+    yield ("other-signer", "the last certificate is signed by Carol's key, and said to be",
+           story.sequence(signed(story.to_carol, carol)), carol, READ, NOON, "item 6 SignerDiffers")
+    yield ("key-not-shown", "Alice's key is left out, which her certificates name by its hash",
+           story.sequence(good, keys=False), carol, READ, NOON, "item 1 KeyNotShown")
+    yield "too-late", "July has begun", story.sequence(good), carol, READ, "2026-07-01_00:00:00", "entry 1 WindowLacks"
+    yield "too-wide", "Carol wants to write", story.sequence(good), carol, WRITE, NOON, "entry 1 TagLacks"
+    yield "other-holder", "Bob shows the certificate that he gave to Carol", story.sequence(good), bob, READ, NOON, "entry 1 NotTheKey"
+
+
+def wanted_lines(wrong):
+    """What `explain` should say. A certificate that doesn't stand is one line; else there is a line for each entry.
+
+    Bob's entry is never what the certificates begin with: the first of them, item 2, is by Alice.
+    """
+    if wrong is not None and wrong.startswith("item"):
+        return f"{wrong}\n"
+    return f"{wrong or 'entry 1 grants'}\nentry 2 item 2 NotIssuer\n"
+
+
+def attempt(story, folder, name, remark, sequence, holder, request, moment, wrong):
+    """Asks, prints, and says whether the answers are as wanted."""
+    case, answer, verdicts = ask(story.access_list, sequence, holder.text, request, moment)
+    explained = spki("explain", case)[1].decode()
+    with open(os.path.join(folder, f"{name}.sexp"), "w", encoding="ascii") as file:
+        file.write(case)
+    print(f"\n{name}: {remark}")
+    print(f"  openssl: {', '.join('verifies' if good else 'does not verify' for good in verdicts)}")
+    print(f"  spki check: {answer.strip()}")
+    print("".join(f"  spki explain: {line}\n" for line in explained.splitlines()), end="")
+    wanted = ("no\n" if wrong else "yes entry 1\n", wanted_lines(wrong))
+    if (answer, explained) != wanted:
+        print(f"  WANTED: {wanted}")
+    return (answer, explained) == wanted
+
+
+def tell(story):
+    """The keys, the list and the certificates."""
+    for name, pair in (("Alice", story.alice), ("Bob", story.bob), ("Carol", story.carol)):
+        print(f"{name}'s key, made by openssl:\n{pair.text}\n")
+    print("The access list of the service, and the three certificates:")
+    for text in (story.access_list, story.to_builders, story.bob_is_builder, story.to_carol):
+        print(laid_out(read(canonical(text))))
+
+
+def main():
+    if len(sys.argv) > 1:
+        tools.SPKI = os.path.abspath(sys.argv[1])
+    for program in (tools.SPKI, "openssl"):
+        if shutil.which(program) is None:
+            sys.exit(f"{program} is not there")
+    with tempfile.TemporaryDirectory() as room:
+        folder = sys.argv[2] if len(sys.argv) > 2 else room
+        story = Story(room)
+        tell(story)
+        results = [attempt(story, folder, *each) for each in attempts(story)]
+    print(f"\n{sum(results)} passed, {len(results) - sum(results)} failed")
+    return 0 if all(results) else 1
+
+
+if __name__ == "__main__":
+    sys.exit(main())
