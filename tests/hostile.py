@@ -32,6 +32,7 @@ sys.path.append(BENCH)
 import memory  # noqa: E402
 
 MOST_REFUSED = 3000
+LIMITS = (12, 16, 24, 32, 64, 128)
 MOST_FAULTS = 20
 VALGRIND_STEP = 9
 MOST_ASKS = 2097152
@@ -256,6 +257,18 @@ def stands(program, example):
     return ends_so(program, f"{example} in {STACK} octets of stack", wanted, "limited", example.command, example.text, resource.RLIMIT_STACK, STACK)
 
 
+def in_less_memory(program, example):
+    """Runs that may take less and less memory in all: each answers as it should, or says that there was none."""
+    refusals, faults = 0, []
+    wanted = example.answer or program.run(example.command, example.text).answer
+    for mebibytes in LIMITS:
+        ended = program.limited(example.command, example.text, resource.RLIMIT_AS, mebibytes << 20)
+        refusals += ended.answer == MEMORY
+        if ended.answer not in (MEMORY, wanted):
+            faults.append(f"{example} in {mebibytes} MiB: {ended}")
+    return len(LIMITS), refusals, faults
+
+
 def fits(program, example):
     """One run of much work, within the time and the memory that there is."""
     ended = program.run(example.command, example.text)
@@ -342,6 +355,11 @@ def in_small_stack():
         yield stands, example
 
 
+def less_memory():
+    for what, command, text, _ in most_work():
+        yield in_less_memory, Example(what, command, text, None)
+
+
 def work():
     print(f"{'text':<40}{'command':<10}{'octets':>9}{'written':>9}{'time':>10}{'memory':>12}")
     for what, command, text, begins in most_work():
@@ -357,6 +375,7 @@ def under_valgrind():
 PARTS = {
     "a request for memory refused": lambda: memory_refused(""),
     "all requests from one on refused": lambda: memory_refused(".."),
+    "less and less memory": less_memory,
     "texts cut short": truncation,
     "reads and writes refused": ends_failing,
     "pipes and files that fail": pipes_and_files,
@@ -381,9 +400,9 @@ def main():
             faults = [fault for *_, found in results for fault in found]
             print("".join(f"{part}: {fault}\n" for fault in faults[:MOST_FAULTS]), end="")
             runs, refusals = (sum(result[place] for result in results) for place in (0, 1))
-            lines.append(f"{part:<36}{len(results):>8}{runs:>9}{refusals:>11}{len(faults):>8}{time.perf_counter() - begun:>9.1f} s")
+            lines.append(f"{part:<36}{len(results):>9}{runs:>9}{refusals:>11}{len(faults):>8}{time.perf_counter() - begun:>9.1f} s")
             failed += bool(faults)
-    print(f"{'part':<36}{'tasks':>8}{'runs':>9}{'refusals':>11}{'faults':>8}{'time':>11}", *lines, sep="\n")
+    print(f"{'part':<36}{'examples':>9}{'runs':>9}{'refusals':>11}{'faults':>8}{'time':>11}", *lines, sep="\n")
     print(f"{len(PARTS) - failed} passed, {failed} failed")
     return 1 if failed else 0
 
