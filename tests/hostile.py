@@ -1,0 +1,411 @@
+#!/usr/bin/env python3
+"""Runs the built program as one who means it harm would: each request for memory, each read and each write refused in turn, texts
+cut short, ends that fail, limits from both sides, a small stack, and the texts that ask for the most work.
+
+`refuse.c` beside this file is compiled by `cc` and preloaded, and refuses what it is told to. Build the program first (`rt run` in
+crates/spki). Prints each fault, and by part the examples, runs, refusals that were met and faults; then the time and memory of the
+largest texts. The last line counts the parts.
+Usage: tests/hostile.py [PROGRAM]
+"""
+import importlib.util
+import os
+import resource
+import shutil
+import sys
+import tempfile
+import time
+from concurrent.futures import ProcessPoolExecutor
+from dataclasses import dataclass
+from errno import EINTR, EIO
+from itertools import count
+
+import chains
+import limits
+import tables
+from limits import MOST_OCTETS, braced
+from refusing import PIPE, Program, built
+from tables import COMMANDS
+
+BENCH = os.path.join(tables.HERE, "..", "bench")
+EXAMPLES = os.path.join(tables.HERE, "..", "examples")
+sys.path.append(BENCH)
+import memory  # noqa: E402
+
+MOST_REFUSED = 3000
+LIMITS = (12, 16, 24, 32, 64, 128)
+MOST_FAULTS = 20
+VALGRIND_STEP = 9
+MOST_ASKS = 2097152
+MOST_SECONDS, MOST_MEMORY = 10, 256
+STACK = 256 * 1024
+MEMORY = (2, b"refused Memory\n", b"")
+SHORT = (2, b"refused form Short\n", b"")
+TOO_LONG = (2, b"refused form TooLong\n", b"")
+READ_FAULT = (3, b"", b"spki: read fault\n")
+WRITE_FAULT = (3, b"", b"spki: write fault\n")
+UNSAID_FAULT = (3, b"", b"")
+
+# What is written of the cases of examples/, and of some of chains.py: the status and the line. A command that the program doesn't
+# have is passed over.
+FILES = {
+    "first-run.csexp": {"check": "0 yes entry 1", "explain": "0 entry 1 grants", "reduce": "0 entry 1 (five (subject (public-key (test a))) (tag (ftp host)))"},
+    "shorter-request.csexp": {"check": "1 no", "explain": "1 entry 1 TagLacks"},
+    "second-entry.csexp": {"check": "0 yes entry 2"},
+    "no-entries.csexp": {"check": "1 no", "explain": "1 no entries", "reduce": "1 no entries"},
+    "bad-date.csexp": {"check": "2 refused at BadDate", "explain": "2 refused at BadDate", "reduce": "2 refused at BadDate"},
+    "delegation.sexp": {"check": "0 yes entry 1", "explain": "0 entry 1 grants", "reduce": "0 entry 1 (five (subject (public-key (test b))) (tag (*)))"},
+}
+CHAINS = {
+    "whole chain": {"explain": "0 entry 1 grants", "reduce": "0 entry 1 (five (subject (public-key (test d))) (propagate) (tag (*)))"},
+    "certificate 2: key not shown": {"explain": "1 item 3 KeyNotShown", "reduce": "1 item 3 KeyNotShown"},
+    "certificate 2: digest differs": {"explain": "1 item 3 DigestDiffers", "reduce": "1 item 3 DigestDiffers"},
+    "certificate 2: signer differs": {"explain": "1 item 3 SignerDiffers", "reduce": "1 item 3 SignerDiffers"},
+    "certificate 2: not accepted": {"explain": "1 item 3 NotAccepted", "reduce": "1 item 3 NotAccepted"},
+    "chain in another order": {"explain": "1 entry 1 item 1 NotIssuer", "reduce": "1 entry 1 item 1 NotIssuer"},
+    "entry that doesn't delegate": {"explain": "1 entry 1 item 1 NoDelegation", "reduce": "1 entry 1 item 1 NoDelegation"},
+    "windows: certificate from 2024-06-01_00:00:01": {"explain": "1 entry 1 item 1 NoValidity", "reduce": "1 entry 1 item 1 NoValidity"},
+    "too large": {"explain": "2 refused TooLarge", "reduce": "2 refused TooLarge"},
+}
+# Ends that the shell makes, and how a run on them ends. FILE has the text of a case.
+ENDS = [
+    ("< FILE > /dev/full", WRITE_FAULT), ("< FILE >&-", WRITE_FAULT), ("< FILE 1< /dev/null", WRITE_FAULT),
+    ("< FILE > /dev/full 2>&-", UNSAID_FAULT), ("< FILE > /dev/full 2> /dev/full", UNSAID_FAULT), ("< / 2>&-", UNSAID_FAULT),
+    ("< /", READ_FAULT), ("<&-", READ_FAULT), ("0> /dev/null", READ_FAULT), ("< / >&-", READ_FAULT), ("<&- >&-", READ_FAULT),
+    ("< /dev/null", SHORT), ("< /dev/zero", TOO_LONG),
+]
+
+
+@dataclass
+class Example:
+    """A command, a text and how a run on it ends; None where that isn't known beforehand."""
+
+    name: str
+    command: str
+    text: bytes
+    answer: tuple
+
+    def __str__(self):
+        return f"{self.command} on {self.name}"
+
+
+def answered(line):
+    """How a run ends that has a status and a line."""
+    status, words = line.split(" ", 1)
+    return int(status), words.encode() + b"\n", b""
+
+
+# ---- examples
+
+def of_files():
+    """Each command on the cases of examples/."""
+    for name, lines in FILES.items():
+        with open(os.path.join(EXAMPLES, name), "rb") as file:
+            text = file.read()
+        canonical = text if name.endswith(".csexp") else chains.canonical(text.decode())
+        yield Example(name, "canonical", text, (0, canonical, b""))
+        yield Example(name, "transport", text, (0, braced(canonical) + b"\n", b""))
+        yield Example(name, "advanced", text, None)
+        yield Example(name, "intersect", text, answered("2 refused intersect Shape"))
+        for command, line in lines.items():
+            yield Example(name, command, text, answered(line))
+
+
+def of_chains():
+    """The cases with certificates, and what other commands write of some."""
+    for name, command, text, status, answer in chains.rows():
+        yield Example(name, command, text, (status, answer, b""))
+        for other, line in CHAINS.get(name.removeprefix("chains.py: "), {}).items():
+            yield Example(name, other, text, answered(line))
+
+
+def of_tables():
+    """The rows of the tables beside this file."""
+    for name in sorted(os.listdir(tables.HERE)):
+        if name.endswith(".table"):
+            for place, command, text, status, answer in tables.rows_of(os.path.join(tables.HERE, name)):
+                yield Example(place, command, text, (status, answer, b""))
+
+
+def of_limits():
+    for name, command, text, status, answer in limits.rows():
+        yield Example(name, command, text, (status, answer, b""))
+
+
+def known(*sources, most=MOST_OCTETS * 2):
+    """The examples of some sources, of at most so many octets, whose command the program has."""
+    return [example for source in sources for example in source() if example.command in COMMANDS and len(example.text) <= most]
+
+
+def three_certificates():
+    """A case with three certificates in the three forms."""
+    text = chains.case(chains.entry("a"), *chains.chain())
+    canonical = chains.canonical(text)
+    return canonical, text.encode(), braced(canonical)
+
+
+def first_run():
+    """The first case of examples/ in the three forms."""
+    with open(os.path.join(EXAMPLES, "first-run.csexp"), "rb") as file:
+        canonical = file.read()
+    with open(os.path.join(EXAMPLES, "texts", "case.sexp"), "rb") as file:
+        return canonical, file.read().rstrip(), braced(canonical)
+
+
+def bench(name):
+    """A script of bench/, as a module."""
+    spec = importlib.util.spec_from_file_location(f"bench_{name}", os.path.join(BENCH, f"{name}.py"))
+    module = importlib.util.module_from_spec(spec)
+    spec.loader.exec_module(module)
+    return module
+
+
+def most_work():
+    """The texts that ask for the most work known, each with what its answer begins with."""
+    check, convert, intersect, long = map(bench, ("check", "convert", "intersect", "chains"))
+    for make in (check.many_entries, check.many_structures, check.many_certificates, check.many_members, check.lists_in_lists, check.one_string, check.no_value):
+        text, answer = make(MOST_OCTETS)
+        yield make.__name__, "check", text, answer
+    for make in (long.by_keys, long.by_hashes, long.through_names):
+        yield make.__name__, "check", make(long.LENGTHS[-1]), b"yes entry 1\n"
+    for what, text, answer in long.widest():
+        yield what, "check", text, answer
+    for make in convert.SHAPES:
+        for command in convert.FORMS:
+            yield make.__name__, command, make(MOST_OCTETS), b""
+    for make in (intersect.strings, intersect.long_strings, intersect.other_strings, intersect.prefixes):
+        yield make.__name__, "intersect", intersect.intersection(*make(999)), b"("
+    for what, make in intersect.WIDEST.items():
+        yield f"most {what}", "intersect", intersect.intersection(*make(332 if what == "lists" else 999)), b"("
+
+
+# ---- what is done with an example: each gives the number of runs and of refusals met, and the faults
+
+def wordless(ended):
+    """Whether a run ended before it had the words of its command, which is as if they were wrong."""
+    return ended.status == 2 and ended.out == b"" and ended.asked["read"] == 0
+
+
+def refused_in_turn(program, example, behind):
+    """The Nth request for memory is refused, and with `behind` all behind it, for N from 1 until none is met."""
+    refusals, faults = 0, []
+    wanted = example.answer or program.run(example.command, example.text).answer
+    for number in count(1):
+        ended = program.run(example.command, example.text, memory=f"{number}{behind}")
+        if not (ended.answer == MEMORY or wordless(ended) if ended.refused else ended.answer == wanted):
+            faults.append(f"{example}: request {number}{behind} refused: {ended}")
+        if not ended.refused:
+            return number, refusals, faults
+        refusals += ended.refused
+    return None
+
+
+def cut_short(program, command, text, places):
+    """Only so many octets of the text are there."""
+    faults = []
+    for length in places:
+        ended = program.run(command, text[:length])
+        if ended.answer != SHORT:
+            faults.append(f"{command} on {length} octets of {text[:16]!r}: {ended}")
+    return len(places), 0, faults
+
+
+def failing_in_turn(program, example, end, told, wanted):
+    """One octet is read and written at each ask, and the Nth is told an error; `wanted` gives how a run that meets it ends."""
+    refusals, faults = 0, []
+    for number in count(1):
+        ended = program.run(example.command, example.text, step=1, **{end: number, "with": told})
+        if ended.answer != (wanted(example, number) if ended.refused else example.answer):
+            faults.append(f"{example}: {end} {number} told {told}: {ended}")
+        if not ended.refused:
+            return number, refusals, faults
+        refusals += ended.refused
+    return None
+
+
+def read_fault(example, number):
+    return READ_FAULT
+
+
+def write_fault(example, number):
+    return 3, example.answer[1][:number - 1], WRITE_FAULT[2]
+
+
+def asked_again(example, number):
+    return example.answer
+
+
+def ended_early(example, number):
+    return SHORT if number <= len(example.text) else example.answer
+
+
+def interrupted_for_ever(program, example, end, asks, wanted):
+    """Each ask is told to ask again, until there were so many."""
+    ended = program.run(example.command, example.text, step=1, **{end: "1..", "with": EINTR})
+    right = ended.answer == wanted and ended.asked[end] == asks
+    return 1, ended.refused, [] if right else [f"{example}: {end} interrupted for ever: {ended}, {ended.asked[end]} asks"]
+
+
+def ends_so(program, what, wanted, call, *words):
+    """One run, which ends as it should."""
+    ended = getattr(program, call)(*words)
+    return 1, 0, [] if ended.answer == wanted else [f"{what}: {ended}"]
+
+
+def stands(program, example):
+    """One run with a small stack, which ends as one with a large one does."""
+    wanted = example.answer or program.run(example.command, example.text).answer
+    return ends_so(program, f"{example} in {STACK} octets of stack", wanted, "limited", example.command, example.text, resource.RLIMIT_STACK, STACK)
+
+
+def in_less_memory(program, example):
+    """Runs that may take less and less memory in all: each answers as it should, or says that there was none."""
+    refusals, faults = 0, []
+    wanted = example.answer or program.run(example.command, example.text).answer
+    for mebibytes in LIMITS:
+        ended = program.limited(example.command, example.text, resource.RLIMIT_AS, mebibytes << 20)
+        refusals += ended.answer == MEMORY
+        if ended.answer not in (MEMORY, wanted):
+            faults.append(f"{example} in {mebibytes} MiB: {ended}")
+    return len(LIMITS), refusals, faults
+
+
+def fits(program, example):
+    """One run of much work, within the time and the memory that there is."""
+    ended = program.run(example.command, example.text)
+    seconds, mebibytes = memory.used(program.path, example.command, example.text)
+    print(f"{example.name:<40}{example.command:<10}{len(example.text):>9}{len(ended.out):>9}{seconds:>8.2f} s{mebibytes:>8.1f} MiB", flush=True)
+    right = ended.status in (0, 1, 2) and ended.out.startswith(example.answer)
+    within = seconds <= MOST_SECONDS and mebibytes <= MOST_MEMORY
+    return 1, 0, [] if right and within else [f"{example}: {ended}, {seconds:.2f} s, {mebibytes:.1f} MiB"]
+
+
+def checked(program, example, plan):
+    """One run under valgrind, which finds no memory lost, and no read or write where none may be."""
+    words = ["valgrind", "-q", "--leak-check=full", "--show-leak-kinds=definite", "--errors-for-leak-kinds=definite", "--error-exitcode=99"]
+    wanted = example.answer or program.run(example.command, example.text).answer
+    ended = program.run(example.command, example.text, before=words, **plan)
+    right = ended.answer == MEMORY or wordless(ended) if ended.refused else ended.answer == wanted
+    return 1, ended.refused, [] if right else [f"{example} under valgrind with {plan}: {ended}"]
+
+
+def attempted(do, program, *words):
+    """What a task gives; where it can't go on that is a fault."""
+    try:
+        return do(program, *words)
+    except OSError as fault:
+        return 1, 0, [f"{words[0]}: {fault}"]
+
+
+# ---- the parts: the tasks of each, as functions and their words
+
+def memory_refused(behind):
+    for example in known(of_files, of_chains, of_tables, most=MOST_REFUSED):
+        yield refused_in_turn, example, behind
+
+
+def truncation():
+    commands = [(command, text) for command in COMMANDS for text in first_run()]
+    for command, text in commands + [("check", text) for text in three_certificates()]:
+        for start in range(0, len(text), 100):
+            yield cut_short, command, text, range(start, min(start + 100, len(text)))
+    for text in three_certificates():
+        for more in (b"", b" ", b" \t\v\f\r\n"):
+            yield ends_so, "whitespace behind a case", answered("0 yes entry 1"), "run", "check", text + more
+
+
+def ends_failing():
+    whole = Example("first-run.csexp", "check", first_run()[0], answered("0 yes entry 1"))
+    short = Example("a short text", "canonical", b"(abc def)", (0, b"(3:abc3:def)", b""))
+    for example in (whole, short):
+        for told, wanted in ((EIO, read_fault), (EINTR, asked_again), (0, ended_early)):
+            yield failing_in_turn, example, "read", told, wanted
+        for told, wanted in ((EIO, write_fault), (EINTR, asked_again), (0, write_fault)):
+            yield failing_in_turn, example, "write", told, wanted
+    yield interrupted_for_ever, whole, "read", MOST_ASKS, READ_FAULT
+    yield interrupted_for_ever, whole, "write", MOST_ASKS + 12, WRITE_FAULT
+    for command in COMMANDS:
+        for words, wanted in ENDS:
+            words = words.replace("FILE", os.path.join(EXAMPLES, "first-run.csexp"))
+            yield ends_so, f"{command} {words}", wanted, "redirected", command, words
+
+
+def pipes_and_files():
+    long = b"(" + b"3:abc" * 200000 + b")"
+    whole = first_run()[0]
+    for dies in (False, True):
+        for command in COMMANDS:
+            yield ends_so, f"{command} with no reader", WRITE_FAULT, "reader_gone", command, whole, 0, dies
+        yield ends_so, "a reader that leaves", (3, long[:5], WRITE_FAULT[2]), "reader_gone", "canonical", long, 5, dies
+    for text in (*first_run(), *three_certificates()):
+        yield ends_so, "one octet at a time", answered("0 yes entry 1"), "in_packets", "check", text
+    for most in range(12):
+        wanted = 3, b"yes entry 1\n"[:most], WRITE_FAULT[2]
+        yield ends_so, f"a file of at most {most} octets", wanted, "limited", "check", whole, resource.RLIMIT_FSIZE, most
+    yield ends_so, "a reader that can't wait", READ_FAULT, "without_waiting", "check", b""
+    yield ends_so, "a writer that can't wait", (3, long[:PIPE], WRITE_FAULT[2]), "without_waiting", "canonical", long
+
+
+def at_limits():
+    for example in known(of_limits):
+        yield ends_so, example, example.answer, "run", example.command, example.text
+
+
+def in_small_stack():
+    for example in known(of_limits) + [Example(what, command, text, None) for what, command, text, _ in most_work()]:
+        yield stands, example
+
+
+def less_memory():
+    for what, command, text, _ in most_work():
+        yield in_less_memory, Example(what, command, text, None)
+
+
+def work():
+    print(f"{'text':<40}{'command':<10}{'octets':>9}{'written':>9}{'time':>10}{'memory':>12}")
+    for what, command, text, begins in most_work():
+        yield fits, Example(what, command, text, begins)
+
+
+def under_valgrind():
+    for example in known(of_files, of_chains)[::VALGRIND_STEP] if shutil.which("valgrind") else ():
+        for number in ("0", "5", "40.."):
+            yield checked, example, {"memory": number}
+
+
+PARTS = {
+    "a request for memory refused": lambda: memory_refused(""),
+    "all requests from one on refused": lambda: memory_refused(".."),
+    "less and less memory": less_memory,
+    "texts cut short": truncation,
+    "reads and writes refused": ends_failing,
+    "pipes and files that fail": pipes_and_files,
+    "limits from both sides": at_limits,
+    "a small stack": in_small_stack,
+    "under valgrind": under_valgrind,
+    "the most work": work,
+}
+
+
+def main():
+    path = os.path.abspath(sys.argv[1] if len(sys.argv) > 1 else tables.PROGRAM)
+    if not os.access(path, os.X_OK):
+        sys.exit(f"{path} is not there: build it by rt run in crates/spki")
+    lines, failed = [], 0
+    with tempfile.TemporaryDirectory() as folder, ProcessPoolExecutor() as pool:
+        program = Program(path, built(folder))
+        for part, tasks in PARTS.items():
+            begun = time.perf_counter()
+            started = [pool.submit(attempted, do, program, *words) for do, *words in tasks()]
+            results = [task.result() for task in started]
+            faults = [fault for *_, found in results for fault in found]
+            print("".join(f"{part}: {fault}\n" for fault in faults[:MOST_FAULTS]), end="")
+            runs, refusals = (sum(result[place] for result in results) for place in (0, 1))
+            lines.append(f"{part:<36}{len(results):>9}{runs:>9}{refusals:>11}{len(faults):>8}{time.perf_counter() - begun:>9.1f} s")
+            failed += bool(faults)
+    print(f"{'part':<36}{'examples':>9}{'runs':>9}{'refusals':>11}{'faults':>8}{'time':>11}", *lines, sep="\n")
+    print(f"{len(PARTS) - failed} passed, {failed} failed")
+    return 1 if failed else 0
+
+
+if __name__ == "__main__":
+    sys.exit(main())
