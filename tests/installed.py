@@ -3,7 +3,7 @@
 
 The manual must be shown without a warning, which is left out where there is no `man`, and name every fault that a refusal in the
 tables beside this file names. Prints what fails; the last line counts.
-Usage: tests/installed.py
+Usage: tests/installed.py [PROGRAM]        a program that is built already; else install.sh builds it
 """
 import os
 import re
@@ -52,7 +52,7 @@ def names_every_fault(page):
 
 def main():
     with tempfile.TemporaryDirectory() as prefix:
-        status, said = output_of([os.path.join(TOP, "install.sh"), prefix])
+        status, said = output_of([os.path.join(TOP, "install.sh"), prefix, *sys.argv[1:2]])
         page = os.path.join(prefix, "share", "man", "man1", "spki.1")
         if status != 0 or not os.path.exists(page):
             print(f"{said}\ninstall.sh ended with status {status}\n0 passed, 1 failed")

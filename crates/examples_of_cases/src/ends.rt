@@ -10,12 +10,14 @@ use std::test::Fail;
 /// More octets than an end is asked to give or take.
 const ALL: usize = 2_097_152;
 
-const COMMANDS: [Command; 5] = [
+const COMMANDS: [Command; 7] = [
     Command::Canonical,
     Command::Advanced,
     Command::Transport,
     Command::Intersect,
+    Command::Reduce,
     Command::Check,
+    Command::Explain,
 ];
 
 fn dripping(text: &[u8], room: usize, past: Past) -> Dripping<'_> {
