@@ -13,7 +13,7 @@ from check import LIMIT_MEMORY, LIMIT_RATIO, PROGRAM, STAR, group, key, run, str
 from memory import peak
 
 LENGTHS = [94, 375, 1500]
-RUNS = 5
+RUNS = 30
 LIMIT_SECONDS = 10.0
 MOST_OCTETS = 1024 * 1024
 NOW = string("2024-01-01_00:00:00")
@@ -81,9 +81,11 @@ def grown():
     worst = 0.0
     print(f"{'chain':<16}" + "".join(f"{length:>9} certs" for length in LENGTHS) + "   ratios      peak")
     for make in (by_keys, by_hashes, through_names):
-        times = [min(run(make(length), b"yes entry 1\n") for _ in range(RUNS)) for length in LENGTHS]
+        texts = [make(length) for length in LENGTHS]
+        rounds = [[run(text, b"yes entry 1\n") for text in texts] for _ in range(RUNS)]
+        times = [min(taken) for taken in zip(*rounds)]
         ratios = [after / before for before, after in zip(times, times[1:])]
-        memory = peak(PROGRAM, "check", make(LENGTHS[-1]))
+        memory = peak(PROGRAM, "check", texts[-1])
         print(f"{make.__name__:<16}" + "".join(f"{took * 1000:>12.1f} ms" for took in times)
               + "   " + " ".join(f"{ratio:.2f}" for ratio in ratios) + f"   {memory:.1f} MiB")
         worst = max([worst] + ratios)
