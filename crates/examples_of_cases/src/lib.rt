@@ -14,6 +14,8 @@ mod ends;
 #[cfg(test)]
 mod evidence;
 #[cfg(test)]
+mod explanations;
+#[cfg(test)]
 mod fault_texts;
 #[cfg(test)]
 mod inner_ends;

@@ -49,7 +49,7 @@ impl Verifier for AcceptsAll {
 }
 
 /// Has no memory.
-struct OutOfMemory;
+pub(crate) struct OutOfMemory;
 
 impl Verifier for OutOfMemory {
     ghost accepted = { λ verifier key message value. ⊥ };

@@ -1,7 +1,7 @@
 //! The words of a command line.
 
 use spki_guard::{Command, WordsFault};
-use std::alloc::{AllocError, Global};
+use std::alloc::Global;
 use std::test::Fail;
 
 const NAMED: &[(&str, Command)] = &[
@@ -28,28 +28,28 @@ const HELPED: &[&[&str]] = &[
 ];
 
 /// What words name.
-fn asked(alloc: Global, words: &[&str]) -> Result<Command, WordsFault> {
+fn asked(alloc: Global, words: &[&str]) -> Result<Result<Command, WordsFault>, Fail> {
     let mut owned = Vec::new(alloc);
     for word in words {
-        owned.push(String::from_str(alloc, word)?)?;
+        owned.push(word.to_string(alloc)?)?;
     }
-    spki_guard::command_of(alloc, &owned)
+    Ok(spki_guard::command_of(alloc, &owned))
 }
 
 #[test]
 fn command_of(rt: HostRuntime) -> Result<(), Fail> {
     let alloc = rt.alloc();
     for (word, command) in NAMED {
-        assert!(rt; matches!(asked(alloc, &["spki", word]), Ok(found) if found == *command));
+        assert!(rt; matches!(asked(alloc, &["spki", word])?, Ok(found) if found == *command));
     }
     for words in REFUSED {
         assert!(rt;
-            matches!(asked(alloc, words), Err(WordsFault::Refused(text)) if text.as_str().starts_with("error: "))
+            matches!(asked(alloc, words)?, Err(WordsFault::Refused(text)) if text.as_str().starts_with("error: "))
         );
     }
     for words in HELPED {
         assert!(rt;
-            matches!(asked(alloc, words), Err(WordsFault::Help(text)) if text.as_str().contains("Usage: spki"))
+            matches!(asked(alloc, words)?, Err(WordsFault::Help(text)) if text.as_str().contains("Usage: spki"))
         );
     }
     Ok(())
