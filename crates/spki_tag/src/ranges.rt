@@ -164,7 +164,11 @@ fn values_of<'d, 'a>(
 ) -> Result<Vec<Node<'d, 'a>>, AllocError>
     ensures { IfOk result (λ values. values.items ≡ members.entry) }
 {
-    members.collect(alloc)
+    let mut values = Vec::new(alloc);
+    for member in members {
+        values.push(member)?;
+    }
+    Ok(values)
 }
 
 /// Reads what is behind a range's ordering.
