@@ -32,6 +32,7 @@ sys.path.append(BENCH)
 import memory  # noqa: E402
 
 MOST_REFUSED = 3000
+ALL_REQUESTS, SOME_REQUESTS = 1000, 100
 LIMITS = (12, 16, 24, 32, 64, 128)
 MOST_FAULTS = 20
 VALGRIND_STEP = 9
@@ -186,17 +187,18 @@ def wordless(ended):
 
 
 def refused_in_turn(program, example, behind):
-    """The Nth request for memory is refused, and with `behind` all behind it, for N from 1 until none is met."""
-    refusals, faults = 0, []
-    wanted = example.answer or program.run(example.command, example.text).answer
-    for number in count(1):
+    """The Nth request for memory is refused, and with `behind` all behind it, for N from 1 until no run meets it. Where there are
+    very many requests it is some of these."""
+    whole = program.run(example.command, example.text)
+    asked, refusals, faults = whole.asked["memory"], 0, []
+    numbers = [*range(1, asked + 1, 1 if asked <= ALL_REQUESTS else asked // SOME_REQUESTS), asked + 1]
+    for number in numbers:
         ended = program.run(example.command, example.text, memory=f"{number}{behind}")
-        if not (ended.answer == MEMORY or wordless(ended) if ended.refused else ended.answer == wanted):
-            faults.append(f"{example}: request {number}{behind} refused: {ended}")
-        if not ended.refused:
-            return number, refusals, faults
+        right = ended.answer == MEMORY or wordless(ended) if ended.refused else ended.answer == (example.answer or whole.answer)
+        if not right or bool(ended.refused) != (number <= asked):
+            faults.append(f"{example}: request {number}{behind} of {asked} refused: {ended}")
         refusals += ended.refused
-    return None
+    return len(numbers) + 1, refusals, faults
 
 
 def cut_short(program, command, text, places):
@@ -281,7 +283,8 @@ def fits(program, example):
 
 def checked(program, example, plan):
     """One run under valgrind, which finds no memory lost, and no read or write where none may be."""
-    words = ["valgrind", "-q", "--leak-check=full", "--show-leak-kinds=definite", "--errors-for-leak-kinds=definite", "--error-exitcode=99"]
+    leaks = ["--leak-check=full", "--show-leak-kinds=definite", "--errors-for-leak-kinds=definite", "--error-exitcode=99"]
+    words = ["valgrind", "-q", "--soname-synonyms=somalloc=nouserintercepts", *leaks]
     wanted = example.answer or program.run(example.command, example.text).answer
     ended = program.run(example.command, example.text, before=words, **plan)
     right = ended.answer == MEMORY or wordless(ended) if ended.refused else ended.answer == wanted
@@ -398,7 +401,7 @@ def main():
             started = [pool.submit(attempted, do, program, *words) for do, *words in tasks()]
             results = [task.result() for task in started]
             faults = [fault for *_, found in results for fault in found]
-            print("".join(f"{part}: {fault}\n" for fault in faults[:MOST_FAULTS]), end="")
+            print("".join(f"{part}: {fault}\n" for fault in faults[:MOST_FAULTS]), end="", flush=True)
             runs, refusals = (sum(result[place] for result in results) for place in (0, 1))
             lines.append(f"{part:<36}{len(results):>9}{runs:>9}{refusals:>11}{len(faults):>8}{time.perf_counter() - begun:>9.1f} s")
             failed += bool(faults)

@@ -42,7 +42,7 @@ def lengths():
         yield name, "advanced", text, (0, b"x" * len(canonical.split(b":")[1]) + b"\n")
         yield name, "transport", text, (0, braced(canonical) + b"\n")
         for command, shape in STRUCTURES.items():
-            yield name, command, text, refused(shape)
+            yield name, command, text, refused(shape if len(canonical) <= MOST_OCTETS else "form TooLong")
         for more in (1, 2, MOST_OCTETS):
             text = one_string(MOST_OCTETS + more, form)[0]
             for command in (*CONVERSIONS, *STRUCTURES):

@@ -4,6 +4,7 @@
  *                                                    output; with N.. each one behind it too
  *   REFUSE_WITH=E    what a refused read or write is told: the error E, or with 0 that it took no octet
  *   REFUSE_STEP=1    a read or a write takes one octet at most
+ *   REFUSE_IN=WORD   where the program was started by another word it is left alone
  *
  * At the end it writes to descriptor 3 how many were asked and refused of each. A program that hangs is ended by SIGALRM.
  */
@@ -105,6 +106,8 @@ ssize_t write(int file, const void *octets, size_t most) {
 
 /* Stands round the program's main. */
 static int counted(int count, char **words, char **environment) {
+    const char *word = getenv("REFUSE_IN");
+    if (word != NULL && (count == 0 || strcmp(words[0], word) != 0)) return program(count, words, environment);
     plan(&memory, "REFUSE_MEMORY");
     plan(&reads, "REFUSE_READ");
     plan(&writes, "REFUSE_WRITE");

@@ -74,7 +74,7 @@ class Program:
 
     def run(self, command, text, before=(), **plan):
         """A run in which what the plan names is refused. `before` is a program that starts it, with its words."""
-        environment = {"LD_PRELOAD": self.library, "PATH": os.environ["PATH"]}
+        environment = {"LD_PRELOAD": self.library, "REFUSE_IN": self.path, "PATH": os.environ["PATH"]}
         environment |= {f"REFUSE_{name.upper()}": str(value) for name, value in plan.items()}
         ends = [os.pipe() for _ in range(3)]
         places = [(source(text), 0)] + [(writer, place) for place, (_, writer) in enumerate(ends, 1)]
