@@ -40,6 +40,7 @@ MOST_ASKS = 2097152
 MOST_SECONDS, MOST_MEMORY = 10, 256
 STACK = 256 * 1024
 MEMORY = (2, b"refused Memory\n", b"")
+WORDS_REFUSED = "no-entries.csexp"
 SHORT = (2, b"refused form Short\n", b"")
 TOO_LONG = (2, b"refused form TooLong\n", b"")
 READ_FAULT = (3, b"", b"spki: read fault\n")
@@ -181,20 +182,19 @@ def most_work():
 
 # ---- what is done with an example: each gives the number of runs and of refusals met, and the faults
 
-def wordless(ended):
-    """Whether a run ended before it had the words of its command, which is as if they were wrong."""
-    return ended.status == 2 and ended.out == b"" and ended.asked["read"] == 0
-
-
 def refused_in_turn(program, example, behind):
-    """The Nth request for memory is refused, and with `behind` all behind it, for N from 1 until no run meets it. Where there are
-    very many requests it is some of these."""
+    """The Nth request for memory is refused, and with `behind` all behind it, until no run meets it. Where there are very many
+    requests it is some of these. Those for the words of the command line, which are the same on each text, are refused on one
+    example of each command alone; clap may do without what it is refused there."""
     whole = program.run(example.command, example.text)
+    answer = example.answer or whole.answer
     asked, refusals, faults = whole.asked["memory"], 0, []
-    numbers = [*range(1, asked + 1, 1 if asked <= ALL_REQUESTS else asked // SOME_REQUESTS), asked + 1]
+    first = 1 if example.name == WORDS_REFUSED else whole.before_reads + 1
+    most = asked + 1 - first
+    numbers = [*range(first, asked + 1, 1 if most <= ALL_REQUESTS else most // SOME_REQUESTS), asked + 1]
     for number in numbers:
         ended = program.run(example.command, example.text, memory=f"{number}{behind}")
-        right = ended.answer == MEMORY or wordless(ended) if ended.refused else ended.answer == (example.answer or whole.answer)
+        right = ended.answer == MEMORY or (number <= whole.before_reads and ended.answer == answer) if ended.refused else ended.answer == answer
         if not right or bool(ended.refused) != (number <= asked):
             faults.append(f"{example}: request {number}{behind} of {asked} refused: {ended}")
         refusals += ended.refused
@@ -287,7 +287,7 @@ def checked(program, example, plan):
     words = ["valgrind", "-q", "--soname-synonyms=somalloc=nouserintercepts", *leaks]
     wanted = example.answer or program.run(example.command, example.text).answer
     ended = program.run(example.command, example.text, before=words, **plan)
-    right = ended.answer == MEMORY or wordless(ended) if ended.refused else ended.answer == wanted
+    right = ended.answer in (MEMORY, wanted) if ended.refused else ended.answer == wanted
     return 1, ended.refused, [] if right else [f"{example} under valgrind with {plan}: {ended}"]
 
 

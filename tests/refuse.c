@@ -6,7 +6,8 @@
  *   REFUSE_STEP=1    a read or a write takes one octet at most
  *   REFUSE_IN=WORD   where the program was started by another word it is left alone
  *
- * At the end it writes to descriptor 3 how many were asked and refused of each. A program that hangs is ended by SIGALRM.
+ * At the end it writes to descriptor 3 how many were asked and refused of each, and how many requests for memory came before
+ * the first read. A program that hangs is ended by SIGALRM.
  */
 #define _GNU_SOURCE
 #include <dlfcn.h>
@@ -29,6 +30,7 @@ struct calls {
 typedef int entry(int, char **, char **);
 
 static struct calls memory, reads, writes;
+static unsigned long before_reads;
 static int counting, told, single;
 static entry *program;
 
@@ -94,6 +96,7 @@ static ssize_t refused_call(void) {
 
 ssize_t read(int file, void *octets, size_t most) {
     NEXT(ssize_t (*)(int, void *, size_t), "read");
+    if (file == 0 && reads.asked == 0) before_reads = memory.asked;
     if (file == 0 && refuses(&reads)) return refused_call();
     return next(file, octets, file == 0 && single && most > 1 ? 1 : most);
 }
@@ -127,7 +130,7 @@ int __libc_start_main(entry *main, int count, char **words, void (*init)(void), 
 __attribute__((destructor)) static void report(void) {
     char line[200];
     counting = 0;
-    int length = snprintf(line, sizeof line, "%lu %lu %lu %lu %lu %lu\n", memory.asked, memory.refused, reads.asked,
-                          reads.refused, writes.asked, writes.refused);
+    int length = snprintf(line, sizeof line, "%lu %lu %lu %lu %lu %lu %lu\n", memory.asked, memory.refused, reads.asked,
+                          reads.refused, writes.asked, writes.refused, before_reads);
     if (write(3, line, length) != length) return;
 }

@@ -13,13 +13,15 @@ NAMES = ("memory", "read", "write")
 
 @dataclass
 class Ended:
-    """How a run ended, and how many requests for memory, reads and writes were asked and refused."""
+    """How a run ended, how many requests for memory, reads and writes were asked and refused, and how many of those for memory
+    came before the first read."""
 
     status: int
     out: bytes
     err: bytes
     asked: dict
     refused: int
+    before_reads: int = 0
 
     @property
     def answer(self):
@@ -83,9 +85,9 @@ class Program:
         for end, _ in places:
             os.close(end)
         out, err, report = (drained(reader) for reader, _ in ends)
-        counts = [int(word) for word in report.split()[:6]] or [0] * 6
+        *counts, before_reads = [int(word) for word in report.split()[:7]] or [0] * 7
         status = os.waitstatus_to_exitcode(os.waitpid(child, 0)[1])
-        return Ended(status, out, err, dict(zip(NAMES, counts[::2])), sum(counts[1::2]))
+        return Ended(status, out, err, dict(zip(NAMES, counts[::2])), sum(counts[1::2]), before_reads)
 
     def started(self, command, reader, writer, **how):
         """The program, started on ends of its own, of which the reader is closed here."""

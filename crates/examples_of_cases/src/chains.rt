@@ -1,4 +1,4 @@
-//! Cases with certificates, as runs of `check`.
+//! Cases with certificates, as runs of `reduce`, `check` and `explain`.
 
 use crate::runs::replies;
 use hex::encode as hex_of;
@@ -43,25 +43,41 @@ enum Item {
     Other(&'static str),
 }
 
-/// Entries, the items of a sequence, the key that asks, and how `check` ends, with which line.
-type Row = (
-    &'static str,
-    &'static [Item],
-    &'static str,
-    Status,
-    &'static str,
-);
+/// Entries, the items of a sequence, the key that asks, and what is written of it.
+type Row = (&'static str, &'static [Item], &'static str, Replies);
+
+/// What the three commands on cases write.
+#[derive(Clone, Copy)]
+enum Replies {
+    /// What `reduce` and `explain` write of a case that is granted by the entry with the line of `check`.
+    Yes(&'static str, &'static str, &'static str),
+    /// What `reduce` writes, with its status, and `explain`, of a case that isn't granted.
+    No(Status, &'static str, &'static str),
+    /// The line by which all three refuse it.
+    Refused(&'static str),
+}
 
 use Item::{Other, Signed, Unaccepted};
+use Replies::{No, Refused, Yes};
+
+const B_MAY_ALL: &str = "entry 1 (five (subject (public-key (test b))) (tag (*)))\n";
 
 const DELEGATION: &[Row] = &[
-    (ALL, &[Signed(C1, KA)], KB, Status::Done, "yes entry 1\n"),
+    (
+        ALL,
+        &[Signed(C1, KA)],
+        KB,
+        Yes("yes entry 1\n", B_MAY_ALL, "entry 1 grants\n"),
+    ),
     (
         ALL,
         &[Signed(C1, KA), Signed(C2, KB)],
         KC,
-        Status::No,
-        "no\n",
+        No(
+            Status::No,
+            "entry 1 item 3 NoDelegation\n",
+            "entry 1 item 3 NoDelegation\n",
+        ),
     ),
 ];
 
@@ -70,15 +86,21 @@ const LINKED_NAMES: &[Row] = &[
         "(entry (name (public-key (test a)) friends bob) (tag (*)))",
         &[Signed(N1, KA), Signed(N2, KB)],
         KC,
-        Status::Done,
-        "yes entry 1\n",
+        Yes(
+            "yes entry 1\n",
+            "entry 1 (five (subject (public-key (test c))) (tag (*)))\n",
+            "entry 1 grants\n",
+        ),
     ),
     (
         "(entry (name (public-key (test a)) friends bob) (tag (*)))",
         &[Signed(N2, KB), Signed(N1, KA)],
         KC,
-        Status::No,
-        "no\n",
+        No(
+            Status::No,
+            "entry 1 item 1 NotTheName\n",
+            "entry 1 item 1 NotTheName\n",
+        ),
     ),
 ];
 
@@ -87,13 +109,45 @@ const TWO: &str =
     "(entry (public-key (test c)) (tag (*))) (entry (public-key (test a)) (propagate) (tag (*)))";
 
 const SECOND_ENTRY: &[Row] = &[
-    (TWO, &[], KA, Status::Done, "yes entry 2\n"),
-    (TWO, &[Signed(C1, KA)], KA, Status::No, "no\n"),
+    (
+        TWO,
+        &[],
+        KA,
+        Yes(
+            "yes entry 2\n",
+            "entry 1 (five (subject (public-key (test c))) (tag (*)))\nentry 2 (five (subject (public-key (test a))) (propagate) (tag (*)))\n",
+            "entry 1 NotTheKey\nentry 2 grants\n",
+        ),
+    ),
+    (
+        TWO,
+        &[Signed(C1, KA)],
+        KA,
+        No(
+            Status::Done,
+            "entry 1 item 1 NotIssuer\nentry 2 (five (subject (public-key (test b))) (tag (*)))\n",
+            "entry 1 item 1 NotIssuer\nentry 2 NotTheKey\n",
+        ),
+    ),
 ];
 
 const NOT_ACCEPTED: &[Row] = &[
-    (ALL, &[Unaccepted(C1, KA)], KB, Status::No, "no\n"),
-    (ALL, &[Signed(C1, KB)], KB, Status::No, "no\n"),
+    (
+        ALL,
+        &[Unaccepted(C1, KA)],
+        KB,
+        No(Status::No, "item 1 NotAccepted\n", "item 1 NotAccepted\n"),
+    ),
+    (
+        ALL,
+        &[Signed(C1, KB)],
+        KB,
+        No(
+            Status::No,
+            "item 1 SignerDiffers\n",
+            "item 1 SignerDiffers\n",
+        ),
+    ),
 ];
 
 const SEQUENCE_ORDER: &[Row] = &[
@@ -101,22 +155,19 @@ const SEQUENCE_ORDER: &[Row] = &[
         ALL,
         &[Other(C1)],
         KB,
-        Status::Refused,
-        "refused sequence 1 UnsignedCert\n",
+        Refused("refused sequence 1 UnsignedCert\n"),
     ),
     (
         ALL,
         &[Other("(do hash sha1)"), Signed(C1, KA)],
         KB,
-        Status::Done,
-        "yes entry 1\n",
+        Yes("yes entry 1\n", B_MAY_ALL, "entry 1 grants\n"),
     ),
     (
         ALL,
         &[Other("(do sign)")],
         KB,
-        Status::Refused,
-        "refused sequence 1 UnknownOp\n",
+        Refused("refused sequence 1 UnknownOp\n"),
     ),
 ];
 
@@ -125,15 +176,47 @@ const WINDOWS: &[Row] = &[
         "(entry (public-key (test a)) (tag (*)) (not-after \"2024-01-01_00:00:00\"))",
         &[],
         KA,
-        Status::Done,
-        "yes entry 1\n",
+        Yes(
+            "yes entry 1\n",
+            "entry 1 (five (subject (public-key (test a))) (tag (*)) (valid (not-after \"2024-01-01_00:00:00\")))\n",
+            "entry 1 grants\n",
+        ),
     ),
     (
         "(entry (public-key (test a)) (tag (*)) (not-after \"2023-12-31_23:59:59\"))",
         &[],
         KA,
-        Status::No,
-        "no\n",
+        No(
+            Status::Done,
+            "entry 1 (five (subject (public-key (test a))) (tag (*)) (valid (not-after \"2023-12-31_23:59:59\")))\n",
+            "entry 1 WindowLacks\n",
+        ),
+    ),
+    (
+        "(entry (public-key (test a)) (propagate) (tag (*)) (not-after \"2024-06-01_00:00:00\"))",
+        &[Signed(
+            "(cert (issuer (public-key (test a))) (subject (public-key (test b))) (tag (*)) (valid (not-before \"2024-06-01_00:00:00\")))",
+            KA,
+        )],
+        KB,
+        No(
+            Status::Done,
+            "entry 1 (five (subject (public-key (test b))) (tag (*)) (valid (not-before \"2024-06-01_00:00:00\") (not-after \"2024-06-01_00:00:00\")))\n",
+            "entry 1 WindowLacks\n",
+        ),
+    ),
+    (
+        "(entry (public-key (test a)) (propagate) (tag (*)) (not-after \"2024-06-01_00:00:00\"))",
+        &[Signed(
+            "(cert (issuer (public-key (test a))) (subject (public-key (test b))) (tag (*)) (valid (not-before \"2024-06-01_00:00:01\")))",
+            KA,
+        )],
+        KB,
+        No(
+            Status::No,
+            "entry 1 item 1 NoValidity\n",
+            "entry 1 item 1 NoValidity\n",
+        ),
     ),
 ];
 
@@ -150,8 +233,7 @@ const RELATIVE_NAME: &[Row] = &[(
         ),
     ],
     KB,
-    Status::Done,
-    "yes entry 1\n",
+    Yes("yes entry 1\n", B_MAY_ALL, "entry 1 grants\n"),
 )];
 
 const REDUCED_SETS: &[Row] = &[
@@ -162,8 +244,11 @@ const REDUCED_SETS: &[Row] = &[
             KA,
         )],
         KB,
-        Status::Done,
-        "yes entry 1\n",
+        Yes(
+            "yes entry 1\n",
+            "entry 1 (five (subject (public-key (test b))) (tag (* set read (ftp))))\n",
+            "entry 1 grants\n",
+        ),
     ),
     (
         "(entry (public-key (test a)) (propagate) (tag (* set read write)))",
@@ -172,8 +257,11 @@ const REDUCED_SETS: &[Row] = &[
             KA,
         )],
         KB,
-        Status::No,
-        "no\n",
+        No(
+            Status::No,
+            "entry 1 item 1 NoTag\n",
+            "entry 1 item 1 NoTag\n",
+        ),
     ),
 ];
 
@@ -239,7 +327,7 @@ pub(crate) fn case_of(
 
 /// The case of a row.
 fn case_in(alloc: Global, row: &Row) -> Result<String, Fail> {
-    let (entries, items, key, _, _) = row;
+    let (entries, items, key, _) = row;
     let mut sequence = String::new(alloc);
     let mut rows = String::new(alloc);
     for item in items.iter() {
@@ -249,12 +337,34 @@ fn case_in(alloc: Global, row: &Row) -> Result<String, Fail> {
     case_of(alloc, entries, &rows, &sequence, key, "")
 }
 
-/// Runs `check` on the case of each row.
+/// How a command ends on a case, and what it writes.
+fn reply(command: Command, wanted: Replies) -> (Status, &'static str) {
+    match (command, wanted) {
+        (Command::Reduce, Yes(_, lines, _)) => (Status::Done, lines),
+        (Command::Explain, Yes(_, _, lines)) => (Status::Done, lines),
+        (_, Yes(line, _, _)) => (Status::Done, line),
+        (Command::Reduce, No(status, lines, _)) => (status, lines),
+        (Command::Explain, No(_, _, lines)) => (Status::No, lines),
+        (_, No(_, _, _)) => (Status::No, "no\n"),
+        (_, Refused(line)) => (Status::Refused, line),
+    }
+}
+
+/// Runs the commands on cases on that of each row.
 fn all_decided(rt: &impl Abort, alloc: Global, rows: &[Row]) -> Result<(), Fail> {
     for row in rows {
         let text = case_in(alloc, row)?;
-        let line = row.4.as_bytes();
-        replies(rt, alloc, Command::Check, text.as_bytes(), row.3, line);
+        for command in [Command::Reduce, Command::Check, Command::Explain] {
+            let (status, lines) = reply(command, row.3);
+            replies(
+                rt,
+                alloc,
+                command,
+                text.as_bytes(),
+                status,
+                lines.as_bytes(),
+            );
+        }
     }
     Ok(())
 }

@@ -117,28 +117,6 @@ fn not_accepted(rt: HostRuntime) -> Result<(), Fail> {
     Ok(())
 }
 
-/// A command, and how it ends on the first case of `delegation`, with which lines.
-const DELEGATION: &[(Command, &str)] = &[
-    (
-        Command::Reduce,
-        "entry 1 (five (subject (public-key (test b))) (tag (*)))\n",
-    ),
-    (Command::Check, "yes entry 1\n"),
-    (Command::Explain, "entry 1 grants\n"),
-];
-
-#[test]
-fn delegation(rt: HostRuntime) -> Result<(), Fail> {
-    let alloc = rt.alloc();
-    let rows = accepted(alloc, C1, KA)?;
-    let text = case_of(alloc, ALL, &rows, &signed(alloc, C1, KA)?, KB, "")?;
-    for (command, lines) in DELEGATION {
-        let lines = lines.as_bytes();
-        replies(&rt, alloc, *command, text.as_bytes(), Status::Done, lines);
-    }
-    Ok(())
-}
-
 #[test]
 fn no_entries(rt: HostRuntime) -> Result<(), Fail> {
     let alloc = rt.alloc();

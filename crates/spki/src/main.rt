@@ -11,7 +11,12 @@ fn command<R: Env + AllocGlobal>(rt: &R) -> Result<Command, WordsFault> {
     let alloc = rt.alloc();
     match env::args(rt) {
         Ok(args) => {
-            let words: Vec<String> = args.collect(alloc)?;
+            let mut words = Vec::new(alloc);
+            for word in args {
+                if words.push(word).is_err() {
+                    return Err(WordsFault::Memory);
+                }
+            }
             command_of(alloc, &words)
         }
         Err(error) if error.kind() == io::ErrorKind::InvalidData => Err(WordsFault::Refused(
