@@ -1,0 +1,64 @@
+#!/usr/bin/env python3
+"""Times `spki explain` beside `spki check` on cases in which `check` too has to try every entry, and shows what `reduce` may write.
+
+Build the program first (`rt run` in crates/spki). Usage: bench/explain.py [PROGRAM]
+"""
+import subprocess
+import sys
+
+from chains import MOST_OCTETS, by_hashes, by_keys, case, certificate, entry, keys_of, through_names, widest
+from check import LIMIT_MEMORY, PROGRAM, group, key, string
+from memory import used
+
+ROUNDS = 7
+LIMIT_RATIO = 1.1
+COPIES = 999
+
+
+def least(command, text):
+    """The least time of some runs, and the most memory of one, in MiB."""
+    runs = [used(PROGRAM, command, text) for _ in range(ROUNDS)]
+    return min(took for took, _ in runs), max(memory for _, memory in runs)
+
+
+def explained():
+    """The largest ratio of the time of `explain` to that of `check`, and the most memory."""
+    texts = [("a chain by keys", by_keys(1500, asks=key("other"))), ("a chain by hashes", by_hashes(1500)),
+             ("a chain through names", through_names(1500))]
+    texts += [(what, text) for what, text, _ in widest()]
+    worst, most = 0.0, 0.0
+    for what, text in texts:
+        (checked, _), (took, memory) = least("check", text), least("explain", text)
+        print(f"{what:<44}{checked * 1000:>9.1f} ms{took * 1000:>9.1f} ms   {took / checked:.2f}   {memory:.1f} MiB")
+        worst, most = max(worst, took / checked), max(most, memory)
+    return worst, most
+
+
+def largest(entries):
+    """A case whose reduction has so many tags of 998,001 strings: each of two sets has 999 equal ones."""
+    tag = group(string("*"), string("set"), *[string("a")] * COPIES)
+    keys = keys_of(1)
+    return case([entry(keys[0], tag)] * entries, [(certificate(keys[0], keys[1], tag), keys[0])], asks=keys[1])
+
+
+def reduced():
+    one = len(largest(2)) - len(largest(1))
+    fit = (MOST_OCTETS - len(largest(0))) // one
+    for entries in (1, 2, 4):
+        text = largest(entries)
+        took, memory = used(PROGRAM, "reduce", text)
+        written = len(subprocess.run([PROGRAM, "reduce"], input=text, stdout=subprocess.PIPE, check=True).stdout)
+        print(f"{entries} such entries, {len(text)} octets: {written} octets written in {took:.2f} s with {memory:.0f} MiB")
+    print(f"{fit} such entries fit into {MOST_OCTETS} octets: {fit * (COPIES * COPIES * 2 + 70)} octets to be written")
+
+
+def main():
+    worst, most = explained()
+    print(f"largest ratio of explain to check: {worst:.2f} (at most {LIMIT_RATIO}); most memory {most:.1f} MiB")
+    reduced()
+    if worst > LIMIT_RATIO or most > LIMIT_MEMORY:
+        sys.exit(1)
+
+
+if __name__ == "__main__":
+    main()
