@@ -1,7 +1,7 @@
 -- What rows of the code accept, the model's rows do.
 use Rattle.std.proofs.Common.{◌≡◌, ℕ, List, [], ◌∷◌, Bool, ◌||◌, map, refl, ap}
 use Rattle.std.specs.List.{list_any}
-use Rattle.spki_case.specs.declared.verifying.Row as code_row
+use Rattle.spki_case.specs.declared.table.Row as code_row
 use Rattle.spki_case.specs.Case.{is_row_of, accepts}
 use Rattle.spki_case.specs.View.{row_of}
 

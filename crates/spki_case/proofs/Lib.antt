@@ -5,3 +5,5 @@ pub mod RowLaws
 pub mod Signed
 pub mod Lacking
 pub mod OneCase
+pub mod ByDigest
+pub mod FirstRows

@@ -1,5 +1,6 @@
 pub mod Case
 pub mod Texts
+pub mod ByDigest
 pub mod View
 pub mod Rows
 pub mod CaseForm

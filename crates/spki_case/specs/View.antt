@@ -1,7 +1,7 @@
 -- The model's case that a case of the code is, and what its accepted list states.
 use Rattle.std.specs.Prelude.{List, map, IsTrue}
-use Rattle.spki_case.specs.declared.verifying.Row as code_row
-use Rattle.spki_case.specs.declared.verifying.AcceptedTable.{AcceptedTable}
+use Rattle.spki_case.specs.declared.table.Row as code_row
+use Rattle.spki_case.specs.declared.table.AcceptedTable.{AcceptedTable}
 use Rattle.spki_case.specs.declared.cases.Case as code
 use Rattle.spki_case.specs.Case.{Case, Row, Verified, accepts}
 

@@ -6,8 +6,8 @@ ghost use Rattle.spki_case.specs.Sequence.{AreSigned};
 ghost use Rattle.spki_case.specs.Texts.{IsOuter};
 
 use crate::parts::parts_of;
-use crate::rows::rows_of;
-use crate::verifying::AcceptedTable;
+use crate::rows::table_of;
+use crate::table::AcceptedTable;
 use sexpr_core::reading::Node;
 use sexpr_core::{Doc, FormFault};
 use spki_cert::{
@@ -104,8 +104,8 @@ impl<'a> Case<'a> {
             Ok(acl) => acl,
             Err(fault) => return Err(acl_fault(fault)),
         };
-        let rows = match rows_of(alloc, parts.rows) {
-            Ok(rows) => rows,
+        let accepted = match table_of(alloc, parts.rows) {
+            Ok(accepted) => accepted,
             Err(fault) => return Err(rows_fault(fault)),
         };
         let sequence = match sequence_of(alloc, &parts.sequence) {
@@ -126,7 +126,7 @@ impl<'a> Case<'a> {
         };
         Ok(Case {
             acl,
-            accepted: AcceptedTable { rows },
+            accepted,
             sequence,
             key,
             request,

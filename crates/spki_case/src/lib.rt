@@ -5,7 +5,9 @@ mod cases;
 pub mod laws;
 mod parts;
 mod rows;
+mod table;
 mod verifying;
 
 pub use cases::{Case, CaseFault};
-pub use verifying::{AcceptedTable, Row, Verifier};
+pub use table::{AcceptedTable, Row};
+pub use verifying::Verifier;

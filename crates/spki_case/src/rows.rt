@@ -5,9 +5,9 @@ ghost use Rattle.spki_cert.specs.Readings.{HashOf};
 ghost use Rattle.std.specs.List.{AllZip};
 ghost use Rattle.spki_case.specs.Case as model;
 ghost use Rattle.spki_case.specs.Rows.{RowOf, RowShows, RowsRefused, HashShows};
-ghost use Rattle.spki_case.specs.View.{row_of};
+ghost use Rattle.spki_case.specs.View.{row_of, rows_of};
 
-use crate::verifying::Row;
+use crate::table::{AcceptedTable, Row};
 use sexpr_core::reading::{Members, Node};
 use spki_cert::{CertFault, CertFaultKind, HashAlg, Octets, hash_of, key_of};
 use std::alloc::Global;
@@ -56,10 +56,7 @@ fn sha256_of<'a>(node: &Node<'_, 'a>) -> Result<Octets<'a>, CertFaultKind>
 }
 
 /// The rows of an accepted list, behind its head.
-pub(crate) fn rows_of<'a>(
-    alloc: Global,
-    members: Members<'_, 'a>,
-) -> Result<Vec<Row<'a>>, CertFault>
+fn rows_of<'a>(alloc: Global, members: Members<'_, 'a>) -> Result<Vec<Row<'a>>, CertFault>
     ensures rows { IfOk result (λ rows. AllZip RowOf members.entry (map row_of rows.items)) }
     ensures refused { IfErr result (λ fault. fault.kind ≢ CertFaultKind.Memory → RowsRefused members.entry fault) }
 {
@@ -82,4 +79,22 @@ pub(crate) fn rows_of<'a>(
         rest = others;
     }
     Ok(rows)
+}
+
+/// The accepted list of these rows.
+pub(crate) fn table_of<'a>(
+    alloc: Global,
+    members: Members<'_, 'a>,
+) -> Result<AcceptedTable<'a>, CertFault>
+    ensures rows { IfOk result (λ table. AllZip RowOf members.entry (rows_of table)) }
+    ensures refused { IfErr result (λ fault. fault.kind ≢ CertFaultKind.Memory → RowsRefused members.entry fault) }
+{
+    let rows = rows_of(alloc, members)?;
+    match AcceptedTable::new(alloc, rows) {
+        Ok(table) => Ok(table),
+        Err(_) => Err(CertFault {
+            item: 0,
+            kind: CertFaultKind::Memory,
+        }),
+    }
 }

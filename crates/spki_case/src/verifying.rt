@@ -6,8 +6,9 @@ ghost use Rattle.spki_case.specs.Case.{is_row_of};
 ghost use Rattle.sha2.specs.Sha256.{sha256};
 ghost use Rattle.spki_case.specs.View.{row_of, verified_by};
 
+use crate::table::{AcceptedTable, Row};
 use sha2::{Digest, Sha256};
-use spki_cert::{Key, Octets};
+use spki_cert::Key;
 use std::alloc::{AllocError, Global};
 
 /// Judges signatures: states which values are signatures of a key over a message, and answers that.
@@ -31,24 +32,6 @@ pub trait Verifier {
         ensures { IfOk result (λ yes. IsTrue yes ↔ accepted self.now key.now message.now value.now) };
 }
 
-/// A signature that another tool has verified.
-#[derive(Drop)]
-pub struct Row<'a> {
-    /// The key that signed.
-    pub key: Key<'a>,
-    /// The SHA-256 digest of the message.
-    pub digest: Octets<'a>,
-    /// The signature's value, in canonical form.
-    pub value: Octets<'a>,
-}
-
-/// Signatures that another tool has verified. As a verifier it accepts these and no others.
-#[derive(Drop)]
-pub struct AcceptedTable<'a> {
-    /// The signatures, in any order.
-    pub rows: Vec<Row<'a>>,
-}
-
 impl<'a> Verifier for AcceptedTable<'a> {
     ghost accepted = { verified_by };
 
@@ -62,17 +45,36 @@ impl<'a> Verifier for AcceptedTable<'a> {
         ensures ok { IsOk result }
         ensures answer { IfOk result (λ yes. IsTrue yes ↔ verified_by self.now key.now message.now value.now) }
     {
-        Ok(any_accepts(&self.rows, key, message, value))
+        let digest = Sha256::digest(message);
+        Ok(some_accepts(self, key, digest.as_slice(), value))
     }
 }
 
-/// Whether some row is of this key, this message and this value. The message's digest is taken once for all rows.
-fn any_accepts(rows: &[Row], key: &Key, message: &[u8], value: &[u8]) -> bool
-    ensures { result ≡ list_any (λ row. is_row_of key.now message.now value.now (row_of row)) rows.now }
+/// Whether some row is of this key, of a message with this SHA-256 digest, and of this value. The first row of the digest is
+/// mostly the one; the others are asked where it isn't.
+fn some_accepts(table: &AcceptedTable, key: &Key, digest: &[u8], value: &[u8]) -> bool
+    ensures { (message : List ℕ) → sha256 message ≡ digest.now
+        → result ≡ list_any (λ row. is_row_of key.now message value.now (row_of row)) table.now.rows.items }
 {
-    let digest = Sha256::digest(message);
-    rows.iter()
-        .any(|row| row_accepts(row, key, digest.as_slice(), value))
+    match table.first.get(digest) {
+        None => false,
+        Some(first) => {
+            row_accepts(first, key, digest, value) || any_accepts(&table.rows, key, digest, value)
+        }
+    }
+}
+
+/// Whether one of the rows is.
+fn any_accepts(rows: &[Row], key: &Key, digest: &[u8], value: &[u8]) -> bool
+    ensures { (message : List ℕ) → sha256 message ≡ digest.now
+        → result ≡ list_any (λ row. is_row_of key.now message value.now (row_of row)) rows.now }
+{
+    for row in rows {
+        if row_accepts(row, key, digest, value) {
+            return true;
+        }
+    }
+    false
 }
 
 /// Whether the row is of this key, of a message with this SHA-256 digest, and of this value. The digests come first, since

@@ -1,6 +1,5 @@
 pub mod Items
 pub mod Chains
-pub mod ByDigest
 pub mod Finding
 pub mod Evident
 pub mod Policies

@@ -8,7 +8,7 @@ use Rattle.spki_cert.specs.Naming.{names}
 use Rattle.spki_cert.specs.Sameness.{SameRequests}
 use Rattle.spki_cert.specs.declared.principal.Principal.{Principal}
 use Rattle.spki_cert.specs.declared.window.Window.{Window}
-use Rattle.spki_reduce.specs.Tuples.{key, FiveTuple, FourTuple, Tuple, five, four}
+use Rattle.spki_reduce.specs.Tuples.{FiveTuple, FourTuple, Tuple, five, four}
 use Rattle.spki_reduce.specs.Rules.{Delegate, Resolve, Joins, delegated, resolved}
 use Rattle.spki_reduce.specs.Derivation.{Tree, leaf, join, leaves, Derives}
 use Rattle.spki_reduce.specs.Restrictions.{in_each, within_each}

@@ -5,7 +5,8 @@ ghost use Rattle.std.specs.Option.{option_or};
 ghost use Rattle.spki_cert.specs.declared.hash.HashAlg.{HashAlg};
 ghost use Rattle.spki_cert.specs.Naming.{digest_of, is_digest};
 ghost use Rattle.spki_decision.specs.Standing.{issuer_key};
-ghost use Rattle.spki_decision.specs.ByDigest.{key_at, HasFirstKeys};
+ghost use Rattle.spki_case.specs.ByDigest.{at_digest};
+ghost use Rattle.spki_decision.specs.ByDigest.{HasFirstKeys};
 
 use sha1::Sha1;
 use sha2::{Digest, Sha256, Sha512};
@@ -137,8 +138,8 @@ fn add_key<'a>(
     alg: HashAlg,
     key: &Key<'a>,
 ) -> Result<(), AllocError>
-    ensures { OnOk result ((digest : List ℕ) → key_at first.new digest
-        ≡ option_or (key_at first.old digest) (find (λ octets. is_digest alg digest octets) (key.now ∷ []))) }
+    ensures { OnOk result ((digest : List ℕ) → at_digest first.new digest
+        ≡ option_or (at_digest first.old digest) (find (λ octets. is_digest alg digest octets) (key.now ∷ []))) }
 {
     let digest = digest_of(alloc, alg, key.as_slice())?;
     if !first.contains_key(digest.as_slice()) {

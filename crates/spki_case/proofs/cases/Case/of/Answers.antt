@@ -1,8 +1,8 @@
-use Rattle.std.proofs.Common.{◌≡◌, ◌≢◌, [], List, refl, sym, subst, ◌∙◌, rules, inr}
+use Rattle.std.proofs.Common.{◌≢◌, List, refl, sym, subst, ◌∙◌, rules, inr}
 use Rattle.sexpr_core.specs.Value.{Value}
 use Rattle.spki_cert.specs.declared.fault.CertFaultKind.TheVariants as kinds
 use Rattle.spki_cert.specs.Entries.{AclRefused}
-use Rattle.spki_cert.specs.Sequences.{SeqOf, SeqRefused}
+use Rattle.spki_cert.specs.Sequences.{SeqRefused}
 use Rattle.spki_cert.proofs.EntryLaws.{refused-acl}
 use Rattle.spki_cert.proofs.SeqLaws.{refused-sequence}
 use Rattle.spki_case.specs.CaseForm.{Parts, acl_value, sequence_value, ReadsAcl, ReadsRows, ReadsItems, ReadsKey, ReadsRequest}
@@ -20,15 +20,15 @@ returns-in-Err-clause-refused c =
     let refused : AclRefused (acl_value parts) c.in-Err.fault = subst (λ (v : Value). AclRefused v c.in-Err.fault) h.2.acl (c.in-Err.ensures.refused known) in
     record { found = known; refused = refused; none = refused-acl (acl_value parts) c.in-Err.fault refused })
 
-pub returns-in-Err-rows_of-clause-refused : goal.returns-in-Err-rows_of-clause-refused
-returns-in-Err-rows_of-clause-refused c =
+pub returns-in-Err-table_of-clause-refused : goal.returns-in-Err-table_of-clause-refused
+returns-in-Err-table_of-clause-refused c =
     let h = c.in-Some.ensures in
     let parts : Parts = h.0 in
     let reads : ReadsAcl parts = search rules in
     lacks c.args.node.now parts _ _ c.rows_fault.result h.1 c.rows_fault.ensures (λ known.
-    let refused : RowsRefused parts.rows c.in-Err-rows_of.fault =
-    subst (λ (vs : List Value). RowsRefused vs c.in-Err-rows_of.fault) h.2.rows (c.in-Err-rows_of.ensures.refused known) in
-    record { before = reads; refused = refused; none = no_rows_at parts.rows c.in-Err-rows_of.fault refused })
+    let refused : RowsRefused parts.rows c.in-Err-table_of.fault =
+    subst (λ (vs : List Value). RowsRefused vs c.in-Err-table_of.fault) h.2.rows (c.in-Err-table_of.ensures.refused known) in
+    record { before = reads; refused = refused; none = no_rows_at parts.rows c.in-Err-table_of.fault refused })
 
 pub returns-in-Err-sequence_of-clause-refused : goal.returns-in-Err-sequence_of-clause-refused
 returns-in-Err-sequence_of-clause-refused c =

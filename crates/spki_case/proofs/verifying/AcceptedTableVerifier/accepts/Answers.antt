@@ -7,6 +7,6 @@ use Rattle.spki_case.proofs.verifying.AcceptedTableVerifier.accepts.Goals as goa
 pub returns-clause-answer : goal.returns-clause-answer
 returns-clause-answer c =
     let rows = c.args.self.now.rows.items in
-    let same : c.any_accepts.result ≡ accepts (rows_of c.args.self.now) c.args.key.now c.args.message.now c.args.value.now =
-    rw c.deref.ensures.value at c.any_accepts.ensures ∙ sym (accepts_rows c.args.key.now c.args.message.now c.args.value.now rows) in
+    let same : c.some_accepts.result ≡ accepts (rows_of c.args.self.now) c.args.key.now c.args.message.now c.args.value.now =
+    c.some_accepts.ensures c.args.message.now (sym (c.as_slice.ensures ∙ c.digest-digest.ensures)) ∙ sym (accepts_rows c.args.key.now c.args.message.now c.args.value.now rows) in
     (λ h. sym same ∙ h, λ h. same ∙ h)

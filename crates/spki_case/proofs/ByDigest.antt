@@ -1,4 +1,4 @@
--- Keys by their digests, where one more comes behind others.
+-- What is kept by a digest, where one more comes behind others.
 use Rattle.std.proofs.Common.{◌≡◌, ℕ, Ordering, Bool, true, false, cond, List, ◌⊎◌, inl, inr, Vec, Option, Some, None, refl, sym, ap, subst, ◌∙◌}
 use Rattle.std.specs.Option.{option_or, is_some}
 use Rattle.std.specs.BTreeMap.{BTreeMap, UpdatesBy}
@@ -11,13 +11,13 @@ use Rattle.std.proofs.lemmas.Bool.{cases_Bool, cond-true, cond-false}
 use Rattle.std.proofs.lemmas.Cmp.{eq_by_cmp_equiv, nat_list_cmp_total, nat_list_eq_equiv}
 use Rattle.std.proofs.lemmas.Map.Text.{is_eq-slice_cmp}
 use Rattle.std.proofs.lemmas.Slice.Eq.{bytes_eq-Decides}
-use Rattle.spki_decision.specs.ByDigest.{key_at}
+use Rattle.spki_case.specs.ByDigest.{at_digest}
 
 -- by their octets
 abbrev compared : Vec ℕ Global → Vec ℕ Global → Ordering
 compared x y = slice_cmp nat_cmp x.items y.items
 
-others : (test : Vec ℕ Global → Bool) (old new : List (Vec ℕ Global × List ℕ)) → KeepsOthers (eq_by_cmp compared) test old new
+others : {X : Type 0} (test : Vec ℕ Global → Bool) (old new : List (Vec ℕ Global × X)) → KeepsOthers (eq_by_cmp compared) test old new
     → (other : Vec ℕ Global → Bool) → IsKeyTest (eq_by_cmp compared) other → AreApart test other → lookup other new ≡ lookup other old
 unfolding KeepsOthers
 others test old new h = h
@@ -28,33 +28,33 @@ apart own digest ks n y =
     is_eq-slice_cmp digest ks ∙ nat_list_eq_equiv.symm digest ks ∙ sym (nat_list_eq_equiv.congr own ks digest own_is) ∙ n
 
 -- the map after an insertion, at each digest
-pub inserted : (own : Vec ℕ Global) (key : List ℕ) (old new : BTreeMap (Vec ℕ Global) (List ℕ))
+pub inserted : {X : Type 0} (own : Vec ℕ Global) (key : X) (old new : BTreeMap (Vec ℕ Global) X)
     → UpdatesBy compared (compared own) old new (Some key) → (digest : List ℕ)
-    → key_at new digest ≡ cond (bytes_eq own.items digest) (Some key) (key_at old digest)
-inserted own key old new h digest = by (cases_Bool (bytes_eq own.items digest))
+    → at_digest new digest ≡ cond (bytes_eq own.items digest) (Some key) (at_digest old digest)
+inserted {X = X} own key old new h digest = by (cases_Bool (bytes_eq own.items digest))
   where
     by : (bytes_eq own.items digest ≡ true) ⊎ (bytes_eq own.items digest ≡ false)
-        → key_at new digest ≡ cond (bytes_eq own.items digest) (Some key) (key_at old digest)
+        → at_digest new digest ≡ cond (bytes_eq own.items digest) (Some key) (at_digest old digest)
     by (inl y) =
-        subst (λ l. key_at new l ≡ Some key) ((bytes_eq-Decides own.items digest).0 y) h.1
-        ∙ sym (cond-true (bytes_eq own.items digest) (Some key) (key_at old digest) y)
+        subst (λ l. at_digest new l ≡ Some key) ((bytes_eq-Decides own.items digest).0 y) h.1
+        ∙ sym (cond-true (bytes_eq own.items digest) (Some key) (at_digest old digest) y)
     by (inr n) =
         others _ old.entries new.entries h.3 _ (λ x y. (eq_by_cmp_equiv nat_list_cmp_total).congr digest x.items y.items)
         (λ k. apart own.items digest k.items n)
-        ∙ sym (cond-false (bytes_eq own.items digest) (Some key) (key_at old digest) n)
+        ∙ sym (cond-false (bytes_eq own.items digest) (Some key) (at_digest old digest) n)
 
--- ---- a key behind others, where f says which of them a digest has
+-- ---- one behind others, where f says which of them has a digest
 
-option_or-none : (o : Option (List ℕ)) → option_or o None ≡ o
+option_or-none : {X : Type 0} (o : Option X) → option_or o None ≡ o
 option_or-none None = refl
 option_or-none (Some x) = refl
 
 -- none of them has its digest
-pub first_added : (f : List ℕ → Option (List ℕ)) (own key digest : List ℕ) → is_some (f own) ≡ false
+pub first_added : {X : Type 0} (f : List ℕ → Option X) (own : List ℕ) (key : X) (digest : List ℕ) → is_some (f own) ≡ false
     → cond (bytes_eq own digest) (Some key) (f digest) ≡ option_or (f digest) (cond (bytes_eq own digest) (Some key) None)
-first_added f own key digest h = by (f digest) refl (cases_Bool (bytes_eq own digest))
+first_added {X = X} f own key digest h = by (f digest) refl (cases_Bool (bytes_eq own digest))
   where
-    by : (o : Option (List ℕ)) → o ≡ f digest → (bytes_eq own digest ≡ true) ⊎ (bytes_eq own digest ≡ false)
+    by : (o : Option X) → o ≡ f digest → (bytes_eq own digest ≡ true) ⊎ (bytes_eq own digest ≡ false)
         → cond (bytes_eq own digest) (Some key) (f digest) ≡ option_or (f digest) (cond (bytes_eq own digest) (Some key) None)
     by None e (inl y) = rw (y, ← e) refl
     by (Some x) e (inl y) =
