@@ -15,7 +15,7 @@ import tables
 WRONG = [(), (b"frob",), (b"check", b"check"), (b"",), (b"\xff",), (b"check", b"\xff"), (b"Check",), (b"check ",), (b"--",),
          (b"--frob",), (b"check", b"--frob"), (b"help",)]
 HELP = [(b"--help",), (b"-h",)] + [(command.encode(), b"--help") for command in tables.COMMANDS]
-STATUSES = (b"0", b"1", b"2", b"3")
+STATUSES = (b"\n  0  ", b"\n  2  ", b"\n  3  ")
 TEXT = b"(1:a)"
 
 
