@@ -33,5 +33,3 @@ mod structures;
 mod texts;
 #[cfg(test)]
 mod verifiers;
-#[cfg(test)]
-mod words;
