@@ -33,7 +33,7 @@ PROGRAM = os.path.join(HERE, "..", "crates", "spki", "out", "spki")
 COMMANDS = ("canonical", "advanced", "transport", "intersect", "reduce", "check", "explain")
 GRANTS = re.compile(rb"entry (\d+) grants")
 TOO_LARGE = (2, b"refused TooLarge\n")
-SECONDS = 20
+SECONDS = 120
 ESCAPE = re.compile(rb"%(?:([0-9A-F]{2})|(n)|(-)|<(\d+)\*([^>]*)>|\[([^]]+)\]|())")
 
 
