@@ -1,36 +1,42 @@
 #!/usr/bin/env python3
-"""Times `spki explain` beside `spki check` on cases in which `check` too has to try every entry, and shows what `reduce` may write.
+"""Counts the instructions of `spki explain` and of `spki check` on cases in which `check` too has to try every entry, and shows
+what `reduce` may write.
 
 Build the program first (`rt run` in crates/spki). Usage: bench/explain.py [PROGRAM]
 """
 import subprocess
 import sys
+import tempfile
 
 from chains import MOST_OCTETS, by_hashes, by_keys, case, certificate, entry, keys_of, through_names, widest
 from check import LIMIT_MEMORY, PROGRAM, group, key, string
+from counting import counter
 from memory import used
 
-ROUNDS = 7
 LIMIT_RATIO = 1.1
 COPIES = 999
 
 
-def least(command, text):
-    """The least time of some runs, and the most memory of one, in MiB."""
-    runs = [used(PROGRAM, command, text) for _ in range(ROUNDS)]
-    return min(took for took, _ in runs), max(memory for _, memory in runs)
+def instructions(count, command, text):
+    with tempfile.NamedTemporaryFile() as file:
+        file.write(text)
+        file.flush()
+        with open(file.name, "rb") as opened:
+            return count([PROGRAM, command], opened)
 
 
 def explained():
-    """The largest ratio of the time of `explain` to that of `check`, and the most memory."""
+    """The largest ratio of the instructions of `explain` to those of `check`, and the most memory."""
+    count = counter()
     texts = [("a chain by keys", by_keys(1500, asks=key("other"))), ("a chain by hashes", by_hashes(1500)),
              ("a chain through names", through_names(1500))]
     texts += [(what, text) for what, text, _ in widest()]
     worst, most = 0.0, 0.0
     for what, text in texts:
-        (checked, _), (took, memory) = least("check", text), least("explain", text)
-        print(f"{what:<44}{checked * 1000:>9.1f} ms{took * 1000:>9.1f} ms   {took / checked:.2f}   {memory:.1f} MiB")
-        worst, most = max(worst, took / checked), max(most, memory)
+        checked, taken = instructions(count, "check", text), instructions(count, "explain", text)
+        seconds, memory = used(PROGRAM, "explain", text)
+        print(f"{what:<44}{checked:>16,}{taken:>16,}   {taken / checked:.2f}   {seconds:.2f} s   {memory:.1f} MiB", flush=True)
+        worst, most = max(worst, taken / checked), max(most, memory)
     return worst, most
 
 

@@ -7,11 +7,10 @@ the program takes anyway, are taken off. Build the program first (`rt run` in cr
 Usage: bench/intersect.py [PROGRAM]
 """
 import os
-import re
-import subprocess
 import sys
 import tempfile
 
+from counting import counter
 from memory import peak
 
 PROGRAM = sys.argv[1] if len(sys.argv) > 1 else os.path.join(os.path.dirname(__file__), "..", "crates", "spki", "out", "spki")
@@ -73,28 +72,6 @@ WIDEST = {
     "ranges": alike(group(*[string(word) for word in "* range alpha ge a l z".split()])),
     "lists": alike(group(string("f"), string("a"))),
 }
-
-
-def counted_by_perf(command, text):
-    done = subprocess.run(["perf", "stat", "-x", ",", "-e", "instructions:u"] + command, stdin=text, capture_output=True)
-    found = re.match(rb"(\d+),", done.stderr.splitlines()[-1]) if done.stderr else None
-    return int(found.group(1)) if found else None
-
-
-def counted_by_valgrind(command, text):
-    with tempfile.NamedTemporaryFile() as out:
-        done = subprocess.run(["valgrind", "--tool=callgrind", f"--callgrind-out-file={out.name}"] + command, stdin=text, capture_output=True)
-    return int(re.search(rb"Collected : (\d+)", done.stderr).group(1))
-
-
-def counter():
-    """What counts the instructions here."""
-    try:
-        if counted_by_perf(["true"], subprocess.DEVNULL) is not None:
-            return counted_by_perf
-    except OSError:
-        pass
-    return counted_by_valgrind
 
 
 def instructions(count, a, b):

@@ -1,9 +1,10 @@
 #!/usr/bin/env python3
 """Runs the built program as one who means it harm would: each request for memory, each read and each write refused in turn, texts
-cut short, ends that fail, limits from both sides, a small stack, and the texts that ask for the most work.
+cut short, ends that fail, limits from both sides, a small stack, and the texts that ask for the most work. `one_call` does the same to
+each call of the libraries by itself, on the worked example that is named for it.
 
-`refuse.c` beside this file is compiled by `cc` and preloaded, and refuses what it is told to. Build the program first (`rt run` in
-crates/spki). Prints each fault, and by part the examples, runs, refusals that were met and faults; then the time and memory of the
+`refuse.c` beside this file is compiled by `cc` and preloaded, and refuses what it is told to. Build the programs first (`rt run` in
+crates/spki and crates/one_call). Prints each fault, and by part the examples, runs, refusals that were met and faults; then the time and memory of the
 largest texts. The last line counts the parts.
 Usage: tests/hostile.py [PROGRAM]
 """
@@ -28,6 +29,7 @@ from tables import COMMANDS
 
 BENCH = os.path.join(tables.HERE, "..", "bench")
 EXAMPLES = os.path.join(tables.HERE, "..", "examples")
+ONE_CALL = os.path.join(tables.HERE, "..", "crates", "one_call", "out", "one_call")
 sys.path.append(BENCH)
 import memory  # noqa: E402
 
@@ -47,6 +49,13 @@ READ_FAULT = (3, b"", b"spki: read fault\n")
 WRITE_FAULT = (3, b"", b"spki: write fault\n")
 UNSAID_FAULT = (3, b"", b"")
 
+# The calls that may be refused memory. `one_call` runs the example of each.
+CALLS = (
+    "decode", "encode", "read_any", "print_advanced", "wrap", "unwrap_braces", "Doc::open", "read_advanced",
+    "Tag::read", "Ground::read", "Tag::meet", "Tag::write", "read_acl", "read_sequence", "read_key", "read_hash",
+    "Five::then", "fold_chain", "Five::resolve", "Four::then", "Five::write",
+    "Case::read", "decide", "reduce_case", "explain", "run",
+)
 # What is written of the cases of examples/, and of some of chains.py: the status and the line. A command that the program doesn't
 # have is passed over.
 FILES = {
@@ -201,6 +210,11 @@ def refused_in_turn(program, example, behind):
     return len(numbers) + 1, refusals, faults
 
 
+def call_refused(program, name, behind):
+    """The same for a call by itself."""
+    return refused_in_turn(Program(ONE_CALL, program.library), Example("its example", name, b"", answered("0 as promised")), behind)
+
+
 def cut_short(program, command, text, places):
     """Only so many octets of the text are there."""
     faults = []
@@ -306,6 +320,12 @@ def memory_refused(behind):
         yield refused_in_turn, example, behind
 
 
+def calls_refused():
+    for name in CALLS:
+        for behind in ("", ".."):
+            yield call_refused, name, behind
+
+
 def truncation():
     commands = [(command, text) for command in COMMANDS for text in first_run()]
     for command, text in commands + [("check", text) for text in three_certificates()]:
@@ -378,6 +398,7 @@ def under_valgrind():
 PARTS = {
     "a request for memory refused": lambda: memory_refused(""),
     "all requests from one on refused": lambda: memory_refused(".."),
+    "the same, call by call": calls_refused,
     "less and less memory": less_memory,
     "texts cut short": truncation,
     "reads and writes refused": ends_failing,
@@ -393,6 +414,8 @@ def main():
     path = os.path.abspath(sys.argv[1] if len(sys.argv) > 1 else tables.PROGRAM)
     if not os.access(path, os.X_OK):
         sys.exit(f"{path} is not there: build it by rt run in crates/spki")
+    if not os.access(ONE_CALL, os.X_OK):
+        sys.exit(f"{ONE_CALL} is not there: build it by rt run in crates/one_call")
     lines, failed = [], 0
     with tempfile.TemporaryDirectory() as folder, ProcessPoolExecutor() as pool:
         program = Program(path, built(folder))

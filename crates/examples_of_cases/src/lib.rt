@@ -33,3 +33,5 @@ mod structures;
 mod texts;
 #[cfg(test)]
 mod verifiers;
+#[cfg(test)]
+mod words;

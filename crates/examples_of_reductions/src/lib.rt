@@ -9,3 +9,5 @@ mod joins;
 mod lacks;
 #[cfg(test)]
 mod tuples;
+#[cfg(test)]
+mod written;

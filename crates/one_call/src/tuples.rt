@@ -1,0 +1,144 @@
+//! The calls on tuples.
+
+use crate::missed::Missed;
+use crate::structures::KA;
+use sexpr_core::Doc;
+use spki_cert::{Key, Octets, Policy, Principal, Subject, Window, key_of};
+use spki_reduce::{Cause, Five, Fold, Four, Issuer, Joined, Step};
+use spki_tag::Tag;
+use std::alloc::Global;
+
+const KB: &[u8] = b"(10:public-key(4:test1:b))";
+
+const KC: &[u8] = b"(10:public-key(4:test1:c))";
+
+/// No limits of time.
+const ALWAYS: Window = Window {
+    not_before: None,
+    not_after: None,
+};
+
+fn key(alloc: Global, text: &'static [u8]) -> Result<Key<'static>, Missed> {
+    let document = Doc::open(alloc, text)?;
+    Ok(key_of(&document.top())?)
+}
+
+fn subject(
+    alloc: Global,
+    key_text: &'static [u8],
+    names: &[&'static [u8]],
+) -> Result<Subject<'static>, Missed> {
+    let mut links = Vec::new(alloc);
+    for name in names {
+        links.push(Octets::new(name))?;
+    }
+    Ok(Subject {
+        principal: Principal::Key(key(alloc, key_text)?),
+        names: links,
+    })
+}
+
+/// The authorization of an access list's keeper for a subject, which may be passed on.
+fn entry(
+    alloc: Global,
+    key_text: &'static [u8],
+    names: &[&'static [u8]],
+    tag: &[u8],
+) -> Result<Five<'static>, Missed> {
+    let document = Doc::open(alloc, tag)?;
+    Ok(Five {
+        issuer: Issuer::Own,
+        window: ALWAYS,
+        propagate: true,
+        tag: Tag::of(alloc, &document.top())?,
+        subject: subject(alloc, key_text, names)?,
+    })
+}
+
+/// The authorization of a certificate between two keys, which may not be passed on.
+fn certificate(
+    alloc: Global,
+    issuer: &'static [u8],
+    to: &'static [u8],
+) -> Result<Five<'static>, Missed> {
+    Ok(Five {
+        issuer: Issuer::Key(key(alloc, issuer)?),
+        window: ALWAYS,
+        propagate: false,
+        tag: Tag::everything(),
+        subject: subject(alloc, to, &[])?,
+    })
+}
+
+/// What a key calls by a name.
+fn definition(
+    alloc: Global,
+    issuer: &'static [u8],
+    name: &'static [u8],
+    to: Subject<'static>,
+) -> Result<Four<'static>, Missed> {
+    Ok(Four {
+        key: key(alloc, issuer)?,
+        name: Octets::new(name),
+        window: ALWAYS,
+        subject: to,
+    })
+}
+
+/// Whether a subject is a key without names.
+fn is_key(subject: &Subject, key: &[u8]) -> bool {
+    match &subject.principal {
+        Principal::Key(octets) => octets.as_slice() == key && subject.names.is_empty(),
+        Principal::Hash { .. } => false,
+    }
+}
+
+/// `delegation`: the entry for KA and the certificate by KA for KB.
+pub fn five_then(alloc: Global) -> Result<bool, Missed> {
+    let first = entry(alloc, KA, &[], b"(1:*)")?;
+    match first.then(alloc, &certificate(alloc, KA, KB)?, Policy::Open)? {
+        Joined::Done(five) => Ok(is_key(&five.subject, KB)),
+        Joined::Stopped(_) => Ok(false),
+    }
+}
+
+/// `delegation`: the second certificate doesn't join, since the first doesn't delegate.
+pub fn fold_chain(alloc: Global) -> Result<bool, Missed> {
+    let first = entry(alloc, KA, &[], b"(1:*)")?;
+    let mut steps = Vec::new(alloc);
+    steps.push(Step::Auth(certificate(alloc, KA, KB)?))?;
+    steps.push(Step::Auth(certificate(alloc, KB, KC)?))?;
+    match spki_reduce::fold_chain(alloc, &first, &steps, Policy::Open)? {
+        Fold::Done(_) => Ok(false),
+        Fold::Stopped { step, cause } => Ok(step == 2 && cause == Cause::NoDelegation),
+    }
+}
+
+/// `linked-names`: the entry for KA's friends' bob and what KA calls friends become one for KB's bob.
+pub fn five_resolve(alloc: Global) -> Result<bool, Missed> {
+    let first = entry(alloc, KA, &[b"friends", b"bob"], b"(1:*)")?;
+    let friends = definition(alloc, KA, b"friends", subject(alloc, KB, &[])?)?;
+    match first.resolve(alloc, &friends, Policy::Open)? {
+        Joined::Done(five) => Ok(five.subject.names.len() == 1),
+        Joined::Stopped(_) => Ok(false),
+    }
+}
+
+/// `linked-names`: what KA calls friends, KB's bob, and what KB calls bob become one tuple for KC.
+pub fn four_then(alloc: Global) -> Result<bool, Missed> {
+    let friends = definition(alloc, KA, b"friends", subject(alloc, KB, &[b"bob"])?)?;
+    let bob = definition(alloc, KB, b"bob", subject(alloc, KC, &[])?)?;
+    match friends.then(alloc, &bob, Policy::Open)? {
+        Joined::Done(four) => Ok(four.key.as_slice() == KA && is_key(&four.subject, KC)),
+        Joined::Stopped(_) => Ok(false),
+    }
+}
+
+/// `reduced-sets`, as its answer is written.
+pub fn five_write(alloc: Global) -> Result<bool, Missed> {
+    let five = entry(alloc, KB, &[], b"(1:*3:set4:read5:write)")?;
+    let octets = sexpr_core::encode(alloc, &five.write(alloc)?)?;
+    let wanted =
+        b"(4:five(7:subject(10:public-key(4:test1:b)))(9:propagate)(3:tag(1:*3:set4:read5:write)))";
+    Ok(octets.as_slice() == wanted.as_slice())
+}
