@@ -16,6 +16,17 @@ pub enum Missed {
     Fault,
 }
 
+impl Missed {
+    /// Memory where that is the fault.
+    fn by(is_memory: bool) -> Missed {
+        if is_memory {
+            Missed::Memory
+        } else {
+            Missed::Fault
+        }
+    }
+}
+
 impl From<AllocError> for Missed {
     fn from(_: AllocError) -> Missed {
         Missed::Memory
@@ -30,69 +41,48 @@ impl<T: Drop> From<AllocFailed<T>> for Missed {
 
 impl From<FormFault> for Missed {
     fn from(fault: FormFault) -> Missed {
-        match fault {
-            FormFault::Memory => Missed::Memory,
-            _ => Missed::Fault,
-        }
+        Missed::by(fault == FormFault::Memory)
     }
 }
 
 impl From<TagFault> for Missed {
     fn from(fault: TagFault) -> Missed {
-        match fault {
-            TagFault::Memory => Missed::Memory,
-            _ => Missed::Fault,
-        }
+        Missed::by(fault == TagFault::Memory)
     }
 }
 
 impl From<MeetFault> for Missed {
     fn from(fault: MeetFault) -> Missed {
-        match fault {
-            MeetFault::Memory => Missed::Memory,
-            _ => Missed::Fault,
-        }
+        Missed::by(fault == MeetFault::Memory)
     }
 }
 
 impl From<CertFaultKind> for Missed {
-    fn from(kind: CertFaultKind) -> Missed {
-        match kind {
-            CertFaultKind::Memory => Missed::Memory,
-            _ => Missed::Fault,
-        }
+    fn from(fault: CertFaultKind) -> Missed {
+        Missed::by(fault == CertFaultKind::Memory)
+    }
+}
+
+impl From<ReduceFault> for Missed {
+    fn from(fault: ReduceFault) -> Missed {
+        Missed::by(fault == ReduceFault::Memory)
+    }
+}
+
+impl From<GuardFault> for Missed {
+    fn from(fault: GuardFault) -> Missed {
+        Missed::by(fault == GuardFault::Memory)
+    }
+}
+
+impl From<CaseFault> for Missed {
+    fn from(fault: CaseFault) -> Missed {
+        Missed::by(fault == CaseFault::Memory)
     }
 }
 
 impl From<CertFault> for Missed {
     fn from(fault: CertFault) -> Missed {
         Missed::from(fault.kind)
-    }
-}
-
-impl From<ReduceFault> for Missed {
-    fn from(fault: ReduceFault) -> Missed {
-        match fault {
-            ReduceFault::Memory => Missed::Memory,
-            _ => Missed::Fault,
-        }
-    }
-}
-
-impl From<GuardFault> for Missed {
-    fn from(fault: GuardFault) -> Missed {
-        match fault {
-            GuardFault::Memory => Missed::Memory,
-            _ => Missed::Fault,
-        }
-    }
-}
-
-impl From<CaseFault> for Missed {
-    fn from(fault: CaseFault) -> Missed {
-        match fault {
-            CaseFault::Memory => Missed::Memory,
-            _ => Missed::Fault,
-        }
     }
 }
