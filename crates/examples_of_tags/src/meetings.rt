@@ -19,11 +19,15 @@ const LISTS: &[Row] = &[
     (b"(3:ftp(4:host1:a))", b"3:ftp", b"(1:*3:set)"),
 ];
 
-const SETS: &[Row] = &[(
-    b"(1:*3:set4:read5:write)",
-    b"(1:*3:set5:write(1:*6:prefix2:re))",
-    b"(1:*3:set4:read5:write)",
-)];
+const SETS: &[Row] = &[
+    (
+        b"(1:*3:set4:read5:write)",
+        b"(1:*3:set5:write(1:*6:prefix2:re))",
+        b"(1:*3:set4:read5:write)",
+    ),
+    (b"(1:*3:set1:a1:a)", b"1:a", b"(1:*3:set1:a1:a)"),
+    (b"(1:*3:set1:b1:a(1:a))", b"1:a", b"1:a"),
+];
 
 const RANGES: &[Row] = &[
     (
@@ -62,10 +66,18 @@ fn met(rt: &impl Abort, alloc: Global, one: &[u8], other: &[u8]) -> Result<Vec<u
     text_of_both(alloc, &tag_of(rt, alloc, one)?, &tag_of(rt, alloc, other)?)
 }
 
-/// Meets the tags of each row of a table.
+/// The same, where the first of the tags is used up.
+fn met_in_place(rt: &impl Abort, alloc: Global, one: &[u8], other: &[u8]) -> Result<Vec<u8>, Fail> {
+    let both = tag_of(rt, alloc, one)?.into_meet(alloc, &tag_of(rt, alloc, other)?)?;
+    Ok(text_of(alloc, &both)?)
+}
+
+/// Meets the tags of each row of a table, in both ways.
 pub fn all_meet(rt: &impl Abort, alloc: Global, rows: &[Row]) -> Result<(), Fail> {
     for (one, other, both) in rows {
         let left = met(rt, alloc, one, other)?;
+        assert!(rt; left.as_slice() == *both, "{one:?} {other:?}");
+        let left = met_in_place(rt, alloc, one, other)?;
         assert!(rt; left.as_slice() == *both, "{one:?} {other:?}");
     }
     Ok(())

@@ -6,6 +6,7 @@ pub mod Written
 pub mod Depth
 pub mod NormalTag
 pub mod MeetSteps
+pub mod InPlace
 pub mod OneTag
 pub mod Shown
 pub mod Refusals

@@ -71,7 +71,7 @@ impl Tag {
 }
 
 /// Whether the tag is a set.
-fn is_set(tag: &Tag) -> bool
+pub(crate) fn is_set(tag: &Tag) -> bool
     ensures { result ≡ spec.is_set tag.now }
 {
     match &tag.node {

@@ -11,6 +11,7 @@ mod leaf_meeting;
 mod limit_meeting;
 mod meeting;
 mod moment;
+mod narrowing;
 mod normal;
 mod parts;
 mod ranges;

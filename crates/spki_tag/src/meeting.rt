@@ -14,11 +14,11 @@ use crate::tag::{Node, Tag};
 use std::alloc::{AllocError, Global};
 
 /// The greatest product of the numbers of nodes of two tags that are met.
-const MOST_NODES: usize = 1_000_000;
+pub(crate) const MOST_NODES: usize = 1_000_000;
 
 /// What two tags leave together.
 #[cycle(meet)]
-fn meet_tags(alloc: Global, one: &Tag, other: &Tag) -> Result<Tag, AllocError>
+pub(crate) fn meet_tags(alloc: Global, one: &Tag, other: &Tag) -> Result<Tag, AllocError>
     requires { nodes one.now * nodes other.now ≤ most_nodes }
     ensures { IfOk result (λ c. c ≡ meet one.now other.now) }
 {
