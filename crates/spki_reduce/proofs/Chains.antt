@@ -17,15 +17,15 @@ use Rattle.spki_reduce.specs.declared.tuple.Step.{Step}
 use Rattle.spki_reduce.specs.Tuples.{FiveTuple, Tuple, five, four, tags_of, windows_of}
 use Rattle.spki_reduce.specs.Rules.{Joins}
 use Rattle.spki_reduce.specs.Derivation.{Tree, leaf, join, Derives, from_left}
-use Rattle.spki_reduce.specs.Restrictions.{in_each, within_each, NoMoment, NoRequest, nodes_product}
+use Rattle.spki_reduce.specs.Restrictions.{in_each, within_each, NoMoment, NoRequest, met, nodes_product}
 use Rattle.spki_reduce.specs.Stops.{Stops, TooLargeFor}
 use Rattle.spki_reduce.specs.Views.{five_tuple, step_tuple}
 use Rattle.spki_reduce.specs.Reduced.{BecomesFive}
-use Rattle.spki_reduce.specs.Chain.{tuples_of, FoldsTo, StopsAt, TooLargeAt, NoDerivation, Excludes, SupportsNothing, all_tags, all_windows}
+use Rattle.spki_reduce.specs.Chain.{tuples_of, FoldsTo, StopsAt, HasMet, TooLargeAt, NoDerivation, Excludes, SupportsNothing, all_tags, all_windows}
 use Rattle.spki_reduce.proofs.Bracketing.{from_left-more, from_left-leaves, front, one_root}
 use Rattle.spki_reduce.proofs.Parts as parts
 use Rattle.spki_reduce.proofs.Folding as folding
-use Rattle.spki_reduce.proofs.Folding.{nodes_product-append, stops, grown}
+use Rattle.spki_reduce.proofs.Folding.{nodes_product-append, met_more, stops, grown}
 
 -- ---- lists
 
@@ -211,21 +211,40 @@ module _ (policy : Policy) (first : Tuple) (others : List Tuple) where
 module _
     (policy : Policy) (first : Tuple) (steps : List Step) (place : ℕ) (step : Step) (f : Five)
     (within : place < length steps) (read : step ≡ get_or steps place step)
-    (so_far : FoldsTo policy first (take place (tuples_of steps)) f) where
+    (so_far : FoldsTo policy first (take place (tuples_of steps)) f) (has_met : HasMet first (take place (tuples_of steps)) f) where
   step_stands : slice_get (tuples_of steps) place ≡ Some (step_tuple step)
   step_stands = slice_get-map step_tuple steps place ∙ ap (option_map step_tuple)
       (slice_get-get_or steps place step within ∙ ap Some (sym read))
 
+  more_tags : all_tags (first ∷ take (place + 1) (tuples_of steps))
+      ≡ all_tags (first ∷ take place (tuples_of steps)) ++ tags_of (step_tuple step)
+  more_tags =
+      let before = first ∷ take place (tuples_of steps) in
+      ap (λ n. all_tags (first ∷ take n (tuples_of steps))) (add-one place)
+      ∙ ap (λ ts. all_tags (first ∷ ts)) (more_at (tuples_of steps) place (step_tuple step) step_stands)
+      ∙ flat_map-append tags_of before (step_tuple step ∷ [])
+      ∙ ap (λ ts. all_tags before ++ ts) (append-nil (tags_of (step_tuple step)))
+
+  -- what the tag so far and those of the step leave is what all tags up to the step leave
+  pub met_here :
+      met (f.tag ∷ tags_of (step_tuple step)) ≡ met (all_tags (first ∷ take (place + 1) (tuples_of steps)))
+  met_here =
+      met_more f.tag (all_tags (first ∷ take place (tuples_of steps))) (tags_of (step_tuple step)) has_met ∙ ap met (sym more_tags)
+
   pub stops_here : (cause : Cause) → Stops policy (five (five_tuple f)) (step_tuple step) cause
+      → (cause ≡ NoTag → met (f.tag ∷ tags_of (step_tuple step)) ≡ set none)
       → StopsAt policy first (tuples_of steps) (place + 1) cause
-  stops_here cause h = record {
+  stops_here cause h nothing = record {
     place = place;
     numbered = add-one place;
     tuple = step_tuple step;
     stands = step_stands;
     root = so_far.root;
     derived = so_far.derived;
+    timely = so_far.timely;
+    tagged = λ e. so_far.tagged (has_met ∙ e);
     stopped = stops policy so_far.root f so_far.reduced (step_tuple step) cause h;
+    nothing_met = λ named. sym met_here ∙ nothing named;
   }
 
   pub goes_on : (g : Five)
@@ -245,5 +264,10 @@ module _
     stands = step_stands;
     root = so_far.root;
     derived = so_far.derived;
+    timely = so_far.timely;
+    tagged = λ e. so_far.tagged (has_met ∙ e);
     too_large = folding.too_large policy so_far.root f so_far.reduced (step_tuple step) h;
+    met_too_large =
+        let P : Tag → Type 0 = λ t. 1000000 < nodes_product (t ∷ tags_of (step_tuple step)) in
+        subst P has_met (too_many policy (five_tuple f) (step_tuple step) h);
   }

@@ -4,7 +4,7 @@ use Rattle.spki_reduce.specs.Tuples.{five}
 use Rattle.spki_reduce.specs.Views.{five_tuple, step_tuple}
 use Rattle.spki_reduce.specs.Chain.{tuples_of}
 use Rattle.spki_reduce.proofs.Folding.{same_issuer}
-use Rattle.spki_reduce.proofs.Chains.{stops_here, goes_on, too_large, too_large_here, excluded, unsupported}
+use Rattle.spki_reduce.proofs.Chains.{stops_here, goes_on, met_here, too_large, too_large_here, excluded, unsupported}
 use Rattle.spki_reduce.proofs.chain.fold_chain.Goals as goal
 
 -- what the exit of a `?` returns
@@ -17,7 +17,7 @@ returns-in_err-next-clause-too_large_at c e =
     let same = same_fault c.from_residual-in_err-next.result c.in_err-next.field-0.0 TooLarge c.from_residual-in_err-next.ensures.1 e in
     too_large_here c.args.policy (five (five_tuple c.args.first.now)) c.args.steps.now c.loop-place.place
     c.index-steps-place.result c.loop-place.folded (omega arith) c.index-steps-place.is c.loop-place.invariant.folds
-    (c.in_err-next.ensures.too_large (ap Err same))
+    c.loop-place.invariant.which (c.in_err-next.ensures.too_large (ap Err same))
 
 pub returns-in_err-next-clause-too_large : goal.returns-in_err-next-clause-too_large
 returns-in_err-next-clause-too_large c e =
@@ -27,9 +27,10 @@ returns-in_err-next-clause-too_large c e =
 pub returns-in-Stopped-clause-fold : goal.returns-in-Stopped-clause-fold
 returns-in-Stopped-clause-fold c =
     let stopped = rw c.in-Stopped.is at c.in_ok-next.ensures.joined in
+    let nothing = rw c.in-Stopped.is at c.in_ok-next.ensures.which in
     stops_here c.args.policy (five (five_tuple c.args.first.now)) c.args.steps.now c.loop-place.place
     c.index-steps-place.result c.loop-place.folded (omega arith) c.index-steps-place.is c.loop-place.invariant.folds
-    c.in-Stopped.cause stopped
+    c.loop-place.invariant.which c.in-Stopped.cause stopped nothing
 
 pub returns-in-Stopped-clause-excluded : goal.returns-in-Stopped-clause-excluded
 returns-in-Stopped-clause-excluded c =
@@ -47,7 +48,11 @@ loop-place-preserved c =
     record {
       folds = goes_on c.args.policy (five (five_tuple c.args.first.now)) c.args.steps.now c.loop-place.place
           c.index-steps-place.result c.loop-place.folded (omega arith) c.index-steps-place.is c.loop-place.invariant.folds
-          c.in-Done.next made;
+          c.loop-place.invariant.which c.in-Done.next made;
+      which = (rw c.in-Done.is at c.in_ok-next.ensures.which)
+          ∙ met_here c.args.policy (five (five_tuple c.args.first.now)) c.args.steps.now c.loop-place.place
+          c.index-steps-place.result c.loop-place.folded (omega arith) c.index-steps-place.is c.loop-place.invariant.folds
+          c.loop-place.invariant.which;
       issuer = same_issuer c.args.policy c.loop-place.folded c.in-Done.next (step_tuple c.index-steps-place.result) made.0
           ∙ c.loop-place.invariant.issuer;
       alone = λ e. absurd (omega arith);
