@@ -62,6 +62,9 @@ module _ (window : Window) (windows more : List Window) (same : (t : List ℕ) �
   some_more : SomeMoment (window ∷ more) → SomeMoment (windows ++ more)
   some_more h = (h.0, h.1, sym (within_more h.0) ∙ h.2)
 
+  some_fewer : SomeMoment (windows ++ more) → SomeMoment (window ∷ more)
+  some_fewer h = (h.0, h.1, within_more h.0 ∙ h.2)
+
   none_more : NoMoment (window ∷ more) → NoMoment (windows ++ more)
   none_more h t = sym (within_more t) ∙ h t
 
@@ -198,6 +201,18 @@ module _ (policy : Policy) (root : FiveTuple) (f : Five) (reduced : ReducesToFiv
     more_nodes f.tag root.tags right.tags reduced.nodes 1000000 h.1,
   )
   too_large (four right) h = h
+
+  pub too_large_back : (right : Tuple) → TooLargeFor policy root right → 1000000 < nodes_product (f.tag ∷ tags_of right)
+      → TooLargeFor policy (five_tuple f) right
+  too_large_back (five right) h large = (
+    record {
+      issues = issues_back right h.0.issues;
+      allowed = reduced.delegation ∙ h.0.allowed;
+      timely = some_fewer f.window root.windows right.windows reduced.moments h.0.timely;
+    },
+    large,
+  )
+  too_large_back (four right) h large = h
 
 -- what two tuples become is from the left issuer
 pub same_issuer : (policy : Policy) (f g : Five) (right : Tuple) → BecomesFive policy (five (five_tuple f)) right g

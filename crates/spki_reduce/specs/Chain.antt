@@ -43,33 +43,36 @@ pub record FoldsTo (policy : Policy) (first : Tuple) (others : List Tuple) (f : 
 abbrev pub HasMet : Tuple → List Tuple → Five → Type 0
 HasMet first others f = f.tag ≡ met (all_tags (first ∷ others))
 
--- A chain stops at a step, counted from 1, for a cause: the tree of the tuples before it that is bracketed from the
--- left is a derivation, and the step's tuple doesn't join its root. It is the first such step: some moment is within
--- all windows before it, and what the tags before it leave, met in turn, isn't (* set), but where none of the others
--- has a tag. For its tags the chain stops only where they leave (* set) with the step's.
+-- No step of a chain stops it: the tree of its tuples that is bracketed from the left is a derivation of this root, some
+-- moment is within all windows, if there are other tuples than the first, and what the tags leave, met in turn, isn't
+-- (* set), but where none of the others has a tag.
+pub record GoesThrough (policy : Policy) (first : Tuple) (others : List Tuple) (root : FiveTuple) : Type 0 where
+  pub derived : Derives policy (from_left first others) (five root)
+  pub timely : others ≢ [] → SomeMoment root.windows
+  pub tagged : met (all_tags (first ∷ others)) ≡ set none → all_tags others ≡ []
+
+-- A chain stops at a step, counted from 1, for a cause: no step before it stops the chain, and the step's tuple doesn't
+-- join the root of what stands before it. For its tags the chain stops only where those up to the step, met in turn,
+-- leave (* set).
 pub record StopsAt (policy : Policy) (first : Tuple) (others : List Tuple) (step : ℕ) (cause : Cause) : Type 0 where
   pub place : ℕ
   pub numbered : step ≡ suc place
   pub tuple : Tuple
   pub stands : slice_get others place ≡ Some tuple
   pub root : FiveTuple
-  pub derived : Derives policy (from_left first (take place others)) (five root)
-  pub timely : take place others ≢ [] → SomeMoment root.windows
-  pub tagged : met (all_tags (first ∷ take place others)) ≡ set none → all_tags (take place others) ≡ []
+  pub before : GoesThrough policy first (take place others) root
   pub stopped : Stops policy (five root) tuple cause
   pub nothing_met : cause ≡ NoTag → met (all_tags (first ∷ take step others)) ≡ set none
 
--- A chain is too large at a step: the tree of the tuples before it that is bracketed from the left is a derivation, and
--- the step's tuple joins its root but for their tags, the product of whose nodes is over 1000000. So is the product of
--- the nodes of the step's tag and of what the tags before it leave, met in turn. No step before it stops the chain.
+-- A chain is too large at a step: no step before it stops the chain, and the step's tuple joins the root of what stands
+-- before it but for their tags, the product of whose nodes is over 1000000. So is the product of the nodes of the step's
+-- tag and of what the tags before it leave, met in turn.
 pub record TooLargeAt (policy : Policy) (first : Tuple) (others : List Tuple) : Type 0 where
   pub place : ℕ
   pub tuple : Tuple
   pub stands : slice_get others place ≡ Some tuple
   pub root : FiveTuple
-  pub derived : Derives policy (from_left first (take place others)) (five root)
-  pub timely : take place others ≢ [] → SomeMoment root.windows
-  pub tagged : met (all_tags (first ∷ take place others)) ≡ set none → all_tags (take place others) ≡ []
+  pub before : GoesThrough policy first (take place others) root
   pub too_large : TooLargeFor policy root tuple
   pub met_too_large : 1000000 < nodes_product (met (all_tags (first ∷ take place others)) ∷ tags_of tuple)
 

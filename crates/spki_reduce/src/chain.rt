@@ -51,6 +51,7 @@ pub fn fold_chain<'a>(
     // When it is refused: the chain joins up to a step that is too large for what it became, so the product of all nodes is.
     ensures too_large_at { IsErrOf result ReduceFault.TooLarge →
         TooLargeAt policy (five (five_tuple first.now)) (tuples_of steps.now) }
+    ensures small { IfOk result (λ fold. ¬ TooLargeAt policy (five (five_tuple first.now)) (tuples_of steps.now)) }
     ensures too_large { IsErrOf result ReduceFault.TooLarge →
         1000000 < nodes_product (all_tags (five (five_tuple first.now) ∷ tuples_of steps.now)) }
 {
@@ -98,6 +99,7 @@ impl<'a> Five<'a> {
             (λ cause. cause ≡ Cause.NoTag → met (self.now.tag ∷ tags_of (step_tuple step.now)) ≡ set none)) }
         ensures too_large { IsErrOf result ReduceFault.TooLarge →
             TooLargeFor policy (five_tuple self.now) (step_tuple step.now) }
+        ensures small { IfOk result (λ joined. ¬ TooLargeFor policy (five_tuple self.now) (step_tuple step.now)) }
     {
         match step {
             Step::Auth(next) => self.then(alloc, next, policy),

@@ -5,6 +5,7 @@ use Rattle.spki_reduce.specs.Views.{five_tuple, step_tuple}
 use Rattle.spki_reduce.specs.Chain.{tuples_of}
 use Rattle.spki_reduce.proofs.Folding.{same_issuer}
 use Rattle.spki_reduce.proofs.Chains.{stops_here, goes_on, met_here, too_large, too_large_here, excluded, unsupported}
+use Rattle.spki_reduce.proofs.Through.{small_here, small_stopped}
 use Rattle.spki_reduce.proofs.chain.fold_chain.Goals as goal
 
 -- what the exit of a `?` returns
@@ -42,6 +43,13 @@ returns-in-Stopped-clause-unsupported c =
     unsupported c.args.policy (five (five_tuple c.args.first.now)) (tuples_of c.args.steps.now) (c.loop-place.place + 1)
     c.in-Stopped.cause (returns-in-Stopped-clause-fold c)
 
+pub returns-in-Stopped-clause-small : goal.returns-in-Stopped-clause-small
+returns-in-Stopped-clause-small c =
+    small_stopped c.args.policy (five (five_tuple c.args.first.now)) c.args.steps.now c.loop-place.place
+    c.index-steps-place.result c.loop-place.folded (omega arith) c.index-steps-place.is c.loop-place.invariant.folds
+    c.loop-place.invariant.which c.loop-place.invariant.small c.in_ok-next.ensures.small c.in-Stopped.cause
+    (returns-in-Stopped-clause-fold c)
+
 pub loop-place-preserved : goal.loop-place-preserved
 loop-place-preserved c =
     let made = rw c.in-Done.is at c.in_ok-next.ensures.joined in
@@ -53,6 +61,9 @@ loop-place-preserved c =
           ∙ met_here c.args.policy (five (five_tuple c.args.first.now)) c.args.steps.now c.loop-place.place
           c.index-steps-place.result c.loop-place.folded (omega arith) c.index-steps-place.is c.loop-place.invariant.folds
           c.loop-place.invariant.which;
+      small = small_here c.args.policy (five (five_tuple c.args.first.now)) c.args.steps.now c.loop-place.place
+          c.index-steps-place.result c.loop-place.folded (omega arith) c.index-steps-place.is c.loop-place.invariant.folds
+          c.loop-place.invariant.which c.loop-place.invariant.small c.in_ok-next.ensures.small;
       issuer = same_issuer c.args.policy c.loop-place.folded c.in-Done.next (step_tuple c.index-steps-place.result) made.0
           ∙ c.loop-place.invariant.issuer;
       alone = λ e. absurd (omega arith);
