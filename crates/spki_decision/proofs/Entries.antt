@@ -2,7 +2,9 @@
 use Rattle.std.proofs.Common.{◌≡◌, ℕ, suc, ◌+◌, ◌<◌, List, Some, slice_get, length, refl, sym, ◌∙◌, arith, below_more}
 use Rattle.std.proofs.lemmas.Option.{slice_get_within}
 use Rattle.spki_cert.specs.declared.entry.Entry.{Entry}
-use Rattle.spki_reduce.specs.Tuples.{Tuple}
+use Rattle.spki_reduce.specs.Tuples.{Tuple, five}
+use Rattle.spki_reduce.specs.Views.{entry_tuple}
+use Rattle.spki_reduce.proofs.Chains.{too_large as large}
 use Rattle.spki_case.specs.Case.{Case, Verified}
 use Rattle.spki_case.specs.Sequence.{keys_of, certificates}
 use Rattle.spki_decision.specs.declared.deciding.Decision.{Decision}
@@ -70,5 +72,6 @@ module _ (c : Case) (verified : Verified) (tuples : List Tuple) (shown : AreShow
     none_granted = λ n below g. h.none_before g.place g.entry (let n_is = g.numbered in omega arith) g.stands (supported n g);
     tuples = tuples;
     shown = shown;
-    large = h.large;
+    at = h.at;
+    large = large c.policy (five (entry_tuple h.entry)) tuples h.at;
   }

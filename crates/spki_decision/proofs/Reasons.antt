@@ -11,7 +11,7 @@ use Rattle.spki_reduce.specs.Views.{entry_tuple}
 use Rattle.spki_reduce.specs.Derivation.{from_left}
 use Rattle.spki_reduce.specs.Supports.{Grants as Allows}
 use Rattle.spki_reduce.specs.Restrictions.{in_each, within_each}
-use Rattle.spki_reduce.specs.Chain.{FoldsTo}
+use Rattle.spki_reduce.specs.Chain.{FoldsTo, HasMet}
 use Rattle.spki_reduce.specs.LastTests.{IsFirstLack}
 use Rattle.spki_reduce.proofs.Bracketing.{from_left-leaves, one_root}
 use Rattle.spki_reduce.proofs.Chains.{unsupported}
@@ -36,17 +36,23 @@ use Rattle.spki_decision.proofs.Entries.{granted, supported}
 
 module _ (c : Case) (tuples : List Tuple) (e : Entry) where
   first_lack : (f : Five) (lack : Lack) (folds : FoldsTo c.policy (five (entry_tuple e)) tuples f)
-      → IsFirstLack c.policy folds.root c.key c.request c.moment (Some lack) → LacksFirst c tuples e lack
-  first_lack f lack folds h = record { root = folds.root; derived = folds.derived; timely = folds.timely; first = h }
+      → HasMet (five (entry_tuple e)) tuples f → IsFirstLack c.policy folds.root c.key c.request c.moment (Some lack) → LacksFirst c tuples e lack
+  first_lack f lack folds met h = record {
+    root = folds.root;
+    derived = folds.derived;
+    timely = folds.timely;
+    tagged = λ nothing. folds.tagged (met ∙ nothing);
+    first = h;
+  }
 
   -- how the last tests end is the reason
   pub reasoned : (f : Five) (lack : Option Lack) (folds : FoldsTo c.policy (five (entry_tuple e)) tuples f)
-      → IsFirstLack c.policy folds.root c.key c.request c.moment lack → (IsNone lack ↔ Supported c tuples e)
+      → HasMet (five (entry_tuple e)) tuples f → IsFirstLack c.policy folds.root c.key c.request c.moment lack → (IsNone lack ↔ Supported c tuples e)
       → IsReason c tuples e (reason_of lack)
-  reasoned f None folds h s = s.0 refl
-  reasoned f (Some lack.NotTheKey) folds h s = first_lack f lack.NotTheKey folds h
-  reasoned f (Some lack.TagLacks) folds h s = first_lack f lack.TagLacks folds h
-  reasoned f (Some lack.WindowLacks) folds h s = first_lack f lack.WindowLacks folds h
+  reasoned f None folds met h s = s.0 refl
+  reasoned f (Some lack.NotTheKey) folds met h s = first_lack f lack.NotTheKey folds met h
+  reasoned f (Some lack.TagLacks) folds met h s = first_lack f lack.TagLacks folds met h
+  reasoned f (Some lack.WindowLacks) folds met h s = first_lack f lack.WindowLacks folds met h
 
   lacking : (root : FiveTuple) (lack : Lack) → IsFirstLack c.policy root c.key c.request c.moment (Some lack)
       → Allows c.policy root c.key c.request c.moment → ⊥

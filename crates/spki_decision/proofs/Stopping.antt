@@ -11,8 +11,8 @@ use Rattle.spki_reduce.specs.declared.fold.Cause.{Cause}
 use Rattle.spki_reduce.specs.declared.tuple.Step.{Step}
 use Rattle.spki_reduce.specs.Tuples.{Tuple, five}
 use Rattle.spki_reduce.specs.Views.{entry_tuple, step_tuple}
-use Rattle.spki_reduce.specs.Restrictions.{nodes_product}
-use Rattle.spki_reduce.specs.Chain.{tuples_of, all_tags, StopsAt, Excludes}
+use Rattle.spki_reduce.specs.Chain.{tuples_of, StopsAt, TooLargeAt, Excludes}
+use Rattle.spki_reduce.proofs.Chains.{too_large}
 use Rattle.spki_case.specs.Case.{Case, Verified}
 use Rattle.spki_case.specs.Sequence.{Shown, certificates, keys_of}
 use Rattle.spki_decision.specs.declared.judging.Stop.{Stop}
@@ -79,11 +79,11 @@ module _ (c : Case) (items : List Entry) (place : ℕ) (e : Entry) (same : items
       let before = rw (← same) at h in
       rw (grown, ← same, taken) (all_zipped_more R (take place items) so_far e answer before k)
 
-  pub large_here : (tuples : List Tuple) → 1000000 < nodes_product (all_tags (five (entry_tuple e) ∷ tuples))
-      → HasLargeTags c tuples
+  pub large_here : (tuples : List Tuple) → TooLargeAt c.policy (five (entry_tuple e)) tuples → HasLargeTags c tuples
   large_here tuples h = record {
     place = place;
     entry = e;
     stands = rw same at (slice_get-get_or items place e below ∙ ap Some (sym read));
-    large = h;
+    at = h;
+    large = too_large c.policy (five (entry_tuple e)) tuples h;
   }

@@ -1,13 +1,15 @@
 -- Why each entry of a case grants what is asked, or doesn't (RFC 2693, section 6.3).
-use Rattle.std.specs.Prelude.{◌≡◌, ◌≢◌, ◌↔◌, ℕ, suc, ◌<◌, List, [], Option, Some, None, slice_get}
+use Rattle.std.specs.Prelude.{◌≡◌, ◌≢◌, ◌↔◌, ℕ, suc, ◌<◌, List, [], ◌∷◌, Option, Some, None, slice_get}
 use Rattle.std.specs.List.{AllZip}
+use Rattle.spki_tag.specs.Tag.{set, none}
 use Rattle.spki_cert.specs.declared.entry.Entry.{Entry}
 use Rattle.spki_reduce.specs.declared.last_tests.Lack.{Lack}
 use Rattle.spki_reduce.specs.declared.last_tests.Lack.TheVariants as lack
 use Rattle.spki_reduce.specs.Tuples.{FiveTuple, Tuple, five}
 use Rattle.spki_reduce.specs.Views.{entry_tuple}
 use Rattle.spki_reduce.specs.Derivation.{Derives, from_left}
-use Rattle.spki_reduce.specs.Restrictions.{SomeMoment}
+use Rattle.spki_reduce.specs.Restrictions.{SomeMoment, met}
+use Rattle.spki_reduce.specs.Chain.{all_tags}
 use Rattle.spki_reduce.specs.LastTests.{IsFirstLack}
 use Rattle.spki_case.specs.Case.{Case, Verified}
 use Rattle.spki_decision.specs.declared.deciding.Decision.{Decision}
@@ -22,11 +24,13 @@ use Rattle.spki_decision.specs.Granted.{Granted}
 use Rattle.spki_decision.specs.Reduced.{IsFailure, StopsAtItem}
 
 -- An entry's tuple and the certificates' have a derivation, whose windows leave some moment, if there is a certificate.
--- Of its root this is the first of the last tests that is not passed.
+-- What their tags leave, met in turn, isn't (* set), but where no certificate has a tag. Of its root this is the first of
+-- the last tests that is not passed.
 pub record LacksFirst (c : Case) (tuples : List Tuple) (e : Entry) (lack : Lack) : Type 0 where
   pub root : FiveTuple
   pub derived : Derives c.policy (from_left (five (entry_tuple e)) tuples) (five root)
   pub timely : tuples ≢ [] → SomeMoment root.windows
+  pub tagged : met (all_tags (five (entry_tuple e) ∷ tuples)) ≡ set none → all_tags tuples ≡ []
   pub first : IsFirstLack c.policy root c.key c.request c.moment (Some lack)
 
 -- why an entry and the certificates grant what is asked, or don't

@@ -4,7 +4,7 @@ use Rattle.spki_cert.specs.declared.principal.Policy.TheVariants.{Open, Strict}
 use Rattle.spki_cert.specs.declared.entry.Entry.{Entry}
 use Rattle.spki_reduce.specs.Tuples.{Tuple, five}
 use Rattle.spki_reduce.specs.Restrictions.{nodes_product}
-use Rattle.spki_reduce.specs.Chain.{all_tags}
+use Rattle.spki_reduce.specs.Chain.{all_tags, TooLargeAt}
 use Rattle.spki_reduce.specs.Views.{entry_tuple}
 use Rattle.spki_reduce.specs.Derivation.{Tree, leaves}
 use Rattle.spki_reduce.specs.Supports.{Supports}
@@ -35,8 +35,9 @@ IsNoneGranted c verified = (n : ℕ) → ¬ Granted n c verified
 
 -- ---- limits
 
--- Every certificate stands, and there is an entry, with none before it granted, for which the product of the nodes of
--- its tag and of all the certificates' tags is over 1,000,000.
+-- Every certificate stands, and there is an entry, with none before it granted, whose chain is too large at a step: no
+-- certificate before it stops the chain, which joins it but for the tags. So the product of the nodes of the entry's tag
+-- and of all the certificates' tags is over 1,000,000.
 pub record IsTooLarge (c : Case) (verified : Verified) : Type 0 where
   pub place : ℕ
   pub entry : Entry
@@ -44,6 +45,7 @@ pub record IsTooLarge (c : Case) (verified : Verified) : Type 0 where
   pub none_granted : (n : ℕ) → n < suc place → ¬ Granted n c verified
   pub tuples : List Tuple
   pub shown : AreShown c.policy verified c.items tuples
+  pub at : TooLargeAt c.policy (five (entry_tuple entry)) tuples
   pub large : 1000000 < nodes_product (all_tags (five (entry_tuple entry) ∷ tuples))
 
 -- ---- policies

@@ -6,7 +6,7 @@ use Rattle.spki_reduce.specs.declared.fold.Cause.{Cause}
 use Rattle.spki_reduce.specs.Tuples.{Tuple, five, own}
 use Rattle.spki_reduce.specs.Views.{entry_tuple, issuer_of}
 use Rattle.spki_reduce.specs.Restrictions.{nodes_product}
-use Rattle.spki_reduce.specs.Chain.{FoldsTo, StopsAt, Excludes, all_tags}
+use Rattle.spki_reduce.specs.Chain.{FoldsTo, HasMet, StopsAt, TooLargeAt, Excludes, all_tags}
 use Rattle.spki_case.specs.Case.{Case, Verified}
 use Rattle.spki_case.specs.Sequence.{Shown, certificates}
 use Rattle.spki_decision.specs.declared.judging.Stop.{Stop}
@@ -33,7 +33,8 @@ pub record StopsAtItem (c : Case) (tuples : List Tuple) (e : Entry) (item : ℕ)
 
 -- an entry and the certificates become this authorization, or stop at this item, for this cause
 abbrev pub IsEntryFold : Case → List Tuple → Entry → EntryFold → Type 0
-IsEntryFold c tuples e (Done f) = FoldsTo c.policy (five (entry_tuple e)) tuples f
+IsEntryFold c tuples e (Done f) =
+    FoldsTo c.policy (five (entry_tuple e)) tuples f × HasMet (five (entry_tuple e)) tuples f
 IsEntryFold c tuples e (Stopped item cause) = StopsAtItem c tuples e item cause
 
 -- what an entry becomes is issued by the keeper of the access list
@@ -54,15 +55,16 @@ IsReduction c verified (Entries folds) = AreFolds c verified folds.items
 
 -- ---- limits
 
--- for some entry the product of the nodes of its tag and of these tuples' tags is over 1,000,000
+-- the chain of some entry's tuple and these is too large at a step
 pub record HasLargeTags (c : Case) (tuples : List Tuple) : Type 0 where
   pub place : ℕ
   pub entry : Entry
   pub stands : slice_get c.entries place ≡ Some entry
+  pub at : TooLargeAt c.policy (five (entry_tuple entry)) tuples
   pub large : 1000000 < nodes_product (all_tags (five (entry_tuple entry) ∷ tuples))
 
--- Every certificate stands, and for some entry the product of the nodes of its tag and of all the certificates' tags
--- is over 1,000,000.
+-- Every certificate stands, and the chain of some entry is too large at a step. So the product of the nodes of its tag
+-- and of all the certificates' tags is over 1,000,000.
 pub record SomeTooLarge (c : Case) (verified : Verified) : Type 0 where
   pub tuples : List Tuple
   pub shown : AreShown c.policy verified c.items tuples

@@ -1,10 +1,9 @@
 -- Which entries support what is asked, where the certificates that are shown are known.
-use Rattle.std.specs.Prelude.{◌≡◌, ℕ, suc, ◌<◌, List, ◌∷◌, Some, slice_get}
+use Rattle.std.specs.Prelude.{◌≡◌, ℕ, suc, ◌<◌, List, Some, slice_get}
 use Rattle.spki_cert.specs.declared.entry.Entry.{Entry}
 use Rattle.spki_reduce.specs.Tuples.{Tuple, five}
 use Rattle.spki_reduce.specs.Views.{entry_tuple}
-use Rattle.spki_reduce.specs.Restrictions.{nodes_product}
-use Rattle.spki_reduce.specs.Chain.{all_tags}
+use Rattle.spki_reduce.specs.Chain.{TooLargeAt}
 use Rattle.spki_reduce.specs.LastTests.{IsSupported}
 use Rattle.spki_case.specs.Case.{Case}
 use Rattle.spki_decision.specs.declared.deciding.Decision.{Decision}
@@ -32,10 +31,10 @@ abbrev pub Names : Case → List Tuple → Decision → Type 0
 Names c tuples (Yes n) = IsFirstSupported c tuples n
 Names c tuples No = (k : ℕ) (e : Entry) → slice_get c.entries k ≡ Some e → ¬ Supported c tuples e
 
--- an entry, with none before it that does, whose tag and the certificates' are too large together
+-- an entry, with none before it that does, whose chain is too large at a step
 pub record HasLarge (c : Case) (tuples : List Tuple) : Type 0 where
   pub place : ℕ
   pub entry : Entry
   pub stands : slice_get c.entries place ≡ Some entry
   pub none_before : NoneBefore c tuples place
-  pub large : 1000000 < nodes_product (all_tags (five (entry_tuple entry) ∷ tuples))
+  pub at : TooLargeAt c.policy (five (entry_tuple entry)) tuples

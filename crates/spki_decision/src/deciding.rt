@@ -1,10 +1,9 @@
 //! Deciding a case (RFC 2693, section 6).
 
-ghost use Rattle.std.specs.Prelude.{◌≡◌, ◌∷◌, ◌<◌, ◌↔◌, List, IsTrue, IfOk, IsErrOf};
+ghost use Rattle.std.specs.Prelude.{◌≡◌, ◌↔◌, List, IsTrue, IfOk, IsErrOf};
 ghost use Rattle.spki_case.specs.View.{model};
 ghost use Rattle.spki_reduce.specs.Tuples.{five};
-ghost use Rattle.spki_reduce.specs.Restrictions.{nodes_product};
-ghost use Rattle.spki_reduce.specs.Chain.{tuples_of, all_tags};
+ghost use Rattle.spki_reduce.specs.Chain.{tuples_of, TooLargeAt};
 ghost use Rattle.spki_reduce.specs.Views.{entry_tuple};
 ghost use Rattle.spki_decision.specs.Supported.{Supported, Names, HasLarge};
 ghost use Rattle.spki_decision.specs.Granted.{IsTooLarge};
@@ -30,7 +29,7 @@ pub enum Decision {
 /// Why a case was not decided.
 #[derive(Clone, Copy, Debug, PartialEq, Eq, Error)]
 pub enum GuardFault {
-    /// The product of the nodes of an entry's tag and of the certificates' tags is over 1,000,000.
+    /// The product of the nodes of a certificate's tag and of what stands before it is over 1,000,000.
     #[error("the tags are too large")]
     TooLarge,
     /// Memory was refused, to the guard or to the verifier.
@@ -76,8 +75,9 @@ impl From<ReduceFault> for GuardFault {
 ///
 /// # Errors
 ///
-/// `TooLarge` only where the certificates stand, and for an entry with none before it granted the product of the
-/// nodes of all tags is over 1,000,000. `Memory` where memory was refused, to this or to the verifier.
+/// `TooLarge` only where the certificates stand, and for an entry with none before it granted the tag of one of them
+/// is too large for what the entry and those before it became: the product of their nodes is over 1,000,000. `Memory`
+/// where memory was refused, to this or to the verifier.
 pub fn decide<V: Verifier>(alloc: Global, case: &Case, verifier: &V) -> Result<Decision, GuardFault>
     ensures exact { IfOk result (IsDecision (model case.now) (V.accepted verifier.now)) }
     ensures too_large { IsErrOf result GuardFault.TooLarge → IsTooLarge (model case.now) (V.accepted verifier.now) }
@@ -114,7 +114,7 @@ fn grants<'a>(
 ) -> Result<bool, GuardFault>
     ensures exact { IfOk result (λ yes. IsTrue yes ↔ Supported (model case.now) (tuples_of steps.now) entry.now) }
     ensures too_large { IsErrOf result GuardFault.TooLarge →
-        1000000 < nodes_product (all_tags (five (entry_tuple entry.now) ∷ tuples_of steps.now)) }
+        TooLargeAt case.now.policy (five (entry_tuple entry.now)) (tuples_of steps.now) }
 {
     case.request.known();
     match fold_entry(alloc, entry, steps, case.policy)? {

@@ -1,12 +1,11 @@
 //! Why the entries of a case grant what is asked, or don't (RFC 2693, section 6.3).
 
-ghost use Rattle.std.specs.Prelude.{◌≡◌, ◌∷◌, ◌<◌, map, length, IfOk, IsErrOf};
+ghost use Rattle.std.specs.Prelude.{◌≡◌, map, length, IfOk, IsErrOf};
 ghost use Rattle.std.specs.List.{AllZip};
 ghost use Rattle.spki_case.specs.View.{model};
 ghost use Rattle.spki_case.specs.Sequence.{certificates};
 ghost use Rattle.spki_reduce.specs.Tuples.{five};
-ghost use Rattle.spki_reduce.specs.Restrictions.{nodes_product};
-ghost use Rattle.spki_reduce.specs.Chain.{tuples_of, all_tags};
+ghost use Rattle.spki_reduce.specs.Chain.{tuples_of, TooLargeAt};
 ghost use Rattle.spki_reduce.specs.Views.{entry_tuple};
 ghost use Rattle.spki_decision.specs.Reduced.{HasLargeTags, SomeTooLarge};
 ghost use Rattle.spki_decision.specs.Explained.{IsReason, IsExplanation, reason_of};
@@ -61,8 +60,9 @@ pub enum Explanation {
 ///
 /// # Errors
 ///
-/// `TooLarge` only where the certificates stand, and for some entry the product of the nodes of all tags is over
-/// 1,000,000. `Memory` where memory was refused, to this or to the verifier.
+/// `TooLarge` only where the certificates stand, and for some entry the tag of one of them is too large for what the
+/// entry and those before it became: the product of their nodes is over 1,000,000. `Memory` where memory was refused,
+/// to this or to the verifier.
 pub fn explain<V: Verifier>(
     alloc: Global,
     case: &Case,
@@ -113,7 +113,7 @@ fn entry_reason<'a>(
     requires as_many { length steps.now ≡ length items.now }
     ensures exact { IfOk result (IsReason (model case.now) (tuples_of steps.now) entry.now) }
     ensures too_large { IsErrOf result GuardFault.TooLarge →
-        1000000 < nodes_product (all_tags (five (entry_tuple entry.now) ∷ tuples_of steps.now)) }
+        TooLargeAt case.now.policy (five (entry_tuple entry.now)) (tuples_of steps.now) }
 {
     match entry_fold(alloc, case, entry, items, steps)? {
         EntryFold::Stopped { item, cause } => Ok(Reason::Stopped { item, cause }),

@@ -1,10 +1,9 @@
 //! What an entry and the steps behind it become (RFC 2693, section 6.3).
 
-ghost use Rattle.std.specs.Prelude.{◌≡◌, ◌∷◌, ◌<◌, IfOk, IsErrOf};
+ghost use Rattle.std.specs.Prelude.{◌≡◌, ◌∷◌, IfOk, IsErrOf};
 ghost use Rattle.spki_reduce.specs.Tuples.{five, own};
-ghost use Rattle.spki_reduce.specs.Restrictions.{nodes_product};
 ghost use Rattle.spki_reduce.specs.Views.{issuer_of, entry_tuple, five_tuple};
-ghost use Rattle.spki_reduce.specs.Chain.{tuples_of, all_tags, FoldsTo, StopsAt, Excludes, SupportsNothing, MatchFold};
+ghost use Rattle.spki_reduce.specs.Chain.{tuples_of, FoldsTo, StopsAt, HasMet, TooLargeAt, Excludes, SupportsNothing, MatchFold};
 
 use spki_cert::{Entry, Policy};
 use spki_reduce::{Five, Fold, Issuer, ReduceFault, Step, fold_chain};
@@ -20,6 +19,8 @@ pub(crate) fn fold_entry<'a>(
     ensures fold { IfOk result (λ fold. MatchFold fold
         (FoldsTo policy (five (entry_tuple entry.now)) (tuples_of steps.now))
         (StopsAt policy (five (entry_tuple entry.now)) (tuples_of steps.now))) }
+    ensures which { IfOk result (λ fold. MatchFold fold
+        (HasMet (five (entry_tuple entry.now)) (tuples_of steps.now)) (λ step cause. Unit {0})) }
     ensures issuer { IfOk result (λ fold. MatchFold fold
         (λ f. issuer_of f.issuer ≡ own) (λ step cause. Unit {0})) }
     ensures excluded { IfOk result (λ fold. MatchFold fold (λ f. Unit {0})
@@ -27,7 +28,7 @@ pub(crate) fn fold_entry<'a>(
     ensures unsupported { IfOk result (λ fold. MatchFold fold (λ f. Unit {0})
         (λ step cause. SupportsNothing policy (five (entry_tuple entry.now) ∷ tuples_of steps.now))) }
     ensures too_large { IsErrOf result ReduceFault.TooLarge →
-        1000000 < nodes_product (all_tags (five (entry_tuple entry.now) ∷ tuples_of steps.now)) }
+        TooLargeAt policy (five (entry_tuple entry.now)) (tuples_of steps.now) }
 {
     let own = own_five(entry)?;
     fold_chain(alloc, &own, steps, policy)

@@ -17,32 +17,32 @@ use Rattle.spki_reduce.specs.declared.tuple.Step.{Step}
 use Rattle.spki_reduce.specs.Tuples.{FiveTuple, Tuple, five, four, tags_of, windows_of}
 use Rattle.spki_reduce.specs.Rules.{Joins}
 use Rattle.spki_reduce.specs.Derivation.{Tree, leaf, join, Derives, from_left}
-use Rattle.spki_reduce.specs.Restrictions.{in_each, within_each, NoMoment, NoRequest, nodes_product}
+use Rattle.spki_reduce.specs.Restrictions.{in_each, within_each, NoMoment, NoRequest, met, nodes_product}
 use Rattle.spki_reduce.specs.Stops.{Stops, TooLargeFor}
 use Rattle.spki_reduce.specs.Views.{five_tuple, step_tuple}
 use Rattle.spki_reduce.specs.Reduced.{BecomesFive}
-use Rattle.spki_reduce.specs.Chain.{tuples_of, FoldsTo, StopsAt, TooLargeAt, NoDerivation, Excludes, SupportsNothing, all_tags, all_windows}
+use Rattle.spki_reduce.specs.Chain.{tuples_of, FoldsTo, GoesThrough, StopsAt, HasMet, TooLargeAt, NoDerivation, Excludes, SupportsNothing, all_tags, all_windows}
 use Rattle.spki_reduce.proofs.Bracketing.{from_left-more, from_left-leaves, front, one_root}
 use Rattle.spki_reduce.proofs.Parts as parts
 use Rattle.spki_reduce.proofs.Folding as folding
-use Rattle.spki_reduce.proofs.Folding.{nodes_product-append, stops, grown}
+use Rattle.spki_reduce.proofs.Folding.{nodes_product-append, met_more, stops, grown}
 
 -- ---- lists
 
-more_at : (xs : List Tuple) (n : ℕ) (x : Tuple) → slice_get xs n ≡ Some x → take (suc n) xs ≡ take n xs ++ x ∷ []
+pub more_at : (xs : List Tuple) (n : ℕ) (x : Tuple) → slice_get xs n ≡ Some x → take (suc n) xs ≡ take n xs ++ x ∷ []
 more_at xs n x is =
     take-suc xs n x (slice_get_within xs n x is) ∙ ap (λ y. take n xs ++ y ∷ []) (get_or_from_slice_get xs n x x is)
 
-never : (b : Bool) → b ≡ false → b ≡ true → ⊥
+pub never : (b : Bool) → b ≡ false → b ≡ true → ⊥
 never b e f = let g : false ≡ true = sym e ∙ f in cc
 
-first_false : (a b : Bool) → a ≡ false → (a && b) ≡ false
+pub first_false : (a b : Bool) → a ≡ false → (a && b) ≡ false
 first_false a b e = ap (λ x. x && b) e
 
 -- ---- a tuple that doesn't join
 
 -- a cause that isn't a matter of what tags or windows leave
-abbrev IsMisfit : Cause → Type 0
+abbrev pub IsMisfit : Cause → Type 0
 IsMisfit NotIssuer = Unit {0}
 IsMisfit NotTheName = Unit {0}
 IsMisfit NoDelegation = Unit {0}
@@ -82,7 +82,7 @@ module _ (policy : Policy) (first : Tuple) where
   tags_so_far before root d =
       parts.all_tags policy (from_left first before) (five root) d ∙ ap (flat_map tags_of) (from_left-leaves first before)
 
-  windows_so_far : (before : List Tuple) (root : FiveTuple) → Derives policy (from_left first before) (five root)
+  pub windows_so_far : (before : List Tuple) (root : FiveTuple) → Derives policy (from_left first before) (five root)
       → root.windows ≡ all_windows (first ∷ before)
   windows_so_far before root d =
       parts.all_windows policy (from_left first before) (five root) d
@@ -99,14 +99,14 @@ module _ (policy : Policy) (first : Tuple) where
   -- ---- a chain that stops
 
   module _ (others : List Tuple) (step : ℕ) where
-    up_to : (cause : Cause) (h : StopsAt policy first others step cause)
+    pub up_to : (cause : Cause) (h : StopsAt policy first others step cause)
         → take step others ≡ take h.place others ++ h.tuple ∷ []
     up_to cause h = ap (λ n. take n others) h.numbered ∙ more_at others h.place h.tuple h.stands
 
     windows_up_to : (h : StopsAt policy first others step NoValidity)
         → h.root.windows ++ windows_of h.tuple ≡ all_windows (first ∷ take step others)
     windows_up_to h =
-        ap (λ ws. ws ++ windows_of h.tuple) (windows_so_far (take h.place others) h.root h.derived)
+        ap (λ ws. ws ++ windows_of h.tuple) (windows_so_far (take h.place others) h.root h.before.derived)
         ∙ ap (λ ws. all_windows (first ∷ take h.place others) ++ ws) (sym (append-nil (windows_of h.tuple)))
         ∙ sym (flat_map-append windows_of (first ∷ take h.place others) (h.tuple ∷ []))
         ∙ ap (λ ts. all_windows (first ∷ ts)) (sym (up_to NoValidity h))
@@ -114,28 +114,33 @@ module _ (policy : Policy) (first : Tuple) where
     tags_up_to : (h : StopsAt policy first others step NoTag)
         → h.root.tags ++ tags_of h.tuple ≡ all_tags (first ∷ take step others)
     tags_up_to h =
-        ap (λ ts. ts ++ tags_of h.tuple) (tags_so_far (take h.place others) h.root h.derived)
+        ap (λ ts. ts ++ tags_of h.tuple) (tags_so_far (take h.place others) h.root h.before.derived)
         ∙ ap (λ ts. all_tags (first ∷ take h.place others) ++ ts) (sym (append-nil (tags_of h.tuple)))
         ∙ sym (flat_map-append tags_of (first ∷ take h.place others) (h.tuple ∷ []))
         ∙ ap (λ ts. all_tags (first ∷ ts)) (sym (up_to NoTag h))
 
-    underivable : (cause : Cause) → IsMisfit cause → StopsAt policy first others step cause
-        → NoDerivation policy (first ∷ others)
-    underivable cause m h tree root e d =
+    pub underivable : (cause : Cause) → IsMisfit cause → StopsAt policy first others step cause → (after : List Tuple)
+        → NoDerivation policy (first ∷ (take step others ++ after))
+    underivable cause m h after tree root e d =
         let before = take h.place others in
-        let whole : others ≡ (before ++ h.tuple ∷ []) ++ drop step others =
-        sym (take-append-drop step others) ∙ ap (λ ts. ts ++ drop step others) (up_to cause h) in
-        let begun = front policy tree root first (before ++ h.tuple ∷ []) (drop step others) d
+        let whole : take step others ++ after ≡ (before ++ h.tuple ∷ []) ++ after =
+        ap (λ ts. ts ++ after) (up_to cause h) in
+        let begun = front policy tree root first (before ++ h.tuple ∷ []) after d
         (e ∙ ap (λ ts. first ∷ ts) whole) in
         let P : Tree → Type 0 = λ t. Derives policy t begun.0 in
-        let last = last_joins (from_left first before) h.tuple (five h.root) begun.0 h.derived
+        let last = last_joins (from_left first before) h.tuple (five h.root) begun.0 h.before.derived
         (subst P (from_left-more first h.tuple before) begun.1) in
         unjoined policy h.root h.tuple begun.0 cause m h.stopped last
 
+    misfits : (cause : Cause) → IsMisfit cause → StopsAt policy first others step cause → NoDerivation policy (first ∷ others)
+    misfits cause m h =
+        subst (λ ts. NoDerivation policy (first ∷ ts)) (take-append-drop step others)
+        (underivable cause m h (drop step others))
+
     pub excluded : (cause : Cause) → StopsAt policy first others step cause → Excludes policy first others step cause
-    excluded NotIssuer h = underivable NotIssuer tt h
-    excluded NotTheName h = underivable NotTheName tt h
-    excluded NoDelegation h = underivable NoDelegation tt h
+    excluded NotIssuer h = misfits NotIssuer tt h
+    excluded NotTheName h = misfits NotTheName tt h
+    excluded NoDelegation h = misfits NoDelegation tt h
     excluded NoValidity h = subst NoMoment (windows_up_to h) (no_moment policy h.root h.tuple h.stopped)
     excluded NoTag h = subst NoRequest (tags_up_to h) (no_request policy h.root h.tuple h.stopped)
 
@@ -200,7 +205,7 @@ module _ (policy : Policy) (first : Tuple) (others : List Tuple) where
       ap (λ ts. all_tags (first ∷ ts)) parted ∙ flat_map-append tags_of (before ++ h.tuple ∷ []) after
       ∙ ap (λ ts. ts ++ all_tags after) (flat_map-append tags_of before (h.tuple ∷ [])
       ∙ ap (λ ts. all_tags before ++ ts) (append-nil (tags_of h.tuple))
-      ∙ ap (λ ts. ts ++ tags_of h.tuple) (sym (tags_so_far policy first (take h.place others) h.root h.derived))) in
+      ∙ ap (λ ts. ts ++ tags_of h.tuple) (sym (tags_so_far policy first (take h.place others) h.root h.before.derived))) in
       let product = ap nodes_product all ∙ nodes_product-append (h.root.tags ++ tags_of h.tuple) (all_tags after) in
       let P : ℕ → Type 0 = λ x. 1000000 < x in
       subst P (sym product) (larger 1000000 (nodes_product (h.root.tags ++ tags_of h.tuple)) (nodes_product (all_tags after))
@@ -211,21 +216,43 @@ module _ (policy : Policy) (first : Tuple) (others : List Tuple) where
 module _
     (policy : Policy) (first : Tuple) (steps : List Step) (place : ℕ) (step : Step) (f : Five)
     (within : place < length steps) (read : step ≡ get_or steps place step)
-    (so_far : FoldsTo policy first (take place (tuples_of steps)) f) where
+    (so_far : FoldsTo policy first (take place (tuples_of steps)) f) (has_met : HasMet first (take place (tuples_of steps)) f) where
   step_stands : slice_get (tuples_of steps) place ≡ Some (step_tuple step)
   step_stands = slice_get-map step_tuple steps place ∙ ap (option_map step_tuple)
       (slice_get-get_or steps place step within ∙ ap Some (sym read))
 
+  pub one_more : take (place + 1) (tuples_of steps) ≡ take place (tuples_of steps) ++ step_tuple step ∷ []
+  one_more = ap (λ n. take n (tuples_of steps)) (add-one place) ∙ more_at (tuples_of steps) place (step_tuple step) step_stands
+
+  more_tags : all_tags (first ∷ take (place + 1) (tuples_of steps))
+      ≡ all_tags (first ∷ take place (tuples_of steps)) ++ tags_of (step_tuple step)
+  more_tags =
+      let before = first ∷ take place (tuples_of steps) in
+      ap (λ ts. all_tags (first ∷ ts)) one_more
+      ∙ flat_map-append tags_of before (step_tuple step ∷ [])
+      ∙ ap (λ ts. all_tags before ++ ts) (append-nil (tags_of (step_tuple step)))
+
+  -- what the tag so far and those of the step leave is what all tags up to the step leave
+  pub met_here :
+      met (f.tag ∷ tags_of (step_tuple step)) ≡ met (all_tags (first ∷ take (place + 1) (tuples_of steps)))
+  met_here =
+      met_more f.tag (all_tags (first ∷ take place (tuples_of steps))) (tags_of (step_tuple step)) has_met ∙ ap met (sym more_tags)
+
+  through : GoesThrough policy first (take place (tuples_of steps)) so_far.root
+  through = record { derived = so_far.derived; timely = so_far.timely; tagged = λ e. so_far.tagged (has_met ∙ e) }
+
   pub stops_here : (cause : Cause) → Stops policy (five (five_tuple f)) (step_tuple step) cause
+      → (cause ≡ NoTag → met (f.tag ∷ tags_of (step_tuple step)) ≡ set none)
       → StopsAt policy first (tuples_of steps) (place + 1) cause
-  stops_here cause h = record {
+  stops_here cause h nothing = record {
     place = place;
     numbered = add-one place;
     tuple = step_tuple step;
     stands = step_stands;
     root = so_far.root;
-    derived = so_far.derived;
+    before = through;
     stopped = stops policy so_far.root f so_far.reduced (step_tuple step) cause h;
+    nothing_met = λ named. sym met_here ∙ nothing named;
   }
 
   pub goes_on : (g : Five)
@@ -234,9 +261,7 @@ module _
       → FoldsTo policy first (take (place + 1) (tuples_of steps)) g
   goes_on g h =
       let P : List Tuple → Type 0 = λ ts. FoldsTo policy first ts g in
-      let more : take (place + 1) (tuples_of steps) ≡ take place (tuples_of steps) ++ step_tuple step ∷ [] =
-      ap (λ n. take n (tuples_of steps)) (add-one place) ∙ more_at (tuples_of steps) place (step_tuple step) step_stands in
-      subst P (sym more) (grown policy first (take place (tuples_of steps)) (step_tuple step) f g so_far h.0 h.1)
+      subst P (sym one_more) (grown policy first (take place (tuples_of steps)) (step_tuple step) f g so_far h.0 h.1)
 
   pub too_large_here : TooLargeFor policy (five_tuple f) (step_tuple step) → TooLargeAt policy first (tuples_of steps)
   too_large_here h = record {
@@ -244,6 +269,9 @@ module _
     tuple = step_tuple step;
     stands = step_stands;
     root = so_far.root;
-    derived = so_far.derived;
+    before = through;
     too_large = folding.too_large policy so_far.root f so_far.reduced (step_tuple step) h;
+    met_too_large =
+        let P : Tag → Type 0 = λ t. 1000000 < nodes_product (t ∷ tags_of (step_tuple step)) in
+        subst P has_met (too_many policy (five_tuple f) (step_tuple step) h);
   }

@@ -1,21 +1,23 @@
 -- One more tuple joins a chain as it joins what the chain became.
-use Rattle.std.proofs.Common.{◌≡◌, ℕ, ◌*◌, ◌<◌, ◌≤◌, max, ◌&&◌, List, [], ◌∷◌, ◌++◌, refl, sym, ◌∙◌, ap, subst, arith, append-nil}
+use Rattle.std.proofs.Common.{◌≡◌, ℕ, ◌*◌, ◌<◌, ◌≤◌, max, ◌&&◌, List, [], ◌∷◌, ◌++◌, fold, refl, sym, ◌∙◌, ap, subst, arith, append-nil}
 use Rattle.std.proofs.Math.Bool.{and-true}
 use Rattle.std.proofs.Math.Nat.{mul-le-mul_right}
 use Rattle.std.proofs.lemmas.List.Folds.{list_all-append}
+use Rattle.std.proofs.lemmas.List.Sums.{fold-append}
 use Rattle.std.proofs.lemmas.Grind.{flat_map-append}
 use Rattle.spki_cert.specs.declared.principal.Policy.{Policy}
 use Rattle.spki_cert.specs.declared.window.Window.{Window}
 use Rattle.spki_cert.specs.Time.{within}
 use Rattle.spki_cert.specs.Naming.{names}
 use Rattle.spki_tag.specs.Request.{Request}
-use Rattle.spki_tag.specs.Tag.{Tag, contains, nodes, ldepth, set, none}
+use Rattle.spki_tag.specs.Tag.{Tag, contains, nodes, ldepth, star, set, none}
+use Rattle.spki_tag.specs.Meet.{meet}
 use Rattle.spki_reduce.specs.declared.fold.Cause.{Cause}
 use Rattle.spki_reduce.specs.declared.fold.Cause.TheVariants.{NotIssuer, NotTheName, NoDelegation, NoValidity, NoTag}
 use Rattle.spki_reduce.specs.declared.tuple.Five.{Five}
 use Rattle.spki_reduce.specs.Tuples.{FiveTuple, FourTuple, Tuple, five, four, tags_of}
 use Rattle.spki_reduce.specs.Rules.{IsFor, Issues, Begins, Joins, Delegate, Resolve, delegated, resolved}
-use Rattle.spki_reduce.specs.Restrictions.{in_each, within_each, SomeMoment, NoMoment, nodes_product, deepest}
+use Rattle.spki_reduce.specs.Restrictions.{in_each, within_each, SomeMoment, NoMoment, met, nodes_product, deepest}
 use Rattle.spki_reduce.specs.Views.{five_tuple, issuer_of}
 use Rattle.spki_reduce.specs.Stops.{Stops, TooLargeFor}
 use Rattle.spki_reduce.specs.Reduced.{ReducesToFive, BecomesFive}
@@ -27,6 +29,9 @@ use Rattle.spki_reduce.proofs.Bracketing.{from_left-more}
 pub nodes_product-append : (xs ys : List Tag) → nodes_product (xs ++ ys) ≡ nodes_product xs * nodes_product ys
 nodes_product-append [] ys = omega arith
 nodes_product-append (x ∷ xs) ys = rw (nodes_product-append xs ys) (omega arith)
+
+pub met_more : (tag : Tag) (tags more : List Tag) → tag ≡ met tags → met (tag ∷ more) ≡ met (tags ++ more)
+met_more tag tags more h = ap (λ t. fold meet t more) h ∙ sym (fold-append meet star tags more)
 
 deepest-append : (xs ys : List Tag) → deepest (xs ++ ys) ≡ max (deepest xs) (deepest ys)
 deepest-append [] ys = omega arith
@@ -56,6 +61,9 @@ module _ (window : Window) (windows more : List Window) (same : (t : List ℕ) �
 
   some_more : SomeMoment (window ∷ more) → SomeMoment (windows ++ more)
   some_more h = (h.0, h.1, sym (within_more h.0) ∙ h.2)
+
+  some_fewer : SomeMoment (windows ++ more) → SomeMoment (window ∷ more)
+  some_fewer h = (h.0, h.1, within_more h.0 ∙ h.2)
 
   none_more : NoMoment (window ∷ more) → NoMoment (windows ++ more)
   none_more h t = sym (within_more t) ∙ h t
@@ -193,6 +201,18 @@ module _ (policy : Policy) (root : FiveTuple) (f : Five) (reduced : ReducesToFiv
     more_nodes f.tag root.tags right.tags reduced.nodes 1000000 h.1,
   )
   too_large (four right) h = h
+
+  pub too_large_back : (right : Tuple) → TooLargeFor policy root right → 1000000 < nodes_product (f.tag ∷ tags_of right)
+      → TooLargeFor policy (five_tuple f) right
+  too_large_back (five right) h large = (
+    record {
+      issues = issues_back right h.0.issues;
+      allowed = reduced.delegation ∙ h.0.allowed;
+      timely = some_fewer f.window root.windows right.windows reduced.moments h.0.timely;
+    },
+    large,
+  )
+  too_large_back (four right) h large = h
 
 -- what two tuples become is from the left issuer
 pub same_issuer : (policy : Policy) (f g : Five) (right : Tuple) → BecomesFive policy (five (five_tuple f)) right g

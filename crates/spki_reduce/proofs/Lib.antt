@@ -6,5 +6,6 @@ pub mod Policies
 pub mod Pairs
 pub mod Folding
 pub mod Chains
+pub mod Through
 pub mod Lacking
 pub mod WrittenNames

@@ -45,6 +45,11 @@ along (Ok (Done f)) P P' Q Q' h p q = p f h
 along (Ok (Stopped cause)) P P' Q Q' h p q = q cause h
 along (Err e) P P' Q Q' h p q = h
 
+-- what would be refused didn't come to an answer
+pub unrefused : {T E : Type 0} (r : Result T E) (e : E) (P : Type 0) → (P → r ≡ Err e) → IfOk r (λ _. P → ⊥)
+unrefused (Ok x) e P h = λ p. absurd (let clash = h p in cc)
+unrefused (Err x) e P h = tt
+
 -- ---- authorizations
 
 module _

@@ -1,5 +1,5 @@
 -- What a chain of tuples becomes, taken from the left (RFC 2693, section 6.3).
-use Rattle.std.specs.Prelude.{◌≡◌, ◌≢◌, ℕ, suc, List, [], ◌∷◌, Some, map, take, flat_map, slice_get}
+use Rattle.std.specs.Prelude.{◌≡◌, ◌≢◌, ℕ, ◌<◌, suc, List, [], ◌∷◌, Some, map, take, flat_map, slice_get}
 use Rattle.spki_cert.specs.declared.principal.Policy.{Policy}
 use Rattle.spki_tag.specs.Request.{Request, IsRequest}
 use Rattle.spki_tag.specs.Tag.{Tag, set, none}
@@ -14,7 +14,7 @@ use Rattle.spki_reduce.specs.Tuples.{FiveTuple, Tuple, five, tags_of, windows_of
 use Rattle.spki_reduce.specs.Derivation.{Tree, leaves, Derives, from_left}
 use Rattle.spki_reduce.specs.Supports.{Supports}
 use Rattle.spki_reduce.specs.Views.{step_tuple}
-use Rattle.spki_reduce.specs.Restrictions.{SomeMoment, NoMoment, NoRequest}
+use Rattle.spki_reduce.specs.Restrictions.{SomeMoment, NoMoment, NoRequest, met, nodes_product}
 use Rattle.spki_reduce.specs.Stops.{Stops, TooLargeFor}
 use Rattle.spki_reduce.specs.Reduced.{ReducesToFive}
 
@@ -39,26 +39,42 @@ pub record FoldsTo (policy : Policy) (first : Tuple) (others : List Tuple) (f : 
   pub timely : others ≢ [] → SomeMoment root.windows
   pub tagged : f.tag ≡ set none → all_tags others ≡ []
 
--- A chain stops at a step, counted from 1, for a cause: the tree of the tuples before it that is bracketed from the
--- left is a derivation, and the step's tuple doesn't join its root.
+-- A chain that becomes an authorization has the tag that all its tags leave together, met in turn.
+abbrev pub HasMet : Tuple → List Tuple → Five → Type 0
+HasMet first others f = f.tag ≡ met (all_tags (first ∷ others))
+
+-- No step of a chain stops it: the tree of its tuples that is bracketed from the left is a derivation of this root, some
+-- moment is within all windows, if there are other tuples than the first, and what the tags leave, met in turn, isn't
+-- (* set), but where none of the others has a tag.
+pub record GoesThrough (policy : Policy) (first : Tuple) (others : List Tuple) (root : FiveTuple) : Type 0 where
+  pub derived : Derives policy (from_left first others) (five root)
+  pub timely : others ≢ [] → SomeMoment root.windows
+  pub tagged : met (all_tags (first ∷ others)) ≡ set none → all_tags others ≡ []
+
+-- A chain stops at a step, counted from 1, for a cause: no step before it stops the chain, and the step's tuple doesn't
+-- join the root of what stands before it. For its tags the chain stops only where those up to the step, met in turn,
+-- leave (* set).
 pub record StopsAt (policy : Policy) (first : Tuple) (others : List Tuple) (step : ℕ) (cause : Cause) : Type 0 where
   pub place : ℕ
   pub numbered : step ≡ suc place
   pub tuple : Tuple
   pub stands : slice_get others place ≡ Some tuple
   pub root : FiveTuple
-  pub derived : Derives policy (from_left first (take place others)) (five root)
+  pub before : GoesThrough policy first (take place others) root
   pub stopped : Stops policy (five root) tuple cause
+  pub nothing_met : cause ≡ NoTag → met (all_tags (first ∷ take step others)) ≡ set none
 
--- A chain is too large at a step: the tree of the tuples before it that is bracketed from the left is a derivation, and
--- the step's tuple joins its root but for their tags, the product of whose nodes is over 1000000.
+-- A chain is too large at a step: no step before it stops the chain, and the step's tuple joins the root of what stands
+-- before it but for their tags, the product of whose nodes is over 1000000. So is the product of the nodes of the step's
+-- tag and of what the tags before it leave, met in turn.
 pub record TooLargeAt (policy : Policy) (first : Tuple) (others : List Tuple) : Type 0 where
   pub place : ℕ
   pub tuple : Tuple
   pub stands : slice_get others place ≡ Some tuple
   pub root : FiveTuple
-  pub derived : Derives policy (from_left first (take place others)) (five root)
+  pub before : GoesThrough policy first (take place others) root
   pub too_large : TooLargeFor policy root tuple
+  pub met_too_large : 1000000 < nodes_product (met (all_tags (first ∷ take place others)) ∷ tags_of tuple)
 
 -- no derivation has these leaves, in no bracketing
 abbrev pub NoDerivation : Policy → List Tuple → Type 0

@@ -1,8 +1,9 @@
 -- What several tags and windows leave together (RFC 2693, sections 6.3.1 and 6.3.2).
-use Rattle.std.specs.Prelude.{◌≡◌, ℕ, ◌*◌, Bool, true, false, List, [], ◌∷◌, max}
+use Rattle.std.specs.Prelude.{◌≡◌, ℕ, ◌*◌, Bool, true, false, List, [], ◌∷◌, fold, max}
 use Rattle.std.specs.List.{list_all}
 use Rattle.spki_tag.specs.Request.{Request, IsRequest}
-use Rattle.spki_tag.specs.Tag.{Tag, contains, nodes, ldepth}
+use Rattle.spki_tag.specs.Tag.{Tag, contains, nodes, ldepth, star}
+use Rattle.spki_tag.specs.Meet.{meet}
 use Rattle.spki_tag.specs.Time.{is_date}
 use Rattle.spki_cert.specs.declared.window.Window.{Window}
 use Rattle.spki_cert.specs.Time.{within}
@@ -26,6 +27,10 @@ SomeMoment windows = (moment : List ℕ) × (is_date moment ≡ true) × (within
 -- no moment is within every window
 abbrev pub NoMoment : List Window → Type 0
 NoMoment windows = (moment : List ℕ) → within_each moment windows ≡ false
+
+-- the tag that tags leave together, met in turn from the left
+abbrev pub met : List Tag → Tag
+met tags = fold meet star tags
 
 -- the product of the numbers of nodes
 abbrev pub nodes_product : List Tag → ℕ

@@ -2,12 +2,13 @@
 
 ghost use Rattle.std.specs.Prelude.{◌≡◌, ◌∷◌, [], ◌<◌, IfOk, IsErrOf};
 ghost use Rattle.spki_tag.specs.Tag.{set, none};
+ghost use Rattle.spki_reduce.specs.declared.fold.Cause.{Cause};
 ghost use Rattle.spki_reduce.specs.Tuples.{five, tags_of};
 ghost use Rattle.spki_reduce.specs.Views.{issuer_of, five_tuple, step_tuple};
-ghost use Rattle.spki_reduce.specs.Restrictions.{nodes_product};
+ghost use Rattle.spki_reduce.specs.Restrictions.{nodes_product, met};
 ghost use Rattle.spki_reduce.specs.Stops.{Stops, TooLargeFor};
 ghost use Rattle.spki_reduce.specs.Reduced.{BecomesFive, MatchJoined};
-ghost use Rattle.spki_reduce.specs.Chain.{tuples_of, all_tags, FoldsTo, StopsAt, TooLargeAt, Excludes, SupportsNothing, MatchFold};
+ghost use Rattle.spki_reduce.specs.Chain.{tuples_of, all_tags, FoldsTo, StopsAt, HasMet, TooLargeAt, Excludes, SupportsNothing, MatchFold};
 
 use crate::fault::ReduceFault;
 use crate::fold::{Fold, Joined};
@@ -23,8 +24,8 @@ use std::alloc::{AllocError, Global};
 ///
 /// # Errors
 ///
-/// `TooLarge` where the product of the numbers of nodes of all tags is over 1,000,000 and a step's tag was too large
-/// for what those before it became, and `Memory` where memory ran out.
+/// `TooLarge` where a step's tag is too large for what those before it became: the product of the numbers of their
+/// nodes is over 1,000,000. `Memory` where memory ran out.
 pub fn fold_chain<'a>(
     alloc: Global,
     first: &Five<'a>,
@@ -39,14 +40,18 @@ pub fn fold_chain<'a>(
         (λ f. five_tuple f ≡ five_tuple first.now) (λ step cause. ⊥)) }
     ensures issuer { IfOk result (λ fold. MatchFold fold
         (λ f. issuer_of f.issuer ≡ issuer_of first.now.issuer) (λ step cause. Unit {0})) }
+    // Which tag it has: each is met in turn.
+    ensures which { IfOk result (λ fold. MatchFold fold
+        (HasMet (five (five_tuple first.now)) (tuples_of steps.now)) (λ step cause. Unit {0})) }
     // What a stop says of the same tuples in any bracketing.
     ensures excluded { IfOk result (λ fold. MatchFold fold (λ f. Unit {0})
         (Excludes policy (five (five_tuple first.now)) (tuples_of steps.now))) }
     ensures unsupported { IfOk result (λ fold. MatchFold fold (λ f. Unit {0})
         (λ step cause. SupportsNothing policy (five (five_tuple first.now) ∷ tuples_of steps.now))) }
-    // When it is refused: the chain joins up to a step that is too large, so the product of all nodes is.
+    // When it is refused: the chain joins up to a step that is too large for what it became, so the product of all nodes is.
     ensures too_large_at { IsErrOf result ReduceFault.TooLarge →
         TooLargeAt policy (five (five_tuple first.now)) (tuples_of steps.now) }
+    ensures small { IfOk result (λ fold. ¬ TooLargeAt policy (five (five_tuple first.now)) (tuples_of steps.now)) }
     ensures too_large { IsErrOf result ReduceFault.TooLarge →
         1000000 < nodes_product (all_tags (five (five_tuple first.now) ∷ tuples_of steps.now)) }
 {
@@ -89,8 +94,12 @@ impl<'a> Five<'a> {
             (λ f. BecomesFive policy (five (five_tuple self.now)) (step_tuple step.now) f
             × (f.tag ≡ set none → (self.now.tag ≡ set none) × (tags_of (step_tuple step.now) ≡ [])))
             (Stops policy (five (five_tuple self.now)) (step_tuple step.now))) }
+        ensures which { IfOk result (λ joined. MatchJoined joined
+            (λ f. f.tag ≡ met (self.now.tag ∷ tags_of (step_tuple step.now)))
+            (λ cause. cause ≡ Cause.NoTag → met (self.now.tag ∷ tags_of (step_tuple step.now)) ≡ set none)) }
         ensures too_large { IsErrOf result ReduceFault.TooLarge →
             TooLargeFor policy (five_tuple self.now) (step_tuple step.now) }
+        ensures small { IfOk result (λ joined. ¬ TooLargeFor policy (five_tuple self.now) (step_tuple step.now)) }
     {
         match step {
             Step::Auth(next) => self.then(alloc, next, policy),

@@ -3,6 +3,7 @@
 ghost use Rattle.std.specs.Prelude.{◌≡◌, ◌≢◌, ◌↔◌, [], ◌∷◌, ◌++◌, ◌*◌, ◌<◌, IsTrue, IfOk, IfErr, OnOk, IfSome, IfNone, IsErrOf};
 ghost use Rattle.spki_cert.specs.Naming.{names};
 ghost use Rattle.spki_tag.specs.Tag.{nodes, set, none};
+ghost use Rattle.spki_tag.specs.Meet.{meet};
 ghost use Rattle.spki_reduce.specs.Tuples.{five, four};
 ghost use Rattle.spki_reduce.specs.Views.{five_tuple, four_tuple};
 ghost use Rattle.spki_reduce.specs.Rules.{IsFor, Issues, Begins};
@@ -37,6 +38,10 @@ impl<'a> Five<'a> {
         ensures joined { IfOk result (λ joined. MatchJoined joined
             (λ f. BecomesFive policy (five (five_tuple self.now)) (five (five_tuple next.now)) f × (f.tag ≢ set none))
             (λ cause. Stops policy (five (five_tuple self.now)) (five (five_tuple next.now)) cause)) }
+        // Which tag it has, and which tags leave nothing.
+        ensures which { IfOk result (λ joined. MatchJoined joined
+            (λ f. f.tag ≡ meet self.now.tag next.now.tag)
+            (λ cause. cause ≡ Cause.NoTag → meet self.now.tag next.now.tag ≡ set none)) }
         ensures too_large { IsErrOf result ReduceFault.TooLarge ↔
             (JoinButForTags policy (five_tuple self.now) (five_tuple next.now)
             × (1000000 < nodes self.now.tag * nodes next.now.tag)) }
@@ -99,6 +104,9 @@ impl<'a> Five<'a> {
         ensures joined { IfOk result (λ joined. MatchJoined joined
             (λ f. IsNarrowed self.now next.now window f)
             (λ cause. (cause ≡ Cause.NoTag) × NoRequest (self.now.tag ∷ next.now.tag ∷ []))) }
+        ensures which { IfOk result (λ joined. MatchJoined joined
+            (λ f. f.tag ≡ meet self.now.tag next.now.tag)
+            (λ cause. meet self.now.tag next.now.tag ≡ set none)) }
         ensures too_large { IsErrOf result ReduceFault.TooLarge ↔ (1000000 < nodes self.now.tag * nodes next.now.tag) }
     {
         let tag = self.tag.meet(alloc, &next.tag)?;

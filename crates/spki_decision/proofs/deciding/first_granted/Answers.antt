@@ -16,7 +16,7 @@ returns-in_err-grants-clause-too_large c =
       entry = c.entry-item.result;
       stands = here;
       none_before = c.loop-place.invariant;
-      large = c.in_err-grants.ensures.too_large (search (rules, h, c.from_residual.ensures));
+      at = c.in_err-grants.ensures.too_large (search (rules, h, c.from_residual.ensures));
     }
 
 pub returns-then-branch-clause-named : goal.returns-then-branch-clause-named

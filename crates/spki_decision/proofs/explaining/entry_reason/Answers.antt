@@ -2,7 +2,7 @@ use Rattle.std.proofs.Common.{◌≡◌}
 use Rattle.spki_case.specs.View.{model}
 use Rattle.spki_reduce.specs.Tuples.{five, own}
 use Rattle.spki_reduce.specs.Views.{entry_tuple, issuer_of}
-use Rattle.spki_reduce.specs.Chain.{tuples_of, FoldsTo}
+use Rattle.spki_reduce.specs.Chain.{tuples_of, FoldsTo, HasMet}
 use Rattle.spki_decision.proofs.Reasons.{reasoned}
 use Rattle.spki_decision.proofs.explaining.entry_reason.Goals as goal
 
@@ -11,8 +11,10 @@ returns-in-Done-clause-exact c =
     let f = c.in-Done.five in
     let first = five (entry_tuple c.args.entry.now) in
     let steps = tuples_of c.args.steps.now in
-    let folds : FoldsTo c.args.case.now.policy first steps f = rw c.in-Done.is at c.in_ok-item.ensures.exact in
+    let became : FoldsTo c.args.case.now.policy first steps f × HasMet first steps f =
+    rw c.in-Done.is at c.in_ok-item.ensures.exact in
+    let folds = became.0 in
     let is_own : issuer_of f.issuer ≡ own = rw c.in-Done.is at c.in_ok-item.ensures.issuer in
-    rw c.reason_of.ensures (reasoned (model c.args.case.now) steps c.args.entry.now f c.first_lack-lack.result folds
+    rw c.reason_of.ensures (reasoned (model c.args.case.now) steps c.args.entry.now f c.first_lack-lack.result folds became.1
     (c.first_lack-lack.ensures.lack folds.root folds.reduced)
     (c.first_lack-lack.ensures.supported first steps folds is_own))

@@ -1,7 +1,6 @@
-use Rattle.std.proofs.Common.{◌∷◌, ◌<◌, ap, subst}
+use Rattle.std.proofs.Common.{ap, subst}
 use Rattle.spki_reduce.specs.Tuples.{FiveTuple, five}
-use Rattle.spki_reduce.specs.Restrictions.{nodes_product}
-use Rattle.spki_reduce.specs.Chain.{tuples_of, all_tags}
+use Rattle.spki_reduce.specs.Chain.{tuples_of, TooLargeAt}
 use Rattle.spki_decision.proofs.folding.fold_entry.Goals as goal
 
 pub returns-clause-fold : goal.returns-clause-fold
@@ -16,7 +15,10 @@ returns-clause-excluded c = rw c.in_ok-own.ensures at c.fold_chain.ensures.exclu
 pub returns-clause-unsupported : goal.returns-clause-unsupported
 returns-clause-unsupported c = rw c.in_ok-own.ensures at c.fold_chain.ensures.unsupported
 
+pub returns-clause-which : goal.returns-clause-which
+returns-clause-which c = rw c.in_ok-own.ensures at c.fold_chain.ensures.which
+
 pub returns-clause-too_large : goal.returns-clause-too_large
 returns-clause-too_large c h =
-    let P : FiveTuple → Type 0 = λ own. 1000000 < nodes_product (all_tags (five own ∷ tuples_of c.args.steps.now)) in
-    subst P c.in_ok-own.ensures (c.fold_chain.ensures.too_large h)
+    let P : FiveTuple → Type 0 = λ own. TooLargeAt c.args.policy (five own) (tuples_of c.args.steps.now) in
+    subst P c.in_ok-own.ensures (c.fold_chain.ensures.too_large_at h)

@@ -13,3 +13,6 @@ returns-in-Some-clause-joined c =
     along c.narrowed.result _ _ _ _ c.narrowed.ensures.joined
     (narrowed_joins policy left right window issues allowed overlap c.in-Some.ensures.moments)
     (stops_by_tags policy left right window issues allowed overlap)
+
+pub returns-in-Some-clause-which : goal.returns-in-Some-clause-which
+returns-in-Some-clause-which c = along c.narrowed.result _ _ _ _ c.narrowed.ensures.which (λ f is. is) (λ cause is named. is)

@@ -1,0 +1,220 @@
+-- A chain that goes through a step isn't stopped there, so it stops at one step alone, for one cause.
+use Rattle.std.proofs.Common.{◌≡◌, ◌≢◌, ◌⊎◌, inl, inr, ℕ, zero, suc, ◌+◌, ◌≤◌, ◌<◌, List, [], ◌∷◌, ◌++◌, fold, Some, refl, sym, ◌∙◌, ap, subst, arith, append_assoc, take, drop, slice_get, length, get_or}
+use Rattle.std.proofs.lemmas.Bool.{cases_lt}
+use Rattle.std.proofs.lemmas.List.{take-append-drop, take-take}
+use Rattle.std.proofs.lemmas.List.Folds.{list_all-append}
+use Rattle.std.proofs.lemmas.List.Sums.{fold-append}
+use Rattle.std.proofs.lemmas.Grind.{flat_map-append}
+use Rattle.spki_cert.specs.declared.principal.Policy.{Policy}
+use Rattle.spki_cert.specs.Time.{within}
+use Rattle.spki_tag.specs.Tag.{Tag, star, string, prefix, range, list, set, none}
+use Rattle.spki_tag.specs.Meet.{meet}
+use Rattle.spki_reduce.specs.declared.fold.Cause.{Cause}
+use Rattle.spki_reduce.specs.declared.fold.Cause.TheVariants.{NotIssuer, NotTheName, NoDelegation, NoValidity, NoTag}
+use Rattle.spki_reduce.specs.declared.tuple.Five.{Five}
+use Rattle.spki_reduce.specs.declared.tuple.Step.{Step}
+use Rattle.spki_reduce.specs.declared.tuple.Step.TheVariants.{Auth, Name}
+use Rattle.spki_reduce.specs.Views.{five_tuple, four_tuple, step_tuple}
+use Rattle.spki_reduce.specs.Tuples.{FiveTuple, Tuple, five, four, tags_of, windows_of}
+use Rattle.spki_reduce.specs.Derivation.{from_left}
+use Rattle.spki_reduce.specs.Restrictions.{within_each, NoMoment, met, nodes_product}
+use Rattle.spki_reduce.specs.Stops.{Stops, TooLargeFor}
+use Rattle.spki_reduce.specs.Chain.{tuples_of, FoldsTo, HasMet, GoesThrough, StopsAt, TooLargeAt, all_tags, all_windows}
+use Rattle.spki_reduce.proofs.Bracketing.{from_left-leaves, one_root}
+use Rattle.spki_reduce.proofs.Folding.{too_large_back}
+use Rattle.spki_reduce.proofs.Chains.{IsMisfit, never, first_false, up_to, windows_so_far, underivable, excluded, one_more}
+
+-- ---- tags
+
+-- nothing stays nothing, whatever it is met with
+still_nothing : (tag : Tag) → meet (set none) tag ≡ set none
+still_nothing star = refl
+still_nothing (string octets) = refl
+still_nothing (prefix octets) = refl
+still_nothing (range ordering low up) = refl
+still_nothing (list head further) = refl
+still_nothing (set members) = refl
+
+nothing_met : (tags : List Tag) → fold meet (set none) tags ≡ set none
+nothing_met [] = refl
+nothing_met (t ∷ ts) = ap (λ u. fold meet u ts) (still_nothing t) ∙ nothing_met ts
+
+-- an authorization has a tag
+abbrev pub HasTag : Tuple → Type 0
+HasTag (five t) = t.tags ≢ []
+HasTag (four t) = Unit {0}
+
+-- each authorization of a chain has a tag
+abbrev pub AreTagged : List Tuple → Type 0
+AreTagged tuples = (place : ℕ) (tuple : Tuple) → slice_get tuples place ≡ Some tuple → HasTag tuple
+
+untagged : (policy : Policy) (root : FiveTuple) (tuple : Tuple) → HasTag tuple → Stops policy (five root) tuple NoTag
+    → tags_of tuple ≢ []
+untagged policy root (five right) has h = has
+untagged policy root (four right) has h = absurd h
+
+first_empty : {A : Type 0} (xs ys : List A) → xs ++ ys ≡ [] → xs ≡ []
+first_empty [] ys e = refl
+first_empty (x ∷ xs) ys e = absurd cc
+
+last_empty : {A : Type 0} (xs ys : List A) → xs ++ ys ≡ [] → ys ≡ []
+last_empty [] ys e = e
+last_empty (x ∷ xs) ys e = absurd cc
+
+-- ---- a chain that goes through
+
+module _ (policy : Policy) (first : Tuple) (others : List Tuple) (tagged : AreTagged others) (n : ℕ) (root : FiveTuple)
+    (through : GoesThrough policy first (take n others) root) (step : ℕ) (below : step ≤ n) where
+  abbrev after : List Tuple
+  after = drop step (take n others)
+
+  parted : take n others ≡ take step others ++ after
+  parted = sym (take-append-drop step (take n others)) ∙ ap (λ ts. ts ++ after) (take-take step n others below)
+
+  ends : (cause : Cause) (h : StopsAt policy first others step cause)
+      → take n others ≡ take h.place others ++ (h.tuple ∷ after)
+  ends cause h = parted ∙ ap (λ ts. ts ++ after) (up_to policy first others step cause h)
+      ∙ append_assoc (take h.place others) (h.tuple ∷ []) after
+
+  windows_are : root.windows ≡ all_windows (first ∷ take step others) ++ all_windows after
+  windows_are = windows_so_far policy first (take n others) root through.derived
+      ∙ ap (λ ts. all_windows (first ∷ ts)) parted ∙ flat_map-append windows_of (first ∷ take step others) after
+
+  tags_are : all_tags (first ∷ take n others) ≡ all_tags (first ∷ take step others) ++ all_tags after
+  tags_are = ap (λ ts. all_tags (first ∷ ts)) parted ∙ flat_map-append tags_of (first ∷ take step others) after
+
+  joined : (cause : Cause) → IsMisfit cause → StopsAt policy first others step cause → ⊥
+  joined cause m h =
+      underivable policy first others step cause m h after (from_left first (take n others)) (five root)
+      (from_left-leaves first (take n others) ∙ ap (λ ts. first ∷ ts) parted) through.derived
+
+  timely : StopsAt policy first others step NoValidity → ⊥
+  timely h =
+      let some = through.timely (λ e. let none_left = last_empty (take h.place others) (h.tuple ∷ after) (sym (ends NoValidity h) ∙ e) in cc) in
+      let nothing : NoMoment (all_windows (first ∷ take step others)) = excluded policy first others step NoValidity h in
+      never (within_each some.0 root.windows)
+      (ap (within_each some.0) windows_are
+      ∙ list_all-append (λ w. within some.0 w) (all_windows (first ∷ take step others)) (all_windows after)
+      ∙ first_false (within_each some.0 (all_windows (first ∷ take step others))) _ (nothing some.0))
+      some.2
+
+  asked : StopsAt policy first others step NoTag → ⊥
+  asked h =
+      let nothing : met (all_tags (first ∷ take n others)) ≡ set none =
+      ap met tags_are ∙ fold-append meet star (all_tags (first ∷ take step others)) (all_tags after)
+      ∙ ap (λ t. fold meet t (all_tags after)) (h.nothing_met refl) ∙ nothing_met (all_tags after) in
+      let empty : all_tags (take h.place others ++ (h.tuple ∷ after)) ≡ [] =
+      ap all_tags (sym (ends NoTag h)) ∙ through.tagged nothing in
+      let rest : all_tags (h.tuple ∷ after) ≡ [] =
+      last_empty (all_tags (take h.place others)) (all_tags (h.tuple ∷ after))
+      (sym (flat_map-append tags_of (take h.place others) (h.tuple ∷ after)) ∙ empty) in
+      untagged policy h.root h.tuple (tagged h.place h.tuple h.stands) h.stopped
+      (first_empty (tags_of h.tuple) (all_tags after) rest)
+
+  pub unstopped : (cause : Cause) → StopsAt policy first others step cause → ⊥
+  unstopped NotIssuer h = joined NotIssuer tt h
+  unstopped NotTheName h = joined NotTheName tt h
+  unstopped NoDelegation h = joined NoDelegation tt h
+  unstopped NoValidity h = timely h
+  unstopped NoTag h = asked h
+
+-- ---- chains that aren't too large
+
+pub steps_tagged : (steps : List Step) → AreTagged (tuples_of steps)
+steps_tagged [] place tuple e = absurd cc
+steps_tagged (Auth f ∷ steps) zero tuple e =
+    let same : five (five_tuple f) ≡ tuple = cc in subst HasTag same (λ none_left. absurd cc)
+steps_tagged (Name f ∷ steps) zero tuple e = let same : four (four_tuple f) ≡ tuple = cc in subst HasTag same tt
+steps_tagged (step ∷ steps) (suc place) tuple e = steps_tagged steps place tuple e
+
+within_front : (xs : List Tuple) (k n : ℕ) (y : Tuple) → k < n → slice_get xs k ≡ Some y → slice_get (take n xs) k ≡ Some y
+within_front [] k n y below e = absurd cc
+within_front (x ∷ xs) k zero y below e = absurd (omega arith)
+within_front (x ∷ xs) zero (suc n) y below e = e
+within_front (x ∷ xs) (suc k) (suc n) y below e = within_front xs k n y (omega arith) e
+
+-- a place in a list with one more is in the list, or is that one's
+at_end : (xs : List Tuple) (x y : Tuple) (k : ℕ) → slice_get (xs ++ x ∷ []) k ≡ Some y
+    → ((slice_get xs k ≡ Some y) × (take k (xs ++ x ∷ []) ≡ take k xs)) ⊎ ((y ≡ x) × (take k (xs ++ x ∷ []) ≡ xs))
+at_end [] x y zero e = inr (cc, refl)
+at_end [] x y (suc k) e = absurd cc
+at_end (z ∷ xs) x y zero e = inl (e, refl)
+at_end (z ∷ xs) x y (suc k) e = further z (at_end xs x y k e)
+  where
+    further : {A B : Type 0} {ys zs ws : List Tuple} (z : Tuple) → (A × (ys ≡ zs)) ⊎ (B × (ys ≡ ws))
+        → (A × (z ∷ ys ≡ z ∷ zs)) ⊎ (B × (z ∷ ys ≡ z ∷ ws))
+    further z (inl p) = inl (p.0, ap (λ us. z ∷ us) p.1)
+    further z (inr p) = inr (p.0, ap (λ us. z ∷ us) p.1)
+
+module _ (policy : Policy) (first : Tuple) where
+  -- the same step of another chain that begins so
+  moved : (ones others : List Tuple) (h : TooLargeAt policy first ones) → slice_get others h.place ≡ Some h.tuple
+      → take h.place ones ≡ take h.place others → TooLargeAt policy first others
+  moved ones others h stands same = record {
+    place = h.place;
+    tuple = h.tuple;
+    stands = stands;
+    root = h.root;
+    before = subst (λ ts. GoesThrough policy first ts h.root) same h.before;
+    too_large = h.too_large;
+    met_too_large = subst (λ ts. 1000000 < nodes_product (met (all_tags (first ∷ ts)) ∷ tags_of h.tuple)) same h.met_too_large;
+  }
+
+  module _ (before : List Tuple) (tuple : Tuple) (f : Five) (folds : FoldsTo policy first before f)
+      (has_met : HasMet first before f) where
+    large_last : (h : TooLargeAt policy first (before ++ tuple ∷ [])) → h.tuple ≡ tuple
+        → take h.place (before ++ tuple ∷ []) ≡ before → TooLargeFor policy (five_tuple f) tuple
+    large_last h last front =
+        let through = subst (λ ts. GoesThrough policy first ts h.root) front h.before in
+        let roots : five h.root ≡ five folds.root =
+        one_root policy (from_left first before) (from_left first before) (five h.root) (five folds.root) refl through.derived
+        folds.derived in
+        let same : h.root ≡ folds.root = cc in
+        let large : TooLargeFor policy folds.root tuple =
+        subst (λ r. TooLargeFor policy r tuple) same (subst (λ t. TooLargeFor policy h.root t) last h.too_large) in
+        let product : 1000000 < nodes_product (f.tag ∷ tags_of tuple) =
+        subst (λ t. 1000000 < nodes_product (t ∷ tags_of tuple)) (sym has_met)
+        (subst (λ t. 1000000 < nodes_product (met (all_tags (first ∷ before)) ∷ tags_of t)) last
+        (subst (λ ts. 1000000 < nodes_product (met (all_tags (first ∷ ts)) ∷ tags_of h.tuple)) front h.met_too_large)) in
+        too_large_back policy folds.root f folds.reduced tuple large product
+
+    small_at : (h : TooLargeAt policy first (before ++ tuple ∷ [])) → (TooLargeAt policy first before → ⊥)
+        → (TooLargeFor policy (five_tuple f) tuple → ⊥)
+        → ((slice_get before h.place ≡ Some h.tuple) × (take h.place (before ++ tuple ∷ []) ≡ take h.place before))
+        ⊎ ((h.tuple ≡ tuple) × (take h.place (before ++ tuple ∷ []) ≡ before)) → ⊥
+    small_at h so_far this (inl p) = so_far (moved (before ++ tuple ∷ []) before h p.0 p.1)
+    small_at h so_far this (inr p) = this (large_last h p.0 p.1)
+
+    pub small_more : (TooLargeAt policy first before → ⊥) → (TooLargeFor policy (five_tuple f) tuple → ⊥)
+        → TooLargeAt policy first (before ++ tuple ∷ []) → ⊥
+    small_more so_far this h = small_at h so_far this (at_end before tuple h.tuple h.place h.stands)
+
+  -- a chain that stops isn't too large behind its stop
+  module _ (others : List Tuple) (tagged : AreTagged others) (step : ℕ) (cause : Cause)
+      (stops : StopsAt policy first others step cause) (so_far : TooLargeAt policy first (take step others) → ⊥) where
+    small_by : (h : TooLargeAt policy first others) → (h.place < step) ⊎ (step ≤ h.place) → ⊥
+    small_by h (inl before) =
+        so_far (moved others (take step others) h (within_front others h.place step h.tuple before h.stands)
+        (sym (take-take h.place step others (omega arith))))
+    small_by h (inr behind) = unstopped policy first others tagged h.place h.root h.before step behind cause stops
+
+    pub small : TooLargeAt policy first others → ⊥
+    small h = small_by h (cases_lt h.place step)
+
+-- ---- the code's steps
+
+module _
+    (policy : Policy) (first : Tuple) (steps : List Step) (place : ℕ) (step : Step) (f : Five)
+    (within : place < length steps) (read : step ≡ get_or steps place step)
+    (folds : FoldsTo policy first (take place (tuples_of steps)) f) (has_met : HasMet first (take place (tuples_of steps)) f)
+    (so_far : TooLargeAt policy first (take place (tuples_of steps)) → ⊥)
+    (this : TooLargeFor policy (five_tuple f) (step_tuple step) → ⊥) where
+  pub small_here : TooLargeAt policy first (take (place + 1) (tuples_of steps)) → ⊥
+  small_here h =
+      small_more policy first (take place (tuples_of steps)) (step_tuple step) f folds has_met so_far this
+      (subst (λ ts. TooLargeAt policy first ts) (one_more policy first steps place step f within read folds has_met) h)
+
+  pub small_stopped : (cause : Cause) → StopsAt policy first (tuples_of steps) (place + 1) cause
+      → TooLargeAt policy first (tuples_of steps) → ⊥
+  small_stopped cause stops =
+      small policy first (tuples_of steps) (steps_tagged steps) (place + 1) cause stops small_here
