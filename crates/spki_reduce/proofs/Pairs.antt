@@ -1,11 +1,12 @@
 -- What joins of the code are in the model.
-use Rattle.std.proofs.Common.{◌≡◌, ◌≢◌, ℕ, Bool, true, false, ◌&&◌, List, [], ◌∷◌, ◌++◌, refl, sym, ◌∙◌, ap, arith, subst, IsTrue, IfOk, Result, Ok, Err}
+use Rattle.std.proofs.Common.{◌≡◌, ◌≢◌, ℕ, ◌*◌, ◌≤◌, max, Bool, true, false, ◌&&◌, List, [], ◌∷◌, ◌++◌, refl, sym, ◌∙◌, ap, arith, subst, IsTrue, IfOk, Result, Ok, Err}
 use Rattle.spki_cert.specs.declared.principal.Policy.{Policy}
 use Rattle.std.proofs.Math.Bool.{and-true}
 use Rattle.spki_cert.specs.declared.window.Window.{Window}
 use Rattle.spki_cert.specs.declared.entry.Subject.{Subject}
 use Rattle.spki_cert.specs.Naming.{names}
 use Rattle.spki_cert.specs.Time.{within, IsMeet, Overlap, AreApart}
+use Rattle.spki_tag.specs.Request.{Request, IsRequest}
 use Rattle.spki_tag.specs.Tag.{Tag, contains, nodes, ldepth, set, none}
 use Rattle.spki_reduce.specs.declared.fold.Cause.{Cause}
 use Rattle.spki_reduce.specs.declared.fold.Cause.TheVariants.{NoTag}
@@ -14,11 +15,11 @@ use Rattle.spki_reduce.specs.declared.fold.Joined.TheVariants.{Done, Stopped}
 use Rattle.spki_reduce.specs.declared.tuple.Five.{Five}
 use Rattle.spki_reduce.specs.declared.tuple.Four.{Four}
 use Rattle.spki_reduce.specs.Tuples.{five, four}
-use Rattle.spki_reduce.specs.Restrictions.{SomeMoment, NoMoment, NoRequest}
+use Rattle.spki_reduce.specs.Restrictions.{SomeMoment, NoMoment}
 use Rattle.spki_reduce.specs.Rules.{Issues, delegated, resolved, linked}
 use Rattle.spki_reduce.specs.Views.{five_tuple, four_tuple, issuer_of}
 use Rattle.spki_reduce.specs.Stops.{JoinButForTags, Stops}
-use Rattle.spki_reduce.specs.Reduced.{IsNarrowed, BecomesFive, BecomesFour, MatchJoined}
+use Rattle.spki_reduce.specs.Reduced.{IsHandedOn, BecomesFive, BecomesFour, MatchJoined}
 
 -- ---- two of each
 
@@ -38,12 +39,10 @@ overlapping v w h = (h.0, h.1, both_true (within h.0 v) (within h.0 w) h.2 h.3)
 pub no_overlap : (v w : Window) → AreApart v w → NoMoment (v ∷ w ∷ [])
 no_overlap v w h t = apart (within t v) (within t w) (h t)
 
-pub along : {T E : Type 0} (r : Result (Joined T) E) (P P' : T → Type 0) (Q Q' : Cause → Type 0)
-    → IfOk r (λ joined. MatchJoined joined P Q) → ((f : T) → P f → P' f) → ((cause : Cause) → Q cause → Q' cause)
-    → IfOk r (λ joined. MatchJoined joined P' Q')
-along (Ok (Done f)) P P' Q Q' h p q = p f h
-along (Ok (Stopped cause)) P P' Q Q' h p q = q cause h
-along (Err e) P P' Q Q' h p q = h
+pub along : {T : Type 0} (joined : Joined T) (P P' : T → Type 0) (Q Q' : Cause → Type 0)
+    → MatchJoined joined P Q → ((f : T) → P f → P' f) → ((cause : Cause) → Q cause → Q' cause) → MatchJoined joined P' Q'
+along (Done f) P P' Q Q' h p q = p f h
+along (Stopped cause) P P' Q Q' h p q = q cause h
 
 -- what would be refused didn't come to an answer
 pub unrefused : {T E : Type 0} (r : Result T E) (e : E) (P : Type 0) → (P → r ≡ Err e) → IfOk r (λ _. P → ⊥)
@@ -55,25 +54,28 @@ unrefused (Err x) e P h = tt
 module _
     (policy : Policy) (left right : Five) (window : Window) (issues : Issues policy (five_tuple left) (five_tuple right))
     (allowed : left.propagate ≡ true) (overlap : Overlap left.window right.window) where
-  pub narrowed_joins : IsMeet left.window right.window window → (f : Five) → IsNarrowed left right window f
+  pub narrowed_joins : IsMeet left.window right.window window → (tag : Tag)
+      → ((g : Request) → IsRequest g → contains tag g ≡ (contains left.tag g && contains right.tag g))
+      → (nodes tag ≤ nodes left.tag * nodes right.tag) × (ldepth tag ≤ max (ldepth left.tag) (ldepth right.tag))
+      → (f : Five) → IsHandedOn left.issuer tag right window f × (tag ≢ set none)
       → BecomesFive policy (five (five_tuple left)) (five (five_tuple right)) f × (f.tag ≢ set none)
-  narrowed_joins meets f h = (
+  narrowed_joins meets tag exact bounds f (h, some) = (
     record {
       root = delegated (five_tuple left) (five_tuple right);
       joined = record { issues = issues; allowed = allowed; result_is = refl };
       reduced = record {
-        issuer = ap issuer_of h.issuer;
+        issuer = ap issuer_of h.issuer_is;
         principal = h.principal;
         names = h.names;
         delegation = h.delegation;
-        requests = λ g is. h.requests g is ∙ both (contains left.tag g) (contains right.tag g);
+        requests = λ g is. ap (λ t. contains t g) h.tag_is ∙ exact g is ∙ both (contains left.tag g) (contains right.tag g);
         moments = λ t. ap (λ w. within t w) h.window_is ∙ meets t ∙ both (within t left.window) (within t right.window);
-        nodes = omega (arith, h.nodes);
-        depth = omega (arith, h.depth);
+        nodes = omega (arith, ap nodes h.tag_is, bounds.0);
+        depth = omega (arith, ap ldepth h.tag_is, bounds.1);
       };
       timely = overlapping left.window right.window overlap;
     },
-    h.something,
+    (λ e. some (sym h.tag_is ∙ e)),
   )
 
   pub joins_but_for_tags : JoinButForTags policy (five_tuple left) (five_tuple right)
@@ -83,11 +85,16 @@ module _
     timely = overlapping left.window right.window overlap;
   }
 
-  pub stops_by_tags : (cause : Cause) → (cause ≡ NoTag) × NoRequest (left.tag ∷ right.tag ∷ [])
+  pub stops_by_tags : (tag : Tag) → ((g : Request) → IsRequest g → contains tag g ≡ (contains left.tag g && contains right.tag g))
+      → (cause : Cause) → (cause ≡ NoTag) × (tag ≡ set none)
       → Stops policy (five (five_tuple left)) (five (five_tuple right)) cause
-  stops_by_tags cause h =
+  stops_by_tags tag exact cause h =
       let P : Cause → Type 0 = λ x. Stops policy (five (five_tuple left)) (five (five_tuple right)) x in
-      subst P (sym h.0) (joins_but_for_tags, h.1)
+      subst P (sym h.0) (
+        joins_but_for_tags,
+        λ g is. sym (both (contains left.tag g) (contains right.tag g)) ∙ sym (exact g is)
+            ∙ ap (λ t. contains t g) h.1,
+      )
 
 -- ---- names
 
@@ -97,9 +104,9 @@ module _
   where
     pub resolves : (left : Five)
         → IsTrue (names policy left.subject.principal right.key) × (left.subject.names.items ≡ right.name ∷ rest)
-        → IsMeet left.window right.window window → Overlap left.window right.window → (tag : Tag) → tag ≡ left.tag
-        → BecomesFive policy (five (five_tuple left)) (four (four_tuple right)) (record left { subject = subject; tag = tag; window = window })
-    resolves left begins meets overlap tag same = record {
+        → IsMeet left.window right.window window → Overlap left.window right.window
+        → BecomesFive policy (five (five_tuple left)) (four (four_tuple right)) (record left { subject = subject; window = window })
+    resolves left begins meets overlap = record {
       root = resolved (five_tuple left) (four_tuple right) rest;
       joined = record { begins = record { rest = rest; named = begins.0; name = begins.1 }; result_is = refl };
       reduced = record {
@@ -107,10 +114,10 @@ module _
         principal = subject_is.0;
         names = subject_is.1;
         delegation = refl;
-        requests = λ g is. ap (λ u. contains u g) same ∙ sym (and-true (contains left.tag g));
+        requests = λ g is. sym (and-true (contains left.tag g));
         moments = λ t. meets t ∙ both (within t left.window) (within t right.window);
-        nodes = omega (arith, ap nodes same);
-        depth = omega (arith, ap ldepth same);
+        nodes = omega arith;
+        depth = omega arith;
       };
       timely = overlapping left.window right.window overlap;
     }

@@ -1,14 +1,15 @@
 -- Roots of derivations as the code keeps them: one tag and one window in place of the lists of what is intersected
 -- (RFC 2693, sections 6.3.1 and 6.3.2).
-use Rattle.std.specs.Prelude.{◌≡◌, ◌≢◌, ℕ, ◌*◌, ◌≤◌, max, ◌&&◌, List}
+use Rattle.std.specs.Prelude.{◌≡◌, ℕ, ◌≤◌, List}
 use Rattle.spki_cert.specs.declared.principal.Policy.{Policy}
 use Rattle.spki_cert.specs.declared.window.Window.{Window}
 use Rattle.spki_cert.specs.Time.{within}
 use Rattle.spki_tag.specs.Request.{Request, IsRequest}
-use Rattle.spki_tag.specs.Tag.{contains, nodes, ldepth, set, none}
+use Rattle.spki_tag.specs.Tag.{Tag, contains, nodes, ldepth}
 use Rattle.spki_reduce.specs.declared.fold.Cause.{Cause}
 use Rattle.spki_reduce.specs.declared.fold.Joined.{Joined}
 use Rattle.spki_reduce.specs.declared.fold.Joined.TheVariants.{Done, Stopped}
+use Rattle.spki_reduce.specs.declared.tuple.Issuer.{Issuer}
 use Rattle.spki_reduce.specs.declared.tuple.Five.{Five}
 use Rattle.spki_reduce.specs.declared.tuple.Four.{Four}
 use Rattle.spki_reduce.specs.Tuples.{FiveTuple, FourTuple, Tuple, five, four}
@@ -37,18 +38,14 @@ pub record ReducesToFour (root : FourTuple) (f : Four) : Type 0 where
   pub names : f.subject.names.items ≡ root.names
   pub moments : (moment : List ℕ) → within moment f.window ≡ within_each moment root.windows
 
--- An authorization from the issuer of one to the subject of another, in a window, for what the tags of both contain.
-pub record IsNarrowed (left right : Five) (window : Window) (f : Five) : Type 0 where
-  pub issuer : f.issuer ≡ left.issuer
+-- An authorization of an issuer for the subject of another, with a tag and a window.
+pub record IsHandedOn (issuer : Issuer) (tag : Tag) (right : Five) (window : Window) (f : Five) : Type 0 where
+  pub issuer_is : f.issuer ≡ issuer
   pub principal : f.subject.principal ≡ right.subject.principal
   pub names : f.subject.names.items ≡ right.subject.names.items
   pub delegation : f.propagate ≡ right.propagate
-  pub requests : (request : Request) → IsRequest request
-      → contains f.tag request ≡ (contains left.tag request && contains right.tag request)
+  pub tag_is : f.tag ≡ tag
   pub window_is : f.window ≡ window
-  pub nodes : nodes f.tag ≤ nodes left.tag * nodes right.tag
-  pub depth : ldepth f.tag ≤ max (ldepth left.tag) (ldepth right.tag)
-  pub something : f.tag ≢ set none
 
 -- Two tuples become an authorization by a rule: some moment is left.
 pub record BecomesFive (policy : Policy) (left right : Tuple) (f : Five) : Type 0 where

@@ -71,7 +71,7 @@ pub fn fold_chain<'a>(
 }
 
 impl<'a> Five<'a> {
-    fn copy(&self) -> Result<Five<'a>, AllocError>
+    pub(crate) fn copy(&self) -> Result<Five<'a>, AllocError>
         ensures { IfOk result (λ f. five_tuple f ≡ five_tuple self.now) }
     {
         Ok(Five {
@@ -83,27 +83,27 @@ impl<'a> Five<'a> {
         })
     }
 
-    /// What this authorization and a step become.
+    /// What this authorization, which is used up, and a step become.
     fn joined(
-        &self,
+        self,
         alloc: Global,
         step: &Step<'a>,
         policy: Policy,
     ) -> Result<Joined<Five<'a>>, ReduceFault>
         ensures joined { IfOk result (λ joined. MatchJoined joined
-            (λ f. BecomesFive policy (five (five_tuple self.now)) (step_tuple step.now) f
-            × (f.tag ≡ set none → (self.now.tag ≡ set none) × (tags_of (step_tuple step.now) ≡ [])))
-            (Stops policy (five (five_tuple self.now)) (step_tuple step.now))) }
+            (λ f. BecomesFive policy (five (five_tuple self.entry)) (step_tuple step.now) f
+            × (f.tag ≡ set none → (self.entry.tag ≡ set none) × (tags_of (step_tuple step.now) ≡ [])))
+            (Stops policy (five (five_tuple self.entry)) (step_tuple step.now))) }
         ensures which { IfOk result (λ joined. MatchJoined joined
-            (λ f. f.tag ≡ met (self.now.tag ∷ tags_of (step_tuple step.now)))
-            (λ cause. cause ≡ Cause.NoTag → met (self.now.tag ∷ tags_of (step_tuple step.now)) ≡ set none)) }
+            (λ f. f.tag ≡ met (self.entry.tag ∷ tags_of (step_tuple step.now)))
+            (λ cause. cause ≡ Cause.NoTag → met (self.entry.tag ∷ tags_of (step_tuple step.now)) ≡ set none)) }
         ensures too_large { IsErrOf result ReduceFault.TooLarge →
-            TooLargeFor policy (five_tuple self.now) (step_tuple step.now) }
-        ensures small { IfOk result (λ joined. ¬ TooLargeFor policy (five_tuple self.now) (step_tuple step.now)) }
+            TooLargeFor policy (five_tuple self.entry) (step_tuple step.now) }
+        ensures small { IfOk result (λ joined. ¬ TooLargeFor policy (five_tuple self.entry) (step_tuple step.now)) }
     {
         match step {
-            Step::Auth(next) => self.then(alloc, next, policy),
-            Step::Name(definition) => self.resolve(alloc, definition, policy),
+            Step::Auth(next) => self.into_then(alloc, next, policy),
+            Step::Name(definition) => self.into_resolve(alloc, definition, policy),
         }
     }
 }

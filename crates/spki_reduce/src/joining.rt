@@ -1,20 +1,21 @@
 //! The rules by which two tuples become one (RFC 2693, sections 6.3 and 6.4).
 
-ghost use Rattle.std.specs.Prelude.{◌≡◌, ◌≢◌, ◌↔◌, [], ◌∷◌, ◌++◌, ◌*◌, ◌<◌, IsTrue, IfOk, IfErr, OnOk, IfSome, IfNone, IsErrOf};
+ghost use Rattle.std.specs.Prelude.{◌≡◌, ◌≢◌, ◌↔◌, true, [], ◌∷◌, ◌++◌, ◌*◌, ◌<◌, IsTrue, IfOk, IfErr, OnOk, IfSome, IfNone, IsErrOf};
 ghost use Rattle.spki_cert.specs.Naming.{names};
+ghost use Rattle.spki_cert.specs.Time.{IsMeet, Overlap};
 ghost use Rattle.spki_tag.specs.Tag.{nodes, set, none};
 ghost use Rattle.spki_tag.specs.Meet.{meet};
 ghost use Rattle.spki_reduce.specs.Tuples.{five, four};
 ghost use Rattle.spki_reduce.specs.Views.{five_tuple, four_tuple};
 ghost use Rattle.spki_reduce.specs.Rules.{IsFor, Issues, Begins};
 ghost use Rattle.spki_reduce.specs.Stops.{Stops, JoinButForTags};
-ghost use Rattle.spki_reduce.specs.Reduced.{BecomesFive, BecomesFour, IsNarrowed, MatchJoined};
-ghost use Rattle.spki_reduce.specs.Restrictions.{NoRequest};
+ghost use Rattle.spki_reduce.specs.Reduced.{BecomesFive, BecomesFour, IsHandedOn, MatchJoined};
 
 use crate::fault::ReduceFault;
 use crate::fold::{Cause, Joined};
 use crate::tuple::{Five, Four, Issuer};
 use spki_cert::{Key, Octets, Policy, Subject, Window};
+use spki_tag::Tag;
 use std::alloc::{AllocError, Global};
 
 impl<'a> Five<'a> {
@@ -46,15 +47,38 @@ impl<'a> Five<'a> {
             (JoinButForTags policy (five_tuple self.now) (five_tuple next.now)
             × (1000000 < nodes self.now.tag * nodes next.now.tag)) }
     {
-        if !self.issues(next, policy) {
-            return Ok(Joined::Stopped(Cause::NotIssuer));
+        match self.window_with(next, policy) {
+            Err(cause) => Ok(Joined::Stopped(cause)),
+            Ok(window) => {
+                let tag = self.tag.meet(alloc, &next.tag)?;
+                Ok(narrowed(self.issuer.share(), tag, next, window)?)
+            }
         }
-        if !self.propagate {
-            return Ok(Joined::Stopped(Cause::NoDelegation));
-        }
-        match self.window.meet(&next.window) {
-            None => Ok(Joined::Stopped(Cause::NoValidity)),
-            Some(window) => self.narrowed(alloc, next, window),
+    }
+
+    /// As `then`, for which this authorization is used up: what stays of its tag is not copied.
+    pub(crate) fn into_then(
+        self,
+        alloc: Global,
+        next: &Five<'a>,
+        policy: Policy,
+    ) -> Result<Joined<Five<'a>>, ReduceFault>
+        ensures joined { IfOk result (λ joined. MatchJoined joined
+            (λ f. BecomesFive policy (five (five_tuple self.entry)) (five (five_tuple next.now)) f × (f.tag ≢ set none))
+            (λ cause. Stops policy (five (five_tuple self.entry)) (five (five_tuple next.now)) cause)) }
+        ensures which { IfOk result (λ joined. MatchJoined joined
+            (λ f. f.tag ≡ meet self.entry.tag next.now.tag)
+            (λ cause. cause ≡ Cause.NoTag → meet self.entry.tag next.now.tag ≡ set none)) }
+        ensures too_large { IsErrOf result ReduceFault.TooLarge ↔
+            (JoinButForTags policy (five_tuple self.entry) (five_tuple next.now)
+            × (1000000 < nodes self.entry.tag * nodes next.now.tag)) }
+    {
+        match self.window_with(next, policy) {
+            Err(cause) => Ok(Joined::Stopped(cause)),
+            Ok(window) => {
+                let tag = self.tag.into_meet(alloc, &next.tag)?;
+                Ok(narrowed(self.issuer, tag, next, window)?)
+            }
         }
     }
 
@@ -79,47 +103,54 @@ impl<'a> Five<'a> {
             (λ cause. Stops policy (five (five_tuple self.now)) (four (four_tuple definition.now)) cause)) }
         ensures refused { IfErr result (λ fault. fault ≡ ReduceFault.Memory) }
     {
+        self.copy()?.into_resolve(alloc, definition, policy)
+    }
+
+    /// As `resolve`, for which this authorization is used up.
+    pub(crate) fn into_resolve(
+        self,
+        alloc: Global,
+        definition: &Four<'a>,
+        policy: Policy,
+    ) -> Result<Joined<Five<'a>>, ReduceFault>
+        ensures joined { IfOk result (λ joined. MatchJoined joined
+            (λ f. BecomesFive policy (five (five_tuple self.entry)) (four (four_tuple definition.now)) f
+            × (f.tag ≡ self.entry.tag))
+            (λ cause. Stops policy (five (five_tuple self.entry)) (four (four_tuple definition.now)) cause)) }
+        ensures refused { IfErr result (λ fault. fault ≡ ReduceFault.Memory) }
+    {
         let Some(rest) = names_behind(&self.subject, definition, policy) else {
             return Ok(Joined::Stopped(Cause::NotTheName));
         };
         let Some(window) = self.window.meet(&definition.window) else {
             return Ok(Joined::Stopped(Cause::NoValidity));
         };
+        let subject = followed(alloc, &definition.subject, rest)?;
         Ok(Joined::Done(Five {
-            issuer: self.issuer.share(),
-            subject: followed(alloc, &definition.subject, rest)?,
+            issuer: self.issuer,
+            subject,
             propagate: self.propagate,
-            tag: self.tag.clone()?,
+            tag: self.tag,
             window,
         }))
     }
 
-    /// What this authorization and the next become in a window, unless their tags leave nothing together.
-    fn narrowed(
-        &self,
-        alloc: Global,
-        next: &Five<'a>,
-        window: Window,
-    ) -> Result<Joined<Five<'a>>, ReduceFault>
-        ensures joined { IfOk result (λ joined. MatchJoined joined
-            (λ f. IsNarrowed self.now next.now window f)
-            (λ cause. (cause ≡ Cause.NoTag) × NoRequest (self.now.tag ∷ next.now.tag ∷ []))) }
-        ensures which { IfOk result (λ joined. MatchJoined joined
-            (λ f. f.tag ≡ meet self.now.tag next.now.tag)
-            (λ cause. meet self.now.tag next.now.tag ≡ set none)) }
-        ensures too_large { IsErrOf result ReduceFault.TooLarge ↔ (1000000 < nodes self.now.tag * nodes next.now.tag) }
+    /// The moments when both this authorization and the next hold, or the first cause why they don't join, whatever their
+    /// tags are.
+    fn window_with(&self, next: &Five, policy: Policy) -> Result<Window, Cause>
+        ensures joins { IfOk result (λ window. Issues policy (five_tuple self.now) (five_tuple next.now)
+            × (self.now.propagate ≡ true) × IsMeet self.now.window next.now.window window
+            × Overlap self.now.window next.now.window) }
+        ensures stops { IfErr result (λ cause. Stops policy (five (five_tuple self.now)) (five (five_tuple next.now)) cause
+            × (cause ≢ Cause.NoTag) × ¬ JoinButForTags policy (five_tuple self.now) (five_tuple next.now)) }
     {
-        let tag = self.tag.meet(alloc, &next.tag)?;
-        if tag.is_nothing() {
-            return Ok(Joined::Stopped(Cause::NoTag));
+        if !self.issues(next, policy) {
+            return Err(Cause::NotIssuer);
         }
-        Ok(Joined::Done(Five {
-            issuer: self.issuer.share(),
-            subject: next.subject.clone()?,
-            propagate: next.propagate,
-            tag,
-            window,
-        }))
+        if !self.propagate {
+            return Err(Cause::NoDelegation);
+        }
+        self.window.meet(&next.window).ok_or(Cause::NoValidity)
     }
 
     /// Whether its subject issued another authorization: it is for the issuer's key.
@@ -138,6 +169,29 @@ impl<'a> Five<'a> {
     {
         self.subject.names.is_empty() && self.subject.principal.names(key, policy)
     }
+}
+
+/// The authorization of an issuer for the subject of another, with a tag and a window, unless the tag contains nothing.
+fn narrowed<'a>(
+    issuer: Issuer<'a>,
+    tag: Tag,
+    next: &Five<'a>,
+    window: Window,
+) -> Result<Joined<Five<'a>>, AllocError>
+    ensures { IfOk result (λ joined. MatchJoined joined
+        (λ f. IsHandedOn issuer.entry tag next.now window f × (tag ≢ set none))
+        (λ cause. (cause ≡ Cause.NoTag) × (tag ≡ set none))) }
+{
+    if tag.is_nothing() {
+        return Ok(Joined::Stopped(Cause::NoTag));
+    }
+    Ok(Joined::Done(Five {
+        issuer,
+        subject: next.subject.clone()?,
+        propagate: next.propagate,
+        tag,
+        window,
+    }))
 }
 
 impl<'a> Four<'a> {

@@ -1,7 +1,8 @@
 //! The intersection in the place of one of its tags.
 
-ghost use Rattle.std.specs.Prelude.{false, ◌≡◌, ◌*◌, ◌<◌, ◌≤◌, ◌↔◌, IfOk, IsErrOf};
-ghost use Rattle.spki_tag.specs.Tag.{IsNormalTag, is_set, is_star, more, most_nodes, nodes, nodes_all, none, set, tags};
+ghost use Rattle.std.specs.Prelude.{◌≡◌, ◌*◌, ◌<◌, ◌≤◌, ◌↔◌, ◌&&◌, false, max, IfOk, IsErrOf};
+ghost use Rattle.spki_tag.specs.Request.{Request, IsRequest};
+ghost use Rattle.spki_tag.specs.Tag.{IsNormalTag, contains, is_set, is_star, ldepth, more, most_nodes, nodes, nodes_all, none, set, tags};
 ghost use Rattle.spki_tag.specs.Meet.{meet, pairs};
 
 use crate::fault::MeetFault;
@@ -41,6 +42,24 @@ fn meet_set(alloc: Global, members: Vec<Tag>, other: &Tag) -> Result<Tag, AllocE
     Ok(Tag::gathered(kept))
 }
 
+/// What a tag and another leave together, where the first is used up.
+fn meet_owned(alloc: Global, one: Tag, other: &Tag) -> Result<Tag, AllocError>
+    requires { nodes one * nodes other.now ≤ most_nodes }
+    ensures { IfOk result (λ c. c ≡ meet one other.now) }
+{
+    if other.is_everything() {
+        return Ok(one);
+    }
+    if is_set(other) {
+        return meet_tags(alloc, &one, other);
+    }
+    match one.node {
+        Node::Set(members) => meet_set(alloc, members, other),
+        Node::Leaf(leaf) => meet_tags(alloc, &Tag::leaf(leaf), other),
+        Node::List(head, further) => meet_tags(alloc, &Tag::list(head, further), other),
+    }
+}
+
 impl Tag {
     /// The intersection, as `meet` has it, for which this tag is used up: where the other is `(*)` it takes no memory, and
     /// where the other is no set, that of one member at a time.
@@ -51,21 +70,15 @@ impl Tag {
     /// out.
     pub fn into_meet(self, alloc: Global, other: &Tag) -> Result<Tag, MeetFault>
         ensures which { IfOk result (λ c. c ≡ meet self other.now) }
+        ensures exact { IfOk result (λ c. (g : Request) → IsRequest g
+            → contains c g ≡ (contains self g && contains other.now g)) }
+        ensures bounds { IfOk result (λ c. (nodes c ≤ nodes self * nodes other.now)
+            × (ldepth c ≤ max (ldepth self) (ldepth other.now))) }
         ensures too_large { IsErrOf result MeetFault.TooLarge ↔ (1000000 < nodes self * nodes other.now) }
     {
         if self.nodes() * other.nodes() > MOST_NODES {
             return Err(MeetFault::TooLarge);
         }
-        if other.is_everything() {
-            return Ok(self);
-        }
-        if is_set(other) {
-            return Ok(meet_tags(alloc, &self, other)?);
-        }
-        match self.node {
-            Node::Set(members) => Ok(meet_set(alloc, members, other)?),
-            Node::Leaf(leaf) => Ok(meet_tags(alloc, &Tag::leaf(leaf), other)?),
-            Node::List(head, further) => Ok(meet_tags(alloc, &Tag::list(head, further), other)?),
-        }
+        Ok(meet_owned(alloc, self, other)?)
     }
 }

@@ -3,8 +3,8 @@ use Rattle.spki_reduce.proofs.Pairs.{unrefused}
 use Rattle.spki_reduce.proofs.tuple.Five.joined.Goals as goal
 
 pub returns-in-Auth-clause-too_large : goal.returns-in-Auth-clause-too_large
-returns-in-Auth-clause-too_large c e = let h = c.then.ensures.too_large.0 e in rw c.in-Auth.is (h.0, omega (arith, h.1))
+returns-in-Auth-clause-too_large c e = let h = c.into_then.ensures.too_large.0 e in rw c.in-Auth.is (h.0, omega (arith, h.1))
 
 pub returns-in-Auth-clause-small : goal.returns-in-Auth-clause-small
 returns-in-Auth-clause-small c =
-    rw c.in-Auth.is (unrefused c.then.result _ _ (λ large. c.then.ensures.too_large.1 (large.0, omega (arith, large.1))))
+    rw c.in-Auth.is (unrefused c.into_then.result _ _ (λ large. c.into_then.ensures.too_large.1 (large.0, omega (arith, large.1))))
