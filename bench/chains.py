@@ -111,6 +111,23 @@ def widest():
     yield f"{certificates} sets of 999 nodes", by_keys(certificates, tag, asks=key("other")), b"no\n"
 
 
+def behind_a_large_tag(more, tag):
+    """An entry and a certificate with a tag of 998,001 nodes together, and so many certificates with this tag behind them."""
+    large = group(string("*"), string("set"), *[string("a")] * 999)
+    keys = keys_of(more + 1)
+    links = [(certificate(keys[0], keys[1], large), keys[0])]
+    links += [(certificate(issuer, subject, tag), issuer) for issuer, subject in zip(keys[1:], keys[2:])]
+    return case([entry(keys[0], large)], links, asks=key("other"))
+
+
+def steps():
+    """The seconds that each further certificate takes behind such a tag, and the memory."""
+    for what, tag in (("(*)", STAR), ("a", string("a"))):
+        few, many = behind_a_large_tag(1, tag), behind_a_large_tag(21, tag)
+        took = (min(run(many, b"no\n") for _ in range(3)) - min(run(few, b"no\n") for _ in range(3))) / 20
+        yield what, max(took, 0.0), peak(PROGRAM, "check", many)
+
+
 def beside_openssl():
     """A decision by three certificates, and the SHA-256 of the same octets by `openssl`, each a process of its own."""
     text = by_keys(3)
@@ -135,6 +152,8 @@ def main():
         slowest = max(slowest, took)
         print(f"{what}, {len(text)} octets: {took:.2f} s, {peak(PROGRAM, 'check', text):.1f} MiB")
     print(f"longest: {slowest:.2f} s (at most {LIMIT_SECONDS})")
+    for what, took, memory in steps():
+        print(f"a certificate for {what} behind a tag of 998,001 nodes: {took * 1000:.1f} ms, {memory:.1f} MiB")
     decided, hashed = beside_openssl()
     print(f"a chain of three certificates: {decided * 1000:.2f} ms, openssl {hashed * 1000:.2f} ms, ratio {decided / hashed:.2f}")
     if worst > LIMIT_RATIO or slowest > LIMIT_SECONDS:

@@ -42,14 +42,13 @@ fn meet_set(alloc: Global, members: Vec<Tag>, other: &Tag) -> Result<Tag, AllocE
     Ok(Tag::gathered(kept))
 }
 
-/// What a tag and another leave together, where the first is used up.
+/// What a tag and another that is not `(*)` leave together, where the first is used up.
 fn meet_owned(alloc: Global, one: Tag, other: &Tag) -> Result<Tag, AllocError>
-    requires { nodes one * nodes other.now ≤ most_nodes }
+    requires few { nodes one * nodes other.now ≤ most_nodes }
+    requires normal { IsNormalTag other.now }
+    requires no_star { is_star other.now ≡ false }
     ensures { IfOk result (λ c. c ≡ meet one other.now) }
 {
-    if other.is_everything() {
-        return Ok(one);
-    }
     if is_set(other) {
         return meet_tags(alloc, &one, other);
     }
@@ -76,6 +75,9 @@ impl Tag {
             × (ldepth c ≤ max (ldepth self) (ldepth other.now))) }
         ensures too_large { IsErrOf result MeetFault.TooLarge ↔ (1000000 < nodes self * nodes other.now) }
     {
+        if other.is_everything() {
+            return Ok(self);
+        }
         if self.nodes() * other.nodes() > MOST_NODES {
             return Err(MeetFault::TooLarge);
         }
