@@ -25,7 +25,7 @@ use Rattle.spki_decision.specs.declared.explaining.Reason.{Reason}
 use Rattle.spki_decision.specs.declared.explaining.Reason.TheVariants.{Grants, NotTheKey, TagLacks, WindowLacks, Stopped}
 use Rattle.spki_decision.specs.declared.judging.Stop.{Stop}
 use Rattle.spki_decision.specs.Standing.{AreShown}
-use Rattle.spki_decision.specs.Supported.{Supported}
+use Rattle.spki_decision.specs.Supported.{Supported, AllSmall}
 use Rattle.spki_decision.specs.Granted.{Granted}
 use Rattle.spki_decision.specs.Decision.{IsDecision}
 use Rattle.spki_decision.specs.Reduced.{IsFailure}
@@ -113,11 +113,13 @@ module _ (c : Case) (verified : Verified) (tuples : List Tuple) (shown : AreShow
       at.1 ∙ ap Some (only_grants c tuples g.entry at.0 is at.2 s)
 
 pub are_reasons : (c : Case) (verified : Verified) (tuples : List Tuple) (reasons : List Reason) → IsRequest c.request
-    → AreShown c.policy verified c.items tuples → AllZip (IsReason c tuples) c.entries reasons → AreReasons c verified reasons
-are_reasons c verified tuples reasons is shown each = record {
+    → AreShown c.policy verified c.items tuples → AllZip (IsReason c tuples) c.entries reasons → AllSmall c tuples
+    → AreReasons c verified reasons
+are_reasons c verified tuples reasons is shown each small = record {
   tuples = tuples;
   shown = shown;
   each = each;
+  small = small;
   grants = λ place.
       (has_granted c verified tuples shown reasons each place, grants_it c verified tuples shown reasons each place is);
 }

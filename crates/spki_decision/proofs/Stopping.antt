@@ -18,6 +18,8 @@ use Rattle.spki_case.specs.Sequence.{Shown, certificates, keys_of}
 use Rattle.spki_decision.specs.declared.judging.Stop.{Stop}
 use Rattle.spki_decision.specs.Standing.{AreShown, StandsAs, FailsAt}
 use Rattle.spki_decision.specs.Reduced.{IsFailure, StopsAtItem, HasLargeTags}
+use Rattle.spki_decision.specs.Supported.{SmallBefore}
+use Rattle.spki_decision.proofs.Entries.{small_yet}
 use Rattle.spki_decision.proofs.Evident.{none_shown}
 
 -- the certificate at a place, where there is one
@@ -79,11 +81,18 @@ module _ (c : Case) (items : List Entry) (place : ℕ) (e : Entry) (same : items
       let before = rw (← same) at h in
       rw (grown, ← same, taken) (all_zipped_more R (take place items) so_far e answer before k)
 
+  stands : slice_get c.entries place ≡ Some e
+  stands = rw same at (slice_get-get_or items place e below ∙ ap Some (sym read))
+
+  pub small_here : (tuples : List Tuple) → ¬ TooLargeAt c.policy (five (entry_tuple e)) tuples → SmallBefore c tuples place
+      → SmallBefore c tuples (place + 1)
+  small_here tuples small before = small_yet c tuples place e stands small before
+
   pub large_here : (tuples : List Tuple) → TooLargeAt c.policy (five (entry_tuple e)) tuples → HasLargeTags c tuples
   large_here tuples h = record {
     place = place;
     entry = e;
-    stands = rw same at (slice_get-get_or items place e below ∙ ap Some (sym read));
+    stands = stands;
     at = h;
     large = too_large c.policy (five (entry_tuple e)) tuples h;
   }

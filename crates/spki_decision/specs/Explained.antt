@@ -19,7 +19,7 @@ use Rattle.spki_decision.specs.declared.explaining.Explanation.TheVariants.{Evid
 use Rattle.spki_decision.specs.declared.explaining.Reason.{Reason}
 use Rattle.spki_decision.specs.declared.explaining.Reason.TheVariants.{Grants, NotTheKey, TagLacks, WindowLacks, Stopped}
 use Rattle.spki_decision.specs.Standing.{AreShown}
-use Rattle.spki_decision.specs.Supported.{Supported}
+use Rattle.spki_decision.specs.Supported.{Supported, AllSmall}
 use Rattle.spki_decision.specs.Granted.{Granted}
 use Rattle.spki_decision.specs.Reduced.{IsFailure, StopsAtItem}
 
@@ -49,11 +49,12 @@ reason_of (Some lack.TagLacks) = TagLacks
 reason_of (Some lack.WindowLacks) = WindowLacks
 
 -- Every certificate stands, each entry, in order, has its reason, and the reason is Grants exactly where the entry is
--- granted.
+-- granted. No chain is too large at a step.
 pub record AreReasons (c : Case) (verified : Verified) (reasons : List Reason) : Type 0 where
   pub tuples : List Tuple
   pub shown : AreShown c.policy verified c.items tuples
   pub each : AllZip (IsReason c tuples) c.entries reasons
+  pub small : AllSmall c tuples
   pub grants : (place : ℕ) → (slice_get reasons place ≡ Some Grants) ↔ Granted (suc place) c verified
 
 -- the first certificate that fails, or the entries' reasons

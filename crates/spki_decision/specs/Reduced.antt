@@ -15,6 +15,7 @@ use Rattle.spki_decision.specs.declared.reducing.EntryFold.TheVariants.{Done, St
 use Rattle.spki_decision.specs.declared.reducing.Reduction.{Reduction}
 use Rattle.spki_decision.specs.declared.reducing.Reduction.TheVariants.{Evidence, Entries}
 use Rattle.spki_decision.specs.Standing.{AreShown, FailsAt}
+use Rattle.spki_decision.specs.Supported.{AllSmall}
 
 -- No tuples are shown, and this item is the first certificate that fails, by this test, the first of the four.
 pub record IsFailure (c : Case) (verified : Verified) (item : ℕ) (stop : Stop) : Type 0 where
@@ -42,11 +43,12 @@ abbrev pub IsOwn : EntryFold → Type 0
 IsOwn (Done f) = issuer_of f.issuer ≡ own
 IsOwn (Stopped item cause) = Unit {0}
 
--- Every certificate stands, and of each entry, in order, this is what it and they become.
+-- Every certificate stands, and of each entry, in order, this is what it and they become. No chain is too large at a step.
 pub record AreFolds (c : Case) (verified : Verified) (folds : List EntryFold) : Type 0 where
   pub tuples : List Tuple
   pub shown : AreShown c.policy verified c.items tuples
   pub each : AllZip (IsEntryFold c tuples) c.entries folds
+  pub small : AllSmall c tuples
 
 -- the first certificate that fails, or what the entries become
 abbrev pub IsReduction : Case → Verified → Reduction → Type 0

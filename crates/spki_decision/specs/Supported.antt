@@ -1,5 +1,5 @@
 -- Which entries support what is asked, where the certificates that are shown are known.
-use Rattle.std.specs.Prelude.{◌≡◌, ℕ, suc, ◌<◌, List, Some, slice_get}
+use Rattle.std.specs.Prelude.{◌≡◌, ℕ, suc, ◌<◌, List, Some, length, slice_get}
 use Rattle.spki_cert.specs.declared.entry.Entry.{Entry}
 use Rattle.spki_reduce.specs.Tuples.{Tuple, five}
 use Rattle.spki_reduce.specs.Views.{entry_tuple}
@@ -30,6 +30,20 @@ pub record IsFirstSupported (c : Case) (tuples : List Tuple) (n : ℕ) : Type 0 
 abbrev pub Names : Case → List Tuple → Decision → Type 0
 Names c tuples (Yes n) = IsFirstSupported c tuples n
 Names c tuples No = (k : ℕ) (e : Entry) → slice_get c.entries k ≡ Some e → ¬ Supported c tuples e
+
+-- no entry before a place has a chain that is too large at a step
+abbrev pub SmallBefore : Case → List Tuple → ℕ → Type 0
+SmallBefore c tuples place =
+    (k : ℕ) (e : Entry) → k < place → slice_get c.entries k ≡ Some e → ¬ TooLargeAt c.policy (five (entry_tuple e)) tuples
+
+-- no entry has
+abbrev pub AllSmall : Case → List Tuple → Type 0
+AllSmall c tuples = SmallBefore c tuples (length c.entries)
+
+-- no entry up to the one that a decision names has, or no entry at all
+abbrev pub SmallUpTo : Case → List Tuple → Decision → Type 0
+SmallUpTo c tuples (Yes n) = SmallBefore c tuples n
+SmallUpTo c tuples No = AllSmall c tuples
 
 -- an entry, with none before it that does, whose chain is too large at a step
 pub record HasLarge (c : Case) (tuples : List Tuple) : Type 0 where

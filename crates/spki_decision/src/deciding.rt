@@ -5,9 +5,9 @@ ghost use Rattle.spki_case.specs.View.{model};
 ghost use Rattle.spki_reduce.specs.Tuples.{five};
 ghost use Rattle.spki_reduce.specs.Chain.{tuples_of, TooLargeAt};
 ghost use Rattle.spki_reduce.specs.Views.{entry_tuple};
-ghost use Rattle.spki_decision.specs.Supported.{Supported, Names, HasLarge};
+ghost use Rattle.spki_decision.specs.Supported.{Supported, Names, HasLarge, SmallUpTo};
 ghost use Rattle.spki_decision.specs.Granted.{IsTooLarge};
-ghost use Rattle.spki_decision.specs.Decision.{IsDecision};
+ghost use Rattle.spki_decision.specs.Decision.{IsDecision, IsUnrefused};
 
 use crate::folding::fold_entry;
 use crate::judging::{Evidence, judge};
@@ -81,6 +81,8 @@ impl From<ReduceFault> for GuardFault {
 pub fn decide<V: Verifier>(alloc: Global, case: &Case, verifier: &V) -> Result<Decision, GuardFault>
     ensures exact { IfOk result (IsDecision (model case.now) (V.accepted verifier.now)) }
     ensures too_large { IsErrOf result GuardFault.TooLarge → IsTooLarge (model case.now) (V.accepted verifier.now) }
+    // No such refusal is passed over.
+    ensures small { IfOk result (IsUnrefused (model case.now) (V.accepted verifier.now)) }
 {
     match judge(alloc, &case.sequence, case.policy, verifier)? {
         Evidence::Fails { .. } => Ok(Decision::No),
@@ -96,6 +98,7 @@ fn first_granted<'a>(
 ) -> Result<Decision, GuardFault>
     ensures named { IfOk result (Names (model case.now) (tuples_of steps.now)) }
     ensures too_large { IsErrOf result GuardFault.TooLarge → HasLarge (model case.now) (tuples_of steps.now) }
+    ensures small { IfOk result (SmallUpTo (model case.now) (tuples_of steps.now)) }
 {
     for (place, entry) in case.acl.iter().enumerate() {
         if grants(alloc, entry, steps, case)? {
@@ -115,6 +118,7 @@ fn grants<'a>(
     ensures exact { IfOk result (λ yes. IsTrue yes ↔ Supported (model case.now) (tuples_of steps.now) entry.now) }
     ensures too_large { IsErrOf result GuardFault.TooLarge →
         TooLargeAt case.now.policy (five (entry_tuple entry.now)) (tuples_of steps.now) }
+    ensures small { IfOk result (λ yes. ¬ TooLargeAt case.now.policy (five (entry_tuple entry.now)) (tuples_of steps.now)) }
 {
     case.request.known();
     match fold_entry(alloc, entry, steps, case.policy)? {

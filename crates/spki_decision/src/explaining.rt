@@ -1,12 +1,13 @@
 //! Why the entries of a case grant what is asked, or don't (RFC 2693, section 6.3).
 
-ghost use Rattle.std.specs.Prelude.{◌≡◌, map, length, IfOk, IsErrOf};
+ghost use Rattle.std.specs.Prelude.{◌≡◌, map, length, IfOk, OnOk, IsErrOf};
 ghost use Rattle.std.specs.List.{AllZip};
 ghost use Rattle.spki_case.specs.View.{model};
 ghost use Rattle.spki_case.specs.Sequence.{certificates};
 ghost use Rattle.spki_reduce.specs.Tuples.{five};
 ghost use Rattle.spki_reduce.specs.Chain.{tuples_of, TooLargeAt};
 ghost use Rattle.spki_reduce.specs.Views.{entry_tuple};
+ghost use Rattle.spki_decision.specs.Supported.{AllSmall};
 ghost use Rattle.spki_decision.specs.Reduced.{HasLargeTags, SomeTooLarge};
 ghost use Rattle.spki_decision.specs.Explained.{IsReason, IsExplanation, reason_of};
 
@@ -93,6 +94,7 @@ fn entry_reasons<'a>(
     ensures each { IfOk result (λ reasons.
         AllZip (IsReason (model case.now) (tuples_of steps.now)) case.now.acl.items reasons.items) }
     ensures too_large { IsErrOf result GuardFault.TooLarge → HasLargeTags (model case.now) (tuples_of steps.now) }
+    ensures small { OnOk result (AllSmall (model case.now) (tuples_of steps.now)) }
 {
     let mut reasons = Vec::new(alloc);
     for entry in &case.acl {
@@ -114,6 +116,7 @@ fn entry_reason<'a>(
     ensures exact { IfOk result (IsReason (model case.now) (tuples_of steps.now) entry.now) }
     ensures too_large { IsErrOf result GuardFault.TooLarge →
         TooLargeAt case.now.policy (five (entry_tuple entry.now)) (tuples_of steps.now) }
+    ensures small { IfOk result (λ reason. ¬ TooLargeAt case.now.policy (five (entry_tuple entry.now)) (tuples_of steps.now)) }
 {
     match entry_fold(alloc, case, entry, items, steps)? {
         EntryFold::Stopped { item, cause } => Ok(Reason::Stopped { item, cause }),

@@ -29,6 +29,7 @@ pub(crate) fn fold_entry<'a>(
         (λ step cause. SupportsNothing policy (five (entry_tuple entry.now) ∷ tuples_of steps.now))) }
     ensures too_large { IsErrOf result ReduceFault.TooLarge →
         TooLargeAt policy (five (entry_tuple entry.now)) (tuples_of steps.now) }
+    ensures small { IfOk result (λ fold. ¬ TooLargeAt policy (five (entry_tuple entry.now)) (tuples_of steps.now)) }
 {
     let own = own_five(entry)?;
     fold_chain(alloc, &own, steps, policy)

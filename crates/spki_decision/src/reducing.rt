@@ -1,12 +1,13 @@
 //! What the entries of a case become (RFC 2693, section 6.3).
 
-ghost use Rattle.std.specs.Prelude.{◌≡◌, map, length, IfOk, IsErrOf};
+ghost use Rattle.std.specs.Prelude.{◌≡◌, map, length, IfOk, OnOk, IsErrOf};
 ghost use Rattle.std.specs.List.{AllZip};
 ghost use Rattle.spki_case.specs.View.{model};
 ghost use Rattle.spki_case.specs.Sequence.{certificates};
 ghost use Rattle.spki_reduce.specs.Tuples.{five};
 ghost use Rattle.spki_reduce.specs.Chain.{tuples_of, TooLargeAt};
 ghost use Rattle.spki_reduce.specs.Views.{entry_tuple};
+ghost use Rattle.spki_decision.specs.Supported.{AllSmall};
 ghost use Rattle.spki_decision.specs.Reduced.{IsEntryFold, IsOwn, IsReduction, HasLargeTags, SomeTooLarge};
 
 use crate::deciding::GuardFault;
@@ -82,6 +83,7 @@ fn entry_folds<'a>(
     ensures each { IfOk result (λ folds.
         AllZip (IsEntryFold (model case.now) (tuples_of steps.now)) case.now.acl.items folds.items) }
     ensures too_large { IsErrOf result GuardFault.TooLarge → HasLargeTags (model case.now) (tuples_of steps.now) }
+    ensures small { OnOk result (AllSmall (model case.now) (tuples_of steps.now)) }
 {
     let mut folds = Vec::new(alloc);
     for entry in &case.acl {
@@ -104,6 +106,7 @@ pub(crate) fn entry_fold<'a>(
     ensures issuer { IfOk result IsOwn }
     ensures too_large { IsErrOf result GuardFault.TooLarge →
         TooLargeAt case.now.policy (five (entry_tuple entry.now)) (tuples_of steps.now) }
+    ensures small { IfOk result (λ fold. ¬ TooLargeAt case.now.policy (five (entry_tuple entry.now)) (tuples_of steps.now)) }
 {
     match fold_entry(alloc, entry, steps, case.policy)? {
         Fold::Done(five) => Ok(EntryFold::Done(five)),

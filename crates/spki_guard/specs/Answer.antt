@@ -26,7 +26,7 @@ use Rattle.spki_decision.specs.declared.deciding.GuardFault.{GuardFault}
 use Rattle.spki_decision.specs.declared.deciding.GuardFault.TheVariants as guard
 use Rattle.spki_decision.specs.declared.reducing.Reduction.{Reduction}
 use Rattle.spki_decision.specs.declared.explaining.Explanation.{Explanation}
-use Rattle.spki_decision.specs.Decision.{IsDecision}
+use Rattle.spki_decision.specs.Decision.{IsDecision, IsUnrefused}
 use Rattle.spki_decision.specs.Granted.{IsTooLarge}
 use Rattle.spki_decision.specs.Reduced.{IsReduction, SomeTooLarge}
 use Rattle.spki_decision.specs.Explained.{IsExplanation}
@@ -41,12 +41,14 @@ abbrev pub IsLineOf : Decision → Verdict → List ℕ → Type 0
 IsLineOf (decision.Yes n) verdict output = (verdict ≡ Done) × (output ≡ yes_entry n)
 IsLineOf decision.No verdict output = (verdict ≡ No) × (output ≡ no_line)
 
--- The canonical text is that of a case, and the line is that of its decision, with the case's own accepted list as the verifier.
+-- The canonical text is that of a case, and the line is that of its decision, with the case's own accepted list as the
+-- verifier. No entry before it has a chain that is too large.
 pub record Decides (text : List ℕ) (verdict : Verdict) (output : List ℕ) : Type 0 where
   pub case_read : Case
   pub text_is : IsCaseText text case_read
   pub decided : Decision
   pub decision_is : IsDecision case_read (accepted_by case_read) decided
+  pub unrefused : IsUnrefused case_read (accepted_by case_read) decided
   pub line : IsLineOf decided verdict output
 
 -- The canonical text is that of a case, and these are the lines of its reduction, and of its explanation, with the

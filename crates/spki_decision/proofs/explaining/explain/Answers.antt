@@ -38,5 +38,6 @@ returns-in_ok-reasons-in-Stands-clause-exact g c =
     let shown : AreShown policy verified items (tuples_of c.in-Stands.steps.items) =
     rw c.deref.ensures.value at evidence.1 in
     let each = rw c.deref-in-Stands-2.ensures.value at c.in_ok-reasons-in-Stands.ensures.each in
+    let small = rw c.deref-in-Stands-2.ensures.value at c.in_ok-reasons-in-Stands.ensures.small in
     are_reasons (model c.args.case.now) verified (tuples_of c.in-Stands.steps.items) c.in_ok-reasons-in-Stands.reasons.items
-    c.known.ensures shown each
+    c.known.ensures shown each small

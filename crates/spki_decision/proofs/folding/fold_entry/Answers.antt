@@ -9,6 +9,9 @@ returns-clause-fold c = rw c.in_ok-own.ensures at c.fold_chain.ensures.fold
 pub returns-clause-issuer : goal.returns-clause-issuer
 returns-clause-issuer c = rw (ap (λ (t : FiveTuple). t.issuer) c.in_ok-own.ensures) at c.fold_chain.ensures.issuer
 
+pub returns-clause-small : goal.returns-clause-small
+returns-clause-small c = rw c.in_ok-own.ensures at c.fold_chain.ensures.small
+
 pub returns-clause-excluded : goal.returns-clause-excluded
 returns-clause-excluded c = rw c.in_ok-own.ensures at c.fold_chain.ensures.excluded
 

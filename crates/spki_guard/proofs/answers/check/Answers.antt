@@ -7,11 +7,13 @@ use Rattle.spki_guard.proofs.answers.check.Goals as goal
 pub returns-clause-answered : goal.returns-clause-answered
 returns-clause-answered c =
     let exact = rw c.accepted.ensures at c.in_ok-decision.ensures.exact in
+    let small = rw c.accepted.ensures at c.in_ok-decision.ensures.small in
     record {
       case_read = model c.in_ok-case.case;
       text_is = c.in_ok-case.ensures.read;
       decided = c.in_ok-decision.decision;
       decision_is = exact;
+      unrefused = small;
       line = c.in_ok-decision_line.ensures;
     }
 
