@@ -59,8 +59,7 @@ uint32_t spki_c_check_accepted(const unsigned char *text, size_t text_length, co
 /* Does a command with a text. The answer stands at the front of the buffer, and the rest of the buffer is as it was; `*needed`
  * is the length of the answer, and `needed` may be null. A text of more than 1,048,576 octets is `refused form TooLong`.
  *
- * In a case the rows of `(accepted ..)` say which signatures the caller has verified. Hand in no case that anybody else put
- * together: they would write their own rows. Use spki_check_accepted for it. */
+ * In a case the rows of `(accepted ..)` say which signatures the caller has verified. spki_check_accepted takes them apart. */
 static inline enum spki_status spki_answer(enum spki_command command, const void *text, size_t text_length, void *buffer,
                                            size_t buffer_length, size_t *needed)
 {
@@ -76,8 +75,11 @@ static inline enum spki_status spki_answer(enum spki_command command, const void
 }
 
 /* Decides a case by rows that stand apart from it: `rows` is `(accepted ROW ..)`, of which each row says that the caller has
- * verified a signature. The rows in the case itself are read, and none of them is asked. The answer is that of SPKI_CHECK, and a
- * refusal of `rows` begins with `refused rows`. The buffer and `needed` are as above. */
+ * verified a signature. The rows in the case itself are read, and none of them is asked, so that nobody brings rows of their own
+ * with a sequence. The access list, the key and the moment are the caller's to write all the same: put each part that a stranger
+ * handed in through SPKI_CANONICAL, which takes one value and no more, before it goes into a case.
+ *
+ * The answer is that of SPKI_CHECK, and a refusal of `rows` begins with `refused rows`. The buffer and `needed` are as above. */
 static inline enum spki_status spki_check_accepted(const void *text, size_t text_length, const void *rows, size_t rows_length,
                                                    void *buffer, size_t buffer_length, size_t *needed)
 {
