@@ -20,7 +20,7 @@ if [[ -z $program ]]; then
     program=crates/spki/out/spki
 fi
 if [[ -z $library ]]; then
-    crates/spki_c/archive.sh
+    crates/spki_c/archive.py
     library=crates/spki_c/out/libspki_c.a
 fi
 placed 755 "$program" bin/spki

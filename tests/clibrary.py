@@ -167,7 +167,7 @@ def main():
     program = os.path.abspath(sys.argv[1] if len(sys.argv) > 1 else PROGRAM)
     library = os.path.abspath(sys.argv[2] if len(sys.argv) > 2 else os.path.join(CRATE, "out", "libspki_c.a"))
     if not os.path.exists(library):
-        subprocess.run([os.path.join(CRATE, "archive.sh")], check=True)
+        subprocess.run([os.path.join(CRATE, "archive.py")], check=True)
     with tempfile.TemporaryDirectory() as room:
         asker, guard = os.path.join(room, "clibrary"), os.path.join(room, "guard")
         results = {"compiling": compiled(os.path.join(HERE, "clibrary.c"), library, asker, "-Wl,--wrap=malloc,--wrap=realloc")
