@@ -1,7 +1,7 @@
 //! How an answer is handed to a caller.
 ghost use Rattle.std.specs.Prelude.{◌≡◌};
 ghost use Rattle.spki_guard.specs.Answer.{written_by};
-ghost use Rattle.spki_c.specs.Handed.{IsHanded, IsMisuse};
+ghost use Rattle.spki_c.specs.Handed.{IsHanded};
 
 use crate::numbers::{MISUSED, TOO_SMALL};
 use spki_guard::{Answer, Status};
