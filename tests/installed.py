@@ -1,9 +1,10 @@
 #!/usr/bin/env python3
-"""Installs into an empty folder, asks the installed program, and looks at the manual.
+"""Installs into an empty folder, asks the installed program and, where there is a C compiler, the installed library, and looks at
+the manual.
 
 The manual must be shown without a warning, which is left out where there is no `man`, and name every fault that a refusal in the
 tables beside this file names. Prints what fails; the last line counts.
-Usage: tests/installed.py [PROGRAM]        a program that is built already; else install.sh builds it
+Usage: tests/installed.py [PROGRAM [LIBRARY]]        built already; what isn't given install.sh builds
 """
 import os
 import re
@@ -29,6 +30,16 @@ def program_answers(prefix):
         return output_of([os.path.join(prefix, "bin", "spki"), "check"], case.read()) == (0, "yes entry 1\n")
 
 
+def library_answers(prefix):
+    """Whether a C program compiles and links with what is installed, and guards its example."""
+    example, guard = os.path.join(TOP, "examples", "c"), os.path.join(prefix, "guard")
+    words = ["cc", "-std=c11", "-Wall", "-Wextra", "-Werror", "-I", os.path.join(prefix, "include"), "-o", guard, "guard.c",
+             "-L", os.path.join(prefix, "lib"), "-lspki_c"]
+    files = ["acl.sexp", "rows.sexp", "sequence.sexp", "key.sexp", "request.sexp"]
+    return (output_of(words, cwd=example) == (0, "")
+            and output_of([guard, *files, "2024-01-01_00:00:00"], cwd=example) == (0, "yes entry 1\n"))
+
+
 def shown_without_warning(page):
     settings = {**os.environ, "LC_ALL": "C.UTF-8", "MANPAGER": "cat", "MANWIDTH": "80"}
     done = subprocess.run(["man", "--warnings", "-l", page], stdout=subprocess.DEVNULL, stderr=subprocess.PIPE, text=True, env=settings,
@@ -52,12 +63,16 @@ def names_every_fault(page):
 
 def main():
     with tempfile.TemporaryDirectory() as prefix:
-        status, said = output_of([os.path.join(TOP, "install.sh"), prefix, *sys.argv[1:2]])
+        status, said = output_of([os.path.join(TOP, "install.sh"), prefix, *sys.argv[1:3]])
         page = os.path.join(prefix, "share", "man", "man1", "spki.1")
         if status != 0 or not os.path.exists(page):
             print(f"{said}\ninstall.sh ended with status {status}\n0 passed, 1 failed")
             return 1
         results = {"the installed program": program_answers(prefix), "the faults in the manual": names_every_fault(page)}
+        if shutil.which("cc") is None:
+            print("cc is not there: whether a C program links with the library is left out")
+        else:
+            results["the installed library"] = library_answers(prefix)
         if shutil.which("man") is None:
             print("man is not there: whether the manual is shown without a warning is left out")
         else:

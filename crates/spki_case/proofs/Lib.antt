@@ -7,3 +7,4 @@ pub mod Lacking
 pub mod OneCase
 pub mod ByDigest
 pub mod FirstRows
+pub mod LackingRow

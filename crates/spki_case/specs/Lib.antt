@@ -4,6 +4,7 @@ pub mod ByDigest
 pub mod View
 pub mod Rows
 pub mod CaseForm
+pub mod RowsForm
 pub mod Parts
 pub mod Sequence
 pub mod Sameness

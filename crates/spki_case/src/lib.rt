@@ -9,5 +9,6 @@ mod table;
 mod verifying;
 
 pub use cases::{Case, CaseFault};
+pub use rows::RowsFault;
 pub use table::{AcceptedTable, Row};
 pub use verifying::Verifier;

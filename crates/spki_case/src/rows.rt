@@ -6,11 +6,74 @@ ghost use Rattle.std.specs.List.{AllZip};
 ghost use Rattle.spki_case.specs.Case as model;
 ghost use Rattle.spki_case.specs.Rows.{RowOf, RowShows, RowsRefused, HashShows};
 ghost use Rattle.spki_case.specs.View.{row_of, rows_of};
+ghost use Rattle.spki_case.specs.Texts.{IsOuter};
+ghost use Rattle.spki_case.specs.RowsForm.{RowsOf, NoRows, IsRowsText, RowsTextRefused};
 
 use crate::table::{AcceptedTable, Row};
 use sexpr_core::reading::{Members, Node};
+use sexpr_core::{Doc, FormFault};
 use spki_cert::{CertFault, CertFaultKind, HashAlg, Octets, hash_of, key_of};
 use std::alloc::Global;
+use thiserror::Error;
+
+/// Why a text is no accepted list.
+#[derive(Clone, Copy, Debug, PartialEq, Eq, Error)]
+pub enum RowsFault {
+    /// The text is no canonical form within the limits.
+    #[error("form: {0}")]
+    Form(FormFault),
+    /// The value is no list with the head `accepted`.
+    #[error("not built as an accepted list")]
+    Shape,
+    /// A row; the fault's item is its number, from 1.
+    #[error("row: {0}")]
+    Row(CertFault),
+    /// Memory was refused.
+    #[error("out of memory")]
+    Memory,
+}
+
+impl<'a> AcceptedTable<'a> {
+    /// Reads an accepted list in canonical form, which stands apart from a case: `(accepted row ..)`.
+    ///
+    /// # Errors
+    ///
+    /// `Form` where the text is no canonical form within the limits, `Shape` where the value is no list with the head
+    /// `accepted`, and else `Row` of the first row that has no reading. `Memory` where memory was refused.
+    pub fn read(alloc: Global, text: &'a [u8]) -> Result<AcceptedTable<'a>, RowsFault>
+        ensures read { IfOk result (λ table. IsRowsText text.entry.now (rows_of table)) }
+        ensures refused { IfErr result (λ fault. fault ≢ RowsFault.Memory → RowsTextRefused text.entry.now fault) }
+    {
+        match Doc::open(alloc, text) {
+            Ok(document) => AcceptedTable::of(alloc, &document.top()),
+            Err(FormFault::Memory) => Err(RowsFault::Memory),
+            Err(fault) => Err(RowsFault::Form(fault)),
+        }
+    }
+
+    /// The accepted list that a node is.
+    fn of(alloc: Global, node: &Node<'_, 'a>) -> Result<AcceptedTable<'a>, RowsFault>
+        ensures read { IfOk result (λ table. RowsOf node.now (rows_of table)) }
+        ensures refused { IfErr result (λ fault. fault ≢ RowsFault.Memory → NoRows node.now fault) }
+    {
+        let Some(rows) = node.headed(b"accepted") else {
+            return Err(RowsFault::Shape);
+        };
+        match table_of(alloc, rows) {
+            Ok(table) => Ok(table),
+            Err(fault) => Err(row_fault(fault)),
+        }
+    }
+}
+
+fn row_fault(fault: CertFault) -> RowsFault
+    ensures { IsOuter (fault.kind ≡ CertFaultKind.Memory) RowsFault.Memory (RowsFault.Row fault) result }
+{
+    match fault.kind {
+        CertFaultKind::Memory => RowsFault::Memory,
+        _ => RowsFault::Row(fault),
+    }
+}
 
 /// The row that a node is: `(by key hash value)`. Takes no memory.
 fn row_at<'a>(node: &Node<'_, 'a>) -> Result<Row<'a>, CertFaultKind>

@@ -1,5 +1,5 @@
 -- A case whose tags are too large, as the command's refusal.
-use Rattle.std.proofs.Common.{◌≡◌, ◌≢◌, ◌⊎◌, List, ℕ, inl, inr, refl, Result, Ok, Err, IfErr}
+use Rattle.std.proofs.Common.{◌≡◌, ◌≢◌, List, ℕ, inl, inr, refl, Result, Ok, Err, IfErr}
 use Rattle.std.specs.Prelude.{IsErrAnd}
 use Rattle.sexpr_core.specs.Value.{Value, canon}
 use Rattle.spki_case.specs.Case.{Case, accepted_by}

@@ -14,6 +14,7 @@ use Rattle.spki_case.specs.Case.{Case, Verified, accepted_by}
 use Rattle.spki_case.specs.CaseForm.{IsCaseText, TextRefused}
 use Rattle.spki_guard.specs.declared.answers.Refusal.{Refusal}
 use Rattle.spki_guard.specs.declared.answers.Refusal.TheVariants as refusals
+use Rattle.spki_guard.specs.declared.answers.Answer.{Answer}
 use Rattle.spki_guard.specs.declared.answers.Output as output
 use Rattle.spki_guard.specs.declared.answers.Output.TheVariants.{Made, Fixed}
 use Rattle.spki_words.specs.declared.commands.Command.{Command}
@@ -32,7 +33,7 @@ use Rattle.spki_decision.specs.Reduced.{IsReduction, SomeTooLarge}
 use Rattle.spki_decision.specs.Explained.{IsExplanation}
 use Rattle.spki_guard.specs.Reports.{IsReductionReport, IsExplanationReport}
 use Rattle.spki_guard.specs.Intersect.{IsMetText, TextNotMet}
-use Rattle.spki_guard.specs.Lines.{yes_entry, no_line, refused_form, refused_intersect, refused_case, refused_decision, refused_memory}
+use Rattle.spki_guard.specs.Lines.{yes_entry, no_line, refused_form, refused_intersect, refused_case, refused_rows, refused_decision, refused_memory}
 
 -- ---- decisions
 
@@ -134,6 +135,7 @@ RefusesValue command v (refusals.Form fault) = ⊥
 RefusesValue command v (refusals.Intersect fault) = (command ≡ Intersect) × TextNotMet (canon v) fault
 RefusesValue command v (refusals.Case fault) = IsOnCase command × TextRefused (canon v) fault
 RefusesValue command v (refusals.Decision fault) = IsUndecided command (canon v) fault
+RefusesValue command v (refusals.Rows fault) = ⊥
 RefusesValue command v refusals.Memory = Unit {0}
 
 -- ---- texts
@@ -163,6 +165,7 @@ RefusesAnswer command text (refusals.Form fault) = RefusesForm text fault
 RefusesAnswer command text (refusals.Intersect fault) = RefusesRead command text (refusals.Intersect fault)
 RefusesAnswer command text (refusals.Case fault) = RefusesRead command text (refusals.Case fault)
 RefusesAnswer command text (refusals.Decision fault) = RefusesRead command text (refusals.Decision fault)
+RefusesAnswer command text (refusals.Rows fault) = ⊥
 RefusesAnswer command text refusals.Memory = Unit {0}
 
 -- the line of a refusal
@@ -171,6 +174,7 @@ refused_line (refusals.Form fault) = refused_form fault
 refused_line (refusals.Intersect fault) = refused_intersect fault
 refused_line (refusals.Case fault) = refused_case fault
 refused_line (refusals.Decision fault) = refused_decision fault
+refused_line (refusals.Rows fault) = refused_rows fault
 refused_line refusals.Memory = refused_memory
 
 -- The text is refused, and the line is that of the refusal.
@@ -183,8 +187,17 @@ pub record Refuses (command : Command) (text : List ℕ) (verdict : Verdict) (ou
 abbrev pub IsAnswer : Command → List ℕ → Verdict → List ℕ → Type 0
 IsAnswer command text verdict output = AnswersRead command text verdict output ⊎ Refuses command text verdict output
 
+-- The text has too many octets, which is what the line says, unless memory ran out.
+pub record RefusesAsLong (verdict : Verdict) (output : List ℕ) : Type 0 where
+  pub verdict_is : verdict ≡ Refused
+  pub line : (output ≡ refused_form form.TooLong) ⊎ (output ≡ refused_memory)
+
 -- ---- as it is kept
 
 abbrev pub octets_of : output.Output → List ℕ
 octets_of (Made octets) = octets.items
 octets_of (Fixed octets) = octets.now
+
+-- the octets that an answer writes
+abbrev pub written_by : Answer → List ℕ
+written_by answer = octets_of answer.output

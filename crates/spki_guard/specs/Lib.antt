@@ -4,3 +4,4 @@ pub mod Intersect
 pub mod Reports
 pub mod Answer
 pub mod Run
+pub mod Apart

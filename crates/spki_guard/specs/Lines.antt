@@ -9,6 +9,8 @@ use Rattle.spki_cert.specs.declared.fault.CertFaultKind.{CertFaultKind}
 use Rattle.spki_cert.specs.declared.fault.CertFaultKind.TheVariants as kind
 use Rattle.spki_case.specs.declared.cases.CaseFault.{CaseFault}
 use Rattle.spki_case.specs.declared.cases.CaseFault.TheVariants as faults
+use Rattle.spki_case.specs.declared.rows.RowsFault.{RowsFault}
+use Rattle.spki_case.specs.declared.rows.RowsFault.TheVariants as rows
 use Rattle.spki_decision.specs.declared.deciding.GuardFault.{GuardFault}
 use Rattle.spki_decision.specs.declared.deciding.GuardFault.TheVariants as guard
 use Rattle.spki_reduce.specs.declared.fold.Cause.{Cause}
@@ -101,18 +103,22 @@ refused_item part n kind = refused (part ∷ decimal n ∷ kind ∷ [])
 abbrev pub refused_tag : List ℕ → ℕ → List ℕ → List ℕ
 refused_tag part n kind = refused (part ∷ decimal n ∷ codes "Tag" ∷ kind ∷ [])
 
--- a fault at an offset of the text
-abbrev pub refused_at : List ℕ → ℕ → List ℕ
-refused_at kind at = refused (codes "form" ∷ kind ∷ decimal at ∷ [])
+-- a fault at an offset of a text
+abbrev pub refused_at : List ℕ → List ℕ → ℕ → List ℕ
+refused_at text kind at = refused (text ∷ kind ∷ decimal at ∷ [])
 
--- a fault of the text
+-- a fault of a text, with this word for it
+abbrev pub refused_text : List ℕ → FormFault → List ℕ
+refused_text text TooLong = refused_part text (codes "TooLong")
+refused_text text TooDeep = refused_part text (codes "TooDeep")
+refused_text text Short = refused_part text (codes "Short")
+refused_text text (Bad at) = refused_at text (codes "Bad") at
+refused_text text (Trailing at) = refused_at text (codes "Trailing") at
+refused_text text Memory = refused_memory
+
+-- a fault of the text that is handed in
 abbrev pub refused_form : FormFault → List ℕ
-refused_form TooLong = refused_part (codes "form") (codes "TooLong")
-refused_form TooDeep = refused_part (codes "form") (codes "TooDeep")
-refused_form Short = refused_part (codes "form") (codes "Short")
-refused_form (Bad at) = refused_at (codes "Bad") at
-refused_form (Trailing at) = refused_at (codes "Trailing") at
-refused_form Memory = refused_memory
+refused_form fault = refused_text (codes "form") fault
 
 -- the name of a fault of a tag or a request
 abbrev pub tag_kind : TagFault → List ℕ
@@ -173,6 +179,13 @@ refused_case (faults.Key fault) = refused_part (codes "key") (kind_name fault.ki
 refused_case (faults.Request fault) = refused_part (codes "request") (tag_kind fault)
 refused_case (faults.At fault) = refused_part (codes "at") (kind_name fault.kind)
 refused_case faults.Memory = refused_memory
+
+-- a fault of an accepted list that stands apart from a case; rows are counted from 1
+abbrev pub refused_rows : RowsFault → List ℕ
+refused_rows (rows.Form fault) = refused_text (codes "rows") fault
+refused_rows rows.Shape = refused_part (codes "rows") (codes "Shape")
+refused_rows (rows.Row fault) = refused_in (codes "rows") fault.item fault.kind
+refused_rows rows.Memory = refused_memory
 
 -- why a case isn't decided
 abbrev pub refused_decision : GuardFault → List ℕ

@@ -1,24 +1,24 @@
 //! The answer to a text: what is found out of it, and what is written.
-ghost use Rattle.std.specs.Prelude.{◌≡◌, [], ◌∷◌, ◌++◌, ◌⊎◌, IfOk, IfErr};
+ghost use Rattle.std.specs.Prelude.{◌≡◌, [], ◌∷◌, ◌++◌, ◌⊎◌, ◌<◌, length, IfOk, IfErr, IsErrOf};
 ghost use Rattle.sexpr_core.specs.Value.{Value, canon};
 ghost use Rattle.sexpr_text.specs.Printed.{adv};
 ghost use Rattle.sexpr_text.specs.Written.{written};
 ghost use Rattle.spki_tag.specs.Tag.{tag_value};
 ghost use Rattle.spki_case.specs.Texts.{IsOuter};
-ghost use Rattle.spki_guard.specs.Answer.{form_of, IsAnswer, AnswersValue, RefusesValue, AnswersRead, RefusesAnswer, WritesMeet, Decides, Reduces, Explains, IsLineOf, refused_line, octets_of};
+ghost use Rattle.spki_guard.specs.Answer.{form_of, IsAnswer, AnswersValue, RefusesValue, AnswersRead, RefusesAnswer, RefusesAsLong, WritesMeet, Decides, Reduces, Explains, IsLineOf, refused_line, octets_of, written_by};
 ghost use Rattle.spki_guard.specs.Lines.{refused_memory};
 
 use crate::intersection::{IntersectFault, intersect};
 use crate::lines::{
     push_no, push_refused_case, push_refused_decision, push_refused_form, push_refused_intersect,
-    push_refused_memory, push_yes_entry,
+    push_refused_memory, push_refused_rows, push_yes_entry,
 };
 use crate::printing::push_tag;
 use crate::reports::{push_explanation, push_reduction};
 use sexpr_core::FormFault;
 use sexpr_core::reading::wrap_octets;
 use sexpr_text::{Form, convert};
-use spki_case::{Case, CaseFault};
+use spki_case::{Case, CaseFault, RowsFault};
 use spki_decision::{Decision, GuardFault, decide, explain, reduce_case};
 use spki_tag::Tag;
 use spki_words::Command;
@@ -57,9 +57,19 @@ pub enum Verdict {
 
 /// What was found out of a text, and what is written of it.
 #[derive(Drop)]
-pub(crate) struct Answer {
+pub struct Answer {
+    /// What was found out.
     pub verdict: Verdict,
-    pub output: Output,
+    pub(crate) output: Output,
+}
+
+impl Answer {
+    /// The octets that are written.
+    pub fn octets(&self) -> &[u8]
+        ensures { result.now ≡ written_by self.now }
+    {
+        self.output.as_slice()
+    }
 }
 
 /// Why a text has no answer but a refusal.
@@ -73,6 +83,8 @@ pub(crate) enum Refusal {
     Case(CaseFault),
     /// Its case isn't decided.
     Decision(GuardFault),
+    /// The accepted list that stands apart from it is none.
+    Rows(RowsFault),
     /// Memory was refused.
     Memory,
 }
@@ -122,6 +134,21 @@ impl From<CaseFault> for Refusal {
     }
 }
 
+impl From<RowsFault> for Refusal {
+    ghost use Rattle.spki_case.specs.declared.rows.RowsFault.{RowsFault};
+    ghost use Rattle.spki_guard.specs.declared.answers.Refusal.{Refusal};
+
+    ghost from_gives = { λ fault refusal.
+        IsOuter (fault ≡ RowsFault.Memory) Refusal.Memory (Refusal.Rows fault) refusal };
+
+    fn from(fault: RowsFault) -> Refusal {
+        match fault {
+            RowsFault::Memory => Refusal::Memory,
+            _ => Refusal::Rows(fault),
+        }
+    }
+}
+
 impl From<GuardFault> for Refusal {
     ghost use Rattle.spki_decision.specs.declared.deciding.GuardFault.{GuardFault};
     ghost use Rattle.spki_guard.specs.declared.answers.Refusal.{Refusal};
@@ -147,9 +174,10 @@ impl From<AllocError> for Refusal {
     }
 }
 
-/// The answer to a whole text, in any of the three forms.
-pub(crate) fn answer_text(alloc: Global, command: Command, text: &[u8]) -> Answer
-    ensures { IsAnswer command text.now result.verdict (octets_of result.output) }
+/// The answer to a whole text, in any of the three forms. To one of more than 1,048,576 octets it is `refused form TooLong`.
+pub fn answer_text(alloc: Global, command: Command, text: &[u8]) -> Answer
+    ensures answer { IsAnswer command text.now result.verdict (written_by result) }
+    ensures too_long { 1048576 < length text.now → RefusesAsLong result.verdict (written_by result) }
 {
     match answered(alloc, command, text) {
         Ok(answer) => answer,
@@ -161,6 +189,7 @@ pub(crate) fn answer_text(alloc: Global, command: Command, text: &[u8]) -> Answe
 fn answered(alloc: Global, command: Command, text: &[u8]) -> Result<Answer, Refusal>
     ensures answered { IfOk result (λ a. AnswersRead command text.now a.verdict (octets_of a.output)) }
     ensures refused { IfErr result (λ refusal. RefusesAnswer command text.now refusal) }
+    ensures too_long { 1048576 < length text.now → IsErrOf result (Refusal.Form FormFault.TooLong) }
 {
     let octets = convert(alloc, form_of(command), text)?;
     answer_octets(alloc, command, octets)
@@ -271,7 +300,7 @@ fn tag_line(alloc: Global, tag: &Tag) -> Result<Answer, AllocError>
 }
 
 /// The line of a decision.
-fn decision_line(alloc: Global, decision: Decision) -> Result<Answer, AllocError>
+pub(crate) fn decision_line(alloc: Global, decision: Decision) -> Result<Answer, AllocError>
     ensures { IfOk result (λ a. IsLineOf decision a.verdict (octets_of a.output)) }
 {
     let mut line = Vec::new(alloc);
@@ -292,7 +321,7 @@ fn decision_line(alloc: Global, decision: Decision) -> Result<Answer, AllocError
 }
 
 /// The line of a refusal, or that of want of memory where there is none for the line.
-fn refuse(alloc: Global, refusal: Refusal) -> Answer
+pub(crate) fn refuse(alloc: Global, refusal: Refusal) -> Answer
     ensures verdict { result.verdict ≡ Verdict.Refused }
     ensures line { (octets_of result.output ≡ refused_line refusal) ⊎ (octets_of result.output ≡ refused_memory) }
 {
@@ -326,6 +355,7 @@ fn refused_line(alloc: Global, refusal: Refusal) -> Result<Vec<u8>, AllocError>
         Refusal::Intersect(fault) => push_refused_intersect(alloc, &mut line, fault)?,
         Refusal::Case(fault) => push_refused_case(alloc, &mut line, fault)?,
         Refusal::Decision(fault) => push_refused_decision(&mut line, fault)?,
+        Refusal::Rows(fault) => push_refused_rows(alloc, &mut line, fault)?,
         Refusal::Memory => push_refused_memory(&mut line)?,
     }
     Ok(line)

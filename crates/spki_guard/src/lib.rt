@@ -2,6 +2,7 @@
 #![tactic(auto)]
 
 mod answers;
+mod apart;
 mod entry_lines;
 mod intersection;
 mod lines;
@@ -10,10 +11,12 @@ mod reports;
 mod running;
 mod statuses;
 
+pub use answers::{Answer, Verdict, answer_text};
+pub use apart::check_accepted;
 pub use intersection::{IntersectFault, intersect};
 pub use metered_io::Metered;
 pub use running::run;
-pub use spki_case::{AcceptedTable, Case, CaseFault, Row, Verifier};
+pub use spki_case::{AcceptedTable, Case, CaseFault, Row, RowsFault, Verifier};
 pub use spki_decision::{
     Decision, EntryFold, Explanation, GuardFault, Reason, Reduction, Stop, decide, explain,
     first_named, laws, reduce_case,

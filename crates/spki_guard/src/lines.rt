@@ -1,10 +1,10 @@
 //! The lines that are written, put behind what is there.
 ghost use Rattle.std.specs.Prelude.{◌≡◌, ◌++◌, OnOk, OnErr};
-ghost use Rattle.spki_guard.specs.Lines.{yes_entry, no_line, refused_part, refused_item, refused_tag, refused_at, refused_form, refused_in, refused_case, refused_decision, refused_intersect, refused_memory, tag_kind, kind_name};
+ghost use Rattle.spki_guard.specs.Lines.{yes_entry, no_line, refused_part, refused_item, refused_tag, refused_at, refused_text, refused_form, refused_in, refused_case, refused_rows, refused_decision, refused_intersect, refused_memory, tag_kind, kind_name};
 
 use crate::intersection::IntersectFault;
 use sexpr_core::FormFault;
-use spki_case::CaseFault;
+use spki_case::{CaseFault, RowsFault};
 use spki_cert::{CertFault, CertFaultKind};
 use spki_decision::GuardFault;
 use spki_tag::TagFault;
@@ -40,12 +40,25 @@ pub fn push_refused_form(
     ensures ok { OnOk result (out.new.items ≡ out.old.items ++ refused_form fault) }
     ensures err { OnErr result (out.new.items ≡ out.old.items) }
 {
+    push_refused_text(alloc, out, "form", fault)
+}
+
+/// Puts the line of a fault of a text behind what is written, with this word for the text.
+fn push_refused_text(
+    alloc: Global,
+    out: &mut Vec<u8>,
+    text: &str,
+    fault: FormFault,
+) -> Result<(), AllocError>
+    ensures ok { OnOk result (out.new.items ≡ out.old.items ++ refused_text text.now fault) }
+    ensures err { OnErr result (out.new.items ≡ out.old.items) }
+{
     match fault {
-        FormFault::TooLong => push(out, b"refused form TooLong\n"),
-        FormFault::TooDeep => push(out, b"refused form TooDeep\n"),
-        FormFault::Short => push(out, b"refused form Short\n"),
-        FormFault::Bad(at) => push_form_at(alloc, out, "Bad", at),
-        FormFault::Trailing(at) => push_form_at(alloc, out, "Trailing", at),
+        FormFault::TooLong => push_refused_part(alloc, out, text, "TooLong"),
+        FormFault::TooDeep => push_refused_part(alloc, out, text, "TooDeep"),
+        FormFault::Short => push_refused_part(alloc, out, text, "Short"),
+        FormFault::Bad(at) => push_refused_at(alloc, out, text, "Bad", at),
+        FormFault::Trailing(at) => push_refused_at(alloc, out, text, "Trailing", at),
         FormFault::Memory => push_refused_memory(out),
     }
 }
@@ -181,6 +194,24 @@ pub fn push_refused_case(
     }
 }
 
+/// Puts the line of a fault of an accepted list that stands apart from a case behind what is written, with the word
+/// `rows`; of want of memory it is `refused Memory`.
+pub fn push_refused_rows(
+    alloc: Global,
+    out: &mut Vec<u8>,
+    fault: RowsFault,
+) -> Result<(), AllocError>
+    ensures ok { OnOk result (out.new.items ≡ out.old.items ++ refused_rows fault) }
+    ensures err { OnErr result (out.new.items ≡ out.old.items) }
+{
+    match fault {
+        RowsFault::Form(met) => push_refused_text(alloc, out, "rows", met),
+        RowsFault::Shape => push_refused_part(alloc, out, "rows", "Shape"),
+        RowsFault::Row(met) => push_refused_in(alloc, out, "rows", met),
+        RowsFault::Memory => push_refused_memory(out),
+    }
+}
+
 /// Puts the line of a case that isn't decided behind what is written; of want of memory it is `refused Memory`.
 pub fn push_refused_decision(out: &mut Vec<u8>, fault: GuardFault) -> Result<(), AllocError>
     ensures ok { OnOk result (out.new.items ≡ out.old.items ++ refused_decision fault) }
@@ -219,15 +250,21 @@ pub fn push_refused_intersect(
     }
 }
 
-/// Puts `refused form KIND AT` behind what is written; `at` is an offset.
+/// Puts `refused TEXT KIND AT` behind what is written; `at` is an offset.
 #[tactic(auto, using(crate::proofs::Decimals::decimal_written))]
-fn push_form_at(alloc: Global, out: &mut Vec<u8>, kind: &str, at: usize) -> Result<(), AllocError>
-    ensures ok { OnOk result (out.new.items ≡ out.old.items ++ refused_at kind.now at) }
+fn push_refused_at(
+    alloc: Global,
+    out: &mut Vec<u8>,
+    text: &str,
+    kind: &str,
+    at: usize,
+) -> Result<(), AllocError>
+    ensures ok { OnOk result (out.new.items ≡ out.old.items ++ refused_at text.now kind.now at) }
     ensures err { OnErr result (out.new.items ≡ out.old.items) }
 {
     push(
         out,
-        format!(in alloc; "refused form {kind} {at}\n")?.as_bytes(),
+        format!(in alloc; "refused {text} {kind} {at}\n")?.as_bytes(),
     )
 }
 

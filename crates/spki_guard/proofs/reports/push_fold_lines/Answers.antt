@@ -1,4 +1,4 @@
-use Rattle.std.proofs.Common.{◌+◌, [], ◌++◌, ap, ◌∙◌, append_assoc, arith, rules}
+use Rattle.std.proofs.Common.{◌++◌, ap, ◌∙◌, append_assoc, arith}
 use Rattle.std.proofs.Math.ListN.{drop_of_length-le}
 use Rattle.spki_guard.proofs.ReportLines.{one_more_fold, all_folds}
 use Rattle.spki_guard.proofs.reports.push_fold_lines.Goals as goal

@@ -1,0 +1,23 @@
+-- A number is that of one command.
+use Rattle.std.proofs.Common.{◌≡◌, List, [], ◌∷◌, Some, refl, sym, ap, ◌∙◌}
+use Rattle.std.specs.Prelude.{slice_get}
+use Rattle.spki_words.specs.declared.commands.Command.{Command}
+use Rattle.spki_words.specs.declared.commands.Command.TheVariants.{Canonical, Advanced, Transport, Intersect, Reduce, Check, Explain}
+use Rattle.spki_c.specs.Numbers.{number_of}
+
+abbrev all : List Command
+all = Canonical ∷ Advanced ∷ Transport ∷ Intersect ∷ Reduce ∷ Check ∷ Explain ∷ []
+
+at_number : (c : Command) → slice_get all (number_of c) ≡ Some c
+at_number Canonical = refl
+at_number Advanced = refl
+at_number Transport = refl
+at_number Intersect = refl
+at_number Reduce = refl
+at_number Check = refl
+at_number Explain = refl
+
+pub one_command : (c d : Command) → number_of c ≡ number_of d → c ≡ d
+one_command c d e =
+    let same : Some c ≡ Some d = sym (at_number c) ∙ ap (λ n. slice_get all n) e ∙ at_number d in
+    cc

@@ -1,0 +1,50 @@
+//! The exported calls.
+ghost use Rattle.std.specs.Prelude.{◌≡◌, ◌≢◌, ℕ, List};
+ghost use Rattle.spki_words.specs.declared.commands.Command.{Command};
+ghost use Rattle.spki_guard.specs.declared.answers.Verdict.{Verdict};
+ghost use Rattle.spki_guard.specs.Apart.{IsAnswerApart};
+ghost use Rattle.spki_c.specs.Numbers.{number_of};
+ghost use Rattle.spki_c.specs.Handed.{IsHanded, IsMisuse, AnswersText};
+
+use crate::handing::{hand_over, misused};
+use crate::numbers::command_of;
+use spki_guard::{answer_text, check_accepted};
+use std::alloc::Global;
+
+/// Does the command of this number with a text in any of the three forms, and puts the answer into the buffer.
+///
+/// The status is that of the program: 0 for yes or done, 1 for no, 2 for a refusal. It is 4 where the buffer is too small, which
+/// stays as it is then, and 5 where no command has this number. In all cases `needed` is the length of the answer.
+#[unsafe(no_mangle)]
+pub extern "C" fn spki_c_answer(
+    alloc: Global,
+    command: u32,
+    text: &[u8],
+    buffer: &mut [u8],
+    needed: &mut usize,
+) -> u32
+    ensures answered { (c : Command) → command ≡ number_of c → (verdict : Verdict) × (output : List ℕ)
+        × AnswersText c text.now verdict output × IsHanded buffer.old buffer.new needed.new result verdict output }
+    ensures misused { ((c : Command) → command ≢ number_of c) → IsMisuse buffer.old buffer.new needed.new result }
+{
+    match command_of(command) {
+        None => misused(needed),
+        Some(command) => hand_over(&answer_text(alloc, command, text), buffer, needed),
+    }
+}
+
+/// Decides a case by an accepted list that stands apart from it, `(accepted row ..)`, and puts the answer into the buffer, as
+/// `spki_c_answer` does with that of `check`. None of the rows of the case's own accepted list is asked.
+#[unsafe(no_mangle)]
+pub extern "C" fn spki_c_check_accepted(
+    alloc: Global,
+    text: &[u8],
+    rows: &[u8],
+    buffer: &mut [u8],
+    needed: &mut usize,
+) -> u32
+    ensures { (verdict : Verdict) × (output : List ℕ)
+        × IsAnswerApart text.now rows.now verdict output × IsHanded buffer.old buffer.new needed.new result verdict output }
+{
+    hand_over(&check_accepted(alloc, text, rows), buffer, needed)
+}

@@ -1,0 +1,30 @@
+//! How an answer is handed to a caller.
+ghost use Rattle.std.specs.Prelude.{◌≡◌};
+ghost use Rattle.spki_guard.specs.Answer.{written_by};
+ghost use Rattle.spki_c.specs.Handed.{IsHanded};
+
+use crate::numbers::{MISUSED, TOO_SMALL};
+use spki_guard::{Answer, Status};
+
+/// Puts an answer into a buffer, if it is large enough, and tells its length; the status is that of the program, or that the
+/// buffer is too small.
+pub fn hand_over(answer: &Answer, buffer: &mut [u8], needed: &mut usize) -> u32
+    ensures { IsHanded buffer.old buffer.new needed.new result answer.now.verdict (written_by answer.now) }
+{
+    let octets = answer.octets();
+    *needed = octets.len();
+    if buffer.len() < octets.len() {
+        return TOO_SMALL;
+    }
+    buffer[..octets.len()].copy_from_slice(octets);
+    u32::from(Status::from(answer.verdict).code())
+}
+
+/// Says that there is no such command.
+pub fn misused(needed: &mut usize) -> u32
+    ensures status { result ≡ 5 }
+    ensures needed { needed.new ≡ 0 }
+{
+    *needed = 0;
+    MISUSED
+}

@@ -1,0 +1,55 @@
+-- Which accepted list a value is that stands apart from a case, and what its rows state.
+use Rattle.std.specs.Prelude.{◌≡◌, ◌≢◌, ◌⊎◌, List, ℕ, codes, IsTrue}
+use Rattle.std.specs.List.{AllZip}
+use Rattle.sexpr_core.specs.Value.{Value}
+use Rattle.spki_cert.specs.declared.fault.CertFault.{CertFault}
+use Rattle.spki_case.specs.Case.{Row, Verified, accepts}
+use Rattle.spki_case.specs.CaseForm.{headed}
+use Rattle.spki_case.specs.Rows.{RowOf, RowsRefused}
+use Rattle.spki_case.specs.Texts.{IsTextOf, IsMalformed}
+use Rattle.spki_case.specs.declared.rows.RowsFault.{RowsFault}
+use Rattle.spki_case.specs.declared.rows.RowsFault.TheVariants as faults
+
+-- a list with the head `accepted`
+abbrev pub accepted_value : List Value → Value
+accepted_value members = headed (codes "accepted") members
+
+-- The value is an accepted list of these rows.
+pub record RowsOf (v : Value) (rows : List Row) : Type 0 where
+  pub members : List Value
+  pub written : v ≡ accepted_value members
+  pub read : AllZip RowOf members rows
+
+-- what rows state: that one of them is of this key, message and value
+abbrev pub stated_by : List Row → Verified
+stated_by rows key message value = IsTrue (accepts rows key message value)
+
+-- ---- refusals
+
+-- The value is no list with this head, and the fault says so.
+pub record IsNoList (v : Value) (fault : RowsFault) : Type 0 where
+  pub named : fault ≡ faults.Shape
+  pub none : (members : List Value) → v ≢ accepted_value members
+
+-- The value is one whose rows have no reading, and the fault names the first that has none.
+pub record LacksRow (v : Value) (fault : RowsFault) : Type 0 where
+  pub members : List Value
+  pub written : v ≡ accepted_value members
+  pub lacking : CertFault
+  pub named : fault ≡ faults.Row lacking
+  pub refused : RowsRefused members lacking
+  pub none : (rows : List Row) → ¬ AllZip RowOf members rows
+
+-- What a fault other than of memory says of a value.
+abbrev pub NoRows : Value → RowsFault → Type 0
+NoRows v fault = IsNoList v fault ⊎ LacksRow v fault
+
+-- ---- texts
+
+-- the text is the canonical form, within the limits, of a value that is an accepted list of these rows
+abbrev pub IsRowsText : List ℕ → List Row → Type 0
+IsRowsText text rows = IsTextOf (λ v. RowsOf v rows) text
+
+-- What a fault other than of memory says of a text: it is none in canonical form, or the fault is said of its value.
+abbrev pub RowsTextRefused : List ℕ → RowsFault → Type 0
+RowsTextRefused text fault = IsMalformed faults.Form text fault ⊎ IsTextOf (λ v. NoRows v fault) text

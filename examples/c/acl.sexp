@@ -1,0 +1,1 @@
+(acl (entry (public-key (test a)) (propagate) (tag (*))))

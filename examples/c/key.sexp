@@ -1,0 +1,1 @@
+(public-key (test b))

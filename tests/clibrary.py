@@ -1,0 +1,196 @@
+#!/usr/bin/env python3
+"""Asks the static library for C what the program answers, and compares octet by octet.
+
+`clibrary.c` asks each question with no buffer, with one of no octets, with one octet too few, with enough and with more, between
+canaries, with requests for memory refused, and then from several threads with 256 KiB of stack each: every command on each file of
+`examples/`, the rows of the tables beside this file, and cases whose rows of accepted signatures stand apart.
+`examples/c/guard.c` guards a request. Both run under valgrind too, where it is there. Builds the library if it isn't there. Needs
+a C compiler.
+
+Prints what fails; the last line counts.
+Usage: tests/clibrary.py [PROGRAM [LIBRARY]]
+"""
+import os
+import subprocess
+import sys
+import tempfile
+from concurrent.futures import ThreadPoolExecutor
+
+from tables import COMMANDS, HERE, PROGRAM, rows_of, run
+
+TOP = os.path.join(HERE, "..")
+sys.path.insert(0, os.path.join(TOP, "examples", "signed"))
+from sexp import canonical, read  # noqa: E402
+
+CRATE = os.path.join(TOP, "crates", "spki_c")
+C_EXAMPLE = os.path.join(TOP, "examples", "c")
+CHECK_ACCEPTED = 7
+THREADS = 8
+REFUSALS = 40
+SHORT = 20_000
+SECONDS = 900
+STRICT = ["cc", "-std=c11", "-Wall", "-Wextra", "-Wpedantic", "-Werror", "-O1", "-g", "-pthread"]
+VALGRIND = ["valgrind", "--quiet", "--leak-check=full", "--show-leak-kinds=all", "--error-exitcode=98"]
+MOMENT = "2024-01-01_00:00:00"
+NO_ROWS = b"(accepted)"
+
+
+def questions_of_files(program):
+    """Each command on each file of the examples, with what the program answers."""
+    texts = {}
+    for folder, _, names in os.walk(os.path.join(TOP, "examples")):
+        for name in names:
+            if name.endswith(("sexp", ".table")):
+                with open(os.path.join(folder, name), "rb") as file:
+                    texts[name] = file.read()
+    asked = [(f"{command} {name}", number, text, b"") for name, text in sorted(texts.items()) for number, command in enumerate(COMMANDS)]
+    with ThreadPoolExecutor(os.cpu_count()) as pool:
+        wanted = pool.map(lambda each: run(program, COMMANDS[each[1]], each[2]), asked)
+        return list(zip(asked, wanted))
+
+
+def questions_of_tables():
+    """The rows of the tables, with what is wanted."""
+    for name in sorted(each for each in os.listdir(HERE) if each.endswith(".table")):
+        for place, command, text, status, answer in rows_of(os.path.join(HERE, name)):
+            yield (place, COMMANDS.index(command), text, b""), (status, answer)
+
+
+def rows_apart(program, answered):
+    """Of each case that the program decides: its rows apart, beside a case without rows and beside the case with its own; and no
+    rows beside the case with its own, which are not to be asked then."""
+    cases = {text for (_, command, text, _), (status, _) in answered if COMMANDS[command] == "check" and status in (0, 1)}
+    for text in sorted(cases, key=lambda each: (len(each), each)):
+        whole = read(run(program, "canonical", text)[1])
+        rows = canonical(whole[2])
+        bare = canonical([*whole[:2], [b"accepted"], *whole[3:]])
+        with_rows, without = run(program, "check", text), run(program, "check", bare)
+        name = text[:60]
+        yield (f"rows apart of {name}", CHECK_ACCEPTED, bare, rows), with_rows
+        yield (f"own rows beside rows apart of {name}", CHECK_ACCEPTED, text, rows), with_rows
+        yield (f"own rows alone of {name}", CHECK_ACCEPTED, text, NO_ROWS), without
+
+
+def worked_rows():
+    """The case of the first certificate, with its rows apart, changed and not readable."""
+    with open(os.path.join(TOP, "examples", "delegation.sexp"), "rb") as file:
+        case = file.read()
+    at, end = case.index(b"(accepted"), case.index(b"\n (sequence")
+    rows, bare = case[at:end], case[:at] + NO_ROWS + case[end:]
+    first = rows[len(b"(accepted "):-1]
+    long = b"(accepted " + b" " * 1048576 + b")"
+    yes, no = (0, b"yes entry 1\n"), (1, b"no\n")
+    for name, text, listed, answer in [
+        ("the row", bare, rows, yes),
+        ("no row", bare, NO_ROWS, no),
+        ("the requester's own row", case, NO_ROWS, no),
+        ("two rows", bare, b"(accepted (by (public-key (test c)) (hash sha256 #%s#) s) %s)" % (b"00" * 32, first), yes),
+        ("a certificate that was changed", bare.replace(b"(subject (public-key (test b)))", b"(subject (public-key (test c)))"), rows, no),
+        ("another digest", bare, rows.replace(b"#d7", b"#d8"), no),
+        ("another value", bare, rows.replace(b"sig)", b"sih)"), no),
+        ("another signer", bare, rows.replace(b"test a", b"test b"), no),
+        ("rows that are a case", bare, case, (2, b"refused rows Shape\n")),
+        ("a row alone", bare, first, (2, b"refused rows Shape\n")),
+        ("a second row that is none", bare, rows[:-1] + b" (by))", (2, b"refused rows 2 Shape\n")),
+        ("a digest by SHA-1", bare, b"(accepted (by (public-key (test a)) (hash sha1 #%s#) s))" % (b"00" * 20), (2, b"refused rows 1 HashAlg\n")),
+        ("rows without an end", bare, rows[:-1], (2, b"refused rows Short\n")),
+        ("no text of rows", bare, b"", (2, b"refused rows Short\n")),
+        ("rows and more", bare, b"(accepted) x", (2, b"refused rows Trailing 11\n")),
+        ("rows with a tilde", bare, b"(accepted ~)", (2, b"refused rows Bad 10\n")),
+        ("too many octets of rows", bare, long, (2, b"refused rows TooLong\n")),
+        ("rows too deep", bare, b"(" * 65 + b")" * 65, (2, b"refused rows TooDeep\n")),
+        ("rows in braces", bare, b"{KDg6YWNjZXB0ZWQp}", no),
+        ("a text that is no case", b"(case)", rows, (2, b"refused case Shape\n")),
+        ("no text", b"", rows, (2, b"refused form Short\n")),
+        ("a case too long", bare + b" " * 1048576, rows, (2, b"refused form TooLong\n")),
+        ("own rows that are none", bare.replace(NO_ROWS, b"(accepted (by))"), rows, (2, b"refused accepted 1 Shape\n")),
+    ]:
+        yield (name, CHECK_ACCEPTED, text, listed), answer
+
+
+def answers_of(words, questions):
+    """The status of `clibrary.c`, what it says, and its answers."""
+    given = b"".join(b"%d %d %d\n%s%s" % (command, len(text), len(rows), text, rows) for (_, command, text, rows), _ in questions)
+    done = subprocess.run(words, input=given, capture_output=True, timeout=SECONDS)
+    answers, at = [], 0
+    while at < len(done.stdout):
+        line = done.stdout.index(b"\n", at)
+        status, length = map(int, done.stdout[at:line].split())
+        at = line + 1 + length
+        answers.append((status, done.stdout[line + 1:at]))
+    return done.returncode, done.stderr.decode(errors="replace"), answers
+
+
+def agree(words, questions):
+    status, said, answers = answers_of(words, questions)
+    if status or len(answers) != len(questions):
+        print(f"status {status} after {len(answers)} of {len(questions)} answers: {said[-2000:]}")
+        return False
+    faults = [(place, met, wanted) for ((place, *_), wanted), met in zip(questions, answers) if met != wanted]
+    for place, met, wanted in faults:
+        print(f"{place}: status {met[0]} and {met[1][:200]!r}, and not {wanted[0]} and {wanted[1][:200]!r}")
+    return not faults
+
+
+def guards(words):
+    """Whether the example prints and exits as it should, with its own files and with others in their place."""
+    files = ["acl.sexp", "rows.sexp", "sequence.sexp", "key.sexp", "request.sexp"]
+    with tempfile.TemporaryDirectory() as room:
+        for name, text in {"no-rows": "(accepted)", "pasted": "(ftp)) (at (x)", "other-key": "(public-key (test c))"}.items():
+            with open(os.path.join(room, name), "w", encoding="ascii") as file:
+                file.write(text)
+        well = True
+        for place, name, moment, wanted in [
+            (0, files[0], MOMENT, (0, "yes entry 1\n")),
+            (1, os.path.join(room, "no-rows"), MOMENT, (1, "no\n")),
+            (3, os.path.join(room, "other-key"), MOMENT, (1, "no\n")),
+            (4, os.path.join(room, "pasted"), MOMENT, (2, "refused form Trailing 5\n")),
+            (1, "sequence.sexp", MOMENT, (2, "refused rows Shape\n")),
+            (0, files[0], "2024-13-01_00:00:00", (2, "refused at BadDate\n")),
+            (0, os.path.join(room, "missing"), MOMENT, (3, "")),
+        ]:
+            given = [*files[:place], name, *files[place + 1:], moment]
+            done = subprocess.run([*words, *given], capture_output=True, text=True, cwd=C_EXAMPLE, timeout=SECONDS)
+            if (done.returncode, done.stdout) != wanted:
+                print(f"guard {' '.join(given)}: status {done.returncode} and {done.stdout!r} {done.stderr!r}, and not {wanted}")
+                well = False
+    return well
+
+
+def compiled(source, library, to, *more):
+    """Whether a C program compiles without a warning and links with nothing but the library."""
+    words = [*STRICT, "-I", CRATE, "-o", to, source, "-L", os.path.dirname(library), "-lspki_c", *more]
+    return subprocess.run(words, timeout=SECONDS).returncode == 0
+
+
+def main():
+    program = os.path.abspath(sys.argv[1] if len(sys.argv) > 1 else PROGRAM)
+    library = os.path.abspath(sys.argv[2] if len(sys.argv) > 2 else os.path.join(CRATE, "out", "libspki_c.a"))
+    if not os.path.exists(library):
+        subprocess.run([os.path.join(CRATE, "archive.py")], check=True)
+    with tempfile.TemporaryDirectory() as room:
+        asker, guard = os.path.join(room, "clibrary"), os.path.join(room, "guard")
+        results = {"compiling": compiled(os.path.join(HERE, "clibrary.c"), library, asker, "-Wl,--wrap=malloc,--wrap=realloc")
+                   and compiled(os.path.join(C_EXAMPLE, "guard.c"), library, guard)}
+        if results["compiling"]:
+            files, tables = questions_of_files(program), list(questions_of_tables())
+            apart = list(rows_apart(program, files + tables))
+            for name, questions in {"files": files, "tables": tables, "rows apart": apart, "worked rows": list(worked_rows())}.items():
+                print(f"{name}: {len(questions)} questions")
+                results[name] = agree([asker, str(THREADS), str(REFUSALS)], questions)
+            results["guard"] = guards([guard])
+            short = [each for each in files + apart if len(each[0][2]) + len(each[0][3]) <= SHORT] + list(worked_rows())[:8]
+            if subprocess.run(["which", "valgrind"], stdout=subprocess.DEVNULL).returncode == 0:
+                print(f"under valgrind: {len(short)} questions")
+                results["under valgrind"] = agree([*VALGRIND, asker, "2", str(REFUSALS)], short)
+                results["guard under valgrind"] = guards([*VALGRIND, guard])
+            else:
+                print("valgrind is not there: what is read, written and freed is left out")
+    failed = [name for name, passed in results.items() if not passed]
+    print("".join(f"failed: {name}\n" for name in failed), end="")
+    print(f"{len(results) - len(failed)} passed, {len(failed)} failed")
+    return 1 if failed else 0
+
+
+if __name__ == "__main__":
+    sys.exit(main())
