@@ -1,8 +1,10 @@
 //! Each caller on its happy path.
 
 ghost use Rattle.std.specs.Prelude.{◌≡◌};
+ghost use Rattle.spki_reduce.specs.Tuples.{own};
 ghost use Rattle.spki_reduce.specs.Views.{issuer_of};
 
+use crate::cases::{Question, case_of};
 use crate::certificates::pinned_key;
 use crate::chains::{Asked, grants};
 use crate::decisions::decide_unrevoked;
@@ -14,9 +16,9 @@ use metered_io::Metered;
 use sexpr_core::{Doc, encode};
 use sexpr_text::{Form, convert};
 use sha2::{Digest, Sha256};
-use spki_cert::{Date, Key, Policy, Principal, Subject, Window, date_of, key_of};
+use spki_cert::{Date, Entry, Key, Policy, Principal, Subject, Window, acl_of, date_of, key_of};
 use spki_guard::{Case, Decision};
-use spki_reduce::{Five, Issuer, Step};
+use spki_reduce::{Five, Issuer};
 use spki_tag::{Ground, Tag};
 use std::alloc::Global;
 use std::test::Fail;
@@ -25,12 +27,17 @@ const ADVANCED: &str = "(a \"b c\" #6 4# |ZQ==| |ZQ| [x]3:fgh)";
 
 const CANONICAL: &[u8] = b"(1:a3:b c1:d1:e1:e[1:x]3:fgh)";
 
-/// KA may do everything and pass it on, and a certificate by KA gives all of it to KB, who asks.
-const DELEGATION: &str = "(case (acl (entry (public-key (test a)) (propagate) (tag (*))))
- (accepted (by (public-key (test a)) (hash sha256 #d71ecfb335b8e4b04cb035426566a94e817a12cfcfa4dbf5b704b6cd670c7ad2#) sig))
- (sequence (cert (issuer (public-key (test a))) (subject (public-key (test b))) (tag (*)))
- (signature (hash sha256 #d71ecfb335b8e4b04cb035426566a94e817a12cfcfa4dbf5b704b6cd670c7ad2#) (public-key (test a)) sig))
- (key (public-key (test b))) (request (ftp)) (at \"2024-01-01_00:00:00\"))";
+/// KA may do everything and pass it on.
+const ACL: &str = "(acl (entry (public-key (test a)) (propagate) (tag (*))))";
+
+/// A certificate by KA gives all of it to KB.
+const SHOWN: &str =
+    "(sequence (cert (issuer (public-key (test a))) (subject (public-key (test b))) (tag (*)))
+ (signature (hash sha256 #d71ecfb335b8e4b04cb035426566a94e817a12cfcfa4dbf5b704b6cd670c7ad2#) (public-key (test a)) sig))";
+
+/// Its signature is accepted.
+const ACCEPTED: &str =
+    "(accepted (by (public-key (test a)) (hash sha256 #d71ecfb335b8e4b04cb035426566a94e817a12cfcfa4dbf5b704b6cd670c7ad2#) sig))";
 
 const KA: &[u8] = b"(10:public-key(4:test1:a))";
 
@@ -89,12 +96,12 @@ fn key(alloc: Global, text: &'static [u8]) -> Result<Key<'static>, Fail> {
     Ok(key_of(&document.top())?)
 }
 
-/// Everything, by an issuer, for a key, which may pass it on.
-fn everything(alloc: Global, issuer: Issuer<'static>, key: Key<'static>) -> Five<'static>
-    ensures { issuer_of result.issuer ≡ issuer_of issuer.entry }
+/// Everything, for a key, which may pass it on.
+fn everything(alloc: Global, key: Key<'static>) -> Five<'static>
+    ensures { issuer_of result.issuer ≡ own }
 {
     Five {
-        issuer,
+        issuer: Issuer::Own,
         subject: Subject {
             principal: Principal::Key(key),
             names: Vec::new(alloc),
@@ -108,18 +115,15 @@ fn everything(alloc: Global, issuer: Issuer<'static>, key: Key<'static>) -> Five
     }
 }
 
-/// Whether a key is granted `ftp` by an entry that gives KA everything, and by KA's certificate for KB.
+/// Whether a key is granted `ftp` by an entry that gives KA everything.
 fn is_granted(alloc: Global, asking: &'static [u8]) -> Result<bool, Fail> {
-    let first = everything(alloc, Issuer::Own, key(alloc, KA)?);
-    let second = everything(alloc, Issuer::Key(key(alloc, KA)?), key(alloc, KB)?);
-    let mut steps = Vec::new(alloc);
-    steps.push(Step::Auth(second))?;
+    let first = everything(alloc, key(alloc, KA)?);
     let asked = Asked {
         key: &key(alloc, asking)?,
         request: &request(alloc, b"(3:ftp)")?,
         moment: &moment(alloc, b"19:2024-01-01_00:00:00")?,
     };
-    Ok(grants(alloc, &first, &steps, &asked, Policy::Open)?)
+    Ok(grants(alloc, &first, &[], &asked, Policy::Open)?)
 }
 
 /// The request with this text.
@@ -134,23 +138,57 @@ fn moment(alloc: Global, text: &[u8]) -> Result<Date, Fail> {
     Ok(date_of(&document.top())?)
 }
 
-/// What is decided of the case, where these keys are revoked.
+/// The canonical text of the case in which KB asks.
+fn written(alloc: Global) -> Result<Vec<u8>, Fail> {
+    let text = format!(in alloc;
+        "(case {ACL} {ACCEPTED} {SHOWN} (key (public-key (test b))) (request (ftp)) (at \"2024-01-01_00:00:00\"))"
+    )?;
+    Ok(convert(alloc, Form::Canonical, text.as_bytes())?)
+}
+
+/// The entries of the service's own access list.
+fn entries<'a>(alloc: Global, text: &'a [u8]) -> Result<Vec<Entry<'a>>, Fail> {
+    let document = Doc::open(alloc, text)?;
+    Ok(acl_of(alloc, &document.top())?)
+}
+
+/// The case of these parts, in canonical form, where KB asks.
+fn made<'a>(alloc: Global, acl: &'a [u8], shown: &'a [u8]) -> Result<Case<'a>, Fail> {
+    let document = Doc::open(alloc, shown)?;
+    let question = Question {
+        key: key(alloc, KB)?,
+        request: request(alloc, b"(3:ftp)")?,
+        moment: moment(alloc, b"19:2024-01-01_00:00:00")?,
+    };
+    Ok(case_of(alloc, entries(alloc, acl)?, &document.top(), question)?)
+}
+
+/// What is decided of the case that is made of its parts, by the accepted list of the written one, where these keys are
+/// revoked.
 fn decided(alloc: Global, revoked: &[Key]) -> Result<Decision, Fail> {
-    let text = convert(alloc, Form::Canonical, DELEGATION.as_bytes())?;
-    let case = Case::read(alloc, &text)?;
-    Ok(decide_unrevoked(alloc, &case, case.accepted(), revoked)?)
+    let acl = convert(alloc, Form::Canonical, ACL.as_bytes())?;
+    let shown = convert(alloc, Form::Canonical, SHOWN.as_bytes())?;
+    let case = made(alloc, &acl, &shown)?;
+    let text = written(alloc)?;
+    let written = Case::read(alloc, &text)?;
+    Ok(decide_unrevoked(alloc, &case, written.accepted(), revoked)?)
 }
 
 #[test]
 fn delegation(rt: HostRuntime) -> Result<(), Fail> {
     let alloc = rt.alloc();
-    assert!(rt; is_granted(alloc, KB)?);
-    assert!(rt; !is_granted(alloc, KA)?);
     let mut revoked = Vec::new(alloc);
     assert!(rt; decided(alloc, &revoked)? == Decision::Yes(1));
     revoked.push(key(alloc, KB)?)?;
     assert!(rt; decided(alloc, &revoked)? == Decision::Yes(1));
     revoked.push(key(alloc, KA)?)?;
     assert!(rt; decided(alloc, &revoked)? == Decision::No);
+    Ok(())
+}
+
+#[test]
+fn second_entry(rt: HostRuntime) -> Result<(), Fail> {
+    assert!(rt; is_granted(rt.alloc(), KA)?);
+    assert!(rt; !is_granted(rt.alloc(), KB)?);
     Ok(())
 }

@@ -1,6 +1,7 @@
 //! Callers of the libraries, one file for each, which the pages `CALLING.md` in their folders quote.
 #![tactic(auto)]
 
+pub mod cases;
 pub mod certificates;
 pub mod chains;
 pub mod decisions;
