@@ -1,0 +1,2 @@
+mod Narrowed
+mod SameValues

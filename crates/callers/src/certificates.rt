@@ -1,0 +1,30 @@
+//! A caller of `spki_cert`.
+
+ghost use Rattle.std.specs.Prelude.{◌≡◌, ◌≢◌, ℕ, List, IfOk, IfErr, OnErr, MatchOption};
+ghost use Rattle.spki_cert.specs.declared.hash.HashAlg.TheVariants.{Sha256};
+ghost use Rattle.spki_cert.specs.Naming.{digest_of};
+ghost use Rattle.spki_cert.specs.Readings.{KeyOf, IsNoKey};
+ghost use Rattle.spki_cert.specs.Faults.{Shows};
+
+use sexpr_core::Doc;
+use spki_cert::{CertFaultKind, HashAlg, Key, key_of};
+
+/// The key that a document is, if its SHA-256 digest is one that a service keeps for it.
+///
+/// # Errors
+///
+/// Those of `key_of`.
+pub fn pinned_key<'a>(document: &Doc<'a>, pin: &[u8]) -> Result<Option<Key<'a>>, CertFaultKind>
+    ensures pinned { IfOk result (λ found. (octets : List ℕ) × KeyOf document.now octets
+        × MatchOption found (digest_of Sha256 octets ≢ pin.now)
+        (λ key. (key ≡ octets) × (digest_of Sha256 octets ≡ pin.now))) }
+    ensures refused { OnErr result (IsNoKey document.now) }
+    ensures shown { IfErr result (λ kind. Shows kind document.now) }
+{
+    let key = key_of(&document.top())?;
+    if HashAlg::Sha256.fits(pin, key.as_slice()) {
+        Ok(Some(key))
+    } else {
+        Ok(None)
+    }
+}

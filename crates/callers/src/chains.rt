@@ -1,0 +1,53 @@
+//! A caller of `spki_reduce`.
+
+ghost use Rattle.std.specs.Prelude.{◌≡◌, ◌↔◌, ◌∷◌, ◌<◌, IsTrue, IfOk, IsErrOf};
+ghost use Rattle.spki_reduce.specs.Tuples.{own, five};
+ghost use Rattle.spki_reduce.specs.Views.{issuer_of, five_tuple};
+ghost use Rattle.spki_reduce.specs.Restrictions.{nodes_product};
+ghost use Rattle.spki_reduce.specs.Chain.{tuples_of, all_tags};
+ghost use Rattle.spki_reduce.specs.LastTests.{IsSupported};
+
+use spki_cert::{Date, Key, Policy};
+use spki_reduce::{Five, Fold, ReduceFault, Step, fold_chain};
+use spki_tag::Ground;
+use std::alloc::Global;
+
+/// What is asked: whether a key may have a request at a moment.
+#[derive(Drop)]
+pub struct Asked<'r, 'k> {
+    /// Who asks.
+    pub key: &'r Key<'k>,
+    /// What for.
+    pub request: &'r Ground,
+    /// When.
+    pub moment: &'r Date,
+}
+
+/// Whether an authorization of the keeper's own and the steps behind it, in their order, grant what is asked: some
+/// derivation from them does, however it is bracketed (RFC 2693, section 6.3).
+///
+/// # Errors
+///
+/// Those of `fold_chain`.
+pub fn grants<'a>(
+    alloc: Global,
+    first: &Five<'a>,
+    steps: &[Step<'a>],
+    asked: &Asked,
+    policy: Policy,
+) -> Result<bool, ReduceFault>
+    requires own { issuer_of first.now.issuer ≡ own }
+    ensures exact { IfOk result (λ yes. IsTrue yes ↔ IsSupported policy (five (five_tuple first.now)) (tuples_of steps.now)
+        asked.now.key.now asked.now.request.now asked.now.moment.now) }
+    ensures too_large { IsErrOf result ReduceFault.TooLarge →
+        1000000 < nodes_product (all_tags (five (five_tuple first.now) ∷ tuples_of steps.now)) }
+{
+    asked.request.known();
+    match fold_chain(alloc, first, steps, policy)? {
+        Fold::Stopped { .. } => Ok(false),
+        Fold::Done(five) => {
+            let lack = five.first_lack(asked.key, asked.request, asked.moment, policy);
+            Ok(lack.is_none())
+        }
+    }
+}

@@ -1,0 +1,49 @@
+//! A caller of `metered_io`.
+
+ghost use Rattle.std.specs.Prelude.{◌≡◌, ◌<◌, ◌≤◌, length, vec_len, IfOk, IfSome, IsErrOf};
+ghost use Rattle.metered_io.specs.Metered.{inner_of};
+
+use metered_io::{Metered, ReadFault, read_whole};
+use std::alloc::Global;
+use std::io::Read;
+use thiserror::Error;
+
+/// Why a client gives no text.
+#[derive(Clone, Copy, Debug, PartialEq, Eq, Error)]
+pub enum TextFault {
+    /// Its reader failed.
+    #[error("the reader failed")]
+    Broken,
+    /// It came to no end within the asks that a reader has.
+    #[error("too slow")]
+    Slow,
+    /// The text has more octets than the limit.
+    #[error("text too long")]
+    TooLong,
+    /// Memory ran out.
+    #[error("out of memory")]
+    Memory,
+}
+
+/// The whole text that a client sends, of at most `most` octets; where there is none, `TextFault` says whose fault it is.
+pub fn text_from<R: Read>(
+    alloc: Global,
+    client: &mut Metered<R>,
+    most: usize,
+) -> Result<Vec<u8>, TextFault>
+    ensures whole { IfOk result (λ text. IfSome (R.remaining (inner_of client.old)) (λ octets. octets ≡ text.items)) }
+    ensures short { IfOk result (λ text. vec_len text ≤ most) }
+    ensures broken { IsErrOf result TextFault.Broken → 0 < client.new.faults }
+    ensures slow { IsErrOf result TextFault.Slow → (client.new.faults ≡ 0) × (client.new.asks ≡ 2097152) }
+    ensures too_long { IsErrOf result TextFault.TooLong
+        → IfSome (R.remaining (inner_of client.old)) (λ octets. most < length octets) }
+{
+    client.restart();
+    match read_whole(alloc, client, most) {
+        Ok(text) => Ok(text),
+        Err(ReadFault::Failed) if client.faults == 0 => Err(TextFault::Slow),
+        Err(ReadFault::Failed) => Err(TextFault::Broken),
+        Err(ReadFault::TooLong) => Err(TextFault::TooLong),
+        Err(ReadFault::Memory) => Err(TextFault::Memory),
+    }
+}
