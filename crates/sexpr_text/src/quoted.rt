@@ -8,7 +8,7 @@ ghost use Rattle.sexpr_text.specs.Strings.{escape_value, Piece, piece_text, IsPi
 ghost use Rattle.sexpr_text.specs.Reads.{Reads, ReadsPiece, ReadsEscape, ReadsDigit, IsLineEnd, IsNoLetter};
 ghost use Rattle.sexpr_text.specs.Stands.{Stands, PieceStands, DigitStands, OctalStands};
 
-use crate::strings::ReadString;
+use crate::strings::MarkedString;
 use sexpr_core::FormFault;
 use sexpr_core::reading::octet_at;
 use std::alloc::Global;
@@ -21,7 +21,7 @@ struct Escape {
 }
 
 /// A quoted string, from its opening quote on.
-pub(crate) fn read_quoted(alloc: Global, text: &[u8], at: usize) -> Result<ReadString, FormFault>
+pub(crate) fn read_quoted(alloc: Global, text: &[u8], at: usize) -> Result<MarkedString, FormFault>
     requires { StandsAt text.now at 34 }
     ensures read { IfOk result (λ read. Reads IsQuoted text.now at read.octets.items read.end) }
     ensures only { (spelling octets rest : List ℕ) → IsQuoted spelling octets → drop at text.now ≡ spelling ++ rest → IsOkUnless result FormFault.Memory }
@@ -31,7 +31,7 @@ pub(crate) fn read_quoted(alloc: Global, text: &[u8], at: usize) -> Result<ReadS
     let mut i = at + 1;
     while let Some(octet) = octet_at(text, i) {
         if octet == b'"' {
-            return Ok(ReadString { octets, end: i + 1 });
+            return Ok(MarkedString { octets, end: i + 1 });
         }
         i = read_piece(text, i, octet, &mut octets)?;
     }
