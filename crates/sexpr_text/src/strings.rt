@@ -11,7 +11,7 @@ ghost use Rattle.sexpr_core.specs.Reading.{StandsAt};
 
 use crate::hexadecimal::read_hexadecimal;
 use crate::printer::stands_in_token;
-use crate::quoted::read_quoted;
+use crate::quoted::{lend_quoted, read_quoted};
 use sexpr_core::reading::{Unpacked, octet_at, read_base64};
 use sexpr_core::{FormFault, MOST_OCTETS};
 use std::alloc::{AllocError, Global};
@@ -58,6 +58,11 @@ pub(crate) fn read_string<'t>(
     }
     if stands_in_token(octet) {
         return Ok(read_token(text, at, octet));
+    }
+    if octet == b'"' {
+        if let Some(read) = lend_quoted(text, at) {
+            return Ok(read);
+        }
     }
     let read = read_marked(alloc, text, at)?;
     Ok(ReadString {
