@@ -1,14 +1,56 @@
 -- A body in base64, octet by octet.
-use Rattle.std.proofs.Common.{◌≡◌, ℕ, ◌+◌, ◌≤◌, true, false, List, [], ◌∷◌, ◌++◌, length, take, drop, refl, sym, ap, subst, ◌∙◌, append_assoc, append-nil, arith}
+use Rattle.std.proofs.Common.{◌≡◌, ℕ, ◌+◌, ◌≤◌, ◌||◌, true, false, not, cond, List, [], ◌∷◌, ◌++◌, length, take, drop, refl, sym, ap, subst, ◌∙◌, append_assoc, append-nil, arith}
+use Rattle.std.specs.Prelude.{slice_range}
+use Rattle.std.specs.List.{AllByRecursion}
+use Rattle.std.proofs.lemmas.Bool.Decides.{nat_tests}
 use Rattle.std.proofs.lemmas.List.Elements.{filter-append}
-use Rattle.sexpr_core.specs.declared.fault.FormFault.{FormFault}
-use Rattle.sexpr_core.specs.declared.fault.FormFault.TheVariants.{TooLong, TooDeep, Short, Bad, Trailing, Memory}
 use Rattle.sexpr_core.specs.Reading.{StandsAt}
-use Rattle.sexpr_core.specs.Spaces.{visible}
-use Rattle.sexpr_core.specs.Gathering.{is_body_octet, AreBodyOctets, IsNoBodyOctet, GathersTo, BodyAt}
-use Rattle.sexpr_core.specs.Prefix.{StopsAt, RefusesPart}
+use Rattle.sexpr_core.specs.Spaces.{is_whitespace, visible, AreSpaces, StartsVisible, Skips}
+use Rattle.sexpr_core.specs.Gathering.{is_symbol, is_body_octet, AreBodyOctets, StartsNoSymbol, SkipsSymbols, GathersTo, BodyAt}
+use Rattle.sexpr_core.specs.Prefix.{StopsAt}
 use Rattle.sexpr_core.proofs.Agreeing.{Agree, agree, spelled_too, stands_too, long_too}
 use Rattle.sexpr_core.proofs.SpaceLaws.{all-append}
+use Rattle.sexpr_core.proofs.Steps.{slice_read}
+
+-- ---- a run of symbols
+
+-- symbols that stand between two offsets
+pub record SymbolsTo (text : List ℕ) (at to : ℕ) : Type 0 where
+  pub symbols : List ℕ
+  pub are_symbols : AllByRecursion (λ c. is_symbol c ≡ true) symbols
+  pub spelled : drop at text ≡ symbols ++ drop to text
+  pub ordered : at ≤ to
+  pub within : to ≤ length text
+
+pub no_symbols : (text : List ℕ) (at : ℕ) → at ≤ length text → SymbolsTo text at at
+no_symbols text at h = record { symbols = []; are_symbols = tt; spelled = refl; ordered = omega arith; within = h }
+
+pub more_symbols : (text : List ℕ) (at i c : ℕ) → SymbolsTo text at i → StandsAt text i c → is_symbol c ≡ true → SymbolsTo text at (i + 1)
+more_symbols text at i c s stands symbol = record {
+  symbols = s.symbols ++ c ∷ [];
+  are_symbols = all-append (λ k. is_symbol k ≡ true) s.symbols (c ∷ []) s.are_symbols (symbol, tt);
+  spelled = s.spelled ∙ ap (λ t. s.symbols ++ t) stands.spelled ∙ sym (append_assoc s.symbols (c ∷ []) (drop (i + 1) text));
+  ordered = omega (arith, s.ordered);
+  within = omega (arith, stands.within);
+}
+
+symbols_skipped : (text : List ℕ) (at i : ℕ) → SymbolsTo text at i → StartsNoSymbol (drop i text) → SkipsSymbols text at i
+symbols_skipped text at i s ends = record {
+  symbols = s.symbols;
+  are_symbols = s.are_symbols;
+  spelled = s.spelled;
+  ends = ends;
+  ordered = s.ordered;
+  within = s.within;
+}
+
+pub symbols_stop : (text : List ℕ) (at i c : ℕ) → SymbolsTo text at i → StandsAt text i c → is_symbol c ≡ false → SkipsSymbols text at i
+symbols_stop text at i c s stands other = symbols_skipped text at i s (subst StartsNoSymbol (sym stands.spelled) other)
+
+pub symbols_end : (text : List ℕ) (at i : ℕ) → SymbolsTo text at i → drop i text ≡ [] → SkipsSymbols text at i
+symbols_end text at i s e = symbols_skipped text at i s (subst StartsNoSymbol (sym e) tt)
+
+-- ---- a body
 
 -- a body's octets from one offset of a text up to another, and what was gathered of them
 pub record Gathers (text : List ℕ) (at : ℕ) (symbols : List ℕ) (to : ℕ) : Type 0 where
@@ -25,16 +67,52 @@ visible-append xs ys = filter-append _ xs ys
 pub nothing_gathered : (text : List ℕ) (at : ℕ) → at ≤ length text → Gathers text at [] at
 nothing_gathered text at h = record { body = []; octets = tt; spelled = refl; kept = refl; ordered = omega arith; within = h }
 
-pub more_gathered : (text : List ℕ) (at i c : ℕ) (symbols new : List ℕ) → Gathers text at symbols i → StandsAt text i c
-    → (is_body_octet c ≡ true) × (new ≡ symbols ++ visible (c ∷ [])) → Gathers text at new (i + 1)
-more_gathered text at i c symbols new g stands more = record {
-  body = g.body ++ c ∷ [];
-  octets = all-append (λ k. is_body_octet k ≡ true) g.body (c ∷ []) g.octets (more.0, tt);
-  spelled = g.spelled ∙ ap (λ t. g.body ++ t) stands.spelled ∙ sym (append_assoc g.body (c ∷ []) (drop (i + 1) text));
-  kept = more.1 ∙ ap (λ t. t ++ visible (c ∷ [])) g.kept ∙ sym (visible-append g.body (c ∷ []));
-  ordered = omega (arith, g.ordered);
-  within = omega (arith, stands.within);
-}
+no_space : (c : ℕ) → is_symbol c ≡ true → is_whitespace c ≡ false
+no_space c h = grind (arith, nat_tests)
+
+symbols_stay : (xs : List ℕ) → AllByRecursion (λ c. is_symbol c ≡ true) xs → AreBodyOctets xs × (visible xs ≡ xs)
+symbols_stay [] h = (tt, refl)
+symbols_stay (x ∷ xs) h =
+    let e = no_space x h.0 in
+    let rest = symbols_stay xs h.1 in
+    ((ap (λ b. b || is_symbol x) e ∙ h.0, rest.0), ap (λ b. cond (not b) (x ∷ visible xs) (visible xs)) e ∙ ap (λ t. x ∷ t) rest.1)
+
+spaces_vanish : (xs : List ℕ) → AreSpaces xs → AreBodyOctets xs × (visible xs ≡ [])
+spaces_vanish [] h = (tt, refl)
+spaces_vanish (x ∷ xs) h =
+    let rest = spaces_vanish xs h.1 in
+    ((ap (λ b. b || is_symbol x) h.0, rest.0), ap (λ b. cond (not b) (x ∷ visible xs) (visible xs)) h.0 ∙ rest.1)
+
+pub more_gathered : (text : List ℕ) (at i end next : ℕ) (symbols new : List ℕ) → Gathers text at symbols i → SkipsSymbols text i end → Skips text end next
+    → new ≡ symbols ++ slice_range text i end → Gathers text at new next
+more_gathered text at i end next symbols new g run gap e =
+    let run_stays = symbols_stay run.symbols run.are_symbols in
+    let gap_goes = spaces_vanish gap.spaces gap.are_spaces in
+    record {
+      body = g.body ++ (run.symbols ++ gap.spaces);
+      octets =
+          all-append (λ k. is_body_octet k ≡ true) g.body (run.symbols ++ gap.spaces) g.octets
+          (all-append (λ k. is_body_octet k ≡ true) run.symbols gap.spaces run_stays.0 gap_goes.0);
+      spelled =
+          g.spelled ∙ ap (λ t. g.body ++ t) (run.spelled ∙ ap (λ t. run.symbols ++ t) gap.spelled ∙ sym (append_assoc run.symbols gap.spaces (drop next text)))
+          ∙ sym (append_assoc g.body (run.symbols ++ gap.spaces) (drop next text));
+      kept =
+          e ∙ ap (λ t. symbols ++ t) (slice_read text run.symbols i end run.ordered run.within run.spelled) ∙ ap (λ t. t ++ run.symbols) g.kept
+          ∙ ap (λ t. visible g.body ++ t)
+          (sym (append-nil run.symbols) ∙ ap (λ t. run.symbols ++ t) (sym gap_goes.1) ∙ ap (λ t. t ++ visible gap.spaces) (sym run_stays.1)
+          ∙ sym (visible-append run.symbols gap.spaces))
+          ∙ sym (visible-append g.body (run.symbols ++ gap.spaces));
+      ordered = omega (arith, g.ordered, run.ordered, gap.ordered);
+      within = gap.within;
+    }
+
+-- an octet at which neither symbols nor whitespace begin is none of a body's
+pub no_body_octet : (text : List ℕ) (i end c : ℕ) → SkipsSymbols text i end → Skips text end i → StandsAt text i c → is_body_octet c ≡ false
+no_body_octet text i end c run gap stands =
+    let e : end ≡ i = omega (arith, run.ordered, gap.ordered) in
+    let not_symbol : is_symbol c ≡ false = subst StartsNoSymbol (stands.spelled) (subst (λ k. StartsNoSymbol (drop k text)) e run.ends) in
+    let not_space : is_whitespace c ≡ false = subst StartsVisible (stands.spelled) gap.ends in
+    ap (λ b. b || is_symbol c) not_space ∙ not_symbol
 
 -- a body ends at the first octet that can't stand in it
 pub one_body : (xs ys : List ℕ) (c d : ℕ) (r s : List ℕ) → AreBodyOctets xs → AreBodyOctets ys → is_body_octet c ≡ false → is_body_octet d ≡ false
@@ -54,16 +132,6 @@ pub gathered_mark : (text : List ℕ) (at i c mark : ℕ) (symbols body rest : L
 gathered_mark text at i c mark symbols body rest g stands other mark_other all e =
     (one_body g.body body c mark (drop (i + 1) text) rest g.octets all other mark_other
     (ap (λ t. g.body ++ t) (sym stands.spelled) ∙ sym g.spelled ∙ e)).1
-
-pub gathered_refused : (text : List ℕ) (at i c mark : ℕ) (symbols body rest : List ℕ) (fault : FormFault) → Gathers text at symbols i → StandsAt text i c
-    → (c ≡ mark → ⊥) → is_body_octet mark ≡ false → AreBodyOctets body → drop at text ≡ body ++ mark ∷ rest → IsNoBodyOctet c i fault → fault ≡ Memory
-gathered_refused text at i c mark symbols body rest TooLong g stands apart other all e is = absurd is
-gathered_refused text at i c mark symbols body rest TooDeep g stands apart other all e is = absurd is
-gathered_refused text at i c mark symbols body rest Short g stands apart other all e is = absurd is
-gathered_refused text at i c mark symbols body rest (Bad k) g stands apart other all e is =
-    absurd (apart (gathered_mark text at i c mark symbols body rest g stands is.1 other all e))
-gathered_refused text at i c mark symbols body rest (Trailing k) g stands apart other all e is = absurd is
-gathered_refused text at i c mark symbols body rest Memory g stands apart other all e is = refl
 
 pub same_body : (text : List ℕ) (at mark to : ℕ) (symbols body rest : List ℕ) → GathersTo text at mark symbols to → is_body_octet mark ≡ false
     → AreBodyOctets body → drop at text ≡ body ++ mark ∷ rest → (symbols ≡ visible body) × (drop to text ≡ rest)
@@ -118,7 +186,7 @@ gathers_to_too text other k at mark to symbols a le g = record {
   within = omega (arith, long_too text other k a);
 }
 
-body_stops : (text : List ℕ) (at i c mark : ℕ) (symbols : List ℕ) → Gathers text at symbols i → StandsAt text i c
+pub body_stops : (text : List ℕ) (at i c mark : ℕ) (symbols : List ℕ) → Gathers text at symbols i → StandsAt text i c
     → (c ≡ mark → ⊥) → is_body_octet mark ≡ false → is_body_octet c ≡ false → StopsAt (BodyAt at mark) text at i
 body_stops text at i c mark symbols g stands apart other misfit = record {
   behind = g.ordered;
@@ -130,13 +198,3 @@ body_stops text at i c mark symbols g stands apart other misfit = record {
       (gathers_too text (take (i + 1) text ++ b.rest) i at i symbols a (omega arith) g)
       (stands_too text (take (i + 1) text ++ b.rest) i i c a (omega arith) stands) misfit other w.octets w.spelled);
 }
-
-pub body_refused : (text : List ℕ) (at i c mark : ℕ) (symbols : List ℕ) (fault : FormFault) → Gathers text at symbols i → StandsAt text i c
-    → (c ≡ mark → ⊥) → is_body_octet mark ≡ false → IsNoBodyOctet c i fault → RefusesPart (BodyAt at mark) text at fault
-body_refused text at i c mark symbols TooLong g stands apart other is = is
-body_refused text at i c mark symbols TooDeep g stands apart other is = is
-body_refused text at i c mark symbols Short g stands apart other is = tt
-body_refused text at i c mark symbols (Bad k) g stands apart other is =
-    subst (λ n. StopsAt (BodyAt at mark) text at n) (sym is.0) (body_stops text at i c mark symbols g stands apart other is.1)
-body_refused text at i c mark symbols (Trailing k) g stands apart other is = is
-body_refused text at i c mark symbols Memory g stands apart other is = tt

@@ -1,7 +1,8 @@
 -- Each step of the reader, over the text and its offsets.
 use Rattle.std.proofs.Common.{◌≡◌, ℕ, suc, ◌+◌, ◌-◌, ◌*◌, ◌<◌, ◌≤◌, min, ◌⊎◌, inl, inr, List, [], ◌∷◌, ◌++◌, length, take, drop, Some, None, refl, sym, ◌∙◌, ap, subst, arith, append_assoc, length-append, length-drop, append-nil, set}
 use Rattle.std.proofs.lemmas.List.{take-append-drop, length-take-le, drop-drop}
-use Rattle.std.proofs.Math.Seq.{set-append_seam}
+use Rattle.std.specs.Prelude.{slice_range}
+use Rattle.std.proofs.Math.Seq.{set-append_seam, take-append_seam}
 use Rattle.sexpr_core.specs.declared.fault.FormFault.{FormFault}
 use Rattle.sexpr_core.specs.declared.layout.Record.{Record}
 use Rattle.sexpr_core.specs.declared.layout.Shape.{Shape}
@@ -10,7 +11,7 @@ use Rattle.sexpr_core.specs.Value.{Value, Values, string, list, none, more, memb
 use Rattle.sexpr_core.specs.Layout.{head, shape, records, records_all}
 use Rattle.sexpr_core.specs.Prefix.{Front, IsBad, IsDeep, FaultAt}
 use Rattle.sexpr_core.specs.Texts.{IsCanon, IsCanonWithin, IsMembers, IsMembersWithin, IsVerbatim, IsClosing, IsLength}
-use Rattle.sexpr_core.specs.Reading.{StandsAt, ReadsLength, ReadsVerbatim, ReadsString, ReadsValue, ReadsMembers}
+use Rattle.sexpr_core.specs.Reading.{StandsAt, ReadsLength, ReadsVerbatim, ReadsString, ReadsValue, ReadsMembers, PassesValue, PassesMembers}
 use Rattle.sexpr_core.proofs.Decimal.{IsDigit, decimal_digit, decimal_more}
 use Rattle.sexpr_core.proofs.Texts.{IsHinted, verbatim_is, join, canons-join, depths-join}
 use Rattle.sexpr_core.proofs.Faults.{verbatim_none, length_ended, length_first, length_short, length_bad, length_zero, verbatim_short, closing_ended, closing_first, closing_fault, hint_fault, hinted_fault, value_ended, value_first, plain_fault, bracket_fault, list_deep, list_fault, members_short, member_fault}
@@ -26,6 +27,14 @@ read_length text xs at to h k e =
     let b : length (drop to text) ≡ length text - to = length-drop to text in
     let q : length (drop at text) ≡ length xs + length (drop to text) = ap length e ∙ length-append xs (drop to text) in
     omega arith
+
+pub slice_read :
+    (text xs : List ℕ) (at to : ℕ) → at ≤ to → to ≤ length text → drop at text ≡ xs ++ drop to text →
+    slice_range text at to ≡ xs
+slice_read text xs at to h k e =
+    let end : to ≡ at + length xs = read_length text xs at to (omega arith) k e in
+    let many : to - at ≡ length xs = omega arith in
+    ap (λ n. take n (drop at text)) many ∙ ap (take (length xs)) e ∙ take-append_seam xs (drop to text)
 
 -- two parts, one behind the other
 pub read_both :
@@ -413,3 +422,60 @@ in_member room text at parts to c old new e w h s nc f =
     (h.spelled ∙ ap (λ t. canons h.items ++ t) s.spelled)
     (read_length text (canons h.items) at to w k h.spelled) nc
     (subst (λ xs. FaultAt IsCanon (IsCanonWithin room) to xs e) s.spelled f)
+
+-- ---- without records
+
+value_behind : (room : ℕ) (text : List ℕ) (at to : ℕ) (old : List Record) (p : PassesValue room text at to) → ReadsValue room text at to old (old ++ p.0)
+value_behind room text at to old p = let r = p.1 in record {
+  value = r.value;
+  fits = r.fits;
+  spelled = r.spelled;
+  placed = ap (λ rs. old ++ rs) r.placed;
+  goes_on = r.goes_on;
+  within = r.within;
+}
+
+members_behind :
+    (room : ℕ) (text : List ℕ) (at to : ℕ) (old : List Record) (p : PassesMembers room text at to) →
+    ReadsMembers room text at p.0 to old (old ++ p.1)
+members_behind room text at to old p = let r = p.2 in record {
+  items = r.items;
+  fits = r.fits;
+  spelled = r.spelled;
+  placed = ap (λ rs. old ++ rs) r.placed;
+  counted = r.counted;
+  goes_on = r.goes_on;
+  within = r.within;
+}
+
+pub list_passed :
+    (room inner : ℕ) (text : List ℕ) (at to : ℕ) → room ≡ suc inner → StandsAt text at 40 →
+    PassesMembers inner text (at + 1) to → PassesValue room text at to
+list_passed room inner text at to q s p =
+    let kept : Record = listed at to 1 0 in
+    (_, list_read room inner text at p.0 to 0 _ kept [] (kept ∷ []) _ q s refl refl (members_behind inner text (at + 1) to (kept ∷ []) p) refl)
+
+pub member_passed :
+    (room : ℕ) (text : List ℕ) (at via to : ℕ) → at ≤ length text →
+    (parts : ℕ) × (nodes : List Record) × HasMembers room text at parts via [] nodes → PassesValue room text via to →
+    (parts : ℕ) × (nodes : List Record) × HasMembers room text at parts to [] nodes
+member_passed room text at via to w h p =
+    (h.0 + 1, h.1 ++ p.0, more_members room text at h.0 via to [] h.1 (h.1 ++ p.0) w h.2 (value_behind room text via to h.1 p))
+
+pub members_passed :
+    (room : ℕ) (text : List ℕ) (at i c : ℕ) →
+    (parts : ℕ) × (nodes : List Record) × HasMembers room text at parts i [] nodes → StandsAt text i c → c ≡ 41 →
+    PassesMembers room text at (i + 1)
+members_passed room text at i c h s e = let m = h.2 in (
+  h.0,
+  h.1,
+  record {
+    items = m.items;
+    fits = m.fits;
+    spelled = m.spelled ∙ ap (λ t. canons m.items ++ t) (s.spelled ∙ ap (λ k. k ∷ drop (i + 1) text) e);
+    placed = m.placed;
+    counted = m.counted;
+    goes_on = omega (arith, m.ahead);
+    within = omega (arith, s.within);
+  },
+)

@@ -1,8 +1,6 @@
 -- What is gathered of a body in base64: all but its whitespace.
-use Rattle.std.specs.Prelude.{◌≡◌, ℕ, ◌<◌, ◌≤◌, ◌==◌, ◌||◌, ◌&&◌, nat_le, Bool, true, false, List, ◌∷◌, ◌++◌, length, drop}
+use Rattle.std.specs.Prelude.{◌≡◌, ℕ, ◌<◌, ◌≤◌, ◌==◌, ◌||◌, ◌&&◌, nat_le, Bool, true, false, List, [], ◌∷◌, ◌++◌, length, drop}
 use Rattle.std.specs.List.{AllByRecursion}
-use Rattle.sexpr_core.specs.declared.fault.FormFault.{FormFault}
-use Rattle.sexpr_core.specs.declared.fault.FormFault.TheVariants.{TooLong, TooDeep, Short, Bad, Trailing, Memory}
 use Rattle.sexpr_core.specs.Spaces.{is_whitespace, visible}
 
 -- a symbol of the standard alphabet, or =
@@ -15,14 +13,19 @@ is_body_octet c = is_whitespace c || is_symbol c
 abbrev pub AreBodyOctets : List ℕ → Type 0
 AreBodyOctets xs = AllByRecursion (λ c. is_body_octet c ≡ true) xs
 
--- why an octet of a body, at an offset, is refused
-abbrev pub IsNoBodyOctet : ℕ → ℕ → FormFault → Type 0
-IsNoBodyOctet c at TooLong = ⊥
-IsNoBodyOctet c at TooDeep = ⊥
-IsNoBodyOctet c at Short = ⊥
-IsNoBodyOctet c at (Bad k) = (k ≡ at) × (is_body_octet c ≡ false)
-IsNoBodyOctet c at (Trailing k) = ⊥
-IsNoBodyOctet c at Memory = Unit {0}
+-- no symbol stands first
+abbrev pub StartsNoSymbol : List ℕ → Type 0
+StartsNoSymbol [] = Unit {0}
+StartsNoSymbol (c ∷ cs) = is_symbol c ≡ false
+
+-- all the symbols that stand from one offset of a text on, up to another
+pub record SkipsSymbols (text : List ℕ) (at to : ℕ) : Type 0 where
+  pub symbols : List ℕ
+  pub are_symbols : AllByRecursion (λ c. is_symbol c ≡ true) symbols
+  pub spelled : drop at text ≡ symbols ++ drop to text
+  pub ends : StartsNoSymbol (drop to text)
+  pub ordered : at ≤ to
+  pub within : to ≤ length text
 
 -- a body's octets from one offset of a text up to another, with the mark that ends them, and what was gathered of them
 pub record GathersTo (text : List ℕ) (at mark : ℕ) (symbols : List ℕ) (to : ℕ) : Type 0 where

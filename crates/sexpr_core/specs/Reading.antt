@@ -51,3 +51,10 @@ pub record ReadsMembers (room : ℕ) (text : List ℕ) (at parts to : ℕ) (old 
   pub counted : parts ≡ length (members items)
   pub goes_on : at < to
   pub within : to ≤ length text
+
+-- A value, and the members of a list with its closing parenthesis, of which no records are kept: some would be theirs.
+abbrev pub PassesValue : ℕ → List ℕ → ℕ → ℕ → Type 0
+PassesValue room text at to = (nodes : List Record) × ReadsValue room text at to [] nodes
+
+abbrev pub PassesMembers : ℕ → List ℕ → ℕ → ℕ → Type 0
+PassesMembers room text at to = (parts : ℕ) × (nodes : List Record) × ReadsMembers room text at parts to [] nodes

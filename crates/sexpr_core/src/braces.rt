@@ -8,13 +8,13 @@ ghost use Rattle.sexpr_core.specs.Braces.{in_braces, transport, IsBase64, IsBrac
 ghost use Rattle.sexpr_core.specs.Bounds.{IsFaultAt, IsBodyFault, RefusesBody};
 ghost use Rattle.sexpr_core.specs.BraceRefusal.{RefusesBraces};
 ghost use Rattle.sexpr_core.specs.Prefix.{RefusesPart};
-ghost use Rattle.sexpr_core.specs.Gathering.{is_symbol, is_body_octet, AreBodyOctets, IsNoBodyOctet, GathersTo, BodyAt};
+ghost use Rattle.sexpr_core.specs.Gathering.{is_symbol, is_body_octet, AreBodyOctets, SkipsSymbols, GathersTo, BodyAt};
 
-use crate::document::Doc;
+use crate::checker::check_canonical;
 use crate::fault::FormFault;
 use crate::owned::decode;
 use crate::parser::MOST_OCTETS;
-use crate::spaces::{ended, is_space, octet_at, skip_spaces};
+use crate::spaces::{ended, octet_at, skip_spaces};
 use crate::tree::Sexp;
 use crate::writer::encode;
 use base64::DecodeAllocError;
@@ -68,20 +68,19 @@ fn is_base64_octet(octet: u8) -> bool
         || octet == b'='
 }
 
-/// Takes one octet of a body: a symbol is kept, whitespace is not.
-fn keep_symbol(octet: u8, at: usize, symbols: &mut Vec<u8>) -> Result<(), FormFault>
-    ensures kept { OnOk result
-        ((is_body_octet octet ≡ true) × (symbols.new.items ≡ symbols.old.items ++ visible (octet ∷ []))) }
-    ensures refused { IfErr result (λ fault. IsNoBodyOctet octet at fault) }
+/// The offset behind the symbols that begin at an offset.
+fn skip_symbols(text: &[u8], at: usize) -> usize
+    requires { at ≤ length text.now }
+    ensures { SkipsSymbols text.now at result }
 {
-    if is_space(octet) {
-        return Ok(());
+    let mut i = at;
+    while let Some(octet) = octet_at(text, i) {
+        if !is_base64_octet(octet) {
+            return i;
+        }
+        i += 1;
     }
-    if !is_base64_octet(octet) {
-        return Err(FormFault::Bad(at));
-    }
-    symbols.push(octet)?;
-    Ok(())
+    i
 }
 
 /// The symbols of a body that stands before a mark.
@@ -101,8 +100,13 @@ fn gather(alloc: Global, text: &[u8], at: usize, mark: u8) -> Result<Gathered, F
                 end: i + 1,
             });
         }
-        keep_symbol(octet, i, &mut symbols)?;
-        i += 1;
+        let end = skip_symbols(text, i);
+        symbols.extend_from_slice(&text[i..end])?;
+        let next = skip_spaces(text, end);
+        if next == i {
+            return Err(FormFault::Bad(i));
+        }
+        i = next;
     }
     Err(FormFault::Short)
 }
@@ -166,14 +170,14 @@ fn body_fault(fault: FormFault, at: usize) -> FormFault
 }
 
 /// Whether the octets of a body that ends at this offset are a canonical form within the limits.
-fn check_body(alloc: Global, octets: &[u8], at: usize) -> Result<(), FormFault>
+fn check_body(octets: &[u8], at: usize) -> Result<(), FormFault>
     requires { length octets.now ≤ 1048576 }
     ensures read { OnOk result ((v : Value) × (octets.now ≡ canon v) × IsWithinLimits v) }
     ensures only { (v : Value) → IsWithinLimits v → octets.now ≡ canon v → IsOkUnless result FormFault.Memory }
     ensures refused { IfErr result (λ fault. RefusesBody octets.now at fault) }
 {
-    match Doc::open(alloc, octets) {
-        Ok(_) => Ok(()),
+    match check_canonical(octets) {
+        Ok(()) => Ok(()),
         Err(fault) => Err(body_fault(fault, at)),
     }
 }
@@ -214,7 +218,7 @@ pub fn octets_in_braces(alloc: Global, text: &[u8]) -> Result<Vec<u8>, FormFault
         return Err(FormFault::Bad(begin));
     }
     let body = read_base64(alloc, text, begin + 1, b'}')?;
-    check_body(alloc, &body.octets, body.end - 1)?;
+    check_body(&body.octets, body.end - 1)?;
     ended(text, body.end)?;
     Ok(body.octets)
 }

@@ -4,6 +4,7 @@
 #![tactic(auto)]
 
 mod braces;
+mod checker;
 mod copying;
 mod document;
 mod equality;

@@ -141,7 +141,7 @@ fn read_hinted(text: &[u8], at: usize) -> Result<Record, FormFault>
 }
 
 /// A string, of whose text the first octet is known.
-fn read_string(text: &[u8], at: usize, octet: u8) -> Result<Record, FormFault>
+pub(crate) fn read_string(text: &[u8], at: usize, octet: u8) -> Result<Record, FormFault>
     requires short { length text.now ≤ 1048576 }
     requires begins { StandsAt text.now at octet }
     requires no_list { octet ≢ 40 }

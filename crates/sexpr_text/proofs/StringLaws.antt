@@ -1,12 +1,13 @@
 -- Strings without display hint, octet by octet.
-use Rattle.std.proofs.Common.{◌≡◌, ℕ, ◌+◌, ◌-◌, ◌*◌, ◌<◌, ◌≤◌, min, true, false, List, [], ◌∷◌, ◌++◌, length, drop, refl, sym, ap, subst, ◌∙◌, append_assoc, append-nil, arith, inl, inr}
+use Rattle.std.proofs.Common.{◌≡◌, ◌≢◌, ℕ, ◌+◌, ◌-◌, ◌*◌, ◌<◌, ◌≤◌, min, true, false, List, [], ◌∷◌, ◌++◌, length, drop, map, refl, sym, ap, subst, ◌∙◌, append_assoc, append-nil, arith, inl, inr}
+use Rattle.std.specs.List.{AllByRecursion}
 use Rattle.sexpr_core.specs.Reading.{StandsAt}
 use Rattle.sexpr_core.specs.Braces.{ReadsBase64}
 use Rattle.sexpr_core.proofs.SpaceLaws.{all-append}
 use Rattle.sexpr_core.proofs.Decimal.{decimal_digit}
 use Rattle.sexpr_core.proofs.Steps.{more_capped, more_spelled}
 use Rattle.sexpr_text.specs.Strings.{is_digit, is_token_octet, IsToken, Piece, raw, escaped, octal, hexadecimal, line, line_pair, piece_text, piece_octets, StartsOther, IsPiece, pieces_text, pieces_octets, ArePieces, IsQuoted, IsPacked, IsMarked}
-use Rattle.sexpr_text.specs.Reads.{Reads, ReadsPiece, ReadsToken, ReadsCount}
+use Rattle.sexpr_text.specs.Reads.{Reads, ReadsPlain, ReadsPiece, ReadsToken, ReadsCount}
 
 -- ---- tokens
 
@@ -136,3 +137,43 @@ quoted_read text at i octets opens r closes = record {
   forward = omega (arith, r.ordered);
   within = omega (arith, closes.within);
 }
+
+-- ---- quoted strings of octets that stand for themselves
+
+pub nothing_plain : (text : List ℕ) (at : ℕ) → at ≤ length text → ReadsPlain text at [] at
+nothing_plain text at h = record { spelled = refl; plain = tt; ordered = omega arith; within = h }
+
+pub more_plain : (text : List ℕ) (at i c : ℕ) (octets : List ℕ) → ReadsPlain text at octets i → StandsAt text i c → c ≢ 34 → c ≢ 92
+    → ReadsPlain text at (octets ++ c ∷ []) (i + 1)
+more_plain text at i c octets r stands no_quote no_escape = record {
+  spelled = r.spelled ∙ ap (λ t. octets ++ t) stands.spelled ∙ sym (append_assoc octets (c ∷ []) (drop (i + 1) text));
+  plain = all-append (λ k. (k ≢ 34) × (k ≢ 92)) octets (c ∷ []) r.plain ((no_quote, no_escape), tt);
+  ordered = omega (arith, r.ordered);
+  within = omega (arith, stands.within);
+}
+
+raws_text : (xs : List ℕ) → pieces_text (map raw xs) ≡ xs
+raws_text [] = refl
+raws_text (x ∷ xs) = ap (λ t. x ∷ t) (raws_text xs)
+
+raws_octets : (xs : List ℕ) → pieces_octets (map raw xs) ≡ xs
+raws_octets [] = refl
+raws_octets (x ∷ xs) = ap (λ t. x ∷ t) (raws_octets xs)
+
+raws_right : (xs rest : List ℕ) → AllByRecursion (λ c. (c ≢ 34) × (c ≢ 92)) xs → ArePieces (map raw xs) rest
+raws_right [] rest h = tt
+raws_right (x ∷ xs) rest h = (h.0, raws_right xs rest h.1)
+
+pub plain_quoted : (text : List ℕ) (at end c : ℕ) (octets : List ℕ) → StandsAt text at 34 → ReadsPlain text (at + 1) octets end → StandsAt text end c → c ≡ 34
+    → Reads IsQuoted text at octets (end + 1)
+plain_quoted text at end c octets opens r closes e =
+    quoted_read text at end octets opens
+    record {
+      pieces = map raw octets;
+      spelled = r.spelled ∙ ap (λ t. t ++ drop end text) (sym (raws_text octets));
+      meant = sym (raws_octets octets);
+      right = raws_right octets (drop end text) r.plain;
+      ordered = r.ordered;
+      within = r.within;
+    }
+    (subst (StandsAt text end) e closes)

@@ -1,5 +1,5 @@
 -- What a step of the reader of advanced form has read of a text, from offset `at` to offset `to`.
-use Rattle.std.specs.Prelude.{◌≡◌, ℕ, ◌+◌, ◌<◌, ◌≤◌, min, Bool, true, false, ◌||◌, List, [], ◌∷◌, ◌++◌, length, drop, Option, Some, None, ◌⊎◌}
+use Rattle.std.specs.Prelude.{◌≡◌, ◌≢◌, ℕ, ◌+◌, ◌<◌, ◌≤◌, min, Bool, true, false, ◌||◌, List, [], ◌∷◌, ◌++◌, length, drop, Option, Some, None, ◌⊎◌}
 use Rattle.std.specs.List.{AllByRecursion}
 use Rattle.hex.specs.declared.error.FromHexError.{FromHexError}
 use Rattle.hex.specs.declared.error.FromHexError.TheVariants.{InvalidHexCharacter, OddLength, InvalidStringLength, OutOfMemory}
@@ -56,6 +56,13 @@ pub record Keeps (text : List ℕ) (at : ℕ) (kept : List ℕ) (to : ℕ) : Typ
   pub octets : AllByRecursion (λ c. is_hexadecimal_octet c ≡ true) body
   pub spelled : drop at text ≡ body ++ drop to text
   pub rest_is : kept ≡ visible body
+  pub ordered : at ≤ to
+  pub within : to ≤ length text
+
+-- octets of a quoted string that stand for themselves
+pub record ReadsPlain (text : List ℕ) (at : ℕ) (octets : List ℕ) (to : ℕ) : Type 0 where
+  pub spelled : drop at text ≡ octets ++ drop to text
+  pub plain : AllByRecursion (λ c. (c ≢ 34) × (c ≢ 92)) octets
   pub ordered : at ≤ to
   pub within : to ≤ length text
 

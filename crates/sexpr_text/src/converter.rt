@@ -1,6 +1,7 @@
 //! Texts, written in another form as they are read.
 
 ghost use Rattle.std.specs.Prelude.{◌≡◌, ℕ, List, ◌<◌, ◌≤◌, ◌↔◌, [], ◌∷◌, ◌++◌, length, drop, IfOk, IfErr, OnOk, IsErrOf, IsOkUnless};
+ghost use Rattle.std.specs.Option.{option_to_list};
 ghost use Rattle.sexpr_core.specs.BraceRefusal.{RefusesBraces};
 ghost use Rattle.sexpr_core.specs.Prefix.{RefusesPart};
 ghost use Rattle.sexpr_core.specs.Braces.{IsBracedWithin};
@@ -100,13 +101,23 @@ fn write_string(
 }
 
 /// What stands between two members.
-fn gap_between(form: Form) -> &'static [u8]
-    ensures { result.now ≡ gap_of form 1 }
+fn gap_between(form: Form) -> Option<u8>
+    ensures { option_to_list result ≡ gap_of form 1 }
 {
     match form {
-        Form::Canonical => b"",
-        Form::Advanced => b" ",
+        Form::Canonical => None,
+        Form::Advanced => Some(b' '),
     }
+}
+
+/// Puts what stands before a member behind what is written.
+fn write_gap(gap: Option<u8>, out: &mut Vec<u8>) -> Result<(), AllocError>
+    ensures { OnOk result (out.new.items ≡ out.old.items ++ option_to_list gap) }
+{
+    if let Some(octet) = gap {
+        out.push(octet)?;
+    }
+    Ok(())
 }
 
 /// A value, from its first octet on. At most `room` lists may open in it.
@@ -132,7 +143,7 @@ fn convert_value(
         Some(b'[') => convert_hinted(alloc, text, at, form, out),
         Some(_) => {
             let string = read_string(alloc, text, at)?;
-            write_string(alloc, form, &string.octets, out)?;
+            write_string(alloc, form, string.octets.as_slice(), out)?;
             Ok(string.end)
         }
     }
@@ -179,14 +190,14 @@ fn convert_members(
     ensures only { (vs : Values) (rest : List ℕ) → MembersAt room text.now at vs rest → IsOkUnless result FormFault.Memory }
     ensures refused { IfErr result (λ fault. IsValueFault room (MembersStand at) text.now at fault) }
 {
-    let mut gap: &[u8] = b"";
+    let mut gap = None;
     let mut i = skip_spaces(text, at);
     while let Some(octet) = octet_at(text, i) {
         if octet == b')' {
             out.push(b')')?;
             return Ok(i + 1);
         }
-        out.extend_from_slice(gap)?;
+        write_gap(gap, out)?;
         let end = convert_value(alloc, text, i, room, form, out)?;
         gap = gap_between(form);
         i = skip_spaces(text, end);
@@ -211,8 +222,8 @@ fn convert_hinted(
 {
     let string = read_hinted_string(alloc, text, at)?;
     out.push(b'[')?;
-    write_string(alloc, form, &string.hint, out)?;
+    write_string(alloc, form, string.hint.as_slice(), out)?;
     out.push(b']')?;
-    write_string(alloc, form, &string.octets, out)?;
+    write_string(alloc, form, string.octets.as_slice(), out)?;
     Ok(string.end)
 }

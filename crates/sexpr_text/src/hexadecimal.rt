@@ -10,7 +10,7 @@ ghost use Rattle.sexpr_text.specs.Stands.{Stands, DigitsStand};
 ghost use Rattle.sexpr_text.specs.Strings.{IsHexadecimal};
 ghost use Rattle.sexpr_core.specs.Spaces.{visible};
 
-use crate::strings::ReadString;
+use crate::strings::MarkedString;
 use hex::FromHexError;
 use sexpr_core::FormFault;
 use sexpr_core::reading::{is_space, octet_at};
@@ -27,7 +27,7 @@ pub(crate) fn read_hexadecimal(
     alloc: Global,
     text: &[u8],
     at: usize,
-) -> Result<ReadString, FormFault>
+) -> Result<MarkedString, FormFault>
     requires { StandsAt text.now at 35 }
     ensures read { IfOk result (λ read. Reads IsHexadecimal text.now at read.octets.items read.end) }
     ensures only { (spelling octets rest : List ℕ) → IsHexadecimal spelling octets → drop at text.now ≡ spelling ++ rest → IsOkUnless result FormFault.Memory }
@@ -35,7 +35,7 @@ pub(crate) fn read_hexadecimal(
 {
     let Digits { digits, end } = gather_digits(alloc, text, at + 1)?;
     match hex::decode(alloc, digits.as_slice()) {
-        Ok(octets) => Ok(ReadString {
+        Ok(octets) => Ok(MarkedString {
             octets,
             end: end + 1,
         }),

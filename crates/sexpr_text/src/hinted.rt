@@ -1,6 +1,7 @@
 //! Strings with a display hint, read (RFC 9804, section 4.6).
 
 ghost use Rattle.std.specs.Prelude.{◌≡◌, ℕ, List, Some, ◌≤◌, length, IfOk, IfErr, IsOkUnless};
+ghost use Rattle.std.specs.Cow.{cow_slice_items};
 ghost use Rattle.sexpr_core.specs.Prefix.{RefusesPart};
 ghost use Rattle.sexpr_core.specs.Reading.{StandsAt};
 ghost use Rattle.sexpr_core.specs.Value.{Value, string};
@@ -11,24 +12,25 @@ use crate::strings::read_string;
 use sexpr_core::FormFault;
 use sexpr_core::reading::{octet_at, skip_spaces};
 use std::alloc::Global;
+use std::borrow::CowSlice;
 
 /// The hint and the octets of a string, and where its text has ended.
 #[derive(Drop)]
-pub(crate) struct HintedString {
-    pub(crate) hint: Vec<u8>,
-    pub(crate) octets: Vec<u8>,
+pub(crate) struct HintedString<'t> {
+    pub(crate) hint: CowSlice<'t, u8, Global>,
+    pub(crate) octets: CowSlice<'t, u8, Global>,
     pub(crate) end: usize,
 }
 
 /// A string with a hint, from its opening bracket on.
-pub(crate) fn read_hinted_string(
+pub(crate) fn read_hinted_string<'t>(
     alloc: Global,
-    text: &[u8],
+    text: &'t [u8],
     at: usize,
-) -> Result<HintedString, FormFault>
+) -> Result<HintedString<'t>, FormFault>
     requires short { length text.now ≤ 1048576 }
     requires begins { StandsAt text.now at 91 }
-    ensures read { IfOk result (λ read. ReadsValue 0 text.now at (string (Some read.hint.items) read.octets.items) read.end) }
+    ensures read { IfOk result (λ read. ReadsValue 0 text.now at (string (Some (cow_slice_items read.hint)) (cow_slice_items read.octets)) read.end) }
     ensures only { (room : ℕ) (v : Value) (rest : List ℕ) → ValueAt room text.now at v rest → IsOkUnless result FormFault.Memory }
     ensures refused { IfErr result (λ fault. RefusesPart (ValueStands at) text.now at fault) }
 {

@@ -1,17 +1,19 @@
 //! Quoted strings, read (RFC 9804, section 4.2).
 
-ghost use Rattle.std.specs.Prelude.{◌≡◌, ◌≢◌, ◌≤◌, ◌<◌, ◌+◌, ℕ, List, [], ◌∷◌, ◌++◌, length, drop, Some, IfOk, IfErr, IsOkUnless};
+ghost use Rattle.std.specs.Prelude.{◌≡◌, ◌≢◌, ◌≤◌, ◌<◌, ◌+◌, ℕ, List, [], ◌∷◌, ◌++◌, length, drop, Some, IfOk, IfErr, IfSome, IsOkUnless};
+ghost use Rattle.std.specs.Cow.{cow_slice_items};
 ghost use Rattle.hex.specs.Hex.{hex_digit_value};
 ghost use Rattle.sexpr_core.specs.Reading.{StandsAt};
 ghost use Rattle.sexpr_core.specs.Prefix.{RefusesPart};
 ghost use Rattle.sexpr_text.specs.Strings.{escape_value, Piece, piece_text, IsPiece, IsQuoted};
-ghost use Rattle.sexpr_text.specs.Reads.{Reads, ReadsPiece, ReadsEscape, ReadsDigit, IsLineEnd, IsNoLetter};
+ghost use Rattle.sexpr_text.specs.Reads.{Reads, ReadsPlain, ReadsPiece, ReadsEscape, ReadsDigit, IsLineEnd, IsNoLetter};
 ghost use Rattle.sexpr_text.specs.Stands.{Stands, PieceStands, DigitStands, OctalStands};
 
-use crate::strings::ReadString;
+use crate::strings::{MarkedString, ReadString};
 use sexpr_core::FormFault;
 use sexpr_core::reading::octet_at;
 use std::alloc::Global;
+use std::borrow::CowSlice;
 
 /// An octet that an escape stands for, none where a line's end vanishes, and where it has ended.
 #[derive(Clone, Copy)]
@@ -20,8 +22,39 @@ struct Escape {
     end: usize,
 }
 
+/// Where the octets have ended that stand for themselves, from an offset on.
+fn plain_end(text: &[u8], at: usize) -> usize
+    requires { at ≤ length text.now }
+    ensures { (octets : List ℕ) × ReadsPlain text.now at octets result }
+{
+    let mut i = at;
+    while let Some(octet) = octet_at(text, i) {
+        if octet == b'"' || octet == b'\\' {
+            return i;
+        }
+        i += 1;
+    }
+    i
+}
+
+/// A quoted string of octets that all stand for themselves, from its opening quote on; None for another.
+pub(crate) fn lend_quoted<'t>(text: &'t [u8], at: usize) -> Option<ReadString<'t>>
+    requires { StandsAt text.now at 34 }
+    ensures { IfSome result (λ read. Reads IsQuoted text.now at (cow_slice_items read.octets) read.end) }
+{
+    let begin = at + 1;
+    let end = plain_end(text, begin);
+    match octet_at(text, end) {
+        Some(b'"') => Some(ReadString {
+            octets: CowSlice::Borrowed(&text[begin..end]),
+            end: end + 1,
+        }),
+        _ => None,
+    }
+}
+
 /// A quoted string, from its opening quote on.
-pub(crate) fn read_quoted(alloc: Global, text: &[u8], at: usize) -> Result<ReadString, FormFault>
+pub(crate) fn read_quoted(alloc: Global, text: &[u8], at: usize) -> Result<MarkedString, FormFault>
     requires { StandsAt text.now at 34 }
     ensures read { IfOk result (λ read. Reads IsQuoted text.now at read.octets.items read.end) }
     ensures only { (spelling octets rest : List ℕ) → IsQuoted spelling octets → drop at text.now ≡ spelling ++ rest → IsOkUnless result FormFault.Memory }
@@ -31,7 +64,7 @@ pub(crate) fn read_quoted(alloc: Global, text: &[u8], at: usize) -> Result<ReadS
     let mut i = at + 1;
     while let Some(octet) = octet_at(text, i) {
         if octet == b'"' {
-            return Ok(ReadString { octets, end: i + 1 });
+            return Ok(MarkedString { octets, end: i + 1 });
         }
         i = read_piece(text, i, octet, &mut octets)?;
     }

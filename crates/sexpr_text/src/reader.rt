@@ -12,7 +12,7 @@ ghost use Rattle.sexpr_text.specs.Refusal.{RefusesSpelling, RefusesText};
 ghost use Rattle.sexpr_text.specs.Spelling.{IsSpelledWithin, IsTextWithin};
 
 use crate::hinted::{HintedString, read_hinted_string};
-use crate::strings::{ReadString, read_string};
+use crate::strings::{ReadString, own, read_string};
 use crate::whole::opens_braces;
 use sexpr_core::reading::{ended, octet_at, skip_spaces};
 use sexpr_core::{Atom, FormFault, MOST_LISTS, MOST_OCTETS, Sexp, unwrap_braces};
@@ -85,7 +85,7 @@ fn read_tree(alloc: Global, text: &[u8], at: usize, room: usize) -> Result<ReadT
             Ok(ReadTree {
                 tree: Sexp::Atom(Atom {
                     hint: None,
-                    body: octets,
+                    body: own(alloc, octets)?,
                 }),
                 end,
             })
@@ -153,8 +153,8 @@ fn read_hinted(alloc: Global, text: &[u8], at: usize) -> Result<ReadTree, FormFa
     let HintedString { hint, octets, end } = read_hinted_string(alloc, text, at)?;
     Ok(ReadTree {
         tree: Sexp::Atom(Atom {
-            hint: Some(hint),
-            body: octets,
+            hint: Some(own(alloc, hint)?),
+            body: own(alloc, octets)?,
         }),
         end,
     })

@@ -1,6 +1,7 @@
 //! Strings without display hint, read (RFC 9804, sections 4.1 to 4.5).
 
 ghost use Rattle.std.specs.Prelude.{◌≡◌, ℕ, List, ◌++◌, true, false, ◌+◌, ◌<◌, ◌≤◌, ◌⊎◌, length, drop, IfOk, IfErr, IsOkUnless};
+ghost use Rattle.std.specs.Cow.{cow_slice_items};
 ghost use Rattle.sexpr_core.specs.Bounds.{IsShort};
 ghost use Rattle.sexpr_core.specs.Prefix.{RefusesPart};
 ghost use Rattle.sexpr_text.specs.Reads.{Reads, ReadsToken, ReadsCount, ReadsOctets, ReadsString, StringAt, Stops};
@@ -10,14 +11,22 @@ ghost use Rattle.sexpr_core.specs.Reading.{StandsAt};
 
 use crate::hexadecimal::read_hexadecimal;
 use crate::printer::stands_in_token;
-use crate::quoted::read_quoted;
+use crate::quoted::{lend_quoted, read_quoted};
 use sexpr_core::reading::{Unpacked, octet_at, read_base64};
 use sexpr_core::{FormFault, MOST_OCTETS};
-use std::alloc::Global;
+use std::alloc::{AllocError, Global};
+use std::borrow::CowSlice;
 
-/// The octets of a string, and where its text has ended.
+/// The octets of a string, which the text lends where they stand in it, and where its text has ended.
 #[derive(Drop)]
-pub(crate) struct ReadString {
+pub(crate) struct ReadString<'t> {
+    pub(crate) octets: CowSlice<'t, u8, Global>,
+    pub(crate) end: usize,
+}
+
+/// The octets of a string between marks, and where its text has ended.
+#[derive(Drop)]
+pub(crate) struct MarkedString {
     pub(crate) octets: Vec<u8>,
     pub(crate) end: usize,
 }
@@ -30,10 +39,14 @@ struct Count {
 }
 
 /// A string, from its first octet on.
-pub(crate) fn read_string(alloc: Global, text: &[u8], at: usize) -> Result<ReadString, FormFault>
+pub(crate) fn read_string<'t>(
+    alloc: Global,
+    text: &'t [u8],
+    at: usize,
+) -> Result<ReadString<'t>, FormFault>
     requires short { length text.now ≤ 1048576 }
     requires begins { at ≤ length text.now }
-    ensures read { IfOk result (λ read. ReadsString text.now at read.octets.items read.end) }
+    ensures read { IfOk result (λ read. ReadsString text.now at (cow_slice_items read.octets) read.end) }
     ensures only { (octets rest : List ℕ) → StringAt text.now at octets rest → IsOkUnless result FormFault.Memory }
     ensures refused { IfErr result (λ fault. RefusesPart (StringStands at) text.now at fault) }
 {
@@ -44,34 +57,63 @@ pub(crate) fn read_string(alloc: Global, text: &[u8], at: usize) -> Result<ReadS
         return read_counted(alloc, text, at, octet);
     }
     if stands_in_token(octet) {
-        return read_token(alloc, text, at, octet);
+        return Ok(read_token(text, at, octet));
     }
-    read_marked(alloc, text, at)
+    if octet == b'"' {
+        if let Some(read) = lend_quoted(text, at) {
+            return Ok(read);
+        }
+    }
+    let read = read_marked(alloc, text, at)?;
+    Ok(ReadString {
+        octets: CowSlice::Owned(read.octets),
+        end: read.end,
+    })
+}
+
+/// The octets of a string, in memory of their own.
+pub(crate) fn own(alloc: Global, octets: CowSlice<'_, u8, Global>) -> Result<Vec<u8>, AllocError>
+    ensures { IfOk result (λ own. own.items ≡ cow_slice_items octets.entry) }
+{
+    match octets {
+        CowSlice::Borrowed(lent) => Vec::from_slice(alloc, lent),
+        CowSlice::Owned(own) => Ok(own),
+    }
 }
 
 /// A token, which ends where the next octet can't stand in one.
-fn read_token(alloc: Global, text: &[u8], at: usize, first: u8) -> Result<ReadString, FormFault>
+fn read_token<'t>(text: &'t [u8], at: usize, first: u8) -> ReadString<'t>
     requires begins { StandsAt text.now at first }
     requires other { is_digit first ≡ false }
     requires token { is_token_octet first ≡ true }
-    ensures read { IfOk result (λ read. ReadsToken text.now at read.octets.items read.end × IsApart true (drop read.end text.now)) }
-    ensures only { IsOkUnless result FormFault.Memory }
+    ensures { ReadsToken text.now at (cow_slice_items result.octets) result.end × IsApart true (drop result.end text.now) }
 {
-    let mut octets = Vec::new(alloc);
-    octets.push(first)?;
+    let end = token_end(text, at, first);
+    ReadString {
+        octets: CowSlice::Borrowed(&text[at..end]),
+        end,
+    }
+}
+
+/// Where a token has ended.
+fn token_end(text: &[u8], at: usize, first: u8) -> usize
+    requires begins { StandsAt text.now at first }
+    requires other { is_digit first ≡ false }
+    requires token { is_token_octet first ≡ true }
+    ensures { ((octets : List ℕ) × ReadsToken text.now at octets result) × IsApart true (drop result text.now) }
+{
     let mut i = at + 1;
     while let Some(octet) = octet_at(text, i) {
         if !stands_in_token(octet) {
-            return Ok(ReadString { octets, end: i });
+            return i;
         }
-        octets.push(octet)?;
         i += 1;
     }
-    Ok(ReadString { octets, end: i })
+    i
 }
 
 /// A string between marks, from its opening mark on.
-fn read_marked(alloc: Global, text: &[u8], at: usize) -> Result<ReadString, FormFault>
+fn read_marked(alloc: Global, text: &[u8], at: usize) -> Result<MarkedString, FormFault>
     requires { at ≤ length text.now }
     ensures read { IfOk result (λ read. Reads IsMarked text.now at read.octets.items read.end) }
     ensures only { (spelling octets rest : List ℕ) → IsMarked spelling octets → drop at text.now ≡ spelling ++ rest → IsOkUnless result FormFault.Memory }
@@ -83,7 +125,7 @@ fn read_marked(alloc: Global, text: &[u8], at: usize) -> Result<ReadString, Form
         Some(b'#') => read_hexadecimal(alloc, text, at),
         Some(b'|') => {
             let Unpacked { octets, end } = read_base64(alloc, text, at + 1, b'|')?;
-            Ok(ReadString { octets, end })
+            Ok(MarkedString { octets, end })
         }
         Some(_) => Err(FormFault::Bad(at)),
     }
@@ -112,11 +154,16 @@ fn read_count(text: &[u8], at: usize, first: u8) -> Count
 }
 
 /// A string with its length in front, from the first digit on.
-fn read_counted(alloc: Global, text: &[u8], at: usize, first: u8) -> Result<ReadString, FormFault>
+fn read_counted<'t>(
+    alloc: Global,
+    text: &'t [u8],
+    at: usize,
+    first: u8,
+) -> Result<ReadString<'t>, FormFault>
     requires short { length text.now ≤ 1048576 }
     requires begins { StandsAt text.now at first }
     requires digit { (48 ≤ first) × (first < 58) }
-    ensures read { IfOk result (λ read. ReadsString text.now at read.octets.items read.end) }
+    ensures read { IfOk result (λ read. ReadsString text.now at (cow_slice_items read.octets) read.end) }
     ensures only { (octets rest : List ℕ) → StringAt text.now at octets rest → IsOkUnless result FormFault.Memory }
     ensures refused { IfErr result (λ fault. RefusesPart (StringStands at) text.now at fault) }
 {
@@ -125,34 +172,31 @@ fn read_counted(alloc: Global, text: &[u8], at: usize, first: u8) -> Result<Read
         return Err(FormFault::Short);
     };
     if octet == b':' {
-        return read_verbatim(alloc, text, count.end + 1, count.number);
+        return read_verbatim(text, count.end + 1, count.number);
     }
     let read = read_marked(alloc, text, count.end)?;
     if read.octets.len() != count.number {
         return Err(FormFault::Bad(read.end - 1));
     }
-    Ok(read)
+    Ok(ReadString {
+        octets: CowSlice::Owned(read.octets),
+        end: read.end,
+    })
 }
 
 /// So many octets as they stand.
-fn read_verbatim(
-    alloc: Global,
-    text: &[u8],
-    at: usize,
-    number: usize,
-) -> Result<ReadString, FormFault>
+fn read_verbatim<'t>(text: &'t [u8], at: usize, number: usize) -> Result<ReadString<'t>, FormFault>
     requires short { length text.now ≤ 1048576 }
     requires begins { at ≤ length text.now }
-    ensures read { IfOk result (λ read. ReadsOctets text.now at number read.octets.items read.end) }
+    ensures read { IfOk result (λ read. ReadsOctets text.now at number (cow_slice_items read.octets) read.end) }
     ensures only { (at + number ≤ length text.now) → IsOkUnless result FormFault.Memory }
     ensures refused { IfErr result (λ fault. IsShort fault) }
 {
     if number > text.len() - at {
         return Err(FormFault::Short);
     }
-    let octets = Vec::from_slice(alloc, &text[at..at + number])?;
     Ok(ReadString {
-        octets,
+        octets: CowSlice::Borrowed(&text[at..at + number]),
         end: at + number,
     })
 }

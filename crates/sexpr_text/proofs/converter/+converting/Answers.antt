@@ -43,7 +43,7 @@ convert_members-returns-in_err-end-clause-refused t c =
 pub convert_members-loop-octet-preserved : goal.convert_members-loop-octet-preserved
 convert_members-loop-octet-preserved t c =
     more_converted _ _ _ _ _ _ _ c.args.form _ _ _ _ _ _ c.loop-octet.invariant c.in-Some.ensures c.if-octet-eq41.false
-    c.in_ok-extend_from_slice.ensures.items c.in_ok-end.ensures.read c.gap_between-gap.ensures c.skip_spaces-i-in-Some.ensures
+    c.in_ok-write_gap.ensures c.in_ok-end.ensures.read c.gap_between-gap.ensures c.skip_spaces-i-in-Some.ensures
 
 pub convert_members-returns-clause-only : goal.convert_members-returns-clause-only
 convert_members-returns-clause-only t c = λ vs rest h.
@@ -69,7 +69,7 @@ convert_value-returns-in-Some-eq91-clause-only t c = λ v rest h. c.convert_hint
 pub convert_value-returns-in_ok-write_string-in-Some-clause-read : goal.convert_value-returns-in_ok-write_string-in-Some-clause-read
 convert_value-returns-in_ok-write_string-in-Some-clause-read t c =
     string_converted _ _ _ _ c.args.form _ _ _ c.in_ok-string-in-Some.ensures.read
-    (rw c.deref.ensures.value at c.in_ok-write_string-in-Some.ensures)
+    (rw c.as_slice.ensures.value at c.in_ok-write_string-in-Some.ensures)
 
 pub convert_list-returns-clause-refused : goal.convert_list-returns-clause-refused
 convert_list-returns-clause-refused t c =

@@ -1,5 +1,6 @@
 -- Each list that opens leaves room for one less.
 use Rattle.std.proofs.Common.{◌+◌, ◌*◌, ◌-◌, length}
+use Rattle.std.specs.Option.{option_to_list}
 use Rattle.sexpr_text.proofs.Converted.{HasConverted}
 use Rattle.sexpr_text.proofs.converter.+converting.Given as goal
 
@@ -13,7 +14,7 @@ abbrev pub decreases-convert_members : goal.decreases-convert_members
 decreases-convert_members l = 3 * l.room + 2
 
 abbrev pub invariant-convert_members-loop-octet : goal.invariant-convert_members-loop-octet
-invariant-convert_members-loop-octet l = HasConverted l.room l.text l.at l.i l.form l.initial.out.items l.out.items l.gap
+invariant-convert_members-loop-octet l = HasConverted l.room l.text l.at l.i l.form l.initial.out.items l.out.items (option_to_list l.gap)
 
 abbrev pub decreases-convert_members-loop-octet : goal.decreases-convert_members-loop-octet
 decreases-convert_members-loop-octet l = length l.text - l.i

@@ -1,0 +1,20 @@
+-- Each list that opens leaves room for one less.
+use Rattle.std.proofs.Common.{ℕ, ◌+◌, ◌*◌, ◌-◌, List, [], length}
+use Rattle.sexpr_core.specs.declared.layout.Record.{Record}
+use Rattle.sexpr_core.proofs.Steps.{HasMembers}
+use Rattle.sexpr_core.proofs.checker.+passing.Given as goal
+
+abbrev pub decreases-pass_value : goal.decreases-pass_value
+decreases-pass_value l = 3 * l.room + 1
+
+abbrev pub decreases-pass_list : goal.decreases-pass_list
+decreases-pass_list l = 3 * l.room
+
+abbrev pub decreases-pass_members : goal.decreases-pass_members
+decreases-pass_members l = 3 * l.room + 2
+
+abbrev pub invariant-pass_members-loop-octet : goal.invariant-pass_members-loop-octet
+invariant-pass_members-loop-octet l = (parts : ℕ) × (nodes : List Record) × HasMembers l.room l.text l.at parts l.i [] nodes
+
+abbrev pub decreases-pass_members-loop-octet : goal.decreases-pass_members-loop-octet
+decreases-pass_members-loop-octet l = length l.text - l.i

@@ -1,0 +1,83 @@
+//! Whether a text is in canonical form (RFC 9804, section 6.2), found out without a table of its nodes.
+
+ghost use Rattle.std.specs.Prelude.{◌≡◌, ◌<◌, ◌≤◌, ◌↔◌, length, drop, MatchResult, IfErr, OnOk, IsErrOf, IsOkUnless};
+ghost use Rattle.sexpr_core.specs.Value.{Value, canon, IsWithinLimits};
+ghost use Rattle.sexpr_core.specs.Refusal.{Refused};
+ghost use Rattle.sexpr_core.specs.Prefix.{FaultAt};
+ghost use Rattle.sexpr_core.specs.Texts.{IsCanon, IsCanonWithin, IsMembers, IsMembersWithin};
+ghost use Rattle.sexpr_core.specs.Reading.{StandsAt, PassesValue, PassesMembers};
+
+use crate::fault::FormFault;
+use crate::parser::{MOST_LISTS, MOST_OCTETS, read_string};
+use crate::spaces::octet_at;
+
+/// The end of a value. At most `room` lists may open in it.
+#[cycle(passing)]
+fn pass_value(text: &[u8], at: usize, room: usize) -> Result<usize, FormFault>
+    requires short { length text.now ≤ 1048576 }
+    requires begins { at ≤ length text.now }
+    ensures { MatchResult result
+        (λ to. PassesValue room text.now at to)
+        (λ fault. FaultAt IsCanon (IsCanonWithin room) at (drop at text.now) fault) }
+{
+    let Some(octet) = octet_at(text, at) else {
+        return Err(FormFault::Short);
+    };
+    if octet == b'(' {
+        return pass_list(text, at, room);
+    }
+    let read = read_string(text, at, octet)?;
+    Ok(read.end)
+}
+
+/// The end of a list, of whose text the first octet is its opening parenthesis.
+#[cycle(passing)]
+fn pass_list(text: &[u8], at: usize, room: usize) -> Result<usize, FormFault>
+    requires short { length text.now ≤ 1048576 }
+    requires begins { StandsAt text.now at 40 }
+    ensures { MatchResult result
+        (λ to. PassesValue room text.now at to)
+        (λ fault. FaultAt IsCanon (IsCanonWithin room) at (drop at text.now) fault) }
+{
+    if room == 0 {
+        return Err(FormFault::TooDeep);
+    }
+    let end = pass_members(text, at + 1, room - 1)?;
+    Ok(end)
+}
+
+/// The end of the closing parenthesis of a list whose members begin at an offset.
+#[cycle(passing)]
+fn pass_members(text: &[u8], at: usize, room: usize) -> Result<usize, FormFault>
+    requires short { length text.now ≤ 1048576 }
+    requires begins { at ≤ length text.now }
+    ensures { MatchResult result
+        (λ to. PassesMembers room text.now at to)
+        (λ fault. FaultAt IsMembers (IsMembersWithin room) at (drop at text.now) fault) }
+{
+    let mut i = at;
+    while let Some(octet) = octet_at(text, i) {
+        if octet == b')' {
+            return Ok(i + 1);
+        }
+        i = pass_value(text, i, room)?;
+    }
+    Err(FormFault::Short)
+}
+
+/// Whether a text is one value in canonical form, with the refusals of `Doc::open`.
+pub(crate) fn check_canonical(text: &[u8]) -> Result<(), FormFault>
+    ensures read { OnOk result ((v : Value) × IsWithinLimits v × (text.now ≡ canon v)) }
+    ensures only { (v : Value) → IsWithinLimits v → text.now ≡ canon v → IsOkUnless result FormFault.Memory }
+    ensures too_long { IsErrOf result FormFault.TooLong ↔ (1048576 < length text.now) }
+    ensures refused { IfErr result (λ fault. Refused text.now fault) }
+{
+    if text.len() > MOST_OCTETS {
+        return Err(FormFault::TooLong);
+    }
+    let end = pass_value(text, 0, MOST_LISTS)?;
+    if end < text.len() {
+        return Err(FormFault::Trailing(end));
+    }
+    Ok(())
+}
