@@ -1,11 +1,13 @@
 -- A chain that goes through a step isn't stopped there, so it stops at one step alone, for one cause.
 use Rattle.std.proofs.Common.{◌≡◌, ◌≢◌, ◌⊎◌, inl, inr, ℕ, zero, suc, ◌+◌, ◌≤◌, ◌<◌, List, [], ◌∷◌, ◌++◌, fold, Some, refl, sym, ◌∙◌, ap, subst, arith, append_assoc, take, drop, slice_get, length, get_or}
 use Rattle.std.proofs.lemmas.Bool.{cases_lt}
-use Rattle.std.proofs.lemmas.List.{take-append-drop, take-take}
+use Rattle.std.proofs.lemmas.List.{take-append-drop, take-take, take_all}
+use Rattle.std.proofs.lemmas.Option.{slice_get_within}
 use Rattle.std.proofs.lemmas.List.Folds.{list_all-append}
 use Rattle.std.proofs.lemmas.List.Sums.{fold-append}
 use Rattle.std.proofs.lemmas.Grind.{flat_map-append}
 use Rattle.spki_cert.specs.declared.principal.Policy.{Policy}
+use Rattle.spki_cert.specs.declared.window.Window.{Window}
 use Rattle.spki_cert.specs.Time.{within}
 use Rattle.spki_tag.specs.Tag.{Tag, star, string, prefix, range, list, set, none}
 use Rattle.spki_tag.specs.Meet.{meet}
@@ -16,8 +18,8 @@ use Rattle.spki_reduce.specs.declared.tuple.Step.{Step}
 use Rattle.spki_reduce.specs.declared.tuple.Step.TheVariants.{Auth, Name}
 use Rattle.spki_reduce.specs.Views.{five_tuple, four_tuple, step_tuple}
 use Rattle.spki_reduce.specs.Tuples.{FiveTuple, Tuple, five, four, tags_of, windows_of}
-use Rattle.spki_reduce.specs.Derivation.{from_left}
-use Rattle.spki_reduce.specs.Restrictions.{within_each, NoMoment, met, nodes_product}
+use Rattle.spki_reduce.specs.Derivation.{Derives, from_left}
+use Rattle.spki_reduce.specs.Restrictions.{within_each, SomeMoment, NoMoment, met, nodes_product}
 use Rattle.spki_reduce.specs.Stops.{Stops, TooLargeFor}
 use Rattle.spki_reduce.specs.Chain.{tuples_of, FoldsTo, HasMet, GoesThrough, StopsAt, TooLargeAt, all_tags, all_windows}
 use Rattle.spki_reduce.proofs.Bracketing.{from_left-leaves, one_root}
@@ -218,3 +220,88 @@ module _
       → TooLargeAt policy first (tuples_of steps) → ⊥
   small_stopped cause stops =
       small policy first (tuples_of steps) (steps_tagged steps) (place + 1) cause stops small_here
+
+-- ---- one stop
+
+some_or_none : (windows : List Window) → SomeMoment windows → NoMoment windows → ⊥
+some_or_none windows s n = never (within_each s.0 windows) (n s.0) s.2
+
+-- the conditions of two causes exclude each other
+module _ (policy : Policy) (root : FiveTuple) where
+  one_cause : (tuple : Tuple) (a b : Cause) → Stops policy (five root) tuple a → Stops policy (five root) tuple b → a ≡ b
+  one_cause (five right) NotIssuer NotIssuer h k = refl
+  one_cause (five right) NotIssuer NotTheName h k = absurd k
+  one_cause (five right) NotIssuer NoDelegation h k = absurd (h k.0)
+  one_cause (five right) NotIssuer NoValidity h k = absurd (h k.0)
+  one_cause (five right) NotIssuer NoTag h k = absurd (h k.0.issues)
+  one_cause (five right) NotTheName b h k = absurd h
+  one_cause (five right) NoDelegation NotIssuer h k = absurd (k h.0)
+  one_cause (five right) NoDelegation NotTheName h k = absurd k
+  one_cause (five right) NoDelegation NoDelegation h k = refl
+  one_cause (five right) NoDelegation NoValidity h k = absurd (never root.delegation h.1 k.1)
+  one_cause (five right) NoDelegation NoTag h k = absurd (never root.delegation h.1 k.0.allowed)
+  one_cause (five right) NoValidity NotIssuer h k = absurd (k h.0)
+  one_cause (five right) NoValidity NotTheName h k = absurd k
+  one_cause (five right) NoValidity NoDelegation h k = absurd (never root.delegation k.1 h.1)
+  one_cause (five right) NoValidity NoValidity h k = refl
+  one_cause (five right) NoValidity NoTag h k = absurd (some_or_none (root.windows ++ right.windows) k.0.timely h.2)
+  one_cause (five right) NoTag NotIssuer h k = absurd (k h.0.issues)
+  one_cause (five right) NoTag NotTheName h k = absurd k
+  one_cause (five right) NoTag NoDelegation h k = absurd (never root.delegation k.1 h.0.allowed)
+  one_cause (five right) NoTag NoValidity h k = absurd (some_or_none (root.windows ++ right.windows) h.0.timely k.2)
+  one_cause (five right) NoTag NoTag h k = refl
+  one_cause (four right) NotTheName NotTheName h k = refl
+  one_cause (four right) NotTheName NoValidity h k = absurd (h k.0)
+  one_cause (four right) NoValidity NotTheName h k = absurd (k h.0)
+  one_cause (four right) NoValidity NoValidity h k = refl
+  one_cause (four right) NotTheName NotIssuer h k = absurd k
+  one_cause (four right) NotTheName NoDelegation h k = absurd k
+  one_cause (four right) NotTheName NoTag h k = absurd k
+  one_cause (four right) NoValidity NotIssuer h k = absurd k
+  one_cause (four right) NoValidity NoDelegation h k = absurd k
+  one_cause (four right) NoValidity NoTag h k = absurd k
+  one_cause (four right) NotIssuer b h k = absurd h
+  one_cause (four right) NoDelegation b h k = absurd h
+  one_cause (four right) NoTag b h k = absurd h
+
+module _ (policy : Policy) (first : Tuple) (others : List Tuple) (tagged : AreTagged others) where
+  -- the later of two stops would be behind the earlier one
+  not_before : (s t : ℕ) (a b : Cause) → StopsAt policy first others s a → (k : StopsAt policy first others t b)
+      → s ≤ k.place → ⊥
+  not_before s t a b h k behind = unstopped policy first others tagged k.place k.root k.before s behind a h
+
+  same_place : (s t : ℕ) (a b : Cause) (h : StopsAt policy first others s a) (k : StopsAt policy first others t b)
+      → (k.place < s) ⊎ (s ≤ k.place) → (h.place < t) ⊎ (t ≤ h.place) → h.place ≡ k.place
+  same_place s t a b h k (inl x) (inl y) = let i = h.numbered in let j = k.numbered in omega arith
+  same_place s t a b h k (inr x) y = absurd (not_before s t a b h k x)
+  same_place s t a b h k (inl x) (inr y) = absurd (not_before t s b a k h y)
+
+  pub one_stop : (s t : ℕ) (a b : Cause) → StopsAt policy first others s a → StopsAt policy first others t b
+      → (s ≡ t) × (a ≡ b)
+  one_stop s t a b h k =
+      let same = same_place s t a b h k (cases_lt k.place s) (cases_lt h.place t) in
+      let stands : slice_get others h.place ≡ Some k.tuple = ap (slice_get others) same ∙ k.stands in
+      let both : Some h.tuple ≡ Some k.tuple = sym h.stands ∙ stands in
+      let tuples : h.tuple ≡ k.tuple = cc in
+      let derived : Derives policy (from_left first (take h.place others)) (five k.root) =
+      subst (λ n. Derives policy (from_left first (take n others)) (five k.root)) (sym same) k.before.derived in
+      let tree = from_left first (take h.place others) in
+      let fives : five k.root ≡ five h.root = one_root policy tree tree (five k.root) (five h.root) refl derived h.before.derived in
+      let roots : k.root ≡ h.root = cc in
+      let stopped : Stops policy (five h.root) h.tuple b =
+      subst (λ r. Stops policy (five r) h.tuple b) roots (subst (λ u. Stops policy (five k.root) u b) (sym tuples) k.stopped) in (
+        h.numbered ∙ ap suc same ∙ sym k.numbered,
+        one_cause policy h.root h.tuple a b h.stopped stopped,
+      )
+
+  -- a chain that stops becomes nothing
+  pub becomes_nothing : (s : ℕ) (a : Cause) → StopsAt policy first others s a → (f : Five) → FoldsTo policy first others f
+      → HasMet first others f → ⊥
+  becomes_nothing s a h f folds has_met =
+      let below = slice_get_within others h.place h.tuple h.stands in
+      let all = take_all (length others) others (omega arith) in
+      let through : GoesThrough policy first others folds.root =
+      record { derived = folds.derived; timely = folds.timely; tagged = λ e. folds.tagged (has_met ∙ e) } in
+      let i = h.numbered in
+      unstopped policy first others tagged (length others) folds.root
+      (subst (λ ts. GoesThrough policy first ts folds.root) (sym all) through) s (omega arith) a h

@@ -7,6 +7,10 @@ ghost use Rattle.spki_tag.specs.Request.{Request};
 ghost use Rattle.spki_reduce.specs.Tuples.{Tuple, tags_of, windows_of};
 ghost use Rattle.spki_reduce.specs.Derivation.{Tree, leaves, Derives, from_left};
 ghost use Rattle.spki_reduce.specs.Supports.{Supports};
+ghost use Rattle.spki_reduce.specs.declared.fold.Cause.{Cause};
+ghost use Rattle.spki_reduce.specs.declared.tuple.Five.{Five};
+ghost use Rattle.spki_reduce.specs.declared.tuple.Step.{Step};
+ghost use Rattle.spki_reduce.specs.Chain.{tuples_of, FoldsTo, HasMet, StopsAt};
 
 /// What is derived in any bracketing is derived when the same tuples are taken in turn, from the left
 /// (RFC 2693, sections 6.3 and 6.4). So a derivation may be looked for in that bracketing alone.
@@ -28,6 +32,15 @@ pub fn one_root()
     ensures { (policy : Policy) (tree other : Tree) (root another : Tuple) →
         leaves tree ≡ leaves other → Derives policy tree root → Derives policy other another →
         root ≡ another }
+{}
+
+/// A chain stops at one step at most, for one cause, and it becomes nothing then.
+pub fn one_stop()
+    ensures stop { (policy : Policy) (first : Tuple) (steps : List Step) (s t : ℕ) (a b : Cause) →
+        StopsAt policy first (tuples_of steps) s a → StopsAt policy first (tuples_of steps) t b → (s ≡ t) × (a ≡ b) }
+    ensures nothing { (policy : Policy) (first : Tuple) (steps : List Step) (s : ℕ) (cause : Cause) →
+        StopsAt policy first (tuples_of steps) s cause →
+        (f : Five) → FoldsTo policy first (tuples_of steps) f → HasMet first (tuples_of steps) f → ⊥ }
 {}
 
 /// Some derivation has the leaves of no derivation in another bracketing: a name's definition that stands between
