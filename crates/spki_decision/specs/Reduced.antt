@@ -1,10 +1,10 @@
 -- What a case's entries become, each with all certificates (RFC 2693, section 6.3).
-use Rattle.std.specs.Prelude.{◌≡◌, ℕ, ◌<◌, List, ◌∷◌, Some, slice_get}
+use Rattle.std.specs.Prelude.{◌≡◌, ℕ, ◌<◌, List, [], ◌∷◌, Some, slice_get}
 use Rattle.std.specs.List.{AllZip}
 use Rattle.spki_cert.specs.declared.entry.Entry.{Entry}
 use Rattle.spki_reduce.specs.declared.fold.Cause.{Cause}
 use Rattle.spki_reduce.specs.Tuples.{Tuple, five, own}
-use Rattle.spki_reduce.specs.Views.{entry_tuple, issuer_of}
+use Rattle.spki_reduce.specs.Views.{entry_tuple, five_tuple, issuer_of}
 use Rattle.spki_reduce.specs.Restrictions.{nodes_product}
 use Rattle.spki_reduce.specs.Chain.{FoldsTo, HasMet, StopsAt, TooLargeAt, Excludes, all_tags}
 use Rattle.spki_case.specs.Case.{Case, Verified}
@@ -32,10 +32,12 @@ pub record StopsAtItem (c : Case) (tuples : List Tuple) (e : Entry) (item : ℕ)
   pub there : slice_get (certificates c.items) stops.place ≡ Some certificate
   pub item_is : item ≡ certificate.item
 
--- an entry and the certificates become this authorization, or stop at this item, for this cause
+-- an entry and the certificates become this authorization, which is the entry's where there are none, or stop at this
+-- item, for this cause
 abbrev pub IsEntryFold : Case → List Tuple → Entry → EntryFold → Type 0
 IsEntryFold c tuples e (Done f) =
     FoldsTo c.policy (five (entry_tuple e)) tuples f × HasMet (five (entry_tuple e)) tuples f
+    × (tuples ≡ [] → five_tuple f ≡ entry_tuple e)
 IsEntryFold c tuples e (Stopped item cause) = StopsAtItem c tuples e item cause
 
 -- what an entry becomes is issued by the keeper of the access list

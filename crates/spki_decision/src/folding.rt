@@ -1,6 +1,6 @@
 //! What an entry and the steps behind it become (RFC 2693, section 6.3).
 
-ghost use Rattle.std.specs.Prelude.{◌≡◌, ◌∷◌, IfOk, IsErrOf};
+ghost use Rattle.std.specs.Prelude.{◌≡◌, [], ◌∷◌, IfOk, IsErrOf};
 ghost use Rattle.spki_reduce.specs.Tuples.{five, own};
 ghost use Rattle.spki_reduce.specs.Views.{issuer_of, entry_tuple, five_tuple};
 ghost use Rattle.spki_reduce.specs.Chain.{tuples_of, FoldsTo, StopsAt, HasMet, TooLargeAt, Excludes, SupportsNothing, MatchFold};
@@ -19,6 +19,8 @@ pub(crate) fn fold_entry<'a>(
     ensures fold { IfOk result (λ fold. MatchFold fold
         (FoldsTo policy (five (entry_tuple entry.now)) (tuples_of steps.now))
         (StopsAt policy (five (entry_tuple entry.now)) (tuples_of steps.now))) }
+    ensures alone { steps.now ≡ [] → IfOk result (λ fold. MatchFold fold
+        (λ f. five_tuple f ≡ entry_tuple entry.now) (λ step cause. ⊥)) }
     ensures which { IfOk result (λ fold. MatchFold fold
         (HasMet (five (entry_tuple entry.now)) (tuples_of steps.now)) (λ step cause. Unit {0})) }
     ensures issuer { IfOk result (λ fold. MatchFold fold

@@ -1,7 +1,7 @@
-use Rattle.std.proofs.Common.{◌≡◌}
+use Rattle.std.proofs.Common.{◌≡◌, []}
 use Rattle.spki_case.specs.View.{model}
 use Rattle.spki_reduce.specs.Tuples.{five, own}
-use Rattle.spki_reduce.specs.Views.{entry_tuple, issuer_of}
+use Rattle.spki_reduce.specs.Views.{entry_tuple, five_tuple, issuer_of}
 use Rattle.spki_reduce.specs.Chain.{tuples_of, FoldsTo, HasMet}
 use Rattle.spki_decision.proofs.Reasons.{reasoned}
 use Rattle.spki_decision.proofs.explaining.entry_reason.Goals as goal
@@ -11,7 +11,8 @@ returns-in-Done-clause-exact c =
     let f = c.in-Done.five in
     let first = five (entry_tuple c.args.entry.now) in
     let steps = tuples_of c.args.steps.now in
-    let became : FoldsTo c.args.case.now.policy first steps f × HasMet first steps f =
+    let became : FoldsTo c.args.case.now.policy first steps f × HasMet first steps f
+    × (steps ≡ [] → five_tuple f ≡ entry_tuple c.args.entry.now) =
     rw c.in-Done.is at c.in_ok-item.ensures.exact in
     let folds = became.0 in
     let is_own : issuer_of f.issuer ≡ own = rw c.in-Done.is at c.in_ok-item.ensures.issuer in

@@ -18,6 +18,9 @@ returns-clause-excluded c = rw c.in_ok-own.ensures at c.fold_chain.ensures.exclu
 pub returns-clause-unsupported : goal.returns-clause-unsupported
 returns-clause-unsupported c = rw c.in_ok-own.ensures at c.fold_chain.ensures.unsupported
 
+pub returns-clause-alone : goal.returns-clause-alone
+returns-clause-alone c none = rw c.in_ok-own.ensures at (c.fold_chain.ensures.alone none)
+
 pub returns-clause-which : goal.returns-clause-which
 returns-clause-which c = rw c.in_ok-own.ensures at c.fold_chain.ensures.which
 

@@ -1,4 +1,5 @@
-use Rattle.std.proofs.Common.{◌∙◌}
+use Rattle.std.proofs.Common.{◌≡◌, List, [], ◌∷◌, refl, ◌∙◌}
+use Rattle.spki_reduce.specs.declared.tuple.Step.{Step}
 use Rattle.std.proofs.lemmas.List.{length-map}
 use Rattle.spki_case.specs.View.{model}
 use Rattle.spki_reduce.specs.Tuples.{five}
@@ -6,6 +7,17 @@ use Rattle.spki_reduce.specs.Views.{entry_tuple, step_tuple}
 use Rattle.spki_reduce.specs.Chain.{tuples_of, StopsAt, Excludes}
 use Rattle.spki_decision.proofs.Stopping.{stops_at_item}
 use Rattle.spki_decision.proofs.reducing.entry_fold.Goals as goal
+
+no_steps : (steps : List Step) → tuples_of steps ≡ [] → steps ≡ []
+no_steps [] e = refl
+no_steps (step ∷ steps) e = absurd cc
+
+pub returns-in-Done-clause-exact : goal.returns-in-Done-clause-exact
+returns-in-Done-clause-exact c = (
+  rw c.in-Done.is at c.in_ok-five.ensures.fold,
+  rw c.in-Done.is at c.in_ok-five.ensures.which,
+  λ none. rw c.in-Done.is at (c.in_ok-five.ensures.alone (no_steps c.args.steps.now none)),
+)
 
 pub returns-in-Stopped-clause-exact : goal.returns-in-Stopped-clause-exact
 returns-in-Stopped-clause-exact c =
