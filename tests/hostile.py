@@ -180,6 +180,11 @@ def most_work():
         yield make.__name__, "check", make(long.LENGTHS[-1]), b"yes entry 1\n"
     for what, text, answer in long.widest():
         yield what, "check", text, answer
+        yield what, "explain", text, b"entry 1 "
+        yield what, "reduce", text, b"entry 1 "
+    for what, tag in (("(*)", long.STAR), ("a", check.string("a"))):
+        for command, answer in (("check", b"no\n"), ("explain", b"entry 1 NotTheKey\n"), ("reduce", b"entry 1 (five ")):
+            yield f"ten {what} behind a large tag", command, long.behind_a_large_tag(10, tag), answer
     for make in convert.SHAPES:
         for command in convert.FORMS:
             yield make.__name__, command, make(MOST_OCTETS), b""
