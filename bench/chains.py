@@ -111,9 +111,10 @@ def widest():
     yield f"{certificates} sets of 999 nodes", by_keys(certificates, tag, asks=key("other")), b"no\n"
 
 
-def behind_a_large_tag(more, tag):
-    """An entry and a certificate with a tag of 998,001 nodes together, and so many certificates with this tag behind them."""
-    large = group(string("*"), string("set"), *[string("a")] * 999)
+def behind_a_large_tag(more, tag, octets=1):
+    """An entry and a certificate with a tag of 998,001 nodes together, strings of so many octets, and so many certificates with this
+    tag behind them."""
+    large = group(string("*"), string("set"), *[string("a" * octets)] * 999)
     keys = keys_of(more + 1)
     links = [(certificate(keys[0], keys[1], large), keys[0])]
     links += [(certificate(issuer, subject, tag), issuer) for issuer, subject in zip(keys[1:], keys[2:])]
@@ -154,6 +155,8 @@ def main():
     print(f"longest: {slowest:.2f} s (at most {LIMIT_SECONDS})")
     for what, took, memory in steps():
         print(f"a certificate for {what} behind a tag of 998,001 nodes: {took * 1000:.1f} ms, {memory:.1f} MiB")
+    memory = peak(PROGRAM, "check", behind_a_large_tag(0, STAR, 500))
+    print(f"a tag of 998,001 strings of 500 octets: {memory:.1f} MiB, which nothing bounds but the length of the text")
     decided, hashed = beside_openssl()
     print(f"a chain of three certificates: {decided * 1000:.2f} ms, openssl {hashed * 1000:.2f} ms, ratio {decided / hashed:.2f}")
     if worst > LIMIT_RATIO or slowest > LIMIT_SECONDS:

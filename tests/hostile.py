@@ -40,6 +40,8 @@ MOST_FAULTS = 20
 VALGRIND_STEP = 9
 MOST_ASKS = 2097152
 MOST_SECONDS, MOST_MEMORY = 10, 256
+# What a tag of 998,001 strings takes that are as long as a text has room for.
+LARGE_MEMORY = 640
 STACK = 256 * 1024
 MEMORY = (2, b"refused Memory\n", b"")
 WORDS_REFUSED = "no-entries.csexp"
@@ -290,13 +292,13 @@ def in_less_memory(program, example):
     return len(LIMITS), refusals, faults
 
 
-def fits(program, example):
+def fits(program, example, most=MOST_MEMORY):
     """One run of much work, within the time and the memory that there is."""
     ended = program.run(example.command, example.text)
     seconds, mebibytes = memory.used(program.path, example.command, example.text)
     print(f"{example.name:<40}{example.command:<10}{len(example.text):>9}{len(ended.out):>9}{seconds:>8.2f} s{mebibytes:>8.1f} MiB", flush=True)
     right = ended.status in (0, 1, 2) and ended.out.startswith(example.answer)
-    within = seconds <= MOST_SECONDS and mebibytes <= MOST_MEMORY
+    within = seconds <= MOST_SECONDS and mebibytes <= most
     return 1, 0, [] if right and within else [f"{example}: {ended}, {seconds:.2f} s, {mebibytes:.1f} MiB"]
 
 
@@ -392,6 +394,10 @@ def work():
     print(f"{'text':<40}{'command':<10}{'octets':>9}{'written':>9}{'time':>10}{'memory':>12}")
     for what, command, text, begins in most_work():
         yield fits, Example(what, command, text, begins)
+    long = bench("chains")
+    text = long.behind_a_large_tag(0, long.STAR, 500)
+    for command, begins in (("check", b"no\n"), ("explain", b"entry 1 NotTheKey\n")):
+        yield fits, Example("a large tag of long strings", command, text, begins), LARGE_MEMORY
 
 
 def under_valgrind():
