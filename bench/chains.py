@@ -111,14 +111,41 @@ def widest():
     yield f"{certificates} sets of 999 nodes", by_keys(certificates, tag, asks=key("other")), b"no\n"
 
 
-def behind_a_large_tag(more, tag, octets=1):
-    """An entry and a certificate with a tag of 998,001 nodes together, strings of so many octets, and so many certificates with this
-    tag behind them."""
-    large = group(string("*"), string("set"), *[string("a" * octets)] * 999)
+def a_set(member, members=999):
+    return group(string("*"), string("set"), *[member] * members)
+
+
+def behind_a_large_tag(more, tag):
+    """An entry and a certificate with a tag of 998,001 strings of one octet together, and so many certificates with this tag behind
+    them."""
+    large = a_set(string("a"))
     keys = keys_of(more + 1)
     links = [(certificate(keys[0], keys[1], large), keys[0])]
     links += [(certificate(issuer, subject, tag), issuer) for issuer, subject in zip(keys[1:], keys[2:])]
     return case([entry(keys[0], large)], links, asks=key("other"))
+
+
+def large_tags():
+    """Texts of nearly 1 MiB in which an entry and a certificate leave a tag of as many nodes, and of strings as long, as there may be."""
+    def made(one, other):
+        first, second = keys_of(1)
+        return case([entry(first, one)], [(certificate(first, second, other), first)], asks=key("other"))
+
+    strings = a_set(string("a" * 500))
+    yield "long strings", made(strings, strings)
+    prefixes = a_set(group(string("*"), string("prefix"), string("a" * 1000)))
+    ranges = a_set(group(string("*"), string("range"), string("alpha")))
+    yield "ranges of long prefixes", made(prefixes, ranges)
+    yield "long prefixes of ranges", made(ranges, prefixes)
+    low, up = string("a" * 230), string("b" * 230)
+    limited = a_set(group(string("*"), string("range"), string("alpha"), string("ge"), low, string("le"), up))
+    yield "ranges with long limits", made(limited, limited)
+    lists = a_set(group(string("a" * 1500), string("b")), 332)
+    yield "lists with long heads", made(lists, lists)
+    nested = string("b")
+    for _ in range(55):
+        nested = group(string("a"), nested)
+    yield "lists in lists", made(a_set(group(string("a")), 499), group(string("a"), *[nested] * 8))
 
 
 def steps():
@@ -147,19 +174,24 @@ def beside_openssl():
 def main():
     worst = grown()
     print(f"largest ratio for 4 times the certificates: {worst:.2f} (at most {LIMIT_RATIO})")
-    slowest = 0.0
+    slowest = most = 0.0
     for what, text, wanted in widest():
         took = run(text, wanted)
-        slowest = max(slowest, took)
-        print(f"{what}, {len(text)} octets: {took:.2f} s, {peak(PROGRAM, 'check', text):.1f} MiB")
+        memory = peak(PROGRAM, "check", text)
+        slowest, most = max(slowest, took), max(most, memory)
+        print(f"{what}, {len(text)} octets: {took:.2f} s, {memory:.1f} MiB")
     print(f"longest: {slowest:.2f} s (at most {LIMIT_SECONDS})")
     for what, took, memory in steps():
         print(f"a certificate for {what} behind a tag of 998,001 nodes: {took * 1000:.1f} ms, {memory:.1f} MiB")
-    memory = peak(PROGRAM, "check", behind_a_large_tag(0, STAR, 500))
-    print(f"a tag of 998,001 strings of 500 octets: {memory:.1f} MiB, which nothing bounds but the length of the text")
+        most = max(most, memory)
+    for what, text in large_tags():
+        memory = peak(PROGRAM, "check", text)
+        print(f"a large tag of {what}, {len(text)} octets: {memory:.1f} MiB")
+        most = max(most, memory)
     decided, hashed = beside_openssl()
     print(f"a chain of three certificates: {decided * 1000:.2f} ms, openssl {hashed * 1000:.2f} ms, ratio {decided / hashed:.2f}")
-    if worst > LIMIT_RATIO or slowest > LIMIT_SECONDS:
+    print(f"most memory: {most:.1f} MiB (at most {LIMIT_MEMORY})")
+    if worst > LIMIT_RATIO or slowest > LIMIT_SECONDS or most > LIMIT_MEMORY:
         sys.exit(1)
 
 

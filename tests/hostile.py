@@ -40,8 +40,6 @@ MOST_FAULTS = 20
 VALGRIND_STEP = 9
 MOST_ASKS = 2097152
 MOST_SECONDS, MOST_MEMORY = 10, 256
-# What a tag of 998,001 strings takes that are as long as a text has room for.
-LARGE_MEMORY = 640
 STACK = 256 * 1024
 MEMORY = (2, b"refused Memory\n", b"")
 WORDS_REFUSED = "no-entries.csexp"
@@ -187,6 +185,9 @@ def most_work():
     for what, tag in (("(*)", long.STAR), ("a", check.string("a"))):
         for command, answer in (("check", b"no\n"), ("explain", b"entry 1 NotTheKey\n"), ("reduce", b"entry 1 (five ")):
             yield f"ten {what} behind a large tag", command, long.behind_a_large_tag(10, tag), answer
+    for what, text in long.large_tags():
+        for command, answer in (("check", b"no\n"), ("explain", b"entry 1 NotTheKey\n")):
+            yield what, command, text, answer
     for make in convert.SHAPES:
         for command in convert.FORMS:
             yield make.__name__, command, make(MOST_OCTETS), b""
@@ -292,13 +293,13 @@ def in_less_memory(program, example):
     return len(LIMITS), refusals, faults
 
 
-def fits(program, example, most=MOST_MEMORY):
+def fits(program, example):
     """One run of much work, within the time and the memory that there is."""
     ended = program.run(example.command, example.text)
     seconds, mebibytes = memory.used(program.path, example.command, example.text)
     print(f"{example.name:<40}{example.command:<10}{len(example.text):>9}{len(ended.out):>9}{seconds:>8.2f} s{mebibytes:>8.1f} MiB", flush=True)
     right = ended.status in (0, 1, 2) and ended.out.startswith(example.answer)
-    within = seconds <= MOST_SECONDS and mebibytes <= most
+    within = seconds <= MOST_SECONDS and mebibytes <= MOST_MEMORY
     return 1, 0, [] if right and within else [f"{example}: {ended}, {seconds:.2f} s, {mebibytes:.1f} MiB"]
 
 
@@ -394,10 +395,6 @@ def work():
     print(f"{'text':<40}{'command':<10}{'octets':>9}{'written':>9}{'time':>10}{'memory':>12}")
     for what, command, text, begins in most_work():
         yield fits, Example(what, command, text, begins)
-    long = bench("chains")
-    text = long.behind_a_large_tag(0, long.STAR, 500)
-    for command, begins in (("check", b"no\n"), ("explain", b"entry 1 NotTheKey\n")):
-        yield fits, Example("a large tag of long strings", command, text, begins), LARGE_MEMORY
 
 
 def under_valgrind():

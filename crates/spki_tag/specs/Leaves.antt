@@ -1,5 +1,6 @@
 -- What a tag without members is seen as.
 use Rattle.std.specs.Prelude.{Option, Some, None}
+use Rattle.std.specs.Arc.{arc_slice_items}
 use Rattle.spki_tag.specs.declared.leaf.RangeOrdering.{RangeOrdering}
 use Rattle.spki_tag.specs.declared.leaf.RangeOrdering.TheVariants as orderings
 use Rattle.spki_tag.specs.declared.leaf.Limit as source
@@ -15,12 +16,12 @@ ordering_of orderings.Date = date
 
 abbrev pub limit_of : Option source.Limit → Option Limit
 limit_of None = None
-limit_of (Some limit) = Some (record { strict = limit.strict; octets = limit.octets.items })
+limit_of (Some limit) = Some (record { strict = limit.strict; octets = arc_slice_items limit.octets })
 
 abbrev pub leaf_tag : Leaf → Tag
 leaf_tag leaves.Star = star
-leaf_tag (leaves.String octets) = string octets.items
-leaf_tag (leaves.Prefix octets) = prefix octets.items
+leaf_tag (leaves.String octets) = string (arc_slice_items octets)
+leaf_tag (leaves.Prefix octets) = prefix octets
 leaf_tag (leaves.Range ordering low up) = range (ordering_of ordering) (limit_of low) (limit_of up)
 
 -- a tag without members, or (* set)

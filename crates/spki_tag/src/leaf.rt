@@ -6,7 +6,12 @@ ghost use Rattle.spki_tag.specs.Request.{Requests, string, list};
 ghost use Rattle.spki_tag.specs.Tag.{contains, is_ordered, is_within, is_above, is_below};
 
 use crate::moment::{is_date, is_time};
+use crate::prefix::Prefix;
 use std::alloc::AllocError;
+use std::sync::ArcSlice;
+
+/// Octets of a tag. The tags that an intersection leaves share those of the tags that it was made of.
+pub(crate) type SharedOctets = ArcSlice<u8>;
 
 /// Which strings a range holds at all.
 #[derive(Clone, Copy, Debug, PartialEq, Eq)]
@@ -23,7 +28,7 @@ pub(crate) enum RangeOrdering {
 #[derive(Debug, Drop)]
 pub(crate) struct Limit {
     pub(crate) strict: bool,
-    pub(crate) octets: Vec<u8>,
+    pub(crate) octets: SharedOctets,
 }
 
 /// A tag without members.
@@ -32,9 +37,9 @@ pub(crate) enum Leaf {
     /// `(*)`.
     Star,
     /// A string.
-    String(Vec<u8>),
+    String(SharedOctets),
     /// `(* prefix p)`.
-    Prefix(Vec<u8>),
+    Prefix(Prefix),
     /// `(* range ordering low? up?)`.
     Range(RangeOrdering, Option<Limit>, Option<Limit>),
 }
@@ -78,7 +83,7 @@ fn is_below(up: &Option<Limit>, octets: &[u8]) -> bool
     }
 }
 
-/// A copy of a limit.
+/// A copy of a limit, which shares its octets.
 pub(crate) fn copied_limit(limit: &Option<Limit>) -> Result<Option<Limit>, AllocError>
     ensures { IfOk result (λ copy. limit_of copy ≡ limit_of limit.now) }
 {
@@ -99,7 +104,7 @@ impl Leaf {
         match self {
             Leaf::Star => true,
             Leaf::String(wanted) => wanted.as_slice() == octets,
-            Leaf::Prefix(prefix) => octets.starts_with(prefix.as_slice()),
+            Leaf::Prefix(prefix) => octets.starts_with(prefix.octets()),
             Leaf::Range(ordering, low, up) => {
                 is_ordered(*ordering, octets) && is_above(low, octets) && is_below(up, octets)
             }
@@ -118,14 +123,14 @@ impl Leaf {
         }
     }
 
-    /// A copy.
+    /// A copy, which shares the octets.
     pub(crate) fn copy(&self) -> Result<Leaf, AllocError>
         ensures { IfOk result (λ copy. leaf_tag copy ≡ leaf_tag self.now) }
     {
         match self {
             Leaf::Star => Ok(Leaf::Star),
             Leaf::String(octets) => Ok(Leaf::String(octets.clone()?)),
-            Leaf::Prefix(octets) => Ok(Leaf::Prefix(octets.clone()?)),
+            Leaf::Prefix(prefix) => Ok(Leaf::Prefix(prefix.clone()?)),
             Leaf::Range(ordering, low, up) => Ok(Leaf::Range(
                 *ordering,
                 copied_limit(low)?,

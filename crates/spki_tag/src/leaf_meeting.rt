@@ -1,12 +1,14 @@
 //! The intersection of tags without members.
 
 ghost use Rattle.std.specs.Prelude.{◌≡◌, IfOk, option_map};
+ghost use Rattle.std.specs.Arc.{arc_slice_items};
 ghost use Rattle.spki_tag.specs.Leaves.{ordering_of, limit_of, leaf_tag, leaf_or_nothing};
 ghost use Rattle.spki_tag.specs.Meet.{greater_low, lesser_up, ordering_meet, ranged, prefixes_meet, string_meet, meet};
 
-use crate::leaf::{Leaf, Limit, RangeOrdering, copied_limit};
-use crate::limit_meeting::{below_others, exclude, from_string, greater_low, lesser_up};
-use std::alloc::{AllocError, Global};
+use crate::leaf::{Leaf, Limit, RangeOrdering, SharedOctets, copied_limit};
+use crate::limit_meeting::{exclude, greater_low, lesser_up};
+use crate::prefix::Prefix;
+use std::alloc::AllocError;
 
 /// The ordering of the strings that two orderings are of. Times and dates have none in common.
 fn common_ordering(one: RangeOrdering, other: RangeOrdering) -> Option<RangeOrdering>
@@ -69,10 +71,10 @@ fn meet_ranges(
 }
 
 /// A string, if a tag contains it.
-fn meet_string(octets: &Vec<u8>, other: &Leaf) -> Result<Option<Leaf>, AllocError>
-    ensures { IfOk result (λ r. leaf_or_nothing r ≡ string_meet octets.now.items (leaf_tag other.now)) }
+fn meet_string(octets: &SharedOctets, other: &Leaf) -> Result<Option<Leaf>, AllocError>
+    ensures { IfOk result (λ r. leaf_or_nothing r ≡ string_meet (arc_slice_items octets.now) (leaf_tag other.now)) }
 {
-    if other.holds(octets) {
+    if other.holds(octets.as_slice()) {
         Ok(Some(Leaf::String(octets.clone()?)))
     } else {
         Ok(None)
@@ -80,12 +82,12 @@ fn meet_string(octets: &Vec<u8>, other: &Leaf) -> Result<Option<Leaf>, AllocErro
 }
 
 /// The longer of two prefixes, if it starts with the shorter.
-fn meet_prefixes(one: &Vec<u8>, other: &Vec<u8>) -> Result<Option<Leaf>, AllocError>
-    ensures { IfOk result (λ r. leaf_or_nothing r ≡ prefixes_meet one.now.items other.now.items) }
+fn meet_prefixes(one: &Prefix, other: &Prefix) -> Result<Option<Leaf>, AllocError>
+    ensures { IfOk result (λ r. leaf_or_nothing r ≡ prefixes_meet one.now other.now) }
 {
-    if one.starts_with(other.as_slice()) {
+    if one.octets().starts_with(other.octets()) {
         Ok(Some(Leaf::Prefix(one.clone()?)))
-    } else if other.starts_with(one.as_slice()) {
+    } else if other.octets().starts_with(one.octets()) {
         Ok(Some(Leaf::Prefix(other.clone()?)))
     } else {
         Ok(None)
@@ -95,7 +97,7 @@ fn meet_prefixes(one: &Vec<u8>, other: &Vec<u8>) -> Result<Option<Leaf>, AllocEr
 impl Leaf {
     /// What two tags without members leave together, and nothing where that is `(* set)`. A prefix counts as the
     /// range of any strings from itself to below the least string above all that start with it.
-    pub(crate) fn meet(&self, alloc: Global, other: &Leaf) -> Result<Option<Leaf>, AllocError>
+    pub(crate) fn meet(&self, other: &Leaf) -> Result<Option<Leaf>, AllocError>
         ensures { IfOk result (λ r. leaf_or_nothing r ≡ meet (leaf_tag self.now) (leaf_tag other.now)) }
     {
         match self {
@@ -106,8 +108,8 @@ impl Leaf {
                 Leaf::String(octets) => meet_string(octets, self),
                 Leaf::Prefix(second) => meet_prefixes(prefix, second),
                 Leaf::Range(ordering, low, up) => {
-                    let from = from_string(alloc, prefix)?;
-                    let below = below_others(alloc, prefix)?;
+                    let from = prefix.from()?;
+                    let below = prefix.below()?;
                     meet_ranges(RangeOrdering::Alpha, &from, &below, *ordering, low, up)
                 }
             },
@@ -115,8 +117,8 @@ impl Leaf {
                 Leaf::Star => Ok(Some(self.copy()?)),
                 Leaf::String(octets) => meet_string(octets, self),
                 Leaf::Prefix(prefix) => {
-                    let from = from_string(alloc, prefix)?;
-                    let below = below_others(alloc, prefix)?;
+                    let from = prefix.from()?;
+                    let below = prefix.below()?;
                     meet_ranges(*ordering, low, up, RangeOrdering::Alpha, &from, &below)
                 }
                 Leaf::Range(second, second_low, second_up) => {

@@ -14,6 +14,7 @@ mod moment;
 mod narrowing;
 mod normal;
 mod parts;
+mod prefix;
 mod ranges;
 mod reading;
 mod request;

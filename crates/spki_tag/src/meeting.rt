@@ -1,6 +1,7 @@
 //! The intersection of tags (RFC 2693, section 6.3.1).
 
 ghost use Rattle.std.specs.Prelude.{◌≡◌, ◌+◌, ◌*◌, ◌<◌, ◌≤◌, ◌↔◌, ◌++◌, ◌&&◌, [], max, true, false, IfOk, OnOk, IsErrOf, MatchOption, All, length};
+ghost use Rattle.std.specs.Arc.{arc_slice_items};
 ghost use Rattle.spki_tag.specs.Request.{Request, IsRequest};
 ghost use Rattle.spki_tag.specs.Tag.{IsNormalTag, contains, each_normal, is_nothing, is_set_or_star, most_nodes, nodes, nodes_all, ldepth, list, tags};
 ghost use Rattle.spki_tag.specs.Meet.{meet, each_meet, pairs, row, gather, has_nothing};
@@ -9,6 +10,7 @@ ghost use Rattle.spki_tag.specs.Index.{tags_at};
 use crate::fault::MeetFault;
 use crate::form::has_set;
 use crate::index::Index;
+use crate::leaf::SharedOctets;
 use crate::parts::{leaf_or_nothing, push_copies, push_kept};
 use crate::tag::{Node, Tag};
 use std::alloc::{AllocError, Global};
@@ -43,7 +45,7 @@ fn meet_single(alloc: Global, one: &Tag, other: &Tag) -> Result<Tag, AllocError>
 {
     match &one.node {
         Node::Leaf(leaf) => match &other.node {
-            Node::Leaf(second) => Ok(leaf_or_nothing(alloc, leaf.meet(alloc, second)?)),
+            Node::Leaf(second) => Ok(leaf_or_nothing(alloc, leaf.meet(second)?)),
             Node::List(_, _) => Ok(Tag::nothing(alloc)),
             Node::Set(_) => unreachable!(),
         },
@@ -60,23 +62,23 @@ fn meet_single(alloc: Global, one: &Tag, other: &Tag) -> Result<Tag, AllocError>
 #[cycle(meet)]
 fn meet_lists(
     alloc: Global,
-    head: &[u8],
+    head: &SharedOctets,
     further: &[Tag],
-    other: &[u8],
+    other: &SharedOctets,
     others: &[Tag],
 ) -> Result<Tag, AllocError>
     requires bound { nodes_all (tags further.now) * nodes_all (tags others.now) ≤ most_nodes }
     requires one { each_normal is_nothing (tags further.now) ≡ true }
     requires other { each_normal is_nothing (tags others.now) ≡ true }
-    requires met { IsNormalTag (meet (list head.now (tags further.now)) (list other.now (tags others.now))) }
-    ensures { IfOk result (λ c. c ≡ meet (list head.now (tags further.now)) (list other.now (tags others.now))) }
+    requires met { IsNormalTag (meet (list (arc_slice_items head.now) (tags further.now)) (list (arc_slice_items other.now) (tags others.now))) }
+    ensures { IfOk result (λ c. c ≡ meet (list (arc_slice_items head.now) (tags further.now)) (list (arc_slice_items other.now) (tags others.now))) }
 {
-    if head != other {
+    if head.as_slice() != other.as_slice() {
         return Ok(Tag::nothing(alloc));
     }
     match meet_each(alloc, further, others)? {
         None => Ok(Tag::nothing(alloc)),
-        Some(members) => Ok(Tag::list(Vec::from_slice(alloc, head)?, members)),
+        Some(members) => Ok(Tag::list(head.clone()?, members)),
     }
 }
 

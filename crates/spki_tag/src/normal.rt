@@ -1,12 +1,14 @@
 //! Tags in normal form, which are made from the inside out.
 
 ghost use Rattle.std.specs.Prelude.{◌≡◌, ◌+◌, ◌≤◌, ◌++◌, IfOk, OnOk};
+ghost use Rattle.std.specs.Arc.{arc_slice_items};
 ghost use Rattle.spki_tag.specs.Request.{IsHead};
 ghost use Rattle.spki_tag.specs.Tag.{tags, list, set, nodes, most_nodes};
 ghost use Rattle.spki_tag.specs.NormalForm.{IsNormalOf, AreNormal};
 ghost use Rattle.spki_tag.specs.Index.{members as in_place};
 
 use crate::form::{has_everything, has_nothing};
+use crate::leaf::SharedOctets;
 use crate::tag::{Node, Tag};
 use std::alloc::{AllocError, Global};
 
@@ -44,11 +46,11 @@ impl Tag {
     }
 
     /// The list of a head and these tags in normal form: one with a member `(* set)` is `(* set)`.
-    pub(crate) fn list_of(head: Vec<u8>, further: Vec<Tag>) -> Tag
-        requires head { IsHead head.items }
-        requires room { nodes (list head.items (tags further.items)) ≤ most_nodes }
+    pub(crate) fn list_of(head: SharedOctets, further: Vec<Tag>) -> Tag
+        requires head { IsHead (arc_slice_items head) }
+        requires room { nodes (list (arc_slice_items head) (tags further.items)) ≤ most_nodes }
         requires normal { AreNormal further.items }
-        ensures { IsNormalOf (list head.items (tags further.items)) result }
+        ensures { IsNormalOf (list (arc_slice_items head) (tags further.items)) result }
     {
         if has_nothing(&further) {
             Tag::nothing(*further.allocator())

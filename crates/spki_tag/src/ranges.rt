@@ -12,6 +12,7 @@ use crate::fault::TagFault;
 use crate::leaf::{Leaf, Limit, RangeOrdering};
 use sexpr_core::reading::{Members, Node, NodeKind};
 use std::alloc::{AllocError, Global};
+use std::sync::ArcSlice;
 
 /// Whether a value is a string with a display hint.
 fn is_hinted(value: &Node<'_, '_>) -> bool
@@ -83,12 +84,12 @@ fn read_limit(
     if named == strict {
         Ok(Some(Limit {
             strict: true,
-            octets: Vec::from_slice(alloc, octets)?,
+            octets: ArcSlice::from_slice(alloc, octets)?,
         }))
     } else if named == inclusive {
         Ok(Some(Limit {
             strict: false,
-            octets: Vec::from_slice(alloc, octets)?,
+            octets: ArcSlice::from_slice(alloc, octets)?,
         }))
     } else {
         Ok(None)

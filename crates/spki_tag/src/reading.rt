@@ -11,11 +11,13 @@ ghost use Rattle.spki_tag.specs.Steps.{IsRead, AreRead, TagShowsAfter, TagsShowA
 
 use crate::fault::TagFault;
 use crate::leaf::Leaf;
+use crate::prefix::Prefix;
 use crate::ranges::read_range;
 use crate::tag::Tag;
 use sexpr_core::reading::{Members, Node, NodeKind};
 use sexpr_core::{Doc, NodeId};
 use std::alloc::Global;
+use std::sync::ArcSlice;
 
 /// The most nodes that a tag has where it is read.
 const MOST_READ: usize = 1024;
@@ -47,7 +49,7 @@ fn read_prefix(alloc: Global, further: Members<'_, '_>) -> Result<Leaf, TagFault
             match prefix.kind() {
                 NodeKind::List(_) => Err(TagFault::UnknownStar),
                 NodeKind::String { hint: None, body } => {
-                    Ok(Leaf::Prefix(Vec::from_slice(alloc, body)?))
+                    Ok(Leaf::Prefix(Prefix::of(alloc, body)?))
                 }
                 NodeKind::String { hint: Some(_), .. } => Err(TagFault::Hint),
             }
@@ -67,7 +69,7 @@ fn read_tag(alloc: Global, value: &Node<'_, '_>, used: usize) -> Result<(Tag, us
     match value.kind() {
         NodeKind::List(members) => read_list(alloc, members, used),
         NodeKind::String { hint: None, body } => Ok((
-            Tag::string(Vec::from_slice(alloc, body)?),
+            Tag::string(ArcSlice::from_slice(alloc, body)?),
             used + 1,
         )),
         NodeKind::String { hint: Some(_), .. } => Err(TagFault::Hint),
@@ -166,7 +168,7 @@ fn read_plain_list(
         return Err(TagFault::TooManyNodes);
     }
     let (members, after) = read_members(alloc, further, used + 2)?;
-    let octets = Vec::from_slice(alloc, head)?;
+    let octets = ArcSlice::from_slice(alloc, head)?;
     Ok((Tag::list_of(octets, members), after))
 }
 

@@ -1,11 +1,12 @@
 //! Tags.
 
 ghost use Rattle.std.specs.Prelude.{◌≡◌, ◌≤◌, IfOk};
+ghost use Rattle.std.specs.Arc.{arc_slice_items};
 ghost use Rattle.spki_tag.specs.Tag as spec;
 ghost use Rattle.spki_tag.specs.Leaves.{leaf_tag};
 ghost use Rattle.spki_tag.specs.Meet.{gather};
 
-use crate::leaf::Leaf;
+use crate::leaf::{Leaf, SharedOctets};
 use std::alloc::{AllocError, Global};
 use std::marker::Model;
 
@@ -20,7 +21,7 @@ pub struct Tag {
 #[derive(Debug, Drop)]
 pub(crate) enum Node {
     Leaf(Leaf),
-    List(Vec<u8>, Vec<Tag>),
+    List(SharedOctets, Vec<Tag>),
     Set(Vec<Tag>),
 }
 
@@ -65,8 +66,8 @@ impl Tag {
     }
 
     /// A string.
-    pub(crate) fn string(octets: Vec<u8>) -> Tag
-        ensures { result ≡ spec.string octets.items }
+    pub(crate) fn string(octets: SharedOctets) -> Tag
+        ensures { result ≡ spec.string (arc_slice_items octets) }
     {
         Tag {
             node: Node::Leaf(Leaf::String(octets)),
@@ -83,9 +84,9 @@ impl Tag {
     }
 
     /// A list of a head and further tags.
-    pub(crate) fn list(head: Vec<u8>, further: Vec<Tag>) -> Tag
-        requires { spec.IsNormalTag (spec.list head.items (spec.tags further.items)) }
-        ensures { result ≡ spec.list head.items (spec.tags further.items) }
+    pub(crate) fn list(head: SharedOctets, further: Vec<Tag>) -> Tag
+        requires { spec.IsNormalTag (spec.list (arc_slice_items head) (spec.tags further.items)) }
+        ensures { result ≡ spec.list (arc_slice_items head) (spec.tags further.items) }
     {
         Tag {
             node: Node::List(head, further),
@@ -135,7 +136,7 @@ fn nodes_of(members: &[Tag]) -> usize
     sum
 }
 
-/// A copy has the same value.
+/// A copy has the same value, and shares the octets of strings.
 impl Clone for Tag {
     ghost is_clone = { λ t u. u ≡ t };
 

@@ -81,9 +81,9 @@ fn write_leaf(alloc: Global, leaf: &Leaf) -> Result<Sexp, AllocError>
             Ok(Sexp::list(out))
         }
         Leaf::String(octets) => Sexp::plain(alloc, octets.as_slice()),
-        Leaf::Prefix(octets) => {
+        Leaf::Prefix(prefix) => {
             let mut out = starred(alloc, b"prefix")?;
-            out.push(Sexp::plain(alloc, octets.as_slice())?)?;
+            out.push(Sexp::plain(alloc, prefix.octets())?)?;
             Ok(Sexp::list(out))
         }
         Leaf::Range(ordering, low, up) => write_range(alloc, *ordering, low, up),

@@ -1,3 +1,4 @@
+use Rattle.std.specs.Arc.{arc_slice_items}
 use Rattle.std.proofs.Common.{◌≡◌, ◌∷◌, ◌++◌, [], map, refl, ap, ◌∙◌, arith}
 use Rattle.sexpr_core.specs.Value.{plain}
 use Rattle.sexpr_core.specs.Tree.{sexp_value}
@@ -9,12 +10,12 @@ use Rattle.spki_tag.proofs.+write.Goals as goal
 pub tag::Tag::write-returns-in_ok-push_each-in-List : goal.tag::Tag::write-returns-in_ok-push_each-in-List
 tag::Tag::write-returns-in_ok-push_each-in-List t c =
     let ts = c.in-List.further.items in
-    let head : map sexp_value c.push.new.self.items ≡ plain c.in-List.head.items ∷ [] =
+    let head : map sexp_value c.push.new.self.items ≡ plain (arc_slice_items c.in-List.head) ∷ [] =
     rw (c.in_ok-push-in-List.ensures.items, c.new-out.ensures.items, c.in_ok-plain-in-List.ensures, c.as_slice.ensures.value) refl in
     let out : map sexp_value c.push_each.new.out.items ≡ map sexp_value c.push.new.self.items ++ map tag_value ts =
     c.in_ok-push_each-in-List.ensures ∙ ap (λ us. map sexp_value c.push.new.self.items ++ map tag_value us) c.deref.ensures.value in
     rw (← c.self.view_is, c.in-List.is)
-    (list_written c.in-List.head.items ts (sexp_value c.list.result) (map sexp_value c.push.new.self.items) (map sexp_value c.push_each.new.out.items) c.list.ensures out head)
+    (list_written (arc_slice_items c.in-List.head) ts (sexp_value c.list.result) (map sexp_value c.push.new.self.items) (map sexp_value c.push_each.new.out.items) c.list.ensures out head)
 
 pub tag::Tag::write-returns-in_ok-push_each-in-Set : goal.tag::Tag::write-returns-in_ok-push_each-in-Set
 tag::Tag::write-returns-in_ok-push_each-in-Set t c =

@@ -1,3 +1,4 @@
+use Rattle.std.specs.Arc.{arc_slice_items}
 use Rattle.std.proofs.Common.{◌≡◌, ℕ, ◌+◌, ◌*◌, ◌≤◌, length, drop, List, [], ◌∷◌, ◌++◌, true, false, sym, ap, ◌∙◌, subst, arith, le_trans, get_or, append_assoc, true≢false, length-drop, ◌-◌}
 use Rattle.std.proofs.lemmas.Nat.{mul-le}
 use Rattle.std.proofs.lemmas.List.{take_all}
@@ -55,9 +56,9 @@ meet_members-loop-one-preserved t c =
 
 pub meet_single-meet_lists-requires : goal.meet_single-meet_lists-requires
 meet_single-meet_lists-requires t c =
-    let head = c.in-List.head.items in
+    let head = arc_slice_items c.in-List.head in
     let ts = c.in-List.further.items in
-    let other = c.in-List-node-2.second.items in
+    let other = arc_slice_items c.in-List-node-2.second in
     let us = c.in-List-node-2.others.items in
     let e : c.args.one.now ≡ list head (tags ts) = sym c.one.view_is ∙ ap node_tag c.in-List.is in
     let f : c.args.other.now ≡ list other (tags us) = sym c.other.view_is ∙ ap node_tag c.in-List-node-2.is in
@@ -66,7 +67,7 @@ meet_single-meet_lists-requires t c =
     (subst (λ n. IsNormalTag (node_tag n)) c.in-List-node-2.is c.other.invariant)
     (subst (λ a. nodes a * nodes (list other (tags us)) ≤ most_nodes) e
     (subst (λ b. nodes c.args.one.now * nodes b ≤ most_nodes) f c.requires.bound)) in
-    rw (c.deref.ensures.value, c.deref-in-List-node-2.ensures.value, c.deref-in-List-node-2-2.ensures.value, c.deref-in-List-node-2-3.ensures.value)
+    rw (c.deref.ensures.value, c.deref-in-List-node-2.ensures.value)
     (omega (arith, c.decreases, ap nodes e, ap nodes f), (m.bound, (m.one, (m.second, m.met))))
 
 pub meet_tags-meet_members-requires : goal.meet_tags-meet_members-requires

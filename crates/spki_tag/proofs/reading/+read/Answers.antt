@@ -58,7 +58,7 @@ read_plain_list-list_of-requires-clause-normal t c =
 pub read_plain_list-returns-clause-read : goal.read_plain_list-returns-clause-read
 read_plain_list-returns-clause-read t c =
     list_is_read c.args.used c.in_ok-members.after c.args.head.now c.args.further c.in_ok-members.members.items c.list_of.result c.requires.head c.in_ok-members.ensures.read
-    (rw c.in_ok-octets.ensures.items at c.list_of.ensures)
+    (rw c.in_ok-octets.ensures.ok at c.list_of.ensures)
 
 pub read_set-returns-in_err-members-clause-shows : goal.read_set-returns-in_err-members-clause-shows
 read_set-returns-in_err-members-clause-shows t c =

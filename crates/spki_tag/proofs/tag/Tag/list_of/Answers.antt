@@ -1,3 +1,4 @@
+use Rattle.std.specs.Arc.{arc_slice_items}
 use Rattle.std.proofs.Common.{◌≡◌, false, true, sym, ap, ◌∙◌}
 use Rattle.std.specs.List.{list_any}
 use Rattle.spki_tag.specs.Tag.{is_nothing}
@@ -8,10 +9,10 @@ pub list-requires : goal.list-requires
 list-requires c =
     let none : list_any is_nothing c.args.further.items ≡ false =
     ap (list_any is_nothing) (sym c.deref.ensures.value) ∙ sym c.if-has_nothing.ensures in
-    list_is_normal c.args.head.items c.args.further.items c.requires.head c.requires.normal none c.requires.room
+    list_is_normal (arc_slice_items c.args.head) c.args.further.items c.requires.head c.requires.normal none c.requires.room
 
 pub returns-then-has_nothing : goal.returns-then-has_nothing
 returns-then-has_nothing c =
     let some : list_any is_nothing c.args.further.items ≡ true =
     ap (list_any is_nothing) (sym c.deref.ensures.value) ∙ sym c.if-has_nothing.ensures in
-    rw c.nothing.ensures (nothing_of_list c.args.head.items c.args.further.items some)
+    rw c.nothing.ensures (nothing_of_list (arc_slice_items c.args.head) c.args.further.items some)

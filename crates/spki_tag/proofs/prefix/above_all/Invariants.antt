@@ -1,6 +1,6 @@
 use Rattle.std.proofs.Common.{◌≡◌, length}
 use Rattle.spki_tag.specs.Meet.{least_above}
-use Rattle.spki_tag.proofs.limit_meeting.below_others.Given as goal
+use Rattle.spki_tag.proofs.prefix.above_all.Given as goal
 
 abbrev pub invariant-loop-last : goal.invariant-loop-last
 invariant-loop-last l = least_above l.kept ≡ least_above l.fn.octets

@@ -1,0 +1,106 @@
+//! Prefixes, and the limits between which the strings are that start with one.
+
+ghost use Rattle.std.specs.Prelude.{◌≡◌, IfOk, option_map};
+ghost use Rattle.std.specs.Arc.{arc_slice_items};
+ghost use Rattle.spki_tag.specs.Leaves.{limit_of};
+ghost use Rattle.spki_tag.specs.Meet.{least_above, from, strict_limit};
+
+use crate::leaf::{Limit, SharedOctets};
+use std::alloc::{AllocError, Global};
+use std::marker::Model;
+use std::sync::ArcSlice;
+
+/// A prefix, with the least string above all that start with it, so that the ranges which it leaves share that too.
+#[derive(Debug, Drop)]
+pub(crate) struct Prefix {
+    octets: SharedOctets,
+    above: Option<SharedOctets>,
+}
+
+impl Model for Prefix {
+    ghost use Rattle.std.specs.Prelude.{◌≡◌, ℕ, List, option_map};
+    ghost use Rattle.std.specs.Arc.{arc_slice_items};
+    ghost use Rattle.spki_tag.specs.Meet.{least_above};
+
+    ghost Value = { List ℕ };
+
+    ghost view = { λ p. arc_slice_items p.octets };
+
+    ghost invariant = { λ p. option_map arc_slice_items p.above ≡ least_above (arc_slice_items p.octets) };
+}
+
+impl Prefix {
+    /// The prefix of these octets.
+    pub(crate) fn of(alloc: Global, octets: &[u8]) -> Result<Prefix, AllocError>
+        ensures { IfOk result (λ p. p ≡ octets.now) }
+    {
+        Ok(Prefix {
+            above: above_all(alloc, octets)?,
+            octets: ArcSlice::from_slice(alloc, octets)?,
+        })
+    }
+
+    /// Its octets.
+    pub(crate) fn octets(&self) -> &[u8]
+        ensures { result.now ≡ self.now }
+    {
+        self.octets.as_slice()
+    }
+
+    /// The limit that the strings which start with it are at least.
+    pub(crate) fn from(&self) -> Result<Option<Limit>, AllocError>
+        ensures { IfOk result (λ low. limit_of low ≡ from self.now) }
+    {
+        Ok(Some(Limit {
+            strict: false,
+            octets: self.octets.clone()?,
+        }))
+    }
+
+    /// The limit that the strings which start with it are below, none being lesser. There is none if the prefix has no
+    /// other octets than `FF`.
+    pub(crate) fn below(&self) -> Result<Option<Limit>, AllocError>
+        ensures { IfOk result (λ up. limit_of up ≡ strict_limit (least_above self.now)) }
+    {
+        match &self.above {
+            None => Ok(None),
+            Some(above) => Ok(Some(Limit {
+                strict: true,
+                octets: above.clone()?,
+            })),
+        }
+    }
+}
+
+/// A copy, which shares the octets.
+impl Clone for Prefix {
+    ghost is_clone = { λ p q. q ≡ p };
+
+    fn clone(&self) -> Result<Prefix, AllocError> {
+        let above = match &self.above {
+            None => None,
+            Some(above) => Some(above.clone()?),
+        };
+        Ok(Prefix {
+            octets: self.octets.clone()?,
+            above,
+        })
+    }
+}
+
+/// The least string above all that start with a string: the string without its last octets `FF`, the last octet then
+/// one greater. There is none if the string has no other octets.
+fn above_all(alloc: Global, octets: &[u8]) -> Result<Option<SharedOctets>, AllocError>
+    ensures { IfOk result (λ above. option_map arc_slice_items above ≡ least_above octets.now) }
+{
+    let mut kept = octets;
+    while let Some((last, front)) = kept.split_last() {
+        if *last < 0xff {
+            let mut above = Vec::from_slice(alloc, front)?;
+            above.push(*last + 1)?;
+            return Ok(Some(ArcSlice::from_vec(above)?));
+        }
+        kept = front;
+    }
+    Ok(None)
+}
