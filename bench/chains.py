@@ -126,7 +126,7 @@ def behind_a_large_tag(more, tag):
 
 
 def large_tags():
-    """Texts of nearly 1 MiB in which an entry and a certificate leave a tag of as many nodes, and of strings as long, as there may be."""
+    """Texts of at most 1 MiB in which an entry and a certificate leave a tag of as many nodes, or of strings as long, as there may be."""
     def made(one, other):
         first, second = keys_of(1)
         return case([entry(first, one)], [(certificate(first, second, other), first)], asks=key("other"))
