@@ -48,6 +48,10 @@ pub fn append_verbatim(octets: &[u8], out: &mut Vec<u8>) -> Result<(), AllocErro
     ensures written { OnOk result (out.new.items ≡ out.old.items ++ verbatim octets.now) }
     ensures kept { take (length out.old.items) out.new.items ≡ out.old.items }
 {
+    if let [octet] = octets {
+        out.extend_from_slice(&[b'1', b':', *octet])?;
+        return Ok(());
+    }
     append_length(octets.len(), out)?;
     out.push(b':')?;
     out.extend_from_slice(octets)?;
