@@ -122,6 +122,7 @@ fn write_gap(gap: Option<u8>, out: &mut Vec<u8>) -> Result<(), AllocError>
 }
 
 /// A string without display hint, from its first octet on.
+#[inline(always)]
 fn convert_string(
     alloc: Global,
     text: &[u8],
@@ -146,6 +147,7 @@ fn convert_string(
 }
 
 /// A token, from its first octet on, and where it has ended.
+#[inline(always)]
 fn convert_token(
     text: &[u8],
     at: usize,
@@ -175,8 +177,10 @@ fn write_token(form: Form, octets: &[u8], out: &mut Vec<u8>) -> Result<(), Alloc
     }
 }
 
-/// A value, from its first octet on. At most `room` lists may open in it.
+/// A value, from its first octet on. At most `room` lists may open in it. It is inlined, as what it calls for a token
+/// is, so that a member which is a token takes no call but that which writes it.
 #[cycle(converting)]
+#[inline(always)]
 fn convert_value(
     alloc: Global,
     text: &[u8],
