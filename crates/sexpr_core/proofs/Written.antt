@@ -26,6 +26,13 @@ verbatim_written octets out a b new e f g =
     ∙ append_assoc out (decimal (length octets) ++ 58 ∷ []) octets
     ∙ ap (λ s. out ++ s) (append_assoc (decimal (length octets)) (58 ∷ []) octets ∙ sym (verbatim_is octets))
 
+-- one octet alone
+pub one_written : (octets out new : List ℕ) → 1 ≤ length octets → length octets < 2 → new ≡ out ++ 49 ∷ 58 ∷ get_or octets 0 0 ∷ [] → new ≡ out ++ verbatim octets
+one_written [] out new some few e = absurd (omega arith)
+one_written (x ∷ []) out new some few e =
+    e ∙ ap (λ s. out ++ s) (sym (verbatim_is (x ∷ []) ∙ ap (λ s. s ++ 58 ∷ x ∷ []) (decimal_digit 1 (omega arith))))
+one_written (x ∷ y ∷ zs) out new some few e = absurd (omega arith)
+
 -- ---- lists
 
 pub nothing_written : (out : List ℕ) → out ≡ out ++ []

@@ -29,6 +29,18 @@ fn append_decimal(number: usize, out: &mut Vec<u8>) -> Result<(), AllocError>
     Ok(())
 }
 
+/// Puts a length behind what is written, in decimal. One of a single digit takes no recursion.
+fn append_length(octets: usize, out: &mut Vec<u8>) -> Result<(), AllocError>
+    ensures written { OnOk result (out.new.items ≡ out.old.items ++ decimal octets) }
+    ensures kept { take (length out.old.items) out.new.items ≡ out.old.items }
+{
+    if octets < 10 {
+        out.push(b'0' + octets as u8)?;
+        return Ok(());
+    }
+    append_decimal(octets, out)
+}
+
 /// Puts a string's verbatim form (RFC 9804, section 4.1) behind what is written: its length in decimal, a colon, its
 /// octets. Where memory is refused, a part of it may stand there; what stood before stays.
 #[tactic(auto, using(crate::proofs::Written::verbatim_written))]
@@ -36,7 +48,11 @@ pub fn append_verbatim(octets: &[u8], out: &mut Vec<u8>) -> Result<(), AllocErro
     ensures written { OnOk result (out.new.items ≡ out.old.items ++ verbatim octets.now) }
     ensures kept { take (length out.old.items) out.new.items ≡ out.old.items }
 {
-    append_decimal(octets.len(), out)?;
+    if let [octet] = octets {
+        out.extend_from_slice(&[b'1', b':', *octet])?;
+        return Ok(());
+    }
+    append_length(octets.len(), out)?;
     out.push(b':')?;
     out.extend_from_slice(octets)?;
     Ok(())

@@ -1,7 +1,8 @@
 -- What is printed behind other octets.
-use Rattle.std.proofs.Common.{◌≡◌, ℕ, suc, ◌+◌, ◌<◌, ◌≤◌, ◌==◌, ◌||◌, true, false, List, [], ◌∷◌, ◌++◌, length, map, take, get_or, Vec, Global, refl, sym, ap, ◌∙◌, append_assoc, append-nil, arith, inl, inr}
+use Rattle.std.proofs.Common.{◌≡◌, ℕ, suc, ◌+◌, ◌<◌, ◌≤◌, ◌==◌, ◌||◌, Bool, true, false, List, [], ◌∷◌, ◌++◌, length, map, take, get_or, Vec, Global, refl, sym, ap, ◌∙◌, append_assoc, append-nil, arith, inl, inr}
 use Rattle.std.proofs.lemmas.Bool.{cases_Bool}
 use Rattle.std.proofs.lemmas.List.{map-append, take_more, take_all, length-take-le, length-map}
+use Rattle.std.specs.List.{AllByRecursion}
 use Rattle.base64.specs.Engines.{standard}
 use Rattle.base64.specs.GeneralPurpose.{encode_of}
 use Rattle.sexpr_core.specs.declared.tree.Sexp.{Sexp}
@@ -9,6 +10,7 @@ use Rattle.sexpr_core.specs.declared.tree.Sexp.TheVariants.{List as Branch}
 use Rattle.sexpr_core.specs.Value.{Value, values}
 use Rattle.sexpr_core.specs.Tree.{sexp_value}
 use Rattle.sexpr_core.proofs.Written.{sexp_list}
+use Rattle.sexpr_text.specs.Strings.{is_token_octet, IsToken}
 use Rattle.sexpr_text.specs.Printed.{every, is_token, is_printable, quoted_body, printed_string, gap, adv, adv_all}
 
 quoted_cons : (c : ℕ) (cs ys : List ℕ) → quoted_body (cs ++ ys) ≡ quoted_body cs ++ quoted_body ys → quoted_body (c ∷ (cs ++ ys)) ≡ quoted_body (c ∷ cs) ++ quoted_body ys
@@ -31,6 +33,16 @@ quoted_more xs k d out mid new lt e f =
 pub printed_token : (octets : List ℕ) → is_token octets ≡ true → printed_string octets ≡ octets
 unfolding printed_string
 printed_token octets e = rw e refl
+
+every_all : (test : ℕ → Bool) (xs : List ℕ) → AllByRecursion (λ k. test k ≡ true) xs → every test xs ≡ true
+every_all test [] h = refl
+every_all test (c ∷ cs) h = rw h.0 (every_all test cs h.1)
+
+pub token_printed : (octets : List ℕ) → IsToken octets → printed_string octets ≡ octets
+token_printed [] h = absurd h
+token_printed (c ∷ cs) h =
+    let passes : is_token (c ∷ cs) ≡ true = rw h.0 (every_all is_token_octet (c ∷ cs) h.1) in
+    printed_token (c ∷ cs) passes
 
 pub printed_quoted : (octets : List ℕ) → is_token octets ≡ false → every is_printable octets ≡ true → printed_string octets ≡ 34 ∷ (quoted_body octets ++ 34 ∷ [])
 unfolding printed_string

@@ -1,6 +1,6 @@
 //! Texts, written in another form as they are read.
 
-ghost use Rattle.std.specs.Prelude.{◌≡◌, ℕ, List, ◌<◌, ◌≤◌, ◌↔◌, [], ◌∷◌, ◌++◌, length, drop, IfOk, IfErr, OnOk, IsErrOf, IsOkUnless};
+ghost use Rattle.std.specs.Prelude.{◌≡◌, ℕ, List, ◌<◌, ◌≤◌, ◌↔◌, [], ◌∷◌, ◌++◌, true, false, length, drop, IfOk, IfErr, OnOk, IsErrOf, IsOkUnless};
 ghost use Rattle.std.specs.Option.{option_to_list};
 ghost use Rattle.sexpr_core.specs.BraceRefusal.{RefusesBraces};
 ghost use Rattle.sexpr_core.specs.Prefix.{RefusesPart};
@@ -8,15 +8,16 @@ ghost use Rattle.sexpr_core.specs.Braces.{IsBracedWithin};
 ghost use Rattle.sexpr_core.specs.Reading.{StandsAt};
 ghost use Rattle.sexpr_core.specs.Value.{Value, Values, canon, IsWithinLimits};
 ghost use Rattle.sexpr_text.specs.Printed.{adv};
-ghost use Rattle.sexpr_text.specs.Reads.{ReadsValue, ValueAt, ReadsMembers, MembersAt, IsValueFault};
-ghost use Rattle.sexpr_text.specs.Stands.{ValueStands, MembersStand};
+ghost use Rattle.sexpr_text.specs.Reads.{ReadsString, StringAt, ReadsValue, ValueAt, ReadsMembers, MembersAt, IsValueFault};
+ghost use Rattle.sexpr_text.specs.Stands.{StringStands, ValueStands, MembersStand};
+ghost use Rattle.sexpr_text.specs.Strings.{is_digit, is_token_octet, IsToken};
 ghost use Rattle.sexpr_text.specs.Refusal.{RefusesSpelling, RefusesText};
 ghost use Rattle.sexpr_text.specs.Spelling.{IsSpelledWithin, IsTextWithin};
 ghost use Rattle.sexpr_text.specs.Written.{written, written_all, written_string, gap_of};
 
 use crate::hinted::read_hinted_string;
-use crate::printer::print_string;
-use crate::strings::read_string;
+use crate::printer::{print_string, stands_in_token};
+use crate::strings::{read_string, token_end};
 use crate::whole::opens_braces;
 use sexpr_core::reading::{append_verbatim, ended, octet_at, octets_in_braces, skip_spaces};
 use sexpr_core::{FormFault, MOST_LISTS, MOST_OCTETS};
@@ -120,8 +121,66 @@ fn write_gap(gap: Option<u8>, out: &mut Vec<u8>) -> Result<(), AllocError>
     Ok(())
 }
 
-/// A value, from its first octet on. At most `room` lists may open in it.
+/// A string without display hint, from its first octet on.
+#[inline(always)]
+fn convert_string(
+    alloc: Global,
+    text: &[u8],
+    at: usize,
+    first: u8,
+    form: Form,
+    out: &mut Vec<u8>,
+) -> Result<usize, FormFault>
+    requires short { length text.now ≤ 1048576 }
+    requires begins { StandsAt text.now at first }
+    ensures read { IfOk result (λ to. (octets : List ℕ) × ReadsString text.now at octets to
+        × (out.new.items ≡ out.old.items ++ written_string form octets)) }
+    ensures only { (octets rest : List ℕ) → StringAt text.now at octets rest → IsOkUnless result FormFault.Memory }
+    ensures refused { IfErr result (λ fault. RefusesPart (StringStands at) text.now at fault) }
+{
+    if stands_in_token(first) && !first.is_ascii_digit() {
+        return Ok(convert_token(text, at, first, form, out)?);
+    }
+    let string = read_string(alloc, text, at)?;
+    write_string(alloc, form, string.octets.as_slice(), out)?;
+    Ok(string.end)
+}
+
+/// A token, from its first octet on, and where it has ended.
+#[inline(always)]
+fn convert_token(
+    text: &[u8],
+    at: usize,
+    first: u8,
+    form: Form,
+    out: &mut Vec<u8>,
+) -> Result<usize, AllocError>
+    requires begins { StandsAt text.now at first }
+    requires other { is_digit first ≡ false }
+    requires token { is_token_octet first ≡ true }
+    ensures { IfOk result (λ to. (octets : List ℕ) × ReadsString text.now at octets to
+        × (out.new.items ≡ out.old.items ++ written_string form octets)) }
+{
+    let end = token_end(text, at, first);
+    write_token(form, &text[at..end], out)?;
+    Ok(end)
+}
+
+/// Puts the octets of a token behind what is written. In advanced form they stand as they are.
+fn write_token(form: Form, octets: &[u8], out: &mut Vec<u8>) -> Result<(), AllocError>
+    requires { IsToken octets.now }
+    ensures { OnOk result (out.new.items ≡ out.old.items ++ written_string form octets.now) }
+{
+    match form {
+        Form::Canonical => append_verbatim(octets, out),
+        Form::Advanced => out.extend_from_slice(octets),
+    }
+}
+
+/// A value, from its first octet on. At most `room` lists may open in it. It is inlined, as what it calls for a token
+/// is, so that a member which is a token takes no call but that which writes it.
 #[cycle(converting)]
+#[inline(always)]
 fn convert_value(
     alloc: Global,
     text: &[u8],
@@ -141,11 +200,7 @@ fn convert_value(
         None => Err(FormFault::Short),
         Some(b'(') => convert_list(alloc, text, at, room, form, out),
         Some(b'[') => convert_hinted(alloc, text, at, form, out),
-        Some(_) => {
-            let string = read_string(alloc, text, at)?;
-            write_string(alloc, form, string.octets.as_slice(), out)?;
-            Ok(string.end)
-        }
+        Some(octet) => convert_string(alloc, text, at, octet, form, out),
     }
 }
 

@@ -25,17 +25,18 @@ pub fn print_advanced(alloc: Global, tree: &Sexp) -> Result<Vec<u8>, AllocError>
     Ok(out)
 }
 
-/// Whether an octet may stand in a token: a letter, a digit, or one of `- . / _ : * + =`.
+/// Whether an octet may stand in a token: a letter, a digit, or one of `- . / _ : * + =`. Letters, of which there are
+/// most, are told by the fewest comparisons.
 pub fn stands_in_token(octet: u8) -> bool
     ensures { result ≡ is_token_octet octet }
 {
-    octet.is_ascii_lowercase()
-        || octet.is_ascii_uppercase()
-        || (octet >= b'-' && octet <= b':')
-        || octet == b'*'
-        || octet == b'+'
-        || octet == b'='
-        || octet == b'_'
+    if octet >= b'a' {
+        return octet <= b'z';
+    }
+    if octet >= b'A' {
+        return octet <= b'Z' || octet == b'_';
+    }
+    (octet >= b'*' && octet <= b':' && octet != b',') || octet == b'='
 }
 
 fn all_in_token(octets: &[u8]) -> bool

@@ -96,7 +96,7 @@ fn read_token<'t>(text: &'t [u8], at: usize, first: u8) -> ReadString<'t>
 }
 
 /// Where a token has ended.
-fn token_end(text: &[u8], at: usize, first: u8) -> usize
+pub(crate) fn token_end(text: &[u8], at: usize, first: u8) -> usize
     requires begins { StandsAt text.now at first }
     requires other { is_digit first ≡ false }
     requires token { is_token_octet first ≡ true }

@@ -49,12 +49,10 @@ pub convert_members-returns-clause-only : goal.convert_members-returns-clause-on
 convert_members-returns-clause-only t c = λ vs rest h.
     absurd (no_members_end _ _ _ _ _ vs rest c.loop-octet.invariant.read c.in_default.ensures h)
 
-pub convert_value-returns-in_err-string-in-Some-clause-only : goal.convert_value-returns-in_err-string-in-Some-clause-only
-convert_value-returns-in_err-string-in-Some-clause-only t c =
-    let p = err_from_is_err_and c.from_residual.result c.from_residual.ensures.1 in
-    rw (p.1, p.2) (λ v rest h.
-    let string = string_at _ _ _ _ v rest c.in-Some.ensures c.in-Some.field-0-test.0.1 c.in-Some.field-0-test.1 h in
-    c.in_err-string-in-Some.ensures.only string.0 rest string.1)
+pub convert_value-returns-in-Some-clause-only : goal.convert_value-returns-in-Some-clause-only
+convert_value-returns-in-Some-clause-only t c = λ v rest h.
+    let string = string_at _ _ _ _ v rest c.in-Some.ensures c.in-Some.octet-test.0.1 c.in-Some.octet-test.1 h in
+    c.convert_string.ensures.only string.0 rest string.1
 
 pub convert_value-returns-in-None-clause-only : goal.convert_value-returns-in-None-clause-only
 convert_value-returns-in-None-clause-only t c = λ v rest h. absurd (no_value _ _ _ v rest c.in-None.ensures h)
@@ -66,19 +64,18 @@ convert_value-returns-in-Some-eq91-clause-read t c =
 pub convert_value-returns-in-Some-eq91-clause-only : goal.convert_value-returns-in-Some-eq91-clause-only
 convert_value-returns-in-Some-eq91-clause-only t c = λ v rest h. c.convert_hinted.ensures.only c.args.room v rest h
 
-pub convert_value-returns-in_ok-write_string-in-Some-clause-read : goal.convert_value-returns-in_ok-write_string-in-Some-clause-read
-convert_value-returns-in_ok-write_string-in-Some-clause-read t c =
-    string_converted _ _ _ _ c.args.form _ _ _ c.in_ok-string-in-Some.ensures.read
-    (rw c.as_slice.ensures.value at c.in_ok-write_string-in-Some.ensures)
+pub convert_value-returns-in-Some-clause-read : goal.convert_value-returns-in-Some-clause-read
+convert_value-returns-in-Some-clause-read t c =
+    IfOk-weaker c.convert_string.result _ _ (λ to p. string_converted _ _ _ _ c.args.form p.0 _ _ p.1 p.2) c.convert_string.ensures.read
 
 pub convert_list-returns-clause-refused : goal.convert_list-returns-clause-refused
 convert_list-returns-clause-refused t c =
     IfErr-weaker c.convert_members.result _ _ (λ fault h. members_missed _ _ _ fault c.requires.begins (omega arith) h) c.convert_members.ensures.refused
 
-pub convert_value-returns-in_err-string-in-Some-clause-refused : goal.convert_value-returns-in_err-string-in-Some-clause-refused
-convert_value-returns-in_err-string-in-Some-clause-refused t c =
-    let p = err_from_is_err_and c.from_residual.result c.from_residual.ensures.1 in
-    rw (p.1, p.2) (string_missed _ _ _ _ _ c.in-Some.ensures c.in-Some.field-0-test.0.1 c.in-Some.field-0-test.1 c.in_err-string-in-Some.ensures.refused)
+pub convert_value-returns-in-Some-clause-refused : goal.convert_value-returns-in-Some-clause-refused
+convert_value-returns-in-Some-clause-refused t c =
+    IfErr-weaker c.convert_string.result _ _
+    (λ fault h. string_missed _ _ _ _ fault c.in-Some.ensures c.in-Some.octet-test.0.1 c.in-Some.octet-test.1 h) c.convert_string.ensures.refused
 
 pub convert_value-returns-in-Some-eq91-clause-refused : goal.convert_value-returns-in-Some-eq91-clause-refused
 convert_value-returns-in-Some-eq91-clause-refused t c = IfErr-weaker c.convert_hinted.result _ _ (λ fault h. part_fault _ _ _ _ fault h) c.convert_hinted.ensures.refused
