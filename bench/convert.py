@@ -20,7 +20,7 @@ PEER = "sexp-conv"
 FORMS = ("canonical", "advanced", "transport")
 SIZES = [64 * 1024, 256 * 1024, 1024 * 1024]
 RUNS = 7
-LIMIT_PEER = 1.0
+LIMIT_PEER = 0.5
 LIMIT_RATIO = 5.0
 LIMIT_MEMORY = 256
 

@@ -8,7 +8,7 @@ use std::process::Abort;
 pub type Row<'a> = (Command, &'a str, Status, &'a str);
 
 /// Runs a command on a text in memory, and looks at the status and at all that was written.
-pub fn replies(
+pub(crate) fn replies(
     rt: &impl Abort,
     alloc: Global,
     command: Command,
@@ -25,7 +25,7 @@ pub fn replies(
 }
 
 /// Runs each row of a table.
-pub fn all_reply(rt: &impl Abort, alloc: Global, rows: &[Row]) {
+pub(crate) fn all_reply(rt: &impl Abort, alloc: Global, rows: &[Row]) {
     for (command, text, status, output) in rows {
         replies(
             rt,

@@ -22,14 +22,19 @@ pub const FIRST_RUN_IN_BRACES: &str =
     "{KDQ6Y2FzZSgzOmFjbCg1OmVudHJ5KDEwOnB1YmxpYy1rZXkoNDp0ZXN0MTphKSkoMzp0YWcoMzpmdHA0Omhvc3QpKSkpKDg6YWNjZXB0ZWQpKDg6c2VxdWVuY2Up\nKDM6a2V5KDEwOnB1YmxpYy1rZXkoNDp0ZXN0MTphKSkpKDc6cmVxdWVzdCgzOmZ0cDQ6aG9zdDM6ZGlyKSkoMjphdDE5OjIwMjQtMDEtMDFfMDA6MDA6MDApKQ==}";
 
 /// The case of KA with these entries, without certificates.
-pub fn case(alloc: Global, entries: &str, request: &str, at: &str) -> Result<String, AllocError> {
+pub(crate) fn case(
+    alloc: Global,
+    entries: &str,
+    request: &str,
+    at: &str,
+) -> Result<String, AllocError> {
     format!(in alloc;
         "(case (acl {entries}) (accepted) (sequence) (key (public-key (test a))) (request {request}) (at \"{at}\"))"
     )
 }
 
 /// The number of a document's value, which the document has.
-pub fn root_of(rt: &impl Abort, document: &Doc) -> NodeId
+pub(crate) fn root_of(rt: &impl Abort, document: &Doc) -> NodeId
     ensures { IsSome (node document.now result.0) }
 {
     let root = document.root();

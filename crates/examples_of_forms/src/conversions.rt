@@ -37,7 +37,7 @@ const BRACED: &[(&[u8], &[u8])] = &[
 ];
 
 /// The canonical form of what a text spells.
-pub fn spelled(alloc: Global, text: &[u8]) -> Result<Vec<u8>, FormFault> {
+pub(crate) fn spelled(alloc: Global, text: &[u8]) -> Result<Vec<u8>, FormFault> {
     let tree = read_advanced(alloc, text)?;
     Ok(encode(alloc, &tree)?)
 }
@@ -49,7 +49,7 @@ fn read(alloc: Global, text: &[u8]) -> Result<Vec<u8>, FormFault> {
 }
 
 /// The canonical form of what a text braces.
-pub fn braced(alloc: Global, text: &[u8]) -> Result<Vec<u8>, FormFault> {
+pub(crate) fn braced(alloc: Global, text: &[u8]) -> Result<Vec<u8>, FormFault> {
     let tree = unwrap_braces(alloc, text)?;
     Ok(encode(alloc, &tree)?)
 }

@@ -69,7 +69,7 @@ const BRACES: &[(&[u8], FormFault)] = &[
 ];
 
 /// Whether both readers of canonical form refuse a text by this fault.
-pub fn is_refused_in_canonical_form(alloc: Global, text: &[u8], fault: FormFault) -> bool {
+pub(crate) fn is_refused_in_canonical_form(alloc: Global, text: &[u8], fault: FormFault) -> bool {
     match (decode(alloc, text), Doc::open(alloc, text)) {
         (Err(met), Err(same)) => met == fault && same == fault,
         _ => false,
@@ -77,7 +77,7 @@ pub fn is_refused_in_canonical_form(alloc: Global, text: &[u8], fault: FormFault
 }
 
 /// Whether a text that doesn't begin with a brace is refused by this fault.
-pub fn is_refused(alloc: Global, text: &[u8], fault: FormFault) -> bool {
+pub(crate) fn is_refused(alloc: Global, text: &[u8], fault: FormFault) -> bool {
     match (read_advanced(alloc, text), read_any(alloc, text)) {
         (Err(met), Err(same)) => met == fault && same == fault,
         _ => false,
@@ -85,7 +85,7 @@ pub fn is_refused(alloc: Global, text: &[u8], fault: FormFault) -> bool {
 }
 
 /// Whether a text is refused by this fault as transport form.
-pub fn is_refused_in_braces(alloc: Global, text: &[u8], fault: FormFault) -> bool {
+pub(crate) fn is_refused_in_braces(alloc: Global, text: &[u8], fault: FormFault) -> bool {
     match unwrap_braces(alloc, text) {
         Err(met) => met == fault,
         Ok(_) => false,

@@ -66,7 +66,7 @@ pub const DEFINITION: Given = Given {
 };
 
 /// The key with this text.
-pub fn key(alloc: Global, text: &'static [u8]) -> Result<Key<'static>, Fail> {
+pub(crate) fn key(alloc: Global, text: &'static [u8]) -> Result<Key<'static>, Fail> {
     let document = Doc::open(alloc, text)?;
     Ok(key_of(&document.top())?)
 }
@@ -78,7 +78,7 @@ fn tag(alloc: Global, text: &[u8]) -> Result<Tag, Fail> {
 }
 
 /// The moment that this text writes.
-pub fn date(alloc: Global, text: &[u8]) -> Result<Date, Fail> {
+pub(crate) fn date(alloc: Global, text: &[u8]) -> Result<Date, Fail> {
     let document = Doc::open(alloc, text)?;
     Ok(date_of(&document.top())?)
 }
@@ -116,12 +116,12 @@ fn issuer(alloc: Global, given: &Given) -> Result<Issuer<'static>, Fail> {
 }
 
 /// The authorization that is given.
-pub fn five(alloc: Global, given: &Given) -> Result<Five<'static>, Fail> {
+pub(crate) fn five(alloc: Global, given: &Given) -> Result<Five<'static>, Fail> {
     five_for(alloc, given, given.tag)
 }
 
 /// The authorization that is given, but for the tag with another text.
-pub fn five_for(alloc: Global, given: &Given, text: &[u8]) -> Result<Five<'static>, Fail> {
+pub(crate) fn five_for(alloc: Global, given: &Given, text: &[u8]) -> Result<Five<'static>, Fail> {
     Ok(Five {
         issuer: issuer(alloc, given)?,
         window: window(alloc, given)?,
@@ -132,7 +132,7 @@ pub fn five_for(alloc: Global, given: &Given, text: &[u8]) -> Result<Five<'stati
 }
 
 /// The definition that is given.
-pub fn four(alloc: Global, given: &Given) -> Result<Four<'static>, Fail> {
+pub(crate) fn four(alloc: Global, given: &Given) -> Result<Four<'static>, Fail> {
     Ok(Four {
         key: key(alloc, given.issuer.unwrap_or(KA))?,
         name: Octets::new(given.name.unwrap_or(b"")),
@@ -149,7 +149,7 @@ fn step(alloc: Global, given: &Given) -> Result<Step<'static>, Fail> {
 }
 
 /// The steps that are given.
-pub fn steps(alloc: Global, given: &[Given]) -> Result<Vec<Step<'static>>, Fail> {
+pub(crate) fn steps(alloc: Global, given: &[Given]) -> Result<Vec<Step<'static>>, Fail> {
     let mut steps = Vec::new(alloc);
     for one in given {
         steps.push(step(alloc, one)?)?;
@@ -158,7 +158,7 @@ pub fn steps(alloc: Global, given: &[Given]) -> Result<Vec<Step<'static>>, Fail>
 }
 
 /// Whether a subject is a key with these names behind it.
-pub fn is_subject(subject: &Subject, key: &[u8], names: &[&[u8]]) -> bool {
+pub(crate) fn is_subject(subject: &Subject, key: &[u8], names: &[&[u8]]) -> bool {
     let same_key = match &subject.principal {
         Principal::Key(octets) => octets.as_slice() == key,
         Principal::Hash { .. } => false,

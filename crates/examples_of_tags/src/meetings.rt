@@ -73,7 +73,7 @@ fn met_in_place(rt: &impl Abort, alloc: Global, one: &[u8], other: &[u8]) -> Res
 }
 
 /// Meets the tags of each row of a table, in both ways.
-pub fn all_meet(rt: &impl Abort, alloc: Global, rows: &[Row]) -> Result<(), Fail> {
+pub(crate) fn all_meet(rt: &impl Abort, alloc: Global, rows: &[Row]) -> Result<(), Fail> {
     for (one, other, both) in rows {
         let left = met(rt, alloc, one, other)?;
         assert!(rt; left.as_slice() == *both, "{one:?} {other:?}");

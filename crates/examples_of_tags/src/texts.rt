@@ -10,7 +10,7 @@ use std::process::Abort;
 use std::test::Fail;
 
 /// The number of a document's value, which the document has.
-pub fn root_of(rt: &impl Abort, document: &Doc) -> NodeId
+pub(crate) fn root_of(rt: &impl Abort, document: &Doc) -> NodeId
     ensures { IsSome (node document.now result.0) }
 {
     let root = document.root();
@@ -24,18 +24,18 @@ fn whole(rt: &impl Abort, alloc: Global, document: &Doc) -> Result<Tag, TagFault
 }
 
 /// The tag with this text.
-pub fn tag_of(rt: &impl Abort, alloc: Global, text: &[u8]) -> Result<Tag, Fail> {
+pub(crate) fn tag_of(rt: &impl Abort, alloc: Global, text: &[u8]) -> Result<Tag, Fail> {
     let document = Doc::open(alloc, text)?;
     Ok(whole(rt, alloc, &document)?)
 }
 
 /// The text of a tag.
-pub fn text_of(alloc: Global, tag: &Tag) -> Result<Vec<u8>, AllocError> {
+pub(crate) fn text_of(alloc: Global, tag: &Tag) -> Result<Vec<u8>, AllocError> {
     encode(alloc, &tag.write(alloc)?)
 }
 
 /// The octets in front, so many times the octets in the middle, a closing parenthesis.
-pub fn list_of(
+pub(crate) fn list_of(
     alloc: Global,
     front: &[u8],
     middle: &[u8],

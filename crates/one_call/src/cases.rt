@@ -34,18 +34,18 @@ const WITH_SET: &[u8] =
 const WITH_X: &[u8] =
     b"(4:cert(6:issuer(10:public-key(4:test1:a)))(7:subject(10:public-key(4:test1:b)))(3:tag1:x))";
 
-pub fn case_read(alloc: Global) -> Result<bool, Missed> {
+pub(crate) fn case_read(alloc: Global) -> Result<bool, Missed> {
     let case = Case::read(alloc, FIRST_RUN)?;
     Ok(case.acl.len() == 1 && case.sequence.is_empty())
 }
 
-pub fn decide(alloc: Global) -> Result<bool, Missed> {
+pub(crate) fn decide(alloc: Global) -> Result<bool, Missed> {
     let case = Case::read(alloc, FIRST_RUN)?;
     let decision = spki_guard::decide(alloc, &case, case.accepted())?;
     Ok(decision == Decision::Yes(1))
 }
 
-pub fn explain(alloc: Global) -> Result<bool, Missed> {
+pub(crate) fn explain(alloc: Global) -> Result<bool, Missed> {
     let case = Case::read(alloc, SHORTER)?;
     match spki_guard::explain(alloc, &case, case.accepted())? {
         Explanation::Entries(reasons) => Ok(reasons.as_slice() == [Reason::TagLacks].as_slice()),
@@ -72,7 +72,7 @@ fn reduced_sets(alloc: Global, certificate: &[u8]) -> Result<Vec<u8>, Missed> {
     Ok(text)
 }
 
-pub fn reduce_case(alloc: Global) -> Result<bool, Missed> {
+pub(crate) fn reduce_case(alloc: Global) -> Result<bool, Missed> {
     let text = reduced_sets(alloc, WITH_SET)?;
     let case = Case::read(alloc, &text)?;
     let reduced = match spki_guard::reduce_case(alloc, &case, case.accepted())? {
@@ -105,7 +105,7 @@ fn is_stopped(folds: &[EntryFold]) -> bool {
     }
 }
 
-pub fn run(alloc: Global) -> Result<bool, Missed> {
+pub(crate) fn run(alloc: Global) -> Result<bool, Missed> {
     let mut reader = Metered::new(FIRST_RUN);
     let mut writer = Metered::new(Vec::with_capacity(alloc, 64)?);
     let status = spki_guard::run(alloc, Command::Check, &mut reader, &mut writer);

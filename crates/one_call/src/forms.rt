@@ -17,7 +17,7 @@ const BRACES: &[u8] = b"{KDE6YSk=}";
 const UNPACKED: &[u8] = b"(1:a)";
 
 /// `canonical-faults`: `[1:x](1:a)` is Bad(5), and `3:abcd` is Trailing(5).
-pub fn decode(alloc: Global) -> Result<bool, Missed> {
+pub(crate) fn decode(alloc: Global) -> Result<bool, Missed> {
     Ok(
         refuses(alloc, b"[1:x](1:a)", FormFault::Bad(5))?
             && refuses(alloc, b"3:abcd", FormFault::Trailing(5))?
@@ -34,38 +34,38 @@ fn refuses(alloc: Global, text: &[u8], fault: FormFault) -> Result<bool, Missed>
     }
 }
 
-pub fn encode(alloc: Global) -> Result<bool, Missed> {
+pub(crate) fn encode(alloc: Global) -> Result<bool, Missed> {
     let tree = sexpr_core::decode(alloc, CANONICAL)?;
     let octets = sexpr_core::encode(alloc, &tree)?;
     Ok(octets.as_slice() == CANONICAL)
 }
 
-pub fn read_any(alloc: Global) -> Result<bool, Missed> {
+pub(crate) fn read_any(alloc: Global) -> Result<bool, Missed> {
     let tree = sexpr_text::read_any(alloc, WRITTEN)?;
     let octets = sexpr_core::encode(alloc, &tree)?;
     Ok(octets.as_slice() == CANONICAL)
 }
 
-pub fn print_advanced(alloc: Global) -> Result<bool, Missed> {
+pub(crate) fn print_advanced(alloc: Global) -> Result<bool, Missed> {
     let tree = sexpr_core::decode(alloc, CANONICAL)?;
     let text = sexpr_text::print_advanced(alloc, &tree)?;
     Ok(text.as_slice() == PRINTED)
 }
 
-pub fn wrap(alloc: Global) -> Result<bool, Missed> {
+pub(crate) fn wrap(alloc: Global) -> Result<bool, Missed> {
     let tree = sexpr_core::decode(alloc, UNPACKED)?;
     let text = sexpr_core::wrap(alloc, &tree)?;
     Ok(text.as_slice() == BRACES)
 }
 
-pub fn unwrap_braces(alloc: Global) -> Result<bool, Missed> {
+pub(crate) fn unwrap_braces(alloc: Global) -> Result<bool, Missed> {
     let tree = sexpr_core::unwrap_braces(alloc, BRACES)?;
     let octets = sexpr_core::encode(alloc, &tree)?;
     Ok(octets.as_slice() == UNPACKED)
 }
 
 /// `document-nodes`: the root of `(1:a(1:b))` has two parts, and node 1 is `a`.
-pub fn doc_open(alloc: Global) -> Result<bool, Missed> {
+pub(crate) fn doc_open(alloc: Global) -> Result<bool, Missed> {
     let document = Doc::open(alloc, b"(1:a(1:b))")?;
     let root = document.root();
     let Some(first) = document.part(root, 0) else {
@@ -75,7 +75,7 @@ pub fn doc_open(alloc: Global) -> Result<bool, Missed> {
 }
 
 /// `advanced-faults`: `|ZQ=|` is the string `e`, and `"\a\?"` is the two octets 07 3F.
-pub fn read_advanced(alloc: Global) -> Result<bool, Missed> {
+pub(crate) fn read_advanced(alloc: Global) -> Result<bool, Missed> {
     let one = sexpr_text::read_advanced(alloc, b"|ZQ=|")?;
     let other = sexpr_text::read_advanced(alloc, b"\"\\a\\?\"")?;
     let one = sexpr_core::encode(alloc, &one)?;

@@ -9,7 +9,7 @@ use std::alloc::Global;
 pub const KA: &[u8] = b"(10:public-key(4:test1:a))";
 
 /// `refused-forms`: an entry whose subject is `(k-of-n ..)` is Threshold, and one for `(name bob)` RelativeInEntry.
-pub fn read_acl(alloc: Global) -> Result<bool, Missed> {
+pub(crate) fn read_acl(alloc: Global) -> Result<bool, Missed> {
     let threshold =
         b"(3:acl(5:entry(6:k-of-n1:11:2(10:public-key(4:test1:a))(10:public-key(4:test1:b)))(3:tag(1:*))))";
     let relative =
@@ -44,7 +44,7 @@ const CERTIFICATE: &[u8] =
     b"(4:cert(6:issuer(10:public-key(4:test1:a)))(7:subject(10:public-key(4:test1:b)))(3:tag(1:*)))";
 
 /// `sequence-order`: a certificate alone is UnsignedCert, with its signature it is read, and a second one is StraySignature.
-pub fn read_sequence(alloc: Global) -> Result<bool, Missed> {
+pub(crate) fn read_sequence(alloc: Global) -> Result<bool, Missed> {
     Ok(
         refuses_sequence(alloc, 0, 1, CertFaultKind::UnsignedCert)?
             && is_read(alloc)?
@@ -101,7 +101,7 @@ fn refuses_sequence(
 }
 
 /// `keys-and-dates`: KA is the key with its octets.
-pub fn read_key(alloc: Global) -> Result<bool, Missed> {
+pub(crate) fn read_key(alloc: Global) -> Result<bool, Missed> {
     let document = Doc::open(alloc, KA)?;
     let root = document.root();
     if document.node(root).is_none() {
@@ -112,7 +112,7 @@ pub fn read_key(alloc: Global) -> Result<bool, Missed> {
 }
 
 /// `hash-issuer`: `(hash sha256 H(KA))` is read with its digest.
-pub fn read_hash(alloc: Global) -> Result<bool, Missed> {
+pub(crate) fn read_hash(alloc: Global) -> Result<bool, Missed> {
     let mut text = Vec::from_slice(alloc, b"(4:hash6:sha25632:")?;
     text.extend_from_slice(Sha256::digest(KA).as_slice())?;
     text.push(b')')?;

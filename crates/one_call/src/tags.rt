@@ -26,7 +26,7 @@ fn refuses(alloc: Global, text: &[u8], fault: TagFault) -> Result<bool, Missed> 
 }
 
 /// `tag-faults`: `((a) b)` is ListHead, and `(* foo)` UnknownStar.
-pub fn tag_read(alloc: Global) -> Result<bool, Missed> {
+pub(crate) fn tag_read(alloc: Global) -> Result<bool, Missed> {
     Ok(
         refuses(alloc, b"((1:a)1:b)", TagFault::ListHead)?
             && refuses(alloc, b"(1:*3:foo)", TagFault::UnknownStar)?
@@ -40,7 +40,7 @@ pub fn tag_read(alloc: Global) -> Result<bool, Missed> {
 }
 
 /// `tag-faults`: `(ftp (* prefix a))` is StarInRequest.
-pub fn ground_read(alloc: Global) -> Result<bool, Missed> {
+pub(crate) fn ground_read(alloc: Global) -> Result<bool, Missed> {
     let document = Doc::open(alloc, b"(3:ftp(1:*6:prefix1:a))")?;
     let root = document.root();
     if document.node(root).is_none() {
@@ -64,12 +64,12 @@ fn both(alloc: Global) -> Result<Vec<u8>, Missed> {
     Ok(sexpr_core::encode(alloc, &tree)?)
 }
 
-pub fn tag_meet(alloc: Global) -> Result<bool, Missed> {
+pub(crate) fn tag_meet(alloc: Global) -> Result<bool, Missed> {
     Ok(both(alloc)?.as_slice() == BOTH)
 }
 
 /// The answer of `meet-lists`, read and written.
-pub fn tag_write(alloc: Global) -> Result<bool, Missed> {
+pub(crate) fn tag_write(alloc: Global) -> Result<bool, Missed> {
     let tree = tag(alloc, BOTH)?.write(alloc)?;
     Ok(sexpr_core::encode(alloc, &tree)?.as_slice() == BOTH)
 }

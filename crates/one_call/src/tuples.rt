@@ -94,7 +94,7 @@ fn is_key(subject: &Subject, key: &[u8]) -> bool {
 }
 
 /// `delegation`: the entry for KA and the certificate by KA for KB.
-pub fn five_then(alloc: Global) -> Result<bool, Missed> {
+pub(crate) fn five_then(alloc: Global) -> Result<bool, Missed> {
     let first = entry(alloc, KA, &[], b"(1:*)")?;
     match first.then(alloc, &certificate(alloc, KA, KB)?, Policy::Open)? {
         Joined::Done(five) => Ok(is_key(&five.subject, KB)),
@@ -103,7 +103,7 @@ pub fn five_then(alloc: Global) -> Result<bool, Missed> {
 }
 
 /// `delegation`: the second certificate doesn't join, since the first doesn't delegate.
-pub fn fold_chain(alloc: Global) -> Result<bool, Missed> {
+pub(crate) fn fold_chain(alloc: Global) -> Result<bool, Missed> {
     let first = entry(alloc, KA, &[], b"(1:*)")?;
     let mut steps = Vec::new(alloc);
     steps.push(Step::Auth(certificate(alloc, KA, KB)?))?;
@@ -115,7 +115,7 @@ pub fn fold_chain(alloc: Global) -> Result<bool, Missed> {
 }
 
 /// `linked-names`: the entry for KA's friends' bob and what KA calls friends become one for KB's bob.
-pub fn five_resolve(alloc: Global) -> Result<bool, Missed> {
+pub(crate) fn five_resolve(alloc: Global) -> Result<bool, Missed> {
     let first = entry(alloc, KA, &[b"friends", b"bob"], b"(1:*)")?;
     let friends = definition(alloc, KA, b"friends", subject(alloc, KB, &[])?)?;
     match first.resolve(alloc, &friends, Policy::Open)? {
@@ -125,7 +125,7 @@ pub fn five_resolve(alloc: Global) -> Result<bool, Missed> {
 }
 
 /// `linked-names`: what KA calls friends, KB's bob, and what KB calls bob become one tuple for KC.
-pub fn four_then(alloc: Global) -> Result<bool, Missed> {
+pub(crate) fn four_then(alloc: Global) -> Result<bool, Missed> {
     let friends = definition(alloc, KA, b"friends", subject(alloc, KB, &[b"bob"])?)?;
     let bob = definition(alloc, KB, b"bob", subject(alloc, KC, &[])?)?;
     match friends.then(alloc, &bob, Policy::Open)? {
@@ -135,7 +135,7 @@ pub fn four_then(alloc: Global) -> Result<bool, Missed> {
 }
 
 /// `reduced-sets`, as its answer is written.
-pub fn five_write(alloc: Global) -> Result<bool, Missed> {
+pub(crate) fn five_write(alloc: Global) -> Result<bool, Missed> {
     let five = entry(alloc, KB, &[], b"(1:*3:set4:read5:write)")?;
     let octets = sexpr_core::encode(alloc, &five.write(alloc)?)?;
     let wanted =
