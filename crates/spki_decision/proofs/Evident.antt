@@ -36,7 +36,7 @@ module _ (policy : Policy) (keys : List (List ℕ)) (verified : Verified) where
 
   -- ---- no certificate stands and fails
 
-  at_digest : (s : Shown) (h k : List ℕ) (x y : signature.Signature) → s.signature ≡ Some x → s.signature ≡ Some y
+  pub at_digest : (s : Shown) (h k : List ℕ) (x y : signature.Signature) → s.signature ≡ Some x → s.signature ≡ Some y
       → IsTrue (is_digest x.alg x.digest (octets_of s.certificate)) → is_digest y.alg y.digest (octets_of s.certificate) ≡ false → ⊥
   at_digest s h k x y a b t f =
       let e : Some x ≡ Some y = sym a ∙ b in
@@ -45,17 +45,17 @@ module _ (policy : Policy) (keys : List (List ℕ)) (verified : Verified) where
       let clash : true ≡ false = sym true_there ∙ f in
       cc
 
-  at_signer : (h k : List ℕ) (x y : signature.Signature) → x ≡ y → h ≡ k → IsTrue (names policy x.signer h)
+  pub at_signer : (h k : List ℕ) (x y : signature.Signature) → x ≡ y → h ≡ k → IsTrue (names policy x.signer h)
       → names policy y.signer k ≡ false → ⊥
   at_signer h k x y e d t f =
       let true_there = rw (e, d) at t in
       let clash : true ≡ false = sym true_there ∙ f in
       cc
 
-  same_signature : (s : Shown) (x y : signature.Signature) → s.signature ≡ Some x → s.signature ≡ Some y → x ≡ y
+  pub same_signature : (s : Shown) (x y : signature.Signature) → s.signature ≡ Some x → s.signature ≡ Some y → x ≡ y
   same_signature s x y a b = let e : Some x ≡ Some y = sym a ∙ b in cc
 
-  same_key : (s : Shown) (h k : List ℕ) → issuer_key policy keys (issuer_of s.certificate) ≡ Some h
+  pub same_key : (s : Shown) (h k : List ℕ) → issuer_key policy keys (issuer_of s.certificate) ≡ Some h
       → issuer_key policy keys (issuer_of s.certificate) ≡ Some k → h ≡ k
   same_key s h k a b = let e : Some h ≡ Some k = sym a ∙ b in cc
 

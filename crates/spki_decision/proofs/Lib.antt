@@ -7,6 +7,8 @@ pub mod Entries
 pub mod Granting
 pub mod Stopping
 pub mod Reasons
+pub mod OneExplanation
+pub mod OneReduction
 pub mod SameTuples
 pub mod OneDecision
 pub mod Examples

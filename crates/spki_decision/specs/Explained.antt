@@ -62,6 +62,13 @@ abbrev pub IsExplanation : Case → Verified → Explanation → Type 0
 IsExplanation c verified (Evidence item stop) = IsFailure c verified item stop
 IsExplanation c verified (Entries reasons) = AreReasons c verified reasons.items
 
+-- the same certificate and test, or the same reasons
+abbrev pub IsSameExplanation : Explanation → Explanation → Type 0
+IsSameExplanation (Evidence item stop) (Evidence other last) = (item ≡ other) × (stop ≡ last)
+IsSameExplanation (Evidence item stop) (Entries reasons) = ⊥
+IsSameExplanation (Entries reasons) (Evidence item stop) = ⊥
+IsSameExplanation (Entries reasons) (Entries others) = reasons.items ≡ others.items
+
 -- ---- explanations and decisions
 
 -- The reason of entry number n, from 1, is the first that is Grants.

@@ -1,7 +1,8 @@
 -- What a case's entries become, each with all certificates (RFC 2693, section 6.3).
 use Rattle.std.specs.Prelude.{◌≡◌, ℕ, ◌<◌, List, [], ◌∷◌, Some, slice_get}
-use Rattle.std.specs.List.{AllZip}
+use Rattle.std.specs.List.{AllZip, AllByRecursion}
 use Rattle.spki_cert.specs.declared.entry.Entry.{Entry}
+use Rattle.spki_cert.specs.Time.{IsLimit}
 use Rattle.spki_reduce.specs.declared.fold.Cause.{Cause}
 use Rattle.spki_reduce.specs.Tuples.{Tuple, five, own}
 use Rattle.spki_reduce.specs.Views.{entry_tuple, five_tuple, issuer_of}
@@ -56,6 +57,31 @@ pub record AreFolds (c : Case) (verified : Verified) (folds : List EntryFold) : 
 abbrev pub IsReduction : Case → Verified → Reduction → Type 0
 IsReduction c verified (Evidence item stop) = IsFailure c verified item stop
 IsReduction c verified (Entries folds) = AreFolds c verified folds.items
+
+-- ---- reductions of one case
+
+-- the same authorization, or the same item and cause
+abbrev pub IsSameFold : EntryFold → EntryFold → Type 0
+IsSameFold (Done f) (Done g) = five_tuple f ≡ five_tuple g
+IsSameFold (Done f) (Stopped item cause) = ⊥
+IsSameFold (Stopped item cause) (Done f) = ⊥
+IsSameFold (Stopped item cause) (Stopped other last) = (item ≡ other) × (cause ≡ last)
+
+-- the same certificate and test, or the same of each entry
+abbrev pub IsSameReduction : Reduction → Reduction → Type 0
+IsSameReduction (Evidence item stop) (Evidence other last) = (item ≡ other) × (stop ≡ last)
+IsSameReduction (Evidence item stop) (Entries folds) = ⊥
+IsSameReduction (Entries folds) (Evidence item stop) = ⊥
+IsSameReduction (Entries folds) (Entries others) = AllZip IsSameFold folds.items others.items
+
+-- the limit that a window begins with is a date, as that of each value is
+abbrev pub IsDated : EntryFold → Type 0
+IsDated (Done f) = IsLimit f.window.not_before
+IsDated (Stopped item cause) = Unit {0}
+
+abbrev pub AreDated : Reduction → Type 0
+AreDated (Evidence item stop) = Unit {0}
+AreDated (Entries folds) = AllByRecursion IsDated folds.items
 
 -- ---- limits
 

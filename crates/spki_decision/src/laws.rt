@@ -5,9 +5,11 @@ ghost use Rattle.spki_case.specs.Case.{Case, accepted_by};
 ghost use Rattle.spki_case.specs.CaseForm.{IsCaseText};
 ghost use Rattle.spki_decision.specs.declared.deciding.Decision.{Decision};
 ghost use Rattle.spki_decision.specs.declared.explaining.Explanation.{Explanation};
+ghost use Rattle.spki_decision.specs.declared.reducing.Reduction.{Reduction};
 ghost use Rattle.spki_decision.specs.Granted.{Granted, strict, opened};
 ghost use Rattle.spki_decision.specs.Decision.{IsDecision};
-ghost use Rattle.spki_decision.specs.Explained.{IsExplanation, Agrees};
+ghost use Rattle.spki_decision.specs.Reduced.{IsReduction, IsSameReduction, AreDated};
+ghost use Rattle.spki_decision.specs.Explained.{IsExplanation, IsSameExplanation, Agrees};
 
 use spki_case::Verifier;
 
@@ -24,6 +26,22 @@ pub fn decided_as_explained<V: Verifier>()
     ensures { (verifier : V) (c : Case) (explanation : Explanation) (decision : Decision)
         → IsExplanation c (V.accepted verifier) explanation → IsDecision c (V.accepted verifier) decision
         → Agrees explanation decision }
+{}
+
+/// A case has one explanation, whatever the verifier: the first certificate that fails and the test that it fails by, or
+/// each entry's reason.
+pub fn one_explanation<V: Verifier>()
+    ensures { (verifier : V) (c : Case) (explanation other : Explanation)
+        → IsExplanation c (V.accepted verifier) explanation → IsExplanation c (V.accepted verifier) other
+        → IsSameExplanation explanation other }
+{}
+
+/// A case has one reduction, whatever the verifier: the first certificate that fails and the test that it fails by, or what
+/// each entry becomes.
+pub fn one_reduction<V: Verifier>()
+    ensures { (verifier : V) (c : Case) (reduction other : Reduction) → AreDated reduction → AreDated other
+        → IsReduction c (V.accepted verifier) reduction → IsReduction c (V.accepted verifier) other
+        → IsSameReduction reduction other }
 {}
 
 /// Two cases that a text is are granted at the same entries, whatever the verifier: the form in which their tags are

@@ -8,4 +8,5 @@ pub mod Folding
 pub mod Chains
 pub mod Through
 pub mod Lacking
+pub mod OneFold
 pub mod WrittenNames

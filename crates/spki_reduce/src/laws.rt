@@ -1,8 +1,9 @@
 //! Laws of derivations.
 
-ghost use Rattle.std.specs.Prelude.{◌≡◌, ℕ, List, ◌∷◌, ◌++◌, flat_map};
+ghost use Rattle.std.specs.Prelude.{◌≡◌, ◌≢◌, ℕ, List, [], ◌∷◌, ◌++◌, flat_map};
 ghost use Rattle.spki_cert.specs.declared.principal.Policy.{Policy};
 ghost use Rattle.spki_cert.specs.declared.principal.Policy.TheVariants.{Open, Strict};
+ghost use Rattle.spki_cert.specs.Time.{IsLimit};
 ghost use Rattle.spki_tag.specs.Request.{Request};
 ghost use Rattle.spki_reduce.specs.Tuples.{Tuple, tags_of, windows_of};
 ghost use Rattle.spki_reduce.specs.Derivation.{Tree, leaves, Derives, from_left};
@@ -11,6 +12,7 @@ ghost use Rattle.spki_reduce.specs.declared.fold.Cause.{Cause};
 ghost use Rattle.spki_reduce.specs.declared.tuple.Five.{Five};
 ghost use Rattle.spki_reduce.specs.declared.tuple.Step.{Step};
 ghost use Rattle.spki_reduce.specs.Chain.{tuples_of, FoldsTo, HasMet, StopsAt};
+ghost use Rattle.spki_reduce.specs.Views.{five_tuple};
 
 /// What is derived in any bracketing is derived when the same tuples are taken in turn, from the left
 /// (RFC 2693, sections 6.3 and 6.4). So a derivation may be looked for in that bracketing alone.
@@ -41,6 +43,15 @@ pub fn one_stop()
     ensures nothing { (policy : Policy) (first : Tuple) (steps : List Step) (s : ℕ) (cause : Cause) →
         StopsAt policy first (tuples_of steps) s cause →
         (f : Five) → FoldsTo policy first (tuples_of steps) f → HasMet first (tuples_of steps) f → ⊥ }
+{}
+
+/// A chain of two tuples or more becomes one authorization at most: its tag and its window are pinned too. The limits of
+/// windows are dates, as every value's are.
+pub fn one_fold()
+    ensures { (policy : Policy) (first : Tuple) (others : List Tuple) (f g : Five) → others ≢ [] →
+        IsLimit f.window.not_before → IsLimit g.window.not_before →
+        FoldsTo policy first others f → HasMet first others f → FoldsTo policy first others g → HasMet first others g →
+        five_tuple f ≡ five_tuple g }
 {}
 
 /// Some derivation has the leaves of no derivation in another bracketing: a name's definition that stands between

@@ -108,8 +108,8 @@ impl Leaf {
                 Leaf::String(octets) => meet_string(octets, self),
                 Leaf::Prefix(second) => meet_prefixes(prefix, second),
                 Leaf::Range(ordering, low, up) => {
-                    let from = prefix.from()?;
-                    let below = prefix.below()?;
+                    let from = prefix.lower_limit()?;
+                    let below = prefix.upper_limit()?;
                     meet_ranges(RangeOrdering::Alpha, &from, &below, *ordering, low, up)
                 }
             },
@@ -117,8 +117,8 @@ impl Leaf {
                 Leaf::Star => Ok(Some(self.copy()?)),
                 Leaf::String(octets) => meet_string(octets, self),
                 Leaf::Prefix(prefix) => {
-                    let from = prefix.from()?;
-                    let below = prefix.below()?;
+                    let from = prefix.lower_limit()?;
+                    let below = prefix.upper_limit()?;
                     meet_ranges(*ordering, low, up, RangeOrdering::Alpha, &from, &below)
                 }
                 Leaf::Range(second, second_low, second_up) => {

@@ -48,7 +48,7 @@ impl Prefix {
     }
 
     /// The limit that the strings which start with it are at least.
-    pub(crate) fn from(&self) -> Result<Option<Limit>, AllocError>
+    pub(crate) fn lower_limit(&self) -> Result<Option<Limit>, AllocError>
         ensures { IfOk result (λ low. limit_of low ≡ from self.now) }
     {
         Ok(Some(Limit {
@@ -59,7 +59,7 @@ impl Prefix {
 
     /// The limit that the strings which start with it are below, none being lesser. There is none if the prefix has no
     /// other octets than `FF`.
-    pub(crate) fn below(&self) -> Result<Option<Limit>, AllocError>
+    pub(crate) fn upper_limit(&self) -> Result<Option<Limit>, AllocError>
         ensures { IfOk result (λ up. limit_of up ≡ strict_limit (least_above self.now)) }
     {
         match &self.above {

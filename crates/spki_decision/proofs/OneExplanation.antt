@@ -1,0 +1,206 @@
+-- A case has one explanation.
+use Rattle.std.proofs.Common.{◌≡◌, ℕ, zero, suc, List, [], ◌∷◌, ◌++◌, Some, None, length, slice_get, refl, sym, ◌∙◌, ap, subst, arith}
+use Rattle.std.specs.List.{AllZip, AllByRecursion}
+use Rattle.std.proofs.lemmas.List.{take_all}
+use Rattle.std.proofs.lemmas.Option.{slice_get_within}
+use Rattle.spki_cert.specs.declared.principal.Policy.{Policy}
+use Rattle.spki_cert.specs.declared.entry.Entry.{Entry}
+use Rattle.spki_cert.specs.declared.certificate.SeqItem.{SeqItem}
+use Rattle.spki_reduce.specs.declared.fold.Cause.{Cause}
+use Rattle.spki_reduce.specs.declared.last_tests.Lack.{Lack}
+use Rattle.spki_reduce.specs.declared.last_tests.Lack.TheVariants as lack
+use Rattle.spki_reduce.specs.Tuples.{FiveTuple, Tuple, five}
+use Rattle.spki_reduce.specs.Views.{entry_tuple}
+use Rattle.spki_reduce.specs.Derivation.{from_left}
+use Rattle.spki_reduce.specs.Restrictions.{in_each}
+use Rattle.spki_reduce.specs.Chain.{GoesThrough}
+use Rattle.spki_reduce.specs.LastTests.{IsFirstLack}
+use Rattle.spki_reduce.proofs.Bracketing.{one_root}
+use Rattle.spki_reduce.proofs.Lacking.{never}
+use Rattle.spki_reduce.proofs.Through.{HasTag, AreTagged, unstopped, one_stop}
+use Rattle.spki_case.specs.Case.{Case, Verified}
+use Rattle.spki_case.specs.Sequence.{Certificate, auth, name, Shown, issuer_of, keys_of, certificates}
+use Rattle.spki_decision.specs.declared.explaining.Explanation.{Explanation}
+use Rattle.spki_decision.specs.declared.explaining.Explanation.TheVariants.{Evidence, Entries}
+use Rattle.spki_decision.specs.declared.explaining.Reason.{Reason}
+use Rattle.spki_decision.specs.declared.explaining.Reason.TheVariants.{Grants, NotTheKey, TagLacks, WindowLacks, Stopped}
+use Rattle.spki_decision.specs.declared.judging.Stop.TheVariants.{KeyNotShown, DigestDiffers, SignerDiffers, NotAccepted}
+use Rattle.spki_decision.specs.declared.judging.Stop.{Stop}
+use Rattle.spki_decision.specs.Standing.{issuer_key, tuple_of, Stands, StandsAs, FailsBy, FailsAt}
+use Rattle.spki_decision.specs.Reduced.{StopsAtItem}
+use Rattle.spki_decision.specs.Explained.{LacksFirst, IsReason, reason_of, AreReasons, IsExplanation, IsSameExplanation}
+use Rattle.spki_decision.proofs.Evident.{one_list, at_digest, at_signer, same_signature, same_key, never_both}
+
+-- ---- the first certificate that fails
+
+module _ (policy : Policy) (keys : List (List ℕ)) (verified : Verified) (s : Shown) where
+  unissued : (holder : List ℕ) → issuer_key policy keys (issuer_of s.certificate) ≡ None
+      → issuer_key policy keys (issuer_of s.certificate) ≡ Some holder → ⊥
+  unissued holder a b = let e : Some holder ≡ None = sym b ∙ a in cc
+
+  -- of the four tests one is the first that it doesn't pass
+  one_test : (a b : Stop) → FailsBy policy keys verified s a → FailsBy policy keys verified s b → a ≡ b
+  one_test KeyNotShown KeyNotShown h k = refl
+  one_test KeyNotShown DigestDiffers h k = absurd (unissued k.0 h k.2)
+  one_test KeyNotShown SignerDiffers h k = absurd (unissued k.0 h k.2)
+  one_test KeyNotShown NotAccepted h k = absurd (unissued k.0 h k.2)
+  one_test DigestDiffers KeyNotShown h k = absurd (unissued h.0 k h.2)
+  one_test DigestDiffers DigestDiffers h k = refl
+  one_test DigestDiffers SignerDiffers h k = absurd (at_digest policy keys verified s k.0 h.0 k.1 h.1 k.3 h.3 k.4 h.4)
+  one_test DigestDiffers NotAccepted h k = absurd (at_digest policy keys verified s k.0 h.0 k.1 h.1 k.3 h.3 k.4 h.4)
+  one_test SignerDiffers KeyNotShown h k = absurd (unissued h.0 k h.2)
+  one_test SignerDiffers DigestDiffers h k = absurd (at_digest policy keys verified s h.0 k.0 h.1 k.1 h.3 k.3 h.4 k.4)
+  one_test SignerDiffers SignerDiffers h k = refl
+  one_test SignerDiffers NotAccepted h k =
+      absurd (at_signer policy keys verified k.0 h.0 k.1 h.1 (same_signature policy keys verified s k.1 h.1 k.3 h.3)
+      (same_key policy keys verified s k.0 h.0 k.2 h.2) k.5 h.5)
+  one_test NotAccepted KeyNotShown h k = absurd (unissued h.0 k h.2)
+  one_test NotAccepted DigestDiffers h k = absurd (at_digest policy keys verified s h.0 k.0 h.1 k.1 h.3 k.3 h.4 k.4)
+  one_test NotAccepted SignerDiffers h k =
+      absurd (at_signer policy keys verified h.0 k.0 h.1 k.1 (same_signature policy keys verified s h.1 k.1 h.3 k.3)
+      (same_key policy keys verified s h.0 k.0 h.2 k.2) h.5 k.5)
+  one_test NotAccepted NotAccepted h k = refl
+
+-- what is the first of a list without a property is one
+module _ {A : Type 0} (P : A → Type 0) where
+  first_without : (xs us ys vs : List A) (x y : A) → xs ++ x ∷ us ≡ ys ++ y ∷ vs → AllByRecursion P xs → AllByRecursion P ys
+      → (P x → ⊥) → (P y → ⊥) → x ≡ y
+  first_without [] us [] vs x y e a b m n = cc
+  first_without [] us (z ∷ ys) vs x y e a b m n = let same : z ≡ x = cc in absurd (m (subst P same b.0))
+  first_without (z ∷ xs) us [] vs x y e a b m n = let same : z ≡ y = cc in absurd (n (subst P same a.0))
+  first_without (z ∷ xs) us (w ∷ ys) vs x y e a b m n =
+      let rest : xs ++ x ∷ us ≡ ys ++ y ∷ vs = cc in first_without xs us ys vs x y rest a.1 b.1 m n
+
+pub one_failure : (policy : Policy) (verified : Verified) (items : List SeqItem) (item other : ℕ) (a b : Stop)
+    → FailsAt policy verified items item a → FailsAt policy verified items other b → (item ≡ other) × (a ≡ b)
+one_failure policy verified items item other a b h k =
+    let keys = keys_of items in
+    let P : Shown → Type 0 = λ shown. (holder : List ℕ) × Stands policy keys verified shown holder in
+    let same : h.failing ≡ k.failing =
+    first_without P h.before h.after k.before k.after h.failing k.failing (sym h.parts ∙ k.parts) h.standing k.standing
+    (λ s. never_both policy keys verified h.failing s.0 a s.1 h.fails)
+    (λ s. never_both policy keys verified k.failing s.0 b s.1 k.fails) in (
+      h.place ∙ ap (λ s. s.item) same ∙ sym k.place,
+      one_test policy keys verified h.failing a b h.fails (subst (λ s. FailsBy policy keys verified s b) (sym same) k.fails),
+    )
+
+-- ---- one entry
+
+-- the tuple of an authorization certificate has its tag
+has_tag : (holder : List ℕ) (certificate : Certificate) → HasTag (tuple_of holder certificate)
+has_tag holder (auth certificate) = λ none_left. absurd cc
+has_tag holder (name certificate) = tt
+
+module _ (policy : Policy) (keys : List (List ℕ)) (verified : Verified) where
+  pub are_tagged : (shown : List Shown) (tuples : List Tuple) → AllZip (StandsAs policy keys verified) shown tuples → AreTagged tuples
+  are_tagged shown [] h place tuple there = absurd cc
+  are_tagged [] (t ∷ ts) h place tuple there = absurd h
+  are_tagged (s ∷ shown) (t ∷ ts) h zero tuple there =
+      let same : t ≡ tuple = cc in subst HasTag (sym h.0.tuple_is ∙ same) (has_tag h.0.holder s.certificate)
+  are_tagged (s ∷ shown) (t ∷ ts) h (suc place) tuple there = are_tagged shown ts h.1 place tuple there
+
+module _ (c : Case) (tuples : List Tuple) (tagged : AreTagged tuples) (e : Entry) where
+  abbrev first : Tuple
+  first = five (entry_tuple e)
+
+  lacks : (root : FiveTuple) (a b : Lack) → IsFirstLack c.policy root c.key c.request c.moment (Some a)
+      → IsFirstLack c.policy root c.key c.request c.moment (Some b) → a ≡ b
+  lacks root lack.NotTheKey lack.NotTheKey h k = refl
+  lacks root lack.NotTheKey lack.TagLacks h k = absurd (h k.0)
+  lacks root lack.NotTheKey lack.WindowLacks h k = absurd (h k.0)
+  lacks root lack.TagLacks lack.NotTheKey h k = absurd (k h.0)
+  lacks root lack.TagLacks lack.TagLacks h k = refl
+  lacks root lack.TagLacks lack.WindowLacks h k = absurd (never (in_each c.request root.tags) h.1 k.1)
+  lacks root lack.WindowLacks lack.NotTheKey h k = absurd (k h.0)
+  lacks root lack.WindowLacks lack.TagLacks h k = absurd (never (in_each c.request root.tags) k.1 h.1)
+  lacks root lack.WindowLacks lack.WindowLacks h k = refl
+
+  one_lack : (a b : Lack) → LacksFirst c tuples e a → LacksFirst c tuples e b → a ≡ b
+  one_lack a b h k =
+      let tree = from_left first tuples in
+      let fives : five k.root ≡ five h.root = one_root c.policy tree tree (five k.root) (five h.root) refl k.derived h.derived in
+      let roots : k.root ≡ h.root = cc in
+      lacks h.root a b h.first (subst (λ root. IsFirstLack c.policy root c.key c.request c.moment (Some b)) roots k.first)
+
+  -- a chain that goes through doesn't stop
+  not_stopped : (a : Lack) (item : ℕ) (cause : Cause) → LacksFirst c tuples e a → StopsAtItem c tuples e item cause → ⊥
+  not_stopped a item cause h k =
+      let below = slice_get_within tuples k.stops.place k.stops.tuple k.stops.stands in
+      let all = take_all (length tuples) tuples (omega arith) in
+      let through : GoesThrough c.policy first tuples h.root = record { derived = h.derived; timely = h.timely; tagged = h.tagged } in
+      let i = k.stops.numbered in
+      unstopped c.policy first tuples tagged (length tuples) h.root
+      (subst (λ ts. GoesThrough c.policy first ts h.root) (sym all) through) k.step (omega arith) cause k.stops
+
+  pub one_item : (item other : ℕ) (a b : Cause) → StopsAtItem c tuples e item a → StopsAtItem c tuples e other b
+      → (item ≡ other) × (a ≡ b)
+  one_item item other a b h k =
+      let both = one_stop c.policy first tuples tagged h.step k.step a b h.stops k.stops in
+      let i = h.stops.numbered in
+      let j = k.stops.numbered in
+      let steps = both.0 in
+      let places : h.stops.place ≡ k.stops.place = omega arith in
+      let shown : Some h.certificate ≡ Some k.certificate = sym h.there ∙ ap (slice_get (certificates c.items)) places ∙ k.there in
+      let certificates_are : h.certificate ≡ k.certificate = cc in
+      (h.item_is ∙ ap (λ s. s.item) certificates_are ∙ sym k.item_is, both.1)
+
+  -- where both are Grants or neither is
+  one_reason : (a b : Reason) → IsReason c tuples e a → IsReason c tuples e b → (a ≡ Grants → b ≡ Grants) → (b ≡ Grants → a ≡ Grants)
+      → a ≡ b
+  one_reason Grants b h k there back = sym (there refl)
+  one_reason NotTheKey Grants h k there back = back refl
+  one_reason NotTheKey NotTheKey h k there back = refl
+  one_reason NotTheKey TagLacks h k there back = ap (λ l. reason_of (Some l)) (one_lack lack.NotTheKey lack.TagLacks h k)
+  one_reason NotTheKey WindowLacks h k there back = ap (λ l. reason_of (Some l)) (one_lack lack.NotTheKey lack.WindowLacks h k)
+  one_reason NotTheKey (Stopped item cause) h k there back = absurd (not_stopped lack.NotTheKey item cause h k)
+  one_reason TagLacks Grants h k there back = back refl
+  one_reason TagLacks NotTheKey h k there back = ap (λ l. reason_of (Some l)) (one_lack lack.TagLacks lack.NotTheKey h k)
+  one_reason TagLacks TagLacks h k there back = refl
+  one_reason TagLacks WindowLacks h k there back = ap (λ l. reason_of (Some l)) (one_lack lack.TagLacks lack.WindowLacks h k)
+  one_reason TagLacks (Stopped item cause) h k there back = absurd (not_stopped lack.TagLacks item cause h k)
+  one_reason WindowLacks Grants h k there back = back refl
+  one_reason WindowLacks NotTheKey h k there back = ap (λ l. reason_of (Some l)) (one_lack lack.WindowLacks lack.NotTheKey h k)
+  one_reason WindowLacks TagLacks h k there back = ap (λ l. reason_of (Some l)) (one_lack lack.WindowLacks lack.TagLacks h k)
+  one_reason WindowLacks WindowLacks h k there back = refl
+  one_reason WindowLacks (Stopped item cause) h k there back = absurd (not_stopped lack.WindowLacks item cause h k)
+  one_reason (Stopped item cause) Grants h k there back = back refl
+  one_reason (Stopped item cause) NotTheKey h k there back = absurd (not_stopped lack.NotTheKey item cause k h)
+  one_reason (Stopped item cause) TagLacks h k there back = absurd (not_stopped lack.TagLacks item cause k h)
+  one_reason (Stopped item cause) WindowLacks h k there back = absurd (not_stopped lack.WindowLacks item cause k h)
+  one_reason (Stopped item a) (Stopped other b) h k there back =
+      let same = one_item item other a b h k in λ i. Stopped (same.0 i) (same.1 i)
+
+-- ---- all entries
+
+module _ (c : Case) (tuples : List Tuple) (tagged : AreTagged tuples) where
+  each_one : (es : List Entry) (rs ss : List Reason) → AllZip (IsReason c tuples) es rs → AllZip (IsReason c tuples) es ss
+      → ((place : ℕ) → slice_get rs place ≡ Some Grants → slice_get ss place ≡ Some Grants)
+      → ((place : ℕ) → slice_get ss place ≡ Some Grants → slice_get rs place ≡ Some Grants) → rs ≡ ss
+  each_one [] [] [] h k there back = refl
+  each_one [] (r ∷ rs) ss h k there back = absurd h
+  each_one [] [] (s ∷ ss) h k there back = absurd k
+  each_one (e ∷ es) [] ss h k there back = absurd h
+  each_one (e ∷ es) (r ∷ rs) [] h k there back = absurd k
+  each_one (e ∷ es) (r ∷ rs) (s ∷ ss) h k there back =
+      let here : r ≡ s =
+      one_reason c tuples tagged e r s h.0 k.0 (λ g. let t : Some s ≡ Some Grants = there 0 (ap Some g) in cc)
+      (λ g. let t : Some r ≡ Some Grants = back 0 (ap Some g) in cc) in
+      let others : rs ≡ ss = each_one es rs ss h.1 k.1 (λ place. there (suc place)) (λ place. back (suc place)) in
+      cc
+
+one_answer : (c : Case) (verified : Verified) (rs ss : List Reason) → AreReasons c verified rs → AreReasons c verified ss → rs ≡ ss
+one_answer c verified rs ss h k =
+    let keys = keys_of c.items in
+    let same : k.tuples ≡ h.tuples = one_list c.policy keys verified (certificates c.items) k.tuples h.tuples k.shown h.shown in
+    let each : AllZip (IsReason c h.tuples) c.entries ss = subst (λ ts. AllZip (IsReason c ts) c.entries ss) same k.each in
+    each_one c h.tuples (are_tagged c.policy keys verified (certificates c.items) h.tuples h.shown) c.entries rs ss h.each each
+    (λ place there. (k.grants place).1 ((h.grants place).0 there))
+    (λ place there. (h.grants place).1 ((k.grants place).0 there))
+
+pub one_explanation : (c : Case) (verified : Verified) (x y : Explanation) → IsExplanation c verified x → IsExplanation c verified y
+    → IsSameExplanation x y
+one_explanation c verified (Evidence item stop) (Evidence other last) h k =
+    one_failure c.policy verified c.items item other stop last h.fails k.fails
+one_explanation c verified (Evidence item stop) (Entries reasons) h k = h.none_shown k.tuples k.shown
+one_explanation c verified (Entries reasons) (Evidence item stop) h k = k.none_shown h.tuples h.shown
+one_explanation c verified (Entries reasons) (Entries others) h k = one_answer c verified reasons.items others.items h k

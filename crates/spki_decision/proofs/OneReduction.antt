@@ -1,0 +1,61 @@
+-- A case has one reduction.
+use Rattle.std.proofs.Common.{◌≡◌, List, [], ◌∷◌, refl, sym, ◌∙◌, subst}
+use Rattle.std.specs.List.{AllZip, AllByRecursion}
+use Rattle.spki_cert.specs.declared.entry.Entry.{Entry}
+use Rattle.spki_cert.specs.Time.{IsLimit}
+use Rattle.spki_reduce.specs.declared.tuple.Five.{Five}
+use Rattle.spki_reduce.specs.Tuples.{Tuple, five}
+use Rattle.spki_reduce.specs.Views.{entry_tuple, five_tuple}
+use Rattle.spki_reduce.proofs.OneFold.{one_fold}
+use Rattle.spki_reduce.proofs.Through.{AreTagged, becomes_nothing}
+use Rattle.spki_case.specs.Case.{Case, Verified}
+use Rattle.spki_case.specs.Sequence.{keys_of, certificates}
+use Rattle.spki_decision.specs.declared.reducing.EntryFold.{EntryFold}
+use Rattle.spki_decision.specs.declared.reducing.EntryFold.TheVariants.{Done, Stopped}
+use Rattle.spki_decision.specs.declared.reducing.Reduction.{Reduction}
+use Rattle.spki_decision.specs.declared.reducing.Reduction.TheVariants.{Evidence, Entries}
+use Rattle.spki_decision.specs.Reduced.{IsEntryFold, AreFolds, IsReduction, IsSameFold, IsSameReduction, IsDated, AreDated}
+use Rattle.spki_decision.proofs.Evident.{one_list}
+use Rattle.spki_decision.proofs.OneExplanation.{one_failure, are_tagged, one_item}
+
+-- without certificates an entry becomes its own tuple
+both_done : (c : Case) (e : Entry) (tuples : List Tuple) (f g : Five) → IsLimit f.window.not_before → IsLimit g.window.not_before
+    → IsEntryFold c tuples e (Done f) → IsEntryFold c tuples e (Done g) → five_tuple f ≡ five_tuple g
+both_done c e [] f g d l h k = h.2 refl ∙ sym (k.2 refl)
+both_done c e (t ∷ ts) f g d l h k =
+    one_fold c.policy (five (entry_tuple e)) (t ∷ ts) f g (λ none_left. absurd cc) d l h.0 h.1 k.0 k.1
+
+module _ (c : Case) (tuples : List Tuple) (tagged : AreTagged tuples) where
+  one_entry : (e : Entry) (a b : EntryFold) → IsDated a → IsDated b → IsEntryFold c tuples e a → IsEntryFold c tuples e b
+      → IsSameFold a b
+  one_entry e (Done f) (Done g) d l h k = both_done c e tuples f g d l h k
+  one_entry e (Done f) (Stopped item cause) d l h k =
+      becomes_nothing c.policy (five (entry_tuple e)) tuples tagged k.step cause k.stops f h.0 h.1
+  one_entry e (Stopped item cause) (Done f) d l h k =
+      becomes_nothing c.policy (five (entry_tuple e)) tuples tagged h.step cause h.stops f k.0 k.1
+  one_entry e (Stopped item a) (Stopped other b) d l h k = one_item c tuples tagged e item other a b h k
+
+  each_one : (es : List Entry) (xs ys : List EntryFold) → AllByRecursion IsDated xs → AllByRecursion IsDated ys
+      → AllZip (IsEntryFold c tuples) es xs → AllZip (IsEntryFold c tuples) es ys → AllZip IsSameFold xs ys
+  each_one [] [] [] d l h k = tt
+  each_one [] (x ∷ xs) ys d l h k = absurd h
+  each_one [] [] (y ∷ ys) d l h k = absurd k
+  each_one (e ∷ es) [] ys d l h k = absurd h
+  each_one (e ∷ es) (x ∷ xs) [] d l h k = absurd k
+  each_one (e ∷ es) (x ∷ xs) (y ∷ ys) d l h k = (one_entry e x y d.0 l.0 h.0 k.0, each_one es xs ys d.1 l.1 h.1 k.1)
+
+one_answer : (c : Case) (verified : Verified) (xs ys : List EntryFold) → AllByRecursion IsDated xs → AllByRecursion IsDated ys
+    → AreFolds c verified xs → AreFolds c verified ys → AllZip IsSameFold xs ys
+one_answer c verified xs ys d l h k =
+    let keys = keys_of c.items in
+    let same : k.tuples ≡ h.tuples = one_list c.policy keys verified (certificates c.items) k.tuples h.tuples k.shown h.shown in
+    let each : AllZip (IsEntryFold c h.tuples) c.entries ys = subst (λ ts. AllZip (IsEntryFold c ts) c.entries ys) same k.each in
+    each_one c h.tuples (are_tagged c.policy keys verified (certificates c.items) h.tuples h.shown) c.entries xs ys d l h.each each
+
+pub one_reduction : (c : Case) (verified : Verified) (x y : Reduction) → AreDated x → AreDated y → IsReduction c verified x
+    → IsReduction c verified y → IsSameReduction x y
+one_reduction c verified (Evidence item stop) (Evidence other last) d l h k =
+    one_failure c.policy verified c.items item other stop last h.fails k.fails
+one_reduction c verified (Evidence item stop) (Entries folds) d l h k = h.none_shown k.tuples k.shown
+one_reduction c verified (Entries folds) (Evidence item stop) d l h k = k.none_shown h.tuples h.shown
+one_reduction c verified (Entries folds) (Entries others) d l h k = one_answer c verified folds.items others.items d l h k

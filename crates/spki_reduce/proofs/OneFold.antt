@@ -1,0 +1,159 @@
+-- Windows of the same moments are one, and so is what a chain becomes.
+use Rattle.std.proofs.Common.{◌≡◌, ◌≢◌, ℕ, Bool, true, false, ◌&&◌, List, [], ◌∷◌, ◌++◌, Option, Some, None, refl, sym, ◌∙◌, ap, subst}
+use Rattle.std.specs.Cmp.{nat_cmp_is}
+use Rattle.std.specs.Cmp.Lexicographic.{slice_cmp}
+use Rattle.std.specs.declared.cmp.Ordering.{Ordering}
+use Rattle.std.specs.declared.cmp.Ordering.TheVariants.{Less, Equal, Greater}
+use Rattle.std.specs.Ordering.{nat_cmp, is_le, ordering_reverse, ordering_then}
+use Rattle.std.proofs.lemmas.Cmp.{nat_list_cmp_total}
+use Rattle.std.proofs.lemmas.Map.Lookups.{exact_bytes}
+use Rattle.spki_tag.specs.Time.{is_date}
+use Rattle.spki_cert.specs.declared.principal.Policy.{Policy}
+use Rattle.spki_cert.specs.declared.window.Window.{Window}
+use Rattle.spki_cert.specs.Time.{upto, is_from, is_until, within, IsLimit}
+use Rattle.spki_cert.proofs.Order.{upto-self, upto-then, upto-turned}
+use Rattle.spki_reduce.specs.declared.tuple.Five.{Five}
+use Rattle.spki_reduce.specs.Tuples.{Tuple, five}
+use Rattle.spki_reduce.specs.Views.{five_tuple}
+use Rattle.spki_reduce.specs.Derivation.{from_left}
+use Rattle.spki_reduce.specs.Chain.{FoldsTo, HasMet}
+use Rattle.spki_reduce.proofs.Bracketing.{one_root}
+
+-- ---- moments
+
+both : (a b : Bool) → (a && b) ≡ true → (a ≡ true) × (b ≡ true)
+both true b e = (refl, e)
+both false b e = absurd cc
+
+tied : (o : Ordering) → is_le o ≡ true → is_le (ordering_reverse o) ≡ true → o ≡ Equal
+tied Less h k = absurd cc
+tied Equal h k = refl
+tied Greater h k = absurd cc
+
+upto-both : (s t : List ℕ) → upto s t ≡ true → upto t s ≡ true → s ≡ t
+upto-both s t h k =
+    exact_bytes s t (tied (slice_cmp nat_cmp s t) h (sym (ap is_le (nat_list_cmp_total.antisymm t s)) ∙ k))
+
+-- no date is the empty string, below all
+dated : (s : List ℕ) → is_date s ≡ true → upto s [] ≡ false
+unfolding is_date
+dated [] e = absurd cc
+dated (octet ∷ octets) e = refl
+
+until-empty : (q : Option (List ℕ)) → is_until q [] ≡ true
+until-empty None = refl
+until-empty (Some []) = refl
+until-empty (Some (octet ∷ octets)) = refl
+
+-- above a string stands another
+beyond : (s : List ℕ) → upto (s ++ 0 ∷ []) s ≡ false
+beyond [] = refl
+beyond (octet ∷ octets) =
+    ap (λ o. is_le (ordering_then o (slice_cmp nat_cmp (octets ++ 0 ∷ []) octets))) (sym (nat_cmp_is octet octet Equal refl))
+    ∙ beyond octets
+
+-- ---- windows
+
+abbrev inside : Option (List ℕ) → Option (List ℕ) → List ℕ → Bool
+inside p q t = is_from p t && is_until q t
+
+from-then : (p : Option (List ℕ)) (s t : List ℕ) → is_from p s ≡ true → upto s t ≡ true → is_from p t ≡ true
+from-then None s t h k = refl
+from-then (Some a) s t h k = upto-then a s t h k
+
+until-then : (q : Option (List ℕ)) (s t : List ℕ) → upto s t ≡ true → is_until q t ≡ true → is_until q s ≡ true
+until-then None s t h k = refl
+until-then (Some c) s t h k = upto-then s t c h k
+
+module _ (p q r u : Option (List ℕ)) (same : (t : List ℕ) → inside p q t ≡ inside r u t) (t : List ℕ) (here : inside p q t ≡ true) where
+  moved : (s : List ℕ) → is_from p s ≡ true → is_until q s ≡ true → (is_from r s ≡ true) × (is_until u s ≡ true)
+  moved s h k = both (is_from r s) (is_until u s) (sym (same s) ∙ (λ i. h i && k i))
+
+  -- the first moment is in the other window
+  first_in : (a : List ℕ) → p ≡ Some a → is_from r a ≡ true
+  first_in a e =
+      let at = both (is_from p t) (is_until q t) here in
+      let low : upto a t ≡ true = subst (λ o. is_from o t ≡ true) e at.0 in
+      (moved a (subst (λ o. is_from o a ≡ true) (sym e) (upto-self a)) (until-then q a t low at.1)).0
+
+  -- and so is the last one
+  last_in : (c : List ℕ) → q ≡ Some c → is_until u c ≡ true
+  last_in c e =
+      let at = both (is_from p t) (is_until q t) here in
+      let high : upto t c ≡ true = subst (λ o. is_until o t ≡ true) e at.1 in
+      (moved c (from-then p t c at.0 high) (subst (λ o. is_until o c ≡ true) (sym e) (upto-self c))).1
+
+  -- what begins nowhere has the empty string
+  begins_nowhere : (b : List ℕ) → p ≡ None → r ≡ Some b → is_date b ≡ true → ⊥
+  begins_nowhere b e f d =
+      let at : is_from r [] ≡ true = (moved [] (subst (λ o. is_from o [] ≡ true) (sym e) refl) (until-empty q)).0 in
+      let clash : true ≡ false = sym (subst (λ o. is_from o [] ≡ true) f at) ∙ dated b d in
+      cc
+
+  -- what ends nowhere has a string above every other
+  ends_nowhere : (d : List ℕ) → q ≡ None → u ≡ Some d → ⊥
+  ends_nowhere d e f =
+      let at = both (is_from p t) (is_until q t) here in
+      let there = moved t at.0 at.1 in
+      let high : upto t d ≡ true = subst (λ o. is_until o t ≡ true) f there.1 in
+      let low : is_from p (d ++ 0 ∷ []) ≡ true =
+      from-then p t (d ++ 0 ∷ []) at.0 (upto-then t d (d ++ 0 ∷ []) high (upto-turned (d ++ 0 ∷ []) d (beyond d))) in
+      let over = (moved (d ++ 0 ∷ []) low (subst (λ o. is_until o (d ++ 0 ∷ []) ≡ true) (sym e) refl)).1 in
+      let clash : true ≡ false = sym (subst (λ o. is_until o (d ++ 0 ∷ []) ≡ true) f over) ∙ beyond d in
+      cc
+
+one_first : (p q r u : Option (List ℕ)) → IsLimit p → IsLimit r → ((t : List ℕ) → inside p q t ≡ inside r u t) → (t : List ℕ)
+    → inside p q t ≡ true → p ≡ r
+one_first None q None u d e same t here = refl
+one_first None q (Some b) u d e same t here = absurd (begins_nowhere None q (Some b) u same t here b refl refl e)
+one_first (Some a) q None u d e same t here =
+    absurd (begins_nowhere None u (Some a) q (λ s. sym (same s)) t (sym (same t) ∙ here) a refl refl d)
+one_first (Some a) q (Some b) u d e same t here =
+    ap Some
+    (upto-both a b (first_in (Some b) u (Some a) q (λ s. sym (same s)) t (sym (same t) ∙ here) b refl)
+    (first_in (Some a) q (Some b) u same t here a refl))
+
+one_last : (p q r u : Option (List ℕ)) → ((t : List ℕ) → inside p q t ≡ inside r u t) → (t : List ℕ) → inside p q t ≡ true
+    → q ≡ u
+one_last p None r None same t here = refl
+one_last p None r (Some d) same t here = absurd (ends_nowhere p None r (Some d) same t here d refl refl)
+one_last p (Some c) r None same t here =
+    absurd (ends_nowhere r None p (Some c) (λ s. sym (same s)) t (sym (same t) ∙ here) c refl refl)
+one_last p (Some c) r (Some d) same t here =
+    ap Some
+    (upto-both c d (last_in p (Some c) r (Some d) same t here c refl)
+    (last_in r (Some d) p (Some c) (λ s. sym (same s)) t (sym (same t) ∙ here) d refl))
+
+one_window : (v w : Window) → IsLimit v.not_before → IsLimit w.not_before → ((t : List ℕ) → within t v ≡ within t w) → (t : List ℕ)
+    → within t v ≡ true → v ≡ w
+one_window v w d e same t here =
+    let first = one_first v.not_before v.not_after w.not_before w.not_after d e same t here in
+    let last = one_last v.not_before v.not_after w.not_before w.not_after same t here in
+    λ i. record { not_before = first i; not_after = last i }
+
+-- ---- chains
+
+pub one_fold : (policy : Policy) (first : Tuple) (others : List Tuple) (f g : Five) → others ≢ [] → IsLimit f.window.not_before
+    → IsLimit g.window.not_before → FoldsTo policy first others f → HasMet first others f → FoldsTo policy first others g
+    → HasMet first others g → five_tuple f ≡ five_tuple g
+one_fold policy first others f g more d e h has_met k others_met =
+    let tree = from_left first others in
+    let fives : five k.root ≡ five h.root = one_root policy tree tree (five k.root) (five h.root) refl k.derived h.derived in
+    let roots : k.root ≡ h.root = cc in
+    let reduced = rw roots at k.reduced in
+    let some = h.timely more in
+    let windows : f.window ≡ g.window =
+    one_window f.window g.window d e (λ t. h.reduced.moments t ∙ sym (reduced.moments t)) some.0 (h.reduced.moments some.0 ∙ some.2) in
+    let tags : f.tag ≡ g.tag = has_met ∙ sym others_met in
+    let issuers = h.reduced.issuer ∙ sym reduced.issuer in
+    let principals : f.subject.principal ≡ g.subject.principal = h.reduced.principal ∙ sym reduced.principal in
+    let names : f.subject.names.items ≡ g.subject.names.items = h.reduced.names ∙ sym reduced.names in
+    let delegations : f.propagate ≡ g.propagate = h.reduced.delegation ∙ sym reduced.delegation in
+    λ i. record {
+      issuer = issuers i;
+      principal = principals i;
+      names = names i;
+      delegation = delegations i;
+      tags = tags i ∷ [];
+      windows = windows i ∷ [];
+    }
