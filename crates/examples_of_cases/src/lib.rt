@@ -4,8 +4,6 @@
 #[cfg(test)]
 mod apart;
 #[cfg(test)]
-mod cases;
-#[cfg(test)]
 mod chains;
 #[cfg(test)]
 mod conversions;
@@ -21,10 +19,6 @@ mod explanations;
 mod fault_texts;
 #[cfg(test)]
 mod inner_ends;
-#[cfg(test)]
-mod intersections;
-#[cfg(test)]
-mod limits;
 #[cfg(test)]
 mod meters;
 #[cfg(test)]
