@@ -16,7 +16,9 @@ use metered_io::Metered;
 use sexpr_core::{Doc, encode};
 use sexpr_text::{Form, convert};
 use sha2::{Digest, Sha256};
-use spki_cert::{Date, Entry, Key, Policy, Principal, Subject, Window, acl_of, date_of, key_of};
+use spki_cert::{
+    Date, Entry, Key, Names, Policy, Principal, Subject, Window, acl_of, date_of, key_of,
+};
 use spki_guard::{Case, Decision};
 use spki_reduce::{Five, Issuer};
 use spki_tag::{Ground, Tag};
@@ -104,7 +106,7 @@ fn everything(alloc: Global, key: Key<'static>) -> Five<'static>
         issuer: Issuer::Own,
         subject: Subject {
             principal: Principal::Key(key),
-            names: Vec::new(alloc),
+            names: Names::of(Vec::new(alloc)),
         },
         propagate: true,
         tag: Tag::everything(),

@@ -1,7 +1,7 @@
 //! Tuples as they are given in examples.
 
 use sexpr_core::Doc;
-use spki_cert::{Date, Key, Octets, Principal, Subject, Window, date_of, key_of};
+use spki_cert::{Date, Key, Names, Octets, Principal, Subject, Window, date_of, key_of};
 use spki_reduce::{Five, Four, Issuer, Step};
 use spki_tag::Tag;
 use std::alloc::Global;
@@ -104,7 +104,7 @@ fn subject(alloc: Global, given: &Given) -> Result<Subject<'static>, Fail> {
     }
     Ok(Subject {
         principal: Principal::Key(key(alloc, given.subject)?),
-        names,
+        names: Names::of(names),
     })
 }
 
@@ -163,7 +163,7 @@ pub(crate) fn is_subject(subject: &Subject, key: &[u8], names: &[&[u8]]) -> bool
         Principal::Key(octets) => octets.as_slice() == key,
         Principal::Hash { .. } => false,
     };
-    same_key && subject.names.len() == names.len() && are_names(&subject.names, names)
+    same_key && subject.names.len() == names.len() && are_names(subject.names.as_slice(), names)
 }
 
 fn are_names(octets: &[Octets], names: &[&[u8]]) -> bool {

@@ -3,7 +3,7 @@
 use crate::missed::Missed;
 use crate::structures::KA;
 use sexpr_core::Doc;
-use spki_cert::{Key, Octets, Policy, Principal, Subject, Window, key_of};
+use spki_cert::{Key, Names, Octets, Policy, Principal, Subject, Window, key_of};
 use spki_reduce::{Cause, Five, Fold, Four, Issuer, Joined, Step};
 use spki_tag::Tag;
 use std::alloc::Global;
@@ -34,7 +34,7 @@ fn subject(
     }
     Ok(Subject {
         principal: Principal::Key(key(alloc, key_text)?),
-        names: links,
+        names: Names::of(links),
     })
 }
 

@@ -1,4 +1,4 @@
--- A value is one case, but for the form of its tags.
+-- A value is one case.
 use Rattle.std.proofs.Common.{◌≡◌, ℕ, List, [], ◌∷◌, ◌++◌, refl, sym, ap, subst, ◌∙◌}
 use Rattle.std.specs.Prelude.{codes}
 use Rattle.std.specs.List.{AllZip}
@@ -16,7 +16,6 @@ use Rattle.spki_cert.proofs.OneReading.{key-one, hash-one, date-one, acl-one, se
 use Rattle.spki_case.specs.Case.{Case, Row}
 use Rattle.spki_case.specs.Rows.{RowOf}
 use Rattle.spki_case.specs.CaseForm.{Parts, headed, acl_value, sequence_value, policy_values, part_values, case_value, RequestOf, CaseOf, IsCaseText}
-use Rattle.spki_case.specs.Sameness.{SameCase}
 use Rattle.spki_case.proofs.Building.{behind_head}
 
 -- ---- rows
@@ -89,23 +88,30 @@ parts-one p q e =
 request-one : (v : Value) (g h : Request) → RequestOf v g → RequestOf v h → g ≡ h
 request-one v g h read other = request_only h g (read.written ∙ sym other.written)
 
-pub case-one : (v : Value) (c d : Case) → CaseOf v c → CaseOf v d → SameCase c d
+pub case-one : (v : Value) (c d : Case) → CaseOf v c → CaseOf v d → c ≡ d
 case-one v c d read other =
     let p = read.parts in
     let q = other.parts in
     let same : SameParts p q = parts-one p q (sym read.written ∙ other.written) in
-    record {
-      entries = acl-one (acl_value q) c.entries d.entries (subst (λ (w : Value). AclOf w c.entries) same.acl read.acl) other.acl;
-      rows = rows-one q.rows c.rows d.rows (subst (λ (vs : List Value). AllZip RowOf vs c.rows) same.rows read.rows) other.rows;
-      items = sequence-one (sequence_value q) c.items d.items (subst (λ (w : Value). SeqOf w c.items) same.sequence read.sequence) other.sequence;
-      key = key-one q.key c.key d.key (subst (λ (w : Value). KeyOf w c.key) same.key read.key) other.key;
-      request = request-one q.request c.request d.request (subst (λ (w : Value). RequestOf w c.request) same.request read.request) other.request;
-      moment = date-one q.at c.moment d.moment (subst (λ (w : Value). DateOf w c.moment) same.at read.moment) other.moment;
-      policy = read.policy ∙ same.policy ∙ sym other.policy;
+    let entries = acl-one (acl_value q) c.entries d.entries (subst (λ (w : Value). AclOf w c.entries) same.acl read.acl) other.acl in
+    let rows = rows-one q.rows c.rows d.rows (subst (λ (vs : List Value). AllZip RowOf vs c.rows) same.rows read.rows) other.rows in
+    let items = sequence-one (sequence_value q) c.items d.items (subst (λ (w : Value). SeqOf w c.items) same.sequence read.sequence) other.sequence in
+    let key = key-one q.key c.key d.key (subst (λ (w : Value). KeyOf w c.key) same.key read.key) other.key in
+    let request = request-one q.request c.request d.request (subst (λ (w : Value). RequestOf w c.request) same.request read.request) other.request in
+    let moment = date-one q.at c.moment d.moment (subst (λ (w : Value). DateOf w c.moment) same.at read.moment) other.moment in
+    let policy : c.policy ≡ d.policy = read.policy ∙ same.policy ∙ sym other.policy in
+    λ i. record {
+      entries = entries i;
+      rows = rows i;
+      items = items i;
+      key = key i;
+      request = request i;
+      moment = moment i;
+      policy = policy i;
     }
 
 -- a canonical text is that of one value
-pub text-one : (text : List ℕ) (c d : Case) → IsCaseText text c → IsCaseText text d → SameCase c d
+pub text-one : (text : List ℕ) (c d : Case) → IsCaseText text c → IsCaseText text d → c ≡ d
 text-one text c d read other =
     let same : read.value ≡ other.value =
     (canon_one read.value other.value [] [] (ap (λ (octets : List ℕ). octets ++ []) (sym read.written ∙ other.written))).0 in

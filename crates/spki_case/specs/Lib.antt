@@ -7,4 +7,3 @@ pub mod CaseForm
 pub mod RowsForm
 pub mod Parts
 pub mod Sequence
-pub mod Sameness

@@ -5,15 +5,14 @@ ghost use Rattle.sexpr_core.specs.Value.{Value};
 ghost use Rattle.spki_case.specs.Case.{Case, Row};
 ghost use Rattle.spki_case.specs.CaseForm.{CaseOf, IsCaseText};
 ghost use Rattle.spki_case.specs.Rows.{RowOf};
-ghost use Rattle.spki_case.specs.Sameness.{SameCase};
 
 /// A value has at most one reading as a row of an accepted list.
 pub fn one_row()
     ensures { (v : Value) (r s : Row) → RowOf v r → RowOf v s → r ≡ s }
 {}
 
-/// Two cases that a value, or a text, is are the same, but for the form of their tags.
+/// A value, or a text, is at most one case.
 pub fn one_case()
-    ensures value { (v : Value) (c d : Case) → CaseOf v c → CaseOf v d → SameCase c d }
-    ensures text { (text : List ℕ) (c d : Case) → IsCaseText text c → IsCaseText text d → SameCase c d }
+    ensures value { (v : Value) (c d : Case) → CaseOf v c → CaseOf v d → c ≡ d }
+    ensures text { (text : List ℕ) (c d : Case) → IsCaseText text c → IsCaseText text d → c ≡ d }
 {}

@@ -52,14 +52,14 @@ no-window fields k known both w read = both-ways_stop fields k k.valid known.val
 -- ---- subjects
 
 pub no-subject : (v : Value) → ((p : Option Principal) (names : List (List ℕ)) → WhoOf v p names → ⊥) → (s : Subject) → SubjectOf v s → ⊥
-no-subject v none s read = none (Some s.principal) s.names.items read
+no-subject v none s read = none (Some s.principal) s.names read
 
 -- a relative name is no name
 pub relative-is_no_subject : (v : Value) (names : List (List ℕ)) → RelativeOf v names → (s : Subject) → SubjectOf v s → ⊥
 relative-is_no_subject v names relative s (inl read) = name-is_no_principal v (plains names) relative.written s.principal read.0
 relative-is_no_subject v names relative s (inr read) =
-    let e : read.owner ∷ plains s.names.items ≡ plains names = same_others v (codes "name") (read.owner ∷ plains s.names.items) (plains names) read.written relative.written in
-    let f : read.owner ∷ plains s.names.items ≡ plain relative.first ∷ plains relative.others = e ∙ ap plains relative.names_are in
+    let e : read.owner ∷ plains s.names ≡ plains names = same_others v (codes "name") (read.owner ∷ plains s.names) (plains names) read.written relative.written in
+    let f : read.owner ∷ plains s.names ≡ plain relative.first ∷ plains relative.others = e ∙ ap plains relative.names_are in
     let g : read.owner ≡ plain relative.first = cc in
     string-is_no_principal relative.first s.principal (subst (λ (w : Value). PrincipalOf w s.principal) g read.owner_is)
 

@@ -5,6 +5,8 @@ use Rattle.std.specs.declared.alloc.Global.{Global}
 use Rattle.sexpr_core.specs.Value.{Value, plain, group, verbatim, decimal}
 use Rattle.spki_tag.specs.Tag as tags
 use Rattle.spki_tag.specs.Read.{ReadsAs}
+use Rattle.spki_tag.proofs.OneTag.{apart}
+use Rattle.spki_tag.proofs.NormalOf.{normal-of}
 use Rattle.spki_tag.specs.Time.{is_time, is_date}
 use Rattle.spki_cert.specs.declared.hash.HashAlg.TheVariants.{Sha1}
 use Rattle.spki_cert.specs.declared.principal.Policy.TheVariants.{Strict}
@@ -114,13 +116,26 @@ ftp_value = group (plain (codes "ftp") ∷ plain (codes "host") ∷ [])
 abbrev ftp_field : Value
 ftp_field = group (plain (codes "tag") ∷ ftp_value ∷ [])
 
+ftp_is_tag : tags.IsTag ftp_host
+ftp_is_tag = (apart (codes "ftp") (codes "*") refl, (tt, tt))
+
+reads : ReadsAs ftp_value ftp_host
+reads = record {
+  w = ftp_host;
+  written = ftp_is_tag;
+  spelled = refl;
+  few = omega arith;
+  which = refl;
+  normal = normal-of ftp_host ftp_is_tag;
+}
+
 -- the entry of the first run: (entry (public-key (test a)) (tag (ftp host)))
-first_run : (no_names : Vec (List ℕ) Global) → no_names.items ≡ [] → ReadsAs ftp_value ftp_host → EntryOf (group (plain (codes "entry") ∷ ka ∷ ftp_field ∷ [])) (record { subject = record { principal = Key ka_octets; names = no_names }; propagate = false; tag = ftp_host; window = record { not_before = None; not_after = None } })
-first_run no_names none reads = record {
+first_run : EntryOf (group (plain (codes "entry") ∷ ka ∷ ftp_field ∷ [])) (record { subject = record { principal = Key ka_octets; names = [] }; propagate = false; tag = ftp_host; window = record { not_before = None; not_after = None } })
+first_run = record {
   subject = ka;
   fields = ftp_field ∷ [];
   written = refl;
-  subject_is = inl (ka_is_key, none);
+  subject_is = inl (ka_is_key, refl);
   are_fields = record {
     each = (tag (ftp_value ∷ []) ftp_host refl (ftp_value, refl, reads), tt);
     once = once-push [] ftp_field (λ word. omega arith) (λ word e. refl);

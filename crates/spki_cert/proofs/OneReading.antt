@@ -1,4 +1,4 @@
--- A value has one reading, but for the form of its tags.
+-- A value has one reading.
 use Rattle.std.proofs.Common.{◌≡◌, ℕ, inl, inr, false, List, [], ◌∷◌, ◌++◌, Option, Some, None, refl, sym, ap, subst, ◌∙◌}
 use Rattle.std.specs.Prelude.{codes}
 use Rattle.std.specs.Str.{bytes_eq}
@@ -6,9 +6,8 @@ use Rattle.std.specs.List.{AllZip}
 use Rattle.std.specs.Cmp.Lexicographic.{other_text}
 use Rattle.sexpr_core.specs.Value.{Value, plain, canon}
 use Rattle.spki_tag.specs.Tag as tags
-use Rattle.spki_tag.specs.Tag.{contains}
 use Rattle.spki_tag.specs.Read.{ReadsAs}
-use Rattle.spki_tag.proofs.OneTag.{tag_only}
+use Rattle.spki_tag.proofs.NormalOf.{reading-one}
 use Rattle.spki_cert.specs.declared.hash.HashAlg.{HashAlg}
 use Rattle.spki_cert.specs.declared.hash.HashAlg.TheVariants.{Sha1, Sha256, Sha512}
 use Rattle.spki_cert.specs.declared.principal.Principal.{Principal}
@@ -27,7 +26,6 @@ use Rattle.spki_cert.specs.Fields.{Sole, Given, LimitsAre, ValidOf, WindowOf, di
 use Rattle.spki_cert.specs.Entries.{EntryOf, AclOf, behind_version}
 use Rattle.spki_cert.specs.Certificates.{IssuedBy, IssuedFor, AuthCertOf, NameCertOf, SignatureOf, DoHashOf}
 use Rattle.spki_cert.specs.Sequences.{ItemOf, SeqOf}
-use Rattle.spki_cert.specs.Sameness.{SameRequests, SameSubject, SameEntry, SameAuth, SameName, SameItem}
 use Rattle.spki_cert.proofs.Groups.{same_others, same_second, same_rest, apart}
 use Rattle.spki_cert.proofs.GivenLaws.{given-else}
 use Rattle.spki_cert.proofs.SubjectLaws.{name-is_no_principal}
@@ -101,27 +99,31 @@ who-one v p q ns ms (inl read) (inr other) = absurd (name-is_no_principal v (oth
 who-one v p q ns ms (inr read) (inl other) = absurd (name-is_no_principal v (read.owner ∷ plains ns) read.written q other.0)
 who-one v p q ns ms (inr read) (inr other) = name-one v p q ns ms read other
 
-issued-one : (issuer : Principal) (v : Value) (s t : Subject) → IssuedTo issuer v s → IssuedTo issuer v t → SameSubject s t
-issued-one issuer v s t (inl read) (inl other) = who-one v s.principal t.principal s.names.items t.names.items read other
-issued-one issuer v s t (inl read) (inr other) = absurd (relative-is_no_subject v t.names.items other.1 s read)
-issued-one issuer v s t (inr read) (inl other) = absurd (relative-is_no_subject v s.names.items read.1 t other)
-issued-one issuer v s t (inr read) (inr other) = (
-  read.0 ∙ sym other.0,
-  names-one s.names.items t.names.items (same_others v (codes "name") (plains s.names.items) (plains t.names.items) read.1.written other.1.written),
-)
+one_subject : (s t : Subject) → Same s.principal t.principal s.names t.names → s ≡ t
+one_subject s t same = λ i. record { principal = same.0 i; names = same.1 i }
+
+subject-one : (v : Value) (s t : Subject) → SubjectOf v s → SubjectOf v t → s ≡ t
+subject-one v s t read other = one_subject s t (who-one v s.principal t.principal s.names t.names read other)
+
+issued-one : (issuer : Principal) (v : Value) (s t : Subject) → IssuedTo issuer v s → IssuedTo issuer v t → s ≡ t
+issued-one issuer v s t (inl read) (inl other) = subject-one v s t read other
+issued-one issuer v s t (inl read) (inr other) = absurd (relative-is_no_subject v t.names other.1 s read)
+issued-one issuer v s t (inr read) (inl other) = absurd (relative-is_no_subject v s.names read.1 t other)
+issued-one issuer v s t (inr read) (inr other) =
+    one_subject s t (read.0 ∙ sym other.0, names-one s.names t.names (same_others v (codes "name") (plains s.names) (plains t.names) read.1.written other.1.written))
 
 -- ---- fields
 
 -- what one field with a head says
-sole-one : {A : Type 0} (R : Value → A → Type 0) (S : A → A → Type 0) → ((v : Value) (a b : A) → R v a → R v b → S a b)
-    → (vs : List Value) (a b : A) → Sole R vs a → Sole R vs b → S a b
-sole-one R S one vs a b (v, e, read) (w, f, other) =
+sole-one : {A : Type 0} (R : Value → A → Type 0) → ((v : Value) (a b : A) → R v a → R v b → a ≡ b)
+    → (vs : List Value) (a b : A) → Sole R vs a → Sole R vs b → a ≡ b
+sole-one R one vs a b (v, e, read) (w, f, other) =
     let same : v ≡ w = (let g : v ∷ [] ≡ w ∷ [] = sym e ∙ f in cc) in
     one w a b (subst (λ (u : Value). R u a) same read) other
 
-given-one : {A : Type 0} (word : List ℕ) (R : List Value → A → Type 0) (S : A → A → Type 0) → ((vs : List Value) (a b : A) → R vs a → R vs b → S a b)
-    → (fields : List Value) (a b : A) → Given word R fields (Some a) → Given word R fields (Some b) → S a b
-given-one word R S one fields a b (rest, e, read) (behind, f, other) =
+given-one : {A : Type 0} (word : List ℕ) (R : List Value → A → Type 0) → ((vs : List Value) (a b : A) → R vs a → R vs b → a ≡ b)
+    → (fields : List Value) (a b : A) → Given word R fields (Some a) → Given word R fields (Some b) → a ≡ b
+given-one word R one fields a b (rest, e, read) (behind, f, other) =
     let same : rest ≡ behind = (let g : rest ∷ [] ≡ behind ∷ [] = sym e ∙ f in cc) in
     one behind a b (subst (λ (vs : List Value). R vs a) same read) other
 
@@ -130,7 +132,7 @@ limit-one word fields None None read other = refl
 limit-one word fields None (Some t) read other = absurd (given-else word (Sole DateOf) fields t other read)
 limit-one word fields (Some s) None read other = absurd (given-else word (Sole DateOf) fields s read other)
 limit-one word fields (Some s) (Some t) read other =
-    ap Some (given-one word (Sole DateOf) (λ (a b : List ℕ). a ≡ b) (sole-one DateOf (λ (a b : List ℕ). a ≡ b) date-one) fields s t read other)
+    ap Some (given-one word (Sole DateOf) (sole-one DateOf date-one) fields s t read other)
 
 limits-one : (fields : List Value) (v w : Window) → LimitsAre fields v → LimitsAre fields w → v ≡ w
 limits-one fields v w read other =
@@ -143,99 +145,92 @@ window-one fields v w (directly none limits) (directly no_valid others) = limits
 window-one fields v w (directly none limits) (in_valid given first last) = absurd (given-else (codes "valid") ValidOf fields w given none)
 window-one fields v w (in_valid given first last) (directly none limits) = absurd (given-else (codes "valid") ValidOf fields v given none)
 window-one fields v w (in_valid given first last) (in_valid other no_first no_last) =
-    given-one (codes "valid") ValidOf (λ (a b : Window). a ≡ b) (λ vs a b read also. limits-one vs a b read.limits_are also.limits_are) fields v w given other
+    given-one (codes "valid") ValidOf (λ vs a b read also. limits-one vs a b read.limits_are also.limits_are) fields v w given other
 
-reads-one : (v : Value) (t u : tags.Tag) → ReadsAs v t → ReadsAs v u → SameRequests t u
-reads-one v t u r s g =
-    r.normal.same g ∙ ap (λ (w : tags.Tag). contains w g) (tag_only s.w r.w s.written r.written (r.spelled ∙ sym s.spelled)) ∙ sym (s.normal.same g)
-
-tag-one : (fields : List Value) (t u : tags.Tag) → TagOf fields t → TagOf fields u → SameRequests t u
-tag-one fields t u read other = given-one (codes "tag") (Sole ReadsAs) SameRequests (sole-one ReadsAs SameRequests reads-one) fields t u read other
+tag-one : (fields : List Value) (t u : tags.Tag) → TagOf fields t → TagOf fields u → t ≡ u
+tag-one fields t u read other = given-one (codes "tag") (Sole ReadsAs) (sole-one ReadsAs reading-one) fields t u read other
 
 -- ---- entries and access lists
 
-pub entry-one : (v : Value) (e f : Entry) → EntryOf v e → EntryOf v f → SameEntry e f
+pub entry-one : (v : Value) (e f : Entry) → EntryOf v e → EntryOf v f → e ≡ f
 entry-one v e f read other =
     let subject = same_second v (codes "entry") read.subject other.subject read.fields other.fields read.written other.written in
     let fields : read.fields ≡ other.fields = same_rest v (codes "entry") read.subject other.subject read.fields other.fields read.written other.written in
-    record {
-      subject = who-one other.subject e.subject.principal f.subject.principal e.subject.names.items f.subject.names.items
-          (subst (λ (w : Value). SubjectOf w e.subject) subject read.subject_is) other.subject_is;
-      propagate = read.propagates_is ∙ ap propagates fields ∙ sym other.propagates_is;
-      tag = tag-one other.fields e.tag f.tag (subst (λ (vs : List Value). TagOf vs e.tag) fields read.tag_is) other.tag_is;
-      window = window-one other.fields e.window f.window (subst (λ (vs : List Value). WindowOf vs e.window) fields read.window_is) other.window_is;
-    }
+    let who : e.subject ≡ f.subject = subject-one other.subject e.subject f.subject (subst (λ (w : Value). SubjectOf w e.subject) subject read.subject_is) other.subject_is in
+    let propagate : e.propagate ≡ f.propagate = read.propagates_is ∙ ap propagates fields ∙ sym other.propagates_is in
+    let tag = tag-one other.fields e.tag f.tag (subst (λ (vs : List Value). TagOf vs e.tag) fields read.tag_is) other.tag_is in
+    let window = window-one other.fields e.window f.window (subst (λ (vs : List Value). WindowOf vs e.window) fields read.window_is) other.window_is in
+    λ i. record { subject = who i; propagate = propagate i; tag = tag i; window = window i }
 
 -- place by place
-items-one : {A : Type 0} (R : Value → A → Type 0) (S : A → A → Type 0) → ((v : Value) (a b : A) → R v a → R v b → S a b)
-    → (vs : List Value) (xs ys : List A) → AllZip R vs xs → AllZip R vs ys → AllZip S xs ys
-items-one R S one [] [] [] read other = tt
-items-one R S one [] [] (b ∷ ys) read other = absurd other
-items-one R S one [] (a ∷ xs) ys read other = absurd read
-items-one R S one (v ∷ vs) [] ys read other = absurd read
-items-one R S one (v ∷ vs) (a ∷ xs) [] read other = absurd other
-items-one R S one (v ∷ vs) (a ∷ xs) (b ∷ ys) read other = (one v a b read.0 other.0, items-one R S one vs xs ys read.1 other.1)
+items-one : {A : Type 0} (R : Value → A → Type 0) → ((v : Value) (a b : A) → R v a → R v b → a ≡ b)
+    → (vs : List Value) (xs ys : List A) → AllZip R vs xs → AllZip R vs ys → xs ≡ ys
+items-one R one [] [] [] read other = refl
+items-one R one [] [] (b ∷ ys) read other = absurd other
+items-one R one [] (a ∷ xs) ys read other = absurd read
+items-one R one (v ∷ vs) [] ys read other = absurd read
+items-one R one (v ∷ vs) (a ∷ xs) [] read other = absurd other
+items-one R one (v ∷ vs) (a ∷ xs) (b ∷ ys) read other =
+    λ i. one v a b read.0 other.0 i ∷ items-one R one vs xs ys read.1 other.1 i
 
-pub acl-one : (v : Value) (es fs : List Entry) → AclOf v es → AclOf v fs → AllZip SameEntry es fs
+pub acl-one : (v : Value) (es fs : List Entry) → AclOf v es → AclOf v fs → es ≡ fs
 acl-one v es fs read other =
     let all : read.version ++ read.entries ≡ other.version ++ other.entries =
     same_others v (codes "acl") (read.version ++ read.entries) (other.version ++ other.entries) read.written other.written in
     let entries : read.entries ≡ other.entries =
     sym (entries-behind read.version read.entries es read.version_is read.each) ∙ ap behind_version all
     ∙ entries-behind other.version other.entries fs other.version_is other.each in
-    items-one EntryOf SameEntry entry-one other.entries es fs (subst (λ (vs : List Value). AllZip EntryOf vs es) entries read.each) other.each
+    items-one EntryOf entry-one other.entries es fs (subst (λ (vs : List Value). AllZip EntryOf vs es) entries read.each) other.each
 
 -- ---- certificates and sequences
 
-abbrev SameIssuer : Principal × Option (List ℕ) → Principal × Option (List ℕ) → Type 0
-SameIssuer i j = (i.0 ≡ j.0) × (i.1 ≡ j.1)
-
-issuer-one : (v : Value) (i j : Principal × Option (List ℕ)) → IssuerOf v i.0 i.1 → IssuerOf v j.0 j.1 → SameIssuer i j
-issuer-one v (p, None) (q, None) read other = (principal-one v p q read other, refl)
+issuer-one : (v : Value) (i j : Principal × Option (List ℕ)) → IssuerOf v i.0 i.1 → IssuerOf v j.0 j.1 → i ≡ j
+issuer-one v (p, None) (q, None) read other = λ i. (principal-one v p q read other i, None)
 issuer-one v (p, None) (q, Some m) read other = absurd (name-is_no_principal v (other.owner ∷ plain m ∷ []) other.written p read)
 issuer-one v (p, Some n) (q, None) read other = absurd (name-is_no_principal v (read.owner ∷ plain n ∷ []) read.written q other)
 issuer-one v (p, Some n) (q, Some m) read other =
     let same = name-one v p q (n ∷ []) (m ∷ []) read other in
     let names : n ∷ [] ≡ m ∷ [] = same.1 in
-    (same.0, ap Some (let e : n ≡ m = cc in e))
+    let name : n ≡ m = cc in
+    λ i. (same.0 i, Some (name i))
 
-issued_by-one : (fields : List Value) (i j : Principal × Option (List ℕ)) → Given (codes "issuer") IssuerIn fields (Some i) → Given (codes "issuer") IssuerIn fields (Some j) → SameIssuer i j
+issued_by-one : (fields : List Value) (i j : Principal × Option (List ℕ)) → Given (codes "issuer") IssuerIn fields (Some i) → Given (codes "issuer") IssuerIn fields (Some j) → i ≡ j
 issued_by-one fields i j read other =
-    given-one (codes "issuer") IssuerIn SameIssuer (sole-one (λ (v : Value) (k : Principal × Option (List ℕ)). IssuerOf v k.0 k.1) SameIssuer issuer-one) fields i j read other
+    given-one (codes "issuer") IssuerIn (sole-one (λ (v : Value) (k : Principal × Option (List ℕ)). IssuerOf v k.0 k.1) issuer-one) fields i j read other
 
-issued_for-one : (fields : List Value) (p : Principal) (s t : Subject) → IssuedFor fields p s → IssuedFor fields p t → SameSubject s t
+issued_for-one : (fields : List Value) (p : Principal) (s t : Subject) → IssuedFor fields p s → IssuedFor fields p t → s ≡ t
 issued_for-one fields p s t read other =
-    given-one (codes "subject") (Sole (IssuedTo p)) SameSubject (sole-one (IssuedTo p) SameSubject (issued-one p)) fields s t read other
+    given-one (codes "subject") (Sole (IssuedTo p)) (sole-one (IssuedTo p) (issued-one p)) fields s t read other
 
-auth-one : (v : Value) (b c : AuthCert) → AuthCertOf v b → AuthCertOf v c → SameAuth b c
+auth-one : (v : Value) (b c : AuthCert) → AuthCertOf v b → AuthCertOf v c → b ≡ c
 auth-one v b c read other =
     let fields : read.fields ≡ other.fields = same_others v (codes "cert") read.fields other.fields read.written other.written in
-    let issuer = issued_by-one other.fields (b.issuer, None) (c.issuer, None) (subst (λ (vs : List Value). IssuedBy vs b.issuer None) fields read.issuer_is) other.issuer_is in
-    record {
-      issuer = issuer.0;
-      subject = issued_for-one other.fields c.issuer b.subject c.subject
-          (subst (λ (p : Principal). IssuedFor other.fields p b.subject) issuer.0 (subst (λ (vs : List Value). IssuedFor vs b.issuer b.subject) fields read.subject_is))
-          other.subject_is;
-      propagate = read.propagates_is ∙ ap propagates fields ∙ sym other.propagates_is;
-      tag = tag-one other.fields b.tag c.tag (subst (λ (vs : List Value). TagOf vs b.tag) fields read.tag_is) other.tag_is;
-      window = window-one other.fields b.window c.window (subst (λ (vs : List Value). WindowOf vs b.window) fields read.window_is) other.window_is;
-      octets = read.octets_are ∙ sym other.octets_are;
-    }
+    let issued = issued_by-one other.fields (b.issuer, None) (c.issuer, None) (subst (λ (vs : List Value). IssuedBy vs b.issuer None) fields read.issuer_is) other.issuer_is in
+    let issuer : b.issuer ≡ c.issuer = ap (λ (k : Principal × Option (List ℕ)). k.0) issued in
+    let subject =
+    issued_for-one other.fields c.issuer b.subject c.subject
+    (subst (λ (p : Principal). IssuedFor other.fields p b.subject) issuer (subst (λ (vs : List Value). IssuedFor vs b.issuer b.subject) fields read.subject_is))
+    other.subject_is in
+    let propagate : b.propagate ≡ c.propagate = read.propagates_is ∙ ap propagates fields ∙ sym other.propagates_is in
+    let tag = tag-one other.fields b.tag c.tag (subst (λ (vs : List Value). TagOf vs b.tag) fields read.tag_is) other.tag_is in
+    let window = window-one other.fields b.window c.window (subst (λ (vs : List Value). WindowOf vs b.window) fields read.window_is) other.window_is in
+    let octets : b.octets ≡ c.octets = read.octets_are ∙ sym other.octets_are in
+    λ i. record { issuer = issuer i; subject = subject i; propagate = propagate i; tag = tag i; window = window i; octets = octets i }
 
-name_cert-one : (v : Value) (b c : NameCert) → NameCertOf v b → NameCertOf v c → SameName b c
+name_cert-one : (v : Value) (b c : NameCert) → NameCertOf v b → NameCertOf v c → b ≡ c
 name_cert-one v b c read other =
     let fields : read.fields ≡ other.fields = same_others v (codes "cert") read.fields other.fields read.written other.written in
-    let issuer = issued_by-one other.fields (b.issuer, Some b.name) (c.issuer, Some c.name) (subst (λ (vs : List Value). IssuedBy vs b.issuer (Some b.name)) fields read.issuer_is) other.issuer_is in
-    let some : Some b.name ≡ Some c.name = issuer.1 in
-    record {
-      issuer = issuer.0;
-      name = (let e : b.name ≡ c.name = cc in e);
-      subject = issued_for-one other.fields c.issuer b.subject c.subject
-          (subst (λ (p : Principal). IssuedFor other.fields p b.subject) issuer.0 (subst (λ (vs : List Value). IssuedFor vs b.issuer b.subject) fields read.subject_is))
-          other.subject_is;
-      window = window-one other.fields b.window c.window (subst (λ (vs : List Value). WindowOf vs b.window) fields read.window_is) other.window_is;
-      octets = read.octets_are ∙ sym other.octets_are;
-    }
+    let issued = issued_by-one other.fields (b.issuer, Some b.name) (c.issuer, Some c.name) (subst (λ (vs : List Value). IssuedBy vs b.issuer (Some b.name)) fields read.issuer_is) other.issuer_is in
+    let issuer : b.issuer ≡ c.issuer = ap (λ (k : Principal × Option (List ℕ)). k.0) issued in
+    let some : Some b.name ≡ Some c.name = ap (λ (k : Principal × Option (List ℕ)). k.1) issued in
+    let name : b.name ≡ c.name = cc in
+    let subject =
+    issued_for-one other.fields c.issuer b.subject c.subject
+    (subst (λ (p : Principal). IssuedFor other.fields p b.subject) issuer (subst (λ (vs : List Value). IssuedFor vs b.issuer b.subject) fields read.subject_is))
+    other.subject_is in
+    let window = window-one other.fields b.window c.window (subst (λ (vs : List Value). WindowOf vs b.window) fields read.window_is) other.window_is in
+    let octets : b.octets ≡ c.octets = read.octets_are ∙ sym other.octets_are in
+    λ i. record { issuer = issuer i; name = name i; subject = subject i; window = window i; octets = octets i }
 
 no-auth_and_name : (v : Value) (b : AuthCert) (c : NameCert) → AuthCertOf v b → NameCertOf v c → ⊥
 no-auth_and_name v b c read other =
@@ -260,34 +255,34 @@ do-one v a b read other =
     same_rest v (codes "do") (plain (codes "hash")) (plain (codes "hash")) (plain (alg_name a) ∷ []) (plain (alg_name b) ∷ []) read other in
     alg-one a b (cc)
 
-item-one : (v : Value) (i j : SeqItem) → ItemOf v i → ItemOf v j → SameItem i j
-item-one v (items.Key k) (items.Key l) read other = key-one v k l read other
-item-one v (items.Key k) (items.DoHash b) read other = apart (codes "do") v _ _ other read.written refl refl
-item-one v (items.Key k) (items.Auth c) read other = apart (codes "cert") v _ _ other.written read.written refl refl
-item-one v (items.Key k) (items.Name c) read other = apart (codes "cert") v _ _ other.written read.written refl refl
-item-one v (items.Key k) (items.Signature t) read other = apart (codes "signature") v _ _ other.written read.written refl refl
-item-one v (items.DoHash a) (items.Key l) read other = apart (codes "do") v _ _ read other.written refl refl
-item-one v (items.DoHash a) (items.DoHash b) read other = do-one v a b read other
-item-one v (items.DoHash a) (items.Auth c) read other = apart (codes "cert") v _ _ other.written read refl refl
-item-one v (items.DoHash a) (items.Name c) read other = apart (codes "cert") v _ _ other.written read refl refl
-item-one v (items.DoHash a) (items.Signature t) read other = apart (codes "signature") v _ _ other.written read refl refl
-item-one v (items.Auth b) (items.Key l) read other = apart (codes "cert") v _ _ read.written other.written refl refl
-item-one v (items.Auth b) (items.DoHash a) read other = apart (codes "cert") v _ _ read.written other refl refl
-item-one v (items.Auth b) (items.Auth c) read other = auth-one v b c read other
-item-one v (items.Auth b) (items.Name c) read other = no-auth_and_name v b c read other
-item-one v (items.Auth b) (items.Signature t) read other = apart (codes "cert") v _ _ read.written other.written refl refl
-item-one v (items.Name b) (items.Key l) read other = apart (codes "cert") v _ _ read.written other.written refl refl
-item-one v (items.Name b) (items.DoHash a) read other = apart (codes "cert") v _ _ read.written other refl refl
-item-one v (items.Name b) (items.Auth c) read other = no-auth_and_name v c b other read
-item-one v (items.Name b) (items.Name c) read other = name_cert-one v b c read other
-item-one v (items.Name b) (items.Signature t) read other = apart (codes "cert") v _ _ read.written other.written refl refl
-item-one v (items.Signature s) (items.Key l) read other = apart (codes "signature") v _ _ read.written other.written refl refl
-item-one v (items.Signature s) (items.DoHash a) read other = apart (codes "signature") v _ _ read.written other refl refl
-item-one v (items.Signature s) (items.Auth c) read other = apart (codes "signature") v _ _ read.written other.written refl refl
-item-one v (items.Signature s) (items.Name c) read other = apart (codes "signature") v _ _ read.written other.written refl refl
-item-one v (items.Signature s) (items.Signature t) read other = signature-one v s t read other
+item-one : (v : Value) (i j : SeqItem) → ItemOf v i → ItemOf v j → i ≡ j
+item-one v (items.Key k) (items.Key l) read other = ap items.Key (key-one v k l read other)
+item-one v (items.Key k) (items.DoHash b) read other = absurd (apart (codes "do") v _ _ other read.written refl refl)
+item-one v (items.Key k) (items.Auth c) read other = absurd (apart (codes "cert") v _ _ other.written read.written refl refl)
+item-one v (items.Key k) (items.Name c) read other = absurd (apart (codes "cert") v _ _ other.written read.written refl refl)
+item-one v (items.Key k) (items.Signature t) read other = absurd (apart (codes "signature") v _ _ other.written read.written refl refl)
+item-one v (items.DoHash a) (items.Key l) read other = absurd (apart (codes "do") v _ _ read other.written refl refl)
+item-one v (items.DoHash a) (items.DoHash b) read other = ap items.DoHash (do-one v a b read other)
+item-one v (items.DoHash a) (items.Auth c) read other = absurd (apart (codes "cert") v _ _ other.written read refl refl)
+item-one v (items.DoHash a) (items.Name c) read other = absurd (apart (codes "cert") v _ _ other.written read refl refl)
+item-one v (items.DoHash a) (items.Signature t) read other = absurd (apart (codes "signature") v _ _ other.written read refl refl)
+item-one v (items.Auth b) (items.Key l) read other = absurd (apart (codes "cert") v _ _ read.written other.written refl refl)
+item-one v (items.Auth b) (items.DoHash a) read other = absurd (apart (codes "cert") v _ _ read.written other refl refl)
+item-one v (items.Auth b) (items.Auth c) read other = ap items.Auth (auth-one v b c read other)
+item-one v (items.Auth b) (items.Name c) read other = absurd (no-auth_and_name v b c read other)
+item-one v (items.Auth b) (items.Signature t) read other = absurd (apart (codes "cert") v _ _ read.written other.written refl refl)
+item-one v (items.Name b) (items.Key l) read other = absurd (apart (codes "cert") v _ _ read.written other.written refl refl)
+item-one v (items.Name b) (items.DoHash a) read other = absurd (apart (codes "cert") v _ _ read.written other refl refl)
+item-one v (items.Name b) (items.Auth c) read other = absurd (no-auth_and_name v c b other read)
+item-one v (items.Name b) (items.Name c) read other = ap items.Name (name_cert-one v b c read other)
+item-one v (items.Name b) (items.Signature t) read other = absurd (apart (codes "cert") v _ _ read.written other.written refl refl)
+item-one v (items.Signature s) (items.Key l) read other = absurd (apart (codes "signature") v _ _ read.written other.written refl refl)
+item-one v (items.Signature s) (items.DoHash a) read other = absurd (apart (codes "signature") v _ _ read.written other refl refl)
+item-one v (items.Signature s) (items.Auth c) read other = absurd (apart (codes "signature") v _ _ read.written other.written refl refl)
+item-one v (items.Signature s) (items.Name c) read other = absurd (apart (codes "signature") v _ _ read.written other.written refl refl)
+item-one v (items.Signature s) (items.Signature t) read other = ap items.Signature (signature-one v s t read other)
 
-pub sequence-one : (v : Value) (is js : List SeqItem) → SeqOf v is → SeqOf v js → AllZip SameItem is js
+pub sequence-one : (v : Value) (is js : List SeqItem) → SeqOf v is → SeqOf v js → is ≡ js
 sequence-one v is js read other =
     let values : read.values ≡ other.values = same_others v (codes "sequence") read.values other.values read.written other.written in
-    items-one ItemOf SameItem item-one other.values is js (subst (λ (vs : List Value). AllZip ItemOf vs is) values read.each) other.each
+    items-one ItemOf item-one other.values is js (subst (λ (vs : List Value). AllZip ItemOf vs is) values read.each) other.each

@@ -182,8 +182,8 @@ IsVersionFault kind v = (kind ≡ kinds.Shape) ⊎ ((kind ≡ kinds.UnknownVersi
 
 -- who a certificate's subject is, where the issuer's principal stands for one that isn't written
 abbrev pub IsSubjectOf : Principal → Option Principal → List (List ℕ) → Subject → Type 0
-IsSubjectOf issuer None names s = (s.principal ≡ issuer) × (s.names.items ≡ names)
-IsSubjectOf issuer (Some principal) names s = (s.principal ≡ principal) × (s.names.items ≡ names)
+IsSubjectOf issuer None names s = (s.principal ≡ issuer) × (s.names ≡ names)
+IsSubjectOf issuer (Some principal) names s = (s.principal ≡ principal) × (s.names ≡ names)
 
 -- what the fields of a certificate say, whichever certificate it is
 pub record PartsOf (fields : List Value) (p : CertParts) : Type 0 where

@@ -8,5 +8,4 @@ pub mod Refusals
 pub mod Entries
 pub mod Certificates
 pub mod Sequences
-pub mod Sameness
 pub mod Gathering

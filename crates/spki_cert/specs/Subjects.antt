@@ -38,7 +38,7 @@ IsWho v principal names = (PrincipalOf v principal × (names ≡ [])) ⊎ NameOf
 
 -- the subject of an entry
 abbrev pub SubjectOf : Value → Subject → Type 0
-SubjectOf v s = IsWho v s.principal s.names.items
+SubjectOf v s = IsWho v s.principal s.names
 
 -- who is named, with the principal if it is written
 abbrev pub WhoOf : Value → Option Principal → List (List ℕ) → Type 0
@@ -47,7 +47,7 @@ WhoOf v (Some principal) names = IsWho v principal names
 
 -- the subject of a certificate: a relative name is one of the issuer's
 abbrev pub IssuedTo : Principal → Value → Subject → Type 0
-IssuedTo issuer v s = SubjectOf v s ⊎ ((s.principal ≡ issuer) × RelativeOf v s.names.items)
+IssuedTo issuer v s = SubjectOf v s ⊎ ((s.principal ≡ issuer) × RelativeOf v s.names)
 
 -- the issuer of a certificate: a principal, or (name principal n)
 abbrev pub IssuerOf : Value → Principal → Option (List ℕ) → Type 0

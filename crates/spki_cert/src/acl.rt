@@ -13,6 +13,7 @@ ghost use Rattle.spki_cert.specs.Entries.{EntryOf, AclOf, AclRefused, OuterRefus
 use crate::entry::{Entry, Subject};
 use crate::fault::{CertFault, CertFaultKind};
 use crate::fields::{Fields, Known, Place, fields_of};
+use crate::names::Names;
 use crate::naming::{Who, who_of};
 use crate::validity::one_way;
 use crate::version::check_version;
@@ -28,7 +29,10 @@ fn entry_subject<'a>(alloc: Global, node: &Node<'_, 'a>) -> Result<Subject<'a>, 
 {
     let Who { principal, names } = who_of(alloc, node)?;
     match principal {
-        Some(principal) => Ok(Subject { principal, names }),
+        Some(principal) => Ok(Subject {
+            principal,
+            names: Names::of(names),
+        }),
         None => Err(CertFaultKind::RelativeInEntry),
     }
 }

@@ -2,7 +2,7 @@
 
 ghost use Rattle.std.specs.Prelude.{◌≡◌};
 
-use crate::octets::Octets;
+use crate::names::Names;
 use crate::principal::Principal;
 use crate::window::Window;
 use spki_tag::Tag;
@@ -14,13 +14,12 @@ pub struct Subject<'a> {
     /// The principal itself, or the one that defines the first name.
     pub principal: Principal<'a>,
     /// The names behind it; none where the principal itself is the subject.
-    pub names: Vec<Octets<'a>>,
+    pub names: Names<'a>,
 }
 
 /// A copy has the same principal and the same names.
 impl<'a> Clone for Subject<'a> {
-    ghost is_clone = { λ subject copy.
-        (copy.principal ≡ subject.principal) × (copy.names.items ≡ subject.names.items) };
+    ghost is_clone = { λ subject copy. copy ≡ subject };
 
     fn clone(&self) -> Result<Subject<'a>, AllocError> {
         Ok(Subject {

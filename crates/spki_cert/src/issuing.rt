@@ -9,6 +9,7 @@ use crate::certificate::{AuthCert, NameCert, SeqItem};
 use crate::entry::Subject;
 use crate::fault::CertFaultKind;
 use crate::fields::{Fields, Known, Place, fields_of};
+use crate::names::Names;
 use crate::naming::{Issuer, Who};
 use crate::octets::Octets;
 use crate::principal::Principal;
@@ -33,6 +34,7 @@ fn issued_to<'a>(who: Who<'a>, issuer: &Principal<'a>) -> Subject<'a>
     ensures { IsSubjectOf issuer.now who.entry.principal who.entry.names.items result }
 {
     let Who { principal, names } = who;
+    let names = Names::of(names);
     match principal {
         Some(principal) => Subject { principal, names },
         None => Subject {

@@ -1,7 +1,6 @@
 //! Laws of keys, certificates and access lists, as they are written.
 
 ghost use Rattle.std.specs.Prelude.{◌≡◌, ℕ, List};
-ghost use Rattle.std.specs.List.{AllZip};
 ghost use Rattle.sexpr_core.specs.Value.{Value};
 ghost use Rattle.spki_cert.specs.declared.hash.HashAlg.{HashAlg};
 ghost use Rattle.spki_cert.specs.declared.entry.Entry.{Entry};
@@ -9,7 +8,6 @@ ghost use Rattle.spki_cert.specs.declared.certificate.SeqItem.{SeqItem};
 ghost use Rattle.spki_cert.specs.Readings.{KeyOf, HashOf, DateOf};
 ghost use Rattle.spki_cert.specs.Entries.{AclOf};
 ghost use Rattle.spki_cert.specs.Sequences.{SeqOf};
-ghost use Rattle.spki_cert.specs.Sameness.{SameEntry, SameItem};
 
 /// A value has at most one reading as a key.
 pub fn one_key()
@@ -26,12 +24,12 @@ pub fn one_date()
     ensures { (v : Value) (s t : List ℕ) → DateOf v s → DateOf v t → s ≡ t }
 {}
 
-/// Two readings of a value as an access list have the same entries, but for the form of their tags.
+/// A value has at most one reading as an access list.
 pub fn one_acl()
-    ensures { (v : Value) (es fs : List Entry) → AclOf v es → AclOf v fs → AllZip SameEntry es fs }
+    ensures { (v : Value) (es fs : List Entry) → AclOf v es → AclOf v fs → es ≡ fs }
 {}
 
-/// Two readings of a value as a sequence have the same items, but for the form of their tags.
+/// A value has at most one reading as a sequence.
 pub fn one_sequence()
-    ensures { (v : Value) (is js : List SeqItem) → SeqOf v is → SeqOf v js → AllZip SameItem is js }
+    ensures { (v : Value) (is js : List SeqItem) → SeqOf v is → SeqOf v js → is ≡ js }
 {}

@@ -1,5 +1,5 @@
 -- The definitions at the values of worked examples.
-use Rattle.std.proofs.Common.{◌≡◌, ℕ, List, [], ◌∷◌, Bool, true, false, None, IsTrue, arith, Some, find, Vec, Global, slice_get, refl, ap, codes}
+use Rattle.std.proofs.Common.{◌≡◌, ℕ, List, [], ◌∷◌, Bool, true, false, None, IsTrue, arith, Some, find, slice_get, refl, ap, codes}
 use Rattle.std.proofs.lemmas.Slice.Eq.{bytes_eq-Decides}
 use Rattle.spki_tag.specs.Request.{Request, string}
 use Rattle.spki_tag.specs.Tag.{star}
@@ -63,12 +63,12 @@ same_digest : (octets : List ℕ) (s t : signature.Signature) → Some s ≡ Som
     → IsTrue (is_digest s.alg s.digest octets)
 same_digest octets s t e h = let same : t ≡ s = cc in rw same at h
 
--- for each verifier, and each list of no names
-module _ (verified : Verified) (nameless : Vec (List ℕ) Global) (empty : nameless.items ≡ []) where
+-- for each verifier
+module _ (verified : Verified) where
   -- (entry K (tag (*))), with or without (propagate)
   abbrev entry_for : List ℕ → Bool → Entry
   entry_for k propagate = record {
-    subject = record { principal = principal.Key k; names = nameless };
+    subject = record { principal = principal.Key k; names = [] };
     propagate = propagate;
     tag = star;
     window = record { not_before = None; not_after = None };
@@ -93,7 +93,7 @@ module _ (verified : Verified) (nameless : Vec (List ℕ) Global) (empty : namel
 
   second_entry : Granted 2 two_entries verified
   second_entry = alone_granted two_entries verified 1 (entry_for ka true) refl tt
-      (record { issuer = refl; whole = empty; named = refl; asked = refl; timely = refl })
+      (record { issuer = refl; whole = refl; named = refl; asked = refl; timely = refl })
 
   misnamed : (e : Entry) → e ≡ entry_for kc false → IsTrue (names Open e.subject.principal ka) → ⊥
   misnamed e is h = let k : false ≡ true = rw is at h in cc
@@ -113,7 +113,7 @@ module _ (verified : Verified) (nameless : Vec (List ℕ) Global) (empty : namel
     abbrev certificate : AuthCert
     certificate = record {
       issuer = principal.Key ka;
-      subject = record { principal = principal.Key kb; names = nameless };
+      subject = record { principal = principal.Key kb; names = [] };
       propagate = false;
       tag = star;
       window = record { not_before = None; not_after = None };
@@ -158,9 +158,9 @@ module _ (verified : Verified) (nameless : Vec (List ℕ) Global) (empty : namel
             five certified,
             refl,
             refl,
-            record { issues = record { holder = ka; issued = refl; is_for = record { whole = empty; named = refl } }; allowed = refl; result_is = refl },
+            record { issues = record { holder = ka; issued = refl; is_for = record { whole = refl; named = refl } }; allowed = refl; result_is = refl },
           );
-          grants = record { issuer = refl; whole = empty; named = refl; asked = refl; timely = refl };
+          grants = record { issuer = refl; whole = refl; named = refl; asked = refl; timely = refl };
         })
 
     other_name : (p : Principal) → p ≡ principal.Key kb → IsTrue (names Open p ka) → ⊥

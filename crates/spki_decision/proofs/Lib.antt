@@ -9,6 +9,5 @@ pub mod Stopping
 pub mod Reasons
 pub mod OneExplanation
 pub mod OneReduction
-pub mod SameTuples
 pub mod OneDecision
 pub mod Examples

@@ -11,3 +11,4 @@ pub mod Refusal
 pub mod Supported
 pub mod Reduced
 pub mod Explained
+pub mod Answered

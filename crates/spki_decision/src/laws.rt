@@ -1,15 +1,17 @@
 //! Laws of grants, decisions and explanations.
 
-ghost use Rattle.std.specs.Prelude.{◌≡◌, ◌↔◌, ℕ, List};
+ghost use Rattle.std.specs.Prelude.{◌≡◌, ℕ, List, Result};
 ghost use Rattle.spki_case.specs.Case.{Case, accepted_by};
 ghost use Rattle.spki_case.specs.CaseForm.{IsCaseText};
 ghost use Rattle.spki_decision.specs.declared.deciding.Decision.{Decision};
+ghost use Rattle.spki_decision.specs.declared.deciding.GuardFault.{GuardFault};
 ghost use Rattle.spki_decision.specs.declared.explaining.Explanation.{Explanation};
 ghost use Rattle.spki_decision.specs.declared.reducing.Reduction.{Reduction};
 ghost use Rattle.spki_decision.specs.Granted.{Granted, strict, opened};
 ghost use Rattle.spki_decision.specs.Decision.{IsDecision};
-ghost use Rattle.spki_decision.specs.Reduced.{IsReduction, IsSameReduction, AreDated};
+ghost use Rattle.spki_decision.specs.Reduced.{IsSameReduction};
 ghost use Rattle.spki_decision.specs.Explained.{IsExplanation, IsSameExplanation, Agrees};
+ghost use Rattle.spki_decision.specs.Answered.{IsDecided, IsExplained, IsReduced, AreSame};
 
 use spki_case::Verifier;
 
@@ -28,33 +30,31 @@ pub fn decided_as_explained<V: Verifier>()
         → Agrees explanation decision }
 {}
 
-/// A case has one explanation, whatever the verifier: the first certificate that fails and the test that it fails by, or
-/// each entry's reason.
-pub fn one_explanation<V: Verifier>()
-    ensures { (verifier : V) (c : Case) (explanation other : Explanation)
-        → IsExplanation c (V.accepted verifier) explanation → IsExplanation c (V.accepted verifier) other
-        → IsSameExplanation explanation other }
-{}
-
-/// A case has one reduction, whatever the verifier: the first certificate that fails and the test that it fails by, or what
-/// each entry becomes.
-pub fn one_reduction<V: Verifier>()
-    ensures { (verifier : V) (c : Case) (reduction other : Reduction) → AreDated reduction → AreDated other
-        → IsReduction c (V.accepted verifier) reduction → IsReduction c (V.accepted verifier) other
-        → IsSameReduction reduction other }
-{}
-
-/// Two cases that a text is are granted at the same entries, whatever the verifier: the form in which their tags are
-/// read doesn't matter.
-pub fn one_grant<V: Verifier>()
-    ensures { (verifier : V) (text : List ℕ) (c d : Case) (n : ℕ) → IsCaseText text c → IsCaseText text d
-        → Granted n c (V.accepted verifier) ↔ Granted n d (V.accepted verifier) }
-{}
-
-/// A text has at most one decision, by one verifier or by the accepted list that it has itself.
+/// A text has at most one decision, or is refused as `TooLarge`, by one verifier or by the accepted list that it has itself.
 pub fn one_decision<V: Verifier>()
-    ensures verified { (verifier : V) (text : List ℕ) (c d : Case) (x y : Decision) → IsCaseText text c → IsCaseText text d
-        → IsDecision c (V.accepted verifier) x → IsDecision d (V.accepted verifier) y → x ≡ y }
-    ensures own { (text : List ℕ) (c d : Case) (x y : Decision) → IsCaseText text c → IsCaseText text d
-        → IsDecision c (accepted_by c) x → IsDecision d (accepted_by d) y → x ≡ y }
+    ensures verified { (verifier : V) (text : List ℕ) (c d : Case) (x y : Result Decision GuardFault)
+        → IsCaseText text c → IsCaseText text d
+        → IsDecided c (V.accepted verifier) x → IsDecided d (V.accepted verifier) y → x ≡ y }
+    ensures own { (text : List ℕ) (c d : Case) (x y : Result Decision GuardFault) → IsCaseText text c → IsCaseText text d
+        → IsDecided c (accepted_by c) x → IsDecided d (accepted_by d) y → x ≡ y }
+{}
+
+/// A text has at most one explanation, or is refused as `TooLarge`: the first certificate that fails and the test that it
+/// fails by, or each entry's reason.
+pub fn one_explanation<V: Verifier>()
+    ensures verified { (verifier : V) (text : List ℕ) (c d : Case) (x y : Result Explanation GuardFault)
+        → IsCaseText text c → IsCaseText text d
+        → IsExplained c (V.accepted verifier) x → IsExplained d (V.accepted verifier) y → AreSame IsSameExplanation x y }
+    ensures own { (text : List ℕ) (c d : Case) (x y : Result Explanation GuardFault) → IsCaseText text c → IsCaseText text d
+        → IsExplained c (accepted_by c) x → IsExplained d (accepted_by d) y → AreSame IsSameExplanation x y }
+{}
+
+/// A text has at most one reduction, or is refused as `TooLarge`: the first certificate that fails and the test that it
+/// fails by, or what each entry becomes.
+pub fn one_reduction<V: Verifier>()
+    ensures verified { (verifier : V) (text : List ℕ) (c d : Case) (x y : Result Reduction GuardFault)
+        → IsCaseText text c → IsCaseText text d
+        → IsReduced c (V.accepted verifier) x → IsReduced d (V.accepted verifier) y → AreSame IsSameReduction x y }
+    ensures own { (text : List ℕ) (c d : Case) (x y : Result Reduction GuardFault) → IsCaseText text c → IsCaseText text d
+        → IsReduced c (accepted_by c) x → IsReduced d (accepted_by d) y → AreSame IsSameReduction x y }
 {}

@@ -89,7 +89,7 @@ module _ (policy : Policy) (root : FiveTuple) (f : Five) (reduced : ReducesToFiv
   issues_back : (right : FiveTuple) → Issues policy root right → Issues policy (five_tuple f) right
   issues_back right h = record { holder = h.holder; issued = h.issued; is_for = is_for_back h.holder h.is_for }
 
-  abbrev begins : (right : FourTuple) → Begins policy f.subject.principal f.subject.names.items right
+  abbrev begins : (right : FourTuple) → Begins policy f.subject.principal f.subject.names right
       → Begins policy root.principal root.names right
   begins right h = record {
     rest = h.rest;
@@ -98,7 +98,7 @@ module _ (policy : Policy) (root : FiveTuple) (f : Five) (reduced : ReducesToFiv
   }
 
   begins_back : (right : FourTuple) → Begins policy root.principal root.names right
-      → Begins policy f.subject.principal f.subject.names.items right
+      → Begins policy f.subject.principal f.subject.names right
   begins_back right h = record {
     rest = h.rest;
     named = ap (λ p. names policy p right.key) reduced.principal ∙ h.named;

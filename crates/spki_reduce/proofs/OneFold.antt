@@ -147,7 +147,7 @@ one_fold policy first others f g more d e h has_met k others_met =
     let tags : f.tag ≡ g.tag = has_met ∙ sym others_met in
     let issuers = h.reduced.issuer ∙ sym reduced.issuer in
     let principals : f.subject.principal ≡ g.subject.principal = h.reduced.principal ∙ sym reduced.principal in
-    let names : f.subject.names.items ≡ g.subject.names.items = h.reduced.names ∙ sym reduced.names in
+    let names : f.subject.names ≡ g.subject.names = h.reduced.names ∙ sym reduced.names in
     let delegations : f.propagate ≡ g.propagate = h.reduced.delegation ∙ sym reduced.delegation in
     λ i. record {
       issuer = issuers i;

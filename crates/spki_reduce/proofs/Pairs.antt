@@ -100,10 +100,10 @@ module _
 
 module _
     (policy : Policy) (window : Window) (right : Four) (rest : List (List ℕ)) (subject : Subject)
-    (subject_is : (subject.principal ≡ right.subject.principal) × (subject.names.items ≡ right.subject.names.items ++ rest))
+    (subject_is : (subject.principal ≡ right.subject.principal) × (subject.names ≡ right.subject.names ++ rest))
   where
     pub resolves : (left : Five)
-        → IsTrue (names policy left.subject.principal right.key) × (left.subject.names.items ≡ right.name ∷ rest)
+        → IsTrue (names policy left.subject.principal right.key) × (left.subject.names ≡ right.name ∷ rest)
         → IsMeet left.window right.window window → Overlap left.window right.window
         → BecomesFive policy (five (five_tuple left)) (four (four_tuple right)) (record left { subject = subject; window = window })
     resolves left begins meets overlap = record {
@@ -123,7 +123,7 @@ module _
     }
 
     pub links : (left : Four)
-        → IsTrue (names policy left.subject.principal right.key) × (left.subject.names.items ≡ right.name ∷ rest)
+        → IsTrue (names policy left.subject.principal right.key) × (left.subject.names ≡ right.name ∷ rest)
         → IsMeet left.window right.window window → Overlap left.window right.window
         → BecomesFour policy (four (four_tuple left)) (four (four_tuple right)) (record left { subject = subject; window = window })
     links left begins meets overlap = record {

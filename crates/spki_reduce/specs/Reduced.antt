@@ -23,7 +23,7 @@ use Rattle.spki_reduce.specs.Restrictions.{in_each, within_each, SomeMoment, nod
 pub record ReducesToFive (root : FiveTuple) (f : Five) : Type 0 where
   pub issuer : issuer_of f.issuer ≡ root.issuer
   pub principal : f.subject.principal ≡ root.principal
-  pub names : f.subject.names.items ≡ root.names
+  pub names : f.subject.names ≡ root.names
   pub delegation : f.propagate ≡ root.delegation
   pub requests : (request : Request) → IsRequest request → contains f.tag request ≡ in_each request root.tags
   pub moments : (moment : List ℕ) → within moment f.window ≡ within_each moment root.windows
@@ -35,14 +35,14 @@ pub record ReducesToFour (root : FourTuple) (f : Four) : Type 0 where
   pub key : f.key ≡ root.key
   pub name : f.name ≡ root.name
   pub principal : f.subject.principal ≡ root.principal
-  pub names : f.subject.names.items ≡ root.names
+  pub names : f.subject.names ≡ root.names
   pub moments : (moment : List ℕ) → within moment f.window ≡ within_each moment root.windows
 
 -- An authorization of an issuer for the subject of another, with a tag and a window.
 pub record IsHandedOn (issuer : Issuer) (tag : Tag) (right : Five) (window : Window) (f : Five) : Type 0 where
   pub issuer_is : f.issuer ≡ issuer
   pub principal : f.subject.principal ≡ right.subject.principal
-  pub names : f.subject.names.items ≡ right.subject.names.items
+  pub names : f.subject.names ≡ right.subject.names
   pub delegation : f.propagate ≡ right.propagate
   pub tag_is : f.tag ≡ tag
   pub window_is : f.window ≡ window

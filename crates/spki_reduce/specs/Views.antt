@@ -19,7 +19,7 @@ abbrev pub authorization : Issuer → Subject → Bool → Tag → Window → Fi
 authorization issuer subject delegation tag window = record {
   issuer = issuer;
   principal = subject.principal;
-  names = subject.names.items;
+  names = subject.names;
   delegation = delegation;
   tags = tag ∷ [];
   windows = window ∷ [];
@@ -30,7 +30,7 @@ definition holder name subject window = record {
   key = holder;
   name = name;
   principal = subject.principal;
-  names = subject.names.items;
+  names = subject.names;
   windows = window ∷ [];
 }
 

@@ -59,6 +59,6 @@ pub record IsWrittenFive (f : Five) (v : Value) : Type 0 where
   pub issuer : List Value
   pub issuer_is : IsWrittenIssuer f.issuer issuer
   pub subject : Value
-  pub subject_is : IsWrittenSubject f.subject.principal f.subject.names.items subject
+  pub subject_is : IsWrittenSubject f.subject.principal f.subject.names subject
   pub written : v ≡ five_value ((issuer ++ headed (codes "subject") (subject ∷ []) ∷ []) ++ delegation_values f.propagate)
       f.tag (in_valid (window_limits f.window))

@@ -14,7 +14,7 @@ ghost use Rattle.spki_reduce.specs.Reduced.{BecomesFive, BecomesFour, IsHandedOn
 use crate::fault::ReduceFault;
 use crate::fold::{Cause, Joined};
 use crate::tuple::{Five, Four, Issuer};
-use spki_cert::{Key, Octets, Policy, Subject, Window};
+use spki_cert::{Key, Names, Octets, Policy, Subject, Window};
 use spki_tag::Tag;
 use std::alloc::{AllocError, Global};
 
@@ -237,9 +237,9 @@ fn names_behind<'s, 'a>(
     policy: Policy,
 ) -> Option<&'s [Octets<'a>]>
     ensures begins { IfSome result (λ rest. IsTrue (names policy subject.now.principal definition.now.key)
-        × (subject.now.names.items ≡ definition.now.name ∷ rest.now)) }
+        × (subject.now.names ≡ definition.now.name ∷ rest.now)) }
     ensures other { IfNone result
-        (¬ Begins policy subject.now.principal subject.now.names.items (four_tuple definition.now)) }
+        (¬ Begins policy subject.now.principal subject.now.names (four_tuple definition.now)) }
 {
     match subject.names.as_slice() {
         [] => None,
@@ -261,14 +261,14 @@ fn followed<'a>(
     rest: &[Octets<'a>],
 ) -> Result<Subject<'a>, AllocError>
     ensures { IfOk result (λ made. (made.principal ≡ subject.now.principal)
-        × (made.names.items ≡ subject.now.names.items ++ rest.now)) }
+        × (made.names ≡ subject.now.names ++ rest.now)) }
 {
     let mut names = Vec::new(alloc);
-    push_names(&mut names, &subject.names)?;
+    push_names(&mut names, subject.names.as_slice())?;
     push_names(&mut names, rest)?;
     Ok(Subject {
         principal: subject.principal.share(),
-        names,
+        names: Names::of(names),
     })
 }
 

@@ -130,7 +130,7 @@ fn push_names(alloc: Global, members: &mut Vec<Sexp>, names: &[Octets]) -> Resul
 }
 
 fn write_subject(alloc: Global, subject: &Subject) -> Result<Sexp, AllocError>
-    ensures { IfOk result (λ s. IsWrittenSubject subject.now.principal subject.now.names.items (sexp_value s)) }
+    ensures { IfOk result (λ s. IsWrittenSubject subject.now.principal subject.now.names (sexp_value s)) }
 {
     let principal = write_principal(alloc, &subject.principal)?;
     if subject.names.is_empty() {
@@ -138,7 +138,7 @@ fn write_subject(alloc: Global, subject: &Subject) -> Result<Sexp, AllocError>
     }
     let mut members = begun(alloc, b"name")?;
     members.push(principal)?;
-    push_names(alloc, &mut members, &subject.names)?;
+    push_names(alloc, &mut members, subject.names.as_slice())?;
     Ok(Sexp::list(members))
 }
 

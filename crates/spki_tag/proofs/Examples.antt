@@ -7,8 +7,7 @@ use Rattle.spki_tag.specs.Request as request
 use Rattle.spki_tag.specs.Request.{Request, Requests}
 use Rattle.spki_tag.specs.Tag.{Tag, Limit, alpha, time, date, star, string, prefix, range, list, set, tags, contains, is_normal, nodes, ldepth, tag_value}
 use Rattle.spki_tag.specs.Meet.{nothing}
-use Rattle.spki_tag.specs.NormalForm.{IsNormalOf}
-use Rattle.spki_tag.proofs.Gathered.{gathered_set, star_of_set, nothing_of_list}
+use Rattle.spki_tag.specs.Normal.{normal}
 
 abbrev text_request : List ℕ → Request
 text_request octets = request.string octets
@@ -158,20 +157,47 @@ b = string (codes "b")
 abbrev c : Tag
 c = string (codes "c")
 
+abbrev d : Tag
+d = string (codes "d")
+
+abbrev no_string : Tag
+no_string = range alpha (at_least (codes "b")) (below (codes "a"))
+
 abbrev inner : Tag
 inner = set (tags (b ∷ c ∷ []))
 
-becomes-set_in_set : IsNormalOf (set (tags (a ∷ inner ∷ []))) (set (tags (a ∷ b ∷ c ∷ [])))
-becomes-set_in_set = gathered_set (a ∷ inner ∷ []) (tt, refl, ((tt, (tt, tt)), refl, tt)) refl
+becomes-set_in_set : normal (set (tags (a ∷ inner ∷ d ∷ []))) ≡ set (tags (a ∷ b ∷ c ∷ d ∷ []))
+becomes-set_in_set = refl
 
-becomes-star_in_set : IsNormalOf (set (tags (a ∷ star ∷ []))) star
-becomes-star_in_set = star_of_set (a ∷ star ∷ []) refl
+becomes-star_in_set : normal (set (tags (a ∷ star ∷ b ∷ []))) ≡ star
+becomes-star_in_set = refl
 
-becomes-one_member : IsNormalOf (set (tags (a ∷ []))) a
-becomes-one_member = gathered_set (a ∷ []) (tt, refl, tt) refl
+-- the star of a set in a set
+becomes-star_deeper : normal (set (tags (a ∷ set (tags (b ∷ star ∷ [])) ∷ []))) ≡ star
+becomes-star_deeper = refl
 
-becomes-nothing_in_list : IsNormalOf (list (codes "x") (tags (nothing ∷ []))) nothing
-becomes-nothing_in_list = nothing_of_list (codes "x") (nothing ∷ []) refl
+becomes-one_member : normal (set (tags (a ∷ []))) ≡ a
+becomes-one_member = refl
+
+-- from the inside out: the inner sets are one member, and then the outer one is
+becomes-one_deeper : normal (set (tags (set (tags (set (tags (a ∷ [])) ∷ [])) ∷ nothing ∷ []))) ≡ a
+becomes-one_deeper = refl
+
+becomes-nothing_in_list : normal (list (codes "x") (tags (a ∷ nothing ∷ b ∷ []))) ≡ nothing
+becomes-nothing_in_list = refl
+
+-- a list that is (* set) has no place in a set
+becomes-nothing_deeper :
+    normal (set (tags (a ∷ list (codes "x") (tags (nothing ∷ [])) ∷ b ∷ []))) ≡ set (tags (a ∷ b ∷ []))
+becomes-nothing_deeper = refl
+
+-- repeated members stay, in their order
+becomes-repeated : normal (set (tags (b ∷ a ∷ inner ∷ a ∷ []))) ≡ set (tags (b ∷ a ∷ b ∷ c ∷ a ∷ []))
+becomes-repeated = refl
+
+-- so does a range without members
+becomes-range : normal (list (codes "x") (tags (no_string ∷ []))) ≡ list (codes "x") (tags (no_string ∷ []))
+becomes-range = refl
 
 written-range : canon (tag_value (range alpha (at_least (codes "b")) (below (codes "m")))) ≡ codes "(1:*5:range5:alpha2:ge1:b1:l1:m)"
 unfolding verbatim decimal

@@ -1,12 +1,14 @@
 -- Sets and lists of tags in normal form, and their own normal form.
 use Rattle.std.proofs.Common.{◌≡◌, ℕ, ◌≤◌, Bool, true, false, ◌&&◌, ◌||◌, not, List, [], ◌∷◌, ◌++◌, refl, sym, ap, ◌∙◌, true≢false, length, append-nil, arith, le_trans}
+use Rattle.std.specs.Prelude.{if◌then◌else◌}
 use Rattle.std.specs.List.{list_any}
 use Rattle.std.specs.Str.{bytes_eq}
 use Rattle.spki_tag.specs.Request as request
 use Rattle.spki_tag.specs.Request.{Request, Requests, IsHead}
 use Rattle.spki_tag.specs.Tag.{Tag, Tags, tags, star, string, prefix, range, list, set, none, more, IsTag, AreTags, contains, contain_each, some_contains, nodes, nodes_all, is_star, is_nothing, is_set_or_star, is_none_or_many, is_normal, each_normal, most_nodes, IsNormalTag}
-use Rattle.spki_tag.specs.Meet.{items, gather, nothing, has_nothing}
-use Rattle.spki_tag.specs.NormalForm.{IsNormalOf, AreNormalOf, AreNormal}
+use Rattle.spki_tag.specs.Meet.{items, gather, nothing, has_nothing, listed}
+use Rattle.spki_tag.specs.NormalForm.{IsNormalOf, AreNormal}
+use Rattle.spki_tag.specs.Normal.{spread, set_of}
 use Rattle.spki_tag.specs.Index.{members as in_place}
 use Rattle.spki_tag.proofs.Exact.{second_true, or_false, and_false, append-exact, gather-exact, tags-items, not_barred, its_normal, rest_normal, has_nothing-none}
 use Rattle.spki_tag.proofs.Bounds.{append-nodes, gather-le}
@@ -36,11 +38,6 @@ all_three false true r h k j = j
 all_three false false r h k j = absurd (true≢false (sym k))
 
 -- ---- members of a set
-
--- members of sets are put in their place
-abbrev pub spread : List Tag → List Tag
-spread [] = []
-spread (t ∷ ts) = in_place t ++ spread ts
 
 pub items-tags : (ts : List Tag) → items (tags ts) ≡ ts
 items-tags [] = refl
@@ -174,12 +171,21 @@ gathered_set ts h k =
       no_more = omega (arith, gather-le (spread ts), spread-nodes ts);
     }
 
+-- the set of tags in normal form
+pub set_of-normal : (ts : List Tag) → AreNormal ts → IsNormalOf (set (tags ts)) (set_of (spread ts))
+set_of-normal ts h = by (list_any is_star (spread ts)) refl
+  where
+    by : (b : Bool) → list_any is_star (spread ts) ≡ b
+        → IsNormalOf (set (tags ts)) (if b then star else gather (spread ts))
+    by true e = star_of_set ts e
+    by false e = gathered_set ts h e
+
 pub IsNormalTag-of : (w t : Tag) → IsNormalOf w t → nodes w ≤ most_nodes → IsNormalTag t
 IsNormalTag-of w t h k = record { written = h.written; normal = h.normal; few = le_trans h.no_more k }
 
 -- ---- lists
 
-any_nothing : (ts : List Tag) → has_nothing ts ≡ list_any is_nothing ts
+pub any_nothing : (ts : List Tag) → has_nothing ts ≡ list_any is_nothing ts
 any_nothing [] = refl
 any_nothing (t ∷ ts) = ap (λ b. is_nothing t || b) (any_nothing ts)
 
@@ -209,62 +215,13 @@ list_is_normal head ts h k e few =
     let n = list-members ts k e in
     record { written = (h, n.0); normal = n.1; few = few }
 
--- ---- what was read in place of each
-
-pub AreNormal-of : (ws ts : List Tag) → AreNormalOf ws ts → AreNormal ts
-AreNormal-of [] [] h = tt
-AreNormal-of [] (t ∷ ts) h = absurd h
-AreNormal-of (w ∷ ws) [] h = absurd h
-AreNormal-of (w ∷ ws) (t ∷ ts) h = (h.0.written, h.0.normal, AreNormal-of ws ts h.1)
-
-pub nodes_all-of : (ws ts : List Tag) → AreNormalOf ws ts → nodes_all (tags ts) ≤ nodes_all (tags ws)
-nodes_all-of [] [] h = omega arith
-nodes_all-of [] (t ∷ ts) h = absurd h
-nodes_all-of (w ∷ ws) [] h = absurd h
-nodes_all-of (w ∷ ws) (t ∷ ts) h = omega (arith, h.0.no_more, nodes_all-of ws ts h.1)
-
-some_contains-of : (ws ts : List Tag) (g : Request) → AreNormalOf ws ts
-    → some_contains (tags ts) g ≡ some_contains (tags ws) g
-some_contains-of [] [] g h = refl
-some_contains-of [] (t ∷ ts) g h = absurd h
-some_contains-of (w ∷ ws) [] g h = absurd h
-some_contains-of (w ∷ ws) (t ∷ ts) g h = λ i. h.0.same g i || some_contains-of ws ts g h.1 i
-
-contain_each-of : (ws ts : List Tag) (gs : Requests) → AreNormalOf ws ts
-    → contain_each (tags ts) gs ≡ contain_each (tags ws) gs
-contain_each-of [] [] gs h = refl
-contain_each-of [] (t ∷ ts) gs h = absurd h
-contain_each-of (w ∷ ws) [] gs h = absurd h
-contain_each-of (w ∷ ws) (t ∷ ts) request.none h = refl
-contain_each-of (w ∷ ws) (t ∷ ts) (request.more g gs) h = λ i. h.0.same g i && contain_each-of ws ts gs h.1 i
-
-pub AreNormalOf-push : (ws ts : List Tag) (w t : Tag) → AreNormalOf ws ts → IsNormalOf w t
-    → AreNormalOf (ws ++ w ∷ []) (ts ++ t ∷ [])
-AreNormalOf-push [] [] w t h k = (k, tt)
-AreNormalOf-push [] (u ∷ ts) w t h k = absurd h
-AreNormalOf-push (u ∷ ws) [] w t h k = absurd h
-AreNormalOf-push (v ∷ ws) (u ∷ ts) w t h k = (h.0, AreNormalOf-push ws ts w t h.1 k)
-
--- the normal form of a set is that of the set as it was written
-pub set-of : (ws ts : List Tag) (t : Tag) → AreNormalOf ws ts → IsNormalOf (set (tags ts)) t
-    → IsNormalOf (set (tags ws)) t
-set-of ws ts t h k = record {
-  written = k.written;
-  normal = k.normal;
-  same = λ g. k.same g ∙ some_contains-of ws ts g h;
-  no_more = omega (arith, k.no_more, nodes_all-of ws ts h);
-}
-
--- the same of a list
-pub list-of : (head : List ℕ) (ws ts : List Tag) (t : Tag) → AreNormalOf ws ts
-    → IsNormalOf (list head (tags ts)) t → IsNormalOf (list head (tags ws)) t
-list-of head ws ts t h k = record {
-  written = k.written;
-  normal = k.normal;
-  same = λ g. k.same g ∙ same g;
-  no_more = omega (arith, k.no_more, nodes_all-of ws ts h);
-}
+-- the list of a head and tags in normal form
+pub listed-normal : (head : List ℕ) (ts : List Tag) → IsHead head → AreNormal ts
+    → IsNormalOf (list head (tags ts)) (listed head ts)
+listed-normal head ts h k = by (has_nothing ts) refl
   where
-    same : (g : Request) → contains (list head (tags ts)) g ≡ contains (list head (tags ws)) g
-    same (request.string s) = refl
-    same (request.list requested gs) = ap (λ b. bytes_eq head requested && b) (contain_each-of ws ts gs h)
+    by : (b : Bool) → has_nothing ts ≡ b → IsNormalOf (list head (tags ts)) (if b then nothing else list head (tags ts))
+    by true e = nothing_of_list head ts (sym (any_nothing ts) ∙ e)
+    by false e =
+        let n = list-members ts k (sym (any_nothing ts) ∙ e) in
+        record { written = (h, n.0); normal = n.1; same = λ g. refl; no_more = omega arith }

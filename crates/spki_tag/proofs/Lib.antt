@@ -19,6 +19,7 @@ pub mod Prefixes
 pub mod Exact
 pub mod Bounds
 pub mod Gathered
+pub mod NormalOf
 pub mod Places
 pub mod Entries
 pub mod Sharing

@@ -8,11 +8,13 @@ use Rattle.spki_tag.specs.declared.fault.TagFault.{TagFault}
 use Rattle.spki_tag.specs.declared.fault.TagFault.TheVariants as faults
 use Rattle.spki_tag.specs.Request.{IsHead}
 use Rattle.spki_tag.specs.Tag.{Tag, tags, list, set, IsTag, AreTags, tag_value, tag_values, starred, nodes, nodes_all, most_nodes}
-use Rattle.spki_tag.specs.NormalForm.{IsNormalOf, AreNormalOf, AreNormal}
+use Rattle.spki_tag.specs.Meet.{listed}
+use Rattle.spki_tag.specs.NormalForm.{AreNormal}
+use Rattle.spki_tag.specs.Normal.{spread, set_of, normal, normals}
 use Rattle.spki_tag.specs.Read.{most_read}
 use Rattle.spki_tag.specs.Faults.{TagShows, tag_nodes, tag_nodes_all}
 use Rattle.spki_tag.specs.Steps.{TagShowsAfter, TagsShowAfter, IsRead, AreRead}
-use Rattle.spki_tag.proofs.Gathered.{AreNormal-of, AreNormalOf-push, nodes_all-of, list-of, set-of}
+use Rattle.spki_tag.proofs.NormalOf.{AreNormalOf, AreNormal-of, nodes_all-of, normals-of, normals-push}
 use Rattle.spki_tag.proofs.Shown.{tag_shows-more, parts-all, parts-further, parts-member, tag_nodes-plain, tag_nodes_all-read}
 use Rattle.spki_tag.proofs.Weight.{weight, weights, weight_le-weights}
 
@@ -37,7 +39,7 @@ pub record IsReadSoFar (used : ℕ) (vs : List Value) (ts : List Tag) (counted :
   pub ws : List Tag
   pub written : AreTags (tags ws)
   pub spelled : map tag_value ws ++ left ≡ vs
-  pub normal : AreNormalOf ws ts
+  pub which : ts ≡ normals (tags ws)
   pub sum : counted ≡ used + nodes_all (tags ws)
   pub few : counted ≤ most_read
 
@@ -52,7 +54,7 @@ so_far_push used counted after vs left further ts v t so_far e r = record {
       ∙ append_assoc (map tag_value so_far.ws) (tag_value r.w ∷ []) further
       ∙ ap (λ (x : Value). map tag_value so_far.ws ++ x ∷ further) r.spelled
       ∙ ap (λ (us : List Value). map tag_value so_far.ws ++ us) (sym e) ∙ so_far.spelled;
-  normal = AreNormalOf-push so_far.ws ts r.w t so_far.normal r.normal;
+  which = (λ i. so_far.which i ++ r.which i ∷ []) ∙ sym (normals-push so_far.ws r.w);
   sum = omega (arith, r.counted, so_far.sum, nodes_all-push so_far.ws r.w);
   few = r.few;
 }
@@ -71,35 +73,39 @@ so_far_shows fault used counted vs left further ts v so_far e shows =
 
 -- a list of members that were read
 pub list_is_read : (used after : ℕ) (head : List ℕ) (vs : List Value) (ts : List Tag) (t : Tag) → IsHead head
-    → AreRead (used + 2) vs ts after → IsNormalOf (list head (tags ts)) t → IsRead used (group (plain head ∷ vs)) t after
+    → AreRead (used + 2) vs ts after → t ≡ listed head ts → IsRead used (group (plain head ∷ vs)) t after
 list_is_read used after head vs ts t h r n = record {
   w = list head (tags r.ws);
   written = (h, r.written);
   spelled = ap (λ us. value.list (value.more (plain head) us)) (tag_values-tags r.ws ∙ ap values r.spelled);
-  normal = list-of head r.ws ts t r.normal n;
+  which = n ∙ ap (listed head) r.which;
   counted = omega (arith, r.counted);
   few = r.few;
 }
 
 -- a set of members that were read
 pub set_is_read : (used after : ℕ) (vs : List Value) (ts : List Tag) (t : Tag) → AreRead (used + 1) vs ts after
-    → IsNormalOf (set (tags ts)) t → IsRead used (starred (codes "set") (values vs)) t after
+    → t ≡ set_of (spread ts) → IsRead used (starred (codes "set") (values vs)) t after
 set_is_read used after vs ts t r n = record {
   w = set (tags r.ws);
   written = r.written;
   spelled = ap (starred (codes "set")) (tag_values-tags r.ws ∙ ap values r.spelled);
-  normal = set-of r.ws ts t r.normal n;
+  which = n ∙ ap (λ us. set_of (spread us)) r.which;
   counted = omega (arith, r.counted);
   few = r.few;
 }
 
+each_normal : (used after : ℕ) (vs : List Value) (ts : List Tag) (r : AreRead used vs ts after) → AreNormalOf (tags r.ws) ts
+each_normal used after vs ts r =
+    subst (AreNormalOf (tags r.ws)) (sym r.which) (normals-of (tags r.ws) r.written)
+
 -- few enough nodes for a list or a set of members that were read
 pub members_fit : (used after : ℕ) (vs : List Value) (ts : List Tag) → AreRead used vs ts after
     → 2 + nodes_all (tags ts) ≤ most_nodes
-members_fit used after vs ts r = omega (arith, r.counted, r.few, nodes_all-of r.ws ts r.normal)
+members_fit used after vs ts r = omega (arith, r.counted, r.few, nodes_all-of (tags r.ws) ts (each_normal used after vs ts r))
 
 pub members_normal : (used after : ℕ) (vs : List Value) (ts : List Tag) → AreRead used vs ts after → AreNormal ts
-members_normal used after vs ts r = AreNormal-of r.ws ts r.normal
+members_normal used after vs ts r = AreNormal-of (tags r.ws) ts (each_normal used after vs ts r)
 
 -- ---- lists
 

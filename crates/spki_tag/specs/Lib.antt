@@ -12,6 +12,7 @@ pub mod Grounds
 pub mod GroundFalls
 pub mod Meet
 pub mod NormalForm
+pub mod Normal
 pub mod Index
 pub mod Places
 pub mod TagForms

@@ -10,13 +10,6 @@ pub record IsNormalOf (w t : Tag) : Type 0 where
   pub same : (g : Request) → contains t g ≡ contains w g
   pub no_more : nodes t ≤ nodes w
 
--- each in its place
-abbrev pub AreNormalOf : List Tag → List Tag → Type 0
-AreNormalOf [] [] = Unit {0}
-AreNormalOf [] (t ∷ ts) = ⊥
-AreNormalOf (w ∷ ws) [] = ⊥
-AreNormalOf (w ∷ ws) (t ∷ ts) = IsNormalOf w t × AreNormalOf ws ts
-
 -- tags in normal form
 abbrev pub AreNormal : List Tag → Type 0
 AreNormal [] = Unit {0}

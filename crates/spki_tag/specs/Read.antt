@@ -4,6 +4,7 @@ use Rattle.spki_tag.specs.declared.fault.TagFault.{TagFault}
 use Rattle.spki_tag.specs.declared.fault.TagFault.TheVariants as faults
 use Rattle.sexpr_core.specs.Value.{Value}
 use Rattle.spki_tag.specs.Request.{Request, IsRequest, request_value}
+use Rattle.spki_tag.specs.Normal.{normal}
 use Rattle.spki_tag.specs.NormalForm.{IsNormalOf}
 use Rattle.spki_tag.specs.Tag.{Tag, IsTag, tag_value, nodes}
 
@@ -11,12 +12,14 @@ use Rattle.spki_tag.specs.Tag.{Tag, IsTag, tag_value, nodes}
 abbrev pub most_read : ℕ
 most_read = 1024
 
--- The value is a written tag w of at most 1,024 nodes, of which t is a normal form (RFC 2693, section 6.3.1).
+-- The value is a written tag w of at most 1,024 nodes, and t is its normal form (RFC 2693, section 6.3.1): a tag in
+-- normal form, with the same requests and no more nodes.
 pub record ReadsAs (v : Value) (t : Tag) : Type 0 where
   pub w : Tag
   pub written : IsTag w
   pub spelled : tag_value w ≡ v
   pub few : nodes w ≤ most_read
+  pub which : t ≡ normal w
   pub normal : IsNormalOf w t
 
 -- Unless memory ran out, no tag of at most 1,024 nodes is written as the value.

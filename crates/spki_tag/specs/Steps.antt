@@ -7,7 +7,7 @@ use Rattle.spki_tag.specs.Faults.{TagShows, TagShowsIn, RequestShowsIn, tag_node
 use Rattle.spki_tag.specs.Request.{Request, requests, AreRequests, request_value}
 use Rattle.spki_tag.specs.Tag.{Tag, Ordering, Limit, IsTag, AreTags, tags, tag_value, ordering_name, limit_values, low_values, up_values, starred, nodes, nodes_all}
 use Rattle.spki_tag.specs.Read.{most_read}
-use Rattle.spki_tag.specs.NormalForm.{IsNormalOf, AreNormalOf}
+use Rattle.spki_tag.specs.Normal.{normal, normals}
 
 -- ---- tags
 
@@ -25,7 +25,7 @@ pub record IsRead (used : ℕ) (v : Value) (t : Tag) (after : ℕ) : Type 0 wher
   pub w : Tag
   pub written : IsTag w
   pub spelled : tag_value w ≡ v
-  pub normal : IsNormalOf w t
+  pub which : t ≡ normal w
   pub counted : after ≡ used + nodes w
   pub few : after ≤ most_read
 
@@ -34,7 +34,7 @@ pub record AreRead (used : ℕ) (vs : List Value) (ts : List Tag) (after : ℕ) 
   pub ws : List Tag
   pub written : AreTags (tags ws)
   pub spelled : map tag_value ws ≡ vs
-  pub normal : AreNormalOf ws ts
+  pub which : ts ≡ normals (tags ws)
   pub counted : after ≡ used + nodes_all (tags ws)
   pub few : after ≤ most_read
 

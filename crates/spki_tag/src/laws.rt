@@ -6,6 +6,8 @@ ghost use Rattle.sexpr_core.specs.Value.{Value};
 ghost use Rattle.spki_tag.specs.Faults.{tag_nodes};
 ghost use Rattle.spki_tag.specs.Index.{may_share, places_where, tags_at};
 ghost use Rattle.spki_tag.specs.Meet.{least_above, strict_limit, from, meet, nothing, row};
+ghost use Rattle.spki_tag.specs.Normal.{normal};
+ghost use Rattle.spki_tag.specs.NormalForm.{IsNormalOf};
 ghost use Rattle.spki_tag.specs.Read.{ReadsAs};
 ghost use Rattle.spki_tag.specs.Request.{AreOctets, Request, IsRequest, request_value};
 ghost use Rattle.spki_tag.specs.Tag.{Tag, IsTag, tag_value, tags, contains, is_above, is_below, is_normal, nodes};
@@ -20,9 +22,14 @@ pub fn one_request()
     ensures { (g h : Request) → request_value h ≡ request_value g → h ≡ g }
 {}
 
-/// Two tags that a value reads as contain the same requests.
-pub fn readings_agree()
-    ensures { (v : Value) (t u : Tag) (g : Request) → ReadsAs v t → ReadsAs v u → contains t g ≡ contains u g }
+/// A value is read as at most one tag.
+pub fn one_reading()
+    ensures { (v : Value) (t u : Tag) → ReadsAs v t → ReadsAs v u → t ≡ u }
+{}
+
+/// The normal form of a written tag is in normal form, contains the same requests and has no more nodes.
+pub fn normal_form()
+    ensures { (t : Tag) → IsTag t → IsNormalOf t (normal t) }
 {}
 
 /// The value that a tag is written as has as many nodes of tags as the tag.

@@ -1,10 +1,12 @@
 //! Tags in normal form, which are made from the inside out.
 
-ghost use Rattle.std.specs.Prelude.{◌≡◌, ◌+◌, ◌≤◌, ◌++◌, IfOk, OnOk};
+ghost use Rattle.std.specs.Prelude.{◌≡◌, ◌≤◌, ◌++◌, IfOk, OnOk};
 ghost use Rattle.std.specs.Arc.{arc_slice_items};
 ghost use Rattle.spki_tag.specs.Request.{IsHead};
 ghost use Rattle.spki_tag.specs.Tag.{tags, list, set, nodes, most_nodes};
-ghost use Rattle.spki_tag.specs.NormalForm.{IsNormalOf, AreNormal};
+ghost use Rattle.spki_tag.specs.NormalForm.{AreNormal};
+ghost use Rattle.spki_tag.specs.Normal.{spread, set_of};
+ghost use Rattle.spki_tag.specs.Meet.{listed};
 ghost use Rattle.spki_tag.specs.Index.{members as in_place};
 
 use crate::form::{has_everything, has_nothing};
@@ -33,7 +35,7 @@ impl Tag {
     pub(crate) fn set_of(alloc: Global, members: Vec<Tag>) -> Result<Tag, AllocError>
         requires room { nodes (set (tags members.items)) ≤ most_nodes }
         requires normal { AreNormal members.items }
-        ensures { IfOk result (λ tag. IsNormalOf (set (tags members.items)) tag) }
+        ensures { IfOk result (λ tag. tag ≡ set_of (spread members.items)) }
     {
         let mut spread = Vec::new(alloc);
         for member in members {
@@ -50,7 +52,7 @@ impl Tag {
         requires head { IsHead (arc_slice_items head) }
         requires room { nodes (list (arc_slice_items head) (tags further.items)) ≤ most_nodes }
         requires normal { AreNormal further.items }
-        ensures { IsNormalOf (list (arc_slice_items head) (tags further.items)) result }
+        ensures { result ≡ listed (arc_slice_items head) further.items }
     {
         if has_nothing(&further) {
             Tag::nothing(*further.allocator())

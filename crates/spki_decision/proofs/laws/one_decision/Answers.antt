@@ -1,8 +1,13 @@
-use Rattle.spki_decision.proofs.OneDecision.{decision_of_text, own_decision}
+use Rattle.std.proofs.Common.{◌≡◌, Result}
+use Rattle.spki_decision.specs.declared.deciding.Decision.{Decision}
+use Rattle.spki_decision.specs.declared.deciding.GuardFault.{GuardFault}
+use Rattle.spki_decision.specs.Answered.{IsDecided}
+use Rattle.spki_decision.proofs.OneDecision.{decided_one, of_text, own_of_text}
 use Rattle.spki_decision.proofs.laws.one_decision.Goals as goal
 
 pub returns-clause-verified : goal.returns-clause-verified
-returns-clause-verified g c verifier = decision_of_text (g.V.Verifier.accepted verifier)
+returns-clause-verified g c verifier =
+    of_text IsDecided (λ (x y : Result Decision GuardFault). x ≡ y) decided_one (g.V.Verifier.accepted verifier)
 
 pub returns-clause-own : goal.returns-clause-own
-returns-clause-own g c = own_decision
+returns-clause-own g c = own_of_text IsDecided (λ (x y : Result Decision GuardFault). x ≡ y) decided_one

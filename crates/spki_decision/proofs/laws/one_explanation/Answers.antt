@@ -1,5 +1,11 @@
-use Rattle.spki_decision.proofs.OneExplanation.{one_explanation}
+use Rattle.spki_decision.specs.Explained.{IsSameExplanation}
+use Rattle.spki_decision.specs.Answered.{IsExplained, AreSame}
+use Rattle.spki_decision.proofs.OneDecision.{explained_one, of_text, own_of_text}
 use Rattle.spki_decision.proofs.laws.one_explanation.Goals as goal
 
-pub returns : goal.returns
-returns g c verifier case = one_explanation case (g.V.Verifier.accepted verifier)
+pub returns-clause-verified : goal.returns-clause-verified
+returns-clause-verified g c verifier =
+    of_text IsExplained (AreSame IsSameExplanation) explained_one (g.V.Verifier.accepted verifier)
+
+pub returns-clause-own : goal.returns-clause-own
+returns-clause-own g c = own_of_text IsExplained (AreSame IsSameExplanation) explained_one

@@ -1,5 +1,11 @@
-use Rattle.spki_decision.proofs.OneReduction.{one_reduction}
+use Rattle.spki_decision.specs.Reduced.{IsSameReduction}
+use Rattle.spki_decision.specs.Answered.{IsReduced, AreSame}
+use Rattle.spki_decision.proofs.OneDecision.{reduced_one, of_text, own_of_text}
 use Rattle.spki_decision.proofs.laws.one_reduction.Goals as goal
 
-pub returns : goal.returns
-returns g c verifier case = one_reduction case (g.V.Verifier.accepted verifier)
+pub returns-clause-verified : goal.returns-clause-verified
+returns-clause-verified g c verifier =
+    of_text IsReduced (AreSame IsSameReduction) reduced_one (g.V.Verifier.accepted verifier)
+
+pub returns-clause-own : goal.returns-clause-own
+returns-clause-own g c = own_of_text IsReduced (AreSame IsSameReduction) reduced_one

@@ -1,8 +1,9 @@
 use Rattle.std.specs.Arc.{arc_slice_items}
-use Rattle.std.proofs.Common.{◌≡◌, false, true, sym, ap, ◌∙◌}
+use Rattle.std.proofs.Common.{◌≡◌, false, true, refl, sym, ap, ◌∙◌}
 use Rattle.std.specs.List.{list_any}
 use Rattle.spki_tag.specs.Tag.{is_nothing}
-use Rattle.spki_tag.proofs.Gathered.{nothing_of_list, list_is_normal}
+use Rattle.spki_tag.specs.Meet.{has_nothing}
+use Rattle.spki_tag.proofs.Gathered.{any_nothing, list_is_normal}
 use Rattle.spki_tag.proofs.tag.Tag.list_of.Goals as goal
 
 pub list-requires : goal.list-requires
@@ -13,6 +14,12 @@ list-requires c =
 
 pub returns-then-has_nothing : goal.returns-then-has_nothing
 returns-then-has_nothing c =
-    let some : list_any is_nothing c.args.further.items ≡ true =
-    ap (list_any is_nothing) (sym c.deref.ensures.value) ∙ sym c.if-has_nothing.ensures in
-    rw c.nothing.ensures (nothing_of_list (arc_slice_items c.args.head) c.args.further.items some)
+    let some : has_nothing c.args.further.items ≡ true =
+    any_nothing c.args.further.items ∙ ap (list_any is_nothing) (sym c.deref.ensures.value) ∙ sym c.if-has_nothing.ensures in
+    rw (c.nothing.ensures, some) refl
+
+pub returns-else-has_nothing : goal.returns-else-has_nothing
+returns-else-has_nothing c =
+    let none : has_nothing c.args.further.items ≡ false =
+    any_nothing c.args.further.items ∙ ap (list_any is_nothing) (sym c.deref.ensures.value) ∙ sym c.if-has_nothing.ensures in
+    rw (c.list.ensures, none) refl

@@ -1,5 +1,8 @@
+use Rattle.std.proofs.Common.{sym, subst, arith}
+use Rattle.spki_tag.specs.NormalForm.{IsNormalOf}
 use Rattle.std.proofs.lemmas.Result.{err_from_is_err_and}
 use Rattle.spki_tag.proofs.Refusals.{tag_shown}
+use Rattle.spki_tag.proofs.NormalOf.{normal-of}
 use Rattle.spki_tag.proofs.Spelling.{shows_at_first}
 use Rattle.spki_tag.proofs.tag.Tag.of.Goals as goal
 
@@ -17,3 +20,15 @@ pub returns-in_err-tag-clause-only : goal.returns-in_err-tag-clause-only
 returns-in_err-tag-clause-only c = λ t h few e.
     let p = err_from_is_err_and c.from_residual.result c.from_residual.ensures.1 in
     rw (p.1, p.2) (tag_shown _ c.args.value.now (shows_at_first _ c.args.value.now c.in_err-tag.ensures.shows) t h few e)
+
+pub returns-clause-read : goal.returns-clause-read
+returns-clause-read c =
+    let read = c.in_ok-tag.ensures.read in
+    record {
+      w = read.w;
+      written = read.written;
+      spelled = read.spelled;
+      few = omega (arith, read.counted, read.few);
+      which = read.which;
+      normal = subst (IsNormalOf read.w) (sym read.which) (normal-of read.w read.written);
+    }

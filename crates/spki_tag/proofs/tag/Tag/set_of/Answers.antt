@@ -1,8 +1,9 @@
-use Rattle.std.proofs.Common.{◌≡◌, false, true, sym, ap, ◌∙◌}
+use Rattle.std.proofs.Common.{◌≡◌, true, false, refl, sym, ap, ◌∙◌}
 use Rattle.std.specs.List.{list_any}
 use Rattle.spki_tag.specs.Tag.{tags, set, is_star}
 use Rattle.spki_tag.specs.Meet.{gather}
-use Rattle.spki_tag.proofs.Gathered.{spread, spread-all, star_of_set, gathered_set, IsNormalTag-of}
+use Rattle.spki_tag.specs.Normal.{spread}
+use Rattle.spki_tag.proofs.Gathered.{spread-all, gathered_set, IsNormalTag-of}
 use Rattle.spki_tag.proofs.tag.Tag.set_of.Goals as goal
 
 pub returns-then-has_everything : goal.returns-then-has_everything
@@ -10,9 +11,9 @@ returns-then-has_everything c =
     let rest = c.loop-member.member-iterator.rest in
     let all : c.loop-member.spread.items ≡ spread c.args.members.items =
     spread-all c.loop-member.spread.items rest.items c.args.members.items rest.len c.loop-member.invariant rest.ok.0 c.in-None.ensures.steps.0 in
-    let star : list_any is_star (spread c.args.members.items) ≡ true =
+    let some : list_any is_star (spread c.args.members.items) ≡ true =
     ap (list_any is_star) (sym (c.deref.ensures.value ∙ all)) ∙ sym c.if-has_everything.ensures in
-    rw c.everything.ensures (star_of_set c.args.members.items star)
+    rw (c.everything.ensures, some) refl
 
 pub gathered-requires : goal.gathered-requires
 gathered-requires c =
@@ -31,4 +32,4 @@ returns c =
     spread-all c.loop-member.spread.items rest.items c.args.members.items rest.len c.loop-member.invariant rest.ok.0 c.in-None.ensures.steps.0 in
     let none : list_any is_star (spread c.args.members.items) ≡ false =
     ap (list_any is_star) (sym (c.deref.ensures.value ∙ all)) ∙ sym c.if-has_everything.ensures in
-    rw (c.gathered.ensures, all) (gathered_set c.args.members.items c.requires.normal none)
+    rw (c.gathered.ensures, all, none) refl

@@ -1,0 +1,35 @@
+-- What is answered of a case, memory apart: what decide, explain and reduce_case promise of each answer but Memory.
+use Rattle.std.specs.Prelude.{◌≡◌, Result, Ok, Err}
+use Rattle.spki_case.specs.Case.{Case, Verified}
+use Rattle.spki_decision.specs.declared.deciding.Decision.{Decision}
+use Rattle.spki_decision.specs.declared.deciding.GuardFault.{GuardFault}
+use Rattle.spki_decision.specs.declared.deciding.GuardFault.TheVariants.{TooLarge, Memory}
+use Rattle.spki_decision.specs.declared.explaining.Explanation.{Explanation}
+use Rattle.spki_decision.specs.declared.reducing.Reduction.{Reduction}
+use Rattle.spki_decision.specs.Decision.{IsDecision, IsUnrefused}
+use Rattle.spki_decision.specs.Granted.{IsTooLarge}
+use Rattle.spki_decision.specs.Explained.{IsExplanation}
+use Rattle.spki_decision.specs.Reduced.{IsReduction, AreDated, SomeTooLarge}
+
+abbrev pub IsDecided : Case → Verified → Result Decision GuardFault → Type 0
+IsDecided c verified (Ok decision) = IsDecision c verified decision × IsUnrefused c verified decision
+IsDecided c verified (Err TooLarge) = IsTooLarge c verified
+IsDecided c verified (Err Memory) = ⊥
+
+abbrev pub IsExplained : Case → Verified → Result Explanation GuardFault → Type 0
+IsExplained c verified (Ok explanation) = IsExplanation c verified explanation
+IsExplained c verified (Err TooLarge) = SomeTooLarge c verified
+IsExplained c verified (Err Memory) = ⊥
+
+-- a reduction, whose windows begin at dates
+abbrev pub IsReduced : Case → Verified → Result Reduction GuardFault → Type 0
+IsReduced c verified (Ok reduction) = IsReduction c verified reduction × AreDated reduction
+IsReduced c verified (Err TooLarge) = SomeTooLarge c verified
+IsReduced c verified (Err Memory) = ⊥
+
+-- two answers that are the same, or the same fault
+abbrev pub AreSame : {A : Type 0} → (A → A → Type 0) → Result A GuardFault → Result A GuardFault → Type 0
+AreSame IsSame (Ok a) (Ok b) = IsSame a b
+AreSame IsSame (Ok a) (Err fault) = ⊥
+AreSame IsSame (Err fault) (Ok b) = ⊥
+AreSame IsSame (Err fault) (Err other) = fault ≡ other

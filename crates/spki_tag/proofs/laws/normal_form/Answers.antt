@@ -1,0 +1,5 @@
+use Rattle.spki_tag.proofs.NormalOf.{normal-of}
+use Rattle.spki_tag.proofs.laws.normal_form.Goals as goal
+
+pub returns : goal.returns
+returns c = normal-of
