@@ -1,5 +1,5 @@
 -- What is answered to a text that was read to its end.
-use Rattle.std.specs.Prelude.{◌≡◌, ◌≢◌, ◌⊎◌, ℕ, ◌<◌, List, [], ◌∷◌, ◌++◌, length}
+use Rattle.std.specs.Prelude.{◌≡◌, ◌≢◌, ◌⊎◌, ◌↔◌, ℕ, ◌<◌, List, [], ◌∷◌, ◌++◌, length}
 use Rattle.sexpr_core.specs.declared.fault.FormFault.{FormFault}
 use Rattle.sexpr_core.specs.declared.fault.FormFault.TheVariants as form
 use Rattle.sexpr_core.specs.Value.{Value, canon}
@@ -152,11 +152,12 @@ pub record RefusesRead (command : Command) (text : List ℕ) (refusal : Refusal)
   pub read : IsTextWithin text value
   pub refused : RefusesValue command value refusal
 
--- The text spells and braces no value within the limits, and the fault says why.
+-- The text spells and braces no value within the limits, and the fault says why: TooLong exactly where the text has more than
+-- 1,048,576 octets.
 pub record RefusesForm (text : List ℕ) (fault : FormFault) : Type 0 where
   pub found : fault ≢ form.Memory
   pub none : (v : Value) → ¬ IsTextWithin text v
-  pub long : fault ≡ form.TooLong → 1048576 < length text
+  pub long : (fault ≡ form.TooLong) ↔ (1048576 < length text)
   pub refused : RefusesText text fault
 
 -- What a refusal says of a text. Of memory nothing is said.
