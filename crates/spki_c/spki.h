@@ -79,7 +79,8 @@ static inline enum spki_status spki_answer(enum spki_command command, const void
  * with a sequence. The access list, the key and the moment are the caller's to write all the same: put each part that a stranger
  * handed in through SPKI_CANONICAL, which takes one value and no more, before it goes into a case.
  *
- * The answer is that of SPKI_CHECK, and a refusal of `rows` begins with `refused rows`. The buffer and `needed` are as above. */
+ * The answer is that of SPKI_CHECK, and a refusal of `rows` begins with `refused rows`. The case is read first: where it is refused,
+ * the answer says so, whatever `rows` is. The buffer and `needed` are as above. */
 static inline enum spki_status spki_check_accepted(const void *text, size_t text_length, const void *rows, size_t rows_length,
                                                    void *buffer, size_t buffer_length, size_t *needed)
 {
