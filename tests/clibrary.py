@@ -138,8 +138,10 @@ def agree(words, questions):
 def guards(words):
     """Whether the example prints and exits as it should, with its own files and words and with others in their place."""
     own = ["acl.sexp", "rows.sexp", "sequence.sexp", "key.sexp", MOMENT, "ftp"]
+    with open(os.path.join(C_EXAMPLE, own[2]), encoding="ascii") as file:
+        certificate = file.read().strip().removeprefix("(sequence").removesuffix(")")
     texts = {"no-rows": "(accepted)", "other-key": "(public-key (test c))", "two-keys": "(public-key (test b))) (request (ftp)",
-             "long": "(sequence" + " " * 65536 + ")", "sha1": f"(acl (entry (hash sha1 #{SHA1_OF_B}#) (tag (*))))", "none": "(sequence)",
+             "long": "(sequence" + " " * 65536 + ")", "many": f"(sequence {certificate * 17})", "sha1": f"(acl (entry (hash sha1 #{SHA1_OF_B}#) (tag (*))))", "none": "(sequence)",
              "read": "(acl (entry (public-key (test b)) (tag (cache (* prefix /cache/team1/) read))))"}
     with tempfile.TemporaryDirectory() as room:
         for name, text in texts.items():
@@ -158,6 +160,7 @@ def guards(words):
             ([*own[:4], f"{MOMENT})(1:x", *own[5:]], (2, "refused at BadDate\n")),
             ([at["missing"], *own[1:]], (3, "")),
             ([*own[:2], at["long"], *own[3:]], (2, "refused form TooLong\n")),
+            ([*own[:2], at["many"], *own[3:]], (2, "refused: too many certificates\n")),
             ([at["sha1"], "rows.sexp", at["none"], *own[3:]], (1, "no\n")),
             ([*reading, "/cache/team1/a.o", "read"], (0, "yes entry 1\n")),
             ([*reading, "/cache/team1/a.o", "write"], (1, "no\n")),

@@ -22,7 +22,8 @@
  *   sends Alice's key would have Alice's rights.
  * - Write the access list, the rows and the moment alone, and end the case with `(policy strict)` unless hashes by SHA-1 must name
  *   keys.
- * - Bound the length of what strangers send, as to 65,536 octets: a decision may take over a minute on a text of 1,048,576.
+ * - Bound the length of what strangers send, as to 65,536 octets, and the number of their certificates, as to 16. On some texts
+ *   with more a decision takes minutes, and a call cannot be ended.
  *
  * What else the caller must keep to, which no proof can see:
  *

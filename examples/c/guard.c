@@ -19,9 +19,11 @@
 #include <stdlib.h>
 #include <string.h>
 
-/* The most octets of the service's own files, and of those of the asker. A decision can take much longer on a long text than on a
- * short one, so a service bounds the length of what strangers send. */
-enum { MOST_OCTETS = 1048576, MOST_SHOWN = 65536, READ_FAULT = 3, FIRST_WORD = 6 };
+/* The most octets of the service's own files, the most octets of a file of the asker, and the most certificates that he shows. A
+ * decision takes minutes on some long texts and on some with many certificates, so a service bounds both. */
+enum { MOST_OCTETS = 1048576, MOST_SHOWN = 65536, MOST_CERTIFICATES = 16 };
+
+enum { READ_FAULT = 3, FIRST_WORD = 6 };
 
 struct text {
     unsigned char *octets;
@@ -84,6 +86,17 @@ static struct text value_of(const char *path, size_t most)
     return value;
 }
 
+/* How often the head of a certificate is in a canonical text. There are at most as many certificates. */
+static size_t heads_in(struct text text)
+{
+    static const char head[] = "(4:cert";
+    const size_t length = sizeof head - 1;
+    size_t count = 0;
+    for (size_t at = 0; at + length <= text.length; at++)
+        count += memcmp(text.octets + at, head, length) == 0;
+    return count;
+}
+
 static void put(struct text *out, const void *octets, size_t length)
 {
     memcpy(out->octets + out->length, octets, length);
@@ -133,6 +146,8 @@ int main(int count, char **words)
     }
     struct text rows = file_of(words[2], MOST_OCTETS);
     const struct text parts[3] = {value_of(words[1], MOST_OCTETS), value_of(words[3], MOST_SHOWN), value_of(words[4], MOST_SHOWN)};
+    if (heads_in(parts[1]) > MOST_CERTIFICATES)
+        refuse(words[3], "refused: too many certificates\n", 31, SPKI_REFUSED);
     struct text asked = case_of(parts, words[5], words + FIRST_WORD);
     unsigned char line[256];
     size_t length = 0;

@@ -13,8 +13,9 @@ from keys import hash_of, verifies
 from sexp import canonical, read
 from tools import canonical as canonical_of, spki
 
-# The most octets of a sequence. README.md, "Limits", says why a service bounds what strangers send.
+# The most octets and certificates of a sequence. README.md, "Limits", says why a service bounds them, and the time.
 MOST_SHOWN = 65536
+MOST_CERTIFICATES = 16
 
 
 def key_named(principal, items):
@@ -56,7 +57,8 @@ def ask(access_list, sequence, login, words, moment):
     THE KEY IS THE ONE THAT THE ASKER HAS SHOWN TO HOLD, BY A LOGIN (login.py). NEVER TAKE A KEY THAT WAS ONLY SENT: whoever sends
     Alice's key would have Alice's rights.
 
-    The case is asked without rows first. If the sequence is none, this is the refusal, and its signatures are not looked at.
+    The case is asked without rows first. If the sequence is none, this is the refusal, and its signatures are not looked at. An
+    exception is no yes either.
     """
     if login.key is None:
         raise PermissionError("nobody has logged in")
@@ -66,6 +68,8 @@ def ask(access_list, sequence, login, words, moment):
     case, verdicts = case_of(access_list, [], sequence, login.key, words, moment), []
     status, answer = spki("check", canonical(case))
     if status in (0, 1):
+        if [item[0] for item in sequence[1:]].count(b"cert") > MOST_CERTIFICATES:
+            raise ValueError(f"the sequence has more than {MOST_CERTIFICATES} certificates")
         rows, verdicts = verified(sequence[1:])
         case = case_of(access_list, rows, sequence, login.key, words, moment)
         status, answer = spki("check", canonical(case))
