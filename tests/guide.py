@@ -2,10 +2,10 @@
 """Does what README.md, docs/GUIDE.md and the examples of docs/spki.1 say, each in an empty folder, and compares the answers.
 
 A fenced block `sexp NAME` or `sh NAME` of README.md and the guide is a file, which is written where it stands on the page and has no
-permission to be run until a command gives it. In a block `console`, and in the manual's blocks, a line that begins with `$ ` is a
-command of the shell, one with `> ` goes on with it, and the lines up to the next command are what it should write. The commands of a
-page run as they stand, one after the other in one shell, with the program as `spki`: once in `sh`, and once in `bash` if it is
-there. Prints each command that answers otherwise; the last line counts the commands.
+permission to be run until a command gives it. If examples/ has a file of this name, it must be the same. In a block `console`, and in
+the manual's blocks, a line that begins with `$ ` is a command of the shell, one with `> ` goes on with it, and the lines up to the
+next command are what it should write. The commands of a page run as they stand, one after the other in one shell, with the program
+as `spki`: once in `sh`, and once in `bash` if it is there. Prints each command that answers otherwise; the last line counts.
 
 Build the program first (`rt run` in crates/spki).
 Usage: tests/guide.py [PROGRAM]
@@ -74,19 +74,30 @@ def outputs_of(shell, found, program):
     return done.stdout.split(f"{END}\n")
 
 
+def is_as_in_examples(name, text):
+    """Whether examples/ has no file of this name, or one with this text."""
+    path = os.path.join(TOP, "examples", name)
+    if not os.path.exists(path):
+        return True
+    with open(path, encoding="utf-8") as file:
+        return file.read() == text
+
+
 def run_page(shell, name, steps, program):
     """How many of a page's commands answer as it says, and how many otherwise."""
     with open(os.path.join(TOP, name), encoding="utf-8") as page:
         found = list(steps(page.read()))
     wanted = [(command, answer) for kind, command, answer in found if kind == "command"]
+    others = [file for kind, file, text in found if kind == "file" and not is_as_in_examples(file, text)]
+    print("".join(f"{name}: {file} is not as in examples/\n" for file in others), end="")
     answers = outputs_of(shell, found, program)
-    failed = 0
+    failed = len(others)
     answers += ["nothing"] * (len(wanted) + 1 - len(answers))
     for (command, answer), met in zip(wanted, answers):
         if met.strip("\n") != answer.strip("\n"):
             failed += 1
             print(f"{name}, {shell}: $ {command}\nwrote\n{met}\nand not\n{answer}\n")
-    return len(wanted) - failed, failed
+    return len(wanted) + len(others) - failed, failed
 
 
 def main():

@@ -6,7 +6,7 @@ this nonce in it, and the service verifies the signature by the key that was sho
 The message is `(login SERVICE NONCE)` in canonical form:
 
 - It is no certificate, because a certificate begins with `(4:cert`. So a signature made for a login is none of a certificate.
-- It names the service. So a service that is given a nonce by another one cannot have its own users sign it.
+- It names the service. So a service cannot take the nonce of another one, have its own users sign it, and log in there as them.
 - The nonce is new for each connection and counts once. So an answer that somebody has seen is of no use to him.
 
 A login counts for its connection alone. The connection must be one that nobody else can write into, as by TLS.

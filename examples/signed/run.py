@@ -21,7 +21,7 @@ import tools
 from keys import ED25519, RSA, Pair, hash_of
 from login import Login, message
 from sexp import laid_out, read
-from service import ask
+from service import MOST_CERTIFICATES, MOST_SHOWN, ask
 from tools import canonical, spki
 
 SERVICE = b"packages.example"
@@ -103,22 +103,31 @@ def login_passed(remark, login, key, value, wanted):
     return passed == wanted and known
 
 
-def asks_without_login(story):
-    """Whether the service refuses to ask for somebody who has not logged in."""
-    try:
-        ask(story.access_list, b"(sequence)", Login(SERVICE), READ, NOON)
-    except PermissionError as refusal:
-        print(f"  refused: Carol asks without a login: {refusal}")
-        return True
-    print("  WANTED OTHERWISE: Carol asks without a login")
-    return False
-
-
 def logged_in(pair):
     """A connection in which the holder of a pair has logged in."""
     login = Login(SERVICE)
     login.answer(pair.text, answered(pair, login))
     return login
+
+
+def unasked(story):
+    """What the service does not ask `spki` about: a remark, the connection, the sequence, and the exception that is wanted."""
+    good = signed(story.to_carol, story.bob)
+    yield "Carol has not logged in", Login(SERVICE), story.sequence(good), PermissionError
+    yield "the sequence is too long", logged_in(story.carol), story.sequence(good).ljust(MOST_SHOWN + 1), ValueError
+    yield "there are too many certificates", logged_in(story.carol), story.sequence(good * (MOST_CERTIFICATES - 1)), ValueError
+    yield "there are two sequences", logged_in(story.carol), story.sequence(good) + "(sequence)", ValueError
+
+
+def is_unasked(story, remark, login, sequence, wanted):
+    """Whether the service refuses to decide."""
+    try:
+        ask(story.access_list, sequence.encode(), login, READ, NOON)
+    except wanted as refusal:
+        print(f"  refused: {remark}: {refusal}")
+        return True
+    print(f"  WANTED OTHERWISE: {remark}")
+    return False
 
 
 def attempts(story):
@@ -194,7 +203,9 @@ def main():
         story = Story(room)
         tell(story)
         print("\nLogins:")
-        results = [login_passed(*each) for each in logins(story)] + [asks_without_login(story)]
+        results = [login_passed(*each) for each in logins(story)]
+        print("\nNot asked:")
+        results += [is_unasked(story, *each) for each in unasked(story)]
         results += [attempt(story, folder, *each) for each in attempts(story)]
     print(f"\n{sum(results)} passed, {len(results) - sum(results)} failed")
     return 0 if all(results) else 1
