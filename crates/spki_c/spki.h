@@ -54,7 +54,7 @@ enum spki_command {
     SPKI_INTERSECT = 3, /* of `(intersect A B)`: writes the intersection of two tags */
     SPKI_REDUCE = 4,    /* of a case: writes what each entry becomes with the certificates */
     SPKI_CHECK = 5,     /* of a case: writes `yes entry N`, or `no` */
-    SPKI_EXPLAIN = 6    /* of a case: writes why each entry grants the request, or why it doesn't */
+    SPKI_EXPLAIN = 6    /* of a case: writes why each entry grants the request, or why it does not */
 };
 
 enum spki_status {

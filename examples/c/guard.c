@@ -145,6 +145,7 @@ int main(int count, char **words)
         return SPKI_REFUSED;
     }
     struct text rows = file_of(words[2], MOST_OCTETS);
+    /* THE LAST ONE IS THE KEY. IT IS TAKEN AS IT IS: THE ASKER MUST HAVE SHOWN BEFORE THAT HE HOLDS IT. */
     const struct text parts[3] = {value_of(words[1], MOST_OCTETS), value_of(words[3], MOST_SHOWN), value_of(words[4], MOST_SHOWN)};
     if (heads_in(parts[1]) > MOST_CERTIFICATES)
         refuse(words[3], "refused: too many certificates\n", 31, SPKI_REFUSED);

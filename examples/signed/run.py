@@ -155,7 +155,7 @@ def attempts(story):
 
 
 def wanted_lines(wrong):
-    """What `explain` should say. A certificate that doesn't stand is one line; else there is a line for each entry.
+    """What `explain` should say. A certificate that fails a test is one line; else there is a line for each entry.
 
     Bob's entry is never what the certificates begin with: the first of them, item 2, is by Alice.
     """
