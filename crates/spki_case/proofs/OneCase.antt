@@ -55,19 +55,19 @@ policy-one Strict Open e = absurd (cc)
 policy-one Strict Strict e = refl
 
 -- parts that stand at the same places
-record SameParts (p q : Parts) : Type 0 where
-  acl : acl_value p ≡ acl_value q
-  rows : p.rows ≡ q.rows
-  sequence : sequence_value p ≡ sequence_value q
-  key : p.key ≡ q.key
-  request : p.request ≡ q.request
-  at : p.at ≡ q.at
-  policy : p.policy ≡ q.policy
+pub record SameParts (p q : Parts) : Type 0 where
+  pub acl : acl_value p ≡ acl_value q
+  pub rows : p.rows ≡ q.rows
+  pub sequence : sequence_value p ≡ sequence_value q
+  pub key : p.key ≡ q.key
+  pub request : p.request ≡ q.request
+  pub at : p.at ≡ q.at
+  pub policy : p.policy ≡ q.policy
 
 both : (v w : Value) (vs ws : List Value) → v ∷ vs ≡ w ∷ ws → (v ≡ w) × (vs ≡ ws)
 both v w vs ws e = (cc, cc)
 
-parts-one : (p q : Parts) → case_value p ≡ case_value q → SameParts p q
+pub parts-one : (p q : Parts) → case_value p ≡ case_value q → SameParts p q
 parts-one p q e =
     let acl = both _ _ _ _ (behind_head (codes "case") (part_values p) (part_values q) e) in
     let rows = both _ _ _ _ acl.1 in

@@ -41,7 +41,7 @@ module _ (c : Case) (verified : Verified) where
   decision_one No No a b = refl
 
   -- where a decision is allowed, none is refused
-  decided_small : (x : Decision) → IsDecision c verified x → IsUnrefused c verified x → IsTooLarge c verified → ⊥
+  pub decided_small : (x : Decision) → IsDecision c verified x → IsUnrefused c verified x → IsTooLarge c verified → ⊥
   decided_small (Yes n) a unrefused large =
       let not_before : ¬ (large.place < n) = λ below. unrefused large.tuples large.shown large.place large.entry below large.stands large.at in
       let not_behind : ¬ (n < suc large.place) = λ above. large.none_granted n above a.granted in
@@ -66,7 +66,7 @@ module _ (c : Case) (verified : Verified) where
       let large = some.large in
       subst (AllSmall c) (sym same) small large.place large.entry (slice_get_within c.entries large.place large.entry large.stands) large.stands large.at
 
-  explained_small : (x : Explanation) → IsExplanation c verified x → SomeTooLarge c verified → ⊥
+  pub explained_small : (x : Explanation) → IsExplanation c verified x → SomeTooLarge c verified → ⊥
   explained_small (explanation.Evidence item stop) a some = a.none_shown some.tuples some.shown
   explained_small (explanation.Entries reasons) a some = all_small a.tuples a.shown a.small some
 
@@ -80,7 +80,7 @@ module _ (c : Case) (verified : Verified) where
   explained_one (Err TooLarge) (Err Memory) a b = absurd b
   explained_one (Err Memory) y a b = absurd a
 
-  reduced_small : (x : Reduction) → IsReduction c verified x → SomeTooLarge c verified → ⊥
+  pub reduced_small : (x : Reduction) → IsReduction c verified x → SomeTooLarge c verified → ⊥
   reduced_small (reduction.Evidence item stop) a some = a.none_shown some.tuples some.shown
   reduced_small (reduction.Entries folds) a some = all_small a.tuples a.shown a.small some
 

@@ -60,19 +60,12 @@ IsReduction c verified (Entries folds) = AreFolds c verified folds.items
 
 -- ---- reductions of one case
 
--- the same authorization, or the same item and cause
-abbrev pub IsSameFold : EntryFold → EntryFold → Type 0
-IsSameFold (Done f) (Done g) = five_tuple f ≡ five_tuple g
-IsSameFold (Done f) (Stopped item cause) = ⊥
-IsSameFold (Stopped item cause) (Done f) = ⊥
-IsSameFold (Stopped item cause) (Stopped other last) = (item ≡ other) × (cause ≡ last)
-
 -- the same certificate and test, or the same of each entry
 abbrev pub IsSameReduction : Reduction → Reduction → Type 0
 IsSameReduction (Evidence item stop) (Evidence other last) = (item ≡ other) × (stop ≡ last)
 IsSameReduction (Evidence item stop) (Entries folds) = ⊥
 IsSameReduction (Entries folds) (Evidence item stop) = ⊥
-IsSameReduction (Entries folds) (Entries others) = AllZip IsSameFold folds.items others.items
+IsSameReduction (Entries folds) (Entries others) = folds.items ≡ others.items
 
 -- the limit that a window begins with is a date, as that of each value is
 abbrev pub IsDated : EntryFold → Type 0

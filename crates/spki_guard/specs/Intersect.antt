@@ -20,7 +20,8 @@ abbrev pub intersect_value : Value → Value → Value
 intersect_value a b = headed (codes "intersect") (a ∷ b ∷ [])
 
 -- The value is (intersect A B), and the tag is the meet of A and B: it is in normal form, and contains exactly the
--- requests that both contain. It has at most as many nodes as the product of theirs, and its lists are no deeper.
+-- requests that both contain. The product of the nodes of A and B is at most 1,000,000. The tag has at most as many nodes
+-- as that, and its lists are no deeper.
 pub record Intersects (v : Value) (c : Tag) : Type 0 where
   pub first : Value
   pub second : Value
@@ -29,6 +30,7 @@ pub record Intersects (v : Value) (c : Tag) : Type 0 where
   pub b : Tag
   pub first_read : ReadsAs first a
   pub second_read : ReadsAs second b
+  pub small : nodes a * nodes b ≤ 1000000
   pub which : c ≡ meet a b
   pub normal : IsNormalTag c
   pub exact : (g : Request) → IsRequest g → contains c g ≡ (contains a g && contains b g)

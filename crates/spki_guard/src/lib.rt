@@ -5,6 +5,7 @@ mod answers;
 mod apart;
 mod entry_lines;
 mod intersection;
+pub mod line_laws;
 mod lines;
 mod printing;
 mod reports;

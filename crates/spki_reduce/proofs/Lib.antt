@@ -8,5 +8,6 @@ pub mod Folding
 pub mod Chains
 pub mod Through
 pub mod Lacking
+pub mod OneFive
 pub mod OneFold
 pub mod WrittenNames

@@ -14,10 +14,10 @@ use Rattle.spki_cert.specs.Time.{upto, is_from, is_until, within, IsLimit}
 use Rattle.spki_cert.proofs.Order.{upto-self, upto-then, upto-turned}
 use Rattle.spki_reduce.specs.declared.tuple.Five.{Five}
 use Rattle.spki_reduce.specs.Tuples.{Tuple, five}
-use Rattle.spki_reduce.specs.Views.{five_tuple}
 use Rattle.spki_reduce.specs.Derivation.{from_left}
 use Rattle.spki_reduce.specs.Chain.{FoldsTo, HasMet}
 use Rattle.spki_reduce.proofs.Bracketing.{one_root}
+use Rattle.spki_reduce.proofs.OneFive.{five_one}
 
 -- ---- moments
 
@@ -135,7 +135,7 @@ one_window v w d e same t here =
 
 pub one_fold : (policy : Policy) (first : Tuple) (others : List Tuple) (f g : Five) → others ≢ [] → IsLimit f.window.not_before
     → IsLimit g.window.not_before → FoldsTo policy first others f → HasMet first others f → FoldsTo policy first others g
-    → HasMet first others g → five_tuple f ≡ five_tuple g
+    → HasMet first others g → f ≡ g
 one_fold policy first others f g more d e h has_met k others_met =
     let tree = from_left first others in
     let fives : five k.root ≡ five h.root = one_root policy tree tree (five k.root) (five h.root) refl k.derived h.derived in
@@ -149,11 +149,11 @@ one_fold policy first others f g more d e h has_met k others_met =
     let principals : f.subject.principal ≡ g.subject.principal = h.reduced.principal ∙ sym reduced.principal in
     let names : f.subject.names ≡ g.subject.names = h.reduced.names ∙ sym reduced.names in
     let delegations : f.propagate ≡ g.propagate = h.reduced.delegation ∙ sym reduced.delegation in
-    λ i. record {
+    five_one f g (λ i. record {
       issuer = issuers i;
       principal = principals i;
       names = names i;
       delegation = delegations i;
       tags = tags i ∷ [];
       windows = windows i ∷ [];
-    }
+    })

@@ -1,6 +1,7 @@
 //! Laws of derivations.
 
 ghost use Rattle.std.specs.Prelude.{◌≡◌, ◌≢◌, ℕ, List, [], ◌∷◌, ◌++◌, flat_map};
+ghost use Rattle.sexpr_core.specs.Value.{Value};
 ghost use Rattle.spki_cert.specs.declared.principal.Policy.{Policy};
 ghost use Rattle.spki_cert.specs.declared.principal.Policy.TheVariants.{Open, Strict};
 ghost use Rattle.spki_cert.specs.Time.{IsLimit};
@@ -12,7 +13,7 @@ ghost use Rattle.spki_reduce.specs.declared.fold.Cause.{Cause};
 ghost use Rattle.spki_reduce.specs.declared.tuple.Five.{Five};
 ghost use Rattle.spki_reduce.specs.declared.tuple.Step.{Step};
 ghost use Rattle.spki_reduce.specs.Chain.{tuples_of, FoldsTo, HasMet, StopsAt};
-ghost use Rattle.spki_reduce.specs.Views.{five_tuple};
+ghost use Rattle.spki_reduce.specs.Written.{IsWrittenFive};
 
 /// What is derived in any bracketing is derived when the same tuples are taken in turn, from the left
 /// (RFC 2693, sections 6.3 and 6.4). So a derivation may be looked for in that bracketing alone.
@@ -51,7 +52,12 @@ pub fn one_fold()
     ensures { (policy : Policy) (first : Tuple) (others : List Tuple) (f g : Five) → others ≢ [] →
         IsLimit f.window.not_before → IsLimit g.window.not_before →
         FoldsTo policy first others f → HasMet first others f → FoldsTo policy first others g → HasMet first others g →
-        five_tuple f ≡ five_tuple g }
+        f ≡ g }
+{}
+
+/// An authorization is written as at most one value.
+pub fn one_writing()
+    ensures { (f : Five) (v w : Value) → IsWrittenFive f v → IsWrittenFive f w → v ≡ w }
 {}
 
 /// Some derivation has the leaves of no derivation in another bracketing: a name's definition that stands between

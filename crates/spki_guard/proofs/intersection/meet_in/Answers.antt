@@ -24,6 +24,7 @@ returns-clause-read c =
       b = c.in-Ok-of.tag;
       first_read = c.in-Ok.ensures.read;
       second_read = c.in-Ok-of.ensures.read;
+      small = few;
       which = met.which;
       normal = rw met.which (meet-normal_tag c.in-Ok.tag c.in-Ok-of.tag a b few);
       exact = met.exact;

@@ -1,0 +1,5 @@
+use Rattle.spki_reduce.proofs.OneFive.{written_one}
+use Rattle.spki_reduce.proofs.laws.one_writing.Goals as goal
+
+pub returns : goal.returns
+returns c = written_one
