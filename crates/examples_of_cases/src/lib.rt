@@ -28,6 +28,8 @@ mod limits;
 #[cfg(test)]
 mod meters;
 #[cfg(test)]
+mod programs;
+#[cfg(test)]
 mod runs;
 #[cfg(test)]
 mod structures;

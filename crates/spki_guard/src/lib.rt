@@ -7,6 +7,7 @@ mod entry_lines;
 mod intersection;
 mod lines;
 mod printing;
+mod program;
 mod reports;
 mod running;
 mod statuses;
@@ -15,6 +16,7 @@ pub use answers::{Answer, Verdict, answer_text};
 pub use apart::check_accepted;
 pub use intersection::{IntersectFault, intersect};
 pub use metered_io::Metered;
+pub use program::run_words;
 pub use running::run;
 pub use spki_case::{AcceptedTable, Case, CaseFault, Row, RowsFault, Verifier};
 pub use spki_decision::{
