@@ -1,7 +1,7 @@
 //! Answers to texts in memory, and decisions by rows that stand apart from a case.
 
 use crate::chains::{ALL, C1, KA, KB, accepted, case_of, signed};
-use crate::texts::joined;
+use crate::texts::{FIRST_RUN, joined};
 use spki_guard::{Answer, Command, Verdict, answer_text, check_accepted};
 use std::test::Fail;
 
@@ -23,4 +23,17 @@ fn rows_apart(rt: HostRuntime) -> Result<(), Fail> {
     let no = check_accepted(alloc, text, b"(accepted)");
     assert!(rt; is(&no, Verdict::No, b"no\n"));
     Ok(())
+}
+
+#[test]
+fn case_before_rows(rt: HostRuntime) {
+    let alloc = rt.alloc();
+    let both = check_accepted(alloc, b"(", b")");
+    assert!(rt; is(&both, Verdict::Refused, b"refused form Short\n"));
+    let case = check_accepted(alloc, b"(a)", b")");
+    assert!(rt; is(&case, Verdict::Refused, b"refused case Shape\n"));
+    let rows = check_accepted(alloc, FIRST_RUN.as_bytes(), b")");
+    assert!(rt; is(&rows, Verdict::Refused, b"refused rows Bad 0\n"));
+    let shape = check_accepted(alloc, FIRST_RUN.as_bytes(), b"(a)");
+    assert!(rt; is(&shape, Verdict::Refused, b"refused rows Shape\n"));
 }

@@ -22,6 +22,8 @@ mod inner_ends;
 #[cfg(test)]
 mod meters;
 #[cfg(test)]
+mod programs;
+#[cfg(test)]
 mod runs;
 #[cfg(test)]
 mod structures;
