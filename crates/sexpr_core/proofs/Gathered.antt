@@ -1,12 +1,16 @@
 -- A body in base64, octet by octet.
-use Rattle.std.proofs.Common.{◌≡◌, ℕ, ◌+◌, ◌≤◌, ◌||◌, true, false, not, cond, List, [], ◌∷◌, ◌++◌, length, take, drop, refl, sym, ap, subst, ◌∙◌, append_assoc, append-nil, arith}
+use Rattle.std.proofs.Common.{◌≡◌, ℕ, ◌+◌, ◌-◌, ◌≤◌, ◌||◌, true, false, not, cond, List, [], ◌∷◌, ◌++◌, length, take, drop, refl, sym, ap, subst, ◌∙◌, append_assoc, append-nil, arith, length-append, length-drop}
 use Rattle.std.specs.Prelude.{slice_range}
 use Rattle.std.specs.List.{AllByRecursion}
 use Rattle.std.proofs.lemmas.Bool.Decides.{nat_tests}
 use Rattle.std.proofs.lemmas.List.Elements.{filter-append}
+use Rattle.std.proofs.lemmas.List.{drop-drop, drop_at}
+use Rattle.sexpr_core.specs.declared.fault.FormFault.{FormFault}
+use Rattle.sexpr_core.specs.declared.fault.FormFault.TheVariants.{TooLong, TooDeep, Short, Bad, Trailing, Memory}
+use Rattle.sexpr_core.specs.Bounds.{IsFaultAt}
 use Rattle.sexpr_core.specs.Reading.{StandsAt}
 use Rattle.sexpr_core.specs.Spaces.{is_whitespace, visible, AreSpaces, StartsVisible, Skips}
-use Rattle.sexpr_core.specs.Gathering.{is_symbol, is_body_octet, AreBodyOctets, StartsNoSymbol, SkipsSymbols, GathersTo, BodyAt}
+use Rattle.sexpr_core.specs.Gathering.{is_symbol, is_body_octet, AreBodyOctets, StartsNoSymbol, SkipsSymbols, GathersTo, BodyAt, Passed, IsBodyEnd}
 use Rattle.sexpr_core.specs.Prefix.{StopsAt}
 use Rattle.sexpr_core.proofs.Agreeing.{Agree, agree, spelled_too, stands_too, long_too}
 use Rattle.sexpr_core.proofs.SpaceLaws.{all-append}
@@ -198,3 +202,46 @@ body_stops text at i c mark symbols g stands apart other misfit = record {
       (gathers_too text (take (i + 1) text ++ b.rest) i at i symbols a (omega arith) g)
       (stands_too text (take (i + 1) text ++ b.rest) i i c a (omega arith) stands) misfit other w.octets w.spelled);
 }
+
+-- ---- where a body is refused
+
+passed_to : (text : List ℕ) (at i : ℕ) (symbols : List ℕ) → Gathers text at symbols i → Passed is_body_octet text at i
+passed_to text at i symbols g = record { body = g.body; octets = g.octets; spelled = g.spelled; ordered = g.ordered; within = g.within }
+
+-- an offset at which nothing stands is the text's length
+pub end_is : (text : List ℕ) (i : ℕ) → drop i text ≡ [] → i ≤ length text → i ≡ length text
+end_is text i e le = omega (arith, ap length e, length-drop i text)
+
+pub body_short : (text : List ℕ) (at i : ℕ) (symbols : List ℕ) → Gathers text at symbols i → drop i text ≡ [] → Passed is_body_octet text at (length text)
+body_short text at i symbols g ended = subst (Passed is_body_octet text at) (end_is text i ended g.within) (passed_to text at i symbols g)
+
+pub body_bad : (text : List ℕ) (at i c : ℕ) (symbols : List ℕ) → Gathers text at symbols i → StandsAt text i c → is_body_octet c ≡ false
+    → IsBodyEnd is_body_octet text at (Bad i)
+body_bad text at i c symbols g stands other = (passed_to text at i symbols g, (c, stands, other))
+
+mark_stands : (text : List ℕ) (at mark to : ℕ) (symbols : List ℕ) → (g : GathersTo text at mark symbols to) → drop (to - 1) text ≡ mark ∷ drop to text
+mark_stands text at mark to symbols g =
+    let n : at + length g.body ≡ to - 1 = omega (arith, ap length g.spelled, length-append g.body (mark ∷ drop to text), length-drop at text, length-drop to text, g.goes_on, g.within) in
+    sym (ap (λ k. drop k text) n) ∙ sym (drop-drop (length g.body) at text) ∙ ap (drop (length g.body)) g.spelled ∙ drop_at g.body (mark ∷ drop to text) (length g.body) refl
+
+-- a body that ends at its mark and is no base64
+pub unpacked_end : (text : List ℕ) (at mark to : ℕ) (symbols : List ℕ) (fault : FormFault) → GathersTo text at mark symbols to → is_body_octet mark ≡ false
+    → IsFaultAt (to - 1) fault → IsBodyEnd is_body_octet text at fault
+unpacked_end text at mark to symbols TooLong g other h = h
+unpacked_end text at mark to symbols TooDeep g other h = h
+unpacked_end text at mark to symbols Short g other h = absurd h
+unpacked_end text at mark to symbols (Bad k) g other h =
+    let m = mark_stands text at mark to symbols g in
+    let n : to - 1 + 1 ≡ to = omega (arith, g.goes_on) in
+    subst (λ k. IsBodyEnd is_body_octet text at (Bad k)) (sym h) (
+      record {
+        body = g.body;
+        octets = g.octets;
+        spelled = g.spelled ∙ ap (λ t. g.body ++ t) (sym m);
+        ordered = omega (arith, g.goes_on);
+        within = omega (arith, g.within);
+      },
+      (mark, record { spelled = m ∙ ap (λ k. mark ∷ drop k text) (sym n); within = omega (arith, g.goes_on, g.within) }, other),
+    )
+unpacked_end text at mark to symbols (Trailing k) g other h = h
+unpacked_end text at mark to symbols Memory g other h = tt

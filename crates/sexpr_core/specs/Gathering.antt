@@ -1,6 +1,9 @@
 -- What is gathered of a body in base64: all but its whitespace.
 use Rattle.std.specs.Prelude.{◌≡◌, ℕ, ◌<◌, ◌≤◌, ◌==◌, ◌||◌, ◌&&◌, nat_le, Bool, true, false, List, [], ◌∷◌, ◌++◌, length, drop}
 use Rattle.std.specs.List.{AllByRecursion}
+use Rattle.sexpr_core.specs.declared.fault.FormFault.{FormFault}
+use Rattle.sexpr_core.specs.declared.fault.FormFault.TheVariants.{TooLong, TooDeep, Short, Bad, Trailing, Memory}
+use Rattle.sexpr_core.specs.Reading.{StandsAt}
 use Rattle.sexpr_core.specs.Spaces.{is_whitespace, visible}
 
 -- a symbol of the standard alphabet, or =
@@ -42,3 +45,21 @@ pub record BodyAt (at mark : ℕ) (text : List ℕ) : Type 0 where
   pub rest : List ℕ
   pub octets : AreBodyOctets body
   pub spelled : drop at text ≡ body ++ mark ∷ rest
+
+-- octets that pass a test, from one offset of a text up to another
+pub record Passed (p : ℕ → Bool) (text : List ℕ) (at to : ℕ) : Type 0 where
+  pub body : List ℕ
+  pub octets : AllByRecursion (λ c. p c ≡ true) body
+  pub spelled : drop at text ≡ body ++ drop to text
+  pub ordered : at ≤ to
+  pub within : to ≤ length text
+
+-- Where a body is refused whose octets pass a test. Short: all octets pass that stand from the offset on. Bad: those
+-- before the octet pass, and it does not.
+abbrev pub IsBodyEnd : (ℕ → Bool) → List ℕ → ℕ → FormFault → Type 0
+IsBodyEnd p text at TooLong = ⊥
+IsBodyEnd p text at TooDeep = ⊥
+IsBodyEnd p text at Short = Passed p text at (length text)
+IsBodyEnd p text at (Bad k) = Passed p text at k × ((c : ℕ) × StandsAt text k c × (p c ≡ false))
+IsBodyEnd p text at (Trailing k) = ⊥
+IsBodyEnd p text at Memory = Unit {0}

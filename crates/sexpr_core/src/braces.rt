@@ -8,7 +8,7 @@ ghost use Rattle.sexpr_core.specs.Braces.{in_braces, transport, IsBase64, IsBrac
 ghost use Rattle.sexpr_core.specs.Bounds.{IsFaultAt, IsBodyFault, RefusesBody};
 ghost use Rattle.sexpr_core.specs.BraceRefusal.{RefusesBraces};
 ghost use Rattle.sexpr_core.specs.Prefix.{RefusesPart};
-ghost use Rattle.sexpr_core.specs.Gathering.{is_symbol, is_body_octet, AreBodyOctets, SkipsSymbols, GathersTo, BodyAt};
+ghost use Rattle.sexpr_core.specs.Gathering.{is_symbol, is_body_octet, AreBodyOctets, SkipsSymbols, GathersTo, BodyAt, IsBodyEnd};
 
 use crate::checker::check_canonical;
 use crate::fault::FormFault;
@@ -90,6 +90,7 @@ fn gather(alloc: Global, text: &[u8], at: usize, mark: u8) -> Result<Gathered, F
     ensures read { IfOk result (λ read. GathersTo text.now at mark read.symbols.items read.end) }
     ensures only { (body rest : List ℕ) → AreBodyOctets body → drop at text.now ≡ body ++ mark ∷ rest → IsOkUnless result FormFault.Memory }
     ensures refused { IfErr result (λ fault. RefusesPart (BodyAt at mark) text.now at fault) }
+    ensures begun { IfErr result (λ fault. IsBodyEnd is_body_octet text.now at fault) }
 {
     let mut symbols = Vec::new(alloc);
     let mut i = at;
@@ -152,6 +153,7 @@ pub fn read_base64(alloc: Global, text: &[u8], at: usize, mark: u8) -> Result<Un
     ensures only { (body rest octets : List ℕ) → IsBase64 (visible body) octets
         → drop at text.now ≡ body ++ mark ∷ rest → IsOkUnless result FormFault.Memory }
     ensures refused { IfErr result (λ fault. RefusesPart (PackedAt at mark) text.now at fault) }
+    ensures begun { IfErr result (λ fault. IsBodyEnd is_body_octet text.now at fault) }
 {
     let Gathered { symbols, end } = gather(alloc, text, at, mark)?;
     let octets = unpack(alloc, symbols, end - 1)?;

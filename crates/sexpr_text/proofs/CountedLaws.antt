@@ -5,7 +5,7 @@ use Rattle.sexpr_core.specs.Value.{decimal, verbatim}
 use Rattle.sexpr_core.specs.Reading.{StandsAt}
 use Rattle.sexpr_core.proofs.Decimal.{IsDigit, AreDigits, AreDigits-decimal, decimal_zero, decimal_leads, decimal_same, decimal_starts}
 use Rattle.sexpr_core.proofs.Texts.{verbatim_is}
-use Rattle.sexpr_text.specs.Strings.{is_digit, is_token_octet, IsToken, IsMarked, Simple}
+use Rattle.sexpr_text.specs.Strings.{is_digit, is_token_octet, IsToken, IsQuoted, IsMarked, Simple}
 use Rattle.sexpr_text.specs.Reads.{Reads, ReadsCount, ReadsOctets, ReadsString, StringAt, Stops}
 use Rattle.sexpr_text.proofs.Marked.{Passes, one_front, is_mark, marked_first, one_marked, marked_few}
 use Rattle.sexpr_text.proofs.OneString.{Cut, cut, IsBehind, simple_first}
@@ -30,7 +30,7 @@ zero_once (suc n) d x y e =
     let k : s.digit ≡ 48 = cc in
     absurd (decimal_leads (suc n) s.rest (omega arith) (s.is ∙ ap (λ m. m ∷ s.rest) k))
 
-count_once : (w n d : ℕ) (x y : List ℕ) → (w ≡ 0) ⊎ Stops is_digit x → (IsDigit d → ⊥) → decimal w ++ x ≡ decimal n ++ d ∷ y → (w ≡ n) × (x ≡ d ∷ y)
+pub count_once : (w n d : ℕ) (x y : List ℕ) → (w ≡ 0) ⊎ Stops is_digit x → (IsDigit d → ⊥) → decimal w ++ x ≡ decimal n ++ d ∷ y → (w ≡ n) × (x ≡ d ∷ y)
 count_once w n d x y (inl z) other e =
     let p = zero_once n d x y (ap (λ k. decimal k ++ x) (sym z) ∙ e) in (z ∙ p.0, p.1)
 count_once w n d x y (inr stops) other e =
@@ -64,7 +64,7 @@ cut_behind w c d cs x ds t a rest ends low other (inr (m, inr n, k)) e f =
     let p = count_once w (length a) d x (t ++ rest) ends other (sym e ∙ f ∙ ap (λ u. u ++ d ∷ (t ++ rest)) n) in
     (p.0, inr (d ∷ t, k, p.1))
 
-ends_written : (n w : ℕ) (x : List ℕ) → n ≡ min w 1048577 → (n ≡ 0) ⊎ Stops is_digit x → (w ≡ 0) ⊎ Stops is_digit x
+pub ends_written : (n w : ℕ) (x : List ℕ) → n ≡ min w 1048577 → (n ≡ 0) ⊎ Stops is_digit x → (w ≡ 0) ⊎ Stops is_digit x
 ends_written n w x c (inl z) = inl (omega arith)
 ends_written n w x c (inr s) = inr s
 
@@ -187,6 +187,10 @@ marked_string text at end octets m = record {
   forward = m.forward;
   within = m.within;
 }
+
+pub quoted_string : (text : List ℕ) (at end : ℕ) (octets : List ℕ) → Reads IsQuoted text at octets end → ReadsString text at octets end
+quoted_string text at end octets r =
+    marked_string text at end octets (record { spelling = r.spelling; spelled = r.spelled; meant = inl r.meant; forward = r.forward; within = r.within })
 
 pub nothing_stands : (text : List ℕ) (at : ℕ) (a rest : List ℕ) → StringAt text at a rest → drop at text ≡ [] → ⊥
 nothing_stands text at a rest s e =

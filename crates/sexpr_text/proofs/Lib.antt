@@ -17,3 +17,9 @@ pub mod RefusedDigits
 pub mod RefusedStrings
 pub mod RefusedValues
 pub mod Elsewhere
+pub mod UnclosedLaws
+pub mod Beginnings
+pub mod OneRefusal
+pub mod StringEnds
+pub mod ValueEnds
+pub mod WholeEnds

@@ -2,13 +2,13 @@
 use Rattle.std.proofs.Common.{◌≡◌, ℕ, ◌<◌, ◌≤◌, ◌==◌, ◌||◌, ◌&&◌, nat_le, Bool, true, false, List, [], ◌∷◌, ◌++◌, Some, None, refl, sym, ap, subst, ◌∙◌, append_assoc, arith, inl, inr}
 use Rattle.std.proofs.lemmas.Bool.{or_cases, and_parts, eqb-true, leb-true, cases_Bool, agree_below_at}
 use Rattle.sexpr_core.specs.Value.{Value, Values, string, list, none, more, canon}
-use Rattle.sexpr_core.specs.Spaces.{is_whitespace, AreSpaces, StartsVisible}
+use Rattle.sexpr_core.specs.Spaces.{is_whitespace, AreSpaces, IsSpace, StartsVisible}
 use Rattle.sexpr_core.specs.Braces.{IsBase64, Braced}
 use Rattle.sexpr_core.specs.Spaces.{visible}
 use Rattle.sexpr_core.proofs.Base64Laws.{body_octets}
 use Rattle.sexpr_core.proofs.Gathered.{one_body}
 use Rattle.sexpr_core.proofs.BraceLaws.{one_packed}
-use Rattle.sexpr_core.proofs.SpaceLaws.{one_end}
+use Rattle.sexpr_core.proofs.SpaceLaws.{one_end, all-append}
 use Rattle.sexpr_core.proofs.Texts.{canon_one}
 use Rattle.sexpr_text.specs.Strings.{is_token_octet, Simple, IsApart}
 use Rattle.sexpr_text.specs.Spelling.{IsHinted, SpellsAs, SpellsMembers, Spells, IsText}
@@ -31,7 +31,7 @@ space_starts c h k =
     let g : (is_whitespace c && is_value_start c) ≡ true = rw (h, k) refl in
     let x : false ≡ true = sym f ∙ g in cc
 
-start_visible : (c : ℕ) → is_value_start c ≡ true → is_whitespace c ≡ false
+pub start_visible : (c : ℕ) → is_value_start c ≡ true → is_whitespace c ≡ false
 start_visible c h = elim (cases_Bool (is_whitespace c)) [
   | inl e ↦ absurd (space_starts c e h)
   | inr e ↦ e
@@ -73,7 +73,7 @@ value_visible e s x v m =
 
 -- ---- what stands behind a token
 
-space_apart : (c : ℕ) → is_whitespace c ≡ true → is_token_octet c ≡ false
+pub space_apart : (c : ℕ) → is_whitespace c ≡ true → is_token_octet c ≡ false
 space_apart c h =
     let f : (is_whitespace c && is_token_octet c) ≡ false = agree_below_at (λ d. is_whitespace d && is_token_octet d) (λ d. false) 33 c refl (space_low c h) in
     ap (λ b. b && is_token_octet c) (sym h) ∙ f
@@ -178,6 +178,12 @@ mutual
       let o = one_spelling m.1 n.1 m.2 (m.3 ++ 41 ∷ r) n.2 (n.3 ++ 41 ∷ q) v w m.6 (apart_append m.1 m.3 r 41 m.7 refl) n.6 (apart_append n.1 n.3 q 41 n.7 refl) p.1 in
       let i = one_members m.3 r n.3 q vs ws m.8 n.8 o.1 in
       (ap (λ k. more k vs) o.0 ∙ ap (more w) i.0, i.1)
+
+-- whitespace may stand in front of members
+pub spaces_members : (spaces inside : List ℕ) (vs : Values) → AreSpaces spaces → SpellsMembers inside vs → SpellsMembers (spaces ++ inside) vs
+spaces_members spaces inside none h m = all-append IsSpace spaces inside h m
+spaces_members spaces inside (more v vs) h m =
+    (spaces ++ m.0, m.1, m.2, m.3, ap (λ t. spaces ++ t) m.4 ∙ sym (append_assoc spaces m.0 (m.2 ++ m.3)), all-append IsSpace spaces m.0 h m.5, m.6, m.7, m.8)
 
 -- ---- whole texts
 

@@ -1,47 +1,21 @@
--- The faults of a part of a text, seen from where the part's whole begins.
-use Rattle.std.proofs.Common.{◌≡◌, ℕ, zero, suc, ◌+◌, ◌-◌, ◌<◌, ◌≤◌, ◌==◌, true, inl, inr, List, [], ◌∷◌, ◌++◌, length, take, drop, refl, sym, ap, subst, ◌∙◌, arith, length-append, length-drop}
-use Rattle.std.proofs.lemmas.Bool.{cond_both, cases_lt}
+-- The refusals of a text in either form.
+use Rattle.std.proofs.Common.{◌≡◌, ℕ, ◌+◌, ◌<◌, ◌≤◌, true, inl, inr, List, [], ◌∷◌, ◌++◌, length, take, drop, refl, sym, ap, subst, ◌∙◌, arith, length-append, length-drop}
+use Rattle.std.proofs.lemmas.Bool.{cases_lt, cases_Bool}
 use Rattle.std.proofs.lemmas.List.{drop-drop, take-append-le}
 use Rattle.sexpr_core.specs.declared.fault.FormFault.{FormFault}
-use Rattle.sexpr_core.specs.declared.fault.FormFault.TheVariants.{TooLong, TooDeep, Short, Bad, Trailing, Memory}
+use Rattle.sexpr_core.specs.declared.fault.FormFault.TheVariants.{Bad}
 use Rattle.sexpr_core.specs.Value.{Value, plain}
-use Rattle.sexpr_core.specs.Spaces.{AreSpaces, Skips}
-use Rattle.sexpr_core.specs.Bounds.{IsTrailingBehind}
+use Rattle.sexpr_core.specs.Reading.{StandsAt}
+use Rattle.sexpr_core.specs.Spaces.{is_whitespace, AreSpaces, Skips}
 use Rattle.sexpr_core.specs.Prefix.{Begins}
 use Rattle.sexpr_core.specs.Braces.{Braced, IsBraced}
 use Rattle.sexpr_core.specs.BraceRefusal.{RefusesBraces}
 use Rattle.sexpr_core.proofs.Agreeing.{Agree, agree, same_head, skips_too}
 use Rattle.sexpr_core.proofs.BraceLaws.{opening, spaces_begin}
-use Rattle.sexpr_core.proofs.SpaceLaws.{spaces_front}
+use Rattle.sexpr_core.proofs.SpaceLaws.{SpacesTo, no_spaces, more_spaces, spaces_stop, spaces_end, spaces_front, one_end}
 use Rattle.sexpr_text.specs.Spelling.{Spells, IsText}
-use Rattle.sexpr_text.specs.Refusal.{openings, IsSpelling, RefusesSpelling, RefusesText, IsSomeText}
-use Rattle.sexpr_text.specs.Reads.{ReadsValue}
-use Rattle.sexpr_text.proofs.Trees.{front_read, brace_unspelled}
-
-openings_more : (c : ℕ) (cs : List ℕ) → openings cs ≤ openings (c ∷ cs)
-openings_more c cs = cond_both (c == 40) (suc (openings cs)) (openings cs) (λ n. openings cs ≤ n) (λ e. omega arith) (λ e. omega arith)
-
-openings_drop : (n : ℕ) (xs : List ℕ) → openings (drop n xs) ≤ openings xs
-openings_drop zero xs = omega arith
-openings_drop (suc n) [] = omega arith
-openings_drop (suc n) (x ∷ xs) = omega (arith, openings_drop n xs, openings_more x xs)
-
-pub openings_later : (text : List ℕ) (at i : ℕ) → at ≤ i → openings (drop i text) ≤ openings (drop at text)
-openings_later text at i le =
-    let e : at + (i - at) ≡ i = omega arith in
-    let d : drop (i - at) (drop at text) ≡ drop i text = drop-drop (i - at) at text ∙ ap (λ n. drop n text) e in
-    subst (λ t. openings t ≤ openings (drop at text)) d (openings_drop (i - at) (drop at text))
-
--- ---- the whole text
-
-pub trailing_refused : (text : List ℕ) (begin to : ℕ) (v : Value) (fault : FormFault) → length text ≤ 1048576 → Skips text 0 begin → ReadsValue 64 text begin v to
-    → IsTrailingBehind text to fault → RefusesSpelling text fault
-trailing_refused text begin to v TooLong short s r h = absurd h
-trailing_refused text begin to v TooDeep short s r h = absurd h
-trailing_refused text begin to v Short short s r h = absurd h
-trailing_refused text begin to v (Bad k) short s r h = absurd h
-trailing_refused text begin to v (Trailing k) short s r h = (h.0, (v, front_read text begin to k v short s r h.1))
-trailing_refused text begin to v Memory short s r h = absurd h
+use Rattle.sexpr_text.specs.Refusal.{IsSpelling, RefusesSpelling, OpensBrace, RefusesText, IsSomeText}
+use Rattle.sexpr_text.proofs.Trees.{brace_unspelled}
 
 -- ---- either form
 
@@ -95,14 +69,18 @@ no_braces text begin at s unopened lt never b =
     let first : h.octet ≡ 123 = cc in
     unopened (h.first, h.first_is ∙ ap (λ c. c ∷ h.first) first))
 
+pub opens_brace : (text rest : List ℕ) (begin : ℕ) → Skips text 0 begin → drop begin text ≡ 123 ∷ rest → OpensBrace text
+opens_brace text rest begin s e = record { before = s.spaces; rest = rest; parts = s.spelled ∙ ap (λ t. s.spaces ++ t) e; spaces_before = s.are_spaces }
+
+brace_found : (text : List ℕ) (begin : ℕ) → Skips text 0 begin → (o : OpensBrace text) → drop begin text ≡ 123 ∷ o.rest
+brace_found text begin s o = (one_end s.spaces o.before (drop begin text) (123 ∷ o.rest) s.are_spaces o.spaces_before s.ends refl (sym s.spelled ∙ o.parts)).1
+
 pub spelling_refused : (text : List ℕ) (begin : ℕ) (fault : FormFault) → Skips text 0 begin → (((rest : List ℕ) × (drop begin text ≡ 123 ∷ rest)) → ⊥)
     → RefusesSpelling text fault → RefusesText text fault
-spelling_refused text begin TooLong s unopened h = h
-spelling_refused text begin TooDeep s unopened h = inl h
-spelling_refused text begin Short s unopened h = tt
-spelling_refused text begin (Bad at) s unopened h = (h.0, no_braces text begin at s unopened h.0 h.1)
-spelling_refused text begin (Trailing at) s unopened h = (h.0, (h.1.0, inl h.1.1))
-spelling_refused text begin Memory s unopened h = tt
+spelling_refused text begin fault s unopened h = inr (λ o. unopened (o.rest, brace_found text begin s o), h)
+
+braces_stop : (text : List ℕ) (at : ℕ) → RefusesBraces text (Bad at) → Begins IsBraced (take (at + 1) text) → ⊥
+braces_stop text at h b = h.1 b
 
 -- where a text opens a brace, what begins as it does is no spelling
 no_spelling : (text rest : List ℕ) (begin at : ℕ) → Skips text 0 begin → drop begin text ≡ 123 ∷ rest → at < length text
@@ -122,9 +100,24 @@ no_spelling text rest begin at s e lt never b =
 
 pub braces_refused : (text rest : List ℕ) (begin : ℕ) (fault : FormFault) → Skips text 0 begin → drop begin text ≡ 123 ∷ rest → RefusesBraces text fault
     → RefusesText text fault
-braces_refused text rest begin TooLong s e h = h
-braces_refused text rest begin TooDeep s e h = inr h
-braces_refused text rest begin Short s e h = tt
-braces_refused text rest begin (Bad at) s e h = (h.0, no_spelling text rest begin at s e h.0 h.1)
-braces_refused text rest begin (Trailing at) s e h = (h.0, (h.1.0, inr h.1.1))
-braces_refused text rest begin Memory s e h = tt
+braces_refused text rest begin fault s e h = inl (opens_brace text rest begin s e, h)
+
+-- ---- no text of a value goes on at an octet that is refused
+
+past_spaces : (text : List ℕ) (i : ℕ) (rest : List ℕ) → drop i text ≡ rest → SpacesTo text 0 i → (to : ℕ) × Skips text 0 to
+past_spaces text i [] e s = (i, spaces_end text 0 i s e)
+past_spaces text i (c ∷ cs) e s =
+    let n : drop (i + 1) text ≡ cs = sym (drop-drop 1 i text) ∙ ap (drop 1) e in
+    let stands : StandsAt text i c = record { spelled = e ∙ ap (λ t. c ∷ t) (sym n); within = omega (arith, ap length e, length-drop i text) } in
+    elim (cases_Bool (is_whitespace c)) [
+      | inl w ↦ past_spaces text (i + 1) cs n (more_spaces text 0 i c s stands w)
+      | inr v ↦ (i, spaces_stop text 0 i c s stands v)
+    ]
+
+pub bad_is_bad : (text : List ℕ) (at : ℕ) → RefusesText text (Bad at) → (at < length text) × (Begins IsSomeText (take (at + 1) text) → ⊥)
+bad_is_bad text at (inl h) =
+    let s = past_spaces text 0 text refl (no_spaces text 0 (omega arith)) in
+    (h.1.0, no_spelling text h.0.rest s.0 at s.1 (brace_found text s.0 s.1 h.0) h.1.0 (λ b. braces_stop text at h.1 b))
+bad_is_bad text at (inr h) =
+    let s = past_spaces text 0 text refl (no_spaces text 0 (omega arith)) in
+    (h.1.0, no_braces text s.0 at s.1 (λ brace. h.0 (opens_brace text brace.0 s.0 s.1 brace.1)) h.1.0 (λ b. h.1.3 (inl b)))

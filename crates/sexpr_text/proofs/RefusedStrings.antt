@@ -34,7 +34,7 @@ memory_refused T text at fault e = subst (RefusesPart T text at) (sym e) tt
 
 -- ---- what was read of a text was read of the other
 
-marked_too : (text other : List ℕ) (n at to : ℕ) (octets : List ℕ) → Agree text other n → to ≤ n + 1 → Reads IsMarked text at octets to → Reads IsMarked other at octets to
+pub marked_too : (text other : List ℕ) (n at to : ℕ) (octets : List ℕ) → Agree text other n → to ≤ n + 1 → Reads IsMarked text at octets to → Reads IsMarked other at octets to
 marked_too text other n at to octets a le r = record {
   spelling = r.spelling;
   spelled = spelled_too text other n at to r.spelling a (omega (arith, r.forward)) le r.spelled;
@@ -43,7 +43,7 @@ marked_too text other n at to octets a le r = record {
   within = omega (arith, long_too text other n a);
 }
 
-count_too : (text other : List ℕ) (n at number to : ℕ) → Agree text other n → to ≤ n + 1 → ReadsCount text at number to → ReadsCount other at number to
+pub count_too : (text other : List ℕ) (n at number to : ℕ) → Agree text other n → to ≤ n + 1 → ReadsCount text at number to → ReadsCount other at number to
 count_too text other n at number to a le r = record {
   written = r.written;
   capped = r.capped;
@@ -52,7 +52,7 @@ count_too text other n at number to a le r = record {
   within = omega (arith, long_too text other n a);
 }
 
-ends_too : (text other : List ℕ) (n number to : ℕ) → Agree text other n → to ≤ n → (number ≡ 0) ⊎ Stops is_digit (drop to text) → (number ≡ 0) ⊎ Stops is_digit (drop to other)
+pub ends_too : (text other : List ℕ) (n number to : ℕ) → Agree text other n → to ≤ n → (number ≡ 0) ⊎ Stops is_digit (drop to text) → (number ≡ 0) ⊎ Stops is_digit (drop to other)
 ends_too text other n number to a le (inl z) = inl z
 ends_too text other n number to a le (inr s) =
     let h = same_head text other n to a le in

@@ -20,7 +20,7 @@ token_first text at c octets stands other token e = rw e (record {
   within = omega (arith, stands.within);
 })
 
-token_grows : (xs : List ℕ) (c : ℕ) → IsToken xs → is_token_octet c ≡ true → IsToken (xs ++ c ∷ [])
+pub token_grows : (xs : List ℕ) (c : ℕ) → IsToken xs → is_token_octet c ≡ true → IsToken (xs ++ c ∷ [])
 token_grows [] c h token = absurd h
 token_grows (x ∷ xs) c h token = (h.0, all-append (λ k. is_token_octet k ≡ true) (x ∷ xs) (c ∷ []) h.1 (token, tt))
 
@@ -80,11 +80,11 @@ pieces_octets-append : (ps qs : List Piece) → pieces_octets (ps ++ qs) ≡ pie
 pieces_octets-append [] qs = refl
 pieces_octets-append (p ∷ ps) qs = ap (λ t. piece_octets p ++ t) (pieces_octets-append ps qs) ∙ sym (append_assoc (piece_octets p) (pieces_octets ps) (pieces_octets qs))
 
-last_text : (ps : List Piece) (p : Piece) (rest : List ℕ) → pieces_text (ps ++ p ∷ []) ++ rest ≡ pieces_text ps ++ (piece_text p ++ rest)
+pub last_text : (ps : List Piece) (p : Piece) (rest : List ℕ) → pieces_text (ps ++ p ∷ []) ++ rest ≡ pieces_text ps ++ (piece_text p ++ rest)
 last_text ps p rest =
     ap (λ t. t ++ rest) (pieces_text-append ps (p ∷ []) ∙ ap (λ t. pieces_text ps ++ t) (append-nil (piece_text p))) ∙ append_assoc (pieces_text ps) (piece_text p) rest
 
-are_more : (ps : List Piece) (p : Piece) (x rest : List ℕ) → ArePieces ps x → x ≡ piece_text p ++ rest → IsPiece p rest → ArePieces (ps ++ p ∷ []) rest
+pub are_more : (ps : List Piece) (p : Piece) (x rest : List ℕ) → ArePieces ps x → x ≡ piece_text p ++ rest → IsPiece p rest → ArePieces (ps ++ p ∷ []) rest
 are_more [] p x rest h e right = (right, tt)
 are_more (q ∷ qs) p x rest h e right =
     (subst (IsPiece q) (ap (λ t. pieces_text qs ++ t) e ∙ sym (last_text qs p rest)) h.0, are_more qs p x rest h.1 e right)
@@ -102,7 +102,7 @@ piece_ended (line c) t rest (inl h) = inl (h.0, starts_same 10 t rest h.1)
 piece_ended (line c) t rest (inr h) = inr (h.0, starts_same 13 t rest h.1)
 piece_ended (line_pair c d) t rest h = h
 
-are_ended : (ps : List Piece) (rest : List ℕ) → ArePieces ps (34 ∷ rest) → ArePieces ps (34 ∷ [])
+pub are_ended : (ps : List Piece) (rest : List ℕ) → ArePieces ps (34 ∷ rest) → ArePieces ps (34 ∷ [])
 are_ended [] rest h = tt
 are_ended (p ∷ ps) rest h = (piece_ended p (pieces_text ps) rest h.0, are_ended ps rest h.1)
 

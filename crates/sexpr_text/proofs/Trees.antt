@@ -10,18 +10,22 @@ use Rattle.sexpr_core.specs.Tree.{sexp_value, atom_value, level_value}
 use Rattle.sexpr_core.proofs.Written.{sexp_list}
 use Rattle.sexpr_core.specs.Value.{Value, Values, string, list, none, more, values, depth, depths}
 use Rattle.sexpr_core.specs.Reading.{StandsAt}
-use Rattle.sexpr_core.specs.Spaces.{AreSpaces, IsSpace, StartsVisible, Skips}
-use Rattle.sexpr_core.proofs.SpaceLaws.{one_end, all-append}
+use Rattle.sexpr_core.specs.Spaces.{StartsVisible, Skips}
+use Rattle.sexpr_core.proofs.SpaceLaws.{one_end}
 use Rattle.sexpr_core.specs.Braces.{IsBracedWithin}
 use Rattle.sexpr_core.proofs.Agreeing.{Agree, stands_too, skips_too, same_head}
 use Rattle.sexpr_core.proofs.BraceLaws.{opening}
 use Rattle.sexpr_core.proofs.Texts.{join}
 use Rattle.sexpr_text.specs.Strings.{IsApart}
+use Rattle.sexpr_text.specs.Unclosed.{UnclosedMembers, UnclosedValue}
+use Rattle.sexpr_text.specs.Begun.{AreUnclosedMembers, GoesMembers}
 use Rattle.sexpr_text.specs.Spelling.{IsHinted, SpellsMembers, Spells, IsSpelledWithin, IsTextWithin}
 use Rattle.sexpr_text.specs.Reads.{StringAt, ReadsString, ValueAt, ReadsValue, MembersAt, ReadsMembers}
+use Rattle.sexpr_text.proofs.Beginnings.{goes_spaces, goes_first}
 use Rattle.sexpr_text.proofs.Elsewhere.{value_too}
 use Rattle.sexpr_text.proofs.OneString.{one_simple}
-use Rattle.sexpr_text.proofs.OneValue.{value_first, value_differs, value_visible, simple_visible, simple_differs, hinted_text, list_text, member_text, apart_append, apart_front, spaces_apart, one_spelling}
+use Rattle.sexpr_text.proofs.OneValue.{value_first, value_differs, value_visible, simple_visible, simple_differs, hinted_text, list_text, member_text, apart_append, apart_front, spaces_apart, one_spelling, spaces_members}
+use Rattle.sexpr_text.proofs.UnclosedLaws.{unclosed_value, unclosed_value_visible}
 
 pub sexp_atom : (a : Atom) → sexp_value (Leaf a) ≡ atom_value a
 sexp_atom a = ap sexp_value (sym (rolls-Atom a)) ∙ fold-roll-Sexp Value level_value (Layer a)
@@ -106,12 +110,6 @@ values-append : (vs ws : List Value) → values (vs ++ ws) ≡ join (values vs) 
 values-append [] ws = refl
 values-append (v ∷ vs) ws = ap (more v) (values-append vs ws)
 
--- whitespace may stand in front of members
-spaces_members : (spaces inside : List ℕ) (vs : Values) → AreSpaces spaces → SpellsMembers inside vs → SpellsMembers (spaces ++ inside) vs
-spaces_members spaces inside none h m = all-append IsSpace spaces inside h m
-spaces_members spaces inside (more v vs) h m =
-    (spaces ++ m.0, m.1, m.2, m.3, ap (λ t. spaces ++ t) m.4 ∙ sym (append_assoc spaces m.0 (m.2 ++ m.3)), all-append IsSpace spaces m.0 h m.5, m.6, m.7, m.8)
-
 members_before : (room : ℕ) (text : List ℕ) (at to : ℕ) (vs : Values) (rest : List ℕ) → Skips text at to → MembersAt room text to vs rest → MembersAt room text at vs rest
 members_before room text at to vs rest s h = record {
   inside = s.spaces ++ h.inside;
@@ -185,7 +183,8 @@ filled_at room text at c (more v vs) rest stands other visible h =
     }
 
 -- Members were read from an offset up to another: whatever members stand there stand behind them, and whatever
--- members stand at the first offset go on there, also in each other text that goes on so far in the same way.
+-- members stand at the first offset go on there, also in each other text that goes on so far in the same way. The same
+-- of what begins members, and of members that end inside a string.
 pub record HasMembers (room : ℕ) (text : List ℕ) (at i : ℕ) (vs : Values) : Type 0 where
   pub ordered : at ≤ i
   pub within : i ≤ length text
@@ -194,6 +193,58 @@ pub record HasMembers (room : ℕ) (text : List ℕ) (at i : ℕ) (vs : Values) 
   pub whole : (ws : Values) (rest : List ℕ) → MembersAt room text at ws rest → (us : Values) × MembersAt room text i us rest
   pub elsewhere : (other : List ℕ) (n : ℕ) → Agree text other n → i ≤ n → (most : ℕ) (ws : Values) (rest : List ℕ) → MembersAt most other at ws rest
       → (us : Values) × MembersAt most other i us rest
+  pub front : List ℕ
+  pub front_is : drop at text ≡ front ++ drop i text
+  pub onward : (most : ℕ) → room ≤ most → (x y : List ℕ) → drop i text ≡ x ++ y → GoesMembers most x → GoesMembers most (front ++ x)
+  pub unclosed : (other : List ℕ) (n : ℕ) → Agree text other n → i ≤ n → (most : ℕ) → AreUnclosedMembers most (drop at other) → AreUnclosedMembers most (drop i other)
+
+-- members that end inside a string, past whitespace
+past_spaces : (most : ℕ) (text : List ℕ) (at to : ℕ) → Skips text at to → AreUnclosedMembers most (drop at text) → AreUnclosedMembers most (drop to text)
+past_spaces most text at to s u = spaces_gone u.items u.unclosed u.few
+  where
+    spaces_gone : (vs : Values) → UnclosedMembers (UnclosedValue u.lists) vs (drop at text) → depths vs ≤ most → AreUnclosedMembers most (drop to text)
+    spaces_gone none k few =
+        let p = one_end s.spaces k.0 (drop to text) k.1 s.are_spaces k.3 s.ends (unclosed_value_visible u.lists k.1 k.4) (sym s.spelled ∙ k.2) in
+        record { items = none; lists = u.lists; few = few; fits = u.fits; unclosed = ([], k.1, p.1, tt, k.4) }
+    spaces_gone (more v vs) k few =
+        let p = one_end s.spaces k.0 (drop to text) (k.2 ++ k.3) s.are_spaces k.5 s.ends (value_visible k.1 k.2 k.3 v k.6) (sym s.spelled ∙ k.4) in
+        record { items = more v vs; lists = u.lists; few = few; fits = u.fits; unclosed = ([], k.1, k.2, k.3, p.1, tt, k.6, k.7, k.8) }
+
+-- and past a value that was read
+past_value : (room most : ℕ) (text : List ℕ) (at to : ℕ) (v : Value) → ReadsValue room text at v to → StartsVisible (drop at text)
+    → AreUnclosedMembers most (drop at text) → AreUnclosedMembers most (drop to text)
+past_value room most text at to v r visible u = value_gone u.items u.unclosed u.few
+  where
+    value_gone : (vs : Values) → UnclosedMembers (UnclosedValue u.lists) vs (drop at text) → depths vs ≤ most → AreUnclosedMembers most (drop to text)
+    value_gone none k few =
+        let p = one_end [] k.0 (drop at text) k.1 tt k.3 visible (unclosed_value_visible u.lists k.1 k.4) k.2 in
+        absurd (unclosed_value r.stands.ends_token r.stands.spelling (drop to text) v u.lists k.1 r.stands.meant k.4 (sym r.stands.spelled ∙ p.1))
+    value_gone (more w ws) k few =
+        let p = one_end [] k.0 (drop at text) (k.2 ++ k.3) tt k.5 visible (value_visible k.1 k.2 k.3 w k.6) k.4 in
+        let o = one_spelling r.stands.ends_token k.1 r.stands.spelling (drop to text) k.2 k.3 v w r.stands.meant r.stands.apart k.6 k.7 (sym r.stands.spelled ∙ p.1) in
+        let deep : max (depth w) (depths ws) ≤ most = few in
+        record {
+          items = ws;
+          lists = u.lists;
+          few = omega arith;
+          fits = u.fits;
+          unclosed = subst (UnclosedMembers (UnclosedValue u.lists) ws) (sym o.1) k.8;
+        }
+
+-- a value and the whitespace behind it
+value_text : (room : ℕ) (text : List ℕ) (at to next : ℕ) (v : Value) → (r : ReadsValue room text at v to) → (s : Skips text to next)
+    → drop at text ≡ (r.stands.spelling ++ s.spaces) ++ drop next text
+value_text room text at to next v r s =
+    r.stands.spelled ∙ ap (λ t. r.stands.spelling ++ t) s.spelled ∙ sym (append_assoc r.stands.spelling s.spaces (drop next text))
+
+value_onward : (room most : ℕ) (text : List ℕ) (at to next : ℕ) (v : Value) (x y : List ℕ) → (r : ReadsValue room text at v to) → (s : Skips text to next) → room ≤ most
+    → drop next text ≡ x ++ y → GoesMembers most x → GoesMembers most ((r.stands.spelling ++ s.spaces) ++ x)
+value_onward room most text at to next v x y r s le e g =
+    let deep : depth v ≤ room = r.stands.fits in
+    let apart : IsApart r.stands.ends_token ((s.spaces ++ x) ++ y) =
+    subst (IsApart r.stands.ends_token) (s.spelled ∙ ap (λ t. s.spaces ++ t) e ∙ sym (append_assoc s.spaces x y)) r.stands.apart in
+    subst (GoesMembers most) (sym (append_assoc r.stands.spelling s.spaces x))
+    (goes_first most r.stands.ends_token r.stands.spelling v (s.spaces ++ x) y r.stands.meant (omega arith) apart (goes_spaces most s.spaces x s.are_spaces g))
 
 pub visible_too : (text other : List ℕ) (n i : ℕ) → Agree text other n → i ≤ n → StartsVisible (drop i text) → StartsVisible (drop i other)
 visible_too text other n i a le v =
@@ -207,6 +258,10 @@ no_members room text at i s = record {
   sound = λ ws rest h. members_before room text at i ws rest s h;
   whole = λ ws rest h. (ws, members_behind room text at i ws rest s h);
   elsewhere = λ other n a le most ws rest h. (ws, members_behind most other at i ws rest (skips_too text other n at i a le s) h);
+  front = s.spaces;
+  front_is = s.spelled;
+  onward = λ most le x y e g. goes_spaces most s.spaces x s.are_spaces g;
+  unclosed = λ other n a le most u. past_spaces most other at i (skips_too text other n at i a le s) u;
 }
 
 goes_on : (room most : ℕ) (text : List ℕ) (i to next : ℕ) (v : Value) (rest : List ℕ) → ReadsValue room text i v to → Skips text to next → FilledAt most text i rest
@@ -235,6 +290,17 @@ more_members f xs new x room text at i c to next h stands other r e s =
           goes_on room most also i to next (f x) rest (value_too room text also n i to (f x) a (omega (arith, s.ordered)) r) (skips_too text also n to next a le s)
           (filled_at most also i c p.0 rest (stands_too text also n i c a (omega (arith, r.forward, s.ordered)) stands) other
           (visible_too text also n i a (omega (arith, r.forward, s.ordered)) h.visible) p.1);
+      front = h.front ++ (r.stands.spelling ++ s.spaces);
+      front_is = h.front_is ∙ ap (λ t. h.front ++ t) (value_text room text i to next (f x) r s) ∙ sym (append_assoc h.front (r.stands.spelling ++ s.spaces) (drop next text));
+      onward = λ most le k y e g.
+          subst (GoesMembers most) (sym (append_assoc h.front (r.stands.spelling ++ s.spaces) k))
+          (h.onward most le ((r.stands.spelling ++ s.spaces) ++ k) y
+          (value_text room text i to next (f x) r s ∙ ap (λ t. (r.stands.spelling ++ s.spaces) ++ t) e ∙ sym (append_assoc (r.stands.spelling ++ s.spaces) k y))
+          (value_onward room most text i to next (f x) k y r s le e g));
+      unclosed = λ also n a le most u.
+          past_spaces most also to next (skips_too text also n to next a le s)
+          (past_value room most also i to (f x) (value_too room text also n i to (f x) a (omega (arith, s.ordered)) r)
+          (visible_too text also n i a (omega (arith, r.forward, s.ordered)) h.visible) (h.unclosed also n a (omega (arith, r.forward, s.ordered)) most u));
     }
 
 pub members_end : (room : ℕ) (text : List ℕ) (at i c : ℕ) (vs : Values) → HasMembers room text at i vs → StandsAt text i c → c ≡ 41 → ReadsMembers room text at vs (i + 1)

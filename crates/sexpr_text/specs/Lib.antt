@@ -3,5 +3,7 @@ pub mod Spelling
 pub mod Refusal
 pub mod Printed
 pub mod Reads
+pub mod Unclosed
+pub mod Begun
 pub mod Stands
 pub mod Written

@@ -13,7 +13,6 @@ use Rattle.sexpr_core.specs.Value.{Value, Values, decimal, depth, depths}
 use Rattle.sexpr_core.specs.Spaces.{is_whitespace, visible}
 use Rattle.sexpr_text.specs.Strings.{IsToken, escape_value, Piece, piece_text, piece_octets, IsPiece, Simple, IsApart}
 use Rattle.sexpr_text.specs.Spelling.{SpellsAs, SpellsMembers}
-use Rattle.sexpr_text.specs.Refusal.{openings}
 
 -- a spelling of the octets, of one sort
 pub record Reads (P : List ℕ → List ℕ → Type 0) (text : List ℕ) (at : ℕ) (octets : List ℕ) (to : ℕ) : Type 0 where
@@ -130,6 +129,15 @@ pub record ReadsOctets (text : List ℕ) (at number : ℕ) (octets : List ℕ) (
   pub ordered : at ≤ to
   pub within : to ≤ length text
 
+-- there are fewer octets from an offset on
+abbrev pub IsTooFew : List ℕ → ℕ → ℕ → FormFault → Type 0
+IsTooFew text at number TooLong = ⊥
+IsTooFew text at number TooDeep = ⊥
+IsTooFew text at number Short = length text < at + number
+IsTooFew text at number (Bad k) = ⊥
+IsTooFew text at number (Trailing k) = ⊥
+IsTooFew text at number Memory = Unit {0}
+
 -- ---- strings and values, and what stands behind them
 
 -- a string without hint stands at an offset, and these octets behind it
@@ -174,12 +182,12 @@ pub record ReadsMembers (room : ℕ) (text : List ℕ) (at : ℕ) (vs : Values) 
   pub forward : at < to
   pub within : to ≤ length text
 
--- The fault of a part of a text, from an offset on, in which lists may open: TooDeep comes only where more of them are
--- opened than there is room for. T are the texts that have such a part there.
-abbrev pub IsValueFault : ℕ → (T : List ℕ → Type 0) → List ℕ → ℕ → FormFault → Type 0
-IsValueFault room T text at TooLong = ⊥
-IsValueFault room T text at TooDeep = room < openings (drop at text)
-IsValueFault room T text at Short = Unit {0}
-IsValueFault room T text at (Bad k) = StopsAt T text at k
-IsValueFault room T text at (Trailing k) = ⊥
-IsValueFault room T text at Memory = Unit {0}
+-- What a fault says of a text of which a part was looked for, from an offset on, in which lists may open: T are the
+-- texts that have such a part there.
+abbrev pub IsValueFault : (T : List ℕ → Type 0) → List ℕ → ℕ → FormFault → Type 0
+IsValueFault T text at TooLong = ⊥
+IsValueFault T text at TooDeep = Unit {0}
+IsValueFault T text at Short = Unit {0}
+IsValueFault T text at (Bad k) = StopsAt T text at k
+IsValueFault T text at (Trailing k) = ⊥
+IsValueFault T text at Memory = Unit {0}

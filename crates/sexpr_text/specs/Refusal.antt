@@ -1,46 +1,61 @@
--- What a refusal of a text in advanced form says of it.
-use Rattle.std.specs.Prelude.{◌⊎◌, ℕ, suc, ◌+◌, ◌==◌, ◌<◌, List, [], ◌∷◌, length, take, if◌then◌else◌}
+-- What a refusal of a text says of it. A text has at most one.
+use Rattle.std.specs.Prelude.{◌≡◌, ◌⊎◌, ℕ, ◌+◌, ◌<◌, ◌≤◌, List, ◌∷◌, ◌++◌, length, take}
 use Rattle.sexpr_core.specs.declared.fault.FormFault.{FormFault}
 use Rattle.sexpr_core.specs.declared.fault.FormFault.TheVariants.{TooLong, TooDeep, Short, Bad, Trailing, Memory}
 use Rattle.sexpr_core.specs.Limits.{octet_limit, depth_limit}
-use Rattle.sexpr_core.specs.Value.{Value}
+use Rattle.sexpr_core.specs.Value.{Value, depth}
 use Rattle.sexpr_core.specs.Prefix.{Begins}
-use Rattle.sexpr_core.specs.BraceRefusal.{BracesDeep}
-use Rattle.sexpr_text.specs.Spelling.{Spells, IsSpelledWithin, IsText, IsTextWithin}
-
--- how many opening parentheses there are
-abbrev pub openings : List ℕ → ℕ
-openings [] = 0
-openings (c ∷ cs) = if c == 40 then suc (openings cs) else openings cs
+use Rattle.sexpr_core.specs.BraceRefusal.{RefusesBraces}
+use Rattle.sexpr_core.specs.Spaces.{AreSpaces}
+use Rattle.sexpr_text.specs.Spelling.{Spells, IsSpelledWithin, IsText}
+use Rattle.sexpr_text.specs.Unclosed.{IsUnclosedText}
 
 -- a text spells some value
 pub record IsSpelling (text : List ℕ) : Type 0 where
   pub value : Value
   pub spelled : Spells text value
 
--- TooLong: the text has more than 1,048,576 octets. TooDeep: it has more than 64 opening parentheses. Bad: an octet
--- stands at the offset, and no text that spells a value begins with the octets up to it. Trailing: an octet stands at
--- the offset, and those before it spell a value within the limits.
+-- a text spells a value in which at most so many lists are open at once
+pub record IsSpellingWithin (room : ℕ) (text : List ℕ) : Type 0 where
+  pub value : Value
+  pub spelled : Spells text value
+  pub fits : depth value ≤ room
+
+-- The octets may go on: they begin a text that spells a value, or they end inside a string between marks.
+abbrev pub GoesOn : List ℕ → Type 0
+GoesOn text = Begins IsSpelling text ⊎ ((room : ℕ) × IsUnclosedText room text)
+
+-- the same where at most so many lists are open at once
+abbrev pub GoesOnWithin : ℕ → List ℕ → Type 0
+GoesOnWithin room text = Begins (IsSpellingWithin room) text ⊎ IsUnclosedText room text
+
+-- What each refusal says of a text that is read in advanced form. TooLong: it has more than 1,048,576 octets.
+-- TooDeep: up to some octet it may go on, and only with more than 64 lists open at once. Short: it may go on, and
+-- spells no value. Bad: the octets before the offset may go on and spell no value, and with the octet there they may
+-- not go on. Trailing: the octets before the offset spell a value within the limits, and with the octet there they may
+-- not go on.
 abbrev pub RefusesSpelling : List ℕ → FormFault → Type 0
 RefusesSpelling text TooLong = octet_limit < length text
-RefusesSpelling text TooDeep = depth_limit < openings text
-RefusesSpelling text Short = Unit {0}
-RefusesSpelling text (Bad at) = (at < length text) × (Begins IsSpelling (take (at + 1) text) → ⊥)
-RefusesSpelling text (Trailing at) = (at < length text) × ((v : Value) × IsSpelledWithin (take at text) v)
+RefusesSpelling text TooDeep = (n : ℕ) × GoesOn (take n text) × (GoesOnWithin depth_limit (take n text) → ⊥)
+RefusesSpelling text Short = GoesOnWithin depth_limit text × ((v : Value) → IsSpelledWithin text v → ⊥)
+RefusesSpelling text (Bad at) =
+    (at < length text) × GoesOnWithin depth_limit (take at text) × ((v : Value) → IsSpelledWithin (take at text) v → ⊥)
+    × (GoesOn (take (at + 1) text) → ⊥)
+RefusesSpelling text (Trailing at) = (at < length text) × ((v : Value) × IsSpelledWithin (take at text) v) × (GoesOn (take (at + 1) text) → ⊥)
 RefusesSpelling text Memory = Unit {0}
+
+-- the first octet past whitespace is an opening brace
+pub record OpensBrace (text : List ℕ) : Type 0 where
+  pub before : List ℕ
+  pub rest : List ℕ
+  pub parts : text ≡ before ++ 123 ∷ rest
+  pub spaces_before : AreSpaces before
+
+-- What a refusal says of a text in any form: one that opens a brace is read as one in braces, any other in advanced form.
+abbrev pub RefusesText : List ℕ → FormFault → Type 0
+RefusesText text fault = (OpensBrace text × RefusesBraces text fault) ⊎ ((OpensBrace text → ⊥) × RefusesSpelling text fault)
 
 -- a text spells or braces some value
 pub record IsSomeText (text : List ℕ) : Type 0 where
   pub value : Value
   pub meant : IsText text value
-
--- What a refusal says of a text in any form. TooDeep: it has more than 64 opening parentheses, or what stands in its
--- braces is refused so. Bad: an octet stands at the offset, and no text of a value begins with the octets up to it.
--- Trailing: an octet stands at the offset, and those before it are a text of a value within the limits.
-abbrev pub RefusesText : List ℕ → FormFault → Type 0
-RefusesText text TooLong = octet_limit < length text
-RefusesText text TooDeep = (depth_limit < openings text) ⊎ BracesDeep text
-RefusesText text Short = Unit {0}
-RefusesText text (Bad at) = (at < length text) × (Begins IsSomeText (take (at + 1) text) → ⊥)
-RefusesText text (Trailing at) = (at < length text) × ((v : Value) × IsTextWithin (take at text) v)
-RefusesText text Memory = Unit {0}

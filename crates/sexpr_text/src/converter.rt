@@ -11,6 +11,8 @@ ghost use Rattle.sexpr_text.specs.Printed.{adv};
 ghost use Rattle.sexpr_text.specs.Reads.{ReadsString, StringAt, ReadsValue, ValueAt, ReadsMembers, MembersAt, IsValueFault};
 ghost use Rattle.sexpr_text.specs.Stands.{StringStands, ValueStands, MembersStand};
 ghost use Rattle.sexpr_text.specs.Strings.{is_digit, is_token_octet, IsToken};
+ghost use Rattle.sexpr_text.specs.Begun.{IsPartEnd, GoesString, GoesValue, GoesMembers, Anywhere, IsUnclosedValue, AreUnclosedMembers, IsValueEnd, ValueStandsIn, MembersStandIn};
+ghost use Rattle.sexpr_text.specs.Unclosed.{IsUnclosedString};
 ghost use Rattle.sexpr_text.specs.Refusal.{RefusesSpelling, RefusesText};
 ghost use Rattle.sexpr_text.specs.Spelling.{IsSpelledWithin, IsTextWithin};
 ghost use Rattle.sexpr_text.specs.Written.{written, written_all, written_string, gap_of};
@@ -137,6 +139,7 @@ fn convert_string(
         × (out.new.items ≡ out.old.items ++ written_string form octets)) }
     ensures only { (octets rest : List ℕ) → StringAt text.now at octets rest → IsOkUnless result FormFault.Memory }
     ensures refused { IfErr result (λ fault. RefusesPart (StringStands at) text.now at fault) }
+    ensures begun { IfErr result (λ fault. IsPartEnd GoesString IsUnclosedString text.now at fault) }
 {
     if stands_in_token(first) && !first.is_ascii_digit() {
         return Ok(convert_token(text, at, first, form, out)?);
@@ -194,7 +197,8 @@ fn convert_value(
     ensures read { IfOk result (λ to. (v : Value) × ReadsValue room text.now at v to
         × (out.new.items ≡ out.old.items ++ written form v)) }
     ensures only { (v : Value) (rest : List ℕ) → ValueAt room text.now at v rest → IsOkUnless result FormFault.Memory }
-    ensures refused { IfErr result (λ fault. IsValueFault room (ValueStands at) text.now at fault) }
+    ensures refused { IfErr result (λ fault. IsValueFault (ValueStands at) text.now at fault) }
+    ensures begun { IfErr result (λ fault. IsValueEnd room GoesValue (λ most. ValueStandsIn most at) IsUnclosedValue text.now at fault) }
 {
     match octet_at(text, at) {
         None => Err(FormFault::Short),
@@ -219,7 +223,8 @@ fn convert_list(
     ensures read { IfOk result (λ to. (v : Value) × ReadsValue room text.now at v to
         × (out.new.items ≡ out.old.items ++ written form v)) }
     ensures only { (v : Value) (rest : List ℕ) → ValueAt room text.now at v rest → IsOkUnless result FormFault.Memory }
-    ensures refused { IfErr result (λ fault. IsValueFault room (ValueStands at) text.now at fault) }
+    ensures refused { IfErr result (λ fault. IsValueFault (ValueStands at) text.now at fault) }
+    ensures begun { IfErr result (λ fault. IsValueEnd room GoesValue (λ most. ValueStandsIn most at) IsUnclosedValue text.now at fault) }
 {
     if room == 0 {
         return Err(FormFault::TooDeep);
@@ -243,7 +248,8 @@ fn convert_members(
     ensures read { IfOk result (λ to. (vs : Values) × ReadsMembers room text.now at vs to
         × (out.new.items ≡ out.old.items ++ (written_all form 0 vs ++ 41 ∷ []))) }
     ensures only { (vs : Values) (rest : List ℕ) → MembersAt room text.now at vs rest → IsOkUnless result FormFault.Memory }
-    ensures refused { IfErr result (λ fault. IsValueFault room (MembersStand at) text.now at fault) }
+    ensures refused { IfErr result (λ fault. IsValueFault (MembersStand at) text.now at fault) }
+    ensures begun { IfErr result (λ fault. IsValueEnd room GoesMembers (λ most. MembersStandIn most at) AreUnclosedMembers text.now at fault) }
 {
     let mut gap = None;
     let mut i = skip_spaces(text, at);
@@ -274,6 +280,7 @@ fn convert_hinted(
         × (out.new.items ≡ out.old.items ++ written form v)) }
     ensures only { (room : ℕ) (v : Value) (rest : List ℕ) → ValueAt room text.now at v rest → IsOkUnless result FormFault.Memory }
     ensures refused { IfErr result (λ fault. RefusesPart (ValueStands at) text.now at fault) }
+    ensures begun { IfErr result (λ fault. (room : ℕ) → IsPartEnd (GoesValue room) (Anywhere IsUnclosedValue) text.now at fault) }
 {
     let string = read_hinted_string(alloc, text, at)?;
     out.push(b'[')?;

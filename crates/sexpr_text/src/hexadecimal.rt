@@ -4,6 +4,7 @@ ghost use Rattle.std.specs.Prelude.{◌≡◌, ℕ, ◌+◌, ◌≤◌, true, Ok
 ghost use Rattle.hex.specs.Hex.{decode_of};
 ghost use Rattle.sexpr_core.specs.Reading.{StandsAt};
 ghost use Rattle.sexpr_core.specs.Bounds.{IsFaultAt};
+ghost use Rattle.sexpr_core.specs.Gathering.{IsBodyEnd};
 ghost use Rattle.sexpr_core.specs.Prefix.{RefusesPart};
 ghost use Rattle.sexpr_text.specs.Reads.{Reads, Keeps, is_hexadecimal_octet, IsNoHexadecimalOctet, IsDigitsFault};
 ghost use Rattle.sexpr_text.specs.Stands.{Stands, DigitsStand};
@@ -32,6 +33,7 @@ pub(crate) fn read_hexadecimal(
     ensures read { IfOk result (λ read. Reads IsHexadecimal text.now at read.octets.items read.end) }
     ensures only { (spelling octets rest : List ℕ) → IsHexadecimal spelling octets → drop at text.now ≡ spelling ++ rest → IsOkUnless result FormFault.Memory }
     ensures refused { IfErr result (λ fault. RefusesPart (Stands IsHexadecimal at) text.now at fault) }
+    ensures begun { IfErr result (λ fault. IsBodyEnd is_hexadecimal_octet text.now (at + 1) fault) }
 {
     let Digits { digits, end } = gather_digits(alloc, text, at + 1)?;
     match hex::decode(alloc, digits.as_slice()) {
@@ -60,6 +62,7 @@ fn gather_digits(alloc: Global, text: &[u8], at: usize) -> Result<Digits, FormFa
     ensures read { IfOk result (λ read. Keeps text.now at read.digits.items read.end × StandsAt text.now read.end 35) }
     ensures only { (body octets rest : List ℕ) → decode_of (visible body) ≡ Ok octets → drop at text.now ≡ body ++ 35 ∷ rest → IsOkUnless result FormFault.Memory }
     ensures refused { IfErr result (λ fault. RefusesPart (DigitsStand at) text.now at fault) }
+    ensures begun { IfErr result (λ fault. IsBodyEnd is_hexadecimal_octet text.now at fault) }
 {
     let mut digits = Vec::new(alloc);
     let mut i = at;

@@ -7,6 +7,7 @@ ghost use Rattle.sexpr_core.specs.Reading.{StandsAt};
 ghost use Rattle.sexpr_core.specs.Value.{Value, string};
 ghost use Rattle.sexpr_text.specs.Reads.{ReadsValue, ValueAt};
 ghost use Rattle.sexpr_text.specs.Stands.{ValueStands};
+ghost use Rattle.sexpr_text.specs.Begun.{IsPartEnd, GoesValue, Anywhere, IsUnclosedValue};
 
 use crate::strings::read_string;
 use sexpr_core::FormFault;
@@ -33,6 +34,7 @@ pub(crate) fn read_hinted_string<'t>(
     ensures read { IfOk result (λ read. ReadsValue 0 text.now at (string (Some (cow_slice_items read.hint)) (cow_slice_items read.octets)) read.end) }
     ensures only { (room : ℕ) (v : Value) (rest : List ℕ) → ValueAt room text.now at v rest → IsOkUnless result FormFault.Memory }
     ensures refused { IfErr result (λ fault. RefusesPart (ValueStands at) text.now at fault) }
+    ensures begun { IfErr result (λ fault. (room : ℕ) → IsPartEnd (GoesValue room) (Anywhere IsUnclosedValue) text.now at fault) }
 {
     let begin = skip_spaces(text, at + 1);
     let hint = read_string(alloc, text, begin)?;

@@ -1,9 +1,14 @@
 //! Laws of advanced form.
 
-ghost use Rattle.std.specs.Prelude.{◌≡◌, ℕ, List};
+ghost use Rattle.std.specs.Prelude.{◌≡◌, ℕ, List, ◌+◌, ◌<◌, length, take};
+ghost use Rattle.sexpr_core.specs.declared.fault.FormFault.{FormFault};
+ghost use Rattle.sexpr_core.specs.Refusal.{IsOfForm};
+ghost use Rattle.sexpr_core.specs.declared.fault.FormFault.TheVariants.{Bad};
+ghost use Rattle.sexpr_core.specs.Prefix.{Begins};
+ghost use Rattle.sexpr_text.specs.Refusal.{RefusesSpelling, RefusesText, IsSomeText};
 ghost use Rattle.sexpr_core.specs.Value.{Value, canon};
 ghost use Rattle.sexpr_core.specs.Octets.{HasOctets};
-ghost use Rattle.sexpr_text.specs.Spelling.{Spells, IsText};
+ghost use Rattle.sexpr_text.specs.Spelling.{Spells, IsText, IsSpelledWithin};
 ghost use Rattle.sexpr_text.specs.Printed.{adv};
 
 /// A text spells or braces at most one value.
@@ -19,4 +24,18 @@ pub fn canonical_is_advanced()
 /// What is printed for a value spells it (RFC 9804, section 6.4). The value's octets are below 256.
 pub fn printed_is_advanced()
     ensures { (v : Value) → HasOctets v → Spells (adv v) v }
+{}
+
+/// A text has at most one refusal of advanced form that speaks of its form, with its offset, and none if it spells a
+/// value within the limits. So each of TooDeep, Short, Bad and Trailing comes exactly where its meaning holds of a text
+/// that is not too long, if memory is not refused.
+pub fn one_refusal()
+    ensures none { (text : List ℕ) (e : FormFault) (v : Value) → IsOfForm e → RefusesSpelling text e → ¬ IsSpelledWithin text v }
+    ensures one { (text : List ℕ) (e f : FormFault) → IsOfForm e → IsOfForm f → RefusesSpelling text e → RefusesSpelling text f → e ≡ f }
+{}
+
+/// At an octet that is refused as Bad, in whichever form, no text of a value goes on: none that spells or braces a value
+/// begins with the octets up to and with it.
+pub fn bad_is_bad()
+    ensures { (text : List ℕ) (at : ℕ) → RefusesText text (Bad at) → (at < length text) × ¬ Begins IsSomeText (take (at + 1) text) }
 {}

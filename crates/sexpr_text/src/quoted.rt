@@ -8,6 +8,8 @@ ghost use Rattle.sexpr_core.specs.Prefix.{RefusesPart};
 ghost use Rattle.sexpr_text.specs.Strings.{escape_value, Piece, piece_text, IsPiece, IsQuoted};
 ghost use Rattle.sexpr_text.specs.Reads.{Reads, ReadsPlain, ReadsPiece, ReadsEscape, ReadsDigit, IsLineEnd, IsNoLetter};
 ghost use Rattle.sexpr_text.specs.Stands.{Stands, PieceStands, DigitStands, OctalStands};
+ghost use Rattle.sexpr_text.specs.Begun.{IsFrontEnd, GoesPiece, GoesDigit};
+ghost use Rattle.sexpr_text.specs.Unclosed.{OpensQuoted};
 
 use crate::strings::{MarkedString, ReadString};
 use sexpr_core::FormFault;
@@ -59,6 +61,7 @@ pub(crate) fn read_quoted(alloc: Global, text: &[u8], at: usize) -> Result<Marke
     ensures read { IfOk result (λ read. Reads IsQuoted text.now at read.octets.items read.end) }
     ensures only { (spelling octets rest : List ℕ) → IsQuoted spelling octets → drop at text.now ≡ spelling ++ rest → IsOkUnless result FormFault.Memory }
     ensures refused { IfErr result (λ fault. RefusesPart (Stands IsQuoted at) text.now at fault) }
+    ensures begun { IfErr result (λ fault. IsFrontEnd OpensQuoted text.now at fault) }
 {
     let mut octets = Vec::new(alloc);
     let mut i = at + 1;
@@ -78,6 +81,7 @@ fn read_piece(text: &[u8], at: usize, octet: u8, octets: &mut Vec<u8>) -> Result
     ensures read { IfOk result (λ to. ReadsPiece text.now at octets.old.items octets.new.items to) }
     ensures only { (piece : Piece) (rest : List ℕ) → IsPiece piece rest → drop at text.now ≡ piece_text piece ++ rest → IsOkUnless result FormFault.Memory }
     ensures refused { IfErr result (λ fault. RefusesPart (PieceStands [] at) text.now at fault) }
+    ensures begun { IfErr result (λ fault. IsFrontEnd (GoesPiece []) text.now at fault) }
 {
     if octet != b'\\' {
         octets.push(octet)?;
@@ -99,6 +103,7 @@ fn read_escape(text: &[u8], at: usize) -> Result<Escape, FormFault>
     ensures read { IfOk result (λ read. ReadsEscape (92 ∷ []) text.now at read.octet read.end) }
     ensures only { (piece : Piece) (rest : List ℕ) → IsPiece piece rest → 92 ∷ drop at text.now ≡ piece_text piece ++ rest → IsOkUnless result FormFault.Memory }
     ensures refused { IfErr result (λ fault. RefusesPart (PieceStands (92 ∷ []) at) text.now at fault) }
+    ensures begun { IfErr result (λ fault. IsFrontEnd (GoesPiece (92 ∷ [])) text.now at fault) }
 {
     let Some(octet) = octet_at(text, at) else {
         return Err(FormFault::Short);
@@ -154,6 +159,7 @@ fn read_letter(text: &[u8], at: usize, octet: u8) -> Result<Escape, FormFault>
     ensures read { IfOk result (λ read. ReadsEscape (92 ∷ []) text.now at read.octet read.end) }
     ensures only { (c : ℕ) → escape_value octet ≡ Some c → IsOkUnless result FormFault.Memory }
     ensures refused { IfErr result (λ fault. IsNoLetter octet at fault) }
+    ensures begun { IfErr result (λ fault. IsFrontEnd (GoesPiece (92 ∷ [])) text.now at fault) }
 {
     match meant_by(octet) {
         None => Err(FormFault::Bad(at)),
@@ -181,6 +187,7 @@ fn read_hexadecimal_digit(text: &[u8], at: usize) -> Result<u8, FormFault>
     ensures read { IfOk result (λ digit. ReadsDigit text.now at digit) }
     ensures only { (c digit : ℕ) (rest : List ℕ) → hex_digit_value c ≡ Some digit → drop at text.now ≡ c ∷ rest → IsOkUnless result FormFault.Memory }
     ensures refused { IfErr result (λ fault. RefusesPart (DigitStands at) text.now at fault) }
+    ensures begun { IfErr result (λ fault. IsFrontEnd GoesDigit text.now at fault) }
 {
     let Some(octet) = octet_at(text, at) else {
         return Err(FormFault::Short);
@@ -197,6 +204,7 @@ fn read_hexadecimal_escape(text: &[u8], at: usize) -> Result<Escape, FormFault>
     ensures read { IfOk result (λ read. ReadsEscape (92 ∷ 120 ∷ []) text.now at read.octet read.end) }
     ensures only { (piece : Piece) (rest : List ℕ) → IsPiece piece rest → 92 ∷ 120 ∷ drop at text.now ≡ piece_text piece ++ rest → IsOkUnless result FormFault.Memory }
     ensures refused { IfErr result (λ fault. RefusesPart (PieceStands (92 ∷ 120 ∷ []) at) text.now at fault) }
+    ensures begun { IfErr result (λ fault. IsFrontEnd (GoesPiece (92 ∷ 120 ∷ [])) text.now at fault) }
 {
     let high = read_hexadecimal_digit(text, at)?;
     let low = read_hexadecimal_digit(text, at + 1)?;
@@ -211,6 +219,7 @@ fn read_octal_digit(text: &[u8], at: usize) -> Result<u8, FormFault>
     ensures read { IfOk result (λ digit. (digit < 8) × StandsAt text.now at (48 + digit)) }
     ensures only { (digit : ℕ) (rest : List ℕ) → digit < 8 → drop at text.now ≡ (48 + digit) ∷ rest → IsOkUnless result FormFault.Memory }
     ensures refused { IfErr result (λ fault. RefusesPart (OctalStands at) text.now at fault) }
+    ensures begun { IfErr result (λ fault. IsFrontEnd GoesDigit text.now at fault) }
 {
     let Some(octet) = octet_at(text, at) else {
         return Err(FormFault::Short);
@@ -228,6 +237,7 @@ fn read_octal_escape(text: &[u8], at: usize, first: u8) -> Result<Escape, FormFa
     ensures read { IfOk result (λ read. ReadsEscape (92 ∷ []) text.now at read.octet read.end) }
     ensures only { (piece : Piece) (rest : List ℕ) → IsPiece piece rest → 92 ∷ drop at text.now ≡ piece_text piece ++ rest → IsOkUnless result FormFault.Memory }
     ensures refused { IfErr result (λ fault. RefusesPart (PieceStands (92 ∷ []) at) text.now at fault) }
+    ensures begun { IfErr result (λ fault. IsFrontEnd (GoesPiece (92 ∷ [])) text.now at fault) }
 {
     let second = read_octal_digit(text, at + 1)?;
     let third = read_octal_digit(text, at + 2)?;

@@ -8,6 +8,7 @@ ghost use Rattle.sexpr_core.specs.Tree.{sexp_value};
 ghost use Rattle.sexpr_core.specs.Value.{Value, Values, values};
 ghost use Rattle.sexpr_text.specs.Reads.{ReadsValue, ValueAt, ReadsMembers, MembersAt, IsValueFault};
 ghost use Rattle.sexpr_text.specs.Stands.{ValueStands, MembersStand};
+ghost use Rattle.sexpr_text.specs.Begun.{IsPartEnd, GoesValue, GoesMembers, Anywhere, IsUnclosedValue, AreUnclosedMembers, IsValueEnd, ValueStandsIn, MembersStandIn};
 ghost use Rattle.sexpr_text.specs.Refusal.{RefusesSpelling, RefusesText};
 ghost use Rattle.sexpr_text.specs.Spelling.{IsSpelledWithin, IsTextWithin};
 
@@ -74,7 +75,8 @@ fn read_tree(alloc: Global, text: &[u8], at: usize, room: usize) -> Result<ReadT
     requires begins { at ≤ length text.now }
     ensures read { IfOk result (λ read. ReadsValue room text.now at (sexp_value read.tree) read.end) }
     ensures only { (v : Value) (rest : List ℕ) → ValueAt room text.now at v rest → IsOkUnless result FormFault.Memory }
-    ensures refused { IfErr result (λ fault. IsValueFault room (ValueStands at) text.now at fault) }
+    ensures refused { IfErr result (λ fault. IsValueFault (ValueStands at) text.now at fault) }
+    ensures begun { IfErr result (λ fault. IsValueEnd room GoesValue (λ most. ValueStandsIn most at) IsUnclosedValue text.now at fault) }
 {
     match octet_at(text, at) {
         None => Err(FormFault::Short),
@@ -100,7 +102,8 @@ fn read_list(alloc: Global, text: &[u8], at: usize, room: usize) -> Result<ReadT
     requires begins { StandsAt text.now at 40 }
     ensures read { IfOk result (λ read. ReadsValue room text.now at (sexp_value read.tree) read.end) }
     ensures only { (v : Value) (rest : List ℕ) → ValueAt room text.now at v rest → IsOkUnless result FormFault.Memory }
-    ensures refused { IfErr result (λ fault. IsValueFault room (ValueStands at) text.now at fault) }
+    ensures refused { IfErr result (λ fault. IsValueFault (ValueStands at) text.now at fault) }
+    ensures begun { IfErr result (λ fault. IsValueEnd room GoesValue (λ most. ValueStandsIn most at) IsUnclosedValue text.now at fault) }
 {
     if room == 0 {
         return Err(FormFault::TooDeep);
@@ -124,7 +127,8 @@ fn read_members(
     requires begins { at ≤ length text.now }
     ensures read { IfOk result (λ read. ReadsMembers room text.now at (values (map sexp_value read.members.items)) read.end) }
     ensures only { (vs : Values) (rest : List ℕ) → MembersAt room text.now at vs rest → IsOkUnless result FormFault.Memory }
-    ensures refused { IfErr result (λ fault. IsValueFault room (MembersStand at) text.now at fault) }
+    ensures refused { IfErr result (λ fault. IsValueFault (MembersStand at) text.now at fault) }
+    ensures begun { IfErr result (λ fault. IsValueEnd room GoesMembers (λ most. MembersStandIn most at) AreUnclosedMembers text.now at fault) }
 {
     let mut members = Vec::new(alloc);
     let mut i = skip_spaces(text, at);
@@ -149,6 +153,7 @@ fn read_hinted(alloc: Global, text: &[u8], at: usize) -> Result<ReadTree, FormFa
     ensures read { IfOk result (λ read. ReadsValue 0 text.now at (sexp_value read.tree) read.end) }
     ensures only { (room : ℕ) (v : Value) (rest : List ℕ) → ValueAt room text.now at v rest → IsOkUnless result FormFault.Memory }
     ensures refused { IfErr result (λ fault. RefusesPart (ValueStands at) text.now at fault) }
+    ensures begun { IfErr result (λ fault. (room : ℕ) → IsPartEnd (GoesValue room) (Anywhere IsUnclosedValue) text.now at fault) }
 {
     let HintedString { hint, octets, end } = read_hinted_string(alloc, text, at)?;
     Ok(ReadTree {

@@ -4,7 +4,9 @@ ghost use Rattle.std.specs.Prelude.{◌≡◌, ℕ, List, ◌++◌, true, false,
 ghost use Rattle.std.specs.Cow.{cow_slice_items};
 ghost use Rattle.sexpr_core.specs.Bounds.{IsShort};
 ghost use Rattle.sexpr_core.specs.Prefix.{RefusesPart};
-ghost use Rattle.sexpr_text.specs.Reads.{Reads, ReadsToken, ReadsCount, ReadsOctets, ReadsString, StringAt, Stops};
+ghost use Rattle.sexpr_text.specs.Reads.{Reads, ReadsToken, ReadsCount, ReadsOctets, ReadsString, StringAt, Stops, IsTooFew};
+ghost use Rattle.sexpr_text.specs.Begun.{IsPartEnd, GoesMarked, GoesString};
+ghost use Rattle.sexpr_text.specs.Unclosed.{IsUnclosed, IsUnclosedString};
 ghost use Rattle.sexpr_text.specs.Stands.{Stands, StringStands};
 ghost use Rattle.sexpr_text.specs.Strings.{is_digit, is_token_octet, IsApart, IsMarked};
 ghost use Rattle.sexpr_core.specs.Reading.{StandsAt};
@@ -49,6 +51,7 @@ pub(crate) fn read_string<'t>(
     ensures read { IfOk result (λ read. ReadsString text.now at (cow_slice_items read.octets) read.end) }
     ensures only { (octets rest : List ℕ) → StringAt text.now at octets rest → IsOkUnless result FormFault.Memory }
     ensures refused { IfErr result (λ fault. RefusesPart (StringStands at) text.now at fault) }
+    ensures begun { IfErr result (λ fault. IsPartEnd GoesString IsUnclosedString text.now at fault) }
 {
     let Some(octet) = octet_at(text, at) else {
         return Err(FormFault::Short);
@@ -118,6 +121,7 @@ fn read_marked(alloc: Global, text: &[u8], at: usize) -> Result<MarkedString, Fo
     ensures read { IfOk result (λ read. Reads IsMarked text.now at read.octets.items read.end) }
     ensures only { (spelling octets rest : List ℕ) → IsMarked spelling octets → drop at text.now ≡ spelling ++ rest → IsOkUnless result FormFault.Memory }
     ensures refused { IfErr result (λ fault. RefusesPart (Stands IsMarked at) text.now at fault) }
+    ensures begun { IfErr result (λ fault. IsPartEnd GoesMarked IsUnclosed text.now at fault) }
 {
     match octet_at(text, at) {
         None => Err(FormFault::Short),
@@ -166,6 +170,7 @@ fn read_counted<'t>(
     ensures read { IfOk result (λ read. ReadsString text.now at (cow_slice_items read.octets) read.end) }
     ensures only { (octets rest : List ℕ) → StringAt text.now at octets rest → IsOkUnless result FormFault.Memory }
     ensures refused { IfErr result (λ fault. RefusesPart (StringStands at) text.now at fault) }
+    ensures begun { IfErr result (λ fault. IsPartEnd GoesString IsUnclosedString text.now at fault) }
 {
     let count = read_count(text, at, first);
     let Some(octet) = octet_at(text, count.end) else {
@@ -191,6 +196,7 @@ fn read_verbatim<'t>(text: &'t [u8], at: usize, number: usize) -> Result<ReadStr
     ensures read { IfOk result (λ read. ReadsOctets text.now at number (cow_slice_items read.octets) read.end) }
     ensures only { (at + number ≤ length text.now) → IsOkUnless result FormFault.Memory }
     ensures refused { IfErr result (λ fault. IsShort fault) }
+    ensures begun { IfErr result (λ fault. IsTooFew text.now at number fault) }
 {
     if number > text.len() - at {
         return Err(FormFault::Short);

@@ -2,7 +2,7 @@ use Rattle.std.proofs.Common.{sym, subst}
 use Rattle.std.proofs.lemmas.Result.{err_from_is_err_and}
 use Rattle.sexpr_core.specs.Braces.{IsBase64}
 use Rattle.sexpr_core.proofs.Base64Laws.{body_octets}
-use Rattle.sexpr_core.proofs.Gathered.{same_body}
+use Rattle.sexpr_core.proofs.Gathered.{same_body, unpacked_end}
 use Rattle.sexpr_core.proofs.BraceLaws.{body_not_packed, packed_refused}
 use Rattle.sexpr_core.proofs.braces.read_base64.Goals as goal
 
@@ -27,3 +27,8 @@ pub returns-in_err-octets-clause-refused : goal.returns-in_err-octets-clause-ref
 returns-in_err-octets-clause-refused c =
     let p = err_from_is_err_and c.from_residual-in_err-octets.result c.from_residual-in_err-octets.ensures.1 in
     rw (p.1, p.2) (packed_refused _ _ _ _ _ _ c.in_ok-symbols.ensures.read c.requires.apart c.in_err-octets.ensures.refused c.in_err-octets.ensures.only)
+
+pub returns-in_err-octets-clause-begun : goal.returns-in_err-octets-clause-begun
+returns-in_err-octets-clause-begun c =
+    let p = err_from_is_err_and c.from_residual-in_err-octets.result c.from_residual-in_err-octets.ensures.1 in
+    rw (p.1, p.2) (unpacked_end _ _ _ _ _ _ c.in_ok-symbols.ensures.read c.requires.apart c.in_err-octets.ensures.refused)

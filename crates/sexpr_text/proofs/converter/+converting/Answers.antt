@@ -3,6 +3,8 @@ use Rattle.std.proofs.lemmas.Result.{err_from_is_err_and, IfOk-weaker, IfErr-wea
 use Rattle.sexpr_text.proofs.RefusedValues.{part_fault, string_missed, members_missed, member_missed}
 use Rattle.sexpr_text.proofs.Trees.{no_value, string_at, inside_list, member_at, no_members_end}
 use Rattle.sexpr_text.proofs.Converted.{string_converted, roomier, none_converted, more_converted, members_converted, list_converted}
+use Rattle.sexpr_text.proofs.StringEnds.{nothing_left}
+use Rattle.sexpr_text.proofs.ValueEnds.{none_value, string_ends, flat_ends, list_too_deep, list_ends, members_short, member_ends}
 use Rattle.sexpr_text.proofs.converter.+converting.Goals as goal
 
 pub convert_list-returns-then-room-eq0-clause-only : goal.convert_list-returns-then-room-eq0-clause-only
@@ -70,12 +72,38 @@ convert_value-returns-in-Some-clause-read t c =
 
 pub convert_list-returns-clause-refused : goal.convert_list-returns-clause-refused
 convert_list-returns-clause-refused t c =
-    IfErr-weaker c.convert_members.result _ _ (λ fault h. members_missed _ _ _ fault c.requires.begins (omega arith) h) c.convert_members.ensures.refused
+    IfErr-weaker c.convert_members.result _ _ (λ fault h. members_missed _ _ fault c.requires.begins h) c.convert_members.ensures.refused
 
 pub convert_value-returns-in-Some-clause-refused : goal.convert_value-returns-in-Some-clause-refused
 convert_value-returns-in-Some-clause-refused t c =
     IfErr-weaker c.convert_string.result _ _
-    (λ fault h. string_missed _ _ _ _ fault c.in-Some.ensures c.in-Some.octet-test.0.1 c.in-Some.octet-test.1 h) c.convert_string.ensures.refused
+    (λ fault h. string_missed _ _ _ fault c.in-Some.ensures c.in-Some.octet-test.0.1 c.in-Some.octet-test.1 h) c.convert_string.ensures.refused
 
 pub convert_value-returns-in-Some-eq91-clause-refused : goal.convert_value-returns-in-Some-eq91-clause-refused
-convert_value-returns-in-Some-eq91-clause-refused t c = IfErr-weaker c.convert_hinted.result _ _ (λ fault h. part_fault _ _ _ _ fault h) c.convert_hinted.ensures.refused
+convert_value-returns-in-Some-eq91-clause-refused t c = IfErr-weaker c.convert_hinted.result _ _ (λ fault h. part_fault _ _ _ fault h) c.convert_hinted.ensures.refused
+
+pub convert_list-returns-then-room-eq0-clause-begun : goal.convert_list-returns-then-room-eq0-clause-begun
+convert_list-returns-then-room-eq0-clause-begun t c = list_too_deep _ _ _ c.requires.begins c.if-room-eq0.true
+
+pub convert_list-returns-clause-begun : goal.convert_list-returns-clause-begun
+convert_list-returns-clause-begun t c =
+    IfErr-weaker c.convert_members.result _ _ (λ fault h. list_ends _ _ _ fault c.requires.begins (omega arith) h) c.convert_members.ensures.begun
+
+pub convert_members-returns-in_err-end-clause-begun : goal.convert_members-returns-in_err-end-clause-begun
+convert_members-returns-in_err-end-clause-begun t c =
+    let p = err_from_is_err_and c.from_residual-in_err-end.result c.from_residual-in_err-end.ensures.1 in
+    rw (p.1, p.2) (member_ends _ _ _ _ _ _ _ c.loop-octet.invariant.read c.in-Some.ensures c.if-octet-eq41.false c.in_err-end.ensures.refused c.in_err-end.ensures.begun)
+
+pub convert_members-returns-clause-begun : goal.convert_members-returns-clause-begun
+convert_members-returns-clause-begun t c = members_short _ _ _ _ _ c.loop-octet.invariant.read c.in_default.ensures
+
+pub convert_value-returns-in-None-clause-begun : goal.convert_value-returns-in-None-clause-begun
+convert_value-returns-in-None-clause-begun t c = nothing_left _ _ _ (none_value c.args.room) c.requires.begins c.in-None.ensures
+
+pub convert_value-returns-in-Some-clause-begun : goal.convert_value-returns-in-Some-clause-begun
+convert_value-returns-in-Some-clause-begun t c =
+    IfErr-weaker c.convert_string.result _ _
+    (λ fault h. string_ends _ _ _ _ fault c.in-Some.ensures c.in-Some.octet-test.0.1 c.in-Some.octet-test.1 h) c.convert_string.ensures.begun
+
+pub convert_value-returns-in-Some-eq91-clause-begun : goal.convert_value-returns-in-Some-eq91-clause-begun
+convert_value-returns-in-Some-eq91-clause-begun t c = IfErr-weaker c.convert_hinted.result _ _ (λ fault h. flat_ends _ _ _ fault h) c.convert_hinted.ensures.begun

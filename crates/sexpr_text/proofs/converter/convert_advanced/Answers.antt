@@ -1,8 +1,7 @@
 use Rattle.std.proofs.Common.{sym, subst, arith}
 use Rattle.std.proofs.lemmas.Result.{err_from_is_err_and}
 use Rattle.sexpr_core.specs.Spaces.{AreSpaces}
-use Rattle.sexpr_text.proofs.Openings.{trailing_refused}
-use Rattle.sexpr_text.proofs.RefusedValues.{value_refused}
+use Rattle.sexpr_text.proofs.WholeEnds.{trailing_refused, value_refused}
 use Rattle.sexpr_text.proofs.Trees.{same_value, whole_at}
 use Rattle.sexpr_text.proofs.converter.convert_advanced.Goals as goal
 
@@ -14,7 +13,8 @@ returns-in_err-end-clause-only c =
 pub returns-in_err-end-clause-refused : goal.returns-in_err-end-clause-refused
 returns-in_err-end-clause-refused c =
     let p = err_from_is_err_and c.from_residual.result c.from_residual.ensures.1 in
-    rw (p.1, p.2) (value_refused _ _ _ c.skip_spaces-begin.ensures c.in_err-end.ensures.refused)
+    rw (p.1, p.2) (value_refused _ _ _ c.skip_spaces-begin.ensures c.in_err-end.ensures.refused c.in_err-end.ensures.begun c.in_err-end.ensures.only
+    (λ v w. c.in_err-end.ensures.only v w.spelling.after (whole_at _ _ v c.skip_spaces-begin.ensures w)))
 
 pub returns-in_err-ended-clause-only : goal.returns-in_err-ended-clause-only
 returns-in_err-ended-clause-only c =

@@ -3,6 +3,7 @@ use Rattle.std.proofs.lemmas.Result.{err_from_is_err_and}
 use Rattle.sexpr_core.specs.Reading.{StandsAt}
 use Rattle.sexpr_text.proofs.Trees.{nothing_at, octet_is, hinted_at, hint_at, closing_at, body_at, hinted_read}
 use Rattle.sexpr_text.proofs.RefusedStrings.{hint_missed, closing_missed, body_missed}
+use Rattle.sexpr_text.proofs.ValueEnds.{hint_ends, closing_short, closing_ends, body_ends}
 use Rattle.sexpr_text.proofs.hinted.read_hinted_string.Goals as goal
 
 pub returns-in_err-hint-clause-only : goal.returns-in_err-hint-clause-only
@@ -50,3 +51,22 @@ returns-in_err-body-clause-refused c =
     let p = err_from_is_err_and c.from_residual-in_err-body.result c.from_residual-in_err-body.ensures.1 in
     rw (p.1, p.2) (body_missed _ _ _ _ _ _ _ _ c.requires.begins c.skip_spaces-begin.ensures c.in_ok-hint.ensures.read c.skip_spaces-close.ensures
     (subst (StandsAt _ _) c.in-Some-eq93.field-0-test c.in-Some-eq93.ensures) c.skip_spaces-begin-2.ensures c.in_err-body.ensures.refused)
+
+pub returns-in_err-hint-clause-begun : goal.returns-in_err-hint-clause-begun
+returns-in_err-hint-clause-begun c =
+    let p = err_from_is_err_and c.from_residual.result c.from_residual.ensures.1 in
+    rw (p.1, p.2) (λ room. hint_ends room _ _ _ _ c.requires.begins c.skip_spaces-begin.ensures c.in_err-hint.ensures.refused c.in_err-hint.ensures.begun)
+
+pub returns-in-None-clause-begun : goal.returns-in-None-clause-begun
+returns-in-None-clause-begun c = λ room.
+    closing_short room _ _ _ _ _ _ c.requires.begins c.skip_spaces-begin.ensures c.in_ok-hint.ensures.read c.skip_spaces-close.ensures c.in-None.ensures
+
+pub returns-in-Some-clause-begun : goal.returns-in-Some-clause-begun
+returns-in-Some-clause-begun c = λ room.
+    closing_ends room _ _ _ _ _ _ _ c.requires.begins c.skip_spaces-begin.ensures c.in_ok-hint.ensures.read c.skip_spaces-close.ensures c.in-Some.ensures c.in-Some.field-0-test.1
+
+pub returns-in_err-body-clause-begun : goal.returns-in_err-body-clause-begun
+returns-in_err-body-clause-begun c =
+    let p = err_from_is_err_and c.from_residual-in_err-body.result c.from_residual-in_err-body.ensures.1 in
+    rw (p.1, p.2) (λ room. body_ends room _ _ _ _ _ _ _ _ c.requires.begins c.skip_spaces-begin.ensures c.in_ok-hint.ensures.read c.skip_spaces-close.ensures
+    (subst (StandsAt _ _) c.in-Some-eq93.field-0-test c.in-Some-eq93.ensures) c.skip_spaces-begin-2.ensures c.in_err-body.ensures.begun)

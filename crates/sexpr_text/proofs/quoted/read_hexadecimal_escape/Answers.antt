@@ -2,6 +2,7 @@ use Rattle.std.proofs.lemmas.Result.{err_from_is_err_and}
 use Rattle.sexpr_text.proofs.Escapes.{hexadecimal_piece}
 use Rattle.sexpr_text.proofs.QuotedLaws.{hexadecimal_escape, second_octet}
 use Rattle.sexpr_text.proofs.RefusedPieces.{high_refused, low_refused}
+use Rattle.sexpr_text.proofs.StringEnds.{high_end, low_end}
 use Rattle.sexpr_text.proofs.quoted.read_hexadecimal_escape.Goals as goal
 
 pub returns-in_err-high-clause-only : goal.returns-in_err-high-clause-only
@@ -28,3 +29,13 @@ pub returns-in_err-high-clause-refused : goal.returns-in_err-high-clause-refused
 returns-in_err-high-clause-refused c =
     let p = err_from_is_err_and c.from_residual.result c.from_residual.ensures.1 in
     rw (p.1, p.2) (high_refused _ _ _ c.in_err-high.ensures.refused)
+
+pub returns-in_err-high-clause-begun : goal.returns-in_err-high-clause-begun
+returns-in_err-high-clause-begun c =
+    let p = err_from_is_err_and c.from_residual.result c.from_residual.ensures.1 in
+    rw (p.1, p.2) (high_end _ _ _ c.in_err-high.ensures.begun)
+
+pub returns-in_err-low-clause-begun : goal.returns-in_err-low-clause-begun
+returns-in_err-low-clause-begun c =
+    let p = err_from_is_err_and c.from_residual-in_err-low.result c.from_residual-in_err-low.ensures.1 in
+    rw (p.1, p.2) (low_end _ _ _ _ c.in_ok-high.ensures.read c.in_err-low.ensures.begun)

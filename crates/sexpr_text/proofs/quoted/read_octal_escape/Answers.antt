@@ -2,6 +2,7 @@ use Rattle.std.proofs.lemmas.Result.{err_from_is_err_and}
 use Rattle.sexpr_text.proofs.Escapes.{octal_piece}
 use Rattle.sexpr_text.proofs.QuotedLaws.{octal_escape, third_octet, octal_behind}
 use Rattle.sexpr_text.proofs.RefusedPieces.{second_refused, third_refused}
+use Rattle.sexpr_text.proofs.StringEnds.{second_end, third_end}
 use Rattle.sexpr_text.proofs.quoted.read_octal_escape.Goals as goal
 
 pub returns-in_err-second-clause-only : goal.returns-in_err-second-clause-only
@@ -28,3 +29,13 @@ pub returns-in_err-third-clause-refused : goal.returns-in_err-third-clause-refus
 returns-in_err-third-clause-refused c =
     let p = err_from_is_err_and c.from_residual-in_err-third.result c.from_residual-in_err-third.ensures.1 in
     rw (p.1, p.2) (third_refused _ _ _ _ _ c.requires.low c.requires.begins c.in_ok-second.ensures.read.1 c.in_err-third.ensures.refused)
+
+pub returns-in_err-second-clause-begun : goal.returns-in_err-second-clause-begun
+returns-in_err-second-clause-begun c =
+    let p = err_from_is_err_and c.from_residual.result c.from_residual.ensures.1 in
+    rw (p.1, p.2) (second_end _ _ _ _ c.requires.low c.requires.begins c.in_err-second.ensures.begun)
+
+pub returns-in_err-third-clause-begun : goal.returns-in_err-third-clause-begun
+returns-in_err-third-clause-begun c =
+    let p = err_from_is_err_and c.from_residual-in_err-third.result c.from_residual-in_err-third.ensures.1 in
+    rw (p.1, p.2) (third_end _ _ _ _ _ c.requires.low c.in_ok-second.ensures.read.0 c.requires.begins c.in_ok-second.ensures.read.1 c.in_err-third.ensures.begun)

@@ -4,6 +4,7 @@ use Rattle.sexpr_core.specs.Reading.{StandsAt}
 use Rattle.sexpr_text.proofs.StringLaws.{more_quoted, quoted_read}
 use Rattle.sexpr_text.proofs.QuotedLaws.{quoted_left, left_ended, left_next}
 use Rattle.sexpr_text.proofs.RefusedPieces.{quoted_refused}
+use Rattle.sexpr_text.proofs.StringEnds.{quoted_end, quoted_short}
 use Rattle.sexpr_text.proofs.quoted.read_quoted.Goals as goal
 
 pub returns-then-octet-eq34-clause-read : goal.returns-then-octet-eq34-clause-read
@@ -29,3 +30,11 @@ pub returns-in_err-i-clause-refused : goal.returns-in_err-i-clause-refused
 returns-in_err-i-clause-refused c =
     let p = err_from_is_err_and c.from_residual.result c.from_residual.ensures.1 in
     rw (p.1, p.2) (quoted_refused _ _ _ _ _ _ c.requires c.loop-octet.invariant c.in-Some.ensures c.if-octet-eq34.false c.in_err-i.ensures.refused)
+
+pub returns-in_err-i-clause-begun : goal.returns-in_err-i-clause-begun
+returns-in_err-i-clause-begun c =
+    let p = err_from_is_err_and c.from_residual.result c.from_residual.ensures.1 in
+    rw (p.1, p.2) (quoted_end _ _ _ _ _ c.requires c.loop-octet.invariant c.in_err-i.ensures.begun)
+
+pub returns-clause-begun : goal.returns-clause-begun
+returns-clause-begun c = quoted_short _ _ _ _ c.requires c.loop-octet.invariant c.in_default.ensures

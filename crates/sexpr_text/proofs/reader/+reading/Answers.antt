@@ -3,6 +3,8 @@ use Rattle.std.proofs.lemmas.Result.{err_from_is_err_and, IfErr-weaker}
 use Rattle.sexpr_core.specs.Tree.{sexp_value}
 use Rattle.sexpr_text.proofs.RefusedValues.{part_fault, string_missed, members_missed, member_missed}
 use Rattle.sexpr_text.proofs.Trees.{no_value, string_at, inside_list, tree_read, no_members, more_members, members_end, member_at, no_members_end}
+use Rattle.sexpr_text.proofs.StringEnds.{nothing_left}
+use Rattle.sexpr_text.proofs.ValueEnds.{none_value, string_ends, flat_ends, list_too_deep, list_ends, members_short, member_ends}
 use Rattle.sexpr_text.proofs.reader.+reading.Goals as goal
 
 pub read_list-returns-then-room-eq0-clause-only : goal.read_list-returns-then-room-eq0-clause-only
@@ -62,12 +64,39 @@ read_tree-returns-in-Some-eq91-clause-only t c = λ v rest h. c.read_hinted.ensu
 pub read_list-returns-in_err-members-clause-refused : goal.read_list-returns-in_err-members-clause-refused
 read_list-returns-in_err-members-clause-refused t c =
     let p = err_from_is_err_and c.from_residual.result c.from_residual.ensures.1 in
-    rw (p.1, p.2) (members_missed _ _ _ _ c.requires.begins (omega arith) c.in_err-members.ensures.refused)
+    rw (p.1, p.2) (members_missed _ _ _ c.requires.begins c.in_err-members.ensures.refused)
 
 pub read_tree-returns-in_err-octets-in-Some-clause-refused : goal.read_tree-returns-in_err-octets-in-Some-clause-refused
 read_tree-returns-in_err-octets-in-Some-clause-refused t c =
     let p = err_from_is_err_and c.from_residual.result c.from_residual.ensures.1 in
-    rw (p.1, p.2) (string_missed _ _ _ _ _ c.in-Some.ensures c.in-Some.field-0-test.0.1 c.in-Some.field-0-test.1 c.in_err-octets-in-Some.ensures.refused)
+    rw (p.1, p.2) (string_missed _ _ _ _ c.in-Some.ensures c.in-Some.field-0-test.0.1 c.in-Some.field-0-test.1 c.in_err-octets-in-Some.ensures.refused)
 
 pub read_tree-returns-in-Some-eq91-clause-refused : goal.read_tree-returns-in-Some-eq91-clause-refused
-read_tree-returns-in-Some-eq91-clause-refused t c = IfErr-weaker c.read_hinted.result _ _ (λ fault h. part_fault _ _ _ _ fault h) c.read_hinted.ensures.refused
+read_tree-returns-in-Some-eq91-clause-refused t c = IfErr-weaker c.read_hinted.result _ _ (λ fault h. part_fault _ _ _ fault h) c.read_hinted.ensures.refused
+
+pub read_list-returns-then-room-eq0-clause-begun : goal.read_list-returns-then-room-eq0-clause-begun
+read_list-returns-then-room-eq0-clause-begun t c = list_too_deep _ _ _ c.requires.begins c.if-room-eq0.true
+
+pub read_list-returns-in_err-members-clause-begun : goal.read_list-returns-in_err-members-clause-begun
+read_list-returns-in_err-members-clause-begun t c =
+    let p = err_from_is_err_and c.from_residual.result c.from_residual.ensures.1 in
+    rw (p.1, p.2) (list_ends _ _ _ _ c.requires.begins (omega arith) c.in_err-members.ensures.begun)
+
+pub read_members-returns-in_err-tree-clause-begun : goal.read_members-returns-in_err-tree-clause-begun
+read_members-returns-in_err-tree-clause-begun t c =
+    let p = err_from_is_err_and c.from_residual.result c.from_residual.ensures.1 in
+    rw (p.1, p.2) (member_ends _ _ _ _ _ _ _ c.loop-octet.invariant c.in-Some.ensures c.if-octet-eq41.false c.in_err-tree.ensures.refused c.in_err-tree.ensures.begun)
+
+pub read_members-returns-clause-begun : goal.read_members-returns-clause-begun
+read_members-returns-clause-begun t c = members_short _ _ _ _ _ c.loop-octet.invariant c.in_default.ensures
+
+pub read_tree-returns-in_err-octets-in-Some-clause-begun : goal.read_tree-returns-in_err-octets-in-Some-clause-begun
+read_tree-returns-in_err-octets-in-Some-clause-begun t c =
+    let p = err_from_is_err_and c.from_residual.result c.from_residual.ensures.1 in
+    rw (p.1, p.2) (string_ends _ _ _ _ _ c.in-Some.ensures c.in-Some.field-0-test.0.1 c.in-Some.field-0-test.1 c.in_err-octets-in-Some.ensures.begun)
+
+pub read_tree-returns-in-None-clause-begun : goal.read_tree-returns-in-None-clause-begun
+read_tree-returns-in-None-clause-begun t c = nothing_left _ _ _ (none_value c.args.room) c.requires.begins c.in-None.ensures
+
+pub read_tree-returns-in-Some-eq91-clause-begun : goal.read_tree-returns-in-Some-eq91-clause-begun
+read_tree-returns-in-Some-eq91-clause-begun t c = IfErr-weaker c.read_hinted.result _ _ (λ fault h. flat_ends _ _ _ fault h) c.read_hinted.ensures.begun

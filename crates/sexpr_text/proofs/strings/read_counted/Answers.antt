@@ -2,6 +2,7 @@ use Rattle.std.proofs.Common.{sym, ◌∙◌}
 use Rattle.std.proofs.lemmas.Result.{err_from_is_err_and, IfOk-weaker, IfErr-weaker}
 use Rattle.sexpr_text.proofs.CountedLaws.{counted_ended, marked_stands, verbatim_fits, verbatim_string, counted_string, counted_right}
 use Rattle.sexpr_text.proofs.RefusedStrings.{short_refused, marked_missed, count_missed}
+use Rattle.sexpr_text.proofs.StringEnds.{count_short, verbatim_end, counted_end, count_end}
 use Rattle.sexpr_text.proofs.strings.read_counted.Goals as goal
 
 pub returns-in_default-clause-only : goal.returns-in_default-clause-only
@@ -46,3 +47,20 @@ pub returns-then-len-count-clause-refused : goal.returns-then-len-count-clause-r
 returns-then-len-count-clause-refused c =
     count_missed _ _ _ _ _ _ _ _ _ c.requires.short c.requires.begins c.requires.digit c.read_count-count.ensures.read c.read_count-count.ensures.ends
     c.in-Some.ensures c.if-octet-eq58.false c.in_ok-read.ensures.read (c.len.ensures ∙ c.in_ok-read.read.octets.ok.0) c.if-len-count.true
+
+pub returns-in_default-clause-begun : goal.returns-in_default-clause-begun
+returns-in_default-clause-begun c = count_short _ _ _ _ c.read_count-count.ensures.read c.in_default.ensures
+
+pub returns-then-octet-eq58-clause-begun : goal.returns-then-octet-eq58-clause-begun
+returns-then-octet-eq58-clause-begun c =
+    IfErr-weaker c.read_verbatim.result _ _
+    (λ fault h. verbatim_end _ _ _ _ _ fault c.requires.short c.read_count-count.ensures.read c.in-Some.ensures c.if-octet-eq58.true h) c.read_verbatim.ensures.begun
+
+pub returns-in_err-read-clause-begun : goal.returns-in_err-read-clause-begun
+returns-in_err-read-clause-begun c =
+    let p = err_from_is_err_and c.from_residual.result c.from_residual.ensures.1 in
+    rw (p.1, p.2) (counted_end _ _ _ _ _ _ c.requires.begins c.requires.digit c.read_count-count.ensures.read c.read_count-count.ensures.ends c.in_err-read.ensures.begun)
+
+pub returns-then-len-count-clause-begun : goal.returns-then-len-count-clause-begun
+returns-then-len-count-clause-begun c =
+    count_end _ _ _ _ _ _ _ c.requires.begins c.requires.digit c.read_count-count.ensures.read c.read_count-count.ensures.ends c.in_ok-read.ensures.read

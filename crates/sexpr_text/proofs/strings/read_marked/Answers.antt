@@ -4,6 +4,7 @@ use Rattle.sexpr_core.specs.Reading.{StandsAt}
 use Rattle.sexpr_text.proofs.StringLaws.{packed_read, packed_marked}
 use Rattle.sexpr_text.proofs.Marked.{quoted_of, hexadecimal_of, packed_of, behind_opening}
 use Rattle.sexpr_text.proofs.RefusedStrings.{quoted_missed, hexadecimal_missed, packed_missed, mark_missed}
+use Rattle.sexpr_text.proofs.StringEnds.{IfErr-both, quoted_marked_end, hexadecimal_marked_end, packed_marked_end, no_mark_end}
 use Rattle.sexpr_text.proofs.strings.read_marked.Goals as goal
 
 pub returns-in-Some-eq34-clause-only : goal.returns-in-Some-eq34-clause-only
@@ -41,3 +42,21 @@ returns-in_err-octets-in-Some-eq124-clause-refused c =
 pub returns-in-Some-clause-refused : goal.returns-in-Some-clause-refused
 returns-in-Some-clause-refused c =
     mark_missed _ _ _ c.in-Some.ensures c.in-Some.field-0-test.0.0.1 c.in-Some.field-0-test.0.1 c.in-Some.field-0-test.1
+
+pub returns-in_err-octets-in-Some-eq124-clause-begun : goal.returns-in_err-octets-in-Some-eq124-clause-begun
+returns-in_err-octets-in-Some-eq124-clause-begun c =
+    let p = err_from_is_err_and c.from_residual.result c.from_residual.ensures.1 in
+    rw (p.1, p.2) (packed_marked_end _ _ _ _ c.in-Some-eq124.ensures c.in-Some-eq124.field-0-test c.in_err-octets-in-Some-eq124.ensures.begun)
+
+pub returns-in-Some-eq34-clause-begun : goal.returns-in-Some-eq34-clause-begun
+returns-in-Some-eq34-clause-begun c =
+    IfErr-both c.read_quoted.result _ _ _
+    (λ fault h r. quoted_marked_end _ _ _ fault c.in-Some-eq34.ensures c.in-Some-eq34.field-0-test h r) c.read_quoted.ensures.begun c.read_quoted.ensures.refused
+
+pub returns-in-Some-eq35-clause-begun : goal.returns-in-Some-eq35-clause-begun
+returns-in-Some-eq35-clause-begun c =
+    IfErr-weaker c.read_hexadecimal.result _ _ (λ fault h. hexadecimal_marked_end _ _ _ fault c.in-Some-eq35.ensures c.in-Some-eq35.field-0-test h) c.read_hexadecimal.ensures.begun
+
+pub returns-in-Some-clause-begun : goal.returns-in-Some-clause-begun
+returns-in-Some-clause-begun c =
+    no_mark_end _ _ _ c.in-Some.ensures c.in-Some.field-0-test.0.0.1 c.in-Some.field-0-test.0.1 c.in-Some.field-0-test.1

@@ -2,6 +2,8 @@ use Rattle.std.proofs.Common.{sym, arith}
 use Rattle.std.proofs.lemmas.Result.{err_from_is_err_and}
 use Rattle.sexpr_text.proofs.CountedLaws.{marked_string, nothing_stands, uncounted_stands}
 use Rattle.sexpr_text.proofs.RefusedStrings.{uncounted_missed}
+use Rattle.sexpr_text.proofs.StringEnds.{nothing_left, none_string, uncounted_end}
+use Rattle.sexpr_text.proofs.CountedLaws.{quoted_string}
 use Rattle.sexpr_text.proofs.strings.read_string.Goals as goal
 
 pub returns-in_default-clause-only : goal.returns-in_default-clause-only
@@ -22,3 +24,15 @@ returns-in_err-read-clause-refused c =
 
 pub returns-clause-read : goal.returns-clause-read
 returns-clause-read c = marked_string _ _ _ _ c.in_ok-read.ensures.read
+
+pub returns-in_default-clause-begun : goal.returns-in_default-clause-begun
+returns-in_default-clause-begun c = nothing_left _ _ _ none_string c.requires.begins c.in_default.ensures
+
+pub returns-in_err-read-clause-begun : goal.returns-in_err-read-clause-begun
+returns-in_err-read-clause-begun c =
+    let p = err_from_is_err_and c.from_residual.result c.from_residual.ensures.1 in
+    rw (p.1, p.2)
+    (uncounted_end _ _ _ _ c.in-Some.ensures (λ d. omega (arith, c.if-is_ascii_digit.ensures.cases)) c.in_err-read.ensures.begun)
+
+pub returns-in-Some-lend_quoted-clause-read : goal.returns-in-Some-lend_quoted-clause-read
+returns-in-Some-lend_quoted-clause-read c = quoted_string _ _ _ _ (c.in-Some-lend_quoted.ensures)

@@ -1,0 +1,229 @@
+-- From a value that is refused, or has octets behind it, to what is said of the whole text.
+use Rattle.std.proofs.Common.{◌≡◌, ℕ, ◌+◌, ◌<◌, ◌≤◌, Bool, true, false, inl, inr, List, [], ◌∷◌, ◌++◌, length, take, drop, Some, None, refl, sym, ap, subst, ◌∙◌, append_assoc, append-nil, length-drop, arith}
+use Rattle.std.proofs.lemmas.Bool.{cases_Bool}
+use Rattle.std.proofs.lemmas.List.{take-append-drop, drop-drop}
+use Rattle.sexpr_core.specs.declared.fault.FormFault.{FormFault}
+use Rattle.sexpr_core.specs.declared.fault.FormFault.TheVariants.{TooLong, TooDeep, Short, Bad, Trailing, Memory}
+use Rattle.sexpr_core.specs.Bounds.{IsTrailingBehind}
+use Rattle.sexpr_core.specs.Prefix.{Begins, StopsAt}
+use Rattle.sexpr_core.specs.Reading.{StandsAt}
+use Rattle.sexpr_core.specs.Spaces.{is_whitespace, AreSpaces, Skips, StartsVisible}
+use Rattle.sexpr_core.specs.Value.{Value, string, list, depth}
+use Rattle.sexpr_core.proofs.Agreeing.{Agree, agree, same_head, skips_too, front_is}
+use Rattle.sexpr_core.proofs.SpaceLaws.{one_end}
+use Rattle.sexpr_text.specs.Strings.{is_token_octet, IsApart}
+use Rattle.sexpr_text.specs.Spelling.{SpellsAs, Spells, IsSpelledWithin}
+use Rattle.sexpr_text.specs.Reads.{ReadsValue, ValueAt, IsValueFault}
+use Rattle.sexpr_text.specs.Stands.{ValueStands}
+use Rattle.sexpr_text.specs.Unclosed.{IsUnclosedText, UnclosedValue}
+use Rattle.sexpr_text.specs.Begun.{Begun, From, Anywhere, GoesValue, IsUnclosedValue, ValueStandsIn, IsValueEnd}
+use Rattle.sexpr_text.specs.Refusal.{IsSpelling, IsSpellingWithin, GoesOn, GoesOnWithin, RefusesSpelling}
+use Rattle.sexpr_text.proofs.Beginnings.{value_begins, goes_anyhow}
+use Rattle.sexpr_text.proofs.Elsewhere.{value_too}
+use Rattle.sexpr_text.proofs.OneValue.{hinted_text, value_visible, spaces_apart}
+use Rattle.sexpr_text.proofs.StringLaws.{token_grows}
+use Rattle.sexpr_text.proofs.Trees.{same_value, spelled_at, front_read}
+use Rattle.sexpr_text.proofs.UnclosedLaws.{fails_among, unclosed_value, unclosed_value_visible}
+
+-- ---- what goes on
+
+text_is : (text : List ℕ) (begin to : ℕ) (s : Skips text 0 begin) (part : List ℕ) → drop begin text ≡ part ++ drop to text → to ≤ length text → take to text ≡ s.spaces ++ part
+text_is text begin to s part e le =
+    front_is text (s.spaces ++ part) to (s.spelled ∙ ap (λ t. s.spaces ++ t) e ∙ sym (append_assoc s.spaces part (drop to text))) le
+
+goes_whole : (room : ℕ) (text : List ℕ) (begin to : ℕ) → Skips text 0 begin → Begun (GoesValue room) text begin to → GoesOnWithin room (take to text)
+goes_whole room text begin to s b = subst (GoesOnWithin room) (sym (text_is text begin to s b.part b.spelled b.within)) (goes s.spaces b.part s.are_spaces b.goes)
+  where
+    goes : (spaces part : List ℕ) → AreSpaces spaces → GoesValue room part → GoesOnWithin room (spaces ++ part)
+    goes spaces part h (inl k) = inl (value_begins room spaces part h k)
+    goes spaces part h (inr u) = inr (record {
+      before = spaces;
+      value = part;
+      lists = u.lists;
+      parts = refl;
+      spaces_before = h;
+      fits = u.fits;
+      unclosed = u.unclosed;
+    })
+
+-- the value of a text that isn't closed stands past whitespace
+unclosed_at : (room : ℕ) (text : List ℕ) (begin : ℕ) → Skips text 0 begin → IsUnclosedText room text → IsUnclosedValue room (drop begin text)
+unclosed_at room text begin s u =
+    let p = one_end s.spaces u.before (drop begin text) u.value s.are_spaces u.spaces_before s.ends (unclosed_value_visible u.lists u.value u.unclosed) (sym s.spelled ∙ u.parts) in
+    record { lists = u.lists; fits = u.fits; unclosed = subst (UnclosedValue u.lists) (sym p.1) u.unclosed }
+
+-- ---- a whole value in front of an octet
+
+-- a token goes on with an octet of one
+grows : (s : List ℕ) (v : Value) (c : ℕ) → SpellsAs true s v → is_token_octet c ≡ true → (w : Value) × SpellsAs true (s ++ c ∷ []) w
+grows s (string None a) c m t = (string None (a ++ c ∷ []), (ap (λ x. x ++ c ∷ []) m.0, token_grows a c m.1 t))
+grows s (string (Some g) a) c m t = (
+  string (Some g) (a ++ c ∷ []),
+  record {
+    as_token = m.as_token;
+    inside = m.inside;
+    hint_text = m.hint_text;
+    behind_hint = m.behind_hint;
+    behind = m.behind;
+    octets_text = m.octets_text ++ c ∷ [];
+    spelled = hinted_text true s g a (c ∷ []) m;
+    spaces_inside = m.spaces_inside;
+    hint_meant = m.hint_meant;
+    spaces_behind_hint = m.spaces_behind_hint;
+    spaces_behind = m.spaces_behind;
+    octets_meant = (ap (λ x. x ++ c ∷ []) m.octets_meant.0, token_grows a c m.octets_meant.1 t);
+  },
+)
+grows s (list vs) c m t = let f : true ≡ false = m.1 in absurd cc
+
+-- an octet stands behind a spelling with which it begins none: it stands apart
+apart_behind : (ends : Bool) (before middle after : List ℕ) (v : Value) (c : ℕ) (x : List ℕ) → AreSpaces before → SpellsAs ends middle v → AreSpaces after
+    → (IsSpelling ((before ++ (middle ++ after)) ++ c ∷ []) → ⊥) → IsApart ends (after ++ c ∷ x)
+apart_behind false before middle after v c x s m t never = tt
+apart_behind true before middle (y ∷ ys) v c x s m t never = spaces_apart true (y ∷ ys) t
+apart_behind true before middle [] v c x s m t never = elim (cases_Bool (is_token_octet c)) [
+  | inl e ↦
+      let g = grows middle v c m e in
+      absurd (never (record {
+        value = g.0;
+        spelled = record {
+          before = before;
+          ends_token = true;
+          middle = middle ++ c ∷ [];
+          after = [];
+          parts = simp append_assoc refl;
+          spaces_before = s;
+          spelled = g.1;
+          spaces_after = tt;
+        };
+      }))
+  | inr e ↦ e
+]
+
+one_more : (text : List ℕ) (k c : ℕ) → StandsAt text k c → take (k + 1) text ≡ take k text ++ c ∷ []
+one_more text k c s =
+    front_is text (take k text ++ c ∷ []) (k + 1)
+    (sym (take-append-drop k text) ∙ ap (λ t. take k text ++ t) s.spelled ∙ sym (append_assoc (take k text) (c ∷ []) (drop (k + 1) text)))
+    (omega (arith, s.within))
+
+-- a value that the octets before an offset spell stands in the text
+whole_before : (text : List ℕ) (begin k c : ℕ) (v : Value) → Skips text 0 begin → StandsAt text k c → (IsSpelling (take (k + 1) text) → ⊥) → IsSpelledWithin (take k text) v
+    → (rest : List ℕ) × ValueAt 64 text begin v rest
+whole_before text begin k c v s stands never w =
+    let m : Spells (take k text) v = w.spelling in
+    let apart = apart_behind m.ends_token m.before m.middle m.after v c (drop (k + 1) text) m.spaces_before m.spelled m.spaces_after
+    (λ h. never (subst IsSpelling (ap (λ t. t ++ c ∷ []) (sym m.parts) ∙ sym (one_more text k c stands)) h)) in
+    let all : text ≡ m.before ++ (m.middle ++ (m.after ++ c ∷ drop (k + 1) text)) =
+    sym (take-append-drop k text) ∙ ap (λ t. take k text ++ t) stands.spelled ∙ ap (λ t. t ++ c ∷ drop (k + 1) text) m.parts ∙ simp append_assoc refl in
+    let p = one_end s.spaces m.before (drop begin text) (m.middle ++ (m.after ++ c ∷ drop (k + 1) text)) s.are_spaces m.spaces_before s.ends
+    (value_visible m.ends_token m.middle (m.after ++ c ∷ drop (k + 1) text) v m.spelled) (sym s.spelled ∙ all) in
+    (m.after ++ c ∷ drop (k + 1) text, record { ends_token = m.ends_token; spelling = m.middle; spelled = p.1; meant = m.spelled; apart = apart; fits = w.shallow })
+
+-- ---- a value that is refused
+
+take-all : (xs : List ℕ) → take (length xs) xs ≡ xs
+take-all [] = refl
+take-all (x ∷ xs) = ap (λ t. x ∷ t) (take-all xs)
+
+stands_there : (text : List ℕ) (k : ℕ) → k < length text → (c : ℕ) × StandsAt text k c
+stands_there text k lt = begins (drop k text) refl
+  where
+    begins : (xs : List ℕ) → drop k text ≡ xs → (c : ℕ) × StandsAt text k c
+    begins [] e = absurd (omega (arith, ap length e, length-drop k text))
+    begins (c ∷ cs) e =
+        let n : cs ≡ drop (k + 1) text = sym (ap (drop 1) e) ∙ drop-drop 1 k text in
+        (c, record { spelled = e ∙ ap (λ t. c ∷ t) n; within = lt })
+
+spelling_stops : (text : List ℕ) (begin k : ℕ) → Skips text 0 begin → StopsAt (ValueStands begin) text begin k → Begins IsSpelling (take (k + 1) text) → ⊥
+spelling_stops text begin k s h b =
+    let other = take (k + 1) text ++ b.rest in
+    let w : IsSpelling other = b.whole in
+    let o = skips_too text other k 0 begin (agree text k b.rest h.within) h.behind s in
+    h.none (record { rest = b.rest; whole = record { room = _; value = w.value; rest = w.spelled.after; stands = spelled_at other begin w.value o w.spelled } })
+
+spelling_within_stops : (room : ℕ) (text : List ℕ) (begin k : ℕ) → Skips text 0 begin → StopsAt (ValueStandsIn room begin) text begin k
+    → Begins (IsSpellingWithin room) (take (k + 1) text) → ⊥
+spelling_within_stops room text begin k s h b =
+    let other = take (k + 1) text ++ b.rest in
+    let w : IsSpellingWithin room other = b.whole in
+    let o = skips_too text other k 0 begin (agree text k b.rest h.within) h.behind s in
+    let v = spelled_at other begin w.value o w.spelled in
+    h.none (record {
+      rest = b.rest;
+      whole = record {
+        value = w.value;
+        rest = w.spelled.after;
+        stands = record { ends_token = v.ends_token; spelling = v.spelling; spelled = v.spelled; meant = v.meant; apart = v.apart; fits = w.fits };
+      };
+    })
+
+unclosed_stops : (U : List ℕ → Type 0) (room : ℕ) (text : List ℕ) (begin k : ℕ) → Skips text 0 begin → ((x : List ℕ) → IsUnclosedValue room x → U x)
+    → StopsAt (From U begin) text begin k → IsUnclosedText room (take (k + 1) text) → ⊥
+unclosed_stops U room text begin k s on h u =
+    let e : take (k + 1) text ++ [] ≡ take (k + 1) text = append-nil (take (k + 1) text) in
+    let o = skips_too text (take (k + 1) text ++ []) k 0 begin (agree text k [] h.within) h.behind s in
+    h.none (record { rest = []; whole = on (drop begin (take (k + 1) text ++ [])) (unclosed_at room (take (k + 1) text ++ []) begin o (subst (IsUnclosedText room) (sym e) u)) })
+
+pub value_refused : (text : List ℕ) (begin : ℕ) (fault : FormFault) → Skips text 0 begin → IsValueFault (ValueStands begin) text begin fault
+    → IsValueEnd 64 GoesValue (λ most. ValueStandsIn most begin) IsUnclosedValue text begin fault
+    → ((v : Value) (rest : List ℕ) → ValueAt 64 text begin v rest → fault ≡ Memory) → ((v : Value) → IsSpelledWithin text v → fault ≡ Memory) → RefusesSpelling text fault
+value_refused text begin TooLong s h b only whole = absurd h
+value_refused text begin TooDeep s h b only whole = (
+  b.place + 1,
+  goes_anyhow 65 (take (b.place + 1) text) (goes_whole 65 text begin (b.place + 1) s b.begun),
+  λ g. elim g [
+    | inl k ↦ spelling_within_stops 64 text begin b.place s b.none_whole k
+    | inr u ↦ unclosed_stops (IsUnclosedValue 64) 64 text begin b.place s (λ x k. k) b.none_open u
+  ],
+)
+value_refused text begin Short s h b only whole = (
+  subst (GoesOnWithin 64) (take-all text) (goes_whole 64 text begin (length text) s b),
+  λ v w. let e : Short ≡ Memory = whole v w in cc,
+)
+value_refused text begin (Bad k) s h b only whole =
+    let c = stands_there text k h.within in (
+      h.within,
+      goes_whole 64 text begin k s b.0,
+      λ v w.
+          let p = whole_before text begin k c.0 v s c.1
+          (λ i. spelling_stops text begin k s h (record { rest = []; whole = subst IsSpelling (sym (append-nil (take (k + 1) text))) i })) w in
+          let e : Bad k ≡ Memory = only v p.0 p.1 in cc,
+      λ g. elim g [
+        | inl i ↦ spelling_stops text begin k s h i
+        | inr u ↦ unclosed_stops (Anywhere IsUnclosedValue) u.0 text begin k s (λ x i. (u.0, i)) b.1 u.1
+      ],
+    )
+value_refused text begin (Trailing k) s h b only whole = absurd h
+value_refused text begin Memory s h b only whole = tt
+
+-- ---- an octet behind the value
+
+trailing_stops : (text : List ℕ) (begin to k : ℕ) (v : Value) → Skips text 0 begin → ReadsValue 64 text begin v to → Skips text to k → k < length text
+    → GoesOn (take (k + 1) text) → ⊥
+trailing_stops text begin to k v s r t lt (inl b) =
+    let other = take (k + 1) text ++ b.rest in
+    let a : Agree text other k = agree text k b.rest lt in
+    let w : IsSpelling other = b.whole in
+    let q = skips_too text other k to k a (omega arith) t in
+    let h = same_head text other k k a (omega arith) in
+    let e = same_value 64 (depth w.value) other begin to v w.value w.spelled.after (value_too 64 text other k begin to v a t.ordered r)
+    (spelled_at other begin w.value (skips_too text other k 0 begin a (omega (arith, r.forward, t.ordered)) s) w.spelled) in
+    let visible : is_whitespace h.octet ≡ false = subst StartsVisible h.second_is q.ends in
+    fails_among is_whitespace q.spaces h.octet h.second w.spelled.after visible w.spelled.spaces_after
+    (ap (λ x. q.spaces ++ x) (sym h.second_is) ∙ sym q.spelled ∙ e.1)
+trailing_stops text begin to k v s r t lt (inr u) =
+    let other = take (k + 1) text ++ [] in
+    let a : Agree text other k = agree text k [] lt in
+    let o = skips_too text other k 0 begin a (omega (arith, r.forward, t.ordered)) s in
+    let z = unclosed_at u.0 other begin o (subst (IsUnclosedText u.0) (sym (append-nil (take (k + 1) text))) u.1) in
+    let q = value_too 64 text other k begin to v a t.ordered r in
+    unclosed_value q.stands.ends_token q.stands.spelling (drop to other) v z.lists (drop begin other) q.stands.meant z.unclosed (sym q.stands.spelled)
+
+pub trailing_refused : (text : List ℕ) (begin to : ℕ) (v : Value) (fault : FormFault) → length text ≤ 1048576 → Skips text 0 begin → ReadsValue 64 text begin v to
+    → IsTrailingBehind text to fault → RefusesSpelling text fault
+trailing_refused text begin to v TooLong short s r h = absurd h
+trailing_refused text begin to v TooDeep short s r h = absurd h
+trailing_refused text begin to v Short short s r h = absurd h
+trailing_refused text begin to v (Bad k) short s r h = absurd h
+trailing_refused text begin to v (Trailing k) short s r h = (h.0, (v, front_read text begin to k v short s r h.1), trailing_stops text begin to k v s r h.1 h.0)
+trailing_refused text begin to v Memory short s r h = absurd h

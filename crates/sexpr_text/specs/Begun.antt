@@ -1,0 +1,133 @@
+-- What stands of a part of a text where a fault is met in it.
+use Rattle.std.specs.Prelude.{◌≡◌, ℕ, suc, ◌+◌, ◌≤◌, Bool, ◌⊎◌, List, [], ◌∷◌, ◌++◌, length, drop}
+use Rattle.sexpr_core.specs.declared.fault.FormFault.{FormFault}
+use Rattle.sexpr_core.specs.declared.fault.FormFault.TheVariants.{TooLong, TooDeep, Short, Bad, Trailing, Memory}
+use Rattle.sexpr_core.specs.Prefix.{Begins, StopsAt}
+use Rattle.sexpr_core.specs.Value.{Value, Values, depth, depths}
+use Rattle.sexpr_text.specs.Strings.{Simple, IsPiece, Piece, piece_text}
+use Rattle.sexpr_text.specs.Spelling.{SpellsAs, SpellsMembers}
+use Rattle.sexpr_text.specs.Unclosed.{IsUnclosed, IsUnclosedString, UnclosedMembers, UnclosedValue, depth_open}
+use Rattle.sexpr_text.specs.Reads.{ValueAt, MembersAt}
+
+-- the octets from one offset up to another are one of G
+pub record Begun (G : List ℕ → Type 0) (text : List ℕ) (at to : ℕ) : Type 0 where
+  pub part : List ℕ
+  pub spelled : drop at text ≡ part ++ drop to text
+  pub goes : G part
+  pub ordered : at ≤ to
+  pub within : to ≤ length text
+
+-- the octets from an offset on are one of U
+abbrev pub From : (List ℕ → Type 0) → ℕ → List ℕ → Type 0
+From U at text = U (drop at text)
+
+-- Where a part is refused that may go on as those of G. U are those that aren't closed.
+abbrev pub IsPartEnd : (G U : List ℕ → Type 0) → List ℕ → ℕ → FormFault → Type 0
+IsPartEnd G U text at TooLong = ⊥
+IsPartEnd G U text at TooDeep = ⊥
+IsPartEnd G U text at Short = Begun G text at (length text)
+IsPartEnd G U text at (Bad k) = Begun G text at k × StopsAt (From U at) text at k
+IsPartEnd G U text at (Trailing k) = ⊥
+IsPartEnd G U text at Memory = Unit {0}
+
+-- the same where nothing is said of those that aren't closed
+abbrev pub IsFrontEnd : (G : List ℕ → Type 0) → List ℕ → ℕ → FormFault → Type 0
+IsFrontEnd G text at TooLong = ⊥
+IsFrontEnd G text at TooDeep = ⊥
+IsFrontEnd G text at Short = Begun G text at (length text)
+IsFrontEnd G text at (Bad k) = Begun G text at k
+IsFrontEnd G text at (Trailing k) = ⊥
+IsFrontEnd G text at Memory = Unit {0}
+
+-- ---- the parts
+
+-- a proper prefix of a piece of a quoted string, whatever follows the piece; these octets stand in front
+pub record GoesPiece (front part : List ℕ) : Type 0 where
+  pub piece : Piece
+  pub rest : List ℕ
+  pub right : (behind : List ℕ) → IsPiece piece behind
+  pub spelled : front ++ (part ++ rest) ≡ piece_text piece
+
+-- nothing
+abbrev pub GoesDigit : List ℕ → Type 0
+GoesDigit part = part ≡ []
+
+-- nothing yet, or a string between marks that isn't closed
+abbrev pub GoesMarked : List ℕ → Type 0
+GoesMarked part = (part ≡ []) ⊎ IsUnclosed part
+
+-- a string without hint
+pub record IsStringPart (text : List ℕ) : Type 0 where
+  pub ends_token : Bool
+  pub octets : List ℕ
+  pub meant : Simple ends_token text octets
+
+abbrev pub GoesString : List ℕ → Type 0
+GoesString part = Begins IsStringPart part ⊎ IsUnclosedString part
+
+-- a value in which at most so many lists are open at once
+pub record IsValuePart (room : ℕ) (text : List ℕ) : Type 0 where
+  pub ends_token : Bool
+  pub value : Value
+  pub meant : SpellsAs ends_token text value
+  pub fits : depth value ≤ room
+
+pub record IsUnclosedValue (room : ℕ) (text : List ℕ) : Type 0 where
+  pub lists : List Values
+  pub fits : depth_open lists ≤ room
+  pub unclosed : UnclosedValue lists text
+
+abbrev pub GoesValue : ℕ → List ℕ → Type 0
+GoesValue room part = Begins (IsValuePart room) part ⊎ IsUnclosedValue room part
+
+-- members and a closing parenthesis
+pub record IsMembersPart (room : ℕ) (text : List ℕ) : Type 0 where
+  pub inside : List ℕ
+  pub items : Values
+  pub spelled : text ≡ inside ++ 41 ∷ []
+  pub meant : SpellsMembers inside items
+  pub fits : depths items ≤ room
+
+pub record AreUnclosedMembers (room : ℕ) (text : List ℕ) : Type 0 where
+  pub items : Values
+  pub lists : List Values
+  pub few : depths items ≤ room
+  pub fits : depth_open lists ≤ room
+  pub unclosed : UnclosedMembers (UnclosedValue lists) items text
+
+abbrev pub GoesMembers : ℕ → List ℕ → Type 0
+GoesMembers room part = Begins (IsMembersPart room) part ⊎ AreUnclosedMembers room part
+
+-- ---- parts in which lists may open
+
+-- a value of such a depth stands at an offset
+pub record ValueStandsIn (room at : ℕ) (text : List ℕ) : Type 0 where
+  pub value : Value
+  pub rest : List ℕ
+  pub stands : ValueAt room text at value rest
+
+pub record MembersStandIn (room at : ℕ) (text : List ℕ) : Type 0 where
+  pub items : Values
+  pub rest : List ℕ
+  pub stands : MembersAt room text at items rest
+
+-- such a part of any depth
+abbrev pub Anywhere : (U : ℕ → List ℕ → Type 0) → List ℕ → Type 0
+Anywhere U text = (room : ℕ) × U room text
+
+-- A list is one too many: with it one more is open than there is room for, and nothing with that room goes on so.
+pub record IsDeepAt (room : ℕ) (G W U : ℕ → List ℕ → Type 0) (text : List ℕ) (at : ℕ) : Type 0 where
+  pub place : ℕ
+  pub begun : Begun (G (suc room)) text at (place + 1)
+  pub none_whole : StopsAt (W room) text at place
+  pub none_open : StopsAt (From (U room) at) text at place
+
+-- Where a part is refused, of which at most so many lists may be open at once: G are its beginnings, W the texts that
+-- have it whole there, U the parts that aren't closed.
+abbrev pub IsValueEnd : ℕ → (G W U : ℕ → List ℕ → Type 0) → List ℕ → ℕ → FormFault → Type 0
+IsValueEnd room G W U text at TooLong = ⊥
+IsValueEnd room G W U text at TooDeep = IsDeepAt room G W U text at
+IsValueEnd room G W U text at Short = Begun (G room) text at (length text)
+IsValueEnd room G W U text at (Bad k) = Begun (G room) text at k × StopsAt (From (Anywhere U) at) text at k
+IsValueEnd room G W U text at (Trailing k) = ⊥
+IsValueEnd room G W U text at Memory = Unit {0}

@@ -1,0 +1,104 @@
+-- Texts that end inside a string between marks (RFC 9804, sections 4.2 to 4.5). Until its closing mark comes nothing is
+-- said of how many octets it means, nor whether they are packed rightly.
+use Rattle.std.specs.Prelude.{◌≡◌, ℕ, suc, ◌<◌, ◌≤◌, max, Bool, true, ◌⊎◌, List, [], ◌∷◌, ◌++◌, length}
+use Rattle.std.specs.List.{AllByRecursion}
+use Rattle.sexpr_core.specs.Gathering.{AreBodyOctets}
+use Rattle.sexpr_core.specs.Spaces.{AreSpaces}
+use Rattle.sexpr_core.specs.Value.{Values, none, more, depths}
+use Rattle.sexpr_text.specs.Reads.{is_hexadecimal_octet}
+use Rattle.sexpr_text.specs.Strings.{Simple, IsApart, IsCount, IsQuoted}
+use Rattle.sexpr_text.specs.Spelling.{SpellsAs}
+
+-- ---- strings
+
+-- a quote, and a proper prefix of what a quoted string has behind it
+pub record OpensQuoted (text : List ℕ) : Type 0 where
+  pub body : List ℕ
+  pub more : List ℕ
+  pub octets : List ℕ
+  pub spelled : text ≡ 34 ∷ body
+  pub some : 0 < length more
+  pub whole : IsQuoted (text ++ more) octets
+
+-- #, and hexadecimal digits and whitespace
+pub record OpensHexadecimal (text : List ℕ) : Type 0 where
+  pub body : List ℕ
+  pub spelled : text ≡ 35 ∷ body
+  pub digits : AllByRecursion (λ c. is_hexadecimal_octet c ≡ true) body
+
+-- |, and symbols of base64, = and whitespace
+pub record OpensPacked (text : List ℕ) : Type 0 where
+  pub body : List ℕ
+  pub spelled : text ≡ 124 ∷ body
+  pub symbols : AreBodyOctets body
+
+-- a string between marks without its closing mark
+abbrev pub IsUnclosed : List ℕ → Type 0
+IsUnclosed text = OpensQuoted text ⊎ (OpensHexadecimal text ⊎ OpensPacked text)
+
+-- the same, with a length in front or without
+pub record IsUnclosedString (text : List ℕ) : Type 0 where
+  pub count : List ℕ
+  pub number : ℕ
+  pub marked : List ℕ
+  pub spelled : text ≡ count ++ marked
+  pub counts : IsCount count number
+  pub meant : IsUnclosed marked
+
+-- a bracket, and a display hint that isn't closed
+pub record IsUnclosedHint (text : List ℕ) : Type 0 where
+  pub inside : List ℕ
+  pub last : List ℕ
+  pub spelled : text ≡ 91 ∷ (inside ++ last)
+  pub spaces_inside : AreSpaces inside
+  pub unclosed : IsUnclosedString last
+
+-- a display hint in brackets, and a string that isn't closed
+pub record IsUnclosedHinted (text : List ℕ) : Type 0 where
+  pub as_token : Bool
+  pub hint : List ℕ
+  pub inside : List ℕ
+  pub hint_text : List ℕ
+  pub behind_hint : List ℕ
+  pub behind : List ℕ
+  pub last : List ℕ
+  pub spelled : text ≡ 91 ∷ (inside ++ (hint_text ++ (behind_hint ++ 93 ∷ (behind ++ last))))
+  pub spaces_inside : AreSpaces inside
+  pub hint_meant : Simple as_token hint_text hint
+  pub spaces_behind_hint : AreSpaces behind_hint
+  pub spaces_behind : AreSpaces behind
+  pub unclosed : IsUnclosedString last
+
+abbrev pub IsUnclosedAtom : List ℕ → Type 0
+IsUnclosedAtom text = IsUnclosedString text ⊎ (IsUnclosedHint text ⊎ IsUnclosedHinted text)
+
+-- ---- lists
+
+-- spelled members of a list, with whitespace round each, and behind them a text of U
+abbrev pub UnclosedMembers : (U : List ℕ → Type 0) → Values → List ℕ → Type 0
+UnclosedMembers U none text = (spaces : List ℕ) × (last : List ℕ) × (text ≡ spaces ++ last) × AreSpaces spaces × U last
+UnclosedMembers U (more v vs) text =
+    (before : List ℕ) × (ends_token : Bool) × (first : List ℕ) × (rest : List ℕ) × (text ≡ before ++ (first ++ rest))
+    × AreSpaces before × SpellsAs ends_token first v × IsApart ends_token rest × UnclosedMembers U vs rest
+
+-- A value that ends inside a string. The lists that are open stand one in the other, each with its whole members.
+abbrev pub UnclosedValue : List Values → List ℕ → Type 0
+UnclosedValue [] text = IsUnclosedAtom text
+UnclosedValue (vs ∷ inner) text = (inside : List ℕ) × (text ≡ 40 ∷ inside) × UnclosedMembers (UnclosedValue inner) vs inside
+
+-- how many lists are open at once, at the deepest place
+abbrev pub depth_open : List Values → ℕ
+depth_open [] = 0
+depth_open (vs ∷ inner) = suc (max (depths vs) (depth_open inner))
+
+-- ---- whole texts
+
+-- whitespace and such a value, in which at most so many lists are open at once
+pub record IsUnclosedText (room : ℕ) (text : List ℕ) : Type 0 where
+  pub before : List ℕ
+  pub value : List ℕ
+  pub lists : List Values
+  pub parts : text ≡ before ++ value
+  pub spaces_before : AreSpaces before
+  pub fits : depth_open lists ≤ room
+  pub unclosed : UnclosedValue lists value
