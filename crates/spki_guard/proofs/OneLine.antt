@@ -1,5 +1,5 @@
 -- A text has one answer of a command, and is not refused where it has one.
-use Rattle.std.proofs.Common.{◌≡◌, ◌≢◌, ℕ, suc, ◌*◌, ◌<◌, ◌≤◌, inl, inr, List, [], ◌∷◌, ◌++◌, Result, Ok, Err, refl, sym, ap, subst, ◌∙◌, arith}
+use Rattle.std.proofs.Common.{◌≡◌, ◌≢◌, ℕ, suc, ◌*◌, ◌<◌, ◌≤◌, inl, inr, List, [], ◌∷◌, ◌++◌, Result, Ok, refl, sym, ap, subst, ◌∙◌, arith}
 use Rattle.std.specs.Prelude.{codes}
 use Rattle.sexpr_core.specs.Value.{Value, canon}
 use Rattle.sexpr_text.specs.Printed.{adv}
@@ -40,7 +40,7 @@ use Rattle.spki_guard.specs.declared.intersection.IntersectFault.TheVariants as 
 use Rattle.spki_guard.specs.Lines.{item_line, entry_line}
 use Rattle.spki_guard.specs.Reports.{IsFoldLine, AreFoldLines, AreFolds, IsReductionReport, AreReasons, IsExplanationReport}
 use Rattle.spki_guard.specs.Intersect.{intersect_value, Intersects, AreTooLarge, ValueNotMet, IsMetText, TextNotMet}
-use Rattle.spki_guard.specs.Answer.{IsLineOf, Decides, Reduces, Explains, WritesMeet, HasTooLarge, IsOnCase, AnswersValue, AnswersRead, RefusesValue, RefusesAnswer}
+use Rattle.spki_guard.specs.Answer.{IsLineOf, Decides, Explains, WritesMeet, HasTooLarge, IsOnCase, AnswersValue, AnswersRead, RefusesValue, RefusesAnswer}
 
 -- the same verdict and output
 abbrev Same : Verdict → Verdict → List ℕ → List ℕ → Type 0

@@ -1,12 +1,10 @@
 -- Authorizations with one tuple are one, and are written as one value.
-use Rattle.std.proofs.Common.{◌≡◌, ℕ, Bool, List, [], ◌∷◌, ◌++◌, refl, sym, ap, ◌∙◌}
+use Rattle.std.proofs.Common.{◌≡◌, ℕ, List, [], ◌∷◌, ◌++◌, refl, sym, ap, ◌∙◌}
 use Rattle.std.specs.Prelude.{codes}
 use Rattle.sexpr_core.specs.Value.{Value, canon}
 use Rattle.sexpr_core.proofs.Texts.{canon_one}
-use Rattle.spki_tag.specs.Tag.{Tag}
 use Rattle.spki_cert.specs.declared.principal.Principal.{Principal}
 use Rattle.spki_cert.specs.declared.principal.Principal.TheVariants as principal
-use Rattle.spki_cert.specs.declared.window.Window.{Window}
 use Rattle.spki_cert.specs.Subjects.{plains}
 use Rattle.spki_reduce.specs.declared.tuple.Issuer.{Issuer}
 use Rattle.spki_reduce.specs.declared.tuple.Issuer.TheVariants.{Own, Key}

@@ -10,7 +10,7 @@ use Rattle.spki_tag.specs.Request.{IsHead}
 use Rattle.spki_tag.specs.Tag.{Tag, tags, list, set, IsTag, AreTags, tag_value, tag_values, starred, nodes, nodes_all, most_nodes}
 use Rattle.spki_tag.specs.Meet.{listed}
 use Rattle.spki_tag.specs.NormalForm.{AreNormal}
-use Rattle.spki_tag.specs.Normal.{spread, set_of, normal, normals}
+use Rattle.spki_tag.specs.Normal.{spread, set_of, normals}
 use Rattle.spki_tag.specs.Read.{most_read}
 use Rattle.spki_tag.specs.Faults.{TagShows, tag_nodes, tag_nodes_all}
 use Rattle.spki_tag.specs.Steps.{TagShowsAfter, TagsShowAfter, IsRead, AreRead}
