@@ -15,7 +15,8 @@ use Rattle.sexpr_core.specs.Spaces.{is_whitespace, AreSpaces, visible, Skips}
 use Rattle.sexpr_core.specs.Gathering.{is_body_octet, GathersTo, BodyAt}
 use Rattle.sexpr_core.specs.Braces.{IsBase64, Braced, IsBraced, IsBracedWithin, ReadsBase64, PackedAt, transport}
 use Rattle.sexpr_core.specs.Bounds.{IsFaultAt, RefusesBody, IsTrailingBehind}
-use Rattle.sexpr_core.specs.BraceRefusal.{RefusesBraces}
+use Rattle.sexpr_core.specs.BraceRefusal.{BracesDeep, IsShallowBraced}
+use Rattle.sexpr_core.specs.Limits.{octet_limit}
 use Rattle.sexpr_core.specs.Prefix.{Begins, StopsAt, RefusesPart}
 use Rattle.sexpr_core.proofs.Agreeing.{Agree, agree, spelled_too, stands_too, skips_too, long_too, front_is}
 use Rattle.sexpr_core.proofs.Prefix.{RefusesPart-less}
@@ -127,8 +128,17 @@ body_not_packed text at mark fault h =
     RefusesPart-less (BodyAt at mark) (PackedAt at mark) text at fault
     (λ t w. record { body = w.body; rest = w.rest; octets = body_octets w.body w.octets w.packed; spelled = w.spelled }) h
 
+-- what is seen of a text in braces that is refused where the fault is met
+abbrev pub BraceFault : List ℕ → FormFault → Type 0
+BraceFault text TooLong = octet_limit < length text
+BraceFault text TooDeep = BracesDeep text
+BraceFault text Short = Unit {0}
+BraceFault text (Bad at) = (at < length text) × (Begins IsBraced (take (at + 1) text) → ⊥)
+BraceFault text (Trailing at) = (at < length text) × ((v : Value) × IsBracedWithin (take at text) v)
+BraceFault text Memory = Unit {0}
+
 -- another first octet than a brace
-pub not_opened : (text : List ℕ) (begin c : ℕ) → Skips text 0 begin → StandsAt text begin c → (c ≡ 123 → ⊥) → RefusesBraces text (Bad begin)
+pub not_opened : (text : List ℕ) (begin c : ℕ) → Skips text 0 begin → StandsAt text begin c → (c ≡ 123 → ⊥) → BraceFault text (Bad begin)
 not_opened text begin c s stands apart = (
   stands.within,
   λ b.
@@ -140,7 +150,7 @@ not_opened text begin c s stands apart = (
 
 -- a body that is no base64
 pub body_missed : (text : List ℕ) (begin c : ℕ) (fault : FormFault) → Skips text 0 begin → StandsAt text begin c
-    → RefusesPart (PackedAt (begin + 1) 125) text (begin + 1) fault → RefusesBraces text fault
+    → RefusesPart (PackedAt (begin + 1) 125) text (begin + 1) fault → BraceFault text fault
 body_missed text begin c TooLong s stands h = absurd h
 body_missed text begin c TooDeep s stands h = absurd h
 body_missed text begin c Short s stands h = tt
@@ -158,7 +168,7 @@ body_missed text begin c Memory s stands h = tt
 
 -- a body of octets that are no canonical text
 pub body_unread : (text : List ℕ) (begin c to : ℕ) (octets : List ℕ) (fault : FormFault) → Skips text 0 begin → StandsAt text begin c → c ≡ 123
-    → ReadsBase64 text (begin + 1) 125 octets to → RefusesBody octets (to - 1) fault → RefusesBraces text fault
+    → ReadsBase64 text (begin + 1) 125 octets to → RefusesBody octets (to - 1) fault → BraceFault text fault
 body_unread text begin c to octets TooLong s stands e r h = absurd h
 body_unread text begin c to octets TooDeep s stands e r h = record {
   before = s.spaces;
@@ -189,7 +199,7 @@ body_unread text begin c to octets Memory s stands e r h = tt
 
 -- an octet behind the closing brace and whitespace
 pub braced_before : (text : List ℕ) (begin c to : ℕ) (octets : List ℕ) (fault : FormFault) → length text ≤ 1048576 → Skips text 0 begin → StandsAt text begin c → c ≡ 123
-    → ReadsBase64 text (begin + 1) 125 octets to → ((v : Value) × (octets ≡ canon v) × IsWithinLimits v) → IsTrailingBehind text to fault → RefusesBraces text fault
+    → ReadsBase64 text (begin + 1) 125 octets to → ((v : Value) × (octets ≡ canon v) × IsWithinLimits v) → IsTrailingBehind text to fault → BraceFault text fault
 braced_before text begin c to octets TooLong few s stands e r v h = absurd h
 braced_before text begin c to octets TooDeep few s stands e r v h = absurd h
 braced_before text begin c to octets Short few s stands e r v h = tt
@@ -227,8 +237,8 @@ empty_octets zero = omega arith
 empty_octets (suc zero) = omega arith
 empty_octets (suc (suc i)) = omega arith
 
-pub spaces_begin : (xs : List ℕ) → AreSpaces xs → Begins IsBraced xs
-spaces_begin xs all = record {
+pub spaces_begin_shallow : (xs : List ℕ) → AreSpaces xs → Begins IsShallowBraced xs
+spaces_begin_shallow xs all = record {
   rest = transport (plain []);
   whole = record {
     value = plain [];
@@ -241,5 +251,12 @@ spaces_begin xs all = record {
       packed = packed_encoded (canon (plain [])) empty_octets;
       spaces_after = tt;
     };
+    shallow = omega arith;
   };
 }
+
+pub spaces_begin : (xs : List ℕ) → AreSpaces xs → Begins IsBraced xs
+spaces_begin xs all =
+    let b = spaces_begin_shallow xs all in
+    let w : IsShallowBraced (xs ++ b.rest) = b.whole in
+    record { rest = b.rest; whole = record { value = w.value; braced = w.braced } }

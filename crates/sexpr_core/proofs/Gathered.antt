@@ -143,7 +143,7 @@ same_body text at mark to symbols body rest g other all e =
     let p = one_body g.body body mark mark (drop to text) rest g.octets all other other (sym g.spelled ∙ e) in
     (g.kept ∙ ap visible p.0, p.2)
 
-no_mark : (xs ys : List ℕ) (mark : ℕ) (s : List ℕ) → AreBodyOctets xs → is_body_octet mark ≡ false → xs ≡ ys ++ mark ∷ s → ⊥
+pub no_mark : (xs ys : List ℕ) (mark : ℕ) (s : List ℕ) → AreBodyOctets xs → is_body_octet mark ≡ false → xs ≡ ys ++ mark ∷ s → ⊥
 no_mark [] [] mark s h k e = cc
 no_mark [] (y ∷ ys) mark s h k e = cc
 no_mark (x ∷ xs) [] mark s h k e = let q : mark ≡ x = cc in let f : false ≡ true = sym k ∙ ap is_body_octet q ∙ h.0 in cc

@@ -17,5 +17,6 @@ pub mod SpaceLaws
 pub mod Gathered
 pub mod Base64Laws
 pub mod BraceLaws
+pub mod BraceRefusals
 pub mod OctetLaws
 pub mod EqualityLaws

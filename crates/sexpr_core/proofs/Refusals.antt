@@ -4,7 +4,7 @@ use Rattle.std.proofs.lemmas.List.{take-append-drop, length-take-le}
 use Rattle.std.proofs.lemmas.Bool.{cases_order}
 use Rattle.sexpr_core.specs.declared.fault.FormFault.{FormFault}
 use Rattle.sexpr_core.specs.declared.fault.FormFault.TheVariants.{TooLong, TooDeep, Short, Bad, Trailing, Memory}
-use Rattle.sexpr_core.specs.Value.{Value, canon, IsWithinLimits}
+use Rattle.sexpr_core.specs.Value.{Value, canon, IsShallow, IsWithinLimits}
 use Rattle.sexpr_core.specs.Prefix.{Begins, Front}
 use Rattle.sexpr_core.specs.Texts.{IsCanon}
 use Rattle.sexpr_core.specs.Refusal.{IsShallowText, IsOfForm, Refused}
@@ -13,7 +13,7 @@ use Rattle.sexpr_core.proofs.Texts.{canon_one}
 
 -- ---- prefixes of prefixes
 
-take_less : (m n : ℕ) (xs : List ℕ) → m ≤ n → take m (take n xs) ≡ take m xs
+pub take_less : (m n : ℕ) (xs : List ℕ) → m ≤ n → take m (take n xs) ≡ take m xs
 take_less zero n xs h = refl
 take_less (suc m) zero xs h = absurd (omega arith)
 take_less (suc m) (suc n) [] h = refl
@@ -173,9 +173,14 @@ pub body_refused : (octets : List ℕ) (at : ℕ) (inner fault : FormFault) → 
 body_refused octets at TooLong fault few r e = absurd (omega (arith, r))
 body_refused octets at TooDeep fault few r e = subst (RefusesBody octets at) (sym e) r
 body_refused octets at Short fault few r e =
-    subst (RefusesBody octets at) (sym e) (refl, λ v same. no_front octets (record { value = v; is = same }) r)
+    subst (RefusesBody octets at) (sym e) (refl, λ v same. no_front octets (record { value = v; is = same }) r, λ d. short_deep octets r d)
 body_refused octets at (Bad k) fault few r e =
-    subst (RefusesBody octets at) (sym e) (refl, λ v same. r.2 (goes_on_deep octets (k + 1) v same))
+    subst (RefusesBody octets at) (sym e) (refl, λ v same. r.2 (goes_on_deep octets (k + 1) v same), λ d. no_deep octets k d.0 (stops_bad octets k r) d.1 d.2)
 body_refused octets at (Trailing k) fault few r e =
-    subst (RefusesBody octets at) (sym e) (refl, λ v same. ends_there octets k r.0 r.1 (goes_on_deep octets (k + 1) v same))
+    subst (RefusesBody octets at) (sym e) (refl, λ v same. ends_there octets k r.0 r.1 (goes_on_deep octets (k + 1) v same), λ d. no_deep octets k d.0 (stops_trailing octets k r) d.1 d.2)
 body_refused octets at Memory fault few r e = subst (RefusesBody octets at) (sym e) tt
+
+-- the canonical text of a shallow value isn't too deep
+pub shallow_text : (octets : List ℕ) (v : Value) → IsShallow v → octets ≡ canon v → Refused octets TooDeep → ⊥
+shallow_text octets v h same r =
+    r.2 (record { rest = drop r.0 octets; whole = record { value = v; fits = h; is = take-append-drop r.0 octets ∙ same } })

@@ -38,7 +38,7 @@ abbrev pub RefusesBody : List ℕ → ℕ → FormFault → Type 0
 RefusesBody octets at TooLong = ⊥
 RefusesBody octets at TooDeep = Refused octets TooDeep
 RefusesBody octets at Short = ⊥
-RefusesBody octets at (Bad k) = (k ≡ at) × ((v : Value) → octets ≢ canon v)
+RefusesBody octets at (Bad k) = (k ≡ at) × ((v : Value) → octets ≢ canon v) × (Refused octets TooDeep → ⊥)
 RefusesBody octets at (Trailing k) = ⊥
 RefusesBody octets at Memory = Unit {0}
 

@@ -4,6 +4,8 @@ ghost use Rattle.std.specs.Prelude.{◌≡◌, ◌≢◌, ◌↔◌, ℕ, List, 
 ghost use Rattle.sexpr_core.specs.declared.fault.FormFault.{FormFault};
 ghost use Rattle.sexpr_core.specs.Value.{Value, canon, IsWithinLimits};
 ghost use Rattle.sexpr_core.specs.Refusal.{IsOfForm, Refused};
+ghost use Rattle.sexpr_core.specs.Braces.{IsBracedWithin};
+ghost use Rattle.sexpr_core.specs.BraceRefusal.{RefusesBraces};
 ghost use Rattle.sexpr_core.specs.Equality.{is_same};
 ghost use Rattle.sexpr_core.specs.Octets.{HasOctets};
 ghost use Rattle.sexpr_core.specs.Tree.{atom_value, sexp_value};
@@ -23,6 +25,13 @@ pub fn canonical_form_is_prefix_free()
 pub fn one_refusal()
     ensures none { (text : List ℕ) (e : FormFault) (v : Value) → IsOfForm e → Refused text e → IsWithinLimits v → text ≢ canon v }
     ensures one { (text : List ℕ) (e f : FormFault) → IsOfForm e → IsOfForm f → Refused text e → Refused text f → e ≡ f }
+{}
+
+/// The same of texts in braces: a text has at most one refusal of the transport form that speaks of its form, with its
+/// offset, and none if it braces a value within the limits.
+pub fn one_refusal_in_braces()
+    ensures none { (text : List ℕ) (e : FormFault) (v : Value) → IsOfForm e → RefusesBraces text e → ¬ IsBracedWithin text v }
+    ensures one { (text : List ℕ) (e f : FormFault) → IsOfForm e → IsOfForm f → RefusesBraces text e → RefusesBraces text f → e ≡ f }
 {}
 
 /// Two values have the same canonical text exactly if they are the same. This is what `==` of two trees, or of two

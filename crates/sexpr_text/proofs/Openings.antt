@@ -13,8 +13,11 @@ use Rattle.sexpr_core.specs.BraceRefusal.{RefusesBraces}
 use Rattle.sexpr_core.proofs.Agreeing.{Agree, agree, same_head, skips_too}
 use Rattle.sexpr_core.proofs.BraceLaws.{opening, spaces_begin}
 use Rattle.sexpr_core.proofs.SpaceLaws.{SpacesTo, no_spaces, more_spaces, spaces_stop, spaces_end, spaces_front, one_end}
-use Rattle.sexpr_text.specs.Spelling.{Spells, IsText}
+use Rattle.sexpr_text.specs.Spelling.{Spells, IsText, IsTextWithin}
 use Rattle.sexpr_text.specs.Refusal.{IsSpelling, RefusesSpelling, OpensBrace, RefusesText, IsSomeText}
+use Rattle.sexpr_core.specs.Refusal.{IsOfForm}
+use Rattle.sexpr_core.proofs.BraceRefusals.{one_brace_refusal, no_brace_refusal}
+use Rattle.sexpr_text.proofs.OneRefusal.{one_refusal, no_refusal}
 use Rattle.sexpr_text.proofs.Trees.{brace_unspelled}
 
 -- ---- either form
@@ -80,7 +83,7 @@ pub spelling_refused : (text : List ℕ) (begin : ℕ) (fault : FormFault) → S
 spelling_refused text begin fault s unopened h = inr (λ o. unopened (o.rest, brace_found text begin s o), h)
 
 braces_stop : (text : List ℕ) (at : ℕ) → RefusesBraces text (Bad at) → Begins IsBraced (take (at + 1) text) → ⊥
-braces_stop text at h b = h.1 b
+braces_stop text at h b = h.4 b
 
 -- where a text opens a brace, what begins as it does is no spelling
 no_spelling : (text rest : List ℕ) (begin at : ℕ) → Skips text 0 begin → drop begin text ≡ 123 ∷ rest → at < length text
@@ -121,3 +124,22 @@ bad_is_bad text at (inl h) =
 bad_is_bad text at (inr h) =
     let s = past_spaces text 0 text refl (no_spaces text 0 (omega arith)) in
     (h.1.0, no_braces text s.0 at s.1 (λ brace. h.0 (opens_brace text brace.0 s.0 s.1 brace.1)) h.1.0 (λ b. h.1.3 (inl b)))
+
+-- ---- one refusal of a text in whichever form
+
+pub one_of_any : (text : List ℕ) (e f : FormFault) → IsOfForm e → IsOfForm f → RefusesText text e → RefusesText text f → e ≡ f
+one_of_any text e f p q (inl a) (inl b) = one_brace_refusal text e f p q a.1 b.1
+one_of_any text e f p q (inl a) (inr b) = absurd (b.0 a.0)
+one_of_any text e f p q (inr a) (inl b) = absurd (a.0 b.0)
+one_of_any text e f p q (inr a) (inr b) = one_refusal text e f p q a.1 b.1
+
+braced_opens : (text : List ℕ) (v : Value) → Braced text v → OpensBrace text
+braced_opens text v b = record { before = b.before; rest = b.body ++ 125 ∷ b.after; parts = b.parts; spaces_before = b.spaces_before }
+
+pub none_of_any : (text : List ℕ) (e : FormFault) (v : Value) → IsOfForm e → RefusesText text e → IsTextWithin text v → ⊥
+none_of_any text e v p (inl a) (inl w) =
+    let s = past_spaces text 0 text refl (no_spaces text 0 (omega arith)) in
+    brace_unspelled text a.0.rest s.0 v s.1 (brace_found text s.0 s.1 a.0) w.spelling
+none_of_any text e v p (inl a) (inr w) = no_brace_refusal text e v p a.1 w
+none_of_any text e v p (inr a) (inl w) = no_refusal text e v p a.1 w
+none_of_any text e v p (inr a) (inr w) = a.0 (braced_opens text v w.braced)

@@ -8,7 +8,7 @@ ghost use Rattle.sexpr_core.specs.Prefix.{Begins};
 ghost use Rattle.sexpr_text.specs.Refusal.{RefusesSpelling, RefusesText, IsSomeText};
 ghost use Rattle.sexpr_core.specs.Value.{Value, canon};
 ghost use Rattle.sexpr_core.specs.Octets.{HasOctets};
-ghost use Rattle.sexpr_text.specs.Spelling.{Spells, IsText, IsSpelledWithin};
+ghost use Rattle.sexpr_text.specs.Spelling.{Spells, IsText, IsSpelledWithin, IsTextWithin};
 ghost use Rattle.sexpr_text.specs.Printed.{adv};
 
 /// A text spells or braces at most one value.
@@ -32,6 +32,12 @@ pub fn printed_is_advanced()
 pub fn one_refusal()
     ensures none { (text : List ℕ) (e : FormFault) (v : Value) → IsOfForm e → RefusesSpelling text e → ¬ IsSpelledWithin text v }
     ensures one { (text : List ℕ) (e f : FormFault) → IsOfForm e → IsOfForm f → RefusesSpelling text e → RefusesSpelling text f → e ≡ f }
+{}
+
+/// The same of texts in any form, of which each is read in braces or in advanced form.
+pub fn one_refusal_in_any_form()
+    ensures none { (text : List ℕ) (e : FormFault) (v : Value) → IsOfForm e → RefusesText text e → ¬ IsTextWithin text v }
+    ensures one { (text : List ℕ) (e f : FormFault) → IsOfForm e → IsOfForm f → RefusesText text e → RefusesText text f → e ≡ f }
 {}
 
 /// At an octet that is refused as Bad, in whichever form, no text of a value goes on: none that spells or braces a value
