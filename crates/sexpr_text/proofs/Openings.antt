@@ -80,6 +80,7 @@ brace_found text begin s o = (one_end s.spaces o.before (drop begin text) (123 �
 
 pub spelling_refused : (text : List ℕ) (begin : ℕ) (fault : FormFault) → Skips text 0 begin → (((rest : List ℕ) × (drop begin text ≡ 123 ∷ rest)) → ⊥)
     → RefusesSpelling text fault → RefusesText text fault
+unfolding RefusesText
 spelling_refused text begin fault s unopened h = inr (λ o. unopened (o.rest, brace_found text begin s o), h)
 
 braces_stop : (text : List ℕ) (at : ℕ) → RefusesBraces text (Bad at) → Begins IsBraced (take (at + 1) text) → ⊥
@@ -103,6 +104,7 @@ no_spelling text rest begin at s e lt never b =
 
 pub braces_refused : (text rest : List ℕ) (begin : ℕ) (fault : FormFault) → Skips text 0 begin → drop begin text ≡ 123 ∷ rest → RefusesBraces text fault
     → RefusesText text fault
+unfolding RefusesText
 braces_refused text rest begin fault s e h = inl (opens_brace text rest begin s e, h)
 
 -- ---- no text of a value goes on at an octet that is refused
@@ -118,6 +120,7 @@ past_spaces text i (c ∷ cs) e s =
     ]
 
 pub bad_is_bad : (text : List ℕ) (at : ℕ) → RefusesText text (Bad at) → (at < length text) × (Begins IsSomeText (take (at + 1) text) → ⊥)
+unfolding RefusesText
 bad_is_bad text at (inl h) =
     let s = past_spaces text 0 text refl (no_spaces text 0 (omega arith)) in
     (h.1.0, no_spelling text h.0.rest s.0 at s.1 (brace_found text s.0 s.1 h.0) h.1.0 (λ b. braces_stop text at h.1 b))
@@ -128,6 +131,7 @@ bad_is_bad text at (inr h) =
 -- ---- one refusal of a text in whichever form
 
 pub one_of_any : (text : List ℕ) (e f : FormFault) → IsOfForm e → IsOfForm f → RefusesText text e → RefusesText text f → e ≡ f
+unfolding RefusesText
 one_of_any text e f p q (inl a) (inl b) = one_brace_refusal text e f p q a.1 b.1
 one_of_any text e f p q (inl a) (inr b) = absurd (b.0 a.0)
 one_of_any text e f p q (inr a) (inl b) = absurd (a.0 b.0)
@@ -137,6 +141,7 @@ braced_opens : (text : List ℕ) (v : Value) → Braced text v → OpensBrace te
 braced_opens text v b = record { before = b.before; rest = b.body ++ 125 ∷ b.after; parts = b.parts; spaces_before = b.spaces_before }
 
 pub none_of_any : (text : List ℕ) (e : FormFault) (v : Value) → IsOfForm e → RefusesText text e → IsTextWithin text v → ⊥
+unfolding RefusesText
 none_of_any text e v p (inl a) (inl w) =
     let s = past_spaces text 0 text refl (no_spaces text 0 (omega arith)) in
     brace_unspelled text a.0.rest s.0 v s.1 (brace_found text s.0 s.1 a.0) w.spelling

@@ -52,7 +52,7 @@ pub record OpensBrace (text : List ℕ) : Type 0 where
   pub spaces_before : AreSpaces before
 
 -- What a refusal says of a text in any form: one that opens a brace is read as one in braces, any other in advanced form.
-abbrev pub RefusesText : List ℕ → FormFault → Type 0
+unfoldable pub RefusesText : List ℕ → FormFault → Type 0
 RefusesText text fault = (OpensBrace text × RefusesBraces text fault) ⊎ ((OpensBrace text → ⊥) × RefusesSpelling text fault)
 
 -- a text spells or braces some value
