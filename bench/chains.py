@@ -1,5 +1,5 @@
 #!/usr/bin/env python3
-"""Times `spki check` on long chains of certificates and on the widest work that one text can ask for, and beside `openssl`.
+"""Times `spki check` on long chains of certificates and on wide texts, and beside `openssl`. `slowest.py` has slower texts.
 
 Build the program first (`rt run` in crates/spki). Usage: bench/chains.py [PROGRAM]
 """
@@ -95,7 +95,7 @@ def grown():
 
 
 def widest():
-    """The texts of at most 1 MiB that ask for the most work known, each with the answer that it has."""
+    """Texts of at most 1 MiB with many entries, or with certificates for large tags, each with the answer that it has."""
     one = len(entry(key("k00000")))
     link = len(by_keys(2)) - len(by_keys(1))
     half = MOST_OCTETS // 2

@@ -1,135 +1,100 @@
 #!/usr/bin/env python3
-"""Runs the parts of the gate one after the other, one job each, and prints how long each takes by crate, in processor minutes and
-minutes on the clock: the check from nothing, the check of the tests, the first must-fail edit, the further ones, and the check of the
-unedited crate that ends them. What is printed as each part ends is printed again as a table.
+"""Runs a command, `.ci/run` where none is given, and prints how many processor minutes its checks took: by crate, the proofs, the proofs
+of the tests, and the wrong bodies. What isn't a check (compilers, the tests as they run) is one row.
 
-The libraries below a crate are built first, over what earlier checks kept (not measured). They are loaded whole, where the gate
-loads their statements alone, so a part takes a little less there.
+The processes are looked at each second, so that a process that ends between two looks loses up to a second. Measure on a quiet
+machine: beside other work the same check takes up to half as many processor seconds more.
 
-Usage: bench/gate.py [--crate NAME ..] [--edits N]
+Usage: bench/gate.py [COMMAND ..]
 """
-import argparse
-import importlib.machinery
-import importlib.util
 import os
-import resource
-import shutil
 import subprocess
 import sys
-import tempfile
+import threading
 import time
-from dataclasses import dataclass
+from collections import defaultdict
 
 ROOT = os.path.realpath(os.path.join(os.path.dirname(__file__), ".."))
-FLAGS = ["--jobs", "1"]
+TICKS = os.sysconf("SC_CLK_TCK")
+PARTS = ("proofs", "tests", "edits")
 
 
-@dataclass
-class Part:
-    """A part of the gate: how often it was run, how often the gate runs it, and the seconds of the runs."""
-
-    crate: str
-    name: str
-    runs: int
-    count: int
-    processor: float
-    clock: float
-
-    def minutes(self, seconds):
-        """The minutes of all that the gate runs, by the runs that were measured."""
-        return seconds / 60 * self.count / self.runs if self.runs else 0.0
-
-    def line(self):
-        each = f"{self.processor / self.runs:8.1f} s" if self.runs else " " * 10
-        return (f"{self.crate:<20}{self.name:<15}{self.count:>4}{each}{self.minutes(self.processor):>10.1f}"
-                f"{self.minutes(self.clock):>10.1f}")
+def words_of(process):
+    with open(f"/proc/{process}/cmdline", "rb") as it:
+        return it.read().decode(errors="replace").split("\0")
 
 
-def toolchain():
-    """The toolchain's own commands."""
-    path = os.path.realpath(shutil.which("rt") or sys.exit("rt is not there"))
-    loader = importlib.machinery.SourceFileLoader("rt", path)
-    made = importlib.util.module_from_spec(importlib.util.spec_from_loader("rt", loader))
-    loader.exec_module(made)
-    return made
+def ticks_of(process):
+    """The processor time of a process itself, and when it began, which tells it from an earlier one of its number."""
+    with open(f"/proc/{process}/stat") as it:
+        fields = it.read().rpartition(")")[2].split()
+    return int(fields[11]) + int(fields[12]), int(fields[19])
 
 
-def processor_seconds():
-    used = resource.getrusage(resource.RUSAGE_CHILDREN)
-    return used.ru_utime + used.ru_stime
+def part_of(process, words):
+    """The crate and the part of the gate that a check belongs to, or None for another process."""
+    if "--crate-name" not in words:
+        return None
+    crate = words[words.index("--crate-name") + 1]
+    if os.path.basename(os.readlink(f"/proc/{process}/cwd")).startswith("rt-edit-"):
+        return crate, "edits"
+    return crate, "tests" if "--test" in words else "proofs"
 
 
-def measured(crate, name, runs, count):
-    """Runs each of some calls, which tell what went wrong or None, and gives the part that they are."""
-    processor, clock = processor_seconds(), time.monotonic()
-    for call in runs:
-        fault = call()
-        if fault is not None:
-            print(f"{crate.name}: {fault}")
-    part = Part(crate.name, name, len(runs), count, processor_seconds() - processor, time.monotonic() - clock)
-    print(part.line(), flush=True)
-    return part
+class Sampled:
+    """The processor time of each process that was seen, by crate and part."""
+
+    def __init__(self):
+        self.seen = {}
+
+    def look(self):
+        for process in filter(str.isdigit, os.listdir("/proc")):
+            try:
+                part = part_of(process, words_of(process))
+                ticks, begun = ticks_of(process)
+            except (OSError, ValueError, IndexError):
+                continue
+            if part:
+                self.seen[process, begun] = part, ticks
+
+    def minutes(self):
+        totals = defaultdict(float)
+        for part, ticks in self.seen.values():
+            totals[part] += ticks / TICKS / 60
+        return totals
 
 
-def check(rt, crate, tests):
-    """A check of a crate from nothing, or of its tests."""
-    words = [rt.rtlib.RATTLE, "check", *crate.words(FLAGS, tests=tests, keeps=False)]
-    ran = subprocess.run([*rt.rtlib.guarded(), *words], cwd=crate.folder, stdin=subprocess.DEVNULL, capture_output=True, errors="replace")
-    return None if ran.returncode == 0 else f"not proved: {ran.stdout[-900:]}"
-
-
-def edits(rt, crate, most):
-    """The parts that are edits, each over what those before it proved, as in the gate."""
-    good, _ = rt.edits_of(crate)
-    if not good:
-        return []
-
-    def tried(edit):
-        refused, text = rt.must_fail(crate, edit, FLAGS, kept)
-        return None if refused else text
-
-    def unedited():
-        return "not proved without an edit" if rt.checked(crate, {}, FLAGS, kept).returncode else None
-
-    with tempfile.TemporaryDirectory(prefix="gate-") as kept:
-        further = good[1:] if most is None else good[1 : most + 1]
-        parts = [measured(crate, "first edit", [lambda: tried(good[0])], 1)]
-        if further:
-            parts.append(measured(crate, "further edits", [lambda edit=edit: tried(edit) for edit in further], len(good) - 1))
-            parts.append(measured(crate, "unedited", [unedited], 1))
-    return parts
-
-
-def parts_of(rt, crate, most):
-    """The measured parts of one crate."""
-    if any(below.build_rlib(FLAGS, anew=False) for below in crate.below()):
-        sys.exit(f"a library below {crate.name} is not proved")
-    parts = [measured(crate, "check", [lambda: check(rt, crate, False)], 1)]
-    if crate.has_tests():
-        parts.append(measured(crate, "tests", [lambda: check(rt, crate, True)], 1))
-    return parts + edits(rt, crate, most)
+def table(totals, whole, clock):
+    """The rows of the crates, and those of what is left and of all."""
+    yield f"{'processor minutes':<24}" + "".join(f"{part:>9}" for part in PARTS) + f"{'all':>9}"
+    for crate in sorted({crate for crate, _ in totals}):
+        row = [totals.get((crate, part), 0.0) for part in PARTS]
+        yield f"{crate:<24}" + "".join(f"{minutes:>9.1f}" for minutes in [*row, sum(row)])
+    sums = [sum(minutes for (_, name), minutes in totals.items() if name == part) for part in PARTS]
+    yield f"{'all crates':<24}" + "".join(f"{minutes:>9.1f}" for minutes in [*sums, sum(sums)])
+    yield f"{'all else':<24}" + " " * 27 + f"{whole - sum(sums):>9.1f}"
+    yield f"{'all':<24}" + " " * 27 + f"{whole:>9.1f}"
+    yield f"{'minutes on the clock':<24}" + " " * 27 + f"{clock:>9.1f}"
 
 
 def main():
-    asked = argparse.ArgumentParser(description="Measures the parts of the gate.")
-    asked.add_argument("--crate", action="append", default=[], help="measure this crate alone; it may be given more than once")
-    asked.add_argument("--edits", type=int, help="try so many further edits of a crate, and reckon all by them")
-    asked = asked.parse_args()
-    rt = toolchain()
-    os.environ.pop(rt.rtlib.ALLOW_C, None)
-    rt.rtlib.guarded()
-    crates = [it for it in rt.rtlib.crates_below(ROOT) if not asked.crate or it.name in asked.crate]
-    parts = [part for crate in sorted(crates, key=lambda it: len(it.below())) for part in parts_of(rt, crate, asked.edits)]
-    print(f"\n{'crate':<20}{'part':<15}{'':>4}{'each':>10}{'processor':>10}{'clock':>10}")
-    for part in parts:
-        print(part.line())
-    for name in dict.fromkeys(part.name for part in parts):
-        alike = [part for part in parts if part.name == name]
-        total = [sum(part.minutes(seconds(part)) for part in alike) for seconds in (lambda it: it.processor, lambda it: it.clock)]
-        print(f"{'all crates':<20}{name:<15}{sum(part.count for part in alike):>4}{'':>10}{total[0]:>10.1f}{total[1]:>10.1f}")
-    total = [sum(part.minutes(seconds(part)) for part in parts) for seconds in (lambda it: it.processor, lambda it: it.clock)]
-    print(f"{'all crates':<20}{'all':<15}{'':>14}{total[0]:>10.1f}{total[1]:>10.1f}")
+    command = sys.argv[1:] or [os.path.join(ROOT, ".ci", "run")]
+    sampled, ended, begun = Sampled(), threading.Event(), time.monotonic()
+
+    def watch():
+        while not ended.wait(1.0):
+            sampled.look()
+
+    watching = threading.Thread(target=watch)
+    watching.start()
+    status = subprocess.run(command).returncode
+    ended.set()
+    watching.join()
+    used = os.times()
+    whole = (used.children_user + used.children_system) / 60
+    print(*table(sampled.minutes(), whole, (time.monotonic() - begun) / 60), sep="\n")
+    return status
 
 
 if __name__ == "__main__":
-    main()
+    sys.exit(main())

@@ -99,9 +99,11 @@ def compare(name, text):
 
 
 def main():
-    for program in (PROGRAM, PEER):
-        if shutil.which(program) is None:
-            sys.exit(f"{program} is not there")
+    missing = [program for program in (PROGRAM, PEER) if shutil.which(program) is None]
+    missing += [] if os.path.isdir(FOLDER) else [FOLDER]
+    if missing:
+        print(f"{missing[0]} is not there", file=sys.stderr)
+        sys.exit(2)
     names = sorted(name for name in os.listdir(FOLDER) if not name.startswith("."))
     print(f"{'text':<38}{'octets':>6}  {'result':<10}way  canonical form")
     agreed = 0

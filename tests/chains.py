@@ -280,10 +280,16 @@ def explained():
             0, f'entry 1 (five (subject {c}) (tag (http)) (valid (not-after "2000-01-01_00:00:00")))\n'), (1, f"entry 1 {why}\n")
 
 
+def decided(lines):
+    """What `check` answers of a case that `explain` answers so."""
+    granted = re.search(r"^entry (\d+) grants$", lines, re.MULTILINE)
+    return (0, f"yes entry {granted[1]}\n") if granted else NO
+
+
 def rows():
     for examples in (chains, windows_and_tags, moments, policies, order, sizes, malformed):
         for name, text, (status, answer) in examples():
             yield f"chains.py: {name}", "check", text.encode(), status, answer.encode()
     for name, text, reduced, why in explained():
-        for command, (status, answer) in (("reduce", reduced), ("explain", why)):
+        for command, (status, answer) in (("reduce", reduced), ("explain", why), ("check", decided(why[1]))):
             yield f"chains.py: {name}", command, text.encode(), status, answer.encode()

@@ -10,6 +10,7 @@ a C compiler.
 Prints what fails; the last line counts.
 Usage: tests/clibrary.py [PROGRAM [LIBRARY]]
 """
+import hashlib
 import os
 import subprocess
 import sys
@@ -33,6 +34,8 @@ STRICT = ["cc", "-std=c11", "-Wall", "-Wextra", "-Wpedantic", "-Werror", "-O1", 
 VALGRIND = ["valgrind", "--quiet", "--leak-check=full", "--show-leak-kinds=all", "--error-exitcode=98"]
 MOMENT = "2024-01-01_00:00:00"
 NO_ROWS = b"(accepted)"
+# of the canonical form of `(public-key (test b))`
+SHA1_OF_B = hashlib.sha1(b"(10:public-key(4:test1:b))").hexdigest()
 
 
 def questions_of_files(program):
@@ -133,23 +136,40 @@ def agree(words, questions):
 
 
 def guards(words):
-    """Whether the example prints and exits as it should, with its own files and with others in their place."""
-    files = ["acl.sexp", "rows.sexp", "sequence.sexp", "key.sexp", "request.sexp"]
+    """Whether the example prints and exits as it should, with its own files and words and with others in their place."""
+    own = ["acl.sexp", "rows.sexp", "sequence.sexp", "key.sexp", MOMENT, "ftp"]
+    with open(os.path.join(C_EXAMPLE, own[2]), encoding="ascii") as file:
+        certificate = file.read().strip().removeprefix("(sequence").removesuffix(")")
+    texts = {"no-rows": "(accepted)", "other-key": "(public-key (test c))", "two-keys": "(public-key (test b))) (request (ftp)",
+             "long": "(sequence" + " " * 65536 + ")", "many": f"(sequence {certificate * 17})", "sha1": f"(acl (entry (hash sha1 #{SHA1_OF_B}#) (tag (*))))", "none": "(sequence)",
+             "read": "(acl (entry (public-key (test b)) (tag (cache (* prefix /cache/team1/) read))))"}
     with tempfile.TemporaryDirectory() as room:
-        for name, text in {"no-rows": "(accepted)", "pasted": "(ftp)) (at (x)", "other-key": "(public-key (test c))"}.items():
+        for name, text in texts.items():
             with open(os.path.join(room, name), "w", encoding="ascii") as file:
                 file.write(text)
+        at = {name: os.path.join(room, name) for name in (*texts, "missing")}
+        reading = [at["read"], "rows.sexp", at["none"], "key.sexp", MOMENT, "cache"]
         well = True
-        for place, name, moment, wanted in [
-            (0, files[0], MOMENT, (0, "yes entry 1\n")),
-            (1, os.path.join(room, "no-rows"), MOMENT, (1, "no\n")),
-            (3, os.path.join(room, "other-key"), MOMENT, (1, "no\n")),
-            (4, os.path.join(room, "pasted"), MOMENT, (2, "refused form Trailing 5\n")),
-            (1, "sequence.sexp", MOMENT, (2, "refused rows Shape\n")),
-            (0, files[0], "2024-13-01_00:00:00", (2, "refused at BadDate\n")),
-            (0, os.path.join(room, "missing"), MOMENT, (3, "")),
+        for given, wanted in [
+            (own, (0, "yes entry 1\n")),
+            ([own[0], at["no-rows"], *own[2:]], (1, "no\n")),
+            ([*own[:3], at["other-key"], *own[4:]], (1, "no\n")),
+            ([*own[:3], at["two-keys"], *own[4:]], (2, "refused form Trailing 21\n")),
+            ([own[0], "sequence.sexp", *own[2:]], (2, "refused rows Shape\n")),
+            ([*own[:4], "2024-13-01_00:00:00", *own[5:]], (2, "refused at BadDate\n")),
+            ([*own[:4], f"{MOMENT})(1:x", *own[5:]], (2, "refused at BadDate\n")),
+            ([at["missing"], *own[1:]], (3, "")),
+            ([*own[:2], at["long"], *own[3:]], (2, "refused form TooLong\n")),
+            ([*own[:2], at["many"], *own[3:]], (2, "refused: too many certificates\n")),
+            ([at["sha1"], "rows.sexp", at["none"], *own[3:]], (1, "no\n")),
+            ([*reading, "/cache/team1/a.o", "read"], (0, "yes entry 1\n")),
+            ([*reading, "/cache/team1/a.o", "write"], (1, "no\n")),
+            ([*reading, "/cache/team1/a.o read", "write"], (1, "no\n")),
+            ([*reading, "/cache/team1/a.o 4:read", "write"], (1, "no\n")),
+            ([*reading, '/cache/team1/a.o")) (x', "read"], (0, "yes entry 1\n")),
+            ([*reading, "/cache/team1/a.o", ""], (1, "no\n")),
+            (own[:5], (2, "")),
         ]:
-            given = [*files[:place], name, *files[place + 1:], moment]
             done = subprocess.run([*words, *given], capture_output=True, text=True, cwd=C_EXAMPLE, timeout=SECONDS)
             if (done.returncode, done.stdout) != wanted:
                 print(f"guard {' '.join(given)}: status {done.returncode} and {done.stdout!r} {done.stderr!r}, and not {wanted}")

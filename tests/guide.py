@@ -1,10 +1,11 @@
 #!/usr/bin/env python3
-"""Does what docs/GUIDE.md and the examples of docs/spki.1 say, each in an empty folder, and compares the answers.
+"""Does what README.md, docs/GUIDE.md and the examples of docs/spki.1 say, each in an empty folder, and compares the answers.
 
-A fenced block `sexp NAME` or `sh NAME` of the guide is a file. In a block `console`, and in the manual's blocks, a line that begins
-with `$ ` is a command of the shell, one with `> ` goes on with it, and the lines up to the next command are what it should write. The
-commands of a page run one after the other in one shell, with the program as `spki`. Prints each command that answers otherwise; the
-last line counts the commands.
+A fenced block `sexp NAME` or `sh NAME` of README.md and the guide is a file, which is written where it stands on the page and has no
+permission to be run until a command gives it. If examples/ has a file of this name, it must be the same. In a block `console`, and in
+the manual's blocks, a line that begins with `$ ` is a command of the shell, one with `> ` goes on with it, and the lines up to the
+next command are what it should write. The commands of a page run as they stand, one after the other in one shell, with the program
+as `spki`: once in `sh`, and once in `bash` if it is there. Prints each command that answers otherwise; the last line counts.
 
 Build the program first (`rt run` in crates/spki).
 Usage: tests/guide.py [PROGRAM]
@@ -12,6 +13,8 @@ Usage: tests/guide.py [PROGRAM]
 import itertools
 import os
 import re
+import shlex
+import shutil
 import subprocess
 import sys
 import tempfile
@@ -19,7 +22,7 @@ import textwrap
 
 HERE = os.path.dirname(os.path.abspath(__file__))
 PROGRAM = os.path.join(HERE, "..", "crates", "spki", "out", "spki")
-DOCS = os.path.join(HERE, "..", "docs")
+TOP = os.path.join(HERE, "..")
 BLOCK = re.compile(r"^```(\w+)(?: (\S+))?\n(.*?)^```$", re.MULTILINE | re.DOTALL)
 SECONDS = 60
 END = "---- end of command ----"
@@ -33,8 +36,8 @@ def commands(text):
         yield "command", "\n".join([first] + [line[2:] for line in more]), "\n".join(rest[len(more):])
 
 
-def steps_of_guide(page):
-    """The guide's files and commands, in order: a file's name and text, or a command and what it should write."""
+def steps_of_markdown(page):
+    """The page's files and commands, in order: a file's name and text, or a command and what it should write."""
     for kind, name, text in BLOCK.findall(page):
         if kind in ("sexp", "sh") and name:
             yield "file", name, text
@@ -51,47 +54,59 @@ def steps_of_manual(page):
 
 
 def script(found):
-    """The commands as one script, which writes a mark behind each."""
-    return "".join(f"{command}\necho\necho '{END}'\n" for kind, command, _ in found if kind == "command")
+    """The files and the commands as one script, which writes a mark behind each command."""
+    for kind, first, second in found:
+        if kind == "file":
+            yield f"printf %s {shlex.quote(second)} > {shlex.quote(first)}\n"
+        else:
+            yield f"{first}\necho\necho '{END}'\n"
 
 
-def output_of(shell, room, program):
-    """What the script writes, command by command."""
-    os.symlink(program, os.path.join(room, "bin", "spki"))
-    path = os.path.join(room, "bin") + os.pathsep + os.environ["PATH"]
-    done = subprocess.run(["sh"], input=shell, cwd=os.path.join(room, "work"), env={**os.environ, "PATH": path}, text=True,
-                          stdout=subprocess.PIPE, stderr=subprocess.STDOUT, timeout=SECONDS)
-    return done.stdout.split(f"{END}\n")
-
-
-def run_page(name, steps, program):
-    """How many of a page's commands answer as it says, and how many otherwise."""
-    with open(os.path.join(DOCS, name), encoding="utf-8") as page:
-        found = list(steps(page.read()))
-    wanted = [(command, answer) for kind, command, answer in found if kind == "command"]
+def outputs_of(shell, found, program):
+    """What the shell writes, command by command."""
     with tempfile.TemporaryDirectory() as room:
         for folder in ("bin", "work"):
             os.mkdir(os.path.join(room, folder))
-        for file_name, text in ((file_name, text) for kind, file_name, text in found if kind == "file"):
-            path = os.path.join(room, "work", file_name)
-            with open(path, "w", encoding="utf-8") as file:
-                file.write(text)
-            os.chmod(path, 0o755)
-        answers = output_of(script(found), room, program)
-    failed = 0
+        os.symlink(program, os.path.join(room, "bin", "spki"))
+        path = os.path.join(room, "bin") + os.pathsep + os.environ["PATH"]
+        done = subprocess.run([shell], input="".join(script(found)), cwd=os.path.join(room, "work"), env={**os.environ, "PATH": path},
+                              text=True, stdout=subprocess.PIPE, stderr=subprocess.STDOUT, timeout=SECONDS)
+    return done.stdout.split(f"{END}\n")
+
+
+def is_as_in_examples(name, text):
+    """Whether examples/ has no file of this name, or one with this text."""
+    path = os.path.join(TOP, "examples", name)
+    if not os.path.exists(path):
+        return True
+    with open(path, encoding="utf-8") as file:
+        return file.read() == text
+
+
+def run_page(shell, name, steps, program):
+    """How many of a page's commands answer as it says, and how many otherwise."""
+    with open(os.path.join(TOP, name), encoding="utf-8") as page:
+        found = list(steps(page.read()))
+    wanted = [(command, answer) for kind, command, answer in found if kind == "command"]
+    others = [file for kind, file, text in found if kind == "file" and not is_as_in_examples(file, text)]
+    print("".join(f"{name}: {file} is not as in examples/\n" for file in others), end="")
+    answers = outputs_of(shell, found, program)
+    failed = len(others)
     answers += ["nothing"] * (len(wanted) + 1 - len(answers))
     for (command, answer), met in zip(wanted, answers):
         if met.strip("\n") != answer.strip("\n"):
             failed += 1
-            print(f"{name}: $ {command}\nwrote\n{met}\nand not\n{answer}\n")
-    return len(wanted) - failed, failed
+            print(f"{name}, {shell}: $ {command}\nwrote\n{met}\nand not\n{answer}\n")
+    return len(wanted) + len(others) - failed, failed
 
 
 def main():
     program = os.path.abspath(sys.argv[1] if len(sys.argv) > 1 else PROGRAM)
     if not os.access(program, os.X_OK):
         sys.exit(f"{program} is not there: build it by rt run in crates/spki")
-    counts = [run_page("GUIDE.md", steps_of_guide, program), run_page("spki.1", steps_of_manual, program)]
+    pages = {"README.md": steps_of_markdown, "docs/GUIDE.md": steps_of_markdown, "docs/spki.1": steps_of_manual}
+    shells = [shell for shell in ("sh", "bash") if shutil.which(shell)]
+    counts = [run_page(shell, name, steps, program) for shell in shells for name, steps in pages.items()]
     passed, failed = (sum(count) for count in zip(*counts))
     print(f"{passed} passed, {failed} failed")
     return 1 if failed else 0

@@ -5,8 +5,8 @@ each call of the libraries by itself, on the worked example that is named for it
 
 `refuse.c` beside this file is compiled by `cc` and preloaded, and refuses what it is told to. Build the programs first (`rt run` in
 crates/spki and crates/one_call). Prints each fault, and by part the examples, runs, refusals that were met and faults; then the time and memory of the
-largest texts. The last line counts the parts.
-Usage: tests/hostile.py [PROGRAM]
+largest texts. The last line counts the parts. With --short the longest parts are left out, which `.ci/deep` runs.
+Usage: tests/hostile.py [--short] [PROGRAM]
 """
 import importlib.util
 import os
@@ -54,7 +54,7 @@ CALLS = (
     "decode", "encode", "read_any", "print_advanced", "wrap", "unwrap_braces", "Doc::open", "read_advanced",
     "Tag::read", "Ground::read", "Tag::meet", "Tag::write", "read_acl", "read_sequence", "read_key", "read_hash",
     "Five::then", "fold_chain", "Five::resolve", "Four::then", "Five::write",
-    "Case::read", "decide", "reduce_case", "explain", "run",
+    "Case::read", "decide", "reduce_case", "explain", "run", "run_words",
 )
 # What is written of the cases of examples/, and of some of chains.py: the status and the line. A command that the program doesn't
 # have is passed over.
@@ -416,10 +416,14 @@ PARTS = {
     "under valgrind": under_valgrind,
     "the most work": work,
 }
+LONGEST = ("less and less memory", "a small stack", "under valgrind", "the most work")
 
 
 def main():
-    path = os.path.abspath(sys.argv[1] if len(sys.argv) > 1 else tables.PROGRAM)
+    short = sys.argv[1:2] == ["--short"]
+    words = sys.argv[2 if short else 1:]
+    path = os.path.abspath(words[0] if words else tables.PROGRAM)
+    parts = {part: tasks for part, tasks in PARTS.items() if not (short and part in LONGEST)}
     if not os.access(path, os.X_OK):
         sys.exit(f"{path} is not there: build it by rt run in crates/spki")
     if not os.access(ONE_CALL, os.X_OK):
@@ -427,7 +431,7 @@ def main():
     lines, failed = [], 0
     with tempfile.TemporaryDirectory() as folder, ProcessPoolExecutor() as pool:
         program = Program(path, built(folder))
-        for part, tasks in PARTS.items():
+        for part, tasks in parts.items():
             begun = time.perf_counter()
             started = [pool.submit(attempted, do, program, *words) for do, *words in tasks()]
             results = [task.result() for task in started]
@@ -437,7 +441,9 @@ def main():
             lines.append(f"{part:<36}{len(results):>9}{runs:>9}{refusals:>11}{len(faults):>8}{time.perf_counter() - begun:>9.1f} s")
             failed += bool(faults)
     print(f"{'part':<36}{'examples':>9}{'runs':>9}{'refusals':>11}{'faults':>8}{'time':>11}", *lines, sep="\n")
-    print(f"{len(PARTS) - failed} passed, {failed} failed")
+    if short:
+        print(f"left to .ci/deep: {', '.join(LONGEST)}")
+    print(f"{len(parts) - failed} passed, {failed} failed")
     return 1 if failed else 0
 
 

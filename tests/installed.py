@@ -35,9 +35,9 @@ def library_answers(prefix):
     example, guard = os.path.join(TOP, "examples", "c"), os.path.join(prefix, "guard")
     words = ["cc", "-std=c11", "-Wall", "-Wextra", "-Werror", "-I", os.path.join(prefix, "include"), "-o", guard, "guard.c",
              "-L", os.path.join(prefix, "lib"), "-lspki_c"]
-    files = ["acl.sexp", "rows.sexp", "sequence.sexp", "key.sexp", "request.sexp"]
+    given = ["acl.sexp", "rows.sexp", "sequence.sexp", "key.sexp", "2024-01-01_00:00:00", "ftp"]
     return (output_of(words, cwd=example) == (0, "")
-            and output_of([guard, *files, "2024-01-01_00:00:00"], cwd=example) == (0, "yes entry 1\n"))
+            and output_of([guard, *given], cwd=example) == (0, "yes entry 1\n"))
 
 
 def shown_without_warning(page):

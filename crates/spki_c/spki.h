@@ -1,7 +1,7 @@
 /* Conguraki from C: a proved checker of requests by access lists and certificates (SPKI, RFC 2693).
  *
- * A call reads one text or two, and gives one answer: the octets that the program `spki` writes to it, and the status that it
- * exits with. Nothing is kept between calls. Several threads may call at the same time.
+ * A call reads one text or two, and gives one answer: the octets that the program `spki` writes to it, and the status that the
+ * program exits with. Nothing is kept between calls. Several threads may call at the same time.
  *
  *     unsigned char line[64];
  *     size_t length;
@@ -10,14 +10,29 @@
  *
  * Only SPKI_YES of `check` is a yes. Take every other status for a no.
  *
- * What the caller keeps to, which no proof can see:
+ * How a case is put together. The library cannot see which part of a text came from whom, so the caller must:
  *
- * - A pointer with a length points to as many octets, which no other thread writes meanwhile. It may be null where the length
- *   is 0. What stands in the buffer before doesn't matter.
+ * - Write a string from outside, as a path or a user's name, as LENGTH:OCTETS: its number of octets in decimal, a colon, and the
+ *   octets as they are. Never paste it. `(cache /cache/team1/a.o read write)` is a request of four strings, which a right to
+ *   read contains; `(5:cache21:/cache/team1/a.o read5:write)` is one of three, which it does not contain. SPKI_CANONICAL accepts
+ *   both, so it is no check of a string.
+ * - Put a whole value from outside, as a sequence or a key, through SPKI_CANONICAL, and write its answer into the case. It accepts
+ *   one value and no more, so that the text cannot end its part of the case and begin another one.
+ * - Take the key from an asker who has shown to hold it, as in TLS or SSH or by a signed nonce. A public key is public: whoever
+ *   sends Alice's key would have Alice's rights.
+ * - Write the access list, the rows and the moment alone, and end the case with `(policy strict)` unless hashes by SHA-1 must name
+ *   keys.
+ * - Bound the length of what strangers send, as to 65,536 octets, and the number of their certificates, as to 16. On some texts
+ *   with more a decision takes minutes, and a call cannot be ended.
+ *
+ * What else the caller must keep to, which no proof can see:
+ *
+ * - A pointer with a length points to as many octets, and no other thread writes them meanwhile. The pointer may be null if the
+ *   length is 0. The contents of the buffer before the call do not matter.
  * - The buffer and `needed` overlap neither each other nor a text.
- * - `malloc`, `realloc` and `free` of the program are those of one allocator, and align a block to each power of two up to 16
- *   that divides its size, as those of every common C library do. Where `malloc` gives nothing, the answer is `refused Memory`.
- * - No call is made in a signal handler, nor in the child that a process with several threads forked.
+ * - `malloc`, `realloc` and `free` of the program are those of one allocator. They align a block to each power of two up to 16 that
+ *   divides its size, as those of every common C library do. If `malloc` returns null, the answer is `refused Memory`.
+ * - No call is made in a signal handler, nor in a child that a process with several threads forked.
  * - A thread that calls has 256 KiB of stack left.
  *
  * Link with -lspki_c. */
@@ -36,17 +51,17 @@ enum spki_command {
     SPKI_CANONICAL = 0, /* writes its canonical form, with no line feed behind it; the others end in one */
     SPKI_ADVANCED = 1,  /* writes it in advanced form */
     SPKI_TRANSPORT = 2, /* writes it in the transport form */
-    SPKI_INTERSECT = 3, /* of `(intersect A B)`: writes the tag that two tags leave together */
-    SPKI_REDUCE = 4,    /* of a case: writes what each entry comes to with the certificates */
+    SPKI_INTERSECT = 3, /* of `(intersect A B)`: writes the intersection of two tags */
+    SPKI_REDUCE = 4,    /* of a case: writes what each entry becomes with the certificates */
     SPKI_CHECK = 5,     /* of a case: writes `yes entry N`, or `no` */
-    SPKI_EXPLAIN = 6    /* of a case: writes why each entry grants the request, or why it doesn't */
+    SPKI_EXPLAIN = 6    /* of a case: writes why each entry grants the request, or why it does not */
 };
 
 enum spki_status {
     SPKI_YES = 0,       /* the answer is yes, or what was asked for is written */
     SPKI_NO = 1,        /* the answer is no */
     SPKI_REFUSED = 2,   /* the answer is a line that begins with `refused`: the text is no input, or memory ran out */
-    SPKI_TOO_SMALL = 4, /* the buffer is too small: nothing is written to it, and `*needed` says what the answer takes */
+    SPKI_TOO_SMALL = 4, /* the buffer is too small: nothing is written to it, and `*needed` is the length of the answer */
     SPKI_MISUSED = 5    /* no such command, or a null pointer with a length: there is no answer, and `*needed` is 0 */
 };
 
@@ -56,7 +71,7 @@ uint32_t spki_c_answer(uint32_t command, const unsigned char *text, size_t text_
 uint32_t spki_c_check_accepted(const unsigned char *text, size_t text_length, const unsigned char *rows, size_t rows_length,
                                unsigned char *buffer, size_t buffer_length, size_t *needed);
 
-/* Does a command with a text. The answer stands at the front of the buffer, and the rest of the buffer is as it was; `*needed`
+/* Does a command with a text. The answer is written to the front of the buffer, and the rest of the buffer is unchanged. `*needed`
  * is the length of the answer, and `needed` may be null. A text of more than 1,048,576 octets is `refused form TooLong`.
  *
  * In a case the rows of `(accepted ..)` say which signatures the caller has verified. spki_check_accepted takes them apart. */
@@ -74,12 +89,12 @@ static inline enum spki_status spki_answer(enum spki_command command, const void
                                            buffer ? (unsigned char *)buffer : &no_buffer, buffer_length, needed);
 }
 
-/* Decides a case by rows that stand apart from it: `rows` is `(accepted ROW ..)`, of which each row says that the caller has
- * verified a signature. The rows in the case itself are read, and none of them is asked, so that nobody brings rows of their own
- * with a sequence. The access list, the key and the moment are the caller's to write all the same: put each part that a stranger
- * handed in through SPKI_CANONICAL, which takes one value and no more, before it goes into a case.
+/* Decides a case by rows that are a text of their own: `rows` is `(accepted ROW ..)`, and each row says that the caller has
+ * verified a signature. The rows in the case itself are read and never used, so that nobody brings rows of their own with a
+ * sequence. The other parts of the case are the caller's to write all the same: see above how.
  *
- * The answer is that of SPKI_CHECK, and a refusal of `rows` begins with `refused rows`. The buffer and `needed` are as above. */
+ * The answer is that of SPKI_CHECK, and a refusal of `rows` begins with `refused rows`. The case is read first: where it is refused,
+ * the answer says so, whatever `rows` is. The buffer and `needed` are as above. */
 static inline enum spki_status spki_check_accepted(const void *text, size_t text_length, const void *rows, size_t rows_length,
                                                    void *buffer, size_t buffer_length, size_t *needed)
 {

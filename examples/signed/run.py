@@ -1,11 +1,13 @@
 #!/usr/bin/env python3
 """From keys made by OpenSSL to decisions by `spki`, and why each of them is as it is.
 
-A service keeps packages. Alice may read and write all builds, and pass that on; Bob may read manuals. Alice passes the web builds
-on to her builders, and says that Bob is one; Bob lets Carol read. Carol asks. Then the same with something wrong, in eight ways.
+A service keeps packages. Alice may read and write all builds, and pass that on. Bob may read manuals. Alice passes the web builds
+on to her builders, and says that Bob is one. Bob lets Carol read. Carol logs in by a signed nonce, and asks. Then the same with
+something wrong: logins that the service refuses, and cases with another answer.
 
 Needs `openssl` (3.0) and Python's standard library (3.10). New keys are made at each run, and the private ones are thrown away.
-Prints what it does; the last line counts the answers that are as wanted. With a folder it keeps the texts of the cases there.
+Prints what it does. The last line counts the logins and answers that are as wanted. With a folder, which must exist, it keeps the
+texts of the cases there.
 
 Build the program first (`rt run` in crates/spki).
 Usage: examples/signed/run.py [PROGRAM [FOLDER]]
@@ -17,13 +19,17 @@ import tempfile
 
 import tools
 from keys import ED25519, RSA, Pair, hash_of
+from login import Login, message
 from sexp import laid_out, read
-from service import ask
+from service import MOST_CERTIFICATES, MOST_SHOWN, ask
 from tools import canonical, spki
 
+SERVICE = b"packages.example"
 NOON = "2026-03-01_12:00:00"
-READ = '(packages read "/builds/web/index.html")'
-WRITE = '(packages write "/builds/web/index.html")'
+# The words of a request. What they hold is never read as anything but a string.
+READ = ("packages", "read", "/builds/web/index.html")
+WRITE = ("packages", "write", "/builds/web/index.html")
+PASTED = ("packages", "read", '/manuals/cook.pdf")) (request (packages read "/builds/web/index.html')
 
 
 class Story:
@@ -63,8 +69,69 @@ def with_digest_of(other, item):
     return f"{laid_out(certificate)} {laid_out(signature)}"
 
 
+def answered(pair, login, service=SERVICE):
+    """The signature by which the holder of a pair answers the nonce of a connection, for this service."""
+    return pair.sign(message(service, login.nonce))
+
+
+def changed_bit(octets):
+    return octets[:-1] + bytes([octets[-1] ^ 1])
+
+
+def logins(story):
+    """What is tried at the login: what is said of it, the connection, the key and the signature that come, and whether it passes."""
+    alice, bob, carol = story.alice, story.bob, story.carol
+    first, second, third, fourth, fifth, sixth, seventh, eighth = (Login(SERVICE) for _ in range(8))
+    good = answered(carol, first)
+    yield "Carol signs the nonce", first, carol.text, good, True
+    yield "the same answer comes again, and the nonce is used up", first, carol.text, good, False
+    yield "the same answer comes in another connection, which has another nonce", second, carol.text, good, False
+    yield "Alice signs the nonce, by RSA", third, alice.text, answered(alice, third), True
+    yield "Bob shows Carol's key and signs by his own", fourth, carol.text, answered(bob, fourth), False
+    yield "one bit of Carol's signature is changed", fifth, carol.text, changed_bit(answered(carol, fifth)), False
+    yield "Carol signed the nonce for another service", sixth, carol.text, answered(carol, sixth, b"other.example"), False
+    yield "the signature is Carol's, and of a certificate", seventh, carol.text, carol.sign(canonical(story.to_carol)), False
+    yield "the key is followed by another one", eighth, f"{carol.text} {alice.text}", answered(carol, eighth), False
+
+
+def login_passed(remark, login, key, value, wanted):
+    """Tries a login, prints, and says whether it passes or is refused as wanted. The service knows a key then, or none."""
+    before = login.key
+    passed = login.answer(key, value)
+    known = login.key == read(canonical(key)) if passed else login.key == before
+    print(f"  {'passes' if passed else 'refused'}: {remark}{'' if passed == wanted and known else '; WANTED OTHERWISE'}")
+    return passed == wanted and known
+
+
+def logged_in(pair):
+    """A connection in which the holder of a pair has logged in."""
+    login = Login(SERVICE)
+    login.answer(pair.text, answered(pair, login))
+    return login
+
+
+def unasked(story):
+    """What the service does not ask `spki` about: a remark, the connection, the sequence, and the exception that is wanted."""
+    good = signed(story.to_carol, story.bob)
+    yield "Carol has not logged in", Login(SERVICE), story.sequence(good), PermissionError
+    yield "the sequence is too long", logged_in(story.carol), story.sequence(good).ljust(MOST_SHOWN + 1), ValueError
+    yield "there are too many certificates", logged_in(story.carol), story.sequence(good * (MOST_CERTIFICATES - 1)), ValueError
+    yield "there are two sequences", logged_in(story.carol), story.sequence(good) + "(sequence)", ValueError
+
+
+def is_unasked(story, remark, login, sequence, wanted):
+    """Whether the service refuses to decide."""
+    try:
+        ask(story.access_list, sequence.encode(), login, READ, NOON)
+    except wanted as refusal:
+        print(f"  refused: {remark}: {refusal}")
+        return True
+    print(f"  WANTED OTHERWISE: {remark}")
+    return False
+
+
 def attempts(story):
-    """What is tried: a name, a remark, the sequence, the key that asks, the request, the moment, and what is wrong."""
+    """What is tried: a name, a remark, the sequence, who asks, the request, the moment, and what is wrong."""
     bob, carol = story.bob, story.carol
     good = signed(story.to_carol, bob)
     longer = story.to_carol.replace("2026-06-30", "2027-06-30")
@@ -82,11 +149,13 @@ def attempts(story):
            story.sequence(good, keys=False), carol, READ, NOON, "item 1 KeyNotShown")
     yield "too-late", "July has begun", story.sequence(good), carol, READ, "2026-07-01_00:00:00", "entry 1 WindowLacks"
     yield "too-wide", "Carol wants to write", story.sequence(good), carol, WRITE, NOON, "entry 1 TagLacks"
+    yield ("pasted", "Carol wants a file with parentheses and quotes in its name, which stay in its name",
+           story.sequence(good), carol, PASTED, NOON, "entry 1 TagLacks")
     yield "other-holder", "Bob shows the certificate that he gave to Carol", story.sequence(good), bob, READ, NOON, "entry 1 NotTheKey"
 
 
 def wanted_lines(wrong):
-    """What `explain` should say. A certificate that doesn't stand is one line; else there is a line for each entry.
+    """What `explain` should say. A certificate that fails a test is one line; else there is a line for each entry.
 
     Bob's entry is never what the certificates begin with: the first of them, item 2, is by Alice.
     """
@@ -95,20 +164,21 @@ def wanted_lines(wrong):
     return f"{wrong or 'entry 1 grants'}\nentry 2 item 2 NotIssuer\n"
 
 
-def attempt(story, folder, name, remark, sequence, holder, request, moment, wrong):
+def attempt(story, folder, name, remark, sequence, holder, words, moment, wrong):
     """Asks, prints, and says whether the answers are as wanted."""
-    case, answer, verdicts = ask(story.access_list, sequence, holder.text, request, moment)
-    explained = spki("explain", case)[1].decode()
+    case, status, answer, verdicts = ask(story.access_list, sequence.encode(), logged_in(holder), words, moment)
+    text = laid_out(case) + "\n"
+    explained = spki("explain", text)[1].decode()
     with open(os.path.join(folder, f"{name}.sexp"), "w", encoding="ascii") as file:
-        file.write(case)
+        file.write(text)
     print(f"\n{name}: {remark}")
     print(f"  openssl: {', '.join('verifies' if good else 'does not verify' for good in verdicts)}")
     print(f"  spki check: {answer.strip()}")
     print("".join(f"  spki explain: {line}\n" for line in explained.splitlines()), end="")
-    wanted = ("no\n" if wrong else "yes entry 1\n", wanted_lines(wrong))
-    if (answer, explained) != wanted:
+    wanted = (1, "no\n", wanted_lines(wrong)) if wrong else (0, "yes entry 1\n", wanted_lines(wrong))
+    if (status, answer, explained) != wanted:
         print(f"  WANTED: {wanted}")
-    return (answer, explained) == wanted
+    return (status, answer, explained) == wanted and read(canonical(text)) == case
 
 
 def tell(story):
@@ -123,14 +193,20 @@ def tell(story):
 def main():
     if len(sys.argv) > 1:
         tools.SPKI = os.path.abspath(sys.argv[1])
-    for program in (tools.SPKI, "openssl"):
-        if shutil.which(program) is None:
-            sys.exit(f"{program} is not there")
+    missing = [program for program in (tools.SPKI, "openssl") if shutil.which(program) is None]
+    missing += [folder for folder in sys.argv[2:3] if not os.path.isdir(folder)]
+    if missing:
+        print(f"{missing[0]} is not there", file=sys.stderr)
+        return 2
     with tempfile.TemporaryDirectory() as room:
         folder = sys.argv[2] if len(sys.argv) > 2 else room
         story = Story(room)
         tell(story)
-        results = [attempt(story, folder, *each) for each in attempts(story)]
+        print("\nLogins:")
+        results = [login_passed(*each) for each in logins(story)]
+        print("\nNot asked:")
+        results += [is_unasked(story, *each) for each in unasked(story)]
+        results += [attempt(story, folder, *each) for each in attempts(story)]
     print(f"\n{sum(results)} passed, {len(results) - sum(results)} failed")
     return 0 if all(results) else 1
 

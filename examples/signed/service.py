@@ -1,12 +1,21 @@
-"""What a service has to write itself: it verifies the signatures of a sequence, puts a case together and asks `spki`.
+"""What a service writes itself: it verifies the signatures of a sequence, puts a case together and asks `spki`.
 
-`spki` doesn't look into keys and signatures. The service tells it which signatures are right, by a row in `accepted` for each.
+`spki` does not look into keys and signatures. The service says which signatures are valid, by a row in `accepted` for each.
+
+What comes from outside is written into a case in two ways, and never pasted into a text:
+
+- A whole value, as the sequence, is read by `spki canonical`, which accepts one value and no more.
+- A string, as a path in a request, is written as LENGTH:OCTETS. Then it is one string, whatever it holds.
 """
 import hashlib
 
 from keys import hash_of, verifies
-from sexp import canonical, laid_out, read
+from sexp import canonical, read
 from tools import canonical as canonical_of, spki
+
+# The most octets and certificates of a sequence. README.md, "Limits", says why a service bounds them, and the time.
+MOST_SHOWN = 65536
+MOST_CERTIFICATES = 16
 
 
 def key_named(principal, items):
@@ -33,22 +42,35 @@ def verified(items):
     return rows, verdicts
 
 
-def case_of(access_list, rows, sequence, key, request, moment):
-    """The text of a case."""
-    return laid_out([b"case", access_list, [b"accepted", *rows], sequence, [b"key", key], [b"request", request],
-                     [b"at", moment.encode()]]) + "\n"
+def case_of(access_list, rows, sequence, key, words, moment):
+    """A case under the strict policy, where a hash by SHA-1 names no key. The request is the list of these words, each a string."""
+    return [b"case", access_list, [b"accepted", *rows], sequence, [b"key", key], [b"request", [word.encode() for word in words]],
+            [b"at", moment.encode()], [b"policy", b"strict"]]
 
 
-def ask(access_list, sequence, key, request, moment):
-    """The text of the case, what `spki check` answers, and which signatures verify. Each text is as it was handed in.
+def ask(access_list, sequence, login, words, moment):
+    """The case, the status and the answer of `spki check`, and of each signature whether it verifies.
 
-    The case is asked without rows first: where its texts are none of a case, this is the refusal, and they are not looked at.
+    ONLY STATUS 0 IS A YES. The access list and the moment are the service's own. The sequence, which is octets, and each word of
+    the request may be from outside.
+
+    THE KEY IS THE ONE THAT THE ASKER HAS SHOWN TO HOLD, BY A LOGIN (login.py). NEVER TAKE A KEY THAT WAS ONLY SENT: whoever sends
+    Alice's key would have Alice's rights.
+
+    The case is asked without rows first. If the sequence is none, this is the refusal, and its signatures are not looked at. An
+    exception is no yes either.
     """
-    access_list, sequence, key, request = (read(canonical_of(text)) for text in (access_list, sequence, key, request))
-    case, verdicts = case_of(access_list, [], sequence, key, request, moment), []
-    status, answer = spki("check", case)
+    if login.key is None:
+        raise PermissionError("nobody has logged in")
+    if len(sequence) > MOST_SHOWN:
+        raise ValueError(f"the sequence has more than {MOST_SHOWN} octets")
+    access_list, sequence = read(canonical_of(access_list)), read(canonical_of(sequence))
+    case, verdicts = case_of(access_list, [], sequence, login.key, words, moment), []
+    status, answer = spki("check", canonical(case))
     if status in (0, 1):
+        if [item[0] for item in sequence[1:]].count(b"cert") > MOST_CERTIFICATES:
+            raise ValueError(f"the sequence has more than {MOST_CERTIFICATES} certificates")
         rows, verdicts = verified(sequence[1:])
-        case = case_of(access_list, rows, sequence, key, request, moment)
-        status, answer = spki("check", case)
-    return case, answer.decode(), verdicts
+        case = case_of(access_list, rows, sequence, login.key, words, moment)
+        status, answer = spki("check", canonical(case))
+    return case, status, answer.decode(), verdicts

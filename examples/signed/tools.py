@@ -3,18 +3,20 @@ import os
 import subprocess
 
 SPKI = os.path.join(os.path.dirname(os.path.abspath(__file__)), "..", "..", "crates", "spki", "out", "spki")
+# How long `openssl` may run, and how long `spki`.
 SECONDS = 60
+SECONDS_OF_SPKI = 10
 
 
-def run(words, text):
-    """The exit status of a program, and what it writes."""
-    done = subprocess.run(words, input=text, stdout=subprocess.PIPE, stderr=subprocess.DEVNULL, timeout=SECONDS)
+def run(words, text, seconds=SECONDS):
+    """The exit status of a program, and what it writes. After so many seconds it is ended, and an exception raised."""
+    done = subprocess.run(words, input=text, stdout=subprocess.PIPE, stderr=subprocess.DEVNULL, timeout=seconds)
     return done.returncode, done.stdout
 
 
 def spki(command, text):
     """The exit status of a command of `spki` on a text, and its answer."""
-    return run([SPKI, command], text.encode() if isinstance(text, str) else text)
+    return run([SPKI, command], text.encode() if isinstance(text, str) else text, SECONDS_OF_SPKI)
 
 
 def canonical(text):

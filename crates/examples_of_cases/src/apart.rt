@@ -1,6 +1,7 @@
 //! Answers to texts in memory, and decisions by rows that stand apart from a case.
 
 use crate::chains::{ALL, C1, KA, KB, accepted, case_of, signed};
+use crate::texts::{FIRST_RUN, joined};
 use spki_guard::{Answer, Command, Verdict, answer_text, check_accepted};
 use std::test::Fail;
 
@@ -12,9 +13,9 @@ fn is(answer: &Answer, verdict: Verdict, line: &[u8]) -> bool {
 fn rows_apart(rt: HostRuntime) -> Result<(), Fail> {
     let alloc = rt.alloc();
     let row = accepted(alloc, C1, KA)?;
-    let text = case_of(alloc, ALL, &row, &signed(alloc, C1, KA)?, KB, "")?;
+    let text = case_of(alloc, ALL, &row, &signed(alloc, C1, KA)?, KB)?;
     let text = text.as_bytes();
-    let rows = format!(in alloc; "(accepted {row})")?;
+    let rows = joined(alloc, &["(accepted ", &row, ")"])?;
     let yes = answer_text(alloc, Command::Check, text);
     assert!(rt; is(&yes, Verdict::Done, b"yes entry 1\n"));
     let yes = check_accepted(alloc, text, rows.as_bytes());
@@ -22,4 +23,17 @@ fn rows_apart(rt: HostRuntime) -> Result<(), Fail> {
     let no = check_accepted(alloc, text, b"(accepted)");
     assert!(rt; is(&no, Verdict::No, b"no\n"));
     Ok(())
+}
+
+#[test]
+fn case_before_rows(rt: HostRuntime) {
+    let alloc = rt.alloc();
+    let both = check_accepted(alloc, b"(", b")");
+    assert!(rt; is(&both, Verdict::Refused, b"refused form Short\n"));
+    let case = check_accepted(alloc, b"(a)", b")");
+    assert!(rt; is(&case, Verdict::Refused, b"refused case Shape\n"));
+    let rows = check_accepted(alloc, FIRST_RUN.as_bytes(), b")");
+    assert!(rt; is(&rows, Verdict::Refused, b"refused rows Bad 0\n"));
+    let shape = check_accepted(alloc, FIRST_RUN.as_bytes(), b"(a)");
+    assert!(rt; is(&shape, Verdict::Refused, b"refused rows Shape\n"));
 }

@@ -1,6 +1,7 @@
 //! The evidence of sequences, and the first key that is named, as calls.
 
 use crate::chains::{ALL, C1, KA, KB, accepted, case_of, hash_as_issuer, issued_by_hash, signed};
+use crate::texts::joined;
 use crate::verifiers::{AcceptsAll, AcceptsNone};
 use hex::encode as hex_of;
 use sexpr_core::Doc;
@@ -71,18 +72,27 @@ fn changed_digest(alloc: Global, text: &str) -> Result<String, Fail> {
 
 /// A case whose certificate is issued by the hash of KA, which is shown, and whose signature has a changed digest.
 fn with_changed_digest(alloc: Global) -> Result<String, Fail> {
-    let cert = issued_by_hash(alloc, HashAlg::Sha256)?;
+    let cert = issued_by_hash(alloc)?;
     let digest = changed_digest(alloc, &cert)?;
-    let items = format!(in alloc; "{cert} (signature (hash sha256 #{digest}#) {KA} sig) {KA}")?;
-    case_of(alloc, ALL, &accepted(alloc, &cert, KA)?, &items, KB, "")
+    let parts = [
+        &cert,
+        "(signature (hash sha256 #",
+        &digest,
+        "#)",
+        KA,
+        "sig)",
+        KA,
+    ];
+    let items = joined(alloc, &parts)?;
+    case_of(alloc, ALL, &accepted(alloc, &cert, KA)?, &items, KB)
 }
 
 #[test]
 fn hash_issuer(rt: HostRuntime) -> Result<(), Fail> {
     let alloc = rt.alloc();
-    let shown = hash_as_issuer(alloc, "", HashAlg::Sha256, KA)?;
+    let shown = hash_as_issuer(alloc, KA)?;
     assert!(rt; judged_by_list(alloc, &shown, Stands(&[1]))?);
-    let not_shown = hash_as_issuer(alloc, "", HashAlg::Sha256, "")?;
+    let not_shown = hash_as_issuer(alloc, "")?;
     assert!(rt; judged_by_list(alloc, &not_shown, Fails(1, Stop::KeyNotShown))?);
     let changed = with_changed_digest(alloc)?;
     assert!(rt; judged_by_list(alloc, &changed, Fails(1, Stop::DigestDiffers))?);
@@ -92,7 +102,7 @@ fn hash_issuer(rt: HostRuntime) -> Result<(), Fail> {
 
 /// The first case of `delegation`, signed by a key, where KA's signature is accepted, or none.
 fn delegation(alloc: Global, rows: &str, signer: &str) -> Result<String, Fail> {
-    case_of(alloc, ALL, rows, &signed(alloc, C1, signer)?, KB, "")
+    case_of(alloc, ALL, rows, &signed(alloc, C1, signer)?, KB)
 }
 
 #[test]

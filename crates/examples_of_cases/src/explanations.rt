@@ -2,7 +2,7 @@
 
 use crate::chains::{ALL, C1, KA, KB, accepted, case_of, signed};
 use crate::runs::replies;
-use crate::texts::case;
+use crate::texts::{case, joined};
 use crate::verifiers::{AcceptsNone, OutOfMemory};
 use sexpr_text::{Form, convert};
 use spki_guard::{
@@ -28,9 +28,9 @@ fn reasons_are(alloc: Global, text: &str, wanted: &[Reason]) -> Result<bool, Fai
 #[test]
 fn shorter_request(rt: HostRuntime) -> Result<(), Fail> {
     let alloc = rt.alloc();
-    let shorter = case(alloc, HOST, "(ftp)", "2024-01-01_00:00:00")?;
+    let shorter = case(alloc, HOST, "(ftp)")?;
     assert!(rt; reasons_are(alloc, &shorter, &[Reason::TagLacks])?);
-    let whole = case(alloc, HOST, "(ftp host dir)", "2024-01-01_00:00:00")?;
+    let whole = case(alloc, HOST, "(ftp host dir)")?;
     assert!(rt; reasons_are(alloc, &whole, &[Reason::Grants])?);
     Ok(())
 }
@@ -38,9 +38,9 @@ fn shorter_request(rt: HostRuntime) -> Result<(), Fail> {
 #[test]
 fn second_entry(rt: HostRuntime) -> Result<(), Fail> {
     let alloc = rt.alloc();
-    let entries = format!(in alloc; "(entry (public-key (test c)) (tag (*))) {ALL}")?;
+    let entries = joined(alloc, &["(entry (public-key (test c)) (tag (*)))", ALL])?;
     let rows = accepted(alloc, C1, KA)?;
-    let text = case_of(alloc, &entries, &rows, &signed(alloc, C1, KA)?, KA, "")?;
+    let text = case_of(alloc, &entries, &rows, &signed(alloc, C1, KA)?, KA)?;
     let first = Reason::Stopped {
         item: 1,
         cause: Cause::NotIssuer,
@@ -52,7 +52,7 @@ fn second_entry(rt: HostRuntime) -> Result<(), Fail> {
 #[test]
 fn not_accepted(rt: HostRuntime) -> Result<(), Fail> {
     let alloc = rt.alloc();
-    let text = case_of(alloc, ALL, "", &signed(alloc, C1, KA)?, KB, "")?;
+    let text = case_of(alloc, ALL, "", &signed(alloc, C1, KA)?, KB)?;
     let octets = convert(alloc, Form::Canonical, text.as_bytes())?;
     let case = Case::read(alloc, &octets)?;
     let explanation = explain(alloc, &case, &AcceptsNone)?;
@@ -85,7 +85,7 @@ fn not_accepted(rt: HostRuntime) -> Result<(), Fail> {
 #[test]
 fn no_entries(rt: HostRuntime) -> Result<(), Fail> {
     let alloc = rt.alloc();
-    let text = case_of(alloc, "", "", "", KB, "")?;
+    let text = case_of(alloc, "", "", "", KB)?;
     for command in [Command::Reduce, Command::Explain] {
         let text = text.as_bytes();
         replies(&rt, alloc, command, text, Status::No, b"no entries\n");

@@ -4,8 +4,6 @@
 #[cfg(test)]
 mod apart;
 #[cfg(test)]
-mod cases;
-#[cfg(test)]
 mod chains;
 #[cfg(test)]
 mod conversions;
@@ -22,11 +20,9 @@ mod fault_texts;
 #[cfg(test)]
 mod inner_ends;
 #[cfg(test)]
-mod intersections;
-#[cfg(test)]
-mod limits;
-#[cfg(test)]
 mod meters;
+#[cfg(test)]
+mod programs;
 #[cfg(test)]
 mod runs;
 #[cfg(test)]

@@ -21,16 +21,25 @@ pub const FIRST_RUN_ADVANCED: &str =
 pub const FIRST_RUN_IN_BRACES: &str =
     "{KDQ6Y2FzZSgzOmFjbCg1OmVudHJ5KDEwOnB1YmxpYy1rZXkoNDp0ZXN0MTphKSkoMzp0YWcoMzpmdHA0Omhvc3QpKSkpKDg6YWNjZXB0ZWQpKDg6c2VxdWVuY2Up\nKDM6a2V5KDEwOnB1YmxpYy1rZXkoNDp0ZXN0MTphKSkpKDc6cmVxdWVzdCgzOmZ0cDQ6aG9zdDM6ZGlyKSkoMjphdDE5OjIwMjQtMDEtMDFfMDA6MDA6MDApKQ==}";
 
-/// The case of KA with these entries, without certificates.
-pub(crate) fn case(
-    alloc: Global,
-    entries: &str,
-    request: &str,
-    at: &str,
-) -> Result<String, AllocError> {
-    format!(in alloc;
-        "(case (acl {entries}) (accepted) (sequence) (key (public-key (test a))) (request {request}) (at \"{at}\"))"
-    )
+/// These texts one behind the other.
+pub(crate) fn joined(alloc: Global, parts: &[&str]) -> Result<String, AllocError> {
+    let mut text = String::new(alloc);
+    for part in parts {
+        text.push_str(part)?;
+    }
+    Ok(text)
+}
+
+/// The case of KA with one entry, without certificates, at the beginning of 2024.
+pub(crate) fn case(alloc: Global, entry: &str, request: &str) -> Result<String, AllocError> {
+    let parts = [
+        "(case (acl ",
+        entry,
+        ") (accepted) (sequence) (key (public-key (test a))) (request ",
+        request,
+        ") (at \"2024-01-01_00:00:00\"))",
+    ];
+    joined(alloc, &parts)
 }
 
 /// The number of a document's value, which the document has.

@@ -69,7 +69,7 @@ impl Verifier for OutOfMemory {
 
 /// The canonical text of a case in which KA passes its right on to KB, by these items, with no row in the accepted list.
 fn delegation(alloc: Global, items: &str) -> Result<Vec<u8>, Fail> {
-    let text = case_of(alloc, ALL, "", items, KB, "")?;
+    let text = case_of(alloc, ALL, "", items, KB)?;
     Ok(convert(alloc, Form::Canonical, text.as_bytes())?)
 }
 

@@ -1,59 +1,25 @@
-//! `spki`: reads a text on standard input, and writes the answer of a command on standard output.
+//! `spki`: reads a text on standard input, and writes the answer of a command on standard output. What it does with the words
+//! of its command line, `run_words` of `spki_guard` says; here are the ends alone.
 #![tactic(auto)]
 
-use spki_guard::{Command, Metered, Status, WordsFault, command_of, run};
+use spki_guard::{Metered, run_words};
 use std::process::ExitCode;
 use std::rt::Env;
 use std::{env, io};
 
-/// The command that the words of the command line ask for.
-fn command<R: Env + AllocGlobal>(rt: &R) -> Result<Command, WordsFault> {
-    let alloc = rt.alloc();
-    match env::args(rt) {
-        Ok(args) => {
-            let mut words = Vec::new(alloc);
-            for word in args {
-                if words.push(word).is_err() {
-                    return Err(WordsFault::Memory);
-                }
-            }
-            command_of(alloc, &words)
-        }
-        Err(error) if error.kind() == io::ErrorKind::InvalidData => Err(WordsFault::Refused(
-            String::from_str(alloc, "error: the words aren't UTF-8\n")?,
-        )),
-        Err(_) => Err(WordsFault::Memory),
+/// The words of the command line, of which the first is the program's name.
+fn words<R: Env + AllocGlobal>(rt: &R) -> io::Result<Vec<String>> {
+    let mut words = Vec::new(rt.alloc());
+    for word in env::args(rt)? {
+        words.push(word)?;
     }
-}
-
-/// Says why there is no command: `clap`'s text goes to standard error.
-fn refuse<R: Print + Eprint>(rt: &R, fault: &WordsFault) -> io::Result<()> {
-    match fault {
-        WordsFault::Refused(text) | WordsFault::Help(text) => eprint!(rt; "{text}"),
-        WordsFault::Memory => println!(rt; "refused Memory"),
-    }
-}
-
-/// Says on standard error why a run was cut off.
-fn report(rt: &impl Eprint, status: Status) -> io::Result<()> {
-    match status {
-        Status::ReadFault => eprintln!(rt; "spki: read fault"),
-        Status::WriteFault => eprintln!(rt; "spki: write fault"),
-        Status::Done | Status::No | Status::Refused => Ok(()),
-    }
+    Ok(words)
 }
 
 fn main(rt: HostRuntime) -> ExitCode {
-    let command = match command(&rt) {
-        Ok(command) => command,
-        Err(fault) => {
-            let _ = refuse(&rt, &fault);
-            return ExitCode::from(fault.code());
-        }
-    };
     let mut reader = Metered::new(rt.stdin());
     let mut writer = Metered::new(rt.stdout());
-    let status = run(rt.alloc(), command, &mut reader, &mut writer);
-    let _ = report(&rt, status);
-    ExitCode::from(status.code())
+    let mut errors = Metered::new(rt.stderr());
+    let words = words(&rt);
+    ExitCode::from(run_words(rt.alloc(), &words, &mut reader, &mut writer, &mut errors))
 }

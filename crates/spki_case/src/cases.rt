@@ -1,6 +1,6 @@
 //! Cases: an access list, what was accepted, what was shown, and what is asked.
 
-ghost use Rattle.std.specs.Prelude.{◌≡◌, ◌≢◌, IfOk, IfErr};
+ghost use Rattle.std.specs.Prelude.{◌≡◌, ◌≢◌, ◌<◌, ◌↔◌, length, IfOk, IfErr, IsErrOf};
 ghost use Rattle.spki_case.specs.CaseForm.{CaseOf, ValueRefused, IsCaseText, TextRefused};
 ghost use Rattle.spki_case.specs.Sequence.{AreSigned};
 ghost use Rattle.spki_case.specs.Texts.{IsOuter};
@@ -79,10 +79,12 @@ impl<'a> Case<'a> {
     ///
     /// # Errors
     ///
-    /// `Form` where the text is no canonical form within the limits, `Shape` where the value isn't built as a case, and
-    /// else the first part, in the order of `CaseFault`, that has no reading. `Memory` where memory was refused.
+    /// `Form` where the text is no canonical form within the limits, and `Form(TooLong)` exactly where it has more than 1,048,576
+    /// octets; `Shape` where the value isn't built as a case, and else the first part, in the order of `CaseFault`, that has no
+    /// reading. `Memory` where memory was refused.
     pub fn read(alloc: Global, text: &'a [u8]) -> Result<Case<'a>, CaseFault>
         ensures read { IfOk result (λ c. IsCaseText text.entry.now (model c)) }
+        ensures too_long { IsErrOf result (CaseFault.Form FormFault.TooLong) ↔ (1048576 < length text.entry.now) }
         ensures refused { IfErr result (λ fault. fault ≢ CaseFault.Memory → TextRefused text.entry.now fault) }
     {
         match Doc::open(alloc, text) {

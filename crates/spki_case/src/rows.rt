@@ -1,6 +1,6 @@
 //! The rows of an accepted list, as they are read.
 
-ghost use Rattle.std.specs.Prelude.{◌≡◌, ◌≢◌, ℕ, List, map, IfOk, IfErr};
+ghost use Rattle.std.specs.Prelude.{◌≡◌, ◌≢◌, ◌<◌, ◌↔◌, ℕ, List, length, map, IfOk, IfErr, IsErrOf};
 ghost use Rattle.spki_cert.specs.Readings.{HashOf};
 ghost use Rattle.std.specs.List.{AllZip};
 ghost use Rattle.spki_case.specs.Case as model;
@@ -38,10 +38,12 @@ impl<'a> AcceptedTable<'a> {
     ///
     /// # Errors
     ///
-    /// `Form` where the text is no canonical form within the limits, `Shape` where the value is no list with the head
-    /// `accepted`, and else `Row` of the first row that has no reading. `Memory` where memory was refused.
+    /// `Form` where the text is no canonical form within the limits, and `Form(TooLong)` exactly where it has more than 1,048,576
+    /// octets; `Shape` where the value is no list with the head `accepted`, and else `Row` of the first row that has no reading.
+    /// `Memory` where memory was refused.
     pub fn read(alloc: Global, text: &'a [u8]) -> Result<AcceptedTable<'a>, RowsFault>
         ensures read { IfOk result (λ table. IsRowsText text.entry.now (rows_of table)) }
+        ensures too_long { IsErrOf result (RowsFault.Form FormFault.TooLong) ↔ (1048576 < length text.entry.now) }
         ensures refused { IfErr result (λ fault. fault ≢ RowsFault.Memory → RowsTextRefused text.entry.now fault) }
     {
         match Doc::open(alloc, text) {

@@ -1,6 +1,6 @@
 -- Where chains stop, what fails, and the answers of one entry more.
 use Rattle.std.proofs.Common.{◌≡◌, ℕ, ◌-◌, ◌<◌, List, [], ◌∷◌, Some, map, length, get_or, take, ◌+◌, ◌++◌, slice_get, sym, ap, ◌∙◌, arith}
-use Rattle.std.specs.List.{AllZip}
+use Rattle.std.specs.List.{AllZip, AllByRecursion}
 use Rattle.std.proofs.lemmas.List.{get_or-map, length-map, take_more}
 use Rattle.std.proofs.lemmas.Option.{slice_get_within, slice_get-get_or}
 use Rattle.std.proofs.lemmas.Slice.Zip.{AllZip-long, all_zipped_more}
@@ -70,6 +70,14 @@ failure c verified item stop h =
     record { fails = h; none_shown = λ tuples shown. none_shown c.policy verified c.items item stop tuples h shown }
 
 -- ---- the entries one by one
+
+push_of : {A : Type 0} (P : A → Type 0) (xs : List A) (x : A) → AllByRecursion P xs → P x → AllByRecursion P (xs ++ x ∷ [])
+push_of P [] x h k = (k, tt)
+push_of P (y ∷ xs) x h k = (h.0, push_of P xs x h.1 k)
+
+pub all_pushed : {A : Type 0} (P : A → Type 0) (so_far more : List A) (x : A) → AllByRecursion P so_far → P x
+    → more ≡ so_far ++ x ∷ [] → AllByRecursion P more
+all_pushed P so_far more x h k grown = rw grown (push_of P so_far x h k)
 
 module _ (c : Case) (items : List Entry) (place : ℕ) (e : Entry) (same : items ≡ c.entries)
     (below : place < length items) (read : e ≡ get_or items place e) where

@@ -76,6 +76,15 @@ abbrev pub AreDated : Reduction → Type 0
 AreDated (Evidence item stop) = Unit {0}
 AreDated (Entries folds) = AllByRecursion IsDated folds.items
 
+-- the limit that it ends with is a date too
+abbrev pub EndsAtDate : EntryFold → Type 0
+EndsAtDate (Done f) = IsLimit f.window.not_after
+EndsAtDate (Stopped item cause) = Unit {0}
+
+abbrev pub EndAtDates : Reduction → Type 0
+EndAtDates (Evidence item stop) = Unit {0}
+EndAtDates (Entries folds) = AllByRecursion EndsAtDate folds.items
+
 -- ---- limits
 
 -- the chain of some entry's tuple and these is too large at a step

@@ -1,20 +1,21 @@
 //! What the entries of a case become (RFC 2693, section 6.3).
 
 ghost use Rattle.std.specs.Prelude.{◌≡◌, map, length, IfOk, OnOk, IsErrOf};
-ghost use Rattle.std.specs.List.{AllZip};
+ghost use Rattle.std.specs.List.{AllZip, AllByRecursion};
 ghost use Rattle.spki_case.specs.View.{model};
 ghost use Rattle.spki_case.specs.Sequence.{certificates};
 ghost use Rattle.spki_reduce.specs.Tuples.{five};
 ghost use Rattle.spki_reduce.specs.Chain.{tuples_of, TooLargeAt};
 ghost use Rattle.spki_reduce.specs.Views.{entry_tuple};
 ghost use Rattle.spki_decision.specs.Supported.{AllSmall};
-ghost use Rattle.spki_decision.specs.Reduced.{IsEntryFold, IsOwn, IsReduction, HasLargeTags, SomeTooLarge};
+ghost use Rattle.spki_decision.specs.Reduced.{IsEntryFold, IsOwn, IsReduction, IsDated, EndsAtDate, AreDated, EndAtDates, HasLargeTags, SomeTooLarge};
+ghost use Rattle.spki_cert.specs.Time.{IsLimit};
 
 use crate::deciding::GuardFault;
 use crate::folding::fold_entry;
 use crate::judging::{Evidence, Stop, judge};
 use spki_case::{Case, Verifier};
-use spki_cert::Entry;
+use spki_cert::{Date, Entry, Window};
 use spki_reduce::{Cause, Five, Fold, Step};
 use std::alloc::Global;
 
@@ -60,6 +61,9 @@ pub fn reduce_case<'a, V: Verifier>(
     verifier: &V,
 ) -> Result<Reduction<'a>, GuardFault>
     ensures exact { IfOk result (IsReduction (model case.now) (V.accepted verifier.now)) }
+    // The limits of windows are dates.
+    ensures dated { IfOk result AreDated }
+    ensures end { IfOk result EndAtDates }
     ensures too_large { IsErrOf result GuardFault.TooLarge → SomeTooLarge (model case.now) (V.accepted verifier.now) }
 {
     match judge(alloc, &case.sequence, case.policy, verifier)? {
@@ -82,6 +86,8 @@ fn entry_folds<'a>(
     requires as_many { length steps.now ≡ length items.now }
     ensures each { IfOk result (λ folds.
         AllZip (IsEntryFold (model case.now) (tuples_of steps.now)) case.now.acl.items folds.items) }
+    ensures dated { IfOk result (λ folds. AllByRecursion IsDated folds.items) }
+    ensures end { IfOk result (λ folds. AllByRecursion EndsAtDate folds.items) }
     ensures too_large { IsErrOf result GuardFault.TooLarge → HasLargeTags (model case.now) (tuples_of steps.now) }
     ensures small { OnOk result (AllSmall (model case.now) (tuples_of steps.now)) }
 {
@@ -104,15 +110,38 @@ pub(crate) fn entry_fold<'a>(
     requires as_many { length steps.now ≡ length items.now }
     ensures exact { IfOk result (IsEntryFold (model case.now) (tuples_of steps.now) entry.now) }
     ensures issuer { IfOk result IsOwn }
+    ensures dated { IfOk result IsDated }
+    ensures end { IfOk result EndsAtDate }
     ensures too_large { IsErrOf result GuardFault.TooLarge →
         TooLargeAt case.now.policy (five (entry_tuple entry.now)) (tuples_of steps.now) }
     ensures small { IfOk result (λ fold. ¬ TooLargeAt case.now.policy (five (entry_tuple entry.now)) (tuples_of steps.now)) }
 {
     match fold_entry(alloc, entry, steps, case.policy)? {
-        Fold::Done(five) => Ok(EntryFold::Done(five)),
+        Fold::Done(five) => {
+            known(&five.window);
+            Ok(EntryFold::Done(five))
+        }
         Fold::Stopped { step, cause } => Ok(EntryFold::Stopped {
             item: items[step - 1],
             cause,
         }),
+    }
+}
+
+/// The limits of a window are dates, however it was made.
+fn known(window: &Window)
+    ensures begins { IsLimit window.now.not_before }
+    ensures ends { IsLimit window.now.not_after }
+{
+    known_limit(window.not_before);
+    known_limit(window.not_after);
+}
+
+/// A limit is a date, where there is one.
+fn known_limit(limit: Option<Date>)
+    ensures { IsLimit limit }
+{
+    if let Some(date) = limit {
+        let _ = date;
     }
 }

@@ -1,5 +1,5 @@
 -- What is answered to a text that was read to its end.
-use Rattle.std.specs.Prelude.{◌≡◌, ◌≢◌, ◌⊎◌, ℕ, ◌<◌, List, [], ◌∷◌, ◌++◌, length}
+use Rattle.std.specs.Prelude.{◌≡◌, ◌≢◌, ◌⊎◌, ◌↔◌, ℕ, ◌<◌, List, [], ◌∷◌, ◌++◌, length}
 use Rattle.sexpr_core.specs.declared.fault.FormFault.{FormFault}
 use Rattle.sexpr_core.specs.declared.fault.FormFault.TheVariants as form
 use Rattle.sexpr_core.specs.Value.{Value, canon}
@@ -29,7 +29,7 @@ use Rattle.spki_decision.specs.declared.reducing.Reduction.{Reduction}
 use Rattle.spki_decision.specs.declared.explaining.Explanation.{Explanation}
 use Rattle.spki_decision.specs.Decision.{IsDecision, IsUnrefused}
 use Rattle.spki_decision.specs.Granted.{IsTooLarge}
-use Rattle.spki_decision.specs.Reduced.{IsReduction, SomeTooLarge}
+use Rattle.spki_decision.specs.Reduced.{IsReduction, AreDated, EndAtDates, SomeTooLarge}
 use Rattle.spki_decision.specs.Explained.{IsExplanation}
 use Rattle.spki_guard.specs.Reports.{IsReductionReport, IsExplanationReport}
 use Rattle.spki_guard.specs.Intersect.{IsMetText, TextNotMet}
@@ -53,12 +53,14 @@ pub record Decides (text : List ℕ) (verdict : Verdict) (output : List ℕ) : T
   pub line : IsLineOf decided verdict output
 
 -- The canonical text is that of a case, and these are the lines of its reduction, and of its explanation, with the
--- case's own accepted list as the verifier.
+-- case's own accepted list as the verifier. The windows that a reduction writes begin and end at dates.
 pub record Reduces (text : List ℕ) (verdict : Verdict) (output : List ℕ) : Type 0 where
   pub case_read : Case
   pub text_is : IsCaseText text case_read
   pub reduction : Reduction
   pub reduction_is : IsReduction case_read (accepted_by case_read) reduction
+  pub dated : AreDated reduction
+  pub end : EndAtDates reduction
   pub lines : IsReductionReport reduction verdict output
 
 pub record Explains (text : List ℕ) (verdict : Verdict) (output : List ℕ) : Type 0 where
@@ -152,11 +154,12 @@ pub record RefusesRead (command : Command) (text : List ℕ) (refusal : Refusal)
   pub read : IsTextWithin text value
   pub refused : RefusesValue command value refusal
 
--- The text spells and braces no value within the limits, and the fault says why.
+-- The text spells and braces no value within the limits, and the fault says why: TooLong exactly where the text has more than
+-- 1,048,576 octets.
 pub record RefusesForm (text : List ℕ) (fault : FormFault) : Type 0 where
   pub found : fault ≢ form.Memory
   pub none : (v : Value) → ¬ IsTextWithin text v
-  pub long : fault ≡ form.TooLong → 1048576 < length text
+  pub long : (fault ≡ form.TooLong) ↔ (1048576 < length text)
   pub refused : RefusesText text fault
 
 -- What a refusal says of a text. Of memory nothing is said.

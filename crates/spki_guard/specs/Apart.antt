@@ -5,13 +5,14 @@ use Rattle.sexpr_core.specs.Value.{Value, canon}
 use Rattle.sexpr_text.specs.Spelling.{IsTextWithin}
 use Rattle.spki_case.specs.Case.{Case, Row}
 use Rattle.spki_case.specs.CaseForm.{IsCaseText, TextRefused}
+use Rattle.spki_case.specs.declared.cases.CaseFault.{CaseFault}
 use Rattle.spki_case.specs.RowsForm.{IsRowsText, RowsTextRefused, stated_by}
 use Rattle.spki_case.specs.declared.rows.RowsFault.{RowsFault}
 use Rattle.spki_case.specs.declared.rows.RowsFault.TheVariants as rows_faults
 use Rattle.spki_decision.specs.declared.deciding.Decision.{Decision}
 use Rattle.spki_decision.specs.declared.deciding.GuardFault.{GuardFault}
 use Rattle.spki_decision.specs.declared.deciding.GuardFault.TheVariants as guard
-use Rattle.spki_decision.specs.Decision.{IsDecision}
+use Rattle.spki_decision.specs.Decision.{IsDecision, IsUnrefused}
 use Rattle.spki_decision.specs.Granted.{IsTooLarge}
 use Rattle.spki_guard.specs.declared.answers.Refusal.{Refusal}
 use Rattle.spki_guard.specs.declared.answers.Refusal.TheVariants as refusals
@@ -19,69 +20,89 @@ use Rattle.spki_guard.specs.declared.answers.Verdict.{Verdict}
 use Rattle.spki_guard.specs.declared.answers.Verdict.TheVariants.{Refused}
 use Rattle.spki_guard.specs.Answer.{IsLineOf, RefusesForm, refused_line}
 
--- ---- canonical texts
+-- ---- what is read
 
--- The first text is that of a case, the second that of an accepted list, and the line is that of the case's decision with
--- this list as the verifier.
-pub record DecidesApart (text rows_text : List ℕ) (verdict : Verdict) (output : List ℕ) : Type 0 where
+-- The text spells or braces a value within the limits, whose canonical form is the text of the case.
+pub record ReadsCase (text : List ℕ) (c : Case) : Type 0 where
+  pub value : Value
+  pub read : IsTextWithin text value
+  pub is_case : IsCaseText (canon value) c
+
+-- It does, and the canonical form is the text of an accepted list of these rows.
+pub record ReadsRows (rows_text : List ℕ) (rows : List Row) : Type 0 where
+  pub value : Value
+  pub read : IsTextWithin rows_text value
+  pub are_rows : IsRowsText (canon value) rows
+
+-- The text is that of a case, of which this is said.
+pub record BehindCase (text : List ℕ) (said : Case → Type 0) : Type 0 where
   pub case_read : Case
-  pub text_is : IsCaseText text case_read
+  pub text_is : ReadsCase text case_read
+  pub is : said case_read
+
+-- ---- decisions
+
+-- The text is that of an accepted list, and the line is that of the case's decision with this list as the verifier. No
+-- entry before it has a chain that is too large.
+pub record DecidesBy (c : Case) (rows_text : List ℕ) (verdict : Verdict) (output : List ℕ) : Type 0 where
   pub rows : List Row
-  pub rows_are : IsRowsText rows_text rows
+  pub rows_are : ReadsRows rows_text rows
   pub decided : Decision
-  pub decision_is : IsDecision case_read (stated_by rows) decided
+  pub decision_is : IsDecision c (stated_by rows) decided
+  pub unrefused : IsUnrefused c (stated_by rows) decided
   pub line : IsLineOf decided verdict output
 
--- They are such texts, and tags are too large to decide the case.
-pub record IsUndecidedApart (text rows_text : List ℕ) (fault : GuardFault) : Type 0 where
-  pub case_read : Case
-  pub text_is : IsCaseText text case_read
+-- It is, and tags are too large to decide the case.
+pub record IsUndecidedBy (c : Case) (rows_text : List ℕ) (fault : GuardFault) : Type 0 where
   pub rows : List Row
-  pub rows_are : IsRowsText rows_text rows
+  pub rows_are : ReadsRows rows_text rows
   pub named : fault ≡ guard.TooLarge
-  pub large : IsTooLarge case_read (stated_by rows)
+  pub large : IsTooLarge c (stated_by rows)
 
--- What a refusal says of the two values that were read, or rather of their canonical forms. Of memory nothing is said.
-abbrev pub RefusesValues : Value → Value → Refusal → Type 0
-RefusesValues v w (refusals.Form fault) = ⊥
-RefusesValues v w (refusals.Intersect fault) = ⊥
-RefusesValues v w (refusals.Case fault) = TextRefused (canon v) fault
-RefusesValues v w (refusals.Decision fault) = IsUndecidedApart (canon v) (canon w) fault
-RefusesValues v w (refusals.Rows fault) = RowsTextRefused (canon w) fault
-RefusesValues v w refusals.Memory = Unit {0}
+-- The first text is that of a case, and this is its decision by the second.
+abbrev pub DecidesApart : List ℕ → List ℕ → Verdict → List ℕ → Type 0
+DecidesApart text rows_text verdict output = BehindCase text (λ c. DecidesBy c rows_text verdict output)
 
--- ---- texts in any form
+-- ---- refusals
 
--- Both texts spell or brace values within the limits, and this is the answer to them.
-pub record ChecksApart (text rows_text : List ℕ) (verdict : Verdict) (output : List ℕ) : Type 0 where
+-- The text spells or braces a value within the limits, whose canonical form is the text of no case, and the fault says why.
+pub record LacksCase (text : List ℕ) (fault : CaseFault) : Type 0 where
   pub value : Value
   pub read : IsTextWithin text value
-  pub listed : Value
-  pub rows_read : IsTextWithin rows_text listed
-  pub answer : DecidesApart (canon value) (canon listed) verdict output
+  pub refused : TextRefused (canon value) fault
 
--- Both do, and the refusal is said of the values.
-pub record RefusesRead (text rows_text : List ℕ) (refusal : Refusal) : Type 0 where
-  pub value : Value
-  pub read : IsTextWithin text value
-  pub listed : Value
-  pub rows_read : IsTextWithin rows_text listed
-  pub refused : RefusesValues value listed refusal
-
--- The second text spells and braces no value within the limits, and the fault says why.
+-- The text spells and braces no value within the limits, and the fault says why.
 pub record RefusesRowsForm (rows_text : List ℕ) (fault : RowsFault) : Type 0 where
   pub form : FormFault
   pub named : fault ≡ rows_faults.Form form
   pub refused : RefusesForm rows_text form
 
--- What a refusal says of the two texts. Of memory nothing is said.
+-- It does, and the canonical form is the text of no accepted list, as the fault says.
+pub record LacksRows (rows_text : List ℕ) (fault : RowsFault) : Type 0 where
+  pub value : Value
+  pub read : IsTextWithin rows_text value
+  pub refused : RowsTextRefused (canon value) fault
+
+abbrev pub RefusesRows : List ℕ → RowsFault → Type 0
+RefusesRows rows_text fault = RefusesRowsForm rows_text fault ⊎ LacksRows rows_text fault
+
+-- What a refusal says of a case and of the text of the rows. Of memory nothing is said.
+abbrev pub RefusesBy : Case → List ℕ → Refusal → Type 0
+RefusesBy c rows_text (refusals.Form fault) = ⊥
+RefusesBy c rows_text (refusals.Intersect fault) = ⊥
+RefusesBy c rows_text (refusals.Case fault) = ⊥
+RefusesBy c rows_text (refusals.Rows fault) = RefusesRows rows_text fault
+RefusesBy c rows_text (refusals.Decision fault) = IsUndecidedBy c rows_text fault
+RefusesBy c rows_text refusals.Memory = Unit {0}
+
+-- What a refusal says of the two texts: the first is that of no value, or of no case, whatever the second is; or it is that
+-- of a case, and the second that of no value, or of no accepted list; or tags are too large. Of memory nothing is said.
 abbrev pub RefusesApart : List ℕ → List ℕ → Refusal → Type 0
 RefusesApart text rows_text (refusals.Form fault) = RefusesForm text fault
 RefusesApart text rows_text (refusals.Intersect fault) = ⊥
-RefusesApart text rows_text (refusals.Case fault) = RefusesRead text rows_text (refusals.Case fault)
-RefusesApart text rows_text (refusals.Decision fault) = RefusesRead text rows_text (refusals.Decision fault)
-RefusesApart text rows_text (refusals.Rows fault) =
-    RefusesRowsForm rows_text fault ⊎ RefusesRead text rows_text (refusals.Rows fault)
+RefusesApart text rows_text (refusals.Case fault) = LacksCase text fault
+RefusesApart text rows_text (refusals.Rows fault) = BehindCase text (λ c. RefusesRows rows_text fault)
+RefusesApart text rows_text (refusals.Decision fault) = BehindCase text (λ c. IsUndecidedBy c rows_text fault)
 RefusesApart text rows_text refusals.Memory = Unit {0}
 
 -- One of the texts is refused, and the line is that of the refusal.
@@ -92,4 +113,4 @@ pub record RefusesTexts (text rows_text : List ℕ) (verdict : Verdict) (output 
   pub line : output ≡ refused_line refusal
 
 abbrev pub IsAnswerApart : List ℕ → List ℕ → Verdict → List ℕ → Type 0
-IsAnswerApart text rows_text verdict output = ChecksApart text rows_text verdict output ⊎ RefusesTexts text rows_text verdict output
+IsAnswerApart text rows_text verdict output = DecidesApart text rows_text verdict output ⊎ RefusesTexts text rows_text verdict output

@@ -4,4 +4,5 @@ pub mod Intersect
 pub mod Reports
 pub mod Answer
 pub mod Run
+pub mod Program
 pub mod Apart

@@ -1,9 +1,10 @@
 //! Decisions on cases by signatures that stand apart from them.
-ghost use Rattle.std.specs.Prelude.{◌≡◌, ◌≢◌, IfOk, IfErr};
+ghost use Rattle.std.specs.Prelude.{◌≡◌, ◌≢◌, ◌<◌, length, IfOk, IfErr, IsErrOf};
 ghost use Rattle.sexpr_core.specs.Value.{Value, canon};
 ghost use Rattle.sexpr_text.specs.Spelling.{IsTextWithin};
-ghost use Rattle.spki_guard.specs.Answer.{written_by};
-ghost use Rattle.spki_guard.specs.Apart.{IsAnswerApart, ChecksApart, DecidesApart, RefusesApart, RefusesValues, RefusesRowsForm};
+ghost use Rattle.spki_case.specs.View.{model};
+ghost use Rattle.spki_guard.specs.Answer.{RefusesAsLong, written_by};
+ghost use Rattle.spki_guard.specs.Apart.{IsAnswerApart, DecidesApart, DecidesBy, RefusesApart, RefusesBy, RefusesRowsForm};
 
 use crate::answers::{Answer, Refusal, decision_line, refuse};
 use sexpr_core::FormFault;
@@ -13,10 +14,14 @@ use spki_decision::decide;
 use std::alloc::Global;
 
 /// Decides a case by an accepted list that stands apart from it, `(accepted row ..)`, each text in any of the three forms. The
-/// rows of the case's own accepted list are read, and none of them is asked. What is said of the list that stands apart
-/// begins with `refused rows`.
+/// rows of the case's own accepted list are read, and none of them is asked.
+///
+/// The case's text is read first, its form and then the case in it, and where it is refused the rows are not looked at; then the
+/// text of the rows, its form and then the rows in it. What is said of the rows begins with `refused rows`. Of each text
+/// TooLong is said exactly where it has more than 1,048,576 octets.
 pub fn check_accepted(alloc: Global, text: &[u8], rows: &[u8]) -> Answer
-    ensures { IsAnswerApart text.now rows.now result.verdict (written_by result) }
+    ensures answer { IsAnswerApart text.now rows.now result.verdict (written_by result) }
+    ensures too_long { 1048576 < length text.now → RefusesAsLong result.verdict (written_by result) }
 {
     match checked(alloc, text, rows) {
         Ok(answer) => answer,
@@ -26,12 +31,24 @@ pub fn check_accepted(alloc: Global, text: &[u8], rows: &[u8]) -> Answer
 
 /// The answer where neither text is refused.
 fn checked(alloc: Global, text: &[u8], rows: &[u8]) -> Result<Answer, Refusal>
-    ensures answered { IfOk result (λ a. ChecksApart text.now rows.now a.verdict (written_by a)) }
+    ensures answered { IfOk result (λ a. DecidesApart text.now rows.now a.verdict (written_by a)) }
     ensures refused { IfErr result (λ refusal. RefusesApart text.now rows.now refusal) }
+    ensures too_long { 1048576 < length text.now → IsErrOf result (Refusal.Form FormFault.TooLong) }
 {
-    let case_octets = convert(alloc, Form::Canonical, text)?;
-    let row_octets = canonical_rows(alloc, rows)?;
-    decide_apart(alloc, &case_octets, &row_octets)
+    let octets = convert(alloc, Form::Canonical, text)?;
+    let case = Case::read(alloc, &octets)?;
+    decide_by(alloc, &case, rows)
+}
+
+/// Decides a case by the accepted list that a text in any form is.
+fn decide_by(alloc: Global, case: &Case, rows: &[u8]) -> Result<Answer, Refusal>
+    ensures answered { IfOk result (λ a. DecidesBy (model case.now) rows.now a.verdict (written_by a)) }
+    ensures refused { IfErr result (λ refusal. RefusesBy (model case.now) rows.now refusal) }
+{
+    let octets = canonical_rows(alloc, rows)?;
+    let accepted = AcceptedTable::read(alloc, &octets)?;
+    let decision = decide(alloc, case, &accepted)?;
+    Ok(decision_line(alloc, decision)?)
 }
 
 /// The canonical form of the text of an accepted list.
@@ -44,16 +61,4 @@ fn canonical_rows(alloc: Global, rows: &[u8]) -> Result<Vec<u8>, RowsFault>
         Err(FormFault::Memory) => Err(RowsFault::Memory),
         Err(fault) => Err(RowsFault::Form(fault)),
     }
-}
-
-/// Decides the case that a canonical text is, by the accepted list that another is.
-fn decide_apart(alloc: Global, text: &[u8], rows: &[u8]) -> Result<Answer, Refusal>
-    ensures answered { IfOk result (λ a. DecidesApart text.now rows.now a.verdict (written_by a)) }
-    ensures refused { (v w : Value) → text.now ≡ canon v → rows.now ≡ canon w
-        → IfErr result (λ refusal. RefusesValues v w refusal) }
-{
-    let case = Case::read(alloc, text)?;
-    let accepted = AcceptedTable::read(alloc, rows)?;
-    let decision = decide(alloc, &case, &accepted)?;
-    Ok(decision_line(alloc, decision)?)
 }

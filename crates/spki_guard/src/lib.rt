@@ -8,6 +8,7 @@ mod intersection;
 pub mod line_laws;
 mod lines;
 mod printing;
+mod program;
 mod reports;
 mod running;
 mod statuses;
@@ -16,6 +17,7 @@ pub use answers::{Answer, Verdict, answer_text};
 pub use apart::check_accepted;
 pub use intersection::{IntersectFault, intersect};
 pub use metered_io::Metered;
+pub use program::run_words;
 pub use running::run;
 pub use spki_case::{AcceptedTable, Case, CaseFault, Row, RowsFault, Verifier};
 pub use spki_decision::{

@@ -1,11 +1,11 @@
 (case
  (acl
   (entry
-   (hash sha256 #37ac6e16c672e746381f467471248e597476e702d09ab6c60868857a62ce360c#)
+   (hash sha256 #3ce9d70c3ef94dd928e8766590bd91996ccf84f6672c99ee728528c538f0689b#)
    (propagate)
    (tag (packages (* set read write) (* prefix /builds/))))
   (entry
-   (public-key (ed25519 #520ac550a79a2be231f60ee80ac2278fc58cd1166688558c5c88b26e31b0709b#))
+   (public-key (ed25519 #c57f6ef157ea66e2e601e9f627885daea5319b311347be7319b73ed8c3b3a2a7#))
    (tag (packages read (* prefix /manuals/)))))
  (accepted
   (by
@@ -13,73 +13,74 @@
     (rsa-pkcs1-sha256
      (e #010001#)
      (n
-      |ANcOeL1RK1i8KFgukVcgBfn7arZhSHo1/cc0Km9Nh7lqLZCF49CpSCYDMD+9HLZFzJLZGXjxUkdJP58Ub07WcmQKbMZjCo74mUzkuOYnWyhGV+2uQ
-       0INdCwe9hhYvBD1IDM2D4OQp9yEmDFi/Iz8rRjNsHArhjUGzt9sc/oTNYXDLkFuOByVwkB4m6ByBfGotrQrYatRENk1A1FbHPEV+V+C+oYaGIqJqVE
-       6fAqlIYdOJVQxGzzCjUTHOH96RGafImav/b19Xn6RlOAeGSQYn3dbwnqBDkBKNaalN2FamIIW6tkUYltANkMFK1o3FFGAwGMn68iycJTA6y74ateOe
-       2M=|)))
-   (hash sha256 #0dccd7ffb3dafe97e0adba7b39c456b49e6dca1c0f0451ddfce26a74dfdc4561#)
-   |u5CK++KYKLOqR83k6g5ah6+HB31jyuO9v2d0LLZf0O2T0qmfVlTMV+bryefEiWAPwsoHY7o8ryGKtoNeMrd/C7XaFxgXLohu4KChiOPV5eAtFoeAD3f1
-    qaQuYeHv1GwyxqJ99P2POqjoCFFHopaHh/QEmLi6KUiV0fAshC1mJRAptx+yWikgMZQ59MTePxO8B5KBYVt+haqtPd3pnZj7e/cL7URPq1ryavre+C+SC
-    KbKgsOfPdYwpeRq4J/xYJ4JZ0uoIMih+HzVWJxsy69pUl2cn4z66uBLi45m7sjNr7rVwt1uPOwzb9Sd5sml47FtlUFzi9r6VzAbjJpMDCnz+w==|)
+      |AM0wUXMsEajrEp1cSPDdvcAfK1v3YSK2cVqUXFZFJ6HkjpgE/VTNVhZdQzIR6k9ZjveFswolG5qCqiPEQkj5BOlY348dmFLCx0Rvm3Aqn1YvLjsuo
+       voc1hacP18m46x9CeptWYznbetqeyJiiXSQAZmv87Ck6auZJM0N5bp2AM/amOEZY8M8muSwk9T/qV9P/8W7fbA+sc4JBj4VSYzMjHd0w5d5l78W5Xb
+       iqdnEVYjvpi1FmxsT+bm1tjfZ5i3ugI/5NQrg8O6WtkBg8If7zaGdRWRLGUiLPWxF2sTA8G/cKKptsl8E4BQtbmrW0M19Vv1zXQFrki4A158uEjQzh
+       Js=|)))
+   (hash sha256 #b3e6451a1200d3c627c3b8b8f83a32c3e6c26936cfd092cf20a43dabbc94c1d0#)
+   |TZhfXN3Ex97s1ULbxbxCYhEKfIuRiZtsnBVmNSHISZQ0pA6MuaEa/zPS5zlxQZSUWY7Qtbf3S3UIseRaq00oJpH6mowSr7Ap+iRGmmA8ksW2ITKV/SrZ
+    jBzmlF3yL3PfiNJkPtiMtCxDdKTvtWkrIpMVqAo/wP37lS9elFBCGrgHHnYPs//G96A0S5447xS7RIPboyavnFCxb5xKHFA70Yv2cOhHZiGEHwQtt4eNY
+    u3lvsO/8jFeyJmXyHwqUQ3Mx3hCmgJscyheeE0BZQTd+BvLmCi4ck27bnaodOocomW7FTU90ljkAkglHRNO9RUN1yomX4otK84ORZ8nbTh/+w==|)
   (by
    (public-key
     (rsa-pkcs1-sha256
      (e #010001#)
      (n
-      |ANcOeL1RK1i8KFgukVcgBfn7arZhSHo1/cc0Km9Nh7lqLZCF49CpSCYDMD+9HLZFzJLZGXjxUkdJP58Ub07WcmQKbMZjCo74mUzkuOYnWyhGV+2uQ
-       0INdCwe9hhYvBD1IDM2D4OQp9yEmDFi/Iz8rRjNsHArhjUGzt9sc/oTNYXDLkFuOByVwkB4m6ByBfGotrQrYatRENk1A1FbHPEV+V+C+oYaGIqJqVE
-       6fAqlIYdOJVQxGzzCjUTHOH96RGafImav/b19Xn6RlOAeGSQYn3dbwnqBDkBKNaalN2FamIIW6tkUYltANkMFK1o3FFGAwGMn68iycJTA6y74ateOe
-       2M=|)))
-   (hash sha256 #4bf74bf9910480d812fc2daed0684e087764a4b6aadeaee884572b49e1ace040#)
-   |xyL1ql67tOdjrFgwgdsyPXKGZpzC8CvS9Qg9P1/GMlZfdlT731yWKYwmgMf52lDujP/wJmP8ZV0hi/T2espCLgI6gzJ8UT6YO4gDaojfh4ex/zwVdhbg
-    wxIrtJ5imD6mbhkdVPH7odcVqsprPIyZrBZLLGRBSK72T+/cP9qW351fhmSxDlgEg3x2oPOrhFQD/I0ufKChgdBs2NA++SPg/ePsqGwspjMLvnIWVTDBb
-    8Qjghe6dN10kBO+olRZTDJHgMXiziFldigT0Mat5Pf9xWEWEFjWkqdLOV+e4/34vTVYEJl1Lvw08WqzDhzRekNkvVtw2BqEEH+4EJkDqQHsXA==|)
+      |AM0wUXMsEajrEp1cSPDdvcAfK1v3YSK2cVqUXFZFJ6HkjpgE/VTNVhZdQzIR6k9ZjveFswolG5qCqiPEQkj5BOlY348dmFLCx0Rvm3Aqn1YvLjsuo
+       voc1hacP18m46x9CeptWYznbetqeyJiiXSQAZmv87Ck6auZJM0N5bp2AM/amOEZY8M8muSwk9T/qV9P/8W7fbA+sc4JBj4VSYzMjHd0w5d5l78W5Xb
+       iqdnEVYjvpi1FmxsT+bm1tjfZ5i3ugI/5NQrg8O6WtkBg8If7zaGdRWRLGUiLPWxF2sTA8G/cKKptsl8E4BQtbmrW0M19Vv1zXQFrki4A158uEjQzh
+       Js=|)))
+   (hash sha256 #f93ddf0358cbef9806488beff9b9850eea97d5f8083b4fb7a5d8f220fbb048c8#)
+   |oIvRqwVv9JMUBGRPcdsCDox9OEKg1kP+l5xl9m+0d8n0zcHZyiKKXXzvsamA4FMU60NWwnR14CHphZ06ENCj5IaU5rOzCDTKVhdrbCUsPMkjLVWdxw3W
+    qt5cbkDY9wxX3yyHlfMl8y2wqSDqHIvTbIWkx6ggeTRTSmkSrsLkuMg516xw2HNdyg5Gn9/weq6wMgxW3A+D8iskvGzvLNEfDn5P9xJ0r1qP+PS7Yteyt
+    eKeYEtX7OOVt/ILjbptaxhwuJl5t2zluyf/6giYOY0gsnRxwurYLWe4IoCaxFZf5egz0/LHcvSXV4RTQlNKRoJr+GqUQgh0cQEorcHzO1yPMw==|)
   (by
-   (public-key (ed25519 #520ac550a79a2be231f60ee80ac2278fc58cd1166688558c5c88b26e31b0709b#))
-   (hash sha256 #04b59d1612017b5375ca9cc7df3ac447b8bd54b3e3540760ac7e1418efd1552e#)
-   #2d6c89816f1c1a09b847d932320c429bcb0cdf3a956a3dd9d99e51abd92b6601349d93a206e8569adf65356c64596d565f881457fa0a9e07a4a6
-    d7e12f669a02#))
+   (public-key (ed25519 #c57f6ef157ea66e2e601e9f627885daea5319b311347be7319b73ed8c3b3a2a7#))
+   (hash sha256 #9f2b841b552656c59c68a0a31ca1e3a988b83810cf1aa3039741789d34386b03#)
+   #b8495ac73e1173e97a4fdafdae70f6c5e6e4586ae04d7627be16ac05a19281d0bf30c770e7e35a58c9dbcc142b8cd2ea8fe9c968d171983987f4
+    d24c0b1e1c01#))
  (sequence
   (public-key
    (rsa-pkcs1-sha256
     (e #010001#)
     (n
-     |ANcOeL1RK1i8KFgukVcgBfn7arZhSHo1/cc0Km9Nh7lqLZCF49CpSCYDMD+9HLZFzJLZGXjxUkdJP58Ub07WcmQKbMZjCo74mUzkuOYnWyhGV+2uQ0
-      INdCwe9hhYvBD1IDM2D4OQp9yEmDFi/Iz8rRjNsHArhjUGzt9sc/oTNYXDLkFuOByVwkB4m6ByBfGotrQrYatRENk1A1FbHPEV+V+C+oYaGIqJqVE6f
-      AqlIYdOJVQxGzzCjUTHOH96RGafImav/b19Xn6RlOAeGSQYn3dbwnqBDkBKNaalN2FamIIW6tkUYltANkMFK1o3FFGAwGMn68iycJTA6y74ateOe2M=
+     |AM0wUXMsEajrEp1cSPDdvcAfK1v3YSK2cVqUXFZFJ6HkjpgE/VTNVhZdQzIR6k9ZjveFswolG5qCqiPEQkj5BOlY348dmFLCx0Rvm3Aqn1YvLjsuov
+      oc1hacP18m46x9CeptWYznbetqeyJiiXSQAZmv87Ck6auZJM0N5bp2AM/amOEZY8M8muSwk9T/qV9P/8W7fbA+sc4JBj4VSYzMjHd0w5d5l78W5Xbiq
+      dnEVYjvpi1FmxsT+bm1tjfZ5i3ugI/5NQrg8O6WtkBg8If7zaGdRWRLGUiLPWxF2sTA8G/cKKptsl8E4BQtbmrW0M19Vv1zXQFrki4A158uEjQzhJs=
       |)))
   (cert
-   (issuer (hash sha256 #37ac6e16c672e746381f467471248e597476e702d09ab6c60868857a62ce360c#))
+   (issuer (hash sha256 #3ce9d70c3ef94dd928e8766590bd91996ccf84f6672c99ee728528c538f0689b#))
    (subject (name builders))
    (propagate)
    (tag (packages (* set read write) (* prefix /builds/web/)))
    (not-before "2026-01-01_00:00:00"))
   (signature
-   (hash sha256 #0dccd7ffb3dafe97e0adba7b39c456b49e6dca1c0f0451ddfce26a74dfdc4561#)
-   (hash sha256 #37ac6e16c672e746381f467471248e597476e702d09ab6c60868857a62ce360c#)
-   |u5CK++KYKLOqR83k6g5ah6+HB31jyuO9v2d0LLZf0O2T0qmfVlTMV+bryefEiWAPwsoHY7o8ryGKtoNeMrd/C7XaFxgXLohu4KChiOPV5eAtFoeAD3f1
-    qaQuYeHv1GwyxqJ99P2POqjoCFFHopaHh/QEmLi6KUiV0fAshC1mJRAptx+yWikgMZQ59MTePxO8B5KBYVt+haqtPd3pnZj7e/cL7URPq1ryavre+C+SC
-    KbKgsOfPdYwpeRq4J/xYJ4JZ0uoIMih+HzVWJxsy69pUl2cn4z66uBLi45m7sjNr7rVwt1uPOwzb9Sd5sml47FtlUFzi9r6VzAbjJpMDCnz+w==|)
+   (hash sha256 #b3e6451a1200d3c627c3b8b8f83a32c3e6c26936cfd092cf20a43dabbc94c1d0#)
+   (hash sha256 #3ce9d70c3ef94dd928e8766590bd91996ccf84f6672c99ee728528c538f0689b#)
+   |TZhfXN3Ex97s1ULbxbxCYhEKfIuRiZtsnBVmNSHISZQ0pA6MuaEa/zPS5zlxQZSUWY7Qtbf3S3UIseRaq00oJpH6mowSr7Ap+iRGmmA8ksW2ITKV/SrZ
+    jBzmlF3yL3PfiNJkPtiMtCxDdKTvtWkrIpMVqAo/wP37lS9elFBCGrgHHnYPs//G96A0S5447xS7RIPboyavnFCxb5xKHFA70Yv2cOhHZiGEHwQtt4eNY
+    u3lvsO/8jFeyJmXyHwqUQ3Mx3hCmgJscyheeE0BZQTd+BvLmCi4ck27bnaodOocomW7FTU90ljkAkglHRNO9RUN1yomX4otK84ORZ8nbTh/+w==|)
   (cert
-   (issuer (name (hash sha256 #37ac6e16c672e746381f467471248e597476e702d09ab6c60868857a62ce360c#) builders))
-   (subject (public-key (ed25519 #520ac550a79a2be231f60ee80ac2278fc58cd1166688558c5c88b26e31b0709b#)))
+   (issuer (name (hash sha256 #3ce9d70c3ef94dd928e8766590bd91996ccf84f6672c99ee728528c538f0689b#) builders))
+   (subject (public-key (ed25519 #c57f6ef157ea66e2e601e9f627885daea5319b311347be7319b73ed8c3b3a2a7#)))
    (not-after "2026-12-31_23:59:59"))
   (signature
-   (hash sha256 #4bf74bf9910480d812fc2daed0684e087764a4b6aadeaee884572b49e1ace040#)
-   (hash sha256 #37ac6e16c672e746381f467471248e597476e702d09ab6c60868857a62ce360c#)
-   |xyL1ql67tOdjrFgwgdsyPXKGZpzC8CvS9Qg9P1/GMlZfdlT731yWKYwmgMf52lDujP/wJmP8ZV0hi/T2espCLgI6gzJ8UT6YO4gDaojfh4ex/zwVdhbg
-    wxIrtJ5imD6mbhkdVPH7odcVqsprPIyZrBZLLGRBSK72T+/cP9qW351fhmSxDlgEg3x2oPOrhFQD/I0ufKChgdBs2NA++SPg/ePsqGwspjMLvnIWVTDBb
-    8Qjghe6dN10kBO+olRZTDJHgMXiziFldigT0Mat5Pf9xWEWEFjWkqdLOV+e4/34vTVYEJl1Lvw08WqzDhzRekNkvVtw2BqEEH+4EJkDqQHsXA==|)
+   (hash sha256 #f93ddf0358cbef9806488beff9b9850eea97d5f8083b4fb7a5d8f220fbb048c8#)
+   (hash sha256 #3ce9d70c3ef94dd928e8766590bd91996ccf84f6672c99ee728528c538f0689b#)
+   |oIvRqwVv9JMUBGRPcdsCDox9OEKg1kP+l5xl9m+0d8n0zcHZyiKKXXzvsamA4FMU60NWwnR14CHphZ06ENCj5IaU5rOzCDTKVhdrbCUsPMkjLVWdxw3W
+    qt5cbkDY9wxX3yyHlfMl8y2wqSDqHIvTbIWkx6ggeTRTSmkSrsLkuMg516xw2HNdyg5Gn9/weq6wMgxW3A+D8iskvGzvLNEfDn5P9xJ0r1qP+PS7Yteyt
+    eKeYEtX7OOVt/ILjbptaxhwuJl5t2zluyf/6giYOY0gsnRxwurYLWe4IoCaxFZf5egz0/LHcvSXV4RTQlNKRoJr+GqUQgh0cQEorcHzO1yPMw==|)
   (cert
-   (issuer (public-key (ed25519 #520ac550a79a2be231f60ee80ac2278fc58cd1166688558c5c88b26e31b0709b#)))
-   (subject (public-key (ed25519 #1afa08c69dcce4a9cc8a87027eea61fbb31c3a005d827d3a48771a75cb1d03e9#)))
+   (issuer (public-key (ed25519 #c57f6ef157ea66e2e601e9f627885daea5319b311347be7319b73ed8c3b3a2a7#)))
+   (subject (public-key (ed25519 #2073374e46a58886a13c6f59fc2f29d29f462430616595c5396fa714a9cd7362#)))
    (tag (packages read))
    (not-after "2026-06-30_23:59:59"))
   (signature
-   (hash sha256 #04b59d1612017b5375ca9cc7df3ac447b8bd54b3e3540760ac7e1418efd1552e#)
-   (public-key (ed25519 #520ac550a79a2be231f60ee80ac2278fc58cd1166688558c5c88b26e31b0709b#))
-   #2d6c89816f1c1a09b847d932320c429bcb0cdf3a956a3dd9d99e51abd92b6601349d93a206e8569adf65356c64596d565f881457fa0a9e07a4a6
-    d7e12f669a02#))
- (key (public-key (ed25519 #1afa08c69dcce4a9cc8a87027eea61fbb31c3a005d827d3a48771a75cb1d03e9#)))
+   (hash sha256 #9f2b841b552656c59c68a0a31ca1e3a988b83810cf1aa3039741789d34386b03#)
+   (public-key (ed25519 #c57f6ef157ea66e2e601e9f627885daea5319b311347be7319b73ed8c3b3a2a7#))
+   #b8495ac73e1173e97a4fdafdae70f6c5e6e4586ae04d7627be16ac05a19281d0bf30c770e7e35a58c9dbcc142b8cd2ea8fe9c968d171983987f4
+    d24c0b1e1c01#))
+ (key (public-key (ed25519 #2073374e46a58886a13c6f59fc2f29d29f462430616595c5396fa714a9cd7362#)))
  (request (packages read /builds/web/index.html))
- (at "2026-03-01_12:00:00"))
+ (at "2026-03-01_12:00:00")
+ (policy strict))

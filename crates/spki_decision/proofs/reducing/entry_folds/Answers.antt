@@ -1,8 +1,8 @@
 use Rattle.std.proofs.Common.{length, ap, arith, rules}
 use Rattle.spki_case.specs.View.{model}
 use Rattle.spki_reduce.specs.Chain.{tuples_of}
-use Rattle.spki_decision.specs.Reduced.{IsEntryFold}
-use Rattle.spki_decision.proofs.Stopping.{answered, large_here, small_here}
+use Rattle.spki_decision.specs.Reduced.{IsEntryFold, IsDated, EndsAtDate}
+use Rattle.spki_decision.proofs.Stopping.{all_pushed, answered, large_here, small_here}
 use Rattle.spki_decision.proofs.reducing.entry_folds.Goals as goal
 
 pub returns-in_err-entry_fold-clause-too_large : goal.returns-in_err-entry_fold-clause-too_large
@@ -17,6 +17,10 @@ loop-entry-preserved c = record {
       c.deref-entry-items.ensures.value c.loop-entry-test.true c.entry-item.is
       (IsEntryFold (model c.args.case.now) (tuples_of c.args.steps.now)) c.loop-entry.folds.items c.push.new.self.items
       c.in_ok-entry_fold.field-0 c.loop-entry.invariant.each c.in_ok-entry_fold.ensures.exact c.in_ok-push.ensures.items;
+  dated = all_pushed IsDated c.loop-entry.folds.items c.push.new.self.items c.in_ok-entry_fold.field-0
+      c.loop-entry.invariant.dated c.in_ok-entry_fold.ensures.dated c.in_ok-push.ensures.items;
+  end = all_pushed EndsAtDate c.loop-entry.folds.items c.push.new.self.items c.in_ok-entry_fold.field-0
+      c.loop-entry.invariant.end c.in_ok-entry_fold.ensures.end c.in_ok-push.ensures.items;
   small = small_here (model c.args.case.now) c.deref-entry-items.result.now c.loop-entry.entry-index c.entry-item.result
       c.deref-entry-items.ensures.value c.loop-entry-test.true c.entry-item.is (tuples_of c.args.steps.now)
       c.in_ok-entry_fold.ensures.small c.loop-entry.invariant.small;

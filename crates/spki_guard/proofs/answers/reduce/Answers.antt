@@ -14,6 +14,8 @@ returns-clause-answered c =
       text_is = c.in_ok-case.ensures.read;
       reduction = c.in_ok-reduction.reduction;
       reduction_is = exact;
+      dated = c.in_ok-reduction.ensures.dated;
+      end = c.in_ok-reduction.ensures.end;
       lines = rw whole report;
     }
 

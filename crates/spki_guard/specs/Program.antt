@@ -1,0 +1,109 @@
+-- The program: what comes of the words of a command line, of what is read and of what is written.
+use Rattle.std.specs.Prelude.{◌≡◌, ◌≢◌, ◌⊎◌, ℕ, ◌≤◌, List, [], ◌∷◌, ◌++◌, length, codes, string_bytes, String, Option, Some, Result, Ok, Err, IfOk, MatchResult, IsTrue}
+use Rattle.std.specs.declared.io.ErrorKind.{ErrorKind}
+use Rattle.std.specs.declared.io.ErrorKind.TheVariants.{InvalidData}
+use Rattle.metered_io.specs.declared.meters.Metered.{Metered}
+use Rattle.metered_io.specs.Metered.{inner_of, Gives, GivesNone, TakesNone}
+use Rattle.spki_words.specs.declared.commands.Command.{Command}
+use Rattle.spki_words.specs.declared.words.WordsFault.{WordsFault}
+use Rattle.spki_words.specs.declared.words.WordsFault.TheVariants as words
+use Rattle.spki_words.specs.Command.{word_of}
+use Rattle.spki_words.specs.Words.{subcommand_in, faults_of, IsFaultOf}
+use Rattle.spki_words.specs.Words as of_words
+use Rattle.spki_guard.specs.declared.answers.Verdict.{Verdict}
+use Rattle.spki_guard.specs.declared.statuses.Status.{Status}
+use Rattle.spki_guard.specs.declared.statuses.Status.TheVariants.{Done, No, Refused, ReadFault, WriteFault}
+use Rattle.spki_guard.specs.Status.{status_of, code_of}
+use Rattle.spki_guard.specs.Lines.{refused_memory}
+use Rattle.spki_guard.specs.Run.{IsReply, IsFaulty, IsWritten, IsCutOff}
+
+-- ---- what is asked for
+
+-- What words ask for: the subcommand that `clap` reads in them, or a fault that it finds; the program's name and a
+-- command's word are that command, unless memory ran out.
+pub record IsAsked (list : List (List ℕ)) (asked : Result Command WordsFault) : Type 0 where
+  pub named : IfOk asked (λ c. subcommand_in list ≡ Some (word_of c))
+  pub taken : (program : List ℕ) (c : Command) → list ≡ program ∷ word_of c ∷ [] → (asked ≡ Ok c) ⊎ (asked ≡ Err words.Memory)
+  pub faults : MatchResult asked (λ _. faults_of list ≡ []) (IsFaultOf list)
+
+-- the fault says that words aren't UTF-8, or that memory ran out
+abbrev pub IsNoText : WordsFault → Type 0
+IsNoText (words.Refused text) = string_bytes text ≡ codes "error: the words aren't UTF-8" ++ 10 ∷ []
+IsNoText (words.Help text) = ⊥
+IsNoText words.Memory = Unit {0}
+
+-- Where the words can't be read there is no command: they aren't UTF-8, or memory ran out.
+pub record IsUnread (kind : ErrorKind) (fault : WordsFault) : Type 0 where
+  pub no_text : kind ≡ InvalidData → IsNoText fault
+  pub other : kind ≢ InvalidData → fault ≡ words.Memory
+
+-- what comes of an error in their place
+abbrev pub IsUnasked : ErrorKind → Result Command WordsFault → Type 0
+IsUnasked kind asked = MatchResult asked (λ _. ⊥) (IsUnread kind)
+
+-- ---- what is said
+
+-- the writer took all the octets, or it failed behind a front of them
+abbrev pub IsSaid : {W : Type 0} → (W → Option (List ℕ)) → Metered W → Metered W → List ℕ → Type 0
+IsSaid contents old new octets = IsWritten contents old new octets ⊎ IsCutOff contents old new octets
+
+-- the writer was asked for nothing, and took nothing
+pub record IsSilent {W : Type 0} (contents : W → Option (List ℕ)) (old new : Metered W) : Type 0 where
+  pub unasked : new.asks ≡ 0
+  pub nothing : TakesNone contents old new
+
+-- the reader was asked for nothing, and gave nothing
+pub record IsUntouched {R : Type 0} (remaining : R → Option (List ℕ)) (old new : Metered R) : Type 0 where
+  pub unasked : new.asks ≡ 0
+  pub nothing : GivesNone remaining old new
+
+-- what stands on standard error behind a run: why it was cut off, else nothing
+abbrev pub IsReported : {E : Type 0} → (E → Option (List ℕ)) → Metered E → Metered E → Status → Type 0
+IsReported contents old new Done = IsSilent contents old new
+IsReported contents old new No = IsSilent contents old new
+IsReported contents old new Refused = IsSilent contents old new
+IsReported contents old new ReadFault = IsSaid contents old new (codes "spki: read fault" ++ 10 ∷ [])
+IsReported contents old new WriteFault = IsSaid contents old new (codes "spki: write fault" ++ 10 ∷ [])
+
+-- What stands on standard output and on standard error where there is no command: the text goes to standard error, and the
+-- line that memory ran out to standard output.
+abbrev pub IsRefused : {W E : Type 0} → (W → Option (List ℕ)) → (E → Option (List ℕ)) → Metered W → Metered W → Metered E → Metered E
+    → WordsFault → Type 0
+IsRefused contents lines old new before after (words.Refused text) = IsSilent contents old new × IsSaid lines before after (string_bytes text)
+IsRefused contents lines old new before after (words.Help text) = IsSilent contents old new × IsSaid lines before after (string_bytes text)
+IsRefused contents lines old new before after words.Memory = IsSaid contents old new refused_memory × IsSilent lines before after
+
+-- ---- what is done
+
+-- A command was run, from what was read to what is written, and ended so: what `run` says.
+pub record IsRun {R W : Type 0} (remaining : R → Option (List ℕ)) (contents : W → Option (List ℕ)) (command : Command)
+    (reader read : Metered R) (writer written_to : Metered W) (status : Status) : Type 0 where
+  pub reader_asks : read.asks ≤ 2097152
+  pub no_more : (octets : List ℕ) × (length octets ≤ 1048577) × Gives remaining reader read octets
+  pub ended_at_done : status ≡ Done → IsTrue read.ended
+  pub ended_at_no : status ≡ No → IsTrue read.ended
+  pub read_fault : status ≡ ReadFault → IsFaulty read 2097152
+  pub no_read_fault : (status ≡ ReadFault) ⊎ (read.faults ≡ 0)
+  pub no_write_fault : (status ≡ WriteFault) ⊎ (written_to.faults ≡ 0)
+  pub unwritten : status ≡ ReadFault → (written_to.asks ≡ 0) × TakesNone contents writer written_to
+  pub written : (verdict : Verdict) → status ≡ status_of verdict → (output : List ℕ)
+      × IsReply command (remaining (inner_of reader)) (remaining (inner_of read)) read.ended verdict output
+      × IsWritten contents writer written_to output
+  pub write_fault : status ≡ WriteFault → (verdict : Verdict) × (output : List ℕ)
+      × IsReply command (remaining (inner_of reader)) (remaining (inner_of read)) read.ended verdict output
+      × IsCutOff contents writer written_to output
+
+-- The command was run, the exit status is that of its end, and standard error says why it was cut off.
+pub record DoesCommand {R W E : Type 0} (remaining : R → Option (List ℕ)) (contents : W → Option (List ℕ)) (lines : E → Option (List ℕ))
+    (reader read : Metered R) (writer written_to : Metered W) (errors said : Metered E) (exit : ℕ) (command : Command) : Type 0 where
+  pub status : Status
+  pub run : IsRun remaining contents command reader read writer written_to status
+  pub reported : IsReported lines errors said status
+  pub exit_is : exit ≡ code_of status
+
+-- There is no command: nothing was read, the fault is said, and the exit status is the fault's.
+pub record SaysFault {R W E : Type 0} (remaining : R → Option (List ℕ)) (contents : W → Option (List ℕ)) (lines : E → Option (List ℕ))
+    (reader read : Metered R) (writer written_to : Metered W) (errors said : Metered E) (exit : ℕ) (fault : WordsFault) : Type 0 where
+  pub unread : IsUntouched remaining reader read
+  pub refused : IsRefused contents lines writer written_to errors said fault
+  pub exit_is : exit ≡ of_words.code_of fault

@@ -1,0 +1,66 @@
+#!/usr/bin/env python3
+"""Tests before anything is proved what else would fail late: that each source file is laid out as `rt fmt` lays it out, and that
+CONTRIBUTING.md's line on the last whole run of `.ci/deep` names a commit of the history in which nothing failed.
+
+Prints what fails; the last line counts.
+Usage: tests/layout.py
+"""
+import glob
+import os
+import re
+import shutil
+import subprocess
+import sys
+
+ROOT = os.path.realpath(os.path.join(os.path.dirname(__file__), ".."))
+LINE = re.compile(r"Last whole run of `\.ci/deep`: commit ([0-9a-f]{12,40}), (\d+) passed, (\d+) failed, ")
+
+
+def formatter():
+    """The toolchain's program that formats."""
+    path = shutil.which("rt") or sys.exit("rt is not in the path")
+    return os.path.join(os.path.dirname(os.path.realpath(path)), "rattle")
+
+
+def misplaced(rattle):
+    """The files that `rt fmt` would lay out otherwise."""
+    for crate in sorted(glob.glob(os.path.join(ROOT, "crates", "*"))):
+        files = [path for part in ("src", "specs", "proofs") for end in ("rt", "antt")
+                 for path in glob.glob(os.path.join(crate, part, "**", f"*.{end}"), recursive=True)]
+        if not files:
+            continue
+        done = subprocess.run([rattle, "fmt", "--check", *files], stdout=subprocess.PIPE, stderr=subprocess.STDOUT, text=True)
+        if done.returncode:
+            yield f"{os.path.relpath(crate, ROOT)}: run rt fmt there\n{done.stdout[:600]}"
+
+
+def git(*words):
+    return subprocess.run(["git", *words], cwd=ROOT, stdout=subprocess.PIPE, stderr=subprocess.DEVNULL, text=True)
+
+
+def deep_run():
+    """What is wrong with the line on the last whole run, or None."""
+    with open(os.path.join(ROOT, "CONTRIBUTING.md"), encoding="utf-8") as it:
+        found = LINE.findall(it.read())
+    if len(found) != 1:
+        return "CONTRIBUTING.md has not one line on the last whole run of .ci/deep"
+    (commit, _, failed), = found
+    if failed != "0":
+        return f"{failed} wrong bodies or benches failed in the last whole run of .ci/deep"
+    if git("rev-parse", "--is-shallow-repository").stdout.strip() != "false":
+        print("this is no whole clone, so the commit of the last whole run is not looked for")
+        return None
+    if git("merge-base", "--is-ancestor", commit, "HEAD").returncode:
+        return f"the last whole run of .ci/deep was of {commit}, which isn't in the history"
+    return None
+
+
+def main():
+    faults = [*misplaced(formatter()), *filter(None, [deep_run()])]
+    print(*faults, sep="\n", end="\n" if faults else "")
+    print(f"{0 if faults else 1} passed, {len(faults)} failed")
+    return 1 if faults else 0
+
+
+if __name__ == "__main__":
+    sys.exit(main())
