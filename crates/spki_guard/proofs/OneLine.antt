@@ -189,29 +189,29 @@ reduction_line (reduction.Entries folds) (reduction.Evidence item stop) x y outp
 reduction_line (reduction.Entries folds) (reduction.Entries others) x y output line same a b =
     folds_line others.items x y output line (subst (λ (fs : List EntryFold). AreFolds fs x output) same a) b
 
-pub reduced_lines : (text : List ℕ) (c d : Case) (r s : Reduction) (x y : Verdict) (output line : List ℕ) → IsCaseText text c → IsCaseText text d
-    → IsReduced c (accepted_by c) (Ok r) → IsReduced d (accepted_by d) (Ok s) → IsReductionReport r x output → IsReductionReport s y line
-    → (x ≡ y) × (output ≡ line)
-reduced_lines text c d r s x y output line read other m n a b =
-    reduction_line r s x y output line
-    (own_of_text IsReduced (AreSame IsSameReduction) reduced_one text c d (Ok r) (Ok s) read other m n) a b
+reduces_one : (text : List ℕ) (x y : Verdict) (output line : List ℕ) → Reduces text x output → Reduces text y line → Same x y output line
+reduces_one text x y output line m n =
+    let same : IsSameReduction m.reduction n.reduction =
+    own_of_text IsReduced (AreSame IsSameReduction) reduced_one text m.case_read n.case_read (Ok m.reduction) (Ok n.reduction)
+    m.text_is n.text_is (m.reduction_is, m.dated) (n.reduction_is, n.dated) in
+    reduction_line m.reduction n.reduction x y output line same m.lines n.lines
 
 -- ---- answers
 
-value_lines : (command : Command) (v : Value) (x y : Verdict) (output line : List ℕ) → command ≢ Reduce → AnswersValue command v x output
+value_lines : (command : Command) (v : Value) (x y : Verdict) (output line : List ℕ) → AnswersValue command v x output
     → AnswersValue command v y line → Same x y output line
-value_lines Canonical v x y output line other a b = (a.0 ∙ sym b.0, a.1 ∙ sym b.1)
-value_lines Advanced v x y output line other a b = (a.0 ∙ sym b.0, a.1 ∙ sym b.1)
-value_lines Transport v x y output line other a b = (a.0 ∙ sym b.0, a.1 ∙ sym b.1)
-value_lines Intersect v x y output line other a b = meets_one (canon v) x y output line a b
-value_lines Reduce v x y output line other a b = absurd (other refl)
-value_lines Check v x y output line other a b = decides_one (canon v) x y output line a b
-value_lines Explain v x y output line other a b = explains_one (canon v) x y output line a b
+value_lines Canonical v x y output line a b = (a.0 ∙ sym b.0, a.1 ∙ sym b.1)
+value_lines Advanced v x y output line a b = (a.0 ∙ sym b.0, a.1 ∙ sym b.1)
+value_lines Transport v x y output line a b = (a.0 ∙ sym b.0, a.1 ∙ sym b.1)
+value_lines Intersect v x y output line a b = meets_one (canon v) x y output line a b
+value_lines Reduce v x y output line a b = reduces_one (canon v) x y output line a b
+value_lines Check v x y output line a b = decides_one (canon v) x y output line a b
+value_lines Explain v x y output line a b = explains_one (canon v) x y output line a b
 
-pub read_one : (command : Command) (text : List ℕ) (x y : Verdict) (output line : List ℕ) → command ≢ Reduce → AnswersRead command text x output
+pub read_one : (command : Command) (text : List ℕ) (x y : Verdict) (output line : List ℕ) → AnswersRead command text x output
     → AnswersRead command text y line → (x ≡ y) × (output ≡ line)
-read_one command text x y output line other m n =
-    value_lines command n.value x y output line other
+read_one command text x y output line m n =
+    value_lines command n.value x y output line
     (subst (λ (v : Value). AnswersValue command v x output) (read_value text m.value n.value m.read n.read) m.answer) n.answer
 
 -- ---- refusals

@@ -1,29 +1,18 @@
 //! Laws of what is answered to a text.
 
-ghost use Rattle.std.specs.Prelude.{◌≡◌, ◌≢◌, ℕ, List, Ok};
-ghost use Rattle.spki_case.specs.Case.{Case, accepted_by};
-ghost use Rattle.spki_case.specs.CaseForm.{IsCaseText};
+ghost use Rattle.std.specs.Prelude.{◌≡◌, ◌≢◌, ℕ, List};
 ghost use Rattle.spki_decision.specs.declared.deciding.GuardFault.TheVariants as guard;
-ghost use Rattle.spki_decision.specs.declared.reducing.Reduction.{Reduction};
-ghost use Rattle.spki_decision.specs.Answered.{IsReduced};
 ghost use Rattle.spki_guard.specs.declared.answers.Refusal.{Refusal};
 ghost use Rattle.spki_guard.specs.declared.answers.Refusal.TheVariants as refusals;
 ghost use Rattle.spki_guard.specs.declared.answers.Verdict.{Verdict};
 ghost use Rattle.spki_guard.specs.declared.intersection.IntersectFault.TheVariants as intersect;
 ghost use Rattle.spki_guard.specs.Answer.{AnswersRead, RefusesAnswer};
-ghost use Rattle.spki_guard.specs.Reports.{IsReductionReport};
 ghost use Rattle.spki_words.specs.declared.commands.Command.{Command};
-ghost use Rattle.spki_words.specs.declared.commands.Command.TheVariants.{Reduce};
 
 /// A text has at most one answer of a command, and where it has one it is refused for nothing but want of memory.
 pub fn one_line()
-    ensures same { (command : Command) (text : List ℕ) (x y : Verdict) (output line : List ℕ) → command ≢ Reduce
+    ensures same { (command : Command) (text : List ℕ) (x y : Verdict) (output line : List ℕ)
         → AnswersRead command text x output → AnswersRead command text y line → (x ≡ y) × (output ≡ line) }
-    // The windows of what entries become begin at dates.
-    ensures reduced { (text : List ℕ) (c d : Case) (r s : Reduction) (x y : Verdict) (output line : List ℕ)
-        → IsCaseText text c → IsCaseText text d
-        → IsReduced c (accepted_by c) (Ok r) → IsReduced d (accepted_by d) (Ok s)
-        → IsReductionReport r x output → IsReductionReport s y line → (x ≡ y) × (output ≡ line) }
     ensures answered { (command : Command) (text : List ℕ) (x : Verdict) (output : List ℕ) (refusal : Refusal)
         → AnswersRead command text x output → RefusesAnswer command text refusal → refusal ≡ refusals.Memory }
 {}

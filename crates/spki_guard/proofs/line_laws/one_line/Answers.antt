@@ -1,11 +1,8 @@
-use Rattle.spki_guard.proofs.OneLine.{read_one, reduced_lines, answered}
+use Rattle.spki_guard.proofs.OneLine.{read_one, answered}
 use Rattle.spki_guard.proofs.line_laws.one_line.Goals as goal
 
 pub returns-clause-same : goal.returns-clause-same
 returns-clause-same c = read_one
-
-pub returns-clause-reduced : goal.returns-clause-reduced
-returns-clause-reduced c = reduced_lines
 
 pub returns-clause-answered : goal.returns-clause-answered
 returns-clause-answered c = answered
