@@ -8,3 +8,4 @@ pub mod OneCase
 pub mod ByDigest
 pub mod FirstRows
 pub mod LackingRow
+pub mod Unrefused

@@ -33,7 +33,7 @@ row-one v r s read other =
     let value : r.value ≡ s.value = read.value_is ∙ ap canon at_value ∙ sym other.value_is in
     λ i. record { key = key i; digest = digests.1 i; value = value i }
 
-rows-one : (vs : List Value) (rs ss : List Row) → AllZip RowOf vs rs → AllZip RowOf vs ss → rs ≡ ss
+pub rows-one : (vs : List Value) (rs ss : List Row) → AllZip RowOf vs rs → AllZip RowOf vs ss → rs ≡ ss
 rows-one [] [] [] read other = refl
 rows-one [] [] (s ∷ ss) read other = absurd other
 rows-one [] (r ∷ rs) ss read other = absurd read
@@ -56,19 +56,19 @@ policy-one Strict Open e = absurd (cc)
 policy-one Strict Strict e = refl
 
 -- parts that stand at the same places
-record SameParts (p q : Parts) : Type 0 where
-  acl : acl_value p ≡ acl_value q
-  rows : p.rows ≡ q.rows
-  sequence : sequence_value p ≡ sequence_value q
-  key : p.key ≡ q.key
-  request : p.request ≡ q.request
-  at : p.at ≡ q.at
-  policy : p.policy ≡ q.policy
+pub record SameParts (p q : Parts) : Type 0 where
+  pub acl : acl_value p ≡ acl_value q
+  pub rows : p.rows ≡ q.rows
+  pub sequence : sequence_value p ≡ sequence_value q
+  pub key : p.key ≡ q.key
+  pub request : p.request ≡ q.request
+  pub at : p.at ≡ q.at
+  pub policy : p.policy ≡ q.policy
 
 both : (v w : Value) (vs ws : List Value) → v ∷ vs ≡ w ∷ ws → (v ≡ w) × (vs ≡ ws)
 both v w vs ws e = (cc, cc)
 
-parts-one : (p q : Parts) → case_value p ≡ case_value q → SameParts p q
+pub parts-one : (p q : Parts) → case_value p ≡ case_value q → SameParts p q
 parts-one p q e =
     let acl = both _ _ _ _ (behind_head (codes "case") (part_values p) (part_values q) e) in
     let rows = both _ _ _ _ acl.1 in

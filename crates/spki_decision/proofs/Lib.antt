@@ -12,3 +12,4 @@ pub mod OneReduction
 pub mod SameTuples
 pub mod OneDecision
 pub mod Examples
+pub mod Unrefused

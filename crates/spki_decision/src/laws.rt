@@ -6,8 +6,8 @@ ghost use Rattle.spki_case.specs.CaseForm.{IsCaseText};
 ghost use Rattle.spki_decision.specs.declared.deciding.Decision.{Decision};
 ghost use Rattle.spki_decision.specs.declared.explaining.Explanation.{Explanation};
 ghost use Rattle.spki_decision.specs.declared.reducing.Reduction.{Reduction};
-ghost use Rattle.spki_decision.specs.Granted.{Granted, strict, opened};
-ghost use Rattle.spki_decision.specs.Decision.{IsDecision};
+ghost use Rattle.spki_decision.specs.Granted.{Granted, IsTooLarge, strict, opened};
+ghost use Rattle.spki_decision.specs.Decision.{IsDecision, IsUnrefused};
 ghost use Rattle.spki_decision.specs.Reduced.{IsReduction, IsSameReduction, AreDated};
 ghost use Rattle.spki_decision.specs.Explained.{IsExplanation, IsSameExplanation, Agrees};
 
@@ -57,4 +57,11 @@ pub fn one_decision<V: Verifier>()
         → IsDecision c (V.accepted verifier) x → IsDecision d (V.accepted verifier) y → x ≡ y }
     ensures own { (text : List ℕ) (c d : Case) (x y : Decision) → IsCaseText text c → IsCaseText text d
         → IsDecision c (accepted_by c) x → IsDecision d (accepted_by d) y → x ≡ y }
+{}
+
+/// A case that has a decision with no refusal passed over isn't refused as too large, whatever the verifier. So the clauses of
+/// `decide` leave one answer, but for want of memory.
+pub fn no_refusal<V: Verifier>()
+    ensures { (verifier : V) (c : Case) (decision : Decision) → IsDecision c (V.accepted verifier) decision
+        → IsUnrefused c (V.accepted verifier) decision → ¬ IsTooLarge c (V.accepted verifier) }
 {}
