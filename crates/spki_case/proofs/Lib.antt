@@ -5,7 +5,7 @@ pub mod RowLaws
 pub mod Signed
 pub mod Lacking
 pub mod OneCase
-pub mod CaseOrRefusal
 pub mod ByDigest
 pub mod FirstRows
 pub mod LackingRow
+pub mod Unrefused

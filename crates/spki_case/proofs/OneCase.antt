@@ -32,7 +32,7 @@ row-one v r s read other =
     let value : r.value ≡ s.value = read.value_is ∙ ap canon at_value ∙ sym other.value_is in
     λ i. record { key = key i; digest = digests.1 i; value = value i }
 
-rows-one : (vs : List Value) (rs ss : List Row) → AllZip RowOf vs rs → AllZip RowOf vs ss → rs ≡ ss
+pub rows-one : (vs : List Value) (rs ss : List Row) → AllZip RowOf vs rs → AllZip RowOf vs ss → rs ≡ ss
 rows-one [] [] [] read other = refl
 rows-one [] [] (s ∷ ss) read other = absurd other
 rows-one [] (r ∷ rs) ss read other = absurd read

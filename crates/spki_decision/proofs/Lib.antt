@@ -11,3 +11,4 @@ pub mod OneExplanation
 pub mod OneReduction
 pub mod OneDecision
 pub mod Examples
+pub mod Unrefused

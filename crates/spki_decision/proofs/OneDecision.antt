@@ -22,6 +22,7 @@ use Rattle.spki_decision.specs.Explained.{IsExplanation, IsSameExplanation}
 use Rattle.spki_decision.specs.Reduced.{IsReduction, IsSameReduction, SomeTooLarge}
 use Rattle.spki_decision.specs.Answered.{IsDecided, IsExplained, IsReduced, AreSame}
 use Rattle.spki_decision.proofs.Evident.{one_list}
+use Rattle.spki_decision.proofs.Unrefused.{not_both}
 use Rattle.spki_decision.proofs.OneExplanation.{one_explanation}
 use Rattle.spki_decision.proofs.OneReduction.{one_reduction}
 
@@ -40,21 +41,11 @@ module _ (c : Case) (verified : Verified) where
   decision_one No (Yes m) a b = absurd (a m b.granted)
   decision_one No No a b = refl
 
-  -- where a decision is allowed, none is refused
-  pub decided_small : (x : Decision) → IsDecision c verified x → IsUnrefused c verified x → IsTooLarge c verified → ⊥
-  decided_small (Yes n) a unrefused large =
-      let not_before : ¬ (large.place < n) = λ below. unrefused large.tuples large.shown large.place large.entry below large.stands large.at in
-      let not_behind : ¬ (n < suc large.place) = λ above. large.none_granted n above a.granted in
-      absurd (omega (arith, not_before, not_behind))
-  decided_small No a unrefused large =
-      unrefused large.tuples large.shown large.place large.entry
-      (slice_get_within c.entries large.place large.entry large.stands) large.stands large.at
-
   pub decided_one : (x y : Result Decision GuardFault) → IsDecided c verified x → IsDecided c verified y → x ≡ y
   decided_one (Ok x) (Ok y) a b = ap Ok (decision_one x y a.0 b.0)
-  decided_one (Ok x) (Err TooLarge) a b = absurd (decided_small x a.0 a.1 b)
+  decided_one (Ok x) (Err TooLarge) a b = absurd (not_both c verified x a.0 a.1 b)
   decided_one (Ok x) (Err Memory) a b = absurd b
-  decided_one (Err TooLarge) (Ok y) a b = absurd (decided_small y b.0 b.1 a)
+  decided_one (Err TooLarge) (Ok y) a b = absurd (not_both c verified y b.0 b.1 a)
   decided_one (Err TooLarge) (Err TooLarge) a b = refl
   decided_one (Err TooLarge) (Err Memory) a b = absurd b
   decided_one (Err Memory) y a b = absurd a

@@ -7,8 +7,8 @@ ghost use Rattle.spki_decision.specs.declared.deciding.Decision.{Decision};
 ghost use Rattle.spki_decision.specs.declared.deciding.GuardFault.{GuardFault};
 ghost use Rattle.spki_decision.specs.declared.explaining.Explanation.{Explanation};
 ghost use Rattle.spki_decision.specs.declared.reducing.Reduction.{Reduction};
-ghost use Rattle.spki_decision.specs.Granted.{Granted, strict, opened};
-ghost use Rattle.spki_decision.specs.Decision.{IsDecision};
+ghost use Rattle.spki_decision.specs.Granted.{Granted, IsTooLarge, strict, opened};
+ghost use Rattle.spki_decision.specs.Decision.{IsDecision, IsUnrefused};
 ghost use Rattle.spki_decision.specs.Reduced.{IsSameReduction};
 ghost use Rattle.spki_decision.specs.Explained.{IsExplanation, IsSameExplanation, Agrees};
 ghost use Rattle.spki_decision.specs.Answered.{IsDecided, IsExplained, IsReduced, AreSame};
@@ -57,4 +57,11 @@ pub fn one_reduction<V: Verifier>()
         → IsReduced c (V.accepted verifier) x → IsReduced d (V.accepted verifier) y → AreSame IsSameReduction x y }
     ensures own { (text : List ℕ) (c d : Case) (x y : Result Reduction GuardFault) → IsCaseText text c → IsCaseText text d
         → IsReduced c (accepted_by c) x → IsReduced d (accepted_by d) y → AreSame IsSameReduction x y }
+{}
+
+/// A case that has a decision with no refusal passed over isn't refused as too large, whatever the verifier. So the clauses of
+/// `decide` leave one answer, but for want of memory.
+pub fn no_refusal<V: Verifier>()
+    ensures { (verifier : V) (c : Case) (decision : Decision) → IsDecision c (V.accepted verifier) decision
+        → IsUnrefused c (V.accepted verifier) decision → ¬ IsTooLarge c (V.accepted verifier) }
 {}

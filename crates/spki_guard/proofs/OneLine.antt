@@ -13,7 +13,7 @@ use Rattle.spki_case.specs.Case.{Case, accepted_by}
 use Rattle.spki_case.specs.CaseForm.{IsCaseText}
 use Rattle.spki_case.proofs.Building.{behind_head}
 use Rattle.spki_case.proofs.OneCase.{text-one}
-use Rattle.spki_case.proofs.CaseOrRefusal.{value-one, well-formed, text-unrefused}
+use Rattle.spki_case.proofs.Unrefused.{one_text, well_formed, case_unrefused}
 use Rattle.spki_reduce.proofs.OneFive.{written_one}
 use Rattle.spki_decision.specs.declared.deciding.Decision.{Decision}
 use Rattle.spki_decision.specs.declared.deciding.Decision.TheVariants as decision
@@ -29,7 +29,8 @@ use Rattle.spki_decision.specs.declared.explaining.Reason.{Reason}
 use Rattle.spki_decision.specs.Explained.{IsSameExplanation}
 use Rattle.spki_decision.specs.Reduced.{IsSameReduction}
 use Rattle.spki_decision.specs.Answered.{IsDecided, IsExplained, IsReduced, AreSame}
-use Rattle.spki_decision.proofs.OneDecision.{decided_one, decided_small, explained_one, explained_small, reduced_one, reduced_small, own_of_text}
+use Rattle.spki_decision.proofs.OneDecision.{decided_one, explained_one, explained_small, reduced_one, reduced_small, own_of_text}
+use Rattle.spki_decision.proofs.Unrefused.{not_both}
 use Rattle.spki_words.specs.declared.commands.Command.{Command}
 use Rattle.spki_words.specs.declared.commands.Command.TheVariants.{Canonical, Advanced, Transport, Intersect, Reduce, Check, Explain}
 use Rattle.spki_guard.specs.declared.answers.Refusal.{Refusal}
@@ -53,7 +54,7 @@ text_is text v (inl m) = inl m.spelling
 text_is text v (inr m) = inr m.braced
 
 -- a text within the limits is one value
-read_value : (text : List ℕ) (v w : Value) → IsTextWithin text v → IsTextWithin text w → v ≡ w
+pub read_value : (text : List ℕ) (v w : Value) → IsTextWithin text v → IsTextWithin text w → v ≡ w
 read_value text v w m n = one_value text v w (text_is text v m) (text_is text w n)
 
 -- ---- intersections
@@ -76,7 +77,7 @@ met_one v s t m n =
 meets_one : (text : List ℕ) (x y : Verdict) (output line : List ℕ) → WritesMeet text x output → WritesMeet text y line
     → Same x y output line
 meets_one text x y output line m n =
-    let met = subst (λ (v : Value). Intersects v m.tag) (value-one text m.met n.met) m.met.is in
+    let met = subst (λ (v : Value). Intersects v m.tag) (one_text text m.met.value n.met.value m.met.written n.met.written) m.met.is in
     let tag : m.tag ≡ n.tag = met_one n.met.value m.tag n.tag met n.met.is in
     (m.verdict_is ∙ sym n.verdict_is, m.line ∙ ap (λ (t : Tag). adv (tag_value t) ++ 10 ∷ []) tag ∙ sym n.line)
 
@@ -118,17 +119,18 @@ large_one v intersect.Memory m n = absurd n
 
 text_large : (text : List ℕ) (fault : IntersectFault) → TextNotMet text intersect.TooLarge → TextNotMet text fault → fault ≡ intersect.TooLarge
 text_large text fault (inl m) n = absurd (let e = m.is in cc)
-text_large text fault (inr m) (inl malformed) = absurd (well-formed intersect.Form text fault m malformed)
-text_large text fault (inr m) (inr n) = large_one n.value fault (subst AreTooLarge (value-one text m n) m.is) n.is
+text_large text fault (inr m) (inl malformed) = absurd (well_formed text m.value malformed.form m.within m.written malformed.found malformed.refused)
+text_large text fault (inr m) (inr n) = large_one n.value fault (subst AreTooLarge (one_text text m.value n.value m.written n.written) m.is) n.is
 
 text_met : (text : List ℕ) (t : Tag) (fault : IntersectFault) → IsMetText text t → TextNotMet text fault → ⊥
-text_met text t fault m (inl malformed) = well-formed intersect.Form text fault m malformed
+text_met text t fault m (inl malformed) = well_formed text m.value malformed.form m.within m.written malformed.found malformed.refused
 text_met text t fault m (inr n) =
-    met_or_not n.value t fault (subst (λ (v : Value). Intersects v t) (value-one text m n) m.is) n.is
+    met_or_not n.value t fault (subst (λ (v : Value). Intersects v t) (one_text text m.value n.value m.written n.written) m.is) n.is
 
 -- ---- decisions
 
-decision_line : (d : Decision) (x y : Verdict) (output line : List ℕ) → IsLineOf d x output → IsLineOf d y line → Same x y output line
+pub decision_line : (d : Decision) (x y : Verdict) (output line : List ℕ) → IsLineOf d x output → IsLineOf d y line
+    → (x ≡ y) × (output ≡ line)
 decision_line (decision.Yes n) x y output line a b = (a.0 ∙ sym b.0, a.1 ∙ sym b.1)
 decision_line decision.No x y output line a b = (a.0 ∙ sym b.0, a.1 ∙ sym b.1)
 
@@ -242,7 +244,7 @@ large_or_not Reduce v x output d a read large =
     reduced_small a.case_read (accepted_by a.case_read) a.reduction a.reduction_is
     (subst (λ (c : Case). HasTooLarge Reduce c (accepted_by c)) (text-one (canon v) d a.case_read read a.text_is) large)
 large_or_not Check v x output d a read large =
-    decided_small a.case_read (accepted_by a.case_read) a.decided a.decision_is a.unrefused
+    not_both a.case_read (accepted_by a.case_read) a.decided a.decision_is a.unrefused
     (subst (λ (c : Case). HasTooLarge Check c (accepted_by c)) (text-one (canon v) d a.case_read read a.text_is) large)
 large_or_not Explain v x output d a read large =
     explained_small a.case_read (accepted_by a.case_read) a.explanation a.explanation_is
@@ -254,7 +256,7 @@ value_answered command v x output (refusals.Form fault) a r = absurd r
 value_answered command v x output (refusals.Intersect fault) a r =
     let met = subst (λ (k : Command). AnswersValue k v x output) r.0 a in absurd (text_met (canon v) met.tag fault met.met r.1)
 value_answered command v x output (refusals.Case fault) a r =
-    let c = case_of command v x output r.0 a in absurd (text-unrefused (canon v) c.0 fault c.1 r.1)
+    let c = case_of command v x output r.0 a in absurd (case_unrefused (canon v) c.0 fault c.1 r.1)
 value_answered command v x output (refusals.Decision fault) a r =
     absurd (large_or_not command v x output r.case_read a r.text_is r.large)
 value_answered command v x output (refusals.Rows fault) a r = absurd r
@@ -288,7 +290,7 @@ large_value : (command : Command) (v : Value) (fault : GuardFault) (refusal : Re
     → RefusesValue command v refusal → refusal ≢ refusals.Memory → refusal ≡ refusals.Decision TooLarge
 large_value command v fault (refusals.Form other) a r found = absurd r
 large_value command v fault (refusals.Intersect other) a r found = absurd (none_large command a.case_read r.0 a.large)
-large_value command v fault (refusals.Case other) a r found = absurd (text-unrefused (canon v) a.case_read other a.text_is r.1)
+large_value command v fault (refusals.Case other) a r found = absurd (case_unrefused (canon v) a.case_read other a.text_is r.1)
 large_value command v fault (refusals.Decision other) a r found = ap refusals.Decision r.named
 large_value command v fault (refusals.Rows other) a r found = absurd r
 large_value command v fault refusals.Memory a r found = absurd (found refl)

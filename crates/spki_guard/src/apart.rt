@@ -1,10 +1,12 @@
 //! Decisions on cases by signatures that stand apart from them.
-ghost use Rattle.std.specs.Prelude.{◌≡◌, ◌≢◌, ◌<◌, length, IfOk, IfErr, IsErrOf};
+ghost use Rattle.std.specs.Prelude.{◌≡◌, ◌≢◌, ◌<◌, ℕ, List, length, IfOk, IfErr, IsErrOf};
 ghost use Rattle.sexpr_core.specs.Value.{Value, canon};
 ghost use Rattle.sexpr_text.specs.Spelling.{IsTextWithin};
 ghost use Rattle.spki_case.specs.View.{model};
 ghost use Rattle.spki_guard.specs.Answer.{RefusesAsLong, written_by};
-ghost use Rattle.spki_guard.specs.Apart.{IsAnswerApart, DecidesApart, DecidesBy, RefusesApart, RefusesBy, RefusesRowsForm};
+ghost use Rattle.spki_guard.specs.Apart.{IsAnswerApart, DecidesApart, DecidesBy, RefusesApart, RefusesBy, RefusesRowsForm, blame_of};
+ghost use Rattle.spki_guard.specs.declared.answers.Refusal.{Refusal};
+ghost use Rattle.spki_guard.specs.declared.answers.Verdict.{Verdict};
 
 use crate::answers::{Answer, Refusal, decision_line, refuse};
 use sexpr_core::FormFault;
@@ -62,3 +64,15 @@ fn canonical_rows(alloc: Global, rows: &[u8]) -> Result<Vec<u8>, RowsFault>
         Err(fault) => Err(RowsFault::Form(fault)),
     }
 }
+
+/// What the clause of `check_accepted` allows for the same two texts, but for want of memory: one decision, and beside it no
+/// refusal; or refusals that all blame the same.
+pub fn one_answer_apart()
+    ensures decided { (text rows : List ℕ) (verdict other : Verdict) (output line : List ℕ)
+        → DecidesApart text rows verdict output → DecidesApart text rows other line → (verdict ≡ other) × (output ≡ line) }
+    ensures unrefused { (text rows : List ℕ) (verdict : Verdict) (output : List ℕ) (refusal : Refusal)
+        → DecidesApart text rows verdict output → RefusesApart text rows refusal
+        → refusal ≡ Refusal.Memory }
+    ensures blamed { (text rows : List ℕ) (refusal other : Refusal) → RefusesApart text rows refusal
+        → RefusesApart text rows other → refusal ≢ Refusal.Memory → other ≢ Refusal.Memory → blame_of refusal ≡ blame_of other }
+{}

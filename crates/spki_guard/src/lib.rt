@@ -14,7 +14,7 @@ mod running;
 mod statuses;
 
 pub use answers::{Answer, Verdict, answer_text};
-pub use apart::check_accepted;
+pub use apart::{check_accepted, one_answer_apart};
 pub use intersection::{IntersectFault, intersect};
 pub use metered_io::Metered;
 pub use program::run_words;

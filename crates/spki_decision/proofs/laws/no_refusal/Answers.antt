@@ -1,0 +1,5 @@
+use Rattle.spki_decision.proofs.Unrefused.{not_both}
+use Rattle.spki_decision.proofs.laws.no_refusal.Goals as goal
+
+pub returns : goal.returns
+returns g c verifier case = not_both case (g.V.Verifier.accepted verifier)
