@@ -54,7 +54,7 @@ CALLS = (
     "decode", "encode", "read_any", "print_advanced", "wrap", "unwrap_braces", "Doc::open", "read_advanced",
     "Tag::read", "Ground::read", "Tag::meet", "Tag::write", "read_acl", "read_sequence", "read_key", "read_hash",
     "Five::then", "fold_chain", "Five::resolve", "Four::then", "Five::write",
-    "Case::read", "decide", "reduce_case", "explain", "run", "run_words",
+    "Case::read", "decide", "reduce_case", "explain", "run",
 )
 # What is written of the cases of examples/, and of some of chains.py: the status and the line. A command that the program doesn't
 # have is passed over.

@@ -116,25 +116,3 @@ pub(crate) fn run(alloc: Global) -> Result<bool, Missed> {
         _ => Ok(false),
     }
 }
-
-pub(crate) fn run_words(alloc: Global) -> Result<bool, Missed> {
-    let words = Ok(words(alloc)?);
-    let mut reader = Metered::new(FIRST_RUN);
-    let mut writer = Metered::new(Vec::with_capacity(alloc, 64)?);
-    let mut errors = Metered::new(Vec::with_capacity(alloc, 64)?);
-    let exit = spki_guard::run_words(alloc, &words, &mut reader, &mut writer, &mut errors);
-    let written = writer.into_inner();
-    match (exit, written.as_slice()) {
-        (2, b"refused Memory\n") => Err(Missed::Memory),
-        (0, line) => Ok(line == b"yes entry 1\n".as_slice()),
-        _ => Ok(false),
-    }
-}
-
-/// The words of the command line `spki check`.
-fn words(alloc: Global) -> Result<Vec<String>, Missed> {
-    let mut words = Vec::with_capacity(alloc, 2)?;
-    words.push("spki".to_string(alloc)?)?;
-    words.push("check".to_string(alloc)?)?;
-    Ok(words)
-}

@@ -60,7 +60,6 @@ fn of_cases(alloc: Global, name: &str) -> Option<Result<bool, Missed>> {
         "reduce_case" => Some(cases::reduce_case(alloc)),
         "explain" => Some(cases::explain(alloc)),
         "run" => Some(cases::run(alloc)),
-        "run_words" => Some(cases::run_words(alloc)),
         _ => None,
     }
 }

@@ -1,6 +1,6 @@
 //! The intersection of two written tags.
 
-ghost use Rattle.std.specs.Prelude.{◌≡◌, ◌≢◌, [], ◌∷◌, MatchOption, IfOk, IfErr};
+ghost use Rattle.std.specs.Prelude.{◌≡◌, ◌≢◌, ◌<◌, ◌↔◌, [], ◌∷◌, length, MatchOption, IfOk, IfErr, IsErrOf};
 ghost use Rattle.sexpr_core.specs.Value.{Value};
 ghost use Rattle.spki_case.specs.Texts.{IsOuter};
 ghost use Rattle.spki_guard.specs.Intersect.{intersect_value, outer_fault, Intersects, ValueNotMet, IsMetText, TextNotMet};
@@ -116,11 +116,12 @@ fn meet_in(alloc: Global, node: &Node) -> Result<Tag, IntersectFault>
 ///
 /// # Errors
 ///
-/// `Form` where the text is no canonical form within the limits, `Shape` where the value isn't `(intersect A B)`, then
-/// the fault of the first of the two that is no tag, then `TooLarge` where the product of their nodes is over
-/// 1,000,000. `Memory` where memory was refused.
+/// `Form` where the text is no canonical form within the limits, and `Form(TooLong)` exactly where it has more than 1,048,576
+/// octets; `Shape` where the value isn't `(intersect A B)`, then the fault of the first of the two that is no tag, then
+/// `TooLarge` where the product of their nodes is over 1,000,000. `Memory` where memory was refused.
 pub fn intersect(alloc: Global, text: &[u8]) -> Result<Tag, IntersectFault>
     ensures read { IfOk result (λ tag. IsMetText text.now tag) }
+    ensures too_long { IsErrOf result (IntersectFault.Form FormFault.TooLong) ↔ (1048576 < length text.now) }
     ensures refused { IfErr result (λ fault. fault ≢ IntersectFault.Memory → TextNotMet text.now fault) }
 {
     match Doc::open(alloc, text) {
