@@ -45,7 +45,7 @@ fn commands(rt: HostRuntime) -> Result<(), Fail> {
     let check = line(alloc, &["check"]);
     let text = FIRST_RUN.as_bytes();
     assert!(rt; is(&ended(alloc, &check, text), 0, b"yes entry 1\n", b""));
-    let none = case(alloc, "", "(ftp)", "2024-01-01_00:00:00")?;
+    let none = case(alloc, "", "(ftp)")?;
     assert!(rt; is(&ended(alloc, &check, none.as_bytes()), 1, b"no\n", b""));
     assert!(rt;
         is(
