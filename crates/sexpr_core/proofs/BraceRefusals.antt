@@ -9,7 +9,8 @@ use Rattle.sexpr_core.specs.Bounds.{RefusesBody, IsTrailingBehind}
 use Rattle.sexpr_core.specs.Braces.{IsBase64, Braced, IsBraced, IsBracedWithin, ReadsBase64, PackedAt}
 use Rattle.sexpr_core.specs.BraceRefusal.{BracesDeep, IsShallowBraced, OpensBraces, BracesGoOn, RefusesBraces}
 use Rattle.sexpr_core.specs.Gathering.{is_body_octet, AreBodyOctets, GathersTo, Passed, IsBodyEnd}
-use Rattle.sexpr_core.specs.Prefix.{Begins, RefusesPart}
+use Rattle.sexpr_core.specs.Prefix.{Begins}
+use Rattle.sexpr_core.specs.Inner.PartFaults.{RefusesPart}
 use Rattle.sexpr_core.specs.Reading.{StandsAt}
 use Rattle.sexpr_core.specs.Refusal.{IsOfForm, Refused}
 use Rattle.sexpr_core.specs.Spaces.{is_whitespace, AreSpaces, IsSpace, StartsVisible, Skips, visible}

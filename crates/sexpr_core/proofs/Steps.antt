@@ -9,7 +9,8 @@ use Rattle.sexpr_core.specs.declared.layout.Shape.{Shape}
 use Rattle.sexpr_core.specs.declared.layout.Shape.TheVariants.{Plain, Hinted, List as Group}
 use Rattle.sexpr_core.specs.Value.{Value, Values, string, list, none, more, members, decimal, verbatim, canon, canons, depth, depths, nodes, nodes_all, size}
 use Rattle.sexpr_core.specs.Layout.{head, shape, records, records_all}
-use Rattle.sexpr_core.specs.Prefix.{Front, IsBad, IsDeep, FaultAt}
+use Rattle.sexpr_core.specs.Prefix.{Front}
+use Rattle.sexpr_core.specs.Inner.PartFaults.{IsBad, IsDeep, FaultAt}
 use Rattle.sexpr_core.specs.Texts.{IsCanon, IsCanonWithin, IsMembers, IsMembersWithin, IsVerbatim, IsClosing, IsLength}
 use Rattle.sexpr_core.specs.Reading.{StandsAt, ReadsLength, ReadsVerbatim, ReadsString, ReadsValue, ReadsMembers, PassesValue, PassesMembers}
 use Rattle.sexpr_core.proofs.Decimal.{IsDigit, decimal_digit, decimal_more}

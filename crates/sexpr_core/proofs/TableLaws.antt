@@ -1,13 +1,15 @@
 -- Each record of a table is that of its node, and the node's text lies where the record says.
-use Rattle.std.proofs.Common.{◌≡◌, ℕ, zero, suc, ◌+◌, ◌-◌, ◌<◌, List, [], ◌∷◌, ◌++◌, length, get_or, map, Some, None, refl, sym, ap, ◌∙◌, append_assoc, length-append, arith, inr}
-use Rattle.std.specs.Prelude.{slice_range}
-use Rattle.std.proofs.lemmas.List.{take_at, drop_at, append-nil}
+use Rattle.std.proofs.Common.{◌≡◌, ℕ, zero, suc, ◌+◌, ◌-◌, ◌<◌, ◌≤◌, List, [], ◌∷◌, ◌++◌, length, get_or, map, Some, None, refl, sym, ap, ◌∙◌, append_assoc, length-append, arith, inr}
+use Rattle.std.specs.Prelude.{slice_range, slice_get}
+use Rattle.std.proofs.lemmas.List.{take_at, drop_at, append-nil, map-append, length-map}
+use Rattle.std.proofs.lemmas.Option.{slice_get_past}
 use Rattle.sexpr_core.specs.declared.layout.Record.{Record}
 use Rattle.sexpr_core.specs.Value.{Value, string, list, Values, none, more, canon, canons, verbatim, decimal, size, nodes, nodes_all, plain}
 use Rattle.sexpr_core.specs.Labels.{label, tree-labels}
 use Rattle.sexpr_core.specs.Layout.{head, records, records_all}
 use Rattle.sexpr_core.specs.Table.{record_of, label_in, table_value, IsTable}
 use Rattle.sexpr_core.specs.Places.{IsPlace, node_at}
+use Rattle.sexpr_core.specs.Starts.{starts, starts_all, start_of}
 
 -- so for each record and each value in turn
 abbrev pub ArePlaces : List ℕ → List Record → List Value → Type 0
@@ -131,3 +133,31 @@ table_length text table v t = ap length t.table_is ∙ length-records v
 
 pub table_place : (text : List ℕ) (table : List Record) (v : Value) (n : ℕ) (r : Record) → IsTable text table v → n < size v → IsPlace (canon v) (get_or table n r) (node_at v n)
 table_place text table v n r t lt = rw t.table_is (node_place v n r (plain []) lt)
+
+mutual
+  starts_shown : (at : ℕ) (v : Value) → map (λ (r : Record). r.start) (records at v) ≡ starts at v
+  starts_shown at (string hint octets) = refl
+  starts_shown at (list vs) = ap (λ (l : List ℕ). at ∷ l) (starts_all_shown (at + 1) vs)
+
+  starts_all_shown : (at : ℕ) (vs : Values) → map (λ (r : Record). r.start) (records_all at vs) ≡ starts_all at vs
+  starts_all_shown at none = refl
+  starts_all_shown at (more v vs) =
+      map-append (λ (r : Record). r.start) (records at v) (records_all (at + length (canon v)) vs)
+      ∙ rw (starts_shown at v, starts_all_shown (at + length (canon v)) vs) refl
+
+start_get : (rs : List Record) (n : ℕ) (r : Record) → n < length rs → slice_get (map (λ (s : Record). s.start) rs) n ≡ Some (get_or rs n r).start
+start_get [] n r lt = absurd (omega arith)
+start_get (s ∷ rs) zero r lt = refl
+start_get (s ∷ rs) (suc n) r lt = start_get rs n r (omega arith)
+
+-- where node n begins is what its record says
+pub table_start : (text : List ℕ) (table : List Record) (v : Value) (n : ℕ) (r : Record) → IsTable text table v → n < size v → start_of v n ≡ Some (get_or table n r).start
+table_start text table v n r t lt =
+    ap (λ (l : List ℕ). slice_get l n) (sym (starts_shown 0 v))
+    ∙ start_get (records 0 v) n r (omega (arith, length-records v))
+    ∙ ap (λ (rs : List Record). Some (get_or rs n r).start) (sym t.table_is)
+
+-- no node begins past the last one
+pub starts_end : (v : Value) (n : ℕ) → size v ≤ n → start_of v n ≡ None
+starts_end v n le =
+    slice_get_past (starts 0 v) n (omega (arith, ap length (sym (starts_shown 0 v)), length-map (records 0 v) (λ (r : Record). r.start), length-records v))

@@ -5,7 +5,8 @@ use Rattle.sexpr_core.specs.declared.fault.FormFault.{FormFault}
 use Rattle.sexpr_core.specs.declared.fault.FormFault.TheVariants.{TooLong, TooDeep, Short, Bad, Trailing, Memory}
 use Rattle.sexpr_core.specs.declared.layout.Record.{Record}
 use Rattle.sexpr_core.specs.Value.{Value, canon, IsWithinLimits}
-use Rattle.sexpr_core.specs.Prefix.{Begins, Front, Barred, FaultAt}
+use Rattle.sexpr_core.specs.Prefix.{Begins, Front}
+use Rattle.sexpr_core.specs.Inner.PartFaults.{Barred, FaultAt}
 use Rattle.sexpr_core.specs.Texts.{IsCanon, IsCanonWithin}
 use Rattle.sexpr_core.specs.Reading.{ReadsValue}
 use Rattle.sexpr_core.specs.Refusal.{IsShallowText, Refused}

@@ -1,5 +1,6 @@
 -- Why a text in braces is refused (RFC 9804, sections 6.1 and 6.3, within this reader's limits).
 use Rattle.std.specs.Prelude.{◌≡◌, ◌⊎◌, ℕ, ◌+◌, ◌<◌, List, ◌∷◌, ◌++◌, length, take}
+use Rattle.sexpr_core.specs.Characters.{char}
 use Rattle.sexpr_core.specs.declared.fault.FormFault.{FormFault}
 use Rattle.sexpr_core.specs.declared.fault.FormFault.TheVariants.{TooLong, TooDeep, Short, Bad, Trailing, Memory}
 use Rattle.sexpr_core.specs.Limits.{octet_limit}
@@ -16,7 +17,7 @@ pub record BracesDeep (text : List ℕ) : Type 0 where
   pub body : List ℕ
   pub after : List ℕ
   pub octets : List ℕ
-  pub parts : text ≡ before ++ 123 ∷ (body ++ 125 ∷ after)
+  pub parts : text ≡ before ++ char "{" ∷ (body ++ char "}" ∷ after)
   pub spaces_before : AreSpaces before
   pub packed : IsBase64 (visible body) octets
   pub deep : Refused octets TooDeep
@@ -32,7 +33,7 @@ pub record IsShallowBraced (text : List ℕ) : Type 0 where
 pub record OpensBraces (text : List ℕ) : Type 0 where
   pub before : List ℕ
   pub body : List ℕ
-  pub parts : text ≡ before ++ 123 ∷ body
+  pub parts : text ≡ before ++ char "{" ∷ body
   pub spaces_before : AreSpaces before
   pub symbols : AreBodyOctets body
 

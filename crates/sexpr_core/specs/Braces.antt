@@ -2,6 +2,7 @@
 use Rattle.std.specs.Prelude.{◌≡◌, ℕ, ◌<◌, ◌≤◌, List, [], ◌∷◌, ◌++◌, length, drop, replicate}
 use Rattle.base64.specs.Engines.{standard}
 use Rattle.base64.specs.GeneralPurpose.{encode_of, IsBytes}
+use Rattle.sexpr_core.specs.Characters.{char}
 use Rattle.sexpr_core.specs.Limits.{octet_limit}
 use Rattle.sexpr_core.specs.Value.{Value, canon, IsShallow}
 use Rattle.sexpr_core.specs.Spaces.{AreSpaces, visible}
@@ -12,11 +13,11 @@ pub record IsBase64 (symbols octets : List ℕ) : Type 0 where
   pub are_octets : IsBytes octets
   pub missing : ℕ
   pub few : missing ≤ 2
-  pub encoded : symbols ++ replicate missing 61 ≡ encode_of standard octets
+  pub encoded : symbols ++ replicate missing (char "=") ≡ encode_of standard octets
 
 -- the padded base64 of octets, in braces
 abbrev pub in_braces : List ℕ → List ℕ
-in_braces octets = 123 ∷ (encode_of standard octets ++ 125 ∷ [])
+in_braces octets = char "{" ∷ (encode_of standard octets ++ char "}" ∷ [])
 
 -- the transport form of a value: the padded base64 of its canonical text, in braces
 abbrev pub transport : Value → List ℕ
@@ -28,7 +29,7 @@ pub record Braced (text : List ℕ) (v : Value) : Type 0 where
   pub before : List ℕ
   pub body : List ℕ
   pub after : List ℕ
-  pub parts : text ≡ before ++ 123 ∷ (body ++ 125 ∷ after)
+  pub parts : text ≡ before ++ char "{" ∷ (body ++ char "}" ∷ after)
   pub spaces_before : AreSpaces before
   pub packed : IsBase64 (visible body) (canon v)
   pub spaces_after : AreSpaces after

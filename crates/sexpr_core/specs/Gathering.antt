@@ -1,6 +1,7 @@
 -- What is gathered of a body in base64: all but its whitespace.
 use Rattle.std.specs.Prelude.{◌≡◌, ℕ, ◌<◌, ◌≤◌, ◌==◌, ◌||◌, ◌&&◌, nat_le, Bool, true, false, List, [], ◌∷◌, ◌++◌, length, drop}
 use Rattle.std.specs.List.{AllByRecursion}
+use Rattle.sexpr_core.specs.Characters.{char}
 use Rattle.sexpr_core.specs.declared.fault.FormFault.{FormFault}
 use Rattle.sexpr_core.specs.declared.fault.FormFault.TheVariants.{TooLong, TooDeep, Short, Bad, Trailing, Memory}
 use Rattle.sexpr_core.specs.Reading.{StandsAt}
@@ -8,7 +9,7 @@ use Rattle.sexpr_core.specs.Spaces.{is_whitespace, visible}
 
 -- a symbol of the standard alphabet, or =
 abbrev pub is_symbol : ℕ → Bool
-is_symbol c = (nat_le 65 c && nat_le c 90) || (nat_le 97 c && nat_le c 122) || (nat_le 48 c && nat_le c 57) || (c == 43) || (c == 47) || (c == 61)
+is_symbol c = (nat_le (char "A") c && nat_le c (char "Z")) || (nat_le (char "a") c && nat_le c (char "z")) || (nat_le (char "0") c && nat_le c (char "9")) || (c == char "+") || (c == char "/") || (c == char "=")
 
 abbrev pub is_body_octet : ℕ → Bool
 is_body_octet c = is_whitespace c || is_symbol c

@@ -15,9 +15,12 @@ pub mod Texts
 pub mod Reading
 pub mod Refusal
 pub mod Spaces
+pub mod Starts
+pub mod Characters
 pub mod Braces
 pub mod Bounds
 pub mod BraceRefusal
 pub mod Gathering
 pub mod Octets
 pub mod Equality
+pub mod Inner

@@ -1,7 +1,5 @@
--- Beginnings of texts, and what a fault says of the text at which it was met.
-use Rattle.std.specs.Prelude.{◌≡◌, ℕ, suc, ◌+◌, ◌<◌, ◌≤◌, List, ◌++◌, length, take}
-use Rattle.sexpr_core.specs.declared.fault.FormFault.{FormFault}
-use Rattle.sexpr_core.specs.declared.fault.FormFault.TheVariants.{TooLong, TooDeep, Short, Bad, Trailing, Memory}
+-- Beginnings of texts.
+use Rattle.std.specs.Prelude.{ℕ, ◌+◌, ◌<◌, ◌≤◌, List, ◌++◌, length, take}
 
 -- the octets are a prefix of a text of T
 pub record Begins (T : List ℕ → Type 0) (xs : List ℕ) : Type 0 where
@@ -14,47 +12,8 @@ pub record Front (T : List ℕ → Type 0) (xs : List ℕ) : Type 0 where
   pub some : 0 < length rest
   pub whole : T (xs ++ rest)
 
--- no text of T agrees with them as far as both go
-pub record Barred (T : List ℕ → Type 0) (xs : List ℕ) : Type 0 where
-  pub bars : (t rest after : List ℕ) → T t → xs ++ rest ≡ t ++ after → ⊥
-
--- The octets xs stand from offset `at` on. Those before offset k begin a text of S, and no text of T goes on
--- with the octet there.
-pub record IsBad (T S : List ℕ → Type 0) (at : ℕ) (xs : List ℕ) (k : ℕ) : Type 0 where
-  pub place : ℕ
-  pub offset : k ≡ at + place
-  pub within : place < length xs
-  pub before : Front S (take place xs)
-  pub stops : Barred T (take (suc place) xs)
-
--- Some texts of T go on with the octet at a place, and none of S.
-pub record IsDeep (T S : List ℕ → Type 0) (xs : List ℕ) : Type 0 where
-  pub place : ℕ
-  pub within : place < length xs
-  pub before : Front T (take (suc place) xs)
-  pub stops : Barred S (take (suc place) xs)
-
--- What a fault says of the octets xs that stand from offset `at` on, where texts of a sort were looked for: T
--- are the texts of that sort, and S those among them that are within the limit on depth.
-abbrev pub FaultAt : (T S : List ℕ → Type 0) → ℕ → List ℕ → FormFault → Type 0
-FaultAt T S at xs TooLong = ⊥
-FaultAt T S at xs TooDeep = IsDeep T S xs
-FaultAt T S at xs Short = Front S xs
-FaultAt T S at xs (Bad k) = IsBad T S at xs k
-FaultAt T S at xs (Trailing k) = ⊥
-FaultAt T S at xs Memory = Unit {0}
-
 -- No text of T begins with the octets of a text up to and with that at offset k, which is no earlier than offset `at`.
 pub record StopsAt (T : List ℕ → Type 0) (text : List ℕ) (at k : ℕ) : Type 0 where
   pub behind : at ≤ k
   pub within : k < length text
   pub none : Begins T (take (k + 1) text) → ⊥
-
--- What a fault says of a text of which a part was looked for, from an offset on: T are the texts that have it there.
-abbrev pub RefusesPart : (T : List ℕ → Type 0) → List ℕ → ℕ → FormFault → Type 0
-RefusesPart T text at TooLong = ⊥
-RefusesPart T text at TooDeep = ⊥
-RefusesPart T text at Short = Unit {0}
-RefusesPart T text at (Bad k) = StopsAt T text at k
-RefusesPart T text at (Trailing k) = ⊥
-RefusesPart T text at Memory = Unit {0}

@@ -1,5 +1,6 @@
 -- What a step of the reader of canonical form has read of a text, from offset `at` to offset `to`.
 use Rattle.std.specs.Prelude.{◌≡◌, ℕ, ◌+◌, ◌<◌, ◌≤◌, min, List, [], ◌∷◌, ◌++◌, length, drop, Option}
+use Rattle.sexpr_core.specs.Characters.{char}
 use Rattle.sexpr_core.specs.Limits.{octet_limit}
 use Rattle.sexpr_core.specs.Value.{Value, Values, string, members, decimal, verbatim, canon, canons, depth, depths}
 use Rattle.sexpr_core.specs.Layout.{head, records, records_all}
@@ -14,7 +15,7 @@ pub record StandsAt (text : List ℕ) (at octet : ℕ) : Type 0 where
 pub record ReadsLength (text : List ℕ) (at number to : ℕ) : Type 0 where
   pub written : ℕ
   pub capped : number ≡ min written (octet_limit + 1)
-  pub spelled : drop at text ≡ decimal written ++ 58 ∷ drop to text
+  pub spelled : drop at text ≡ decimal written ++ char ":" ∷ drop to text
   pub within : to ≤ length text
 
 -- a string in verbatim form, whose octets begin at `body`
@@ -46,7 +47,7 @@ pub record ReadsValue (room : ℕ) (text : List ℕ) (at to : ℕ) (old new : Li
 pub record ReadsMembers (room : ℕ) (text : List ℕ) (at parts to : ℕ) (old new : List Record) : Type 0 where
   pub items : Values
   pub fits : depths items ≤ room
-  pub spelled : drop at text ≡ canons items ++ 41 ∷ drop to text
+  pub spelled : drop at text ≡ canons items ++ char ")" ∷ drop to text
   pub placed : new ≡ old ++ records_all at items
   pub counted : parts ≡ length (members items)
   pub goes_on : at < to

@@ -1,10 +1,11 @@
 -- Whitespace of advanced form and of the transport form.
 use Rattle.std.specs.Prelude.{◌≡◌, ℕ, ◌≤◌, ◌==◌, ◌&&◌, ◌||◌, nat_le, Bool, not, true, false, List, [], ◌∷◌, ◌++◌, length, drop}
+use Rattle.sexpr_core.specs.Characters.{char}
 use Rattle.std.specs.List.{AllByRecursion, filter}
 
 -- space, horizontal tab, line feed, vertical tab, form feed, carriage return
 abbrev pub is_whitespace : ℕ → Bool
-is_whitespace c = c == 32 || (nat_le 9 c && nat_le c 13)
+is_whitespace c = c == char " " || (nat_le 9 c && nat_le c 13)
 
 abbrev pub IsSpace : ℕ → Type 0
 IsSpace c = is_whitespace c ≡ true

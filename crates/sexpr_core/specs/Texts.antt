@@ -1,5 +1,6 @@
 -- The sorts of texts that a reader of canonical form looks for (RFC 9804, section 6.2).
 use Rattle.std.specs.Prelude.{◌≡◌, ℕ, ◌≤◌, List, [], ◌∷◌, ◌++◌}
+use Rattle.sexpr_core.specs.Characters.{char}
 use Rattle.sexpr_core.specs.Value.{Value, Values, decimal, verbatim, canon, canons, depth, depths}
 
 -- the canonical text of a value
@@ -16,12 +17,12 @@ pub record IsCanonWithin (room : ℕ) (t : List ℕ) : Type 0 where
 -- the members of a list and its closing parenthesis
 pub record IsMembers (t : List ℕ) : Type 0 where
   pub items : Values
-  pub is : t ≡ canons items ++ 41 ∷ []
+  pub is : t ≡ canons items ++ char ")" ∷ []
 
 pub record IsMembersWithin (room : ℕ) (t : List ℕ) : Type 0 where
   pub items : Values
   pub fits : depths items ≤ room
-  pub is : t ≡ canons items ++ 41 ∷ []
+  pub is : t ≡ canons items ++ char ")" ∷ []
 
 -- a string in verbatim form
 pub record IsVerbatim (t : List ℕ) : Type 0 where
@@ -31,9 +32,9 @@ pub record IsVerbatim (t : List ℕ) : Type 0 where
 -- a hinted string behind its hint
 pub record IsClosing (t : List ℕ) : Type 0 where
   pub octets : List ℕ
-  pub is : t ≡ 93 ∷ verbatim octets
+  pub is : t ≡ char "]" ∷ verbatim octets
 
 -- a length and its colon
 pub record IsLength (t : List ℕ) : Type 0 where
   pub number : ℕ
-  pub is : t ≡ decimal number ++ 58 ∷ []
+  pub is : t ≡ decimal number ++ char ":" ∷ []

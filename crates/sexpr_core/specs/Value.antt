@@ -1,6 +1,7 @@
 -- S-expressions as values, and their canonical text (RFC 9804).
 use Rattle.std.specs.Prelude.{ℕ, suc, ◌+◌, ◌≤◌, max, List, [], ◌∷◌, ◌++◌, length, map, Option, Some, None, ◌==◌, slice_get, if◌then◌else◌}
 use Rattle.std.specs.Int.Digits.{digits_of}
+use Rattle.sexpr_core.specs.Characters.{char}
 use Rattle.sexpr_core.specs.Limits.{octet_limit, depth_limit}
 
 mutual
@@ -37,18 +38,18 @@ group vs = list (values vs)
 
 -- a number in decimal, with no leading zero; 0 is "0"
 unfoldable pub decimal : ℕ → List ℕ
-decimal n = if n == 0 then 48 ∷ [] else map (λ digit. 48 + digit) (digits_of 10 n)
+decimal n = if n == 0 then char "0" ∷ [] else map (λ digit. char "0" + digit) (digits_of 10 n)
 
 -- the verbatim form of a string: its length, a colon, its octets
 unfoldable pub verbatim : List ℕ → List ℕ
-verbatim octets = decimal (length octets) ++ 58 ∷ octets
+verbatim octets = decimal (length octets) ++ char ":" ∷ octets
 
 abbrev mutual
   -- the one canonical text of a value: [ hint ] string, or ( members )
   pub canon : Value → List ℕ
   canon (string None octets) = verbatim octets
-  canon (string (Some hint) octets) = 91 ∷ (verbatim hint ++ 93 ∷ verbatim octets)
-  canon (list vs) = 40 ∷ (canons vs ++ 41 ∷ [])
+  canon (string (Some hint) octets) = char "[" ∷ (verbatim hint ++ char "]" ∷ verbatim octets)
+  canon (list vs) = char "(" ∷ (canons vs ++ char ")" ∷ [])
 
   pub canons : Values → List ℕ
   canons none = []

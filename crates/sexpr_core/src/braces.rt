@@ -7,7 +7,7 @@ ghost use Rattle.sexpr_core.specs.Spaces.{AreSpaces, visible};
 ghost use Rattle.sexpr_core.specs.Braces.{in_braces, transport, IsBase64, IsBracedWithin, ReadsBase64, PackedAt};
 ghost use Rattle.sexpr_core.specs.Bounds.{IsFaultAt, IsBodyFault, RefusesBody};
 ghost use Rattle.sexpr_core.specs.BraceRefusal.{RefusesBraces};
-ghost use Rattle.sexpr_core.specs.Prefix.{RefusesPart};
+ghost use Rattle.sexpr_core.specs.Inner.PartFaults.{RefusesPart};
 ghost use Rattle.sexpr_core.specs.Gathering.{is_symbol, is_body_octet, AreBodyOctets, SkipsSymbols, GathersTo, BodyAt, IsBodyEnd};
 
 use crate::checker::check_canonical;

@@ -3,7 +3,7 @@
 ghost use Rattle.std.specs.Prelude.{◌≡◌, ◌<◌, ◌≤◌, ◌↔◌, length, drop, MatchResult, IfErr, OnOk, IsErrOf, IsOkUnless};
 ghost use Rattle.sexpr_core.specs.Value.{Value, canon, IsWithinLimits};
 ghost use Rattle.sexpr_core.specs.Refusal.{Refused};
-ghost use Rattle.sexpr_core.specs.Prefix.{FaultAt};
+ghost use Rattle.sexpr_core.specs.Inner.PartFaults.{FaultAt};
 ghost use Rattle.sexpr_core.specs.Texts.{IsCanon, IsCanonWithin, IsMembers, IsMembersWithin};
 ghost use Rattle.sexpr_core.specs.Reading.{StandsAt, PassesValue, PassesMembers};
 

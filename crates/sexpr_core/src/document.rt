@@ -1,9 +1,10 @@
 //! A canonical text with a table of its nodes.
 
-ghost use Rattle.std.specs.Prelude.{◌≡◌, ◌<◌, ◌^◌, ◌↔◌, length, IfOk, IfErr, IsErrOf, IsOkUnless};
+ghost use Rattle.std.specs.Prelude.{◌≡◌, ◌<◌, ◌^◌, ◌↔◌, length, Some, IfOk, IfErr, IsErrOf, IsOkUnless};
 ghost use Rattle.sexpr_core.specs.Value.{Value, canon, size, node, IsWithinLimits};
 ghost use Rattle.sexpr_core.specs.Refusal.{Refused};
 ghost use Rattle.sexpr_core.specs.Places.{IsPlace, node_at};
+ghost use Rattle.sexpr_core.specs.Starts.{start_of};
 
 use crate::fault::FormFault;
 use crate::handle::Node;
@@ -82,6 +83,7 @@ impl<'a> Doc<'a> {
     pub(crate) fn record(&self, n: usize) -> Record
         requires { n < size self.now }
         ensures place { IsPlace (canon self.now) result (node_at self.now n) }
+        ensures start { start_of self.now n ≡ Some result.start }
         ensures countable { size self.now < 2 ^ 64 }
     {
         self.table[n]

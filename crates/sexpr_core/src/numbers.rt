@@ -4,6 +4,7 @@ ghost use Rattle.std.specs.Prelude.{◌≡◌, ◌<◌, ◌^◌, length, option_
 ghost use Rattle.std.specs.Option.{option_copied};
 ghost use Rattle.sexpr_core.specs.Value.{canon, node, size};
 ghost use Rattle.sexpr_core.specs.Places.{node_at};
+ghost use Rattle.sexpr_core.specs.Starts.{start_of, LiesAt};
 ghost use Rattle.sexpr_core.specs.Parts.{of_node, part_count, part_number, part_at, member_number, members_of, body_of, hint_of};
 
 use crate::document::{Doc, NodeId};
@@ -80,5 +81,18 @@ impl<'a> Doc<'a> {
     {
         let node = self.node(n)?;
         Some(node.slice())
+    }
+
+    /// Where the canonical text of a node begins in the document's text, by octets from 0. So `slice` of the node is
+    /// the part of the text from there on.
+    pub fn start(&self, n: NodeId) -> Option<usize>
+        ensures start { result ≡ start_of self.now n.0 }
+        ensures place { IfSome result (λ at. LiesAt (canon self.now) (canon (node_at self.now n.0)) at) }
+    {
+        if n.0 < self.node_count() {
+            Some(self.record(n.0).start)
+        } else {
+            None
+        }
     }
 }

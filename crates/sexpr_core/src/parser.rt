@@ -4,7 +4,7 @@ ghost use Rattle.std.specs.Prelude.{◌≡◌, ℕ, ◌+◌, ◌<◌, ◌≤◌,
 ghost use Rattle.sexpr_core.specs.Value.{Value, canon, IsWithinLimits};
 ghost use Rattle.sexpr_core.specs.Layout.{records};
 ghost use Rattle.sexpr_core.specs.Refusal.{Refused};
-ghost use Rattle.sexpr_core.specs.Prefix.{FaultAt};
+ghost use Rattle.sexpr_core.specs.Inner.PartFaults.{FaultAt};
 ghost use Rattle.sexpr_core.specs.Texts.{IsCanon, IsCanonWithin, IsMembers, IsMembersWithin, IsLength, IsVerbatim, IsClosing};
 ghost use Rattle.sexpr_core.specs.Reading.{StandsAt, ReadsLength, ReadsVerbatim, ReadsString, ReadsValue, ReadsMembers};
 

@@ -3,7 +3,8 @@ use Rattle.std.proofs.Common.{◌≡◌, ◌≢◌, ℕ, suc, ◌+◌, ◌-◌, 
 use Rattle.std.proofs.lemmas.List.{take_at}
 use Rattle.sexpr_core.specs.declared.fault.FormFault.{FormFault}
 use Rattle.sexpr_core.specs.declared.fault.FormFault.TheVariants.{TooLong, TooDeep, Short, Bad, Trailing, Memory}
-use Rattle.sexpr_core.specs.Prefix.{StopsAt, RefusesPart}
+use Rattle.sexpr_core.specs.Prefix.{StopsAt}
+use Rattle.sexpr_core.specs.Inner.PartFaults.{RefusesPart}
 use Rattle.sexpr_core.specs.Reading.{StandsAt}
 use Rattle.sexpr_core.specs.Spaces.{Skips, AreSpaces, StartsVisible}
 use Rattle.sexpr_core.specs.Value.{Values, string, none, more, depth, depths}

@@ -1,5 +1,6 @@
 -- What stands of a part of a text where a fault is met in it.
 use Rattle.std.specs.Prelude.{◌≡◌, ℕ, suc, ◌+◌, ◌≤◌, Bool, ◌⊎◌, List, [], ◌∷◌, ◌++◌, length, drop}
+use Rattle.sexpr_core.specs.Characters.{char}
 use Rattle.sexpr_core.specs.declared.fault.FormFault.{FormFault}
 use Rattle.sexpr_core.specs.declared.fault.FormFault.TheVariants.{TooLong, TooDeep, Short, Bad, Trailing, Memory}
 use Rattle.sexpr_core.specs.Prefix.{Begins, StopsAt}
@@ -84,7 +85,7 @@ GoesValue room part = Begins (IsValuePart room) part ⊎ IsUnclosedValue room pa
 pub record IsMembersPart (room : ℕ) (text : List ℕ) : Type 0 where
   pub inside : List ℕ
   pub items : Values
-  pub spelled : text ≡ inside ++ 41 ∷ []
+  pub spelled : text ≡ inside ++ char ")" ∷ []
   pub meant : SpellsMembers inside items
   pub fits : depths items ≤ room
 

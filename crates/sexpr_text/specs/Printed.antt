@@ -2,6 +2,7 @@
 use Rattle.std.specs.Prelude.{ℕ, suc, ◌==◌, ◌&&◌, ◌||◌, nat_le, not, Bool, true, false, List, [], ◌∷◌, ◌++◌, Some, None, if◌then◌else◌}
 use Rattle.base64.specs.Engines.{standard}
 use Rattle.base64.specs.GeneralPurpose.{encode_of}
+use Rattle.sexpr_core.specs.Characters.{char}
 use Rattle.sexpr_core.specs.Value.{Value, Values, string, list, none, more}
 use Rattle.sexpr_text.specs.Strings.{is_digit, is_token_octet}
 
@@ -17,30 +18,30 @@ is_token (c ∷ cs) = not (is_digit c) && every is_token_octet (c ∷ cs)
 
 -- 0x20 to 0x7E
 abbrev pub is_printable : ℕ → Bool
-is_printable c = nat_le 32 c && nat_le c 126
+is_printable c = nat_le (char " ") c && nat_le c (char "~")
 
 -- octets between quotes: a backslash before each quote and backslash
 abbrev pub quoted_body : List ℕ → List ℕ
 quoted_body [] = []
-quoted_body (c ∷ cs) = if c == 34 || c == 92 then 92 ∷ c ∷ quoted_body cs else c ∷ quoted_body cs
+quoted_body (c ∷ cs) = if c == char "\"" || c == char "\\" then char "\\" ∷ c ∷ quoted_body cs else c ∷ quoted_body cs
 
 -- a string without hint: a token where it is one; else quoted where all its octets are printable; else base64
 unfoldable pub printed_string : List ℕ → List ℕ
 printed_string octets =
     if is_token octets then octets
-    else if every is_printable octets then 34 ∷ (quoted_body octets ++ 34 ∷ [])
-    else 124 ∷ (encode_of standard octets ++ 124 ∷ [])
+    else if every is_printable octets then char "\"" ∷ (quoted_body octets ++ char "\"" ∷ [])
+    else char "|" ∷ (encode_of standard octets ++ char "|" ∷ [])
 
 -- what stands before the member with this number, from 0
 abbrev pub gap : ℕ → List ℕ
-gap n = if n == 0 then [] else 32 ∷ []
+gap n = if n == 0 then [] else char " " ∷ []
 
 abbrev mutual
   -- hints in brackets directly before the string, one space between members, and no other whitespace
   pub adv : Value → List ℕ
   adv (string None octets) = printed_string octets
-  adv (string (Some hint) octets) = 91 ∷ (printed_string hint ++ 93 ∷ printed_string octets)
-  adv (list vs) = 40 ∷ (adv_all 0 vs ++ 41 ∷ [])
+  adv (string (Some hint) octets) = char "[" ∷ (printed_string hint ++ char "]" ∷ printed_string octets)
+  adv (list vs) = char "(" ∷ (adv_all 0 vs ++ char ")" ∷ [])
 
   -- members, of which the first has this number
   pub adv_all : ℕ → Values → List ℕ

@@ -4,6 +4,7 @@ use Rattle.std.specs.List.{AllByRecursion}
 use Rattle.hex.specs.declared.error.FromHexError.{FromHexError}
 use Rattle.hex.specs.declared.error.FromHexError.TheVariants.{InvalidHexCharacter, OddLength, InvalidStringLength, OutOfMemory}
 use Rattle.hex.specs.Hex.{hex_digit_value, is_hex_digit}
+use Rattle.sexpr_core.specs.Characters.{char}
 use Rattle.sexpr_core.specs.Reading.{StandsAt}
 use Rattle.sexpr_core.specs.declared.fault.FormFault.{FormFault}
 use Rattle.sexpr_core.specs.declared.fault.FormFault.TheVariants.{TooLong, TooDeep, Short, Bad, Trailing, Memory}
@@ -61,7 +62,7 @@ pub record Keeps (text : List ℕ) (at : ℕ) (kept : List ℕ) (to : ℕ) : Typ
 -- octets of a quoted string that stand for themselves
 pub record ReadsPlain (text : List ℕ) (at : ℕ) (octets : List ℕ) (to : ℕ) : Type 0 where
   pub spelled : drop at text ≡ octets ++ drop to text
-  pub plain : AllByRecursion (λ c. (c ≢ 34) × (c ≢ 92)) octets
+  pub plain : AllByRecursion (λ c. (c ≢ char "\"") × (c ≢ char "\\")) octets
   pub ordered : at ≤ to
   pub within : to ≤ length text
 
@@ -172,7 +173,7 @@ pub record ReadsValue (room : ℕ) (text : List ℕ) (at : ℕ) (v : Value) (to 
 -- the members of a list stand at an offset, whitespace round each, and behind the closing parenthesis these octets
 pub record MembersAt (room : ℕ) (text : List ℕ) (at : ℕ) (vs : Values) (rest : List ℕ) : Type 0 where
   pub inside : List ℕ
-  pub spelled : drop at text ≡ inside ++ 41 ∷ rest
+  pub spelled : drop at text ≡ inside ++ char ")" ∷ rest
   pub meant : SpellsMembers inside vs
   pub fits : depths vs ≤ room
 

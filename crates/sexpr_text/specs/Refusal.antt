@@ -1,5 +1,6 @@
 -- What a refusal of a text says of it. A text has at most one.
 use Rattle.std.specs.Prelude.{◌≡◌, ◌⊎◌, ℕ, ◌+◌, ◌<◌, ◌≤◌, List, ◌∷◌, ◌++◌, length, take}
+use Rattle.sexpr_core.specs.Characters.{char}
 use Rattle.sexpr_core.specs.declared.fault.FormFault.{FormFault}
 use Rattle.sexpr_core.specs.declared.fault.FormFault.TheVariants.{TooLong, TooDeep, Short, Bad, Trailing, Memory}
 use Rattle.sexpr_core.specs.Limits.{octet_limit, depth_limit}
@@ -48,7 +49,7 @@ RefusesSpelling text Memory = Unit {0}
 pub record OpensBrace (text : List ℕ) : Type 0 where
   pub before : List ℕ
   pub rest : List ℕ
-  pub parts : text ≡ before ++ 123 ∷ rest
+  pub parts : text ≡ before ++ char "{" ∷ rest
   pub spaces_before : AreSpaces before
 
 -- What a refusal says of a text in any form: one that opens a brace is read as one in braces, any other in advanced form.

@@ -1,5 +1,6 @@
 -- Which texts spell a value in advanced form (RFC 9804, section 6.4).
 use Rattle.std.specs.Prelude.{◌≡◌, ℕ, ◌≤◌, Bool, false, ◌⊎◌, List, [], ◌∷◌, ◌++◌, length, Some, None}
+use Rattle.sexpr_core.specs.Characters.{char}
 use Rattle.sexpr_core.specs.Limits.{octet_limit}
 use Rattle.sexpr_core.specs.Value.{Value, Values, string, list, none, more, IsShallow}
 use Rattle.sexpr_core.specs.Spaces.{AreSpaces}
@@ -14,7 +15,7 @@ pub record IsHinted (ends_token : Bool) (text hint octets : List ℕ) : Type 0 w
   pub behind_hint : List ℕ
   pub behind : List ℕ
   pub octets_text : List ℕ
-  pub spelled : text ≡ 91 ∷ (inside ++ (hint_text ++ (behind_hint ++ 93 ∷ (behind ++ octets_text))))
+  pub spelled : text ≡ char "[" ∷ (inside ++ (hint_text ++ (behind_hint ++ char "]" ∷ (behind ++ octets_text))))
   pub spaces_inside : AreSpaces inside
   pub hint_meant : Simple as_token hint_text hint
   pub spaces_behind_hint : AreSpaces behind_hint
@@ -27,7 +28,7 @@ abbrev mutual
   SpellsAs ends_token text (string None octets) = Simple ends_token text octets
   SpellsAs ends_token text (string (Some hint) octets) = IsHinted ends_token text hint octets
   SpellsAs ends_token text (list vs) =
-      (inside : List ℕ) × (ends_token ≡ false) × (text ≡ 40 ∷ (inside ++ 41 ∷ [])) × SpellsMembers inside vs
+      (inside : List ℕ) × (ends_token ≡ false) × (text ≡ char "(" ∷ (inside ++ char ")" ∷ [])) × SpellsMembers inside vs
 
   -- a text spells members one behind the other, with whitespace round each
   pub SpellsMembers : List ℕ → Values → Type 0

@@ -1,6 +1,7 @@
 -- That a part of a spelling stands at an offset of a text, whatever stands behind it.
 use Rattle.std.specs.Prelude.{◌≡◌, ℕ, ◌+◌, ◌<◌, List, ◌∷◌, ◌++◌, drop, Some, Ok}
 use Rattle.hex.specs.Hex.{hex_digit_value, decode_of}
+use Rattle.sexpr_core.specs.Characters.{char}
 use Rattle.sexpr_core.specs.Value.{Value, Values}
 use Rattle.sexpr_core.specs.Spaces.{visible}
 use Rattle.sexpr_text.specs.Strings.{Piece, piece_text, IsPiece}
@@ -34,7 +35,7 @@ pub record OctalStands (at : ℕ) (text : List ℕ) : Type 0 where
   pub value : ℕ
   pub rest : List ℕ
   pub low : value < 8
-  pub spelled : drop at text ≡ (48 + value) ∷ rest
+  pub spelled : drop at text ≡ (char "0" + value) ∷ rest
 
 -- a hexadecimal body and the mark behind it
 pub record DigitsStand (at : ℕ) (text : List ℕ) : Type 0 where
@@ -42,7 +43,7 @@ pub record DigitsStand (at : ℕ) (text : List ℕ) : Type 0 where
   pub octets : List ℕ
   pub rest : List ℕ
   pub packed : decode_of (visible body) ≡ Ok octets
-  pub spelled : drop at text ≡ body ++ 35 ∷ rest
+  pub spelled : drop at text ≡ body ++ char "#" ∷ rest
 
 -- a string without hint
 pub record StringStands (at : ℕ) (text : List ℕ) : Type 0 where

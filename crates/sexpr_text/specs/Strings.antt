@@ -3,17 +3,18 @@ use Rattle.std.specs.Prelude.{◌≡◌, ◌≢◌, ℕ, ◌+◌, ◌*◌, ◌<�
 use Rattle.std.specs.List.{AllByRecursion}
 use Rattle.hex.specs.Hex.{hex_digit_value, decode_of}
 use Rattle.sexpr_core.specs.Value.{decimal, verbatim}
+use Rattle.sexpr_core.specs.Characters.{char}
 use Rattle.sexpr_core.specs.Spaces.{visible}
 use Rattle.sexpr_core.specs.Braces.{IsBase64}
 
 -- ---- tokens
 
 abbrev pub is_digit : ℕ → Bool
-is_digit c = nat_le 48 c && nat_le c 57
+is_digit c = nat_le (char "0") c && nat_le c (char "9")
 
 -- a letter, a digit, or one of - . / _ : * + =
 abbrev pub is_token_octet : ℕ → Bool
-is_token_octet c = (nat_le 97 c && nat_le c 122) || (nat_le 65 c && nat_le c 90) || (nat_le 45 c && nat_le c 58) || c == 42 || c == 43 || c == 61 || c == 95
+is_token_octet c = (nat_le (char "a") c && nat_le c (char "z")) || (nat_le (char "A") c && nat_le c (char "Z")) || (nat_le (char "-") c && nat_le c (char ":")) || c == char "*" || c == char "+" || c == char "=" || c == char "_"
 
 -- one or more of these, the first of them no digit
 abbrev pub IsToken : List ℕ → Type 0
@@ -31,17 +32,17 @@ IsApart true (c ∷ cs) = is_token_octet c ≡ false
 -- the octet that an octet behind a backslash stands for
 abbrev pub escape_value : ℕ → Option ℕ
 escape_value e =
-    if e == 97 then Some 7
-    else if e == 98 then Some 8
-    else if e == 116 then Some 9
-    else if e == 118 then Some 11
-    else if e == 110 then Some 10
-    else if e == 102 then Some 12
-    else if e == 114 then Some 13
-    else if e == 34 then Some 34
-    else if e == 39 then Some 39
-    else if e == 63 then Some 63
-    else if e == 92 then Some 92
+    if e == char "a" then Some 7
+    else if e == char "b" then Some 8
+    else if e == char "t" then Some 9
+    else if e == char "v" then Some 11
+    else if e == char "n" then Some 10
+    else if e == char "f" then Some 12
+    else if e == char "r" then Some 13
+    else if e == char "\"" then Some (char "\"")
+    else if e == char "'" then Some (char "'")
+    else if e == char "?" then Some (char "?")
+    else if e == char "\\" then Some (char "\\")
     else None
 
 -- What stands between the quotes: an octet for itself; a backslash with an octet that stands for another; with
@@ -57,11 +58,11 @@ pub data Piece : Type 0 where
 
 abbrev pub piece_text : Piece → List ℕ
 piece_text (raw c) = c ∷ []
-piece_text (escaped e c) = 92 ∷ e ∷ []
-piece_text (octal a b c) = 92 ∷ (48 + a) ∷ (48 + b) ∷ (48 + c) ∷ []
-piece_text (hexadecimal h l m n) = 92 ∷ 120 ∷ h ∷ l ∷ []
-piece_text (line c) = 92 ∷ c ∷ []
-piece_text (line_pair c d) = 92 ∷ c ∷ d ∷ []
+piece_text (escaped e c) = char "\\" ∷ e ∷ []
+piece_text (octal a b c) = char "\\" ∷ (char "0" + a) ∷ (char "0" + b) ∷ (char "0" + c) ∷ []
+piece_text (hexadecimal h l m n) = char "\\" ∷ char "x" ∷ h ∷ l ∷ []
+piece_text (line c) = char "\\" ∷ c ∷ []
+piece_text (line_pair c d) = char "\\" ∷ c ∷ d ∷ []
 
 -- the octets meant; a line's end behind a backslash vanishes
 abbrev pub piece_octets : Piece → List ℕ
@@ -80,7 +81,7 @@ StartsOther d (c ∷ cs) = c ≢ d
 -- A piece is right where these octets follow. Of the pairs CRLF and LFCR the longer is taken, so a lone CR is
 -- followed by no LF, and a lone LF by no CR.
 abbrev pub IsPiece : Piece → List ℕ → Type 0
-IsPiece (raw c) rest = (c ≢ 34) × (c ≢ 92)
+IsPiece (raw c) rest = (c ≢ char "\"") × (c ≢ char "\\")
 IsPiece (escaped e c) rest = escape_value e ≡ Some c
 IsPiece (octal a b c) rest = (a < 4) × (b < 8) × (c < 8)
 IsPiece (hexadecimal h l m n) rest = (hex_digit_value h ≡ Some m) × (hex_digit_value l ≡ Some n)
@@ -109,20 +110,20 @@ IsCount count n = (count ≡ []) ⊎ (count ≡ decimal n)
 -- "..", with its pieces
 pub record IsQuoted (text octets : List ℕ) : Type 0 where
   pub pieces : List Piece
-  pub spelled : text ≡ 34 ∷ (pieces_text pieces ++ 34 ∷ [])
+  pub spelled : text ≡ char "\"" ∷ (pieces_text pieces ++ char "\"" ∷ [])
   pub meant : octets ≡ pieces_octets pieces
-  pub right : ArePieces pieces (34 ∷ [])
+  pub right : ArePieces pieces (char "\"" ∷ [])
 
 -- #..#, an even number of hexadecimal digits with whitespace anywhere
 pub record IsHexadecimal (text octets : List ℕ) : Type 0 where
   pub body : List ℕ
-  pub spelled : text ≡ 35 ∷ (body ++ 35 ∷ [])
+  pub spelled : text ≡ char "#" ∷ (body ++ char "#" ∷ [])
   pub packed : decode_of (visible body) ≡ Ok octets
 
 -- |..|, base64 with whitespace anywhere
 pub record IsPacked (text octets : List ℕ) : Type 0 where
   pub body : List ℕ
-  pub spelled : text ≡ 124 ∷ (body ++ 124 ∷ [])
+  pub spelled : text ≡ char "|" ∷ (body ++ char "|" ∷ [])
   pub packed : IsBase64 (visible body) octets
 
 -- a string between marks

@@ -2,6 +2,7 @@
 -- said of how many octets it means, nor whether they are packed rightly.
 use Rattle.std.specs.Prelude.{◌≡◌, ℕ, suc, ◌<◌, ◌≤◌, max, Bool, true, ◌⊎◌, List, [], ◌∷◌, ◌++◌, length}
 use Rattle.std.specs.List.{AllByRecursion}
+use Rattle.sexpr_core.specs.Characters.{char}
 use Rattle.sexpr_core.specs.Gathering.{AreBodyOctets}
 use Rattle.sexpr_core.specs.Spaces.{AreSpaces}
 use Rattle.sexpr_core.specs.Value.{Values, none, more, depths}
@@ -16,20 +17,20 @@ pub record OpensQuoted (text : List ℕ) : Type 0 where
   pub body : List ℕ
   pub more : List ℕ
   pub octets : List ℕ
-  pub spelled : text ≡ 34 ∷ body
+  pub spelled : text ≡ char "\"" ∷ body
   pub some : 0 < length more
   pub whole : IsQuoted (text ++ more) octets
 
 -- #, and hexadecimal digits and whitespace
 pub record OpensHexadecimal (text : List ℕ) : Type 0 where
   pub body : List ℕ
-  pub spelled : text ≡ 35 ∷ body
+  pub spelled : text ≡ char "#" ∷ body
   pub digits : AllByRecursion (λ c. is_hexadecimal_octet c ≡ true) body
 
 -- |, and symbols of base64, = and whitespace
 pub record OpensPacked (text : List ℕ) : Type 0 where
   pub body : List ℕ
-  pub spelled : text ≡ 124 ∷ body
+  pub spelled : text ≡ char "|" ∷ body
   pub symbols : AreBodyOctets body
 
 -- a string between marks without its closing mark
@@ -49,7 +50,7 @@ pub record IsUnclosedString (text : List ℕ) : Type 0 where
 pub record IsUnclosedHint (text : List ℕ) : Type 0 where
   pub inside : List ℕ
   pub last : List ℕ
-  pub spelled : text ≡ 91 ∷ (inside ++ last)
+  pub spelled : text ≡ char "[" ∷ (inside ++ last)
   pub spaces_inside : AreSpaces inside
   pub unclosed : IsUnclosedString last
 
@@ -62,7 +63,7 @@ pub record IsUnclosedHinted (text : List ℕ) : Type 0 where
   pub behind_hint : List ℕ
   pub behind : List ℕ
   pub last : List ℕ
-  pub spelled : text ≡ 91 ∷ (inside ++ (hint_text ++ (behind_hint ++ 93 ∷ (behind ++ last))))
+  pub spelled : text ≡ char "[" ∷ (inside ++ (hint_text ++ (behind_hint ++ char "]" ∷ (behind ++ last))))
   pub spaces_inside : AreSpaces inside
   pub hint_meant : Simple as_token hint_text hint
   pub spaces_behind_hint : AreSpaces behind_hint
@@ -84,7 +85,7 @@ UnclosedMembers U (more v vs) text =
 -- A value that ends inside a string. The lists that are open stand one in the other, each with its whole members.
 abbrev pub UnclosedValue : List Values → List ℕ → Type 0
 UnclosedValue [] text = IsUnclosedAtom text
-UnclosedValue (vs ∷ inner) text = (inside : List ℕ) × (text ≡ 40 ∷ inside) × UnclosedMembers (UnclosedValue inner) vs inside
+UnclosedValue (vs ∷ inner) text = (inside : List ℕ) × (text ≡ char "(" ∷ inside) × UnclosedMembers (UnclosedValue inner) vs inside
 
 -- how many lists are open at once, at the deepest place
 abbrev pub depth_open : List Values → ℕ

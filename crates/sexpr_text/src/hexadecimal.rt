@@ -5,7 +5,7 @@ ghost use Rattle.hex.specs.Hex.{decode_of};
 ghost use Rattle.sexpr_core.specs.Reading.{StandsAt};
 ghost use Rattle.sexpr_core.specs.Bounds.{IsFaultAt};
 ghost use Rattle.sexpr_core.specs.Gathering.{IsBodyEnd};
-ghost use Rattle.sexpr_core.specs.Prefix.{RefusesPart};
+ghost use Rattle.sexpr_core.specs.Inner.PartFaults.{RefusesPart};
 ghost use Rattle.sexpr_text.specs.Reads.{Reads, Keeps, is_hexadecimal_octet, IsNoHexadecimalOctet, IsDigitsFault};
 ghost use Rattle.sexpr_text.specs.Stands.{Stands, DigitsStand};
 ghost use Rattle.sexpr_text.specs.Strings.{IsHexadecimal};

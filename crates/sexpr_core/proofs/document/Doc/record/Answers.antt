@@ -1,7 +1,8 @@
-use Rattle.std.proofs.Common.{ap, subst, ◌≡◌, ◌∙◌, arith, length}
+use Rattle.std.proofs.Common.{ap, subst, ◌≡◌, ◌∙◌, arith, length, Some}
 use Rattle.sexpr_core.specs.Value.{Value, size, canon}
 use Rattle.sexpr_core.specs.Places.{IsPlace, node_at}
-use Rattle.sexpr_core.proofs.TableLaws.{table_length, table_place}
+use Rattle.sexpr_core.specs.Starts.{start_of}
+use Rattle.sexpr_core.proofs.TableLaws.{table_length, table_place, table_start}
 use Rattle.sexpr_core.proofs.document.Doc.record.Goals as goal
 
 pub index-requires : goal.index-requires
@@ -21,3 +22,9 @@ returns-clause-place c =
     let here : (v : Value) → v ≡ c.args.self.now → IsPlace (canon v) c.index.result.now (node_at v c.args.n) → IsPlace (canon c.args.self.now) c.index.result.now (node_at c.args.self.now c.args.n) =
     λ v e p. subst (λ (w : Value). IsPlace (canon w) c.index.result.now (node_at w c.args.n)) e p in
     here _ c.self.view_is (rw c.index.ensures (table_place _ _ _ c.args.n c.index.result.now c.self.invariant (rw c.self.view_is c.requires)))
+
+pub returns-clause-start : goal.returns-clause-start
+returns-clause-start c =
+    let here : (v : Value) → v ≡ c.args.self.now → start_of v c.args.n ≡ Some c.index.result.now.start → start_of c.args.self.now c.args.n ≡ Some c.index.result.now.start =
+    λ v e p. subst (λ (w : Value). start_of w c.args.n ≡ Some c.index.result.now.start) e p in
+    here _ c.self.view_is (rw c.index.ensures (table_start _ _ _ c.args.n c.index.result.now c.self.invariant (rw c.self.view_is c.requires)))

@@ -1,6 +1,6 @@
 //! Authorizations as they are written.
 
-use crate::tuples::{ENTRY, Given, KA, KB, five};
+use crate::reductions::tuples::{ENTRY, Given, KA, KB, five};
 use sexpr_core::encode;
 use std::alloc::Global;
 use std::test::Fail;

@@ -1,6 +1,6 @@
 //! The intersection of tags.
 
-use crate::texts::{list_of, tag_of, text_of};
+use crate::tags::texts::{list_of, tag_of, text_of};
 use spki_tag::{MeetFault, Tag};
 use std::alloc::{AllocError, Global};
 use std::process::Abort;

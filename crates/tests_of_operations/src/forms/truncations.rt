@@ -1,7 +1,7 @@
 //! Beginnings of texts: each proper one is Short.
 
-use crate::refusals::{is_refused, is_refused_in_canonical_form};
-use crate::texts::FIRST_RUN;
+use crate::forms::refusals::{is_refused, is_refused_in_canonical_form};
+use crate::forms::texts::FIRST_RUN;
 use sexpr_core::FormFault::Short;
 use sexpr_text::read_any;
 

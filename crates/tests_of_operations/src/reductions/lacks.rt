@@ -1,6 +1,6 @@
 //! What an authorization lacks to grant what is asked.
 
-use crate::tuples::{ENTRY, Given, KA, KC, date, five, key};
+use crate::reductions::tuples::{ENTRY, Given, KA, KC, date, five, key};
 use sexpr_core::Doc;
 use spki_cert::Policy;
 use spki_reduce::Lack;

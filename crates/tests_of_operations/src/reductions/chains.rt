@@ -1,6 +1,6 @@
 //! Chains.
 
-use crate::tuples::{
+use crate::reductions::tuples::{
     CERTIFICATE, DEFINITION, ENTRY, Given, KA, KB, KC, five, five_for, is_subject, steps,
 };
 use spki_cert::Policy;

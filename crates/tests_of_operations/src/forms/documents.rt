@@ -52,6 +52,7 @@ fn looks_at_nodes(rt: &impl Abort, document: &Doc) {
     assert!(rt; document.part(root, 1) == Some(NodeId(2)));
     assert!(rt; document.part(root, 2) == None);
     assert!(rt; document.slice(NodeId(2)) == Some(b"(1:b)".as_slice()));
+    assert!(rt; document.start(NodeId(2)) == Some(4));
     assert!(rt; document.body(NodeId(1)) == Some(b"a".as_slice()));
 }
 
@@ -62,6 +63,7 @@ fn looks_past_nodes(rt: &impl Abort, document: &Doc, past: NodeId) {
     assert!(rt; document.body(past) == None);
     assert!(rt; document.hint(past) == None);
     assert!(rt; document.slice(past) == None);
+    assert!(rt; document.start(past) == None);
 }
 
 fn looks_at_hint(rt: &impl Abort, document: &Doc) {

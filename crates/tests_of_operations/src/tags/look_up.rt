@@ -1,7 +1,7 @@
 //! The index of a set's members, and the order in which sets meet.
 
-use crate::meetings::{Row, all_meet};
-use crate::texts::tag_of;
+use crate::tags::meetings::{Row, all_meet};
+use crate::tags::texts::tag_of;
 use spki_tag::{Index, Tag};
 use std::alloc::{AllocError, Global};
 use std::process::Abort;

@@ -1,6 +1,8 @@
 //! Two tuples.
 
-use crate::tuples::{CERTIFICATE, DEFINITION, ENTRY, Given, KA, KB, KC, five, four, is_subject};
+use crate::reductions::tuples::{
+    CERTIFICATE, DEFINITION, ENTRY, Given, KA, KB, KC, five, four, is_subject,
+};
 use sexpr_core::encode;
 use spki_cert::{Date, Policy};
 use spki_reduce::{Cause, Five, Four, Issuer, Joined};

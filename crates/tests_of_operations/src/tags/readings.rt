@@ -1,6 +1,6 @@
 //! Tags and requests as they are read.
 
-use crate::texts::{list_of, root_of, tag_of, text_of};
+use crate::tags::texts::{list_of, root_of, tag_of, text_of};
 use sexpr_core::Doc;
 use spki_tag::{Ground, Tag, TagFault};
 use std::alloc::Global;

@@ -1,8 +1,8 @@
 //! Texts at the limits of depth and length.
 
-use crate::conversions::{braced, spelled};
-use crate::refusals::{is_refused, is_refused_in_braces, is_refused_in_canonical_form};
-use crate::texts::repeated;
+use crate::forms::conversions::{braced, spelled};
+use crate::forms::refusals::{is_refused, is_refused_in_braces, is_refused_in_canonical_form};
+use crate::forms::texts::repeated;
 use sexpr_core::FormFault::{Bad, Short, TooDeep, TooLong};
 use sexpr_core::{Doc, FormFault, decode, encode};
 use std::alloc::Global;

@@ -1,4 +1,4 @@
-//! Worked examples of keys, lists, cases and of the program's commands: calls, and runs over memory.
+//! Tests of the worked examples of keys, lists, cases and the program's commands: calls, and runs over memory.
 #![tactic(auto)]
 
 #[cfg(test)]

@@ -1,0 +1,7 @@
+use Rattle.std.proofs.Common.{arith, sym, ◌≡◌, None}
+use Rattle.sexpr_core.specs.Starts.{start_of}
+use Rattle.sexpr_core.proofs.TableLaws.{starts_end}
+use Rattle.sexpr_core.proofs.document.Doc.start.Goals as goal
+
+pub returns-else-n-node_count-clause-start : goal.returns-else-n-node_count-clause-start
+returns-else-n-node_count-clause-start c = sym (starts_end c.args.self.now c.args.n.0 (omega (arith, c.node_count.ensures, c.if-n-node_count.false)))
