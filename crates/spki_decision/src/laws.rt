@@ -30,31 +30,38 @@ pub fn decided_as_explained<V: Verifier>()
         → Agrees explanation decision }
 {}
 
-/// A text has at most one decision, or is refused as `TooLarge`, by one verifier or by the accepted list that it has itself.
+/// A text, and a case, has at most one decision, or is refused as `TooLarge`, by one verifier; a text also by the accepted
+/// list that it has itself.
 pub fn one_decision<V: Verifier>()
     ensures verified { (verifier : V) (text : List ℕ) (c d : Case) (x y : Result Decision GuardFault)
         → IsCaseText text c → IsCaseText text d
         → IsDecided c (V.accepted verifier) x → IsDecided d (V.accepted verifier) y → x ≡ y }
+    ensures same_case { (verifier : V) (c : Case) (x y : Result Decision GuardFault)
+        → IsDecided c (V.accepted verifier) x → IsDecided c (V.accepted verifier) y → x ≡ y }
     ensures own { (text : List ℕ) (c d : Case) (x y : Result Decision GuardFault) → IsCaseText text c → IsCaseText text d
         → IsDecided c (accepted_by c) x → IsDecided d (accepted_by d) y → x ≡ y }
 {}
 
-/// A text has at most one explanation, or is refused as `TooLarge`: the first certificate that fails and the test that it
-/// fails by, or each entry's reason.
+/// A text, and a case, has at most one explanation, or is refused as `TooLarge`: the first certificate that fails and the
+/// test that it fails by, or each entry's reason.
 pub fn one_explanation<V: Verifier>()
     ensures verified { (verifier : V) (text : List ℕ) (c d : Case) (x y : Result Explanation GuardFault)
         → IsCaseText text c → IsCaseText text d
         → IsExplained c (V.accepted verifier) x → IsExplained d (V.accepted verifier) y → AreSame IsSameExplanation x y }
+    ensures same_case { (verifier : V) (c : Case) (x y : Result Explanation GuardFault)
+        → IsExplained c (V.accepted verifier) x → IsExplained c (V.accepted verifier) y → AreSame IsSameExplanation x y }
     ensures own { (text : List ℕ) (c d : Case) (x y : Result Explanation GuardFault) → IsCaseText text c → IsCaseText text d
         → IsExplained c (accepted_by c) x → IsExplained d (accepted_by d) y → AreSame IsSameExplanation x y }
 {}
 
-/// A text has at most one reduction, or is refused as `TooLarge`: the first certificate that fails and the test that it
-/// fails by, or what each entry becomes.
+/// A text, and a case, has at most one reduction, or is refused as `TooLarge`: the first certificate that fails and the test
+/// that it fails by, or what each entry becomes.
 pub fn one_reduction<V: Verifier>()
     ensures verified { (verifier : V) (text : List ℕ) (c d : Case) (x y : Result Reduction GuardFault)
         → IsCaseText text c → IsCaseText text d
         → IsReduced c (V.accepted verifier) x → IsReduced d (V.accepted verifier) y → AreSame IsSameReduction x y }
+    ensures same_case { (verifier : V) (c : Case) (x y : Result Reduction GuardFault)
+        → IsReduced c (V.accepted verifier) x → IsReduced c (V.accepted verifier) y → AreSame IsSameReduction x y }
     ensures own { (text : List ℕ) (c d : Case) (x y : Result Reduction GuardFault) → IsCaseText text c → IsCaseText text d
         → IsReduced c (accepted_by c) x → IsReduced d (accepted_by d) y → AreSame IsSameReduction x y }
 {}

@@ -11,3 +11,6 @@ returns-clause-verified g c verifier =
 
 pub returns-clause-own : goal.returns-clause-own
 returns-clause-own g c = own_of_text IsDecided (λ (x y : Result Decision GuardFault). x ≡ y) decided_one
+
+pub returns-clause-same_case : goal.returns-clause-same_case
+returns-clause-same_case g c verifier k = decided_one k (g.V.Verifier.accepted verifier)

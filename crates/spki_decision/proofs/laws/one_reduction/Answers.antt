@@ -9,3 +9,6 @@ returns-clause-verified g c verifier =
 
 pub returns-clause-own : goal.returns-clause-own
 returns-clause-own g c = own_of_text IsReduced (AreSame IsSameReduction) reduced_one
+
+pub returns-clause-same_case : goal.returns-clause-same_case
+returns-clause-same_case g c verifier k = reduced_one k (g.V.Verifier.accepted verifier)
