@@ -12,3 +12,5 @@ pub mod OneReduction
 pub mod OneDecision
 pub mod Examples
 pub mod Unrefused
+pub mod LeftOut
+pub mod KeptEntries

@@ -12,3 +12,4 @@ pub mod Supported
 pub mod Reduced
 pub mod Explained
 pub mod Answered
+pub mod LeftOut

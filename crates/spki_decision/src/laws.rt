@@ -12,6 +12,12 @@ ghost use Rattle.spki_decision.specs.Decision.{IsDecision, IsUnrefused};
 ghost use Rattle.spki_decision.specs.Reduced.{IsSameReduction};
 ghost use Rattle.spki_decision.specs.Explained.{IsExplanation, IsSameExplanation, Agrees};
 ghost use Rattle.spki_decision.specs.Answered.{IsDecided, IsExplained, IsReduced, AreSame};
+ghost use Rattle.spki_cert.specs.declared.entry.Entry.{Entry};
+ghost use Rattle.spki_reduce.specs.Tuples.{Tuple, five};
+ghost use Rattle.spki_reduce.specs.Views.{entry_tuple};
+ghost use Rattle.spki_reduce.specs.Chain.{TooLargeAt};
+ghost use Rattle.spki_decision.specs.Supported.{Supported};
+ghost use Rattle.spki_decision.specs.LeftOut.{IsLeftOut, IsKept, kept_case, AreRenumbered};
 
 use spki_case::Verifier;
 
@@ -71,4 +77,20 @@ pub fn one_reduction<V: Verifier>()
 pub fn no_refusal<V: Verifier>()
     ensures { (verifier : V) (c : Case) (decision : Decision) → IsDecision c (V.accepted verifier) decision
         → IsUnrefused c (V.accepted verifier) decision → ¬ IsTooLarge c (V.accepted verifier) }
+{}
+
+/// An entry whose subject's principal doesn't name the key of the first issuer, or the asker's key where no certificate is
+/// shown, supports nothing, and no step of its chain is too large.
+pub fn left_out()
+    ensures nothing { (c : Case) (tuples : List Tuple) (e : Entry) → IsLeftOut c tuples e → ¬ Supported c tuples e }
+    ensures small { (c : Case) (tuples : List Tuple) (e : Entry) → IsLeftOut c tuples e
+        → ¬ TooLargeAt c.policy (five (entry_tuple e)) tuples }
+{}
+
+/// So the decision of a list is that of its other entries, with their numbers in the list: entries may be kept anywhere and
+/// looked up by the principal that their subject begins with.
+pub fn decided_by_kept<V: Verifier>()
+    ensures { (verifier : V) (c : Case) (kept : List (ℕ × Entry)) (x y : Result Decision GuardFault)
+        → IsKept c (V.accepted verifier) kept → IsDecided (kept_case c kept) (V.accepted verifier) x
+        → AreRenumbered kept x y → IsDecided c (V.accepted verifier) y }
 {}

@@ -1,0 +1,196 @@
+-- The decision of a part of an access list is that of the list, if only entries are missing that are left out.
+use Rattle.std.proofs.Common.{◌≡◌, ℕ, zero, suc, ◌+◌, ◌<◌, ◌≤◌, List, [], ◌∷◌, Some, None, map, length, slice_get, refl, sym, ap, ◌∙◌, subst, arith, Result, Ok, Err, inl, inr, ◌⊎◌}
+use Rattle.std.proofs.lemmas.Option.{none-some, slice_get_within}
+use Rattle.spki_cert.specs.declared.entry.Entry.{Entry}
+use Rattle.spki_reduce.specs.Tuples.{Tuple, five}
+use Rattle.spki_reduce.specs.Views.{entry_tuple}
+use Rattle.spki_reduce.specs.Chain.{TooLargeAt}
+use Rattle.spki_case.specs.Case.{Case, Verified}
+use Rattle.spki_decision.specs.declared.deciding.Decision.{Decision}
+use Rattle.spki_decision.specs.declared.deciding.Decision.TheVariants.{Yes, No}
+use Rattle.spki_decision.specs.declared.deciding.GuardFault.{GuardFault}
+use Rattle.spki_decision.specs.declared.deciding.GuardFault.TheVariants.{TooLarge, Memory}
+use Rattle.spki_decision.specs.Standing.{AreShown}
+use Rattle.spki_decision.specs.Granted.{Granted, IsFirstGranted, IsNoneGranted, IsTooLarge}
+use Rattle.spki_decision.specs.Supported.{Supported, SmallBefore, AllSmall, SmallUpTo}
+use Rattle.spki_decision.specs.Decision.{IsDecision, IsUnrefused}
+use Rattle.spki_decision.specs.Answered.{IsDecided}
+use Rattle.spki_decision.specs.LeftOut.{IsLeftOut, IsKept, AreKept, second, kept_case, IsRenumbered, AreRenumbered}
+use Rattle.spki_decision.proofs.LeftOut.{supported_named, large_named}
+
+some_pair : (a b : ℕ × Entry) → Some a ≡ Some b → a ≡ b
+some_pair a b e = cc
+
+some_entry : (a b : Entry) → Some a ≡ Some b → a ≡ b
+some_entry a b e = cc
+
+-- ---- places
+
+second_at : (ks : List (ℕ × Entry)) (p n : ℕ) (e : Entry) → slice_get ks p ≡ Some (n, e) → slice_get (map second ks) p ≡ Some e
+second_at [] p n e stands = absurd (none-some (n, e) stands)
+second_at (k ∷ ks) zero n e stands = ap (λ (j : ℕ × Entry). Some j.1) (some_pair k (n, e) stands)
+second_at (k ∷ ks) (suc p) n e stands = second_at ks p n e stands
+
+pair_at : (ks : List (ℕ × Entry)) (p : ℕ) (e : Entry) → slice_get (map second ks) p ≡ Some e → (n : ℕ) × (slice_get ks p ≡ Some (n, e))
+pair_at [] p e stands = absurd (none-some e stands)
+pair_at (k ∷ ks) zero e stands = (k.0, ap (λ (f : Entry). Some (k.0, f)) (some_entry k.1 e stands))
+pair_at (k ∷ ks) (suc p) e stands = pair_at ks p e stands
+
+module _ (Out : Entry → Type 0) where
+  -- the number of what is kept is that of its place in the list
+  pub listed : (n : ℕ) (es : List Entry) (ks : List (ℕ × Entry)) (p m : ℕ) (e : Entry) → AreKept Out n es ks → slice_get ks p ≡ Some (m, e)
+      → (place : ℕ) × (m ≡ n + place) × (slice_get es place ≡ Some e)
+  listed n es [] p m e kept stands = absurd (none-some (m, e) stands)
+  listed n [] (k ∷ ks) p m e kept stands = absurd kept
+  listed n (f ∷ es) (k ∷ ks) p m e (inl out) stands =
+      let later = listed (suc n) es (k ∷ ks) p m e out.1 stands in
+      (suc later.0, omega (arith, later.1), later.2)
+  listed n (f ∷ es) (k ∷ ks) zero m e (inr here) stands =
+      let same : (m, e) ≡ (n, f) = sym (some_pair k (m, e) stands) ∙ here.0 in
+      (0, omega (arith, ap (λ (j : ℕ × Entry). j.0) same), ap (λ (j : ℕ × Entry). Some j.1) (sym same))
+  listed n (f ∷ es) (k ∷ ks) (suc p) m e (inr here) stands =
+      let later = listed (suc n) es ks p m e here.1 stands in
+      (suc later.0, omega (arith, later.1), later.2)
+
+  -- an entry that isn't left out is kept
+  pub found : (n : ℕ) (es : List Entry) (ks : List (ℕ × Entry)) (place : ℕ) (e : Entry) → AreKept Out n es ks → slice_get es place ≡ Some e
+      → ¬ Out e → (p : ℕ) × (slice_get ks p ≡ Some (n + place, e))
+  found n [] ks place e kept stands in_it = absurd (none-some e stands)
+  found n (f ∷ es) [] zero e kept stands in_it = absurd (in_it (subst Out (some_entry f e stands) kept.0))
+  found n (f ∷ es) [] (suc place) e kept stands in_it =
+      let later = found (suc n) es [] place e kept.1 stands in_it in
+      absurd (none-some (suc n + place, e) later.1)
+  found n (f ∷ es) (k ∷ ks) zero e (inl out) stands in_it = absurd (in_it (subst Out (some_entry f e stands) out.0))
+  found n (f ∷ es) (k ∷ ks) (suc place) e (inl out) stands in_it =
+      let later = found (suc n) es (k ∷ ks) place e out.1 stands in_it in
+      let moved : suc n + place ≡ n + suc place = omega arith in
+      (later.0, later.1 ∙ ap (λ (m : ℕ). Some (m, e)) moved)
+  found n (f ∷ es) (k ∷ ks) zero e (inr here) stands in_it =
+      let first : n ≡ n + 0 = omega arith in
+      (0, ap Some here.0 ∙ ap (λ (g : Entry). Some (n, g)) (some_entry f e stands) ∙ ap (λ (m : ℕ). Some (m, e)) first)
+  found n (f ∷ es) (k ∷ ks) (suc place) e (inr here) stands in_it =
+      let later = found (suc n) es ks place e here.1 stands in_it in
+      let moved : suc n + place ≡ n + suc place = omega arith in
+      (suc later.0, later.1 ∙ ap (λ (m : ℕ). Some (m, e)) moved)
+
+  -- numbers are no less than that of the first, and they grow
+  pub from_first : (n : ℕ) (es : List Entry) (ks : List (ℕ × Entry)) (p m : ℕ) (e : Entry) → AreKept Out n es ks → slice_get ks p ≡ Some (m, e) → n ≤ m
+  from_first n es ks p m e kept stands = let l = listed n es ks p m e kept stands in omega (arith, l.1)
+
+  pub growing : (n : ℕ) (es : List Entry) (ks : List (ℕ × Entry)) (p q i j : ℕ) (e f : Entry) → AreKept Out n es ks → p < q
+      → slice_get ks p ≡ Some (i, e) → slice_get ks q ≡ Some (j, f) → i < j
+  growing n es [] p q i j e f kept less at_p at_q = absurd (none-some (i, e) at_p)
+  growing n [] (k ∷ ks) p q i j e f kept less at_p at_q = absurd kept
+  growing n (g ∷ es) (k ∷ ks) p q i j e f (inl out) less at_p at_q = growing (suc n) es (k ∷ ks) p q i j e f out.1 less at_p at_q
+  growing n (g ∷ es) (k ∷ ks) p zero i j e f (inr here) less at_p at_q = absurd (omega (arith, less))
+  growing n (g ∷ es) (k ∷ ks) zero (suc q) i j e f (inr here) less at_p at_q =
+      let same : (i, e) ≡ (n, g) = sym (some_pair k (i, e) at_p) ∙ here.0 in
+      let later = from_first (suc n) es ks q j f here.1 at_q in
+      omega (arith, later, ap (λ (l : ℕ × Entry). l.0) same)
+  growing n (g ∷ es) (k ∷ ks) (suc p) (suc q) i j e f (inr here) less at_p at_q =
+      growing (suc n) es ks p q i j e f here.1 (omega (arith, less)) at_p at_q
+
+-- ---- decisions
+
+module _ (c : Case) (verified : Verified) (kept : List (ℕ × Entry)) (are_kept : IsKept c verified kept) where
+  -- what is granted of the list is granted of the part
+  granted_kept : (n : ℕ) → (g : Granted n c verified)
+      → (p : ℕ) × (slice_get kept p ≡ Some (n, g.entry)) × Granted (suc p) (kept_case c kept) verified
+  granted_kept n g =
+      let s : Supported c g.tuples g.entry = record { tree = g.tree; leaves_are = g.leaves_are; supports = g.supports } in
+      let p = found (IsLeftOut c g.tuples) 1 c.entries kept g.place g.entry (are_kept g.tuples g.shown) g.stands (λ out. out (supported_named c g.tuples g.entry s)) in
+      let number : 1 + g.place ≡ n = omega (arith, g.numbered) in
+      let stands = p.1 ∙ ap (λ (m : ℕ). Some (m, g.entry)) number in (
+        p.0,
+        stands,
+        record {
+          place = p.0;
+          numbered = refl;
+          entry = g.entry;
+          stands = second_at kept p.0 n g.entry stands;
+          tuples = g.tuples;
+          shown = g.shown;
+          tree = g.tree;
+          leaves_are = g.leaves_are;
+          supports = g.supports;
+        },
+      )
+
+  -- and the other way round
+  kept_granted : (p n : ℕ) (e : Entry) → slice_get kept p ≡ Some (n, e) → Granted (suc p) (kept_case c kept) verified → Granted n c verified
+  kept_granted p n e stands g =
+      let place_is : g.place ≡ p = omega (arith, g.numbered) in
+      let here : slice_get (map second kept) p ≡ Some g.entry = subst (λ (q : ℕ). slice_get (map second kept) q ≡ Some g.entry) place_is g.stands in
+      let same : g.entry ≡ e = some_entry g.entry e (sym here ∙ second_at kept p n e stands) in
+      let l = listed (IsLeftOut c g.tuples) 1 c.entries kept p n e (are_kept g.tuples g.shown) stands in
+      record {
+        place = l.0;
+        numbered = omega (arith, l.1);
+        entry = e;
+        stands = l.2;
+        tuples = g.tuples;
+        shown = g.shown;
+        tree = g.tree;
+        leaves_are = g.leaves_are ∙ ap (λ (f : Entry). five (entry_tuple f) ∷ g.tuples) same;
+        supports = g.supports;
+      }
+
+  -- no chain of the list up to a number is too large, if none of the part's is up to its place
+  small_kept : (tuples : List Tuple) → AreShown c.policy verified c.items tuples → (p bound : ℕ)
+      → ((q m : ℕ) (e : Entry) → m ≤ bound → slice_get kept q ≡ Some (m, e) → q < p)
+      → SmallBefore (kept_case c kept) tuples p → SmallBefore c tuples bound
+  small_kept tuples shown p bound below small k e less stands large =
+      let q = found (IsLeftOut c tuples) 1 c.entries kept k e (are_kept tuples shown) stands (λ out. out (large_named c tuples e large)) in
+      small q.0 e (below q.0 (1 + k) e (omega (arith, less)) q.1) (second_at kept q.0 (1 + k) e q.1) large
+
+  -- an earlier number stands at an earlier place
+  earlier : (tuples : List Tuple) → AreShown c.policy verified c.items tuples → (p q n m : ℕ) (e f : Entry)
+      → slice_get kept p ≡ Some (n, e) → slice_get kept q ≡ Some (m, f) → m ≤ n → q ≤ p
+  earlier tuples shown p q n m e f at_p at_q less =
+      let not_more : ¬ (p < q) = λ more. absurd (omega (arith, less, growing (IsLeftOut c tuples) 1 c.entries kept p q n m e f (are_kept tuples shown) more at_p at_q)) in
+      omega (arith, not_more)
+
+  pub renumbered : (x y : Result Decision GuardFault) → IsDecided (kept_case c kept) verified x → AreRenumbered kept x y → IsDecided c verified y
+  renumbered (Ok (Yes m)) (Ok (Yes n)) d r =
+      let place = r.0 in
+      let g : Granted (suc place) (kept_case c kept) verified = subst (λ (j : ℕ). Granted j (kept_case c kept) verified) r.2 d.0.granted in (
+        record {
+          granted = kept_granted place n r.1 r.3 g;
+          none_before = λ k less h.
+              let p = granted_kept k h in
+              let before = earlier h.tuples h.shown place p.0 n k r.1 h.entry r.3 p.1 (omega (arith, less)) in
+              let other : ¬ (p.0 ≡ place) = λ same. absurd (omega (arith, less, ap (λ (j : ℕ × Entry). j.0) (some_pair (k, h.entry) (n, r.1) (sym p.1 ∙ ap (λ (q : ℕ). slice_get kept q) same ∙ r.3)))) in
+              d.0.none_before (suc p.0) (omega (arith, before, other, r.2)) p.2;
+        },
+        λ tuples shown.
+            small_kept tuples shown m n (λ q k e less at. omega (arith, r.2, earlier tuples shown place q n k r.1 e r.3 at less)) (d.1 tuples shown),
+      )
+  renumbered (Ok (Yes m)) (Ok No) d r = absurd r
+  renumbered (Ok No) (Ok (Yes n)) d r = absurd r
+  renumbered (Ok No) (Ok No) d r = (
+    λ n g. let p = granted_kept n g in d.0 (suc p.0) p.2,
+    λ tuples shown.
+        small_kept tuples shown (length (map second kept)) (length c.entries)
+        (λ q k e less at. slice_get_within (map second kept) q e (second_at kept q k e at)) (d.1 tuples shown),
+  )
+  renumbered (Ok d) (Err fault) k r = absurd r
+  renumbered (Err fault) (Ok d) k r = absurd r
+  renumbered (Err TooLarge) (Err TooLarge) large r =
+      let pair = pair_at kept large.place large.entry large.stands in
+      let l = listed (IsLeftOut c large.tuples) 1 c.entries kept large.place pair.0 large.entry (are_kept large.tuples large.shown) pair.1 in
+      record {
+        place = l.0;
+        entry = large.entry;
+        stands = l.2;
+        none_granted = λ n less g.
+            let p = granted_kept n g in
+            let before = earlier g.tuples g.shown large.place p.0 pair.0 n large.entry g.entry pair.1 p.1 (omega (arith, less, l.1)) in
+            let other : ¬ (p.0 ≡ large.place) = λ same. absurd (omega (arith, less, l.1, ap (λ (j : ℕ × Entry). j.0) (some_pair (n, g.entry) (pair.0, large.entry) (sym p.1 ∙ ap (λ (q : ℕ). slice_get kept q) same ∙ pair.1)))) in
+            large.none_granted (suc p.0) (omega (arith, before, other)) p.2;
+        tuples = large.tuples;
+        shown = large.shown;
+        at = large.at;
+        large = large.large;
+      }
+  renumbered (Err TooLarge) (Err Memory) k r = absurd cc
+  renumbered (Err Memory) y k r = absurd k

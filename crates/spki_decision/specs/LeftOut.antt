@@ -1,0 +1,67 @@
+-- Which entries of an access list a question is about (RFC 2693, section 6.3): those whose subject's principal names the key
+-- of the first issuer, or the asker's key where no certificate is shown.
+use Rattle.std.specs.Prelude.{◌≡◌, ℕ, suc, ◌⊎◌, List, [], ◌∷◌, Option, Some, None, Result, Ok, Err, IsTrue, slice_get, map}
+use Rattle.spki_cert.specs.declared.principal.Policy.{Policy}
+use Rattle.spki_cert.specs.declared.entry.Entry.{Entry}
+use Rattle.spki_cert.specs.Naming.{names}
+use Rattle.spki_reduce.specs.Tuples.{Issuer, own, key, Tuple, five, four}
+use Rattle.spki_case.specs.Case.{Case, Verified}
+use Rattle.spki_decision.specs.Standing.{AreShown}
+use Rattle.spki_decision.specs.declared.deciding.Decision.{Decision}
+use Rattle.spki_decision.specs.declared.deciding.Decision.TheVariants.{Yes, No}
+use Rattle.spki_decision.specs.declared.deciding.GuardFault.{GuardFault}
+
+abbrev pub key_of : Issuer → Option (List ℕ)
+key_of own = None
+key_of (key octets) = Some octets
+
+-- the key that the first of these tuples is issued by; the asker's where there is none
+abbrev pub first_key : List ℕ → List Tuple → Option (List ℕ)
+first_key asker [] = Some asker
+first_key asker (five t ∷ ts) = key_of t.issuer
+first_key asker (four t ∷ ts) = Some t.key
+
+-- The entry's principal names this key.
+abbrev pub IsOf : Policy → Entry → Option (List ℕ) → Type 0
+IsOf policy e None = ⊥
+IsOf policy e (Some octets) = IsTrue (names policy e.subject.principal octets)
+
+-- An entry that is left out: its principal doesn't name the first key.
+abbrev pub IsLeftOut : Case → List Tuple → Entry → Type 0
+IsLeftOut c tuples e = ¬ IsOf c.policy e (first_key c.key tuples)
+
+-- ---- parts of a list
+
+-- Some entries of a list in their order, each with its number, where the first of the list has number n. Those that are not
+-- among them are out.
+abbrev pub AreKept : (Entry → Type 0) → ℕ → List Entry → List (ℕ × Entry) → Type 0
+AreKept Out n [] [] = Unit {0}
+AreKept Out n [] (k ∷ ks) = ⊥
+AreKept Out n (e ∷ es) [] = Out e × AreKept Out (suc n) es []
+AreKept Out n (e ∷ es) (k ∷ ks) =
+    (Out e × AreKept Out (suc n) es (k ∷ ks)) ⊎ ((k ≡ (n, e)) × AreKept Out (suc n) es ks)
+
+-- Of the entries only those may be missing that are left out, where every certificate stands.
+abbrev pub IsKept : Case → Verified → List (ℕ × Entry) → Type 0
+IsKept c verified kept =
+    (tuples : List Tuple) → AreShown c.policy verified c.items tuples → AreKept (IsLeftOut c tuples) 1 c.entries kept
+
+abbrev pub second : ℕ × Entry → Entry
+second k = k.1
+
+-- the case with these entries alone
+abbrev pub kept_case : Case → List (ℕ × Entry) → Case
+kept_case c kept = record c { entries = map second kept }
+
+-- The same decision, where an entry's number in the part is given by its number in the list.
+abbrev pub IsRenumbered : List (ℕ × Entry) → Decision → Decision → Type 0
+IsRenumbered kept (Yes m) (Yes n) = (place : ℕ) × (e : Entry) × (m ≡ suc place) × (slice_get kept place ≡ Some (n, e))
+IsRenumbered kept (Yes m) No = ⊥
+IsRenumbered kept No (Yes n) = ⊥
+IsRenumbered kept No No = Unit {0}
+
+abbrev pub AreRenumbered : List (ℕ × Entry) → Result Decision GuardFault → Result Decision GuardFault → Type 0
+AreRenumbered kept (Ok d) (Ok e) = IsRenumbered kept d e
+AreRenumbered kept (Ok d) (Err fault) = ⊥
+AreRenumbered kept (Err fault) (Ok d) = ⊥
+AreRenumbered kept (Err fault) (Err other) = fault ≡ other
