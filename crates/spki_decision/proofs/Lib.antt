@@ -14,3 +14,4 @@ pub mod Examples
 pub mod Unrefused
 pub mod LeftOut
 pub mod KeptEntries
+pub mod AskedWhole

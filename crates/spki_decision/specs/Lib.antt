@@ -13,3 +13,4 @@ pub mod Reduced
 pub mod Explained
 pub mod Answered
 pub mod LeftOut
+pub mod Asked

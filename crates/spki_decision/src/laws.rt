@@ -1,9 +1,10 @@
 //! Laws of grants, decisions and explanations.
 
-ghost use Rattle.std.specs.Prelude.{◌≡◌, ℕ, List, Result};
+ghost use Rattle.std.specs.Prelude.{◌≡◌, ℕ, List, Result, Ok, Some, slice_get};
 ghost use Rattle.spki_case.specs.Case.{Case, accepted_by};
 ghost use Rattle.spki_case.specs.CaseForm.{IsCaseText};
 ghost use Rattle.spki_decision.specs.declared.deciding.Decision.{Decision};
+ghost use Rattle.spki_decision.specs.declared.deciding.Decision.TheVariants.{No};
 ghost use Rattle.spki_decision.specs.declared.deciding.GuardFault.{GuardFault};
 ghost use Rattle.spki_decision.specs.declared.explaining.Explanation.{Explanation};
 ghost use Rattle.spki_decision.specs.declared.reducing.Reduction.{Reduction};
@@ -17,6 +18,7 @@ ghost use Rattle.spki_reduce.specs.Tuples.{Tuple, five};
 ghost use Rattle.spki_reduce.specs.Views.{entry_tuple};
 ghost use Rattle.spki_reduce.specs.Chain.{TooLargeAt};
 ghost use Rattle.spki_decision.specs.Supported.{Supported};
+ghost use Rattle.spki_decision.specs.Asked.{Signed, asked, IsAccepted, AgreeOn};
 ghost use Rattle.spki_decision.specs.LeftOut.{IsLeftOut, IsKept, kept_case, AreRenumbered};
 
 use spki_case::Verifier;
@@ -93,4 +95,18 @@ pub fn decided_by_kept<V: Verifier>()
     ensures { (verifier : V) (c : Case) (kept : List (ℕ × Entry)) (x y : Result Decision GuardFault)
         → IsKept c (V.accepted verifier) kept → IsDecided (kept_case c kept) (V.accepted verifier) x
         → AreRenumbered kept x y → IsDecided c (V.accepted verifier) y }
+{}
+
+/// Two verifiers that agree on the signatures that they are asked of give the same answers: nothing else that a verifier
+/// accepts counts. The decision is no where one of these signatures isn't accepted.
+pub fn asks_whole<V: Verifier>()
+    ensures refused { (verifier : V) (c : Case) (place : ℕ) (s : Signed) (x : Result Decision GuardFault)
+        → slice_get (asked c) place ≡ Some s → ¬ IsAccepted (V.accepted verifier) s → IsDecided c (V.accepted verifier) x
+        → x ≡ Ok No }
+    ensures decision { (one other : V) (c : Case) (x : Result Decision GuardFault)
+        → AgreeOn (V.accepted one) (V.accepted other) (asked c) → IsDecided c (V.accepted one) x → IsDecided c (V.accepted other) x }
+    ensures explanation { (one other : V) (c : Case) (x : Result Explanation GuardFault)
+        → AgreeOn (V.accepted one) (V.accepted other) (asked c) → IsExplained c (V.accepted one) x → IsExplained c (V.accepted other) x }
+    ensures reduction { (one other : V) (c : Case) (x : Result Reduction GuardFault)
+        → AgreeOn (V.accepted one) (V.accepted other) (asked c) → IsReduced c (V.accepted one) x → IsReduced c (V.accepted other) x }
 {}

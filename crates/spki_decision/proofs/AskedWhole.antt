@@ -1,0 +1,216 @@
+-- Two verifiers that agree on what they are asked give the same answers.
+use Rattle.std.proofs.Common.{◌≡◌, ℕ, zero, suc, slice_get, List, [], ◌∷◌, ◌++◌, Some, None, true, IsTrue, refl, sym, subst, Result, Ok, Err}
+use Rattle.std.specs.List.{AllZip, AllByRecursion}
+use Rattle.std.proofs.lemmas.Option.{none-some}
+use Rattle.spki_cert.specs.declared.principal.Policy.{Policy}
+use Rattle.spki_cert.specs.Naming.{names, is_digest}
+use Rattle.spki_reduce.specs.Tuples.{Tuple}
+use Rattle.spki_case.specs.Case.{Case, Verified}
+use Rattle.spki_case.specs.Sequence.{Shown, issuer_of, octets_of, keys_of, certificates}
+use Rattle.spki_decision.specs.declared.judging.Stop.{Stop}
+use Rattle.spki_decision.specs.declared.judging.Stop.TheVariants.{KeyNotShown, DigestDiffers, SignerDiffers, NotAccepted}
+use Rattle.spki_decision.specs.declared.deciding.Decision.{Decision}
+use Rattle.spki_decision.specs.declared.deciding.Decision.TheVariants.{Yes, No}
+use Rattle.spki_decision.specs.declared.deciding.GuardFault.{GuardFault}
+use Rattle.spki_decision.specs.declared.deciding.GuardFault.TheVariants.{TooLarge, Memory}
+use Rattle.spki_decision.specs.declared.explaining.Explanation.{Explanation}
+use Rattle.spki_decision.specs.declared.explaining.Explanation.TheVariants as explanation
+use Rattle.spki_decision.specs.declared.reducing.Reduction.{Reduction}
+use Rattle.spki_decision.specs.declared.reducing.Reduction.TheVariants as reduction
+use Rattle.spki_decision.specs.Standing.{issuer_key, Stands, StandsAs, FailsBy, FailsAt, AreShown}
+use Rattle.spki_decision.specs.Granted.{Granted, IsFirstGranted, IsTooLarge}
+use Rattle.spki_decision.specs.Decision.{IsDecision, IsUnrefused}
+use Rattle.spki_decision.specs.Explained.{IsExplanation, AreReasons}
+use Rattle.spki_decision.specs.Reduced.{IsReduction, IsFailure, AreFolds, SomeTooLarge}
+use Rattle.spki_decision.specs.Answered.{IsDecided, IsExplained, IsReduced}
+use Rattle.spki_decision.specs.Asked.{Signed, asked_of, asked_with, asked_in, asked, before_all, IsAccepted, AgreeOn}
+
+swap : (one other : Verified) (signatures : List Signed) → AgreeOn one other signatures → AgreeOn other one signatures
+swap one other [] agree = tt
+swap one other (s ∷ signatures) agree = ((agree.0.1, agree.0.0), swap one other signatures agree.1)
+
+-- ---- certificates
+
+module _ (policy : Policy) (keys : List (List ℕ)) (one other : Verified) where
+  stands_asked : (s : Shown) (holder : List ℕ) → (a : Stands policy keys one s holder)
+      → asked_of policy keys s ≡ Some (record { item = s.item; key = holder; message = octets_of s.certificate; value = a.signature.value })
+  stands_asked s holder a = rw (a.issued, a.signed, a.digest, a.signer) refl
+
+  agreed : (s : Shown) (t : Signed) (others : List Signed) → asked_of policy keys s ≡ Some t
+      → AgreeOn one other (before_all (asked_of policy keys s) others)
+      → ((IsAccepted one t → IsAccepted other t) × (IsAccepted other t → IsAccepted one t)) × AgreeOn one other others
+  agreed s t others e agree = rw e at agree
+
+  stands : (s : Shown) (holder : List ℕ) (others : List Signed) → AgreeOn one other (before_all (asked_of policy keys s) others)
+      → Stands policy keys one s holder → Stands policy keys other s holder × AgreeOn one other others
+  stands s holder others agree a =
+      let both = agreed s _ others (stands_asked s holder a) agree in (
+        record {
+          issued = a.issued;
+          signature = a.signature;
+          signed = a.signed;
+          digest = a.digest;
+          signer = a.signer;
+          accepted = both.0.0 a.accepted;
+        },
+        both.1,
+      )
+
+  all_shown : (shown : List Shown) (ts : List Tuple) → AgreeOn one other (asked_in policy keys shown)
+      → AllZip (StandsAs policy keys one) shown ts → AllZip (StandsAs policy keys other) shown ts
+  all_shown [] [] agree a = tt
+  all_shown [] (t ∷ ts) agree a = absurd a
+  all_shown (s ∷ shown) [] agree a = absurd a
+  all_shown (s ∷ shown) (t ∷ ts) agree a =
+      let here = stands s a.0.holder (asked_in policy keys shown) agree a.0.stands in
+      (record { holder = a.0.holder; stands = here.0; tuple_is = a.0.tuple_is }, all_shown shown ts here.1 a.1)
+
+  not_accepted : (s : Shown) (others : List Signed) → AgreeOn one other (before_all (asked_of policy keys s) others)
+      → FailsBy policy keys one s NotAccepted → FailsBy policy keys other s NotAccepted
+  not_accepted s others agree f =
+      let e : asked_of policy keys s ≡ Some (record { item = s.item; key = f.0; message = octets_of s.certificate; value = f.1.value }) =
+      rw (f.2, f.3, f.4, f.5) refl in
+      let both = agreed s _ others e agree in
+      (f.0, f.1, f.2, f.3, f.4, f.5, λ accepted. f.6 (both.0.1 accepted))
+
+  fails_by : (s : Shown) (others : List Signed) (stop : Stop) → AgreeOn one other (before_all (asked_of policy keys s) others)
+      → FailsBy policy keys one s stop → FailsBy policy keys other s stop
+  fails_by s others KeyNotShown agree f = f
+  fails_by s others DigestDiffers agree f = f
+  fails_by s others SignerDiffers agree f = f
+  fails_by s others NotAccepted agree f = not_accepted s others agree f
+
+  all_before : (before : List Shown) (s : Shown) (after : List Shown) (stop : Stop) → AgreeOn one other (asked_in policy keys (before ++ s ∷ after))
+      → AllByRecursion (λ shown. (holder : List ℕ) × Stands policy keys one shown holder) before → FailsBy policy keys one s stop
+      → AllByRecursion (λ shown. (holder : List ℕ) × Stands policy keys other shown holder) before × FailsBy policy keys other s stop
+  all_before [] s after stop agree standing f = (tt, fails_by s (asked_in policy keys after) stop agree f)
+  all_before (b ∷ before) s after stop agree standing f =
+      let here = stands b standing.0.0 (asked_in policy keys (before ++ s ∷ after)) agree standing.0.1 in
+      let later = all_before before s after stop here.1 standing.1 f in
+      (((standing.0.0, here.0), later.0), later.1)
+
+module _ (policy : Policy) (keys : List (List ℕ)) (verified : Verified) where
+  some_signed : (t s : Signed) → Some t ≡ Some s → t ≡ s
+  some_signed t s e = cc
+
+  accepted_here : (t : Signed) (others : List Signed) (place : ℕ) (s : Signed) → IsAccepted verified t
+      → ((p : ℕ) → slice_get others p ≡ Some s → IsAccepted verified s)
+      → slice_get (t ∷ others) place ≡ Some s → IsAccepted verified s
+  accepted_here t others zero s first later stands = subst (λ (u : Signed). IsAccepted verified u) (some_signed t s stands) first
+  accepted_here t others (suc place) s first later stands = later place stands
+
+  -- where every certificate stands, each signature that is asked of is accepted
+  accepted_at : (shown : List Shown) (ts : List Tuple) (place : ℕ) (s : Signed) → AllZip (StandsAs policy keys verified) shown ts
+      → slice_get (asked_in policy keys shown) place ≡ Some s → IsAccepted verified s
+  accepted_at [] ts place s a stands = absurd (none-some s stands)
+  accepted_at (x ∷ shown) [] place s a stands = absurd a
+  accepted_at (x ∷ shown) (t ∷ ts) place s a stands =
+      let parted = rw (stands_asked policy keys verified verified x a.0.holder a.0.stands) at stands in
+      accepted_here _ (asked_in policy keys shown) place s a.0.stands.accepted (λ p e. accepted_at shown ts p s a.1 e) parted
+
+-- ---- cases
+
+-- where one that is asked of isn't accepted no certificate's tuples are shown
+pub no_by : (c : Case) (verified : Verified) (place : ℕ) (s : Signed) (x : Result Decision GuardFault) → slice_get (asked c) place ≡ Some s
+    → ¬ IsAccepted verified s → IsDecided c verified x → x ≡ Ok No
+no_by c verified place s (Ok (Yes n)) stands refused d =
+    absurd (refused (accepted_at c.policy (keys_of c.items) verified (certificates c.items) d.0.granted.tuples place s d.0.granted.shown stands))
+no_by c verified place s (Ok No) stands refused d = refl
+no_by c verified place s (Err TooLarge) stands refused d =
+    absurd (refused (accepted_at c.policy (keys_of c.items) verified (certificates c.items) d.tuples place s d.shown stands))
+no_by c verified place s (Err Memory) stands refused d = absurd d
+
+module _ (c : Case) (one other : Verified) (agree : AgreeOn one other (asked c)) where
+  shown_by : (ts : List Tuple) → AreShown c.policy one c.items ts → AreShown c.policy other c.items ts
+  shown_by ts shown = all_shown c.policy (keys_of c.items) one other (certificates c.items) ts agree shown
+
+  shown_back : (ts : List Tuple) → AreShown c.policy other c.items ts → AreShown c.policy one c.items ts
+  shown_back ts shown = all_shown c.policy (keys_of c.items) other one (certificates c.items) ts (swap one other (asked c) agree) shown
+
+  granted_by : (n : ℕ) → Granted n c one → Granted n c other
+  granted_by n g = record {
+    place = g.place;
+    numbered = g.numbered;
+    entry = g.entry;
+    stands = g.stands;
+    tuples = g.tuples;
+    shown = shown_by g.tuples g.shown;
+    tree = g.tree;
+    leaves_are = g.leaves_are;
+    supports = g.supports;
+  }
+
+  granted_back : (n : ℕ) → Granted n c other → Granted n c one
+  granted_back n g = record {
+    place = g.place;
+    numbered = g.numbered;
+    entry = g.entry;
+    stands = g.stands;
+    tuples = g.tuples;
+    shown = shown_back g.tuples g.shown;
+    tree = g.tree;
+    leaves_are = g.leaves_are;
+    supports = g.supports;
+  }
+
+  failure_by : (item : ℕ) (stop : Stop) → IsFailure c one item stop → IsFailure c other item stop
+  failure_by item stop f =
+      let parted = subst (λ (shown : List Shown). AgreeOn one other (asked_in c.policy (keys_of c.items) shown)) f.fails.parts agree in
+      let both = all_before c.policy (keys_of c.items) one other f.fails.before f.fails.failing f.fails.after stop parted f.fails.standing f.fails.fails in
+      record {
+        fails = record {
+          before = f.fails.before;
+          failing = f.fails.failing;
+          after = f.fails.after;
+          parts = f.fails.parts;
+          standing = both.0;
+          place = f.fails.place;
+          fails = both.1;
+        };
+        none_shown = λ ts shown. f.none_shown ts (shown_back ts shown);
+      }
+
+  large_by : IsTooLarge c one → IsTooLarge c other
+  large_by l = record {
+    place = l.place;
+    entry = l.entry;
+    stands = l.stands;
+    none_granted = λ n less g. l.none_granted n less (granted_back n g);
+    tuples = l.tuples;
+    shown = shown_by l.tuples l.shown;
+    at = l.at;
+    large = l.large;
+  }
+
+  some_large_by : SomeTooLarge c one → SomeTooLarge c other
+  some_large_by l = record { tuples = l.tuples; shown = shown_by l.tuples l.shown; large = l.large }
+
+  decision_by : (d : Decision) → IsDecision c one d → IsDecision c other d
+  decision_by (Yes n) d = record { granted = granted_by n d.granted; none_before = λ m less g. d.none_before m less (granted_back m g) }
+  decision_by No d = λ n g. d n (granted_back n g)
+
+  pub decided_by : (x : Result Decision GuardFault) → IsDecided c one x → IsDecided c other x
+  decided_by (Ok d) a = (decision_by d a.0, λ ts shown. a.1 ts (shown_back ts shown))
+  decided_by (Err TooLarge) a = large_by a
+  decided_by (Err Memory) a = absurd a
+
+  pub explained_by : (x : Result Explanation GuardFault) → IsExplained c one x → IsExplained c other x
+  explained_by (Ok (explanation.Evidence item stop)) a = failure_by item stop a
+  explained_by (Ok (explanation.Entries reasons)) a = record {
+    tuples = a.tuples;
+    shown = shown_by a.tuples a.shown;
+    each = a.each;
+    small = a.small;
+    grants = λ place. (λ e. granted_by _ ((a.grants place).0 e), λ g. (a.grants place).1 (granted_back _ g));
+  }
+  explained_by (Err TooLarge) a = some_large_by a
+  explained_by (Err Memory) a = absurd a
+
+  reduction_by : (r : Reduction) → IsReduction c one r → IsReduction c other r
+  reduction_by (reduction.Evidence item stop) a = failure_by item stop a
+  reduction_by (reduction.Entries folds) a = record { tuples = a.tuples; shown = shown_by a.tuples a.shown; each = a.each; small = a.small }
+
+  pub reduced_by : (x : Result Reduction GuardFault) → IsReduced c one x → IsReduced c other x
+  reduced_by (Ok r) a = (reduction_by r a.0, a.1)
+  reduced_by (Err TooLarge) a = some_large_by a
+  reduced_by (Err Memory) a = absurd a
