@@ -324,3 +324,11 @@ unfolding tag_fault
 read-faultless v t after r =
     subst (λ (u : Value). first_fault (looks 0 (tags_in u)) ≡ None) r.spelled
     (tag-past 0 r.w r.written (omega (arith, r.counted, r.few)))
+
+-- ---- what a caller knows
+
+-- the fault that is named, if memory didn't run out
+pub named-sure : (fault : TagFault) (found : Option TagFault) → IsNamed fault found → fault ≢ faults.Memory → found ≡ Some fault
+unfolding IsNamed
+named-sure fault found (inl e) h = absurd (h e)
+named-sure fault found (inr e) h = e
