@@ -59,7 +59,7 @@ read_value text v w m n = one_value text v w (text_is text v m) (text_is text w 
 
 -- ---- intersections
 
-operands : (a b c d : Value) → intersect_value a b ≡ intersect_value c d → (a ≡ c) × (b ≡ d)
+pub operands : (a b c d : Value) → intersect_value a b ≡ intersect_value c d → (a ≡ c) × (b ≡ d)
 operands a b c d e =
     let both : a ∷ b ∷ [] ≡ c ∷ d ∷ [] = behind_head (codes "intersect") (a ∷ b ∷ []) (c ∷ d ∷ []) e in
     (cc, cc)
@@ -103,7 +103,7 @@ met_or_not v t intersect.TooLarge m n =
 met_or_not v t intersect.Memory m n = n
 
 -- two tags are too large together, or something else is wrong
-large_one : (v : Value) (fault : IntersectFault) → AreTooLarge v → ValueNotMet v fault → fault ≡ intersect.TooLarge
+pub large_one : (v : Value) (fault : IntersectFault) → AreTooLarge v → ValueNotMet v fault → fault ≡ intersect.TooLarge
 large_one v (intersect.Form fault) m n = absurd n
 large_one v intersect.Shape m n = absurd (n m.first m.second m.written)
 large_one v (intersect.First fault) m n =

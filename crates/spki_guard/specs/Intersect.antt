@@ -1,5 +1,5 @@
 -- The intersection of two written tags (RFC 2693, section 6.3.1).
-use Rattle.std.specs.Prelude.{◌≡◌, ◌≢◌, ℕ, ◌*◌, ◌<◌, ◌≤◌, max, ◌&&◌, ◌⊎◌, List, [], ◌∷◌, codes}
+use Rattle.std.specs.Prelude.{◌≡◌, ◌≢◌, ℕ, ◌*◌, ◌<◌, ◌≤◌, max, ◌&&◌, ◌⊎◌, List, [], ◌∷◌, Some, codes}
 use Rattle.sexpr_core.specs.Value.{Value}
 use Rattle.spki_tag.specs.declared.fault.TagFault.{TagFault}
 use Rattle.spki_tag.specs.declared.fault.TagFault.TheVariants as tag_faults
@@ -8,6 +8,7 @@ use Rattle.spki_tag.specs.declared.fault.MeetFault.TheVariants as meet_faults
 use Rattle.spki_tag.specs.Request.{Request, IsRequest}
 use Rattle.spki_tag.specs.Tag.{Tag, IsNormalTag, contains, nodes, ldepth}
 use Rattle.spki_tag.specs.Meet.{meet}
+use Rattle.spki_tag.specs.FaultOf.{tag_fault}
 use Rattle.spki_tag.specs.Faults.{TagShows}
 use Rattle.spki_tag.specs.Read.{ReadsAs, IsNoTag}
 use Rattle.spki_case.specs.CaseForm.{headed}
@@ -39,16 +40,17 @@ pub record Intersects (v : Value) (c : Tag) : Type 0 where
 
 -- ---- refusals
 
--- the value is (intersect A B), and A is no tag
+-- the value is (intersect A B), A is no tag, and the fault is that of A
 pub record NoFirst (v : Value) (fault : TagFault) : Type 0 where
   pub first : Value
   pub second : Value
   pub written : v ≡ intersect_value first second
   pub found : fault ≢ tag_faults.Memory
+  pub named : tag_fault first ≡ Some fault
   pub shows : TagShows fault first
   pub none : IsNoTag fault first
 
--- the value is (intersect A B), A is a tag, and B is none
+-- the value is (intersect A B), A is a tag, B is none, and the fault is that of B
 pub record NoSecond (v : Value) (fault : TagFault) : Type 0 where
   pub first : Value
   pub second : Value
@@ -56,6 +58,7 @@ pub record NoSecond (v : Value) (fault : TagFault) : Type 0 where
   pub a : Tag
   pub first_read : ReadsAs first a
   pub found : fault ≢ tag_faults.Memory
+  pub named : tag_fault second ≡ Some fault
   pub shows : TagShows fault second
   pub none : IsNoTag fault second
 

@@ -6,15 +6,19 @@ ghost use Rattle.spki_guard.specs.declared.answers.Refusal.{Refusal};
 ghost use Rattle.spki_guard.specs.declared.answers.Refusal.TheVariants as refusals;
 ghost use Rattle.spki_guard.specs.declared.answers.Verdict.{Verdict};
 ghost use Rattle.spki_guard.specs.declared.intersection.IntersectFault.TheVariants as intersect;
-ghost use Rattle.spki_guard.specs.Answer.{AnswersRead, RefusesAnswer};
+ghost use Rattle.spki_guard.specs.Answer.{AnswersRead, IsOnCase, RefusesAnswer};
 ghost use Rattle.spki_words.specs.declared.commands.Command.{Command};
 
-/// A text has at most one answer of a command, and where it has one it is refused for nothing but want of memory.
+/// A text has at most one answer of a command, and where it has one it is refused for nothing but want of memory. Two
+/// refusals of a command that is on no case are one, and so is their line, unless memory ran out.
 pub fn one_line()
     ensures same { (command : Command) (text : List ℕ) (x y : Verdict) (output line : List ℕ)
         → AnswersRead command text x output → AnswersRead command text y line → (x ≡ y) × (output ≡ line) }
     ensures answered { (command : Command) (text : List ℕ) (x : Verdict) (output : List ℕ) (refusal : Refusal)
         → AnswersRead command text x output → RefusesAnswer command text refusal → refusal ≡ refusals.Memory }
+    ensures refused { (command : Command) (text : List ℕ) (refusal other : Refusal) → ¬ IsOnCase command
+        → RefusesAnswer command text refusal → RefusesAnswer command text other
+        → refusal ≢ refusals.Memory → other ≢ refusals.Memory → refusal ≡ other }
 {}
 
 /// A text that is refused since tags are too large is refused for nothing else but want of memory.

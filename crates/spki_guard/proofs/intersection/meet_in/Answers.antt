@@ -4,6 +4,7 @@ use Rattle.spki_tag.specs.Read.{ReadsAs}
 use Rattle.spki_tag.specs.Tag.{Tag, nodes, IsNormalTag}
 use Rattle.spki_tag.proofs.Gathered.{IsNormalTag-of}
 use Rattle.spki_tag.proofs.NormalTag.{meet-normal_tag}
+use Rattle.spki_guard.proofs.Operands.{first_refused, second_refused}
 use Rattle.spki_guard.proofs.intersection.meet_in.Goals as goal
 
 normal_read : (v : Value) (t : Tag) → ReadsAs v t → IsNormalTag t
@@ -31,3 +32,14 @@ returns-clause-read c =
       few = met.bounds.0;
       shallow = met.bounds.1;
     }
+
+pub returns-in-Err-clause-refused : goal.returns-in-Err-clause-refused
+returns-in-Err-clause-refused c =
+    first_refused c.args.node.now c.in-Some.operands.first c.in-Some.operands.second c.in-Err.fault c.first_fault.result
+    c.in-Some.ensures c.in-Err.ensures.refused c.in-Err.ensures.shows c.in-Err.ensures.named c.first_fault.ensures
+
+pub returns-in-Err-of-clause-refused : goal.returns-in-Err-of-clause-refused
+returns-in-Err-of-clause-refused c =
+    second_refused c.args.node.now c.in-Some.operands.first c.in-Some.operands.second c.in-Ok.tag c.in-Err-of.fault c.second_fault.result
+    c.in-Some.ensures c.in-Ok.ensures.read c.in-Err-of.ensures.refused c.in-Err-of.ensures.shows c.in-Err-of.ensures.named
+    c.second_fault.ensures

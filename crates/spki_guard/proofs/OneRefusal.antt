@@ -1,0 +1,192 @@
+-- A text has one refusal of a command that is on no case, unless memory ran out.
+use Rattle.std.proofs.Common.{◌≡◌, ◌≢◌, ℕ, ◌+◌, ◌<◌, ◌⊎◌, inl, inr, List, [], ◌++◌, length, take, drop, Some, refl, sym, ap, subst, ◌∙◌, arith, append-nil, length-drop}
+use Rattle.std.proofs.lemmas.List.{take-append-drop}
+use Rattle.sexpr_core.specs.declared.fault.FormFault.{FormFault}
+use Rattle.sexpr_core.specs.declared.fault.FormFault.TheVariants.{TooLong, TooDeep, Short, Bad, Trailing, Memory}
+use Rattle.sexpr_core.specs.Prefix.{Begins, Front}
+use Rattle.sexpr_core.specs.Texts.{IsCanon}
+use Rattle.sexpr_core.specs.Refusal.{IsShallowText, IsOfForm, Refused}
+use Rattle.sexpr_core.specs.Value.{Value, canon, IsShallow}
+use Rattle.sexpr_core.proofs.Refusals.{shallow_text}
+use Rattle.sexpr_core.proofs.Texts.{canon_one}
+use Rattle.sexpr_text.specs.Spelling.{IsTextWithin}
+use Rattle.sexpr_text.proofs.Openings.{one_of_any}
+use Rattle.spki_tag.specs.declared.fault.TagFault.{TagFault}
+use Rattle.spki_tag.specs.FaultOf.{tag_fault}
+use Rattle.spki_case.specs.Case.{Case, accepted_by}
+use Rattle.spki_case.proofs.Unrefused.{one_text, well_formed}
+use Rattle.spki_words.specs.declared.commands.Command.{Command}
+use Rattle.spki_words.specs.declared.commands.Command.TheVariants.{Canonical, Advanced, Transport, Intersect, Reduce, Check, Explain}
+use Rattle.spki_guard.specs.declared.answers.Refusal.{Refusal}
+use Rattle.spki_guard.specs.declared.answers.Refusal.TheVariants as refusals
+use Rattle.spki_guard.specs.declared.intersection.IntersectFault.{IntersectFault}
+use Rattle.spki_guard.specs.declared.intersection.IntersectFault.TheVariants as intersect
+use Rattle.spki_guard.specs.Intersect.{ValueNotMet, TextNotMet}
+use Rattle.spki_guard.specs.Answer.{IsOnCase, HasTooLarge, RefusesValue, RefusesForm, RefusesRead, RefusesAnswer}
+use Rattle.spki_guard.proofs.OneLine.{large_one, operands, read_value}
+
+-- ---- the form of a text
+
+too_long_or : (fault : FormFault) → fault ≢ Memory → (fault ≡ TooLong) ⊎ IsOfForm fault
+too_long_or TooLong found = inl refl
+too_long_or TooDeep found = inr tt
+too_long_or Short found = inr tt
+too_long_or (Bad at) found = inr tt
+too_long_or (Trailing at) found = inr tt
+too_long_or Memory found = absurd (found refl)
+
+form_one : (text : List ℕ) (e f : FormFault) → RefusesForm text e → RefusesForm text f → e ≡ f
+form_one text e f a b = by (too_long_or e a.found) (too_long_or f b.found)
+  where
+    by : (e ≡ TooLong) ⊎ IsOfForm e → (f ≡ TooLong) ⊎ IsOfForm f → e ≡ f
+    by (inl p) q = p ∙ sym (b.long.1 (a.long.0 p))
+    by (inr p) (inl q) = a.long.1 (b.long.0 q) ∙ sym q
+    by (inr p) (inr q) = one_of_any text e f p q a.refused b.refused
+
+-- ---- the canonical form of a value that was read
+
+no_front : (v : Value) → Front IsShallowText (canon v) → ⊥
+no_front v f =
+    let p = canon_one v f.whole.value f.rest [] (f.whole.is ∙ sym (append-nil (canon f.whole.value))) in
+    let some : 0 < length f.rest = f.some in
+    omega (arith, ap length p.1)
+
+begins : (v : Value) (n : ℕ) → Begins IsCanon (take n (canon v))
+begins v n = record { rest = drop n (canon v); whole = record { value = v; is = take-append-drop n (canon v) } }
+
+no_trailing : (v : Value) (at : ℕ) → at < length (canon v) → IsShallowText (take at (canon v)) → ⊥
+no_trailing v at h s =
+    let e : canon s.value ++ drop at (canon v) ≡ canon v ++ [] =
+    ap (λ (t : List ℕ). t ++ drop at (canon v)) (sym s.is) ∙ take-append-drop at (canon v) ∙ sym (append-nil (canon v)) in
+    let p = canon_one s.value v (drop at (canon v)) [] e in
+    omega (arith, ap length p.1, length-drop at (canon v))
+
+-- it is refused for nothing but its length
+long_only : (v : Value) (fault : FormFault) → IsShallow v → fault ≢ Memory → Refused (canon v) fault → fault ≡ TooLong
+long_only v TooLong h found r = refl
+long_only v TooDeep h found r = absurd (shallow_text (canon v) v h refl r)
+long_only v Short h found r = absurd (no_front v r)
+long_only v (Bad at) h found r = absurd (r.2 (begins v (at + 1)))
+long_only v (Trailing at) h found r = absurd (no_trailing v at r.0 r.1)
+long_only v Memory h found r = absurd (found refl)
+
+shallow : (text : List ℕ) (v : Value) → IsTextWithin text v → IsShallow v
+shallow text v (inl m) = m.shallow
+shallow text v (inr m) = m.shallow
+
+-- ---- two tags
+
+fault_one : (v w : Value) (fault other : TagFault) → v ≡ w → tag_fault v ≡ Some fault → tag_fault w ≡ Some other → fault ≡ other
+fault_one v w fault other e a b = let same : Some fault ≡ Some other = sym a ∙ ap tag_fault e ∙ b in cc
+
+module _ (v : Value) where
+  not_met_one : (fault other : IntersectFault) → ValueNotMet v fault → ValueNotMet v other → fault ≡ other
+  not_met_one (intersect.Form e) other m n = absurd m
+  not_met_one intersect.Memory other m n = absurd m
+  not_met_one intersect.Shape (intersect.Form f) m n = absurd n
+  not_met_one intersect.Shape intersect.Shape m n = refl
+  not_met_one intersect.Shape (intersect.First f) m n = absurd (m n.first n.second n.written)
+  not_met_one intersect.Shape (intersect.Second f) m n = absurd (m n.first n.second n.written)
+  not_met_one intersect.Shape intersect.TooLarge m n = absurd (m n.first n.second n.written)
+  not_met_one intersect.Shape intersect.Memory m n = absurd n
+  not_met_one (intersect.First e) (intersect.Form f) m n = absurd n
+  not_met_one (intersect.First e) intersect.Shape m n = absurd (n m.first m.second m.written)
+  not_met_one (intersect.First e) (intersect.First f) m n =
+      let both = operands m.first m.second n.first n.second (sym m.written ∙ n.written) in
+      ap intersect.First (fault_one m.first n.first e f both.0 m.named n.named)
+  not_met_one (intersect.First e) (intersect.Second f) m n =
+      let both = operands m.first m.second n.first n.second (sym m.written ∙ n.written) in
+      let r = n.first_read in
+      absurd (m.found (m.none r.w r.written r.few (r.spelled ∙ sym both.0)))
+  not_met_one (intersect.First e) intersect.TooLarge m n =
+      let both = operands m.first m.second n.first n.second (sym m.written ∙ n.written) in
+      let r = n.first_read in
+      absurd (m.found (m.none r.w r.written r.few (r.spelled ∙ sym both.0)))
+  not_met_one (intersect.First e) intersect.Memory m n = absurd n
+  not_met_one (intersect.Second e) (intersect.Form f) m n = absurd n
+  not_met_one (intersect.Second e) intersect.Shape m n = absurd (n m.first m.second m.written)
+  not_met_one (intersect.Second e) (intersect.First f) m n =
+      let both = operands m.first m.second n.first n.second (sym m.written ∙ n.written) in
+      let r = m.first_read in
+      absurd (n.found (n.none r.w r.written r.few (r.spelled ∙ both.0)))
+  not_met_one (intersect.Second e) (intersect.Second f) m n =
+      let both = operands m.first m.second n.first n.second (sym m.written ∙ n.written) in
+      ap intersect.Second (fault_one m.second n.second e f both.1 m.named n.named)
+  not_met_one (intersect.Second e) intersect.TooLarge m n =
+      let both = operands m.first m.second n.first n.second (sym m.written ∙ n.written) in
+      let r = n.second_read in
+      absurd (m.found (m.none r.w r.written r.few (r.spelled ∙ sym both.1)))
+  not_met_one (intersect.Second e) intersect.Memory m n = absurd n
+  not_met_one intersect.TooLarge other m n = sym (large_one v other m n)
+
+text_not_met_one : (v : Value) (fault other : IntersectFault) → IsShallow v → TextNotMet (canon v) fault
+    → TextNotMet (canon v) other → fault ≡ other
+text_not_met_one v fault other h (inl m) (inl n) =
+    m.is ∙ ap intersect.Form (long_only v m.form h m.found m.refused ∙ sym (long_only v n.form h n.found n.refused)) ∙ sym n.is
+text_not_met_one v fault other h (inl m) (inr n) =
+    absurd (well_formed (canon v) n.value m.form n.within n.written m.found m.refused)
+text_not_met_one v fault other h (inr m) (inl n) =
+    absurd (well_formed (canon v) m.value n.form m.within m.written n.found n.refused)
+text_not_met_one v fault other h (inr m) (inr n) =
+    not_met_one n.value fault other
+    (subst (λ (w : Value). ValueNotMet w fault) (one_text (canon v) m.value n.value m.written n.written) m.is) n.is
+
+-- ---- a command that is on no case
+
+-- only a command on a case is refused for a case
+on_case : (command : Command) (c : Case) → HasTooLarge command c (accepted_by c) → IsOnCase command
+on_case Canonical c large = large
+on_case Advanced c large = large
+on_case Transport c large = large
+on_case Intersect c large = large
+on_case Reduce c large = tt
+on_case Check c large = tt
+on_case Explain c large = tt
+
+-- what else a value is refused for, of a command on no case
+met_fault : (command : Command) (v : Value) (refusal : Refusal) → ¬ IsOnCase command → RefusesValue command v refusal
+    → refusal ≢ refusals.Memory
+    → (fault : IntersectFault) × (refusal ≡ refusals.Intersect fault) × TextNotMet (canon v) fault
+met_fault command v (refusals.Form fault) off r found = absurd r
+met_fault command v (refusals.Intersect fault) off r found = (fault, refl, r.1)
+met_fault command v (refusals.Case fault) off r found = absurd (off r.0)
+met_fault command v (refusals.Decision fault) off r found = absurd (off (on_case command r.case_read r.large))
+met_fault command v (refusals.Rows fault) off r found = absurd r
+met_fault command v refusals.Memory off r found = absurd (found refl)
+
+value_one : (command : Command) (v : Value) (refusal other : Refusal) → ¬ IsOnCase command → IsShallow v
+    → RefusesValue command v refusal → RefusesValue command v other → refusal ≢ refusals.Memory → other ≢ refusals.Memory
+    → refusal ≡ other
+value_one command v refusal other off h r s found known =
+    let m = met_fault command v refusal off r found in
+    let n = met_fault command v other off s known in
+    m.1 ∙ ap refusals.Intersect (text_not_met_one v m.0 n.0 h m.2 n.2) ∙ sym n.1
+
+-- of what a refusal is said: the form of the text, or a value
+data IsSaid (command : Command) (text : List ℕ) (refusal : Refusal) : Type 0 where
+  of_form : (fault : FormFault) → refusal ≡ refusals.Form fault → RefusesForm text fault → IsSaid command text refusal
+  of_value : RefusesRead command text refusal → IsSaid command text refusal
+
+said : (command : Command) (text : List ℕ) (refusal : Refusal) → RefusesAnswer command text refusal
+    → refusal ≢ refusals.Memory → IsSaid command text refusal
+said command text (refusals.Form fault) r found = of_form fault refl r
+said command text (refusals.Intersect fault) r found = of_value r
+said command text (refusals.Case fault) r found = of_value r
+said command text (refusals.Decision fault) r found = of_value r
+said command text (refusals.Rows fault) r found = absurd r
+said command text refusals.Memory r found = absurd (found refl)
+
+pub refusal_one : (command : Command) (text : List ℕ) (refusal other : Refusal) → ¬ IsOnCase command
+    → RefusesAnswer command text refusal → RefusesAnswer command text other
+    → refusal ≢ refusals.Memory → other ≢ refusals.Memory → refusal ≡ other
+refusal_one command text refusal other off r s found known =
+    by (said command text refusal r found) (said command text other s known)
+  where
+    by : IsSaid command text refusal → IsSaid command text other → refusal ≡ other
+    by (of_form e p a) (of_form f q b) = p ∙ ap refusals.Form (form_one text e f a b) ∙ sym q
+    by (of_form e p a) (of_value b) = absurd (a.none b.value b.read)
+    by (of_value a) (of_form f q b) = absurd (b.none a.value a.read)
+    by (of_value a) (of_value b) =
+        value_one command b.value refusal other off (shallow text b.value b.read)
+        (subst (λ (v : Value). RefusesValue command v refusal) (read_value text a.value b.value a.read b.read) a.refused)
+        b.refused found known
