@@ -1,5 +1,5 @@
 -- What is known while subjects and fields are read.
-use Rattle.std.specs.Prelude.{◌≡◌, ◌≢◌, ℕ, ◌⊎◌, Bool, true, false, List, ◌∷◌, ◌++◌, ◌+◌, length, Option, Some, None, Contains, codes, is_some, if◌then◌else◌}
+use Rattle.std.specs.Prelude.{◌≡◌, ◌≢◌, ℕ, ◌⊎◌, Bool, true, false, List, [], ◌∷◌, ◌++◌, ◌+◌, length, Option, Some, None, Contains, codes, is_some, if◌then◌else◌}
 use Rattle.std.specs.Str.{bytes_eq}
 use Rattle.std.specs.List.{AllByRecursion, list_any}
 use Rattle.sexpr_core.specs.Value.{Value, plain, group}
@@ -23,6 +23,9 @@ use Rattle.spki_cert.specs.declared.issuing.CertParts.{CertParts}
 use Rattle.spki_cert.specs.declared.certificate.SeqItem.{SeqItem}
 use Rattle.spki_cert.specs.declared.certificate.SeqItem.TheVariants as items
 use Rattle.spki_cert.specs.declared.fault.CertFault.{CertFault}
+use Rattle.spki_tag.specs.FirstFault.{first_fault, unless}
+use Rattle.spki_cert.specs.declared.hash.HashAlg.{HashAlg}
+use Rattle.spki_cert.specs.FixedFaults.{is_plain, any_octets, is_sized}
 use Rattle.spki_cert.specs.Readings.{DateOf}
 use Rattle.spki_cert.specs.Subjects.{PrincipalOf, plains}
 use Rattle.spki_cert.specs.Fields.{is_headed, Sole, Given, IssuerIn, WhoIn, LimitsAre, ValidOf, IsField, IsCertField, AreFields, propagates, WindowOf}
@@ -51,6 +54,10 @@ AlgShows kind v =
     (w : Value) (rest : List Value)
     → (w ≡ group (plain (codes "hash") ∷ v ∷ rest)) ⊎ (w ≡ group (plain (codes "do") ∷ plain (codes "hash") ∷ v ∷ rest))
     → Shows kind w
+
+-- what is wrong with the digest of an algorithm
+abbrev pub digest_fault : HashAlg → Value → Option CertFaultKind
+digest_fault alg v = first_fault (unless (is_plain any_octets v) kinds.Shape ∷ unless (is_plain (is_sized (Some alg)) v) kinds.DigestLength ∷ [])
 
 -- ---- fields
 

@@ -3,6 +3,9 @@ pub mod Time
 pub mod Readings
 pub mod Subjects
 pub mod Fields
+pub mod Places
+pub mod FixedFaults
+pub mod SubjectFaults
 pub mod Faults
 pub mod Refusals
 pub mod Entries

@@ -2,6 +2,7 @@ pub mod Time
 pub mod Request
 pub mod Tag
 pub mod Faults
+pub mod FirstFault
 pub mod Read
 pub mod Steps
 pub mod Codes
