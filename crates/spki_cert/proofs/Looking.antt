@@ -6,6 +6,7 @@ use Rattle.sexpr_core.specs.Labels.{members-values, values-members}
 use Rattle.sexpr_core.specs.Shapes.{IsNoString, IsNoList, IsNotHeaded}
 use Rattle.spki_tag.specs.FirstFault.{first_fault, unless}
 use Rattle.spki_cert.specs.Fields.{is_headed, behind_head}
+use Rattle.spki_cert.specs.Places.{fault_at, unless_none, sole_fault}
 use Rattle.spki_cert.specs.FixedFaults.{is_plain, any_octets}
 use Rattle.spki_cert.proofs.Groups.{headed-by, behind-group, not-headed}
 
@@ -37,3 +38,24 @@ pub found-none : {A : Type 0} (looks more : List (Option A)) → first_fault loo
 found-none [] more e = refl
 found-none (None ∷ looks) more e = found-none looks more e
 found-none (Some other ∷ looks) more e = absurd (cc)
+
+-- ---- one value and nothing behind it
+
+pub end-some : {A : Type 0} (vs : List Value) (fault : A) → (vs ≡ [] → ⊥) → first_fault (unless_none vs fault ∷ []) ≡ Some fault
+end-some [] fault some = absurd (some refl)
+end-some (v ∷ vs) fault some = refl
+
+pub sole-none : {A : Type 0} (other : A) (fault_of : Value → Option A) (vs : List Value) → vs ≡ [] → sole_fault other fault_of vs ≡ Some other
+sole-none other fault_of vs e = ap (sole_fault other fault_of) e
+
+pub sole-found : {A : Type 0} (other : A) (fault_of : Value → Option A) (vs more : List Value) (v : Value) (found : Option A) → vs ≡ v ∷ more → fault_of v ≡ found
+    → sole_fault other fault_of vs ≡ first_fault (found ∷ unless_none more other ∷ [])
+sole-found {A = A} other fault_of vs more v found e f = ap (sole_fault other fault_of) e ∙ ap (λ (x : Option A). first_fault (x ∷ unless_none more other ∷ [])) f
+
+pub sole-more : {A : Type 0} (other : A) (fault_of : Value → Option A) (vs more : List Value) (v : Value) → vs ≡ v ∷ more → fault_of v ≡ None → (more ≡ [] → ⊥)
+    → sole_fault other fault_of vs ≡ Some other
+sole-more other fault_of vs more v e f some = sole-found other fault_of vs more v None e f ∙ end-some more other some
+
+pub sole-one : {A : Type 0} (other : A) (fault_of : Value → Option A) (vs more : List Value) (v : Value) → vs ≡ v ∷ more → fault_of v ≡ None → more ≡ []
+    → sole_fault other fault_of vs ≡ None
+sole-one other fault_of vs more v e f g = sole-found other fault_of vs more v None e f ∙ ap (λ (ws : List Value). first_fault (unless_none ws other ∷ [])) g

@@ -6,6 +6,8 @@ pub mod Fields
 pub mod Places
 pub mod FixedFaults
 pub mod SubjectFaults
+pub mod FieldFaults
+pub mod ItemFaults
 pub mod Faults
 pub mod Refusals
 pub mod Entries

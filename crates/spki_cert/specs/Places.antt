@@ -1,6 +1,7 @@
 -- What is looked at in a list, by place. The places behind the head are counted from 0.
 use Rattle.std.specs.Prelude.{ℕ, List, [], ◌∷◌, drop, Option, Some, None}
 use Rattle.sexpr_core.specs.Value.{Value}
+use Rattle.spki_tag.specs.FirstFault.{first_fault}
 
 -- what is wrong with the first of some values, or that there is none
 abbrev pub of_first : {A : Type 0} → A → (Value → Option A) → List Value → Option A
@@ -15,3 +16,7 @@ fault_at n missing fault_of vs = of_first missing fault_of (drop n vs)
 abbrev pub unless_none : {A : Type 0} → List Value → A → Option A
 unless_none [] fault = None
 unless_none (v ∷ vs) fault = Some fault
+
+-- one value and nothing behind it: that there is none, what is wrong with it, or that more stand there
+abbrev pub sole_fault : {A : Type 0} → A → (Value → Option A) → List Value → Option A
+sole_fault other fault_of vs = first_fault (fault_at 0 other fault_of vs ∷ unless_none (drop 1 vs) other ∷ [])
