@@ -9,7 +9,8 @@ use Rattle.sexpr_core.proofs.PartLaws.{part_itself}
 use Rattle.spki_tag.specs.declared.fault.TagFault.{TagFault}
 use Rattle.spki_tag.specs.declared.fault.TagFault.TheVariants as faults
 use Rattle.spki_tag.specs.Faults.{TagShows, RequestShows, SomeIs, IsEmptyList, BeginsWithList, IsHinted, AreNoLimits, list_behind, other_word, no_prefix, missing, unknown_list, other_name}
-use Rattle.spki_tag.specs.Steps.{TagShowsAfter, is_hinted, LimitsShow, OrderingShows}
+use Rattle.spki_tag.specs.FaultOf.{is_hinted}
+use Rattle.spki_tag.specs.Steps.{TagShowsAfter, LimitsShow, OrderingShows}
 use Rattle.spki_tag.specs.Tag.{Ordering, ordering_name, starred}
 use Rattle.spki_tag.proofs.OneTag.{apart}
 use Rattle.spki_tag.proofs.Spelling.{shows_after}

@@ -23,3 +23,7 @@ pub mod NormalOf
 pub mod Places
 pub mod Entries
 pub mod Sharing
+pub mod FaultWalk
+pub mod Named
+pub mod NamedRequests
+pub mod Faultless

@@ -3,6 +3,7 @@ pub mod Request
 pub mod Tag
 pub mod Faults
 pub mod FirstFault
+pub mod FaultOf
 pub mod Read
 pub mod Steps
 pub mod Codes

@@ -1,9 +1,11 @@
 -- What the steps of the readers find.
-use Rattle.std.specs.Prelude.{◌≡◌, ◌≢◌, ℕ, ◌+◌, ◌≤◌, Bool, true, false, List, ◌∷◌, ◌++◌, map, Option, Some, None, codes}
+use Rattle.std.specs.Prelude.{◌≡◌, ◌≢◌, ℕ, ◌+◌, ◌≤◌, List, ◌∷◌, ◌++◌, map, Option, Some, codes}
 use Rattle.spki_tag.specs.declared.fault.TagFault.{TagFault}
 use Rattle.sexpr_core.specs.Value.{Value, values, plain}
 use Rattle.sexpr_core.specs.Value as value
 use Rattle.spki_tag.specs.Faults.{TagShows, TagShowsIn, RequestShowsIn, tag_nodes, tag_nodes_all}
+use Rattle.spki_tag.specs.FirstFault.{first_fault}
+use Rattle.spki_tag.specs.FaultOf.{tags_in, tags_in_all, looks, part_fault}
 use Rattle.spki_tag.specs.Request.{Request, requests, AreRequests, request_value}
 use Rattle.spki_tag.specs.Tag.{Tag, Ordering, Limit, IsTag, AreTags, tags, tag_value, ordering_name, limit_values, low_values, up_values, starred, nodes, nodes_all}
 use Rattle.spki_tag.specs.Read.{most_read}
@@ -19,6 +21,14 @@ TagShowsAfter used fault v = TagShowsIn fault (value.nodes v) (used + tag_nodes 
 abbrev pub TagsShowAfter : ℕ → TagFault → List Value → Type 0
 TagsShowAfter used fault vs =
     TagShowsIn fault (value.nodes_all (values vs)) (used + tag_nodes_all (values vs))
+
+-- the first fault of a tag before which so many nodes were counted
+unfoldable pub fault_after : ℕ → Value → Option TagFault
+fault_after used v = first_fault (looks used (tags_in v))
+
+-- the same of the members of a list
+unfoldable pub fault_after_all : ℕ → List Value → Option TagFault
+fault_after_all used vs = first_fault (looks used (tags_in_all (values vs)))
 
 -- A value was read as a tag w, whose normal form is t, with so many nodes counted before and after it.
 pub record IsRead (used : ℕ) (v : Value) (t : Tag) (after : ℕ) : Type 0 where
@@ -39,12 +49,6 @@ pub record AreRead (used : ℕ) (vs : List Value) (ts : List Tag) (after : ℕ) 
   pub few : after ≤ most_read
 
 -- ---- ranges
-
--- a string with a display hint
-abbrev pub is_hinted : Value → Bool
-is_hinted (value.string None octets) = false
-is_hinted (value.string (Some hint) octets) = true
-is_hinted (value.list vs) = false
 
 -- what a fault says of a range whose ordering this is
 abbrev pub OrderingShows : TagFault → Value → Type 0
@@ -68,6 +72,10 @@ LimitsShow fault vs =
 -- what a fault says of the members of a list
 abbrev pub RequestsShow : TagFault → List Value → Type 0
 RequestsShow fault vs = RequestShowsIn fault (value.nodes_all (values vs))
+
+-- the first fault of the members of a list
+unfoldable pub fault_of_requests : List Value → Option TagFault
+fault_of_requests vs = first_fault (map part_fault (value.nodes_all (values vs)))
 
 -- the members of a list were read as requests
 pub record AreReadRequests (vs : List Value) (gs : List Request) : Type 0 where

@@ -1,8 +1,10 @@
 //! Laws of tags and requests: as they are written, of their intersection, and of what tags can share.
 
-ghost use Rattle.std.specs.Prelude.{◌≡◌, ◌*◌, ◌≤◌, ◌&&◌, ℕ, List, true, false, nat_eq};
+ghost use Rattle.std.specs.Prelude.{◌≡◌, ◌*◌, ◌≤◌, ◌↔◌, ◌&&◌, ℕ, List, None, true, false, length, nat_eq};
 ghost use Rattle.std.specs.List.{starts_with};
+ghost use Rattle.sexpr_core.specs.Octets.{HasOctets};
 ghost use Rattle.sexpr_core.specs.Value.{Value};
+ghost use Rattle.spki_tag.specs.FaultOf.{request_fault, tag_fault, tags_in};
 ghost use Rattle.spki_tag.specs.Faults.{tag_nodes};
 ghost use Rattle.spki_tag.specs.Index.{may_share, places_where, tags_at};
 ghost use Rattle.spki_tag.specs.Meet.{least_above, strict_limit, from, meet, nothing, row};
@@ -25,6 +27,22 @@ pub fn one_request()
 /// A value is read as at most one tag.
 pub fn one_reading()
     ensures { (v : Value) (t u : Tag) → ReadsAs v t → ReadsAs v u → t ≡ u }
+{}
+
+/// A value has no fault as a tag exactly if it is a written tag of at most 1,024 nodes.
+pub fn tag_fault_none()
+    ensures { (v : Value) → (tag_fault v ≡ None) ↔ ((w : Tag) × IsTag w × (tag_value w ≡ v) × (nodes w ≤ 1024)) }
+{}
+
+/// A value of octets has no fault as a request exactly if it is a request.
+pub fn request_fault_none()
+    ensures { (v : Value) → HasOctets v
+        → (request_fault v ≡ None) ↔ ((g : Request) × IsRequest g × (request_value g ≡ v)) }
+{}
+
+/// There are as many tags in a value as it has nodes of tags.
+pub fn tags_counted()
+    ensures { (v : Value) → length (tags_in v) ≡ tag_nodes v }
 {}
 
 /// The normal form of a written tag is in normal form, contains the same requests and has no more nodes.

@@ -2,11 +2,12 @@
 
 ghost use Rattle.std.specs.Prelude.{◌≡◌, ◌≢◌, ◌∷◌, [], Some, List, ℕ, IfOk, IfErr, MatchOption, codes};
 ghost use Rattle.std.specs.List.{list_any};
-ghost use Rattle.sexpr_core.specs.Value.{plain, values};
+ghost use Rattle.sexpr_core.specs.Value.{Value, plain, values};
 ghost use Rattle.spki_tag.specs.Leaves.{ordering_of, limit_of, leaf_tag};
 ghost use Rattle.spki_tag.specs.Tag.{Ordering, tag_value, starred, ordering_name, limit_values};
 ghost use Rattle.spki_tag.specs.Faults.{AreNoLimits, TagShows};
-ghost use Rattle.spki_tag.specs.Steps.{is_hinted, AreLimits, IsNoLimit, LimitsShow, OrderingShows};
+ghost use Rattle.spki_tag.specs.FaultOf.{IsNamed, is_hinted, limits_fault, range_fault};
+ghost use Rattle.spki_tag.specs.Steps.{AreLimits, IsNoLimit, LimitsShow, OrderingShows};
 
 use crate::fault::TagFault;
 use crate::leaf::{Leaf, Limit, RangeOrdering};
@@ -52,6 +53,7 @@ fn ordering_named(name: &[u8]) -> Option<RangeOrdering>
 fn read_ordering(name: &Node<'_, '_>) -> Result<RangeOrdering, TagFault>
     ensures read { IfOk result (λ ordering. name.now ≡ plain (ordering_name (ordering_of ordering))) }
     ensures shows { IfErr result (λ fault. OrderingShows fault name.now) }
+    ensures named { IfErr result (λ fault. (vs : List Value) → range_fault (name.now ∷ vs) ≡ Some fault) }
 {
     match name.kind() {
         NodeKind::List(_) => Err(TagFault::RangeOrdering),
@@ -176,6 +178,7 @@ fn values_of<'d, 'a>(
 fn read_limits(alloc: Global, rest: Members<'_, '_>) -> Result<Limits, TagFault>
     ensures read { IfOk result (λ p. AreLimits (limit_of p.0) (limit_of p.1) rest.entry) }
     ensures shows { IfErr result (λ fault. LimitsShow fault rest.entry) }
+    ensures named { IfErr result (λ fault. IsNamed fault (limits_fault rest.entry)) }
 {
     let values = values_of(alloc, rest)?;
     if has_hint(&values) {
@@ -191,6 +194,7 @@ fn read_limits(alloc: Global, rest: Members<'_, '_>) -> Result<Limits, TagFault>
 pub(crate) fn read_range(alloc: Global, further: Members<'_, '_>) -> Result<Leaf, TagFault>
     ensures read { IfOk result (λ leaf. tag_value (leaf_tag leaf) ≡ starred (codes "range") (values further.entry)) }
     ensures shows { IfErr result (λ fault. TagShows fault (starred (codes "range") (values further.entry))) }
+    ensures named { IfErr result (λ fault. IsNamed fault (range_fault further.entry)) }
 {
     match further.split_first() {
         None => Err(TagFault::RangeOrdering),

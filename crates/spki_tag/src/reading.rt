@@ -1,13 +1,14 @@
 //! Reading tags.
 
-ghost use Rattle.std.specs.Prelude.{◌≡◌, ◌+◌, ◌≤◌, ◌<◌, ◌∷◌, List, IfOk, IfErr, IfSome, IsSome, IsOkUnless, codes};
+ghost use Rattle.std.specs.Prelude.{◌≡◌, ◌+◌, ◌≤◌, ◌<◌, ◌∷◌, List, Some, None, IfOk, IfErr, IfSome, IsSome, IsOkUnless, codes};
 ghost use Rattle.sexpr_core.specs.Value.{Value, plain, group, values, node};
 ghost use Rattle.spki_tag.specs.Leaves.{leaf_tag};
 ghost use Rattle.spki_tag.specs.Tag.{Tag, IsTag, tag_value, starred, nodes};
 ghost use Rattle.spki_tag.specs.Request.{IsHead};
 ghost use Rattle.spki_tag.specs.Read.{ReadsAs, IsNoTag, most_read};
+ghost use Rattle.spki_tag.specs.FaultOf.{IsNamed, group_fault, list_fault, prefix_fault, tag_fault};
 ghost use Rattle.spki_tag.specs.Faults.{TagShows, RequestShows};
-ghost use Rattle.spki_tag.specs.Steps.{IsRead, AreRead, TagShowsAfter, TagsShowAfter};
+ghost use Rattle.spki_tag.specs.Steps.{IsRead, AreRead, TagShowsAfter, TagsShowAfter, fault_after, fault_after_all};
 
 use crate::fault::TagFault;
 use crate::leaf::Leaf;
@@ -27,6 +28,8 @@ pub(crate) fn head_of<'a>(first: &Node<'_, 'a>) -> Result<&'a [u8], TagFault>
     ensures string { IfOk result (λ head. first.now ≡ plain head.now) }
     ensures shows { IfErr result (λ fault. (vs : List Value)
         → TagShows fault (group (first.now ∷ vs)) × RequestShows fault (group (first.now ∷ vs))) }
+    ensures named { IfErr result (λ fault. (vs : List Value)
+        → (list_fault (first.now ∷ vs) ≡ Some fault) × (group_fault (first.now ∷ vs) ≡ Some fault)) }
 {
     match first.kind() {
         NodeKind::List(_) => Err(TagFault::ListHead),
@@ -39,6 +42,7 @@ pub(crate) fn head_of<'a>(first: &Node<'_, 'a>) -> Result<&'a [u8], TagFault>
 fn read_prefix(alloc: Global, further: Members<'_, '_>) -> Result<Leaf, TagFault>
     ensures read { IfOk result (λ leaf. tag_value (leaf_tag leaf) ≡ starred (codes "prefix") (values further.entry)) }
     ensures shows { IfErr result (λ fault. TagShows fault (starred (codes "prefix") (values further.entry))) }
+    ensures named { IfErr result (λ fault. IsNamed fault (prefix_fault further.entry)) }
 {
     match further.split_first() {
         None => Err(TagFault::UnknownStar),
@@ -62,6 +66,7 @@ fn read_prefix(alloc: Global, further: Members<'_, '_>) -> Result<Leaf, TagFault
 fn read_tag(alloc: Global, value: &Node<'_, '_>, used: usize) -> Result<(Tag, usize), TagFault>
     ensures read { IfOk result (λ p. IsRead used value.now p.0 p.1) }
     ensures shows { IfErr result (λ fault. TagShowsAfter used fault value.now) }
+    ensures named { IfErr result (λ fault. IsNamed fault (fault_after used value.now)) }
 {
     if used >= MOST_READ {
         return Err(TagFault::TooManyNodes);
@@ -82,6 +87,7 @@ fn read_list(alloc: Global, members: Members<'_, '_>, used: usize) -> Result<(Ta
     requires { used < most_read }
     ensures read { IfOk result (λ p. IsRead used (group members.entry) p.0 p.1) }
     ensures shows { IfErr result (λ fault. TagShowsAfter used fault (group members.entry)) }
+    ensures named { IfErr result (λ fault. IsNamed fault (fault_after used (group members.entry))) }
 {
     match members.split_first() {
         None => Err(TagFault::EmptyList),
@@ -106,6 +112,7 @@ fn read_starred(
     requires { used < most_read }
     ensures read { IfOk result (λ p. IsRead used (group (plain (codes "*") ∷ further.entry)) p.0 p.1) }
     ensures shows { IfErr result (λ fault. TagShowsAfter used fault (group (plain (codes "*") ∷ further.entry))) }
+    ensures named { IfErr result (λ fault. IsNamed fault (fault_after used (group (plain (codes "*") ∷ further.entry)))) }
 {
     match further.split_first() {
         None => Ok((Tag::everything(), used + 1)),
@@ -128,6 +135,7 @@ fn read_form(
     requires { used < most_read }
     ensures read { IfOk result (λ p. IsRead used (starred word.now (values further.entry)) p.0 p.1) }
     ensures shows { IfErr result (λ fault. TagShowsAfter used fault (starred word.now (values further.entry))) }
+    ensures named { IfErr result (λ fault. IsNamed fault (fault_after used (starred word.now (values further.entry)))) }
 {
     if word == b"set".as_slice() {
         read_set(alloc, further, used)
@@ -146,6 +154,7 @@ fn read_set(alloc: Global, further: Members<'_, '_>, used: usize) -> Result<(Tag
     requires { used < most_read }
     ensures read { IfOk result (λ p. IsRead used (starred (codes "set") (values further.entry)) p.0 p.1) }
     ensures shows { IfErr result (λ fault. TagShowsAfter used fault (starred (codes "set") (values further.entry))) }
+    ensures named { IfErr result (λ fault. IsNamed fault (fault_after used (starred (codes "set") (values further.entry)))) }
 {
     let (members, after) = read_members(alloc, further, used + 1)?;
     Ok((Tag::set_of(alloc, members)?, after))
@@ -163,6 +172,7 @@ fn read_plain_list(
     requires head { IsHead head.now }
     ensures read { IfOk result (λ p. IsRead used (group (plain head.now ∷ further.entry)) p.0 p.1) }
     ensures shows { IfErr result (λ fault. TagShowsAfter used fault (group (plain head.now ∷ further.entry))) }
+    ensures named { IfErr result (λ fault. IsNamed fault (fault_after used (group (plain head.now ∷ further.entry)))) }
 {
     if used + 1 >= MOST_READ {
         return Err(TagFault::TooManyNodes);
@@ -182,6 +192,7 @@ fn read_members(
     requires { used ≤ most_read }
     ensures read { IfOk result (λ p. AreRead used members.entry p.0.items p.1) }
     ensures shows { IfErr result (λ fault. TagsShowAfter used fault members.entry) }
+    ensures named { IfErr result (λ fault. IsNamed fault (fault_after_all used members.entry)) }
 {
     let mut tags = Vec::new(alloc);
     let mut counted = used;
@@ -211,6 +222,8 @@ impl Tag {
             → IsOkUnless result TagFault.Memory }
         ensures refused { IfErr result (λ fault. IsNoTag fault value.now) }
         ensures shows { IfErr result (λ fault. TagShows fault value.now) }
+        ensures named { IfErr result (λ fault. IsNamed fault (tag_fault value.now)) }
+        ensures faultless { IfOk result (λ tag. tag_fault value.now ≡ None) }
     {
         let (tag, _) = read_tag(alloc, value, 0)?;
         Ok(tag)
@@ -228,6 +241,8 @@ impl Tag {
             (t : Tag) → IsTag t → nodes t ≤ most_read → tag_value t ≡ value → IsOkUnless result TagFault.Memory) }
         ensures refused { IfSome (node document.now n.0) (λ value. IfErr result (λ fault. IsNoTag fault value)) }
         ensures shows { IfSome (node document.now n.0) (λ value. IfErr result (λ fault. TagShows fault value)) }
+        ensures named { IfSome (node document.now n.0) (λ value. IfErr result (λ fault. IsNamed fault (tag_fault value))) }
+        ensures faultless { IfSome (node document.now n.0) (λ value. IfOk result (λ tag. tag_fault value ≡ None)) }
     {
         match document.node(n) {
             Some(value) => Tag::of(alloc, &value),

@@ -2,6 +2,9 @@ use Rattle.std.specs.Prelude.{codes}
 use Rattle.std.specs.Cmp.Lexicographic.{same_text}
 use Rattle.std.proofs.Common.{◌≡◌, ◌∙◌, ◌+◌, sym, arith}
 use Rattle.std.proofs.lemmas.Result.{err_from_is_err_and}
+use Rattle.std.proofs.Common.{[], refl, ap}
+use Rattle.spki_tag.specs.FaultOf.{own_fault}
+use Rattle.spki_tag.proofs.Named.{named-first, out_of_memory, passed, prefix-itself, range-itself, unknown-itself, list-itself, so_far-named, no_room_for_head-named, list-members, set-members, star-itself, star-list, star-hinted, full, itself}
 use Rattle.spki_tag.proofs.Spelling.{so_far_weight, so_far_shows, so_far_push, no_room, no_room_for_head, list_shows, set_shows, list_is_read, set_is_read, members_fit, members_normal}
 use Rattle.spki_tag.proofs.Found.{form_shows, empty_list, hinted_itself, list_head_shows, list_behind_star, hinted_behind_star, unknown_word}
 use Rattle.spki_tag.proofs.reading.+read.Goals as goal
@@ -97,3 +100,82 @@ read_form-returns-in_err-read_prefix-clause-shows t c =
     let p = err_from_is_err_and c.from_residual.result c.from_residual.ensures.1 in
     let w : c.args.word.now ≡ codes "prefix" = same_text _ _ c.if-eq-2.ensures ∙ c.as_slice-else-eq.ensures in
     rw (p.1, p.2) (form_shows _ c.args.used c.args.word.now (codes "prefix") c.args.further w c.in_err-read_prefix.ensures.shows)
+
+pub read_form-returns-in_err-read_prefix-clause-named : goal.read_form-returns-in_err-read_prefix-clause-named
+read_form-returns-in_err-read_prefix-clause-named t c =
+    passed _ _ _ c.from_residual.ensures.1
+    (prefix-itself c.args.used c.args.word.now c.args.further _ c.requires (rw c.as_slice-else-eq.ensures at c.if-eq-2.ensures)
+    c.in_err-read_prefix.ensures.named)
+
+pub read_form-returns-in_err-read_range-clause-named : goal.read_form-returns-in_err-read_range-clause-named
+read_form-returns-in_err-read_range-clause-named t c =
+    passed _ _ _ c.from_residual-in_err-read_range.ensures.1
+    (range-itself c.args.used c.args.word.now c.args.further _ c.requires (rw c.as_slice-else-eq-2.ensures at c.if-eq-3.ensures)
+    c.in_err-read_range.ensures.named)
+
+pub read_form-returns-else-eq-3-clause-named : goal.read_form-returns-else-eq-3-clause-named
+read_form-returns-else-eq-3-clause-named t c =
+    unknown-itself c.args.used c.args.word.now c.args.further c.requires (rw c.as_slice.ensures at c.if-eq.ensures)
+    (rw c.as_slice-else-eq.ensures at c.if-eq-2.ensures) (rw c.as_slice-else-eq-2.ensures at c.if-eq-3.ensures)
+
+pub read_list-returns-in_err-head-in-Some-clause-named : goal.read_list-returns-in_err-head-in-Some-clause-named
+read_list-returns-in_err-head-in-Some-clause-named t c =
+    passed _ _ _ c.from_residual.ensures.1
+    (list-itself c.args.used c.args.members _ _ c.requires c.in-Some.ensures
+    (named-first _ _ (c.in_err-head-in-Some.ensures.named c.in-Some.further).0))
+
+pub read_list-returns-in-None-clause-named : goal.read_list-returns-in-None-clause-named
+read_list-returns-in-None-clause-named t c =
+    list-itself c.args.used c.args.members [] _ c.requires c.in-None.ensures (named-first _ _ refl)
+
+pub read_members-returns-in_err-tag-clause-named : goal.read_members-returns-in_err-tag-clause-named
+read_members-returns-in_err-tag-clause-named t c =
+    passed _ _ _ c.from_residual.ensures.1
+    (so_far-named _ c.args.used c.loop-first.counted c.args.members c.loop-first.left c.in-Some.further c.loop-first.tags.items c.in-Some.first c.loop-first.invariant c.in-Some.ensures c.in_err-tag.ensures.named)
+
+pub read_members-returns-in_err-push-clause-named : goal.read_members-returns-in_err-push-clause-named
+read_members-returns-in_err-push-clause-named t c = out_of_memory _ _ c.from_residual-in_err-push.ensures.1
+
+pub read_plain_list-returns-then-used-ge-MOST_READ-clause-named : goal.read_plain_list-returns-then-used-ge-MOST_READ-clause-named
+read_plain_list-returns-then-used-ge-MOST_READ-clause-named t c =
+    no_room_for_head-named c.args.used c.args.head.now c.args.further c.requires.head c.requires.room (omega arith)
+
+pub read_plain_list-returns-in_err-members-clause-named : goal.read_plain_list-returns-in_err-members-clause-named
+read_plain_list-returns-in_err-members-clause-named t c =
+    passed _ _ _ c.from_residual.ensures.1
+    (list-members c.args.used c.args.head.now c.args.further _ c.requires.head (omega arith) c.in_err-members.ensures.named)
+
+pub read_plain_list-returns-in_err-octets-clause-named : goal.read_plain_list-returns-in_err-octets-clause-named
+read_plain_list-returns-in_err-octets-clause-named t c = out_of_memory _ _ c.from_residual-in_err-octets.ensures.1
+
+pub read_set-returns-in_err-members-clause-named : goal.read_set-returns-in_err-members-clause-named
+read_set-returns-in_err-members-clause-named t c =
+    passed _ _ _ c.from_residual.ensures.1 (set-members c.args.used c.args.further _ c.requires c.in_err-members.ensures.named)
+
+pub read_set-returns-in_err-set_of-clause-named : goal.read_set-returns-in_err-set_of-clause-named
+read_set-returns-in_err-set_of-clause-named t c = out_of_memory _ _ c.from_residual-in_err-set_of.ensures.1
+
+pub read_starred-returns-in-List-clause-named : goal.read_starred-returns-in-List-clause-named
+read_starred-returns-in-List-clause-named t c =
+    star-itself c.args.used c.args.further c.args.further _ c.requires refl
+    (named-first _ _ (star-list c.args.further c.in-Some.form c.in-List.field-0 c.in-Some.rest c.in-Some.ensures c.in-List.ensures))
+
+pub read_starred-returns-in-String-Some-default-clause-named : goal.read_starred-returns-in-String-Some-default-clause-named
+read_starred-returns-in-String-Some-default-clause-named t c =
+    let e = rw c.in-String-Some-default.hint-is at c.in-String-Some-default.ensures in
+    star-itself c.args.used c.args.further c.args.further _ c.requires refl
+    (named-first _ _
+    (star-hinted c.args.further c.in-Some.form c.in-Some.rest c.in-Some.ensures
+    (c.in-String-Some-default.hint-0.now, c.in-String-Some-default.body.now, sym e)))
+
+pub read_tag-returns-then-used-ge-MOST_READ-clause-named : goal.read_tag-returns-then-used-ge-MOST_READ-clause-named
+read_tag-returns-then-used-ge-MOST_READ-clause-named t c = full c.args.used c.args.value.now (omega arith)
+
+pub read_tag-returns-in_err-from_slice-in-String-None-default-clause-named : goal.read_tag-returns-in_err-from_slice-in-String-None-default-clause-named
+read_tag-returns-in_err-from_slice-in-String-None-default-clause-named t c = out_of_memory _ _ c.from_residual.ensures.1
+
+pub read_tag-returns-in-String-Some-default-clause-named : goal.read_tag-returns-in-String-Some-default-clause-named
+read_tag-returns-in-String-Some-default-clause-named t c =
+    let e = rw c.in-String-Some-default.hint-is at c.in-String-Some-default.ensures in
+    itself c.args.used c.args.value.now _ (own_fault c.args.value.now) (omega arith) refl
+    (named-first _ _ (ap own_fault (sym e)))

@@ -5,6 +5,10 @@ use Rattle.std.proofs.lemmas.Result.{err_from_is_err_and}
 use Rattle.sexpr_core.specs.Value.{plain}
 use Rattle.spki_tag.proofs.Found.{empty_list, hinted_itself, request_head_shows, star_shows}
 use Rattle.spki_tag.proofs.Requests.{so_far_weight, so_far_shows, so_far_push, list_shows, list_is_request}
+use Rattle.std.proofs.Common.{[], refl}
+use Rattle.spki_tag.specs.FaultOf.{part_fault}
+use Rattle.spki_tag.proofs.Named.{named-first, out_of_memory, passed}
+use Rattle.spki_tag.proofs.NamedRequests.{group-itself, star-group, group-members, so_far-named, part-itself}
 use Rattle.spki_tag.proofs.request.+read_request.Goals as goal
 
 pub read_list-returns-in_err-head-in-Some-clause-shows : goal.read_list-returns-in_err-head-in-Some-clause-shows
@@ -49,3 +53,44 @@ pub read_request-returns-in-String-Some-default-clause-shows : goal.read_request
 read_request-returns-in-String-Some-default-clause-shows t c =
     let e = rw c.in-String-Some-default.hint-is at c.in-String-Some-default.ensures in
     hinted_itself c.args.value.now (c.in-String-Some-default.hint-0.now, c.in-String-Some-default.body.now, sym e)
+
+pub read_list-returns-in_err-head-in-Some-clause-named : goal.read_list-returns-in_err-head-in-Some-clause-named
+read_list-returns-in_err-head-in-Some-clause-named t c =
+    passed _ _ _ c.from_residual.ensures.1
+    (group-itself c.args.members _ _ c.in-Some.ensures
+    (named-first _ _ (c.in_err-head-in-Some.ensures.named c.in-Some.further).1))
+
+pub read_list-returns-in-None-clause-named : goal.read_list-returns-in-None-clause-named
+read_list-returns-in-None-clause-named t c = group-itself c.args.members [] _ c.in-None.ensures (named-first _ _ refl)
+
+pub read_list-returns-then-eq-clause-named : goal.read_list-returns-then-eq-clause-named
+read_list-returns-then-eq-clause-named t c =
+    let star : c.in_ok-head-in-Some.head.now ≡ codes "*" = same_text _ _ c.if-eq.ensures ∙ c.as_slice.ensures in
+    group-itself c.args.members c.args.members _ refl
+    (named-first _ _
+    (star-group c.args.members c.in-Some.first c.in-Some.further c.in-Some.ensures (c.in_ok-head-in-Some.ensures.string ∙ ap plain star)))
+
+pub read_members-returns-in_err-read_request-clause-named : goal.read_members-returns-in_err-read_request-clause-named
+read_members-returns-in_err-read_request-clause-named t c =
+    passed _ _ _ c.from_residual.ensures.1
+    (so_far-named _ c.args.members c.loop-first.left c.in-Some.further c.loop-first.requests.items c.in-Some.first c.loop-first.invariant c.in-Some.ensures c.in_err-read_request.ensures.named)
+
+pub read_members-returns-in_err-push-clause-named : goal.read_members-returns-in_err-push-clause-named
+read_members-returns-in_err-push-clause-named t c = out_of_memory _ _ c.from_residual-in_err-push.ensures.1
+
+pub read_headed-returns-in_err-members-clause-named : goal.read_headed-returns-in_err-members-clause-named
+read_headed-returns-in_err-members-clause-named t c =
+    passed _ _ _ c.from_residual.ensures.1
+    (group-members c.args.head.now c.args.further _ c.requires c.in_err-members.ensures.named)
+
+pub read_headed-returns-in_err-octets-clause-named : goal.read_headed-returns-in_err-octets-clause-named
+read_headed-returns-in_err-octets-clause-named t c = out_of_memory _ _ c.from_residual-in_err-octets.ensures.1
+
+pub read_request-returns-in_err-from_slice-in-String-None-default-clause-named : goal.read_request-returns-in_err-from_slice-in-String-None-default-clause-named
+read_request-returns-in_err-from_slice-in-String-None-default-clause-named t c = out_of_memory _ _ c.from_residual.ensures.1
+
+pub read_request-returns-in-String-Some-default-clause-named : goal.read_request-returns-in-String-Some-default-clause-named
+read_request-returns-in-String-Some-default-clause-named t c =
+    let e = rw c.in-String-Some-default.hint-is at c.in-String-Some-default.ensures in
+    part-itself c.args.value.now _ (part_fault c.args.value.now) refl
+    (named-first _ _ (ap part_fault (sym e)))

@@ -4,6 +4,7 @@ use Rattle.std.proofs.lemmas.Result.{err_from_is_err_and}
 use Rattle.spki_tag.proofs.Refusals.{tag_shown}
 use Rattle.spki_tag.proofs.NormalOf.{normal-of}
 use Rattle.spki_tag.proofs.Spelling.{shows_at_first}
+use Rattle.spki_tag.proofs.Named.{at_first, passed, read-faultless}
 use Rattle.spki_tag.proofs.tag.Tag.of.Goals as goal
 
 pub returns-in_err-tag-clause-shows : goal.returns-in_err-tag-clause-shows
@@ -32,3 +33,9 @@ returns-clause-read c =
       which = read.which;
       normal = subst (IsNormalOf read.w) (sym read.which) (normal-of read.w read.written);
     }
+
+pub returns-in_err-tag-clause-named : goal.returns-in_err-tag-clause-named
+returns-in_err-tag-clause-named c = passed _ _ _ c.from_residual.ensures.1 (at_first _ c.args.value.now c.in_err-tag.ensures.named)
+
+pub returns-clause-faultless : goal.returns-clause-faultless
+returns-clause-faultless c = read-faultless c.args.value.now _ _ c.in_ok-tag.ensures.read

@@ -1,0 +1,192 @@
+-- The walk over the tags in a value, and what is found on it.
+use Rattle.std.proofs.Common.{◌≡◌, ℕ, ◌+◌, ◌≤◌, ◌<◌, Bool, true, false, List, [], ◌∷◌, ◌++◌, length, Option, Some, None, refl, ap, ◌∙◌, arith, length-append, nat_lt}
+use Rattle.std.specs.Prelude.{codes, if◌then◌else◌}
+use Rattle.std.specs.List.{AllByRecursion}
+use Rattle.std.specs.Str.{bytes_eq}
+use Rattle.std.specs.Cmp.Lexicographic.{same_text}
+use Rattle.std.proofs.lemmas.Bool.Decides.{nat_tests}
+use Rattle.sexpr_core.specs.Labels.{members-values}
+use Rattle.sexpr_core.specs.Value as value
+use Rattle.sexpr_core.specs.Value.{Value, Values, plain, values, group, members}
+use Rattle.spki_tag.specs.declared.fault.TagFault.{TagFault}
+use Rattle.spki_tag.specs.declared.fault.TagFault.TheVariants as faults
+use Rattle.spki_tag.specs.FirstFault.{first_fault, unless}
+use Rattle.spki_tag.specs.FaultOf.{tags_in, tags_in_list, tags_in_set, tags_in_all, own_fault, list_fault, star_fault, range_fault, limits_fault, looks}
+use Rattle.spki_tag.specs.Faults.{is_word, tag_nodes, list_nodes, set_nodes, tag_nodes_all}
+use Rattle.spki_tag.specs.Request.{IsHead}
+use Rattle.spki_tag.specs.Tag.{Tag, Tags, Limit, Ordering, alpha, time, date, star, string, prefix, range, list, set, none, more, IsTag, AreTags, tag_value, tag_values, ordering_name, low_values, up_values, nodes, nodes_all}
+use Rattle.spki_tag.specs.Read.{most_read}
+use Rattle.spki_tag.proofs.Shown.{tag_nodes-of, tag_nodes_all-of}
+
+-- ---- the first fault of two lists of looks
+
+pub first-none : {A : Type 0} (fs gs : List (Option A)) → first_fault fs ≡ None → first_fault (fs ++ gs) ≡ first_fault gs
+first-none [] gs e = refl
+first-none (None ∷ fs) gs e = first-none fs gs e
+first-none (Some f ∷ fs) gs e = absurd cc
+
+pub first-some : {A : Type 0} (fs gs : List (Option A)) (fault : A) → first_fault fs ≡ Some fault
+    → first_fault (fs ++ gs) ≡ Some fault
+first-some [] gs fault e = absurd cc
+first-some (None ∷ fs) gs fault e = first-some fs gs fault e
+first-some (Some f ∷ fs) gs fault e = e
+
+pub looks-append : (n : ℕ) (us vs : List Value) → looks n (us ++ vs) ≡ looks n us ++ looks (n + length us) vs
+looks-append n [] vs = ap (λ m. looks m vs) (omega arith)
+looks-append n (u ∷ us) vs =
+    ap (λ (fs : List (Option TagFault)). unless (nat_lt n 1024) faults.TooManyNodes ∷ own_fault u ∷ fs)
+    (looks-append (n + 1) us vs ∙ ap (λ m. looks (n + 1) us ++ looks m vs) (omega arith))
+
+-- ---- the number of tags
+
+list_by : (b : Bool) (v : Value) (vs : Values) → length (tags_in_set vs) ≡ set_nodes vs → length (tags_in v) ≡ tag_nodes v
+    → length (tags_in_all vs) ≡ tag_nodes_all vs
+    → length (if b then tags_in_set vs else tags_in v ++ tags_in_all vs)
+    ≡ (if b then set_nodes vs else tag_nodes v + tag_nodes_all vs)
+list_by true v vs e f g = e
+list_by false v vs e f g = omega (arith, length-append (tags_in v) (tags_in_all vs), f, g)
+
+set_by : (b : Bool) (vs : Values) → length (tags_in_all vs) ≡ tag_nodes_all vs
+    → length (if b then tags_in_all vs else []) ≡ (if b then tag_nodes_all vs else 0)
+set_by true vs e = e
+set_by false vs e = refl
+
+mutual
+  -- there are as many tags in a value as nodes
+  pub tags_in-count : (v : Value) → length (tags_in v) ≡ tag_nodes v
+  tags_in-count (value.string hint octets) = refl
+  tags_in-count (value.list vs) = omega (arith, list-count vs)
+
+  list-count : (vs : Values) → length (tags_in_list vs) ≡ list_nodes vs
+  list-count value.none = refl
+  list-count (value.more v vs) = list_by (is_word (codes "*") v) v vs (set-count vs) (tags_in-count v) (tags_in_all-count vs)
+
+  set-count : (vs : Values) → length (tags_in_set vs) ≡ set_nodes vs
+  set-count value.none = refl
+  set-count (value.more v vs) = set_by (is_word (codes "set") v) vs (tags_in_all-count vs)
+
+  pub tags_in_all-count : (vs : Values) → length (tags_in_all vs) ≡ tag_nodes_all vs
+  tags_in_all-count value.none = refl
+  tags_in_all-count (value.more v vs) =
+      omega (arith, length-append (tags_in v) (tags_in_all vs), tags_in-count v, tags_in_all-count vs)
+
+-- ---- one look
+
+abbrev pub IsFine : Value → Type 0
+IsFine v = own_fault v ≡ None
+
+below : (n : ℕ) → n < most_read → nat_lt n 1024 ≡ true
+below n h = grind (arith, nat_tests)
+
+not_below : (n : ℕ) → most_read ≤ n → nat_lt n 1024 ≡ false
+not_below n h = grind (arith, nat_tests)
+
+pub look-past : (n : ℕ) (v : Value) (vs : List Value) → n < most_read → own_fault v ≡ None
+    → first_fault (looks n (v ∷ vs)) ≡ first_fault (looks (n + 1) vs)
+look-past n v vs h e =
+    ap (λ b. first_fault (unless b faults.TooManyNodes ∷ own_fault v ∷ looks (n + 1) vs)) (below n h)
+    ∙ ap (λ (f : Option TagFault). first_fault (f ∷ looks (n + 1) vs)) e
+
+pub look-own : (n : ℕ) (v : Value) (vs : List Value) (fault : TagFault) → n < most_read → own_fault v ≡ Some fault
+    → first_fault (looks n (v ∷ vs)) ≡ Some fault
+look-own n v vs fault h e =
+    ap (λ b. first_fault (unless b faults.TooManyNodes ∷ own_fault v ∷ looks (n + 1) vs)) (below n h)
+    ∙ ap (λ (f : Option TagFault). first_fault (f ∷ looks (n + 1) vs)) e
+
+pub look-full : (n : ℕ) (v : Value) (vs : List Value) → most_read ≤ n
+    → first_fault (looks n (v ∷ vs)) ≡ Some faults.TooManyNodes
+look-full n v vs h =
+    ap (λ b. first_fault (unless b faults.TooManyNodes ∷ own_fault v ∷ looks (n + 1) vs)) (not_below n h)
+
+pub looks-fine : (n : ℕ) (vs : List Value) → n + length vs ≤ most_read → AllByRecursion IsFine vs
+    → first_fault (looks n vs) ≡ None
+looks-fine n [] h each = refl
+looks-fine n (v ∷ vs) h each = look-past n v vs (omega arith) each.0 ∙ looks-fine (n + 1) vs (omega arith) each.1
+
+-- ---- nothing is wrong with a tag that is written
+
+pub both : (Q : Value → Type 0) (us vs : List Value) → AllByRecursion Q us → AllByRecursion Q vs → AllByRecursion Q (us ++ vs)
+both Q [] vs h k = k
+both Q (u ∷ us) vs h k = (h.0, both Q us vs h.1 k)
+
+limits-fine : (low up : Option Limit) → limits_fault (low_values low ++ up_values up) ≡ None
+limits-fine None None = refl
+limits-fine None (Some u) = up_by u.strict u.octets
+  where
+    up_by : (s : Bool) (x : List ℕ)
+        → limits_fault (plain (if s then codes "l" else codes "le") ∷ plain x ∷ []) ≡ None
+    up_by true x = refl
+    up_by false x = refl
+limits-fine (Some l) None = low_by l.strict l.octets
+  where
+    low_by : (s : Bool) (x : List ℕ)
+        → limits_fault (plain (if s then codes "g" else codes "ge") ∷ plain x ∷ []) ≡ None
+    low_by true x = refl
+    low_by false x = refl
+limits-fine (Some l) (Some u) = both_by l.strict u.strict l.octets u.octets
+  where
+    both_by : (s t : Bool) (x y : List ℕ)
+        → limits_fault (plain (if s then codes "g" else codes "ge") ∷ plain x
+        ∷ plain (if t then codes "l" else codes "le") ∷ plain y ∷ []) ≡ None
+    both_by true true x y = refl
+    both_by true false x y = refl
+    both_by false true x y = refl
+    both_by false false x y = refl
+
+ordered-fine : (o : Ordering) (vs : List Value) → range_fault (plain (ordering_name o) ∷ vs) ≡ limits_fault vs
+ordered-fine alpha vs = refl
+ordered-fine time vs = refl
+ordered-fine date vs = refl
+
+range-fine : (o : Ordering) (low up : Option Limit) → own_fault (tag_value (range o low up)) ≡ None
+range-fine o low up =
+    ap list_fault (members-values (plain (codes "*") ∷ plain (codes "range") ∷ plain (ordering_name o) ∷ (low_values low ++ up_values up)))
+    ∙ ordered-fine o (low_values low ++ up_values up) ∙ limits-fine low up
+
+-- a plain list is no list that begins with the star
+pub head-apart : (head : List ℕ) → IsHead head → bytes_eq head (codes "*") ≡ false
+head-apart head h = by (bytes_eq head (codes "*")) refl
+  where
+    by : (b : Bool) → b ≡ bytes_eq head (codes "*") → b ≡ false
+    by true e = absurd (h (same_text head (codes "*") e))
+    by false e = refl
+
+pub list-fine : (head : List ℕ) (vs : Values) → IsHead head → IsFine (value.list (value.more (plain head) vs))
+list-fine head vs h = ap (λ b. if b then star_fault (members vs) else None) (head-apart head h)
+
+pub tags_in-list : (head : List ℕ) (vs : Values) → IsHead head
+    → tags_in (value.list (value.more (plain head) vs))
+    ≡ value.list (value.more (plain head) vs) ∷ plain head ∷ tags_in_all vs
+tags_in-list head vs h =
+    ap (λ b. value.list (value.more (plain head) vs) ∷ (if b then tags_in_set vs else plain head ∷ tags_in_all vs))
+    (head-apart head h)
+
+pub one-part : (Q : Value → Type 0) (v : Value) (us vs : List Value) → us ≡ vs → AllByRecursion Q vs → AllByRecursion Q us
+one-part Q v us vs e h = rw e h
+
+mutual
+  pub tag-fine : (w : Tag) → IsTag w → AllByRecursion IsFine (tags_in (tag_value w))
+  tag-fine star h = (refl, tt)
+  tag-fine (string octets) h = (refl, tt)
+  tag-fine (prefix octets) h = (refl, tt)
+  tag-fine (range o low up) h = (range-fine o low up, tt)
+  tag-fine (list head further) h =
+      one-part IsFine (plain head) _ _ (tags_in-list head (tag_values further) h.0)
+      (list-fine head (tag_values further) h.0, (refl, tags-fine further h.1))
+  tag-fine (set members) h = (refl, tags-fine members h)
+
+  pub tags-fine : (ws : Tags) → AreTags ws → AllByRecursion IsFine (tags_in_all (tag_values ws))
+  tags-fine none h = tt
+  tags-fine (more w ws) h =
+      both IsFine (tags_in (tag_value w)) (tags_in_all (tag_values ws)) (tag-fine w h.0) (tags-fine ws h.1)
+
+-- tags of few enough nodes
+pub tag-past : (n : ℕ) (w : Tag) → IsTag w → n + nodes w ≤ most_read → first_fault (looks n (tags_in (tag_value w))) ≡ None
+tag-past n w h few =
+    looks-fine n (tags_in (tag_value w)) (omega (arith, tags_in-count (tag_value w), tag_nodes-of w h)) (tag-fine w h)
+
+pub tags-past : (n : ℕ) (ws : Tags) → AreTags ws → n + nodes_all ws ≤ most_read
+    → first_fault (looks n (tags_in_all (tag_values ws))) ≡ None
+tags-past n ws h few =
+    looks-fine n (tags_in_all (tag_values ws)) (omega (arith, tags_in_all-count (tag_values ws), tag_nodes_all-of ws h))
+    (tags-fine ws h)

@@ -1,0 +1,259 @@
+-- A value without a fault is one that is written as a tag, or as a request.
+use Rattle.std.proofs.Common.{◌≡◌, ℕ, ◌+◌, ◌≤◌, ◌<◌, Bool, true, false, not, ◌↔◌, List, [], ◌∷◌, ◌++◌, map, length, Option, Some, None, refl, sym, ap, ◌∙◌, subst, arith, nat_lt, true≢false}
+use Rattle.std.specs.Prelude.{codes, if◌then◌else◌, slice_index}
+use Rattle.std.specs.List.{AllByRecursion}
+use Rattle.std.specs.Str.{bytes_eq}
+use Rattle.std.specs.Cmp.Lexicographic.{same_text, other_text}
+use Rattle.std.proofs.lemmas.Bool.Decides.{nat_tests}
+use Rattle.sexpr_core.specs.Labels.{values-members}
+use Rattle.std.proofs.Common.{suc}
+use Rattle.std.proofs.lemmas.List.Elements.{All-from_recursion}
+use Rattle.sexpr_core.specs.Octets.{HasOctets, HaveOctets}
+use Rattle.sexpr_core.specs.Value as value
+use Rattle.sexpr_core.specs.Value.{Value, Values, plain, values, group, members}
+use Rattle.spki_tag.specs.declared.fault.TagFault.{TagFault}
+use Rattle.spki_tag.specs.declared.fault.TagFault.TheVariants as faults
+use Rattle.spki_tag.specs.FirstFault.{first_fault, unless}
+use Rattle.spki_tag.specs.FaultOf.{tags_in, tags_in_list, tags_in_set, tags_in_all, own_fault, list_fault, star_fault, form_fault, prefix_fault, range_fault, limits_fault, are_limits, is_ordering, is_hinted, looks, tag_fault, part_fault, request_fault}
+use Rattle.spki_tag.specs.Request as request
+use Rattle.spki_tag.specs.Request.{Request, Requests, AreOctets, IsHead, IsRequest, AreRequests, request_value, request_values}
+use Rattle.spki_tag.specs.Tag.{Tag, Tags, Ordering, alpha, time, date, star, string, prefix, range, list, set, none, more, IsTag, AreTags, tag_value, tag_values, ordering_name, starred, nodes}
+use Rattle.spki_tag.specs.Read.{most_read}
+use Rattle.spki_tag.proofs.FaultWalk.{IsFine, tags_in-count, tag-past}
+use Rattle.spki_tag.proofs.Named.{limits-of}
+use Rattle.spki_tag.proofs.NamedRequests.{IsFinePart, request-faultless}
+use Rattle.spki_tag.proofs.Shown.{tag_nodes-of}
+use Rattle.spki_tag.specs.Faults.{tag_nodes}
+use Rattle.std.specs.List.{list_any}
+use Rattle.std.proofs.Common.{◌||◌}
+
+-- ---- what was looked at
+
+look-none : {A : Type 0} (b : Bool) (most : A) (o : Option A) (fs : List (Option A))
+    → first_fault (unless b most ∷ o ∷ fs) ≡ None → (b ≡ true) × (o ≡ None) × (first_fault fs ≡ None)
+look-none true most None fs e = (refl, refl, e)
+look-none true most (Some f) fs e = absurd cc
+look-none false most o fs e = absurd cc
+
+room : (n : ℕ) → nat_lt n 1024 ≡ true → n + 1 ≤ most_read
+room n h = grind (arith, nat_tests)
+
+-- each is as it must be, and there are few enough
+looks-none : (n : ℕ) (vs : List Value) → n ≤ most_read → first_fault (looks n vs) ≡ None
+    → AllByRecursion IsFine vs × (n + length vs ≤ most_read)
+looks-none n [] few e = (tt, omega arith)
+looks-none n (v ∷ vs) few e =
+    let p = look-none (nat_lt n 1024) faults.TooManyNodes (own_fault v) (looks (n + 1) vs) e in
+    let rest = looks-none (n + 1) vs (room n p.0) p.2 in
+    ((p.1, rest.0), omega (arith, rest.1))
+
+-- ---- the tag that a value is written as
+
+apart_left : (Q : Value → Type 0) (us vs : List Value) → AllByRecursion Q (us ++ vs) → AllByRecursion Q us
+apart_left Q [] vs h = tt
+apart_left Q (u ∷ us) vs h = (h.0, apart_left Q us vs h.1)
+
+apart_right : (Q : Value → Type 0) (us vs : List Value) → AllByRecursion Q (us ++ vs) → AllByRecursion Q vs
+apart_right Q [] vs h = h
+apart_right Q (u ∷ us) vs h = apart_right Q us vs h.1
+
+abbrev TagOf : Value → Type 0
+TagOf v = (w : Tag) × IsTag w × (tag_value w ≡ v)
+
+abbrev TagsOf : Values → Type 0
+TagsOf vs = (ws : Tags) × AreTags ws × (tag_values ws ≡ vs)
+
+none_is_not_some : {A : Type 0} (a : A) → Some a ≡ None → ⊥
+none_is_not_some a e = cc
+
+-- the ordering with a name
+ordering-of : (name : List ℕ) → is_ordering name ≡ true → (o : Ordering) × (ordering_name o ≡ name)
+ordering-of name h = by (bytes_eq name (codes "alpha")) (bytes_eq name (codes "time")) (bytes_eq name (codes "date")) refl refl refl h
+  where
+    by : (a b c : Bool) → a ≡ bytes_eq name (codes "alpha") → b ≡ bytes_eq name (codes "time")
+        → c ≡ bytes_eq name (codes "date") → (a || b || c) ≡ true → (o : Ordering) × (ordering_name o ≡ name)
+    by true b c d e f h = (alpha, sym (same_text name (codes "alpha") d))
+    by false true c d e f h = (time, sym (same_text name (codes "time") e))
+    by false false true d e f h = (date, sym (same_text name (codes "date") f))
+    by false false false d e f h = absurd (true≢false (sym h))
+
+limits-none : (vs : List Value) → limits_fault vs ≡ None → are_limits vs ≡ true
+limits-none vs e = by (list_any is_hinted vs) (are_limits vs) e
+  where
+    by : (a b : Bool) → first_fault (unless (not a) faults.Hint ∷ unless b faults.RangeLimit ∷ []) ≡ None → b ≡ true
+    by true b e = absurd cc
+    by false true e = refl
+    by false false e = absurd cc
+
+range-of : (vs : List Value) → range_fault vs ≡ None → TagOf (starred (codes "range") (values vs))
+range-of [] e = absurd cc
+range-of (value.list us ∷ vs) e = absurd cc
+range-of (value.string (Some hint) octets ∷ vs) e = absurd cc
+range-of (value.string None name ∷ vs) e = by (is_ordering name) refl e
+  where
+    by : (b : Bool) → is_ordering name ≡ b → (if b then limits_fault vs else Some faults.RangeOrdering) ≡ None
+        → TagOf (starred (codes "range") (values (plain name ∷ vs)))
+    by true d e =
+        let o = ordering-of name d in
+        let l = limits-of vs (limits-none vs e) in
+        (range o.0 l.0 l.1, tt, λ i. starred (codes "range") (values (plain (o.1 i) ∷ l.2 i)))
+    by false d e = absurd cc
+
+prefix-of : (vs : List Value) → prefix_fault vs ≡ None → TagOf (starred (codes "prefix") (values vs))
+prefix-of [] e = absurd cc
+prefix-of (value.list us ∷ []) e = absurd cc
+prefix-of (value.list us ∷ w ∷ vs) e = absurd cc
+prefix-of (value.string (Some hint) octets ∷ []) e = absurd cc
+prefix-of (value.string (Some hint) octets ∷ w ∷ vs) e = absurd cc
+prefix-of (value.string None octets ∷ []) e = (prefix octets, tt, refl)
+prefix-of (value.string None octets ∷ w ∷ vs) e = absurd cc
+
+-- what is behind the star and a word
+form-of : (word : List ℕ) (vs : Values) → form_fault word (members vs) ≡ None
+    → AllByRecursion IsFine (tags_in_set (value.more (plain word) vs))
+    → (AllByRecursion IsFine (tags_in_all vs) → TagsOf vs) → TagOf (starred word vs)
+form-of word vs e each rec =
+    by (bytes_eq word (codes "set")) (bytes_eq word (codes "prefix")) (bytes_eq word (codes "range")) refl refl refl e each
+  where
+    by : (a b c : Bool) → a ≡ bytes_eq word (codes "set") → b ≡ bytes_eq word (codes "prefix")
+        → c ≡ bytes_eq word (codes "range")
+        → (if a then None else if b then prefix_fault (members vs) else if c then range_fault (members vs) else Some faults.UnknownStar) ≡ None
+        → AllByRecursion IsFine (if a then tags_in_all vs else []) → TagOf (starred word vs)
+    by true b c d f g e each =
+        let p = rec each in
+        (set p.0, p.1, λ i. starred (sym (same_text word (codes "set") d) i) (p.2 i))
+    by false true c d f g e each =
+        let p = prefix-of (members vs) e in
+        (p.0, p.1, p.2 ∙ (λ i. starred (sym (same_text word (codes "prefix") f) i) (values-members vs i)))
+    by false false true d f g e each =
+        let p = range-of (members vs) e in
+        (p.0, p.1, p.2 ∙ (λ i. starred (sym (same_text word (codes "range") g) i) (values-members vs i)))
+    by false false false d f g e each = absurd cc
+
+-- what is behind the star
+star-of : (form : Value) (vs : Values) → star_fault (form ∷ members vs) ≡ None
+    → AllByRecursion IsFine (tags_in_set (value.more form vs))
+    → (AllByRecursion IsFine (tags_in_all vs) → TagsOf vs)
+    → TagOf (value.list (value.more (plain (codes "*")) (value.more form vs)))
+star-of (value.list us) vs e each rec = absurd cc
+star-of (value.string (Some hint) octets) vs e each rec = absurd cc
+star-of (value.string None word) vs e each rec = form-of word vs e each rec
+
+-- a list with this head
+headed-of : (head : List ℕ) (vs : Values) → list_fault (plain head ∷ members vs) ≡ None
+    → AllByRecursion IsFine (tags_in_list (value.more (plain head) vs))
+    → (AllByRecursion IsFine (tags_in_all vs) → TagsOf vs)
+    → (star_fault (members vs) ≡ None → AllByRecursion IsFine (tags_in_set vs)
+    → TagOf (value.list (value.more (plain (codes "*")) vs)))
+    → TagOf (value.list (value.more (plain head) vs))
+headed-of head vs e each rec starry = by (bytes_eq head (codes "*")) refl e each
+  where
+    by : (b : Bool) → b ≡ bytes_eq head (codes "*") → (if b then star_fault (members vs) else None) ≡ None
+        → AllByRecursion IsFine (if b then tags_in_set vs else plain head ∷ tags_in_all vs)
+        → TagOf (value.list (value.more (plain head) vs))
+    by true d e each =
+        subst (λ (h : List ℕ). TagOf (value.list (value.more (plain h) vs))) (sym (same_text head (codes "*") d)) (starry e each)
+    by false d e each =
+        let p = rec each.1 in
+        (list head p.0, (other_text head (codes "*") d, p.1), ap (λ us. value.list (value.more (plain head) us)) p.2)
+
+mutual
+  tag-of : (v : Value) → AllByRecursion IsFine (tags_in v) → TagOf v
+  tag-of (value.string None octets) h = (string octets, tt, refl)
+  tag-of (value.string (Some hint) octets) h = absurd (none_is_not_some _ h.0)
+  tag-of (value.list value.none) h = absurd (none_is_not_some _ h.0)
+  tag-of (value.list (value.more (value.list us) vs)) h = absurd (none_is_not_some _ h.0)
+  tag-of (value.list (value.more (value.string (Some hint) octets) vs)) h = absurd (none_is_not_some _ h.0)
+  tag-of (value.list (value.more (value.string None head) value.none)) h =
+      headed-of head value.none h.0 h.1 (λ each. (none, tt, refl)) (λ e each. (star, tt, refl))
+  tag-of (value.list (value.more (value.string None head) (value.more form vs))) h =
+      headed-of head (value.more form vs) h.0 h.1 (λ each. tags-of (value.more form vs) each)
+      (λ e each. star-of form vs e each (λ more_each. tags-of vs more_each))
+
+  tags-of : (vs : Values) → AllByRecursion IsFine (tags_in_all vs) → TagsOf vs
+  tags-of value.none h = (none, tt, refl)
+  tags-of (value.more v vs) h =
+      let p = tag-of v (apart_left IsFine (tags_in v) (tags_in_all vs) h) in
+      let q = tags-of vs (apart_right IsFine (tags_in v) (tags_in_all vs) h) in
+      (more p.0 q.0, (p.1, q.1), λ i. value.more (p.2 i) (q.2 i))
+
+pub tag_none : (v : Value) → tag_fault v ≡ None → (w : Tag) × IsTag w × (tag_value w ≡ v) × (nodes w ≤ 1024)
+unfolding tag_fault
+tag_none v e =
+    let p = looks-none 0 (tags_in v) (omega arith) e in
+    let t = tag-of v p.0 in
+    (t.0, t.1, t.2, omega (arith, p.1, tags_in-count v, ap tag_nodes t.2, tag_nodes-of t.0 t.1))
+
+pub tag_some : (v : Value) → ((w : Tag) × IsTag w × (tag_value w ≡ v) × (nodes w ≤ 1024)) → tag_fault v ≡ None
+unfolding tag_fault
+tag_some v t =
+    subst (λ (u : Value). first_fault (looks 0 (tags_in u)) ≡ None) t.2 (tag-past 0 t.0 t.1 (omega (arith, t.3)))
+
+pub tag_none_exactly : (v : Value) → (tag_fault v ≡ None) ↔ ((w : Tag) × IsTag w × (tag_value w ≡ v) × (nodes w ≤ 1024))
+tag_none_exactly v = (tag_none v, tag_some v)
+
+-- ---- the request that a value is
+
+part-none : (v : Value) (fs : List (Option TagFault)) → first_fault (part_fault v ∷ fs) ≡ None
+    → IsFinePart v × (first_fault fs ≡ None)
+part-none v fs e = by (part_fault v) refl e
+  where
+    by : (o : Option TagFault) → part_fault v ≡ o → first_fault (o ∷ fs) ≡ None → IsFinePart v × (first_fault fs ≡ None)
+    by None d e = (d, e)
+    by (Some f) d e = absurd (none_is_not_some _ e)
+
+parts-none : (vs : List Value) → first_fault (map part_fault vs) ≡ None → AllByRecursion IsFinePart vs
+parts-none [] e = tt
+parts-none (v ∷ vs) e = let p = part-none v (map part_fault vs) e in (p.0, parts-none vs p.1)
+
+abbrev IsBytes : List ℕ → Type 0
+IsBytes b = (i : ℕ) → slice_index b i < 256
+
+bytes-behind : (x : ℕ) (xs : List ℕ) → IsBytes (x ∷ xs) → IsBytes xs
+bytes-behind x xs h i = h (suc i)
+
+each-octet : (octets : List ℕ) → IsBytes octets → AllByRecursion (λ octet. octet < 256) octets
+each-octet [] h = tt
+each-octet (x ∷ xs) h = (h 0, each-octet xs (bytes-behind x xs h))
+
+octets-of : (octets : List ℕ) → IsBytes octets → AreOctets octets
+octets-of octets h = All-from_recursion (λ octet. octet < 256) octets (each-octet octets h)
+
+abbrev RequestFor : Value → Type 0
+RequestFor v = (g : Request) × IsRequest g × (request_value g ≡ v)
+
+abbrev RequestsFor : Values → Type 0
+RequestsFor vs = (gs : Requests) × AreRequests gs × (request_values gs ≡ vs)
+
+starless : (head : List ℕ) → unless (not (bytes_eq head (codes "*"))) faults.StarInRequest ≡ None → IsHead head
+starless head e = by (bytes_eq head (codes "*")) refl e
+  where
+    by : (b : Bool) → b ≡ bytes_eq head (codes "*") → unless (not b) faults.StarInRequest ≡ None → IsHead head
+    by true d e = absurd (none_is_not_some _ e)
+    by false d e = other_text head (codes "*") d
+
+mutual
+  request-of : (v : Value) → HasOctets v → AllByRecursion IsFinePart (value.nodes v) → RequestFor v
+  request-of (value.string None octets) o h = (request.string octets, octets-of octets o, refl)
+  request-of (value.string (Some hint) octets) o h = absurd (none_is_not_some _ h.0)
+  request-of (value.list value.none) o h = absurd (none_is_not_some _ h.0)
+  request-of (value.list (value.more (value.list us) vs)) o h = absurd (none_is_not_some _ h.0)
+  request-of (value.list (value.more (value.string (Some hint) octets) vs)) o h = absurd (none_is_not_some _ h.0)
+  request-of (value.list (value.more (value.string None head) vs)) o h =
+      let p = requests-of vs o.1 h.1.1 in
+      (request.list head p.0, (octets-of head o.0, starless head h.0, p.1), ap (λ us. value.list (value.more (plain head) us)) p.2)
+
+  requests-of : (vs : Values) → HaveOctets vs → AllByRecursion IsFinePart (value.nodes_all vs) → RequestsFor vs
+  requests-of value.none o h = (request.none, tt, refl)
+  requests-of (value.more v vs) o h =
+      let p = request-of v o.0 (apart_left IsFinePart (value.nodes v) (value.nodes_all vs) h) in
+      let q = requests-of vs o.1 (apart_right IsFinePart (value.nodes v) (value.nodes_all vs) h) in
+      (request.more p.0 q.0, (p.1, q.1), λ i. value.more (p.2 i) (q.2 i))
+
+pub request_none : (v : Value) → HasOctets v → request_fault v ≡ None → RequestFor v
+unfolding request_fault
+request_none v o e = request-of v o (parts-none (value.nodes v) e)
+
+pub request_none_exactly : (v : Value) → HasOctets v
+    → (request_fault v ≡ None) ↔ ((g : Request) × IsRequest g × (request_value g ≡ v))
+request_none_exactly v o = (request_none v o, λ g. request-faultless v g.0 g.1 g.2)

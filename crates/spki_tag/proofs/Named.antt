@@ -1,0 +1,326 @@
+-- Which fault a reader names.
+use Rattle.std.proofs.Common.{◌≡◌, ◌≢◌, ℕ, ◌+◌, ◌≤◌, ◌<◌, Bool, true, false, ◌&&◌, ◌||◌, not, inl, inr, List, [], ◌∷◌, ◌++◌, map, length, Option, Some, None, Result, Ok, Err, refl, sym, ap, ◌∙◌, subst, arith}
+use Rattle.std.specs.Prelude.{codes, if◌then◌else◌, IfErr}
+use Rattle.std.specs.Result.{IsErrAnd}
+use Rattle.std.proofs.Common.{append_assoc, true≢false}
+use Rattle.std.specs.List.{list_any}
+use Rattle.std.specs.Str.{bytes_eq}
+use Rattle.std.specs.Cmp.Lexicographic.{same_text}
+use Rattle.sexpr_core.specs.Labels.{members-values}
+use Rattle.sexpr_core.specs.Value as value
+use Rattle.sexpr_core.specs.Value.{Value, Values, plain, values, group, members}
+use Rattle.spki_tag.specs.declared.fault.TagFault.{TagFault}
+use Rattle.spki_tag.specs.declared.fault.TagFault.TheVariants as faults
+use Rattle.spki_tag.specs.FirstFault.{first_fault, unless}
+use Rattle.spki_tag.specs.FaultOf.{IsNamed, tags_in, tags_in_list, tags_in_all, own_fault, list_fault, star_fault, form_fault, prefix_fault, range_fault, limits_fault, group_fault, are_limits, is_ordering, is_hinted, is_limit, looks, tag_fault}
+use Rattle.spki_tag.specs.Faults.{IsHinted}
+use Rattle.spki_tag.specs.Request.{IsHead}
+use Rattle.spki_tag.specs.Steps.{fault_after, fault_after_all}
+use Rattle.spki_tag.specs.Faults.{AreNoLimits}
+use Rattle.spki_tag.specs.Steps.{IsRead}
+use Rattle.spki_tag.specs.Tag.{Tag, tags, tag_value, tag_values, starred, Limit, limit_values, low_values, up_values, Ordering, alpha, time, date, ordering_name}
+use Rattle.spki_tag.specs.Read.{most_read}
+use Rattle.spki_tag.proofs.FaultWalk.{first-none, first-some, looks-append, look-past, look-own, look-full, tag-past, tags-past, tags_in_all-count, list-fine, tags_in-list}
+use Rattle.spki_tag.proofs.Spelling.{IsReadSoFar, tag_values-tags}
+use Rattle.spki_tag.proofs.Shown.{tag_nodes_all-of}
+
+-- ---- what is named
+
+pub named-memory : (found : Option TagFault) → IsNamed faults.Memory found
+unfolding IsNamed
+named-memory found = inl refl
+
+pub named-first : (fault : TagFault) (found : Option TagFault) → found ≡ Some fault → IsNamed fault found
+unfolding IsNamed
+named-first fault found e = inr e
+
+pub named-by : (fault : TagFault) (f g : Option TagFault) → (f ≡ Some fault → g ≡ Some fault) → IsNamed fault f
+    → IsNamed fault g
+unfolding IsNamed
+named-by fault f g to (inl e) = inl e
+named-by fault f g to (inr e) = inr (to e)
+
+-- ---- the tag itself
+
+-- a tag is the first of those in it
+tags_in-first : (v : Value) → (rest : List Value) × (tags_in v ≡ v ∷ rest)
+tags_in-first (value.string hint octets) = ([], refl)
+tags_in-first (value.list vs) = (tags_in_list vs, refl)
+
+pub full : (used : ℕ) (v : Value) → most_read ≤ used → IsNamed faults.TooManyNodes (fault_after used v)
+unfolding fault_after
+full used v h =
+    let p = tags_in-first v in
+    named-first faults.TooManyNodes _ (ap (λ (vs : List Value). first_fault (looks used vs)) p.1 ∙ look-full used v p.0 h)
+
+pub itself : (used : ℕ) (v : Value) (fault : TagFault) (f : Option TagFault) → used < most_read → own_fault v ≡ f
+    → IsNamed fault f → IsNamed fault (fault_after used v)
+unfolding fault_after
+itself used v fault f h own =
+    let p = tags_in-first v in
+    named-by fault f _ (λ e. ap (λ (vs : List Value). first_fault (looks used vs)) p.1 ∙ look-own used v p.0 fault h (own ∙ e))
+
+-- what is wrong with a list of these members
+pub list-itself : (used : ℕ) (us vs : List Value) (fault : TagFault) → used < most_read → us ≡ vs
+    → IsNamed fault (list_fault vs) → IsNamed fault (fault_after used (group us))
+list-itself used us vs fault h e =
+    itself used (group us) fault (list_fault vs) h (ap list_fault (members-values us ∙ e))
+
+-- ---- results
+
+pub passed : {T : Type 0} (r : Result T TagFault) (fault : TagFault) (P : TagFault → Type 0) → IsErrAnd r (λ x. x ≡ fault)
+    → P fault → IfErr r P
+passed (Ok t) fault P h p = tt
+passed (Err x) fault P h p = subst P (sym h) p
+
+pub out_of_memory : {T : Type 0} (r : Result T TagFault) (found : Option TagFault) → IsErrAnd r (λ x. x ≡ faults.Memory)
+    → IfErr r (λ fault. IsNamed fault found)
+out_of_memory r found h = passed r faults.Memory (λ fault. IsNamed fault found) h (named-memory found)
+
+-- ---- lists that begin with the star
+
+pub star-itself : (used : ℕ) (us vs : List Value) (fault : TagFault) → used < most_read → us ≡ vs
+    → IsNamed fault (star_fault vs) → IsNamed fault (fault_after used (group (plain (codes "*") ∷ us)))
+star-itself used us vs fault h e =
+    list-itself used (plain (codes "*") ∷ us) (plain (codes "*") ∷ vs) fault h (ap (λ (xs : List Value). plain (codes "*") ∷ xs) e)
+
+pub form-itself : (used : ℕ) (word : List ℕ) (vs : List Value) (fault : TagFault) → used < most_read
+    → IsNamed fault (form_fault word vs) → IsNamed fault (fault_after used (starred word (values vs)))
+form-itself used word vs fault h n = star-itself used (plain word ∷ vs) (plain word ∷ vs) fault h refl n
+
+pub prefix-itself : (used : ℕ) (word : List ℕ) (vs : List Value) (fault : TagFault) → used < most_read
+    → true ≡ bytes_eq word (codes "prefix") → IsNamed fault (prefix_fault vs)
+    → IsNamed fault (fault_after used (starred word (values vs)))
+prefix-itself used word vs fault h e n =
+    form-itself used word vs fault h
+    (subst (λ (w : List ℕ). IsNamed fault (form_fault w vs)) (sym (same_text word (codes "prefix") e)) n)
+
+pub range-itself : (used : ℕ) (word : List ℕ) (vs : List Value) (fault : TagFault) → used < most_read
+    → true ≡ bytes_eq word (codes "range") → IsNamed fault (range_fault vs)
+    → IsNamed fault (fault_after used (starred word (values vs)))
+range-itself used word vs fault h e n =
+    form-itself used word vs fault h
+    (subst (λ (w : List ℕ). IsNamed fault (form_fault w vs)) (sym (same_text word (codes "range") e)) n)
+
+form-unknown : (a b c : Bool) (p r : Option TagFault) → false ≡ a → false ≡ b → false ≡ c
+    → (if a then None else if b then p else if c then r else Some faults.UnknownStar) ≡ Some faults.UnknownStar
+form-unknown true b c p r d e f = absurd (true≢false (sym d))
+form-unknown false true c p r d e f = absurd (true≢false (sym e))
+form-unknown false false true p r d e f = absurd (true≢false (sym f))
+form-unknown false false false p r d e f = refl
+
+pub unknown-itself : (used : ℕ) (word : List ℕ) (vs : List Value) → used < most_read
+    → false ≡ bytes_eq word (codes "set") → false ≡ bytes_eq word (codes "prefix") → false ≡ bytes_eq word (codes "range")
+    → IsNamed faults.UnknownStar (fault_after used (starred word (values vs)))
+unknown-itself used word vs h d e f =
+    form-itself used word vs faults.UnknownStar h
+    (named-first faults.UnknownStar _
+    (form-unknown (bytes_eq word (codes "set")) (bytes_eq word (codes "prefix")) (bytes_eq word (codes "range"))
+    (prefix_fault vs) (range_fault vs) d e f))
+
+pub star-list : (vs : List Value) (v : Value) (us ws : List Value) → vs ≡ v ∷ ws → group us ≡ v
+    → star_fault vs ≡ Some faults.UnknownStar
+star-list vs v us ws e f = ap star_fault (e ∙ ap (λ (x : Value). x ∷ ws) (sym f))
+
+pub star-hinted : (vs : List Value) (v : Value) (ws : List Value) → vs ≡ v ∷ ws → IsHinted v
+    → star_fault vs ≡ Some faults.Hint
+star-hinted vs v ws e h = ap star_fault (e ∙ ap (λ (x : Value). x ∷ ws) h.2)
+
+-- ---- heads
+
+pub head-list : (v : Value) (us : List Value) → group us ≡ v → (vs : List Value)
+    → (list_fault (v ∷ vs) ≡ Some faults.ListHead) × (group_fault (v ∷ vs) ≡ Some faults.ListHead)
+head-list v us e vs =
+    (ap (λ (x : Value). list_fault (x ∷ vs)) (sym e), ap (λ (x : Value). group_fault (x ∷ vs)) (sym e))
+
+pub head-hinted : (v : Value) → IsHinted v → (vs : List Value)
+    → (list_fault (v ∷ vs) ≡ Some faults.Hint) × (group_fault (v ∷ vs) ≡ Some faults.Hint)
+head-hinted v h vs =
+    (ap (λ (x : Value). list_fault (x ∷ vs)) h.2, ap (λ (x : Value). group_fault (x ∷ vs)) h.2)
+
+-- ---- prefixes
+
+prefix-long : (v w : Value) (vs : List Value) → prefix_fault (v ∷ w ∷ vs) ≡ Some faults.UnknownStar
+prefix-long (value.string None octets) w vs = refl
+prefix-long (value.string (Some hint) octets) w vs = refl
+prefix-long (value.list us) w vs = refl
+
+pub prefix-more : (vs : List Value) (v : Value) (us : List Value) → vs ≡ v ∷ us → us ≢ []
+    → prefix_fault vs ≡ Some faults.UnknownStar
+prefix-more vs v [] e more = absurd (more refl)
+prefix-more vs v (u ∷ us) e more = ap prefix_fault e ∙ prefix-long v u us
+
+prefix-group : (us ws : List Value) → prefix_fault (group us ∷ ws) ≡ Some faults.UnknownStar
+prefix-group us [] = refl
+prefix-group us (w ∷ ws) = refl
+
+pub prefix-list : (vs : List Value) (v : Value) (us ws : List Value) → vs ≡ v ∷ ws → group us ≡ v
+    → prefix_fault vs ≡ Some faults.UnknownStar
+prefix-list vs v us ws e f = ap prefix_fault (e ∙ ap (λ (x : Value). x ∷ ws) (sym f)) ∙ prefix-group us ws
+
+pub prefix-hinted : (vs : List Value) (v : Value) (ws : List Value) → vs ≡ v ∷ ws → ws ≡ [] → IsHinted v
+    → prefix_fault vs ≡ Some faults.Hint
+prefix-hinted vs v ws e none h = ap prefix_fault (e ∙ (λ i. h.2 i ∷ none i))
+
+-- ---- ranges
+
+-- not the name of an ordering
+unordered : (name : List ℕ) → ((ordering : Ordering) → name ≢ ordering_name ordering) → is_ordering name ≡ false
+unordered name other = by (bytes_eq name (codes "alpha")) (bytes_eq name (codes "time")) (bytes_eq name (codes "date")) refl refl refl
+  where
+    by : (a b c : Bool) → a ≡ bytes_eq name (codes "alpha") → b ≡ bytes_eq name (codes "time")
+        → c ≡ bytes_eq name (codes "date") → (a || b || c) ≡ false
+    by true b c d e f = absurd (other alpha (same_text name (codes "alpha") d))
+    by false true c d e f = absurd (other time (same_text name (codes "time") e))
+    by false false true d e f = absurd (other date (same_text name (codes "date") f))
+    by false false false d e f = refl
+
+pub ordering-other : (v : Value) (name : List ℕ) → plain name ≡ v → ((ordering : Ordering) → name ≢ ordering_name ordering)
+    → (vs : List Value) → range_fault (v ∷ vs) ≡ Some faults.RangeOrdering
+ordering-other v name e other vs =
+    ap (λ (x : Value). range_fault (x ∷ vs)) (sym e)
+    ∙ ap (λ b. if b then limits_fault vs else Some faults.RangeOrdering) (unordered name other)
+
+-- a limit behind one of two words
+limit-of : (above from : List ℕ) (v w : Value) → is_limit above from v w ≡ true
+    → (l : Limit) × (limit_values above from (Some l) ≡ v ∷ w ∷ [])
+limit-of above from v (value.string (Some hint) octets) h = absurd (true≢false (sym h))
+limit-of above from v (value.list us) h = absurd (true≢false (sym h))
+limit-of above from (value.string (Some hint) octets) (value.string None limit) h = absurd (true≢false (sym h))
+limit-of above from (value.list us) (value.string None limit) h = absurd (true≢false (sym h))
+limit-of above from (value.string None word) (value.string None limit) h = by (bytes_eq word above) (bytes_eq word from) refl refl h
+  where
+    by : (a b : Bool) → a ≡ bytes_eq word above → b ≡ bytes_eq word from → (a || b) ≡ true
+        → (l : Limit) × (limit_values above from (Some l) ≡ plain word ∷ plain limit ∷ [])
+    by true b d e h =
+        (record { strict = true; octets = limit }, ap (λ (x : List ℕ). plain x ∷ plain limit ∷ []) (sym (same_text word above d)))
+    by false true d e h =
+        (record { strict = false; octets = limit }, ap (λ (x : List ℕ). plain x ∷ plain limit ∷ []) (sym (same_text word from e)))
+    by false false d e h = absurd (true≢false (sym h))
+
+-- limits that are there
+pub limits-of : (vs : List Value) → are_limits vs ≡ true
+    → (low : Option Limit) × (up : Option Limit) × (low_values low ++ up_values up ≡ vs)
+limits-of [] h = (None, None, refl)
+limits-of (v ∷ []) h = absurd (true≢false (sym h))
+limits-of (v ∷ w ∷ x ∷ []) h = absurd (true≢false (sym h))
+limits-of (v ∷ w ∷ x ∷ y ∷ z ∷ vs) h = absurd (true≢false (sym h))
+limits-of (v ∷ w ∷ []) h =
+    by (is_limit (codes "g") (codes "ge") v w) (is_limit (codes "l") (codes "le") v w) refl refl h
+  where
+    by : (a b : Bool) → is_limit (codes "g") (codes "ge") v w ≡ a → is_limit (codes "l") (codes "le") v w ≡ b
+        → (a || b) ≡ true → (low : Option Limit) × (up : Option Limit) × (low_values low ++ up_values up ≡ v ∷ w ∷ [])
+    by true b d e h =
+        let l = limit-of (codes "g") (codes "ge") v w d in
+        (Some l.0, None, l.1)
+    by false true d e h =
+        let u = limit-of (codes "l") (codes "le") v w e in
+        (None, Some u.0, u.1)
+    by false false d e h = absurd (true≢false (sym h))
+limits-of (v ∷ w ∷ x ∷ y ∷ []) h =
+    by (is_limit (codes "g") (codes "ge") v w) (is_limit (codes "l") (codes "le") x y) refl refl h
+  where
+    by : (a b : Bool) → is_limit (codes "g") (codes "ge") v w ≡ a → is_limit (codes "l") (codes "le") x y ≡ b
+        → (a && b) ≡ true
+        → (low : Option Limit) × (up : Option Limit) × (low_values low ++ up_values up ≡ v ∷ w ∷ x ∷ y ∷ [])
+    by true true d e h =
+        let l = limit-of (codes "g") (codes "ge") v w d in
+        let u = limit-of (codes "l") (codes "le") x y e in
+        (Some l.0, Some u.0, λ i. l.1 i ++ u.1 i)
+    by true false d e h = absurd (true≢false (sym h))
+    by false b d e h = absurd (true≢false (sym h))
+
+pub no_limits : (vs : List Value) → AreNoLimits vs → are_limits vs ≡ false
+no_limits vs none = by (are_limits vs) refl
+  where
+    by : (b : Bool) → are_limits vs ≡ b → b ≡ false
+    by true e = let l = limits-of vs e in absurd (none l.0 l.1 l.2)
+    by false e = refl
+
+pub limits-hinted : (vs : List Value) → list_any is_hinted vs ≡ true → limits_fault vs ≡ Some faults.Hint
+limits-hinted vs h = ap (λ b. first_fault (unless (not b) faults.Hint ∷ unless (are_limits vs) faults.RangeLimit ∷ [])) h
+
+pub limits-other : (vs : List Value) → list_any is_hinted vs ≡ false → AreNoLimits vs
+    → limits_fault vs ≡ Some faults.RangeLimit
+limits-other vs h none =
+    ap (λ b. first_fault (unless (not b) faults.Hint ∷ unless (are_limits vs) faults.RangeLimit ∷ [])) h
+    ∙ ap (λ b. first_fault (unless b faults.RangeLimit ∷ [])) (no_limits vs none)
+
+-- ---- lists and sets
+
+pub no_room_for_head-named : (used : ℕ) (head : List ℕ) (vs : List Value) → IsHead head → used < most_read
+    → most_read ≤ used + 1 → IsNamed faults.TooManyNodes (fault_after used (group (plain head ∷ vs)))
+unfolding fault_after
+no_room_for_head-named used head vs h room full =
+    named-first faults.TooManyNodes _
+    (ap (λ (us : List Value). first_fault (looks used us)) (tags_in-list head (values vs) h)
+    ∙ look-past used (group (plain head ∷ vs)) (plain head ∷ tags_in_all (values vs)) room (list-fine head (values vs) h)
+    ∙ look-full (used + 1) (plain head) (tags_in_all (values vs)) full)
+
+pub list-members : (used : ℕ) (head : List ℕ) (vs : List Value) (fault : TagFault) → IsHead head → used + 1 < most_read
+    → IsNamed fault (fault_after_all (used + 2) vs) → IsNamed fault (fault_after used (group (plain head ∷ vs)))
+unfolding fault_after fault_after_all
+list-members used head vs fault h room =
+    named-by fault (first_fault (looks (used + 2) (tags_in_all (values vs)))) _
+    (λ e. ap (λ (us : List Value). first_fault (looks used us)) (tags_in-list head (values vs) h)
+    ∙ look-past used (group (plain head ∷ vs)) (plain head ∷ tags_in_all (values vs)) (omega arith) (list-fine head (values vs) h)
+    ∙ look-past (used + 1) (plain head) (tags_in_all (values vs)) room refl
+    ∙ ap (λ n. first_fault (looks n (tags_in_all (values vs)))) (omega arith) ∙ e)
+
+pub set-members : (used : ℕ) (vs : List Value) (fault : TagFault) → used < most_read
+    → IsNamed fault (fault_after_all (used + 1) vs) → IsNamed fault (fault_after used (starred (codes "set") (values vs)))
+unfolding fault_after fault_after_all
+set-members used vs fault room =
+    named-by fault (first_fault (looks (used + 1) (tags_in_all (values vs)))) _
+    (λ e. look-past used (starred (codes "set") (values vs)) (tags_in_all (values vs)) room refl ∙ e)
+
+-- ---- the members, one after the other
+
+tags_in_all-append : (us : List Value) (v : Value) (vs : List Value)
+    → tags_in_all (values (us ++ v ∷ vs)) ≡ tags_in_all (values us) ++ (tags_in v ++ tags_in_all (values vs))
+tags_in_all-append [] v vs = refl
+tags_in_all-append (u ∷ us) v vs =
+    ap (λ (xs : List Value). tags_in u ++ xs) (tags_in_all-append us v vs)
+    ∙ sym (append_assoc (tags_in u) (tags_in_all (values us)) (tags_in v ++ tags_in_all (values vs)))
+
+-- what is found in a member, where nothing is found in those before it
+member-found : (used counted : ℕ) (us : List Value) (v : Value) (vs : List Value) (fault : TagFault)
+    → first_fault (looks used (tags_in_all (values us))) ≡ None → counted ≡ used + length (tags_in_all (values us))
+    → first_fault (looks counted (tags_in v)) ≡ Some fault
+    → first_fault (looks used (tags_in_all (values (us ++ v ∷ vs)))) ≡ Some fault
+member-found used counted us v vs fault fine sum found =
+    ap (λ (xs : List Value). first_fault (looks used xs)) (tags_in_all-append us v vs)
+    ∙ ap first_fault (looks-append used (tags_in_all (values us)) (tags_in v ++ tags_in_all (values vs)))
+    ∙ first-none (looks used (tags_in_all (values us))) _ fine
+    ∙ ap (λ n. first_fault (looks n (tags_in v ++ tags_in_all (values vs)))) (sym sum)
+    ∙ ap first_fault (looks-append counted (tags_in v) (tags_in_all (values vs)))
+    ∙ first-some (looks counted (tags_in v)) _ fault found
+
+pub so_far-named : (fault : TagFault) (used counted : ℕ) (vs left further : List Value) (ts : List Tag) (v : Value)
+    → IsReadSoFar used vs ts counted left → left ≡ v ∷ further → IsNamed fault (fault_after counted v)
+    → IsNamed fault (fault_after_all used vs)
+unfolding fault_after fault_after_all
+so_far-named fault used counted vs left further ts v so_far e =
+    let whole : map tag_value so_far.ws ++ v ∷ further ≡ vs =
+    ap (λ (us : List Value). map tag_value so_far.ws ++ us) (sym e) ∙ so_far.spelled in
+    let same = tag_values-tags so_far.ws in
+    named-by fault (first_fault (looks counted (tags_in v))) _
+    (λ found. subst (λ (us : List Value). first_fault (looks used (tags_in_all (values us))) ≡ Some fault) whole
+    (member-found used counted (map tag_value so_far.ws) v further fault
+    (subst (λ us. first_fault (looks used (tags_in_all us)) ≡ None) same
+    (tags-past used (tags so_far.ws) so_far.written (omega (arith, so_far.sum, so_far.few))))
+    (subst (λ us. counted ≡ used + length (tags_in_all us)) same
+    (omega (arith, so_far.sum, tags_in_all-count (tag_values (tags so_far.ws)), tag_nodes_all-of (tags so_far.ws) so_far.written)))
+    found))
+
+-- ---- the whole
+
+pub at_first : (fault : TagFault) (v : Value) → IsNamed fault (fault_after 0 v) → IsNamed fault (tag_fault v)
+unfolding fault_after tag_fault
+at_first fault v h = h
+
+pub read-faultless : (v : Value) (t : Tag) (after : ℕ) → IsRead 0 v t after → tag_fault v ≡ None
+unfolding tag_fault
+read-faultless v t after r =
+    subst (λ (u : Value). first_fault (looks 0 (tags_in u)) ≡ None) r.spelled
+    (tag-past 0 r.w r.written (omega (arith, r.counted, r.few)))

@@ -1,0 +1,125 @@
+-- Which fault a reader of requests names.
+use Rattle.std.proofs.Common.{◌≡◌, ℕ, not, List, [], ◌∷◌, ◌++◌, map, Option, Some, None, Result, Ok, Err, refl, sym, ap, ◌∙◌, subst, append_assoc}
+use Rattle.std.specs.Prelude.{codes, IfOk}
+use Rattle.std.specs.List.{AllByRecursion}
+use Rattle.std.proofs.lemmas.List.{map-append}
+use Rattle.sexpr_core.specs.Labels.{members-values}
+use Rattle.sexpr_core.specs.Value as value
+use Rattle.sexpr_core.specs.Value.{Value, Values, plain, values, group, members}
+use Rattle.spki_tag.specs.declared.fault.TagFault.{TagFault}
+use Rattle.spki_tag.specs.declared.fault.TagFault.TheVariants as faults
+use Rattle.spki_tag.specs.FirstFault.{first_fault, unless}
+use Rattle.spki_tag.specs.FaultOf.{IsNamed, part_fault, group_fault, request_fault}
+use Rattle.spki_tag.specs.Request.{Request, Requests, requests, string, list, none, more, IsHead, IsRequest, AreRequests, request_value, request_values}
+use Rattle.spki_tag.specs.Steps.{fault_of_requests}
+use Rattle.spki_tag.proofs.FaultWalk.{first-none, first-some, head-apart, both}
+use Rattle.spki_tag.proofs.Named.{named-by}
+use Rattle.spki_tag.proofs.Requests.{AreReadSoFar, request_values-requests}
+
+-- ---- a value itself
+
+-- a value is the first of its parts
+nodes-first : (v : Value) → (rest : List Value) × (value.nodes v ≡ v ∷ rest)
+nodes-first (value.string hint octets) = ([], refl)
+nodes-first (value.list vs) = (value.nodes_all vs, refl)
+
+found-first : (v : Value) (rest : List Value) (fault : TagFault) → part_fault v ≡ Some fault
+    → first_fault (map part_fault (v ∷ rest)) ≡ Some fault
+found-first v rest fault e = ap (λ (f : Option TagFault). first_fault (f ∷ map part_fault rest)) e
+
+found-past : (v : Value) (rest : List Value) → part_fault v ≡ None
+    → first_fault (map part_fault (v ∷ rest)) ≡ first_fault (map part_fault rest)
+found-past v rest e = ap (λ (f : Option TagFault). first_fault (f ∷ map part_fault rest)) e
+
+pub part-itself : (v : Value) (fault : TagFault) (f : Option TagFault) → part_fault v ≡ f → IsNamed fault f
+    → IsNamed fault (request_fault v)
+unfolding request_fault
+part-itself v fault f own =
+    let p = nodes-first v in
+    named-by fault f _
+    (λ e. ap (λ (vs : List Value). first_fault (map part_fault vs)) p.1 ∙ found-first v p.0 fault (own ∙ e))
+
+pub group-itself : (us vs : List Value) (fault : TagFault) → us ≡ vs → IsNamed fault (group_fault vs)
+    → IsNamed fault (request_fault (group us))
+group-itself us vs fault e = part-itself (group us) fault (group_fault vs) (ap group_fault (members-values us ∙ e))
+
+pub star-group : (vs : List Value) (v : Value) (us : List Value) → vs ≡ v ∷ us → v ≡ plain (codes "*")
+    → group_fault vs ≡ Some faults.StarInRequest
+star-group vs v us e h = ap group_fault (e ∙ ap (λ (x : Value). x ∷ us) h)
+
+-- ---- lists
+
+group-fine : (head : List ℕ) (vs : Values) → IsHead head → part_fault (value.list (value.more (plain head) vs)) ≡ None
+group-fine head vs h = ap (λ b. unless (not b) faults.StarInRequest) (head-apart head h)
+
+pub group-members : (head : List ℕ) (vs : List Value) (fault : TagFault) → IsHead head
+    → IsNamed fault (fault_of_requests vs) → IsNamed fault (request_fault (group (plain head ∷ vs)))
+unfolding request_fault fault_of_requests
+group-members head vs fault h =
+    named-by fault (first_fault (map part_fault (value.nodes_all (values vs)))) _
+    (λ e. found-past (group (plain head ∷ vs)) (plain head ∷ value.nodes_all (values vs)) (group-fine head (values vs) h) ∙ e)
+
+-- ---- nothing is wrong with a request that is written
+
+abbrev pub IsFinePart : Value → Type 0
+IsFinePart v = part_fault v ≡ None
+
+mutual
+  pub request-fine : (g : Request) → IsRequest g → AllByRecursion IsFinePart (value.nodes (request_value g))
+  request-fine (string octets) h = (refl, tt)
+  request-fine (list head further) h = (group-fine head (request_values further) h.1, (refl, requests-fine further h.2))
+
+  pub requests-fine : (gs : Requests) → AreRequests gs → AllByRecursion IsFinePart (value.nodes_all (request_values gs))
+  requests-fine none h = tt
+  requests-fine (more g gs) h =
+      both IsFinePart (value.nodes (request_value g)) (value.nodes_all (request_values gs)) (request-fine g h.0) (requests-fine gs h.1)
+
+pub parts-fine : (vs : List Value) → AllByRecursion IsFinePart vs → first_fault (map part_fault vs) ≡ None
+parts-fine [] h = refl
+parts-fine (v ∷ vs) h = found-past v vs h.0 ∙ parts-fine vs h.1
+
+-- ---- the members, one after the other
+
+nodes_all-append : (us : List Value) (v : Value) (vs : List Value)
+    → value.nodes_all (values (us ++ v ∷ vs)) ≡ value.nodes_all (values us) ++ (value.nodes v ++ value.nodes_all (values vs))
+nodes_all-append [] v vs = refl
+nodes_all-append (u ∷ us) v vs =
+    ap (λ (xs : List Value). value.nodes u ++ xs) (nodes_all-append us v vs)
+    ∙ sym (append_assoc (value.nodes u) (value.nodes_all (values us)) (value.nodes v ++ value.nodes_all (values vs)))
+
+part-found : (us : List Value) (v : Value) (vs : List Value) (fault : TagFault)
+    → first_fault (map part_fault (value.nodes_all (values us))) ≡ None
+    → first_fault (map part_fault (value.nodes v)) ≡ Some fault
+    → first_fault (map part_fault (value.nodes_all (values (us ++ v ∷ vs)))) ≡ Some fault
+part-found us v vs fault fine found =
+    ap (λ (xs : List Value). first_fault (map part_fault xs)) (nodes_all-append us v vs)
+    ∙ ap first_fault (map-append part_fault (value.nodes_all (values us)) (value.nodes v ++ value.nodes_all (values vs)))
+    ∙ first-none (map part_fault (value.nodes_all (values us))) _ fine
+    ∙ ap first_fault (map-append part_fault (value.nodes v) (value.nodes_all (values vs)))
+    ∙ first-some (map part_fault (value.nodes v)) _ fault found
+
+pub so_far-named : (fault : TagFault) (vs left further : List Value) (gs : List Request) (v : Value)
+    → AreReadSoFar vs gs left → left ≡ v ∷ further → IsNamed fault (request_fault v) → IsNamed fault (fault_of_requests vs)
+unfolding request_fault fault_of_requests
+so_far-named fault vs left further gs v so_far e =
+    let whole : map request_value gs ++ v ∷ further ≡ vs =
+    ap (λ (us : List Value). map request_value gs ++ us) (sym e) ∙ so_far.spelled in
+    named-by fault (first_fault (map part_fault (value.nodes v))) _
+    (λ found. subst (λ (us : List Value). first_fault (map part_fault (value.nodes_all (values us))) ≡ Some fault) whole
+    (part-found (map request_value gs) v further fault
+    (subst (λ us. first_fault (map part_fault (value.nodes_all us)) ≡ None) (request_values-requests gs)
+    (parts-fine _ (requests-fine (requests gs) so_far.written)))
+    found))
+
+-- ---- the whole
+
+pub request-faultless : (v : Value) (g : Request) → IsRequest g → request_value g ≡ v → request_fault v ≡ None
+unfolding request_fault
+request-faultless v g h e =
+    subst (λ (u : Value). first_fault (map part_fault (value.nodes u)) ≡ None) e
+    (parts-fine (value.nodes (request_value g)) (request-fine g h))
+
+pub result-faultless : (r : Result Request TagFault) (v : Value) → IfOk r (λ g. IsRequest g)
+    → IfOk r (λ g. request_value g ≡ v) → IfOk r (λ g. request_fault v ≡ None)
+result-faultless (Ok g) v h e = request-faultless v g h e
+result-faultless (Err fault) v h e = tt
