@@ -1,5 +1,5 @@
 -- What is known while subjects and fields are read.
-use Rattle.std.specs.Prelude.{◌≡◌, ◌≢◌, ℕ, ◌⊎◌, Bool, true, false, List, ◌∷◌, ◌++◌, ◌+◌, length, Option, Some, None, Contains, codes, is_some, if◌then◌else◌}
+use Rattle.std.specs.Prelude.{◌≡◌, ◌≢◌, ℕ, ◌⊎◌, Bool, true, false, List, [], ◌∷◌, ◌++◌, ◌+◌, length, Option, Some, None, Contains, codes, is_some, not, if◌then◌else◌}
 use Rattle.std.specs.Str.{bytes_eq}
 use Rattle.std.specs.List.{AllByRecursion, list_any}
 use Rattle.sexpr_core.specs.Value.{Value, plain, group}
@@ -23,6 +23,10 @@ use Rattle.spki_cert.specs.declared.issuing.CertParts.{CertParts}
 use Rattle.spki_cert.specs.declared.certificate.SeqItem.{SeqItem}
 use Rattle.spki_cert.specs.declared.certificate.SeqItem.TheVariants as items
 use Rattle.spki_cert.specs.declared.fault.CertFault.{CertFault}
+use Rattle.spki_tag.specs.FirstFault.{first_fault, unless}
+use Rattle.spki_cert.specs.declared.hash.HashAlg.{HashAlg}
+use Rattle.spki_cert.specs.FixedFaults.{is_plain, any_octets, is_sized}
+use Rattle.spki_cert.specs.FieldFaults.{is_again, limit_fault}
 use Rattle.spki_cert.specs.Readings.{DateOf}
 use Rattle.spki_cert.specs.Subjects.{PrincipalOf, plains}
 use Rattle.spki_cert.specs.Fields.{is_headed, Sole, Given, IssuerIn, WhoIn, LimitsAre, ValidOf, IsField, IsCertField, AreFields, propagates, WindowOf}
@@ -52,6 +56,10 @@ AlgShows kind v =
     → (w ≡ group (plain (codes "hash") ∷ v ∷ rest)) ⊎ (w ≡ group (plain (codes "do") ∷ plain (codes "hash") ∷ v ∷ rest))
     → Shows kind w
 
+-- what is wrong with the digest of an algorithm
+abbrev pub digest_fault : HashAlg → Value → Option CertFaultKind
+digest_fault alg v = first_fault (unless (is_plain any_octets v) kinds.Shape ∷ unless (is_plain (is_sized (Some alg)) v) kinds.DigestLength ∷ [])
+
 -- ---- fields
 
 -- a tag's fault as one of a structure: want of memory is one thing
@@ -71,6 +79,12 @@ pub data AddsLimit (v : Value) (before after : Window) : Type 0 where
   last :
       (date : List ℕ) → Headed (codes "not-after") (Sole DateOf) v date → before.not_after ≡ None
       → after ≡ record { not_before = before.not_before; not_after = Some date } → AddsLimit v before after
+
+-- what is found in one limit behind those of a window
+abbrev pub LimitLook : Window → Value → Option CertFaultKind → Type 0
+LimitLook w v found =
+    (before : List Value) → ValidOf before w
+    → first_fault (unless (not (is_again before v)) kinds.Shape ∷ limit_fault v ∷ []) ≡ found
 
 -- the window has the limit with this head
 abbrev pub HasLimit : Value → Window → Type 0

@@ -3,6 +3,11 @@ pub mod Time
 pub mod Readings
 pub mod Subjects
 pub mod Fields
+pub mod Places
+pub mod FixedFaults
+pub mod SubjectFaults
+pub mod FieldFaults
+pub mod ItemFaults
 pub mod Faults
 pub mod Refusals
 pub mod Entries

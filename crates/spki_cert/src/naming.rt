@@ -1,10 +1,13 @@
 //! Principals, names, subjects and issuers, as they are read.
 
-ghost use Rattle.std.specs.Prelude.{◌≡◌, ◌≢◌, ◌∷◌, ◌++◌, [], ℕ, List, Option, Some, None, codes, IfOk, IfErr};
+ghost use Rattle.std.specs.Prelude.{◌≡◌, ◌≢◌, false, ◌∷◌, ◌++◌, [], ℕ, List, Option, Some, None, codes, IfOk, IfErr};
 ghost use Rattle.sexpr_core.specs.Value.{Value, plain, group};
 ghost use Rattle.spki_cert.specs.declared.principal.Principal.{Principal};
 ghost use Rattle.spki_cert.specs.Subjects.{PrincipalOf, IsWho, WhoOf, IssuerOf, plains};
 ghost use Rattle.spki_cert.specs.Faults.{Shows};
+ghost use Rattle.std.specs.List.{list_all};
+ghost use Rattle.spki_tag.specs.FirstFault.{unless};
+ghost use Rattle.spki_cert.specs.SubjectFaults.{principal_fault, is_name, names_fault, subject_fault, issuer_fault};
 ghost use Rattle.spki_cert.specs.Gathering.{NamesWho, SubjectShows};
 
 use crate::fault::CertFaultKind;
@@ -36,6 +39,8 @@ pub(crate) struct Issuer<'a> {
 pub fn principal_of<'a>(node: &Node<'_, 'a>) -> Result<Principal<'a>, CertFaultKind>
     ensures found { IfOk result (λ principal. PrincipalOf node.now principal) }
     ensures refused { IfErr result (λ _. (principal : Principal) → PrincipalOf node.now principal → ⊥) }
+    ensures faultless { IfOk result (λ _. principal_fault node.now ≡ None) }
+    ensures named { IfErr result (λ kind. principal_fault node.now ≡ Some kind) }
     ensures shown { IfErr result (λ kind. Shows kind node.now) }
     ensures fault { IfErr result (λ kind. kind ≢ CertFaultKind.Memory) }
 {
@@ -60,6 +65,8 @@ fn names_behind<'a>(
         × (members.entry ≡ plains behind)) }
     ensures refused { IfErr result (λ kind. kind ≢ CertFaultKind.Memory →
         (behind : List (List ℕ)) → members.entry ≢ plains behind) }
+    ensures named { IfErr result (λ kind. kind ≢ CertFaultKind.Memory →
+        (list_all is_name members.entry ≡ false) × (kind ≡ CertFaultKind.Shape)) }
     ensures shown { IfErr result (λ kind. (v : Value) → Shows kind v) }
 {
     let mut rest = members;
@@ -79,6 +86,8 @@ fn named_by<'a>(alloc: Global, members: Members<'_, 'a>) -> Result<Who<'a>, Cert
     ensures found { IfOk result (λ who. NamesWho members.entry who.principal who.names.items) }
     ensures refused { IfErr result (λ kind. kind ≢ CertFaultKind.Memory →
         (principal : Option Principal) (names : List (List ℕ)) → NamesWho members.entry principal names → ⊥) }
+    ensures faultless { IfOk result (λ _. names_fault members.entry ≡ None) }
+    ensures named { IfErr result (λ kind. kind ≢ CertFaultKind.Memory → names_fault members.entry ≡ Some kind) }
     ensures shown { IfErr result (λ kind. Shows kind (group (plain (codes "name") ∷ members.entry))) }
 {
     let Some((first, others)) = members.split_first() else {
@@ -109,6 +118,8 @@ pub(crate) fn who_of<'a>(alloc: Global, node: &Node<'_, 'a>) -> Result<Who<'a>, 
     ensures found { IfOk result (λ who. WhoOf node.now who.principal who.names.items) }
     ensures refused { IfErr result (λ kind. kind ≢ CertFaultKind.Memory →
         (principal : Option Principal) (names : List (List ℕ)) → WhoOf node.now principal names → ⊥) }
+    ensures faultless { IfOk result (λ _. subject_fault node.now ≡ None) }
+    ensures named { IfErr result (λ kind. kind ≢ CertFaultKind.Memory → subject_fault node.now ≡ Some kind) }
     ensures shown { IfErr result (λ kind. SubjectShows kind node.now) }
 {
     if let Some(_) = node.headed(b"k-of-n") {
@@ -132,6 +143,8 @@ pub(crate) fn issuer_of<'a>(node: &Node<'_, 'a>) -> Result<Issuer<'a>, CertFault
     ensures found { IfOk result (λ issuer. IssuerOf node.now issuer.principal issuer.name) }
     ensures refused { IfErr result (λ _.
         (principal : Principal) (name : Option (List ℕ)) → IssuerOf node.now principal name → ⊥) }
+    ensures faultless { IfOk result (λ _. issuer_fault node.now ≡ None) }
+    ensures named { IfErr result (λ kind. issuer_fault node.now ≡ Some kind) }
     ensures shown { IfErr result (λ kind. Shows kind node.now) }
     ensures fault { IfErr result (λ kind. kind ≢ CertFaultKind.Memory) }
 {

@@ -1,10 +1,11 @@
 //! Keys, hashes and dates, as they are read.
 
-ghost use Rattle.std.specs.Prelude.{◌≡◌, ◌≢◌, IfOk, IfErr, codes, ◌∷◌, ℕ, List, Some, IsSome, MatchOption, MatchResult, IfSome, MatchBool};
+ghost use Rattle.std.specs.Prelude.{◌≡◌, ◌≢◌, IfOk, IfErr, codes, ◌∷◌, ℕ, List, Some, None, IsSome, MatchOption, MatchResult, IfSome, MatchBool};
 ghost use Rattle.spki_cert.specs.declared.hash.HashAlg.{HashAlg};
 ghost use Rattle.sexpr_core.specs.Value.{Value, node, plain, group, canon};
 ghost use Rattle.spki_cert.specs.Faults.{Shows};
-ghost use Rattle.spki_cert.specs.Gathering.{AlgShows};
+ghost use Rattle.spki_cert.specs.FixedFaults.{key_fault, hash_fault, date_fault, alg_fault};
+ghost use Rattle.spki_cert.specs.Gathering.{AlgShows, digest_fault};
 ghost use Rattle.spki_cert.specs.Readings.{KeyOf, IsNoKey, HashOf, IsNoHash, DateOf, IsNoDate, DigestOf, AreUris, IsAlgorithm, alg_name, digest_len};
 
 use crate::date::Date;
@@ -19,6 +20,8 @@ use sexpr_core::{Doc, NodeId};
 pub fn key_of<'a>(node: &Node<'_, 'a>) -> Result<Key<'a>, CertFaultKind>
     ensures key { IfOk result (λ key. KeyOf node.now key) }
     ensures refused { IfErr result (λ _. IsNoKey node.now) }
+    ensures faultless { IfOk result (λ _. key_fault node.now ≡ None) }
+    ensures named { IfErr result (λ kind. key_fault node.now ≡ Some kind) }
     ensures shown { IfErr result (λ kind. Shows kind node.now) }
     ensures fault { IfErr result (λ kind. kind ≢ CertFaultKind.Memory) }
 {
@@ -57,6 +60,8 @@ fn is_algorithm(node: &Node) -> bool
 pub fn date_of(node: &Node) -> Result<Date, CertFaultKind>
     ensures date { IfOk result (λ date. DateOf node.now date) }
     ensures refused { IfErr result (λ _. IsNoDate node.now) }
+    ensures faultless { IfOk result (λ _. date_fault node.now ≡ None) }
+    ensures named { IfErr result (λ kind. date_fault node.now ≡ Some kind) }
     ensures fault { IfErr result (λ kind. kind ≡ CertFaultKind.BadDate) }
 {
     let Some(octets) = node.plain_octets() else {
@@ -72,6 +77,8 @@ pub fn date_of(node: &Node) -> Result<Date, CertFaultKind>
 pub(crate) fn algorithm_of(node: &Node) -> Result<HashAlg, CertFaultKind>
     ensures named { IfOk result (λ alg. node.now ≡ plain (alg_name alg)) }
     ensures refused { IfErr result (λ _. (alg : HashAlg) → node.now ≢ plain (alg_name alg)) }
+    ensures faultless { IfOk result (λ _. alg_fault node.now ≡ None) }
+    ensures first { IfErr result (λ kind. alg_fault node.now ≡ Some kind) }
     ensures shown { IfErr result (λ kind. AlgShows kind node.now) }
     ensures fault { IfErr result (λ kind. kind ≢ CertFaultKind.Memory) }
 {
@@ -89,6 +96,8 @@ pub(crate) fn algorithm_of(node: &Node) -> Result<HashAlg, CertFaultKind>
 fn digest_of<'a>(alg: HashAlg, node: &Node<'_, 'a>) -> Result<Octets<'a>, CertFaultKind>
     ensures digest { IfOk result (λ digest. DigestOf node.now alg digest) }
     ensures refused { IfErr result (λ _. (digest : List ℕ) → DigestOf node.now alg digest → ⊥) }
+    ensures faultless { IfOk result (λ _. digest_fault alg node.now ≡ None) }
+    ensures named { IfErr result (λ kind. digest_fault alg node.now ≡ Some kind) }
     ensures shown { IfErr result (λ kind. (rest : List Value) →
         Shows kind (group (plain (codes "hash") ∷ plain (alg_name alg) ∷ node.now ∷ rest))) }
     ensures fault { IfErr result (λ kind. kind ≢ CertFaultKind.Memory) }
@@ -117,6 +126,8 @@ fn ends_in_uris(rest: Members) -> bool
 pub fn hash_of<'a>(node: &Node<'_, 'a>) -> Result<(HashAlg, Octets<'a>), CertFaultKind>
     ensures hash { IfOk result (λ h. HashOf node.now h.0 h.1) }
     ensures refused { IfErr result (λ _. IsNoHash node.now) }
+    ensures faultless { IfOk result (λ _. hash_fault node.now ≡ None) }
+    ensures named { IfErr result (λ kind. hash_fault node.now ≡ Some kind) }
     ensures shown { IfErr result (λ kind. Shows kind node.now) }
     ensures fault { IfErr result (λ kind. kind ≢ CertFaultKind.Memory) }
 {
@@ -148,6 +159,9 @@ pub fn read_key<'a>(document: &Doc<'a>, n: NodeId) -> Result<Key<'a>, CertFault>
     requires { IsSome (node document.now n.0) }
     ensures key { IfSome (node document.now n.0) (λ value. IfOk result (λ key. KeyOf value key)) }
     ensures refused { IfSome (node document.now n.0) (λ value. IfErr result (λ _. IsNoKey value)) }
+    // The fault that is named is the first from the left; what is read has none.
+    ensures named { IfSome (node document.now n.0) (λ value. IfErr result (λ fault. key_fault value ≡ Some fault.kind)) }
+    ensures faultless { IfSome (node document.now n.0) (λ value. IfOk result (λ _. key_fault value ≡ None)) }
     // A kind other than Shape shows on the value.
     ensures shown { IfSome (node document.now n.0) (λ value. IfErr result (λ fault. Shows fault.kind value)) }
     ensures fault { IfErr result (λ fault. (fault.item ≡ 0) × (fault.kind ≢ CertFaultKind.Memory)) }
@@ -171,6 +185,9 @@ pub fn read_hash<'a>(document: &Doc<'a>, n: NodeId) -> Result<(HashAlg, Octets<'
     requires { IsSome (node document.now n.0) }
     ensures hash { IfSome (node document.now n.0) (λ value. IfOk result (λ hash. HashOf value hash.0 hash.1)) }
     ensures refused { IfSome (node document.now n.0) (λ value. IfErr result (λ _. IsNoHash value)) }
+    // The fault that is named is the first from the left; what is read has none.
+    ensures named { IfSome (node document.now n.0) (λ value. IfErr result (λ fault. hash_fault value ≡ Some fault.kind)) }
+    ensures faultless { IfSome (node document.now n.0) (λ value. IfOk result (λ _. hash_fault value ≡ None)) }
     // A kind other than Shape shows on the value.
     ensures shown { IfSome (node document.now n.0) (λ value. IfErr result (λ fault. Shows fault.kind value)) }
     ensures fault { IfErr result (λ fault. (fault.item ≡ 0) × (fault.kind ≢ CertFaultKind.Memory)) }
@@ -194,6 +211,9 @@ pub fn read_date(document: &Doc, n: NodeId) -> Result<Date, CertFault>
     requires { IsSome (node document.now n.0) }
     ensures date { IfSome (node document.now n.0) (λ value. IfOk result (λ date. DateOf value date)) }
     ensures refused { IfSome (node document.now n.0) (λ value. IfErr result (λ _. IsNoDate value)) }
+    // The fault that is named is the first from the left; what is read has none.
+    ensures named { IfSome (node document.now n.0) (λ value. IfErr result (λ fault. date_fault value ≡ Some fault.kind)) }
+    ensures faultless { IfSome (node document.now n.0) (λ value. IfOk result (λ _. date_fault value ≡ None)) }
     ensures fault { IfErr result (λ fault. (fault.item ≡ 0) × (fault.kind ≡ CertFaultKind.BadDate)) }
 {
     match document.node(n) {

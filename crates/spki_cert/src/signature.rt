@@ -1,9 +1,10 @@
 //! Signatures and operations, as they are read.
 
-ghost use Rattle.std.specs.Prelude.{◌≡◌, ◌≢◌, IfOk, IfErr};
+ghost use Rattle.std.specs.Prelude.{◌≡◌, ◌≢◌, Some, None, IfOk, IfErr};
 ghost use Rattle.spki_cert.specs.declared.certificate.Signature as spec;
 ghost use Rattle.spki_cert.specs.declared.hash.HashAlg.{HashAlg};
 ghost use Rattle.spki_cert.specs.Faults.{Shows};
+ghost use Rattle.spki_cert.specs.ItemFaults.{signature_fault, do_fault};
 ghost use Rattle.spki_cert.specs.Certificates.{SignatureOf, DoHashOf};
 
 use crate::certificate::Signature;
@@ -18,6 +19,8 @@ use sexpr_core::reading::Node;
 pub(crate) fn signature_of<'a>(node: &Node<'_, 'a>) -> Result<Signature<'a>, CertFaultKind>
     ensures found { IfOk result (λ signature. SignatureOf node.now signature) }
     ensures refused { IfErr result (λ _. (s : spec.Signature) → SignatureOf node.now s → ⊥) }
+    ensures faultless { IfOk result (λ _. signature_fault node.now ≡ None) }
+    ensures named { IfErr result (λ kind. signature_fault node.now ≡ Some kind) }
     ensures shown { IfErr result (λ kind. Shows kind node.now) }
     ensures fault { IfErr result (λ kind. kind ≢ CertFaultKind.Memory) }
 {
@@ -50,6 +53,8 @@ pub(crate) fn signature_of<'a>(node: &Node<'_, 'a>) -> Result<Signature<'a>, Cer
 pub(crate) fn do_hash_of(node: &Node) -> Result<HashAlg, CertFaultKind>
     ensures found { IfOk result (λ alg. DoHashOf node.now alg) }
     ensures refused { IfErr result (λ _. (alg : HashAlg) → DoHashOf node.now alg → ⊥) }
+    ensures faultless { IfOk result (λ _. do_fault node.now ≡ None) }
+    ensures named { IfErr result (λ kind. do_fault node.now ≡ Some kind) }
     ensures shown { IfErr result (λ kind. Shows kind node.now) }
     ensures fault { IfErr result (λ kind. kind ≢ CertFaultKind.Memory) }
 {

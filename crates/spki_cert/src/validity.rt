@@ -1,12 +1,15 @@
 //! Validity, as it is read (RFC 2693, section 5).
 
-ghost use Rattle.std.specs.Prelude.{◌≡◌, ◌≢◌, ◌∷◌, [], ℕ, List, codes, IfOk, IfErr, MatchOption};
+ghost use Rattle.std.specs.Prelude.{◌≡◌, ◌≢◌, ◌∷◌, [], ℕ, List, Some, None, codes, IfOk, IfErr, MatchOption};
 ghost use Rattle.sexpr_core.specs.Value.{Value, plain, group};
 ghost use Rattle.spki_cert.specs.declared.window.Window.{Window};
 ghost use Rattle.spki_cert.specs.Readings.{DateOf};
 ghost use Rattle.spki_cert.specs.Fields.{Sole, IsLimitWord, IsLimitField, ValidOf};
 ghost use Rattle.spki_cert.specs.Faults.{Shows};
-ghost use Rattle.spki_cert.specs.Gathering.{AddsLimit, HasLimit, IsOneWay, IsBothWays};
+ghost use Rattle.spki_cert.specs.Places.{sole_fault};
+ghost use Rattle.spki_cert.specs.FixedFaults.{date_fault};
+ghost use Rattle.spki_cert.specs.FieldFaults.{fields_fault, limit_fault};
+ghost use Rattle.spki_cert.specs.Gathering.{LimitLook, AddsLimit, HasLimit, IsOneWay, IsBothWays};
 
 use crate::date::Date;
 use crate::fault::CertFaultKind;
@@ -18,6 +21,8 @@ use sexpr_core::reading::{Members, Node};
 pub(crate) fn date_in(members: Members) -> Result<Date, CertFaultKind>
     ensures found { IfOk result (λ date. Sole DateOf members.entry date) }
     ensures refused { IfErr result (λ _. (date : List ℕ) → Sole DateOf members.entry date → ⊥) }
+    ensures faultless { IfOk result (λ _. sole_fault CertFaultKind.Shape date_fault members.entry ≡ None) }
+    ensures named { IfErr result (λ kind. sole_fault CertFaultKind.Shape date_fault members.entry ≡ Some kind) }
     ensures shown { IfErr result (λ kind. (word : List ℕ) → IsLimitWord word →
         Shows kind (group (plain word ∷ members.entry))) }
     ensures fault { IfErr result (λ kind. kind ≢ CertFaultKind.Memory) }
@@ -37,6 +42,8 @@ pub(crate) fn date_in(members: Members) -> Result<Date, CertFaultKind>
 fn with_limit(field: &Node, window: Window) -> Result<Window, CertFaultKind>
     ensures found { IfOk result (λ after. AddsLimit field.now window after) }
     ensures refused { IfErr result (λ _. IsLimitField field.now → HasLimit field.now window) }
+    ensures faultless { IfOk result (λ _. LimitLook window field.now None) }
+    ensures named { IfErr result (λ kind. LimitLook window field.now (Some kind)) }
     ensures shown { IfErr result (λ kind. Shows kind field.now) }
     ensures fault { IfErr result (λ kind. kind ≢ CertFaultKind.Memory) }
 {
@@ -70,6 +77,8 @@ fn with_limit(field: &Node, window: Window) -> Result<Window, CertFaultKind>
 pub(crate) fn valid_in(members: Members) -> Result<Window, CertFaultKind>
     ensures found { IfOk result (λ window. ValidOf members.entry window) }
     ensures refused { IfErr result (λ _. (window : Window) → ValidOf members.entry window → ⊥) }
+    ensures faultless { IfOk result (λ _. fields_fault limit_fault members.entry ≡ None) }
+    ensures named { IfErr result (λ kind. fields_fault limit_fault members.entry ≡ Some kind) }
     ensures shown { IfErr result (λ kind. Shows kind (group (plain (codes "valid") ∷ members.entry))) }
     ensures fault { IfErr result (λ kind. kind ≢ CertFaultKind.Memory) }
 {

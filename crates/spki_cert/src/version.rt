@@ -1,8 +1,10 @@
 //! Versions, as they are read.
 
-ghost use Rattle.std.specs.Prelude.{◌≡◌, ◌≢◌, ◌∷◌, [], codes, IfOk, IfErr};
+ghost use Rattle.std.specs.Prelude.{◌≡◌, ◌≢◌, ◌∷◌, [], Some, None, codes, IfOk, IfErr};
 ghost use Rattle.sexpr_core.specs.Value.{plain, group};
 ghost use Rattle.spki_cert.specs.Faults.{Shows};
+ghost use Rattle.spki_cert.specs.Places.{sole_fault};
+ghost use Rattle.spki_cert.specs.FieldFaults.{version_fault};
 ghost use Rattle.spki_cert.specs.Gathering.{IsVersionFault};
 
 use crate::fault::CertFaultKind;
@@ -12,6 +14,8 @@ use sexpr_core::reading::{Members, NodeKind};
 pub(crate) fn check_version(members: Members) -> Result<(), CertFaultKind>
     ensures found { IfOk result (λ _. members.entry ≡ plain (codes "0") ∷ []) }
     ensures refused { IfErr result (λ _. members.entry ≢ plain (codes "0") ∷ []) }
+    ensures faultless { IfOk result (λ _. sole_fault CertFaultKind.Shape version_fault members.entry ≡ None) }
+    ensures named { IfErr result (λ kind. sole_fault CertFaultKind.Shape version_fault members.entry ≡ Some kind) }
     ensures shown { IfErr result (λ kind. Shows kind (group (plain (codes "version") ∷ members.entry))) }
     ensures fault { IfErr result (λ kind. IsVersionFault kind (group (plain (codes "version") ∷ members.entry))) }
 {

@@ -10,6 +10,10 @@ use Rattle.spki_cert.specs.Faults.{HasSubject, Shows}
 use Rattle.spki_cert.specs.Gathering.{SubjectShows}
 use Rattle.spki_cert.proofs.Showing.{carried, shown-here, shows-in_second}
 use Rattle.spki_cert.proofs.SubjectLaws.{not_name-is_nobody, name-names_who}
+use Rattle.std.proofs.Common.{Some}
+use Rattle.std.proofs.lemmas.Result.{IfOk-weaker}
+use Rattle.spki_cert.specs.SubjectFaults.{subject_fault}
+use Rattle.spki_cert.proofs.SubjectFaultLaws.{subject-threshold, subject-keyholder, subject-principal, subject-names}
 use Rattle.spki_cert.proofs.naming.who_of.Goals as goal
 
 -- where a subject is a list with this head, it shows
@@ -47,3 +51,26 @@ returns-clause-shown c =
     (λ kind shown word rest is.
     shows-in_second kind (plain word) c.args.node.now (c.args.node.now ∷ rest) rest refl (subst (λ (v : Value). Shows kind v) (sym c.in-Some-headed-2.ensures) shown))
     c.named_by.ensures.shown
+
+pub returns-in-Some-clause-named : goal.returns-in-Some-clause-named
+returns-in-Some-clause-named c = λ _. subject-threshold c.args.node.now _ c.in-Some.ensures
+
+pub returns-in-Some-headed-clause-named : goal.returns-in-Some-headed-clause-named
+returns-in-Some-headed-clause-named c = λ _. subject-keyholder c.args.node.now _ c.in_default.ensures c.in-Some-headed.ensures
+
+pub returns-in_err-principal-clause-named : goal.returns-in_err-principal-clause-named
+returns-in_err-principal-clause-named c =
+    carried c.from_residual.result _ (λ (kind : CertFaultKind). kind ≢ Memory → subject_fault c.args.node.now ≡ Some kind) c.from_residual.ensures.1
+    (λ _. subject-principal c.args.node.now _ c.in_default.ensures c.in_default-headed.ensures c.in_default-headed-2.ensures c.in_err-principal.ensures.named)
+
+pub returns-in_default-headed-2-clause-faultless : goal.returns-in_default-headed-2-clause-faultless
+returns-in_default-headed-2-clause-faultless c =
+    subject-principal c.args.node.now _ c.in_default.ensures c.in_default-headed.ensures c.in_default-headed-2.ensures c.in_ok-principal.ensures.faultless
+
+pub returns-clause-faultless : goal.returns-clause-faultless
+returns-clause-faultless c =
+    IfOk-weaker c.named_by.result _ _ (λ who faultless. subject-names c.args.node.now _ _ c.in-Some-headed-2.ensures faultless) c.named_by.ensures.faultless
+
+pub returns-clause-named : goal.returns-clause-named
+returns-clause-named c =
+    IfErr-weaker c.named_by.result _ _ (λ kind named known. subject-names c.args.node.now _ _ c.in-Some-headed-2.ensures (named known)) c.named_by.ensures.named

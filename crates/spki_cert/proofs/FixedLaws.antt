@@ -1,0 +1,241 @@
+-- The fault that is named of a key, a hash or a date, along the way of its reading.
+use Rattle.std.proofs.Common.{◌≡◌, ◌≢◌, ℕ, List, [], ◌∷◌, ◌++◌, length, drop, arith, Bool, true, false, Option, Some, None, refl, sym, ap, ◌∙◌}
+use Rattle.std.specs.Prelude.{codes, is_some, if◌then◌else◌, ◌==◌}
+use Rattle.std.specs.Str.{bytes_eq}
+use Rattle.std.proofs.lemmas.Slice.Eq.{bytes_eq-Decides}
+use Rattle.sexpr_core.specs.Value.{Value, plain, group, members, values}
+use Rattle.sexpr_core.specs.Value as sexpr
+use Rattle.sexpr_core.specs.Labels.{members-values, values-members}
+use Rattle.sexpr_core.specs.Shapes.{IsNoString, IsNoList, IsNotHeaded}
+use Rattle.spki_tag.specs.Time.{is_date}
+use Rattle.spki_tag.specs.FirstFault.{first_fault, unless}
+use Rattle.spki_cert.specs.declared.hash.HashAlg.{HashAlg}
+use Rattle.spki_cert.specs.declared.hash.HashAlg.TheVariants.{Sha1, Sha256, Sha512}
+use Rattle.spki_cert.specs.declared.fault.CertFaultKind.{CertFaultKind}
+use Rattle.spki_cert.specs.declared.fault.CertFaultKind.TheVariants.{Shape, HashAlg as UnknownAlg, DigestLength, KeyUris, BadDate}
+use Rattle.spki_cert.specs.Readings.{IsAlgorithm, alg_name, digest_len, AreUris}
+use Rattle.spki_cert.specs.Fields.{is_headed, behind_head}
+use Rattle.spki_cert.specs.Places.{fault_at, of_first}
+use Rattle.spki_cert.specs.FixedFaults.{is_plain, any_octets, begins_plain, behind_key, key_fault, date_fault, alg_fault, hash_fault, alg_named, is_alg, is_sized, digest_fits, are_uris, is_string}
+use Rattle.spki_cert.proofs.Groups.{headed-by, not-headed}
+use Rattle.spki_cert.specs.Gathering.{digest_fault}
+use Rattle.spki_cert.proofs.Looking.{of-form, of-no_form, no-plain, found-first, found-none}
+
+-- ---- keys
+
+pub begins-plain : (v : Value) → IsAlgorithm v → begins_plain v ≡ true
+begins-plain v (alg, parts, e) = ap begins_plain e
+
+pub begins-other : (v : Value) → (IsAlgorithm v → ⊥) → begins_plain v ≡ false
+begins-other (sexpr.string hint octets) other = refl
+begins-other (sexpr.list sexpr.none) other = refl
+begins-other (sexpr.list (sexpr.more (sexpr.list us) vs)) other = refl
+begins-other (sexpr.list (sexpr.more (sexpr.string (Some hint) octets) vs)) other = refl
+begins-other (sexpr.list (sexpr.more (sexpr.string None octets) vs)) other =
+    absurd (other (octets, members vs, λ i. sexpr.list (sexpr.more (sexpr.string None octets) (sym (values-members vs) i))))
+
+pub key-unheaded : (v : Value) → IsNotHeaded v (codes "public-key") → key_fault v ≡ Some Shape
+unfolding key_fault
+key-unheaded v other = of-no_form (codes "public-key") v Shape _ other
+
+-- what is looked at in a key, by its head and what stands behind it
+abbrev key_looked : Bool → List Value → Option CertFaultKind
+key_looked headed rest =
+    first_fault (unless headed Shape ∷ fault_at 0 Shape (λ body. unless (begins_plain body) Shape) rest ∷ behind_key (drop 1 rest) ∷ [])
+
+key-form : (v : Value) (rest : List Value) → v ≡ group (plain (codes "public-key") ∷ rest) → key_fault v ≡ key_looked true rest
+unfolding key_fault
+key-form v rest e = of-form key_looked (codes "public-key") v rest e
+
+pub key-empty : (v : Value) (rest : List Value) → v ≡ group (plain (codes "public-key") ∷ rest) → rest ≡ [] → key_fault v ≡ Some Shape
+key-empty v rest e f = key-form v rest e ∙ ap (key_looked true) f
+
+-- what is looked at in a key with these members
+abbrev key_members : Bool → List Value → Option CertFaultKind
+key_members begins more = first_fault (None ∷ unless begins Shape ∷ behind_key more ∷ [])
+
+key-body : (v body : Value) (rest more : List Value) (b : Bool) → v ≡ group (plain (codes "public-key") ∷ rest) → rest ≡ body ∷ more → begins_plain body ≡ b
+    → key_fault v ≡ key_members b more
+key-body v body rest more b e f g = key-form v rest e ∙ ap (key_looked true) f ∙ ap (λ (x : Bool). key_members x more) g
+
+pub key-other_body : (v body : Value) (rest more : List Value) → v ≡ group (plain (codes "public-key") ∷ rest) → rest ≡ body ∷ more → (IsAlgorithm body → ⊥)
+    → key_fault v ≡ Some Shape
+key-other_body v body rest more e f other = key-body v body rest more false e f (begins-other body other)
+
+pub key-whole : (v body : Value) (rest more : List Value) → v ≡ group (plain (codes "public-key") ∷ rest) → rest ≡ body ∷ more → IsAlgorithm body → more ≡ []
+    → key_fault v ≡ None
+key-whole v body rest more e f is_alg g = key-body v body rest more true e f (begins-plain body is_alg) ∙ ap (key_members true) g
+
+abbrev third_fault : Bool → Option CertFaultKind
+third_fault uris = Some (if uris then KeyUris else Shape)
+
+key-third : (v body third : Value) (rest more others : List Value) (b : Bool) → v ≡ group (plain (codes "public-key") ∷ rest) → rest ≡ body ∷ more → IsAlgorithm body
+    → more ≡ third ∷ others → is_headed (codes "uri") third ≡ b → key_fault v ≡ third_fault b
+key-third v body third rest more others b e f is_alg g h =
+    key-body v body rest more true e f (begins-plain body is_alg) ∙ ap (key_members true) g ∙ ap third_fault h
+
+pub key-uris : (v body third : Value) (rest more others uris : List Value) → v ≡ group (plain (codes "public-key") ∷ rest) → rest ≡ body ∷ more → IsAlgorithm body
+    → more ≡ third ∷ others → third ≡ group (plain (codes "uri") ∷ uris) → key_fault v ≡ Some KeyUris
+key-uris v body third rest more others uris e f is_alg g h = key-third v body third rest more others true e f is_alg g (headed-by third (codes "uri") uris h)
+
+pub key-surplus : (v body third : Value) (rest more others : List Value) → v ≡ group (plain (codes "public-key") ∷ rest) → rest ≡ body ∷ more → IsAlgorithm body
+    → more ≡ third ∷ others → IsNotHeaded third (codes "uri") → key_fault v ≡ Some Shape
+key-surplus v body third rest more others e f is_alg g other = key-third v body third rest more others false e f is_alg g (not-headed (codes "uri") third other)
+
+-- ---- dates
+
+pub date-hinted : (v : Value) → IsNoString v → date_fault v ≡ Some BadDate
+unfolding date_fault
+date-hinted v other = ap (λ (b : Bool). unless b BadDate) (no-plain is_date v other)
+
+pub date-tested : (v : Value) (octets : List ℕ) (b : Bool) → v ≡ plain octets → is_date octets ≡ b → date_fault v ≡ unless b BadDate
+unfolding date_fault
+date-tested v octets b e f = ap (λ (w : Value). unless (is_plain is_date w) BadDate) e ∙ ap (λ (x : Bool). unless x BadDate) f
+
+-- ---- algorithms
+
+pub named-alg : (alg : HashAlg) → alg_named (alg_name alg) ≡ Some alg
+named-alg Sha1 = refl
+named-alg Sha256 = refl
+named-alg Sha512 = refl
+
+pub named-no_alg : (word : List ℕ) → ((alg : HashAlg) → word ≢ alg_name alg) → alg_named word ≡ None
+named-no_alg word other = by (bytes_eq word (codes "sha1")) (bytes_eq word (codes "sha256")) (bytes_eq word (codes "sha512")) refl refl refl
+  where
+    by : (a b c : Bool) → bytes_eq word (codes "sha1") ≡ a → bytes_eq word (codes "sha256") ≡ b → bytes_eq word (codes "sha512") ≡ c
+        → (if a then Some Sha1 else (if b then Some Sha256 else (if c then Some Sha512 else None))) ≡ None
+    by true b c e f g = absurd (other Sha1 ((bytes_eq-Decides word (codes "sha1")).0 e))
+    by false true c e f g = absurd (other Sha256 ((bytes_eq-Decides word (codes "sha256")).0 f))
+    by false false true e f g = absurd (other Sha512 ((bytes_eq-Decides word (codes "sha512")).0 g))
+    by false false false e f g = refl
+
+pub alg-list : (v : Value) (vs : List Value) → v ≡ group vs → alg_fault v ≡ Some Shape
+unfolding alg_fault
+alg-list v vs e = ap (λ (w : Value). first_fault (unless (is_string w) Shape ∷ unless (is_plain is_alg w) UnknownAlg ∷ [])) e
+
+pub alg-hinted : (v : Value) (hint octets : List ℕ) → v ≡ sexpr.string (Some hint) octets → alg_fault v ≡ Some UnknownAlg
+unfolding alg_fault
+alg-hinted v hint octets e = ap (λ (w : Value). first_fault (unless (is_string w) Shape ∷ unless (is_plain is_alg w) UnknownAlg ∷ [])) e
+
+alg-plain : (v : Value) (octets : List ℕ) (found : Option HashAlg) → v ≡ plain octets → alg_named octets ≡ found → alg_fault v ≡ first_fault (None ∷ unless (is_some found) UnknownAlg ∷ [])
+unfolding alg_fault
+alg-plain v octets found e f =
+    ap (λ (w : Value). first_fault (unless (is_string w) Shape ∷ unless (is_plain is_alg w) UnknownAlg ∷ [])) e
+    ∙ ap (λ (x : Option HashAlg). first_fault (None ∷ unless (is_some x) UnknownAlg ∷ [])) f
+
+pub alg-other : (v : Value) (octets : List ℕ) → v ≡ plain octets → ((alg : HashAlg) → octets ≢ alg_name alg) → alg_fault v ≡ Some UnknownAlg
+alg-other v octets e other = alg-plain v octets None e (named-no_alg octets other)
+
+pub alg-known : (v : Value) (alg : HashAlg) → v ≡ plain (alg_name alg) → alg_fault v ≡ None
+alg-known v alg e = alg-plain v (alg_name alg) (Some alg) e (named-alg alg)
+
+-- ---- hashes
+
+abbrev hash_looked : Bool → List Value → Option CertFaultKind
+hash_looked headed rest =
+    first_fault (
+    unless headed Shape
+    ∷ fault_at 0 Shape alg_fault rest
+    ∷ fault_at 1 Shape (λ digest. unless (is_plain any_octets digest) Shape) rest
+    ∷ unless (digest_fits rest) DigestLength
+    ∷ unless (are_uris (drop 2 rest)) Shape
+    ∷ []
+    )
+
+abbrev IsHashed : Value → List Value → Type 0
+IsHashed v rest = v ≡ group (plain (codes "hash") ∷ rest)
+
+pub hash-unheaded : (v : Value) → IsNotHeaded v (codes "hash") → hash_fault v ≡ Some Shape
+unfolding hash_fault
+hash-unheaded v other = of-no_form (codes "hash") v Shape _ other
+
+hash-form : (v : Value) (rest : List Value) → IsHashed v rest → hash_fault v ≡ hash_looked true rest
+unfolding hash_fault
+hash-form v rest e = of-form hash_looked (codes "hash") v rest e
+
+pub hash-empty : (v : Value) (rest : List Value) → IsHashed v rest → rest ≡ [] → hash_fault v ≡ Some Shape
+hash-empty v rest e f = hash-form v rest e ∙ ap (hash_looked true) f
+
+-- what is looked at behind the algorithm's name
+abbrev behind_alg : Value → List Value → List (Option CertFaultKind)
+behind_alg word more =
+    fault_at 0 Shape (λ digest. unless (is_plain any_octets digest) Shape) more
+    ∷ unless (digest_fits (word ∷ more)) DigestLength
+    ∷ unless (are_uris (drop 1 more)) Shape
+    ∷ []
+
+hash-word : (v word : Value) (rest more : List Value) → IsHashed v rest → rest ≡ word ∷ more → hash_fault v ≡ first_fault (alg_fault word ∷ behind_alg word more)
+hash-word v word rest more e f = hash-form v rest e ∙ ap (hash_looked true) f
+
+pub hash-alg_fault : (v word : Value) (rest more : List Value) (kind : CertFaultKind) → IsHashed v rest → rest ≡ word ∷ more → alg_fault word ≡ Some kind → hash_fault v ≡ Some kind
+hash-alg_fault v word rest more kind e f g = hash-word v word rest more e f ∙ ap (λ (x : Option CertFaultKind). first_fault (x ∷ behind_alg word more)) g
+
+hash-known : (v word : Value) (rest more : List Value) (alg : HashAlg) → IsHashed v rest → rest ≡ word ∷ more → word ≡ plain (alg_name alg)
+    → hash_fault v ≡ first_fault (behind_alg (plain (alg_name alg)) more)
+hash-known v word rest more alg e f g =
+    hash-word v word rest more e f
+    ∙ ap (λ (x : Option CertFaultKind). first_fault (x ∷ behind_alg word more)) (alg-known word alg g)
+    ∙ ap (λ (w : Value). first_fault (behind_alg w more)) g
+
+pub hash-no_digest : (v word : Value) (rest more : List Value) (alg : HashAlg) → IsHashed v rest → rest ≡ word ∷ more → word ≡ plain (alg_name alg) → more ≡ []
+    → hash_fault v ≡ Some Shape
+hash-no_digest v word rest more alg e f g h = hash-known v word rest more alg e f g ∙ ap (λ (vs : List Value). first_fault (behind_alg (plain (alg_name alg)) vs)) h
+
+abbrev digest_looked : Option HashAlg → Value → List (Option CertFaultKind)
+digest_looked found digest = unless (is_plain any_octets digest) Shape ∷ unless (is_plain (is_sized found) digest) DigestLength ∷ []
+
+hash-digest : (v word digest : Value) (rest more others : List Value) (alg : HashAlg) → IsHashed v rest → rest ≡ word ∷ more → word ≡ plain (alg_name alg) → more ≡ digest ∷ others
+    → hash_fault v ≡ first_fault (digest_looked (Some alg) digest ++ unless (are_uris others) Shape ∷ [])
+hash-digest v word digest rest more others alg e f g h =
+    hash-known v word rest more alg e f g
+    ∙ ap (λ (vs : List Value). first_fault (behind_alg (plain (alg_name alg)) vs)) h
+    ∙ ap (λ (x : Option HashAlg). first_fault (digest_looked x digest ++ unless (are_uris others) Shape ∷ [])) (named-alg alg)
+
+pub hash-digest_fault : (v word digest : Value) (rest more others : List Value) (alg : HashAlg) (kind : CertFaultKind) → IsHashed v rest → rest ≡ word ∷ more → word ≡ plain (alg_name alg) → more ≡ digest ∷ others
+    → digest_fault alg digest ≡ Some kind → hash_fault v ≡ Some kind
+hash-digest_fault v word digest rest more others alg kind e f g h i =
+    hash-digest v word digest rest more others alg e f g h ∙ found-first (digest_looked (Some alg) digest) (unless (are_uris others) Shape ∷ []) kind i
+
+hash-sized : (v word digest : Value) (rest more others : List Value) (alg : HashAlg) (b : Bool) → IsHashed v rest → rest ≡ word ∷ more → word ≡ plain (alg_name alg) → more ≡ digest ∷ others
+    → digest_fault alg digest ≡ None → are_uris others ≡ b → hash_fault v ≡ first_fault (unless b Shape ∷ [])
+hash-sized v word digest rest more others alg b e f g h i j =
+    hash-digest v word digest rest more others alg e f g h
+    ∙ found-none (digest_looked (Some alg) digest) (unless (are_uris others) Shape ∷ []) i
+    ∙ ap (λ (x : Bool). first_fault (unless x Shape ∷ [])) j
+
+uris-are : (vs : List Value) → AreUris vs → are_uris vs ≡ true
+uris-are [] are = refl
+uris-are (v ∷ []) are = headed-by v (codes "uri") are.0 are.1
+uris-are (v ∷ w ∷ vs) are = absurd are
+
+others-are : (vs : List Value) → (AreUris vs → ⊥) → are_uris vs ≡ false
+others-are [] other = absurd (other tt)
+others-are (v ∷ []) other = not-headed (codes "uri") v (λ uris e. other (uris, e))
+others-are (v ∷ w ∷ vs) other = refl
+
+pub hash-whole : (v word digest : Value) (rest more others : List Value) (alg : HashAlg) → IsHashed v rest → rest ≡ word ∷ more → word ≡ plain (alg_name alg) → more ≡ digest ∷ others
+    → digest_fault alg digest ≡ None → AreUris others → hash_fault v ≡ None
+hash-whole v word digest rest more others alg e f g h i are = hash-sized v word digest rest more others alg true e f g h i (uris-are others are)
+
+pub hash-surplus : (v word digest : Value) (rest more others : List Value) (alg : HashAlg) → IsHashed v rest → rest ≡ word ∷ more → word ≡ plain (alg_name alg) → more ≡ digest ∷ others
+    → digest_fault alg digest ≡ None → (AreUris others → ⊥) → hash_fault v ≡ Some Shape
+hash-surplus v word digest rest more others alg e f g h i other = hash-sized v word digest rest more others alg false e f g h i (others-are others other)
+
+-- ---- digests
+
+pub digest-hinted : (alg : HashAlg) (v : Value) → IsNoString v → digest_fault alg v ≡ Some Shape
+digest-hinted alg v other = ap (λ (b : Bool). first_fault (unless b Shape ∷ unless (is_plain (is_sized (Some alg)) v) DigestLength ∷ [])) (no-plain any_octets v other)
+
+sized-eq : (m n : ℕ) → m ≡ n → (m == n) ≡ true
+sized-eq m n e = grind (arith, e)
+
+sized-apart : (m n : ℕ) → m ≢ n → (m == n) ≡ false
+sized-apart m n other = grind (arith, other)
+
+pub digest-sized : (alg : HashAlg) (v : Value) (octets : List ℕ) → v ≡ plain octets → length octets ≡ digest_len alg → digest_fault alg v ≡ None
+digest-sized alg v octets e f =
+    ap (digest_fault alg) e ∙ ap (λ (b : Bool). first_fault (None ∷ unless b DigestLength ∷ [])) (sized-eq (length octets) (digest_len alg) f)
+
+pub digest-missized : (alg : HashAlg) (v : Value) (octets : List ℕ) → v ≡ plain octets → length octets ≢ digest_len alg → digest_fault alg v ≡ Some DigestLength
+digest-missized alg v octets e other =
+    ap (digest_fault alg) e ∙ ap (λ (b : Bool). first_fault (None ∷ unless b DigestLength ∷ [])) (sized-apart (length octets) (digest_len alg) other)

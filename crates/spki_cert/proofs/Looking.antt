@@ -1,0 +1,61 @@
+-- What is looked at in a value whose form is known.
+use Rattle.std.proofs.Common.{◌≡◌, ℕ, List, [], ◌∷◌, ◌++◌, Bool, true, false, Option, Some, None, refl, sym, ap, ◌∙◌}
+use Rattle.sexpr_core.specs.Value.{Value, plain, group, members, values}
+use Rattle.sexpr_core.specs.Value as sexpr
+use Rattle.sexpr_core.specs.Labels.{members-values, values-members}
+use Rattle.sexpr_core.specs.Shapes.{IsNoString, IsNoList, IsNotHeaded}
+use Rattle.spki_tag.specs.FirstFault.{first_fault, unless}
+use Rattle.spki_cert.specs.Fields.{is_headed, behind_head}
+use Rattle.spki_cert.specs.Places.{fault_at, unless_none, sole_fault}
+use Rattle.spki_cert.specs.FixedFaults.{is_plain, any_octets}
+use Rattle.spki_cert.proofs.Groups.{headed-by, behind-group, not-headed}
+
+-- what is said of a list's head and of what stands behind it
+pub of-form : {X : Type 0} (F : Bool → List Value → X) (word : List ℕ) (v : Value) (rest : List Value) → v ≡ group (plain word ∷ rest)
+    → F (is_headed word v) (behind_head v) ≡ F true rest
+of-form F word v rest e = λ i. F (headed-by v word rest e i) (behind-group v (plain word) rest e i)
+
+-- a value without this head has this fault first
+pub of-no_form : {A : Type 0} (word : List ℕ) (v : Value) (fault : A) (looked : List (Option A)) → IsNotHeaded v word
+    → first_fault (unless (is_headed word v) fault ∷ looked) ≡ Some fault
+of-no_form word v fault looked other = ap (λ (b : Bool). first_fault (unless b fault ∷ looked)) (not-headed word v other)
+
+pub no-plain : (passes : List ℕ → Bool) (v : Value) → IsNoString v → is_plain passes v ≡ false
+no-plain passes (sexpr.string None octets) other = absurd (other octets refl)
+no-plain passes (sexpr.string (Some hint) octets) other = refl
+no-plain passes (sexpr.list vs) other = refl
+
+-- ---- lists of what is looked at
+
+-- a fault that is found stays the first, whatever is looked at behind it
+pub found-first : {A : Type 0} (looks more : List (Option A)) (fault : A) → first_fault looks ≡ Some fault → first_fault (looks ++ more) ≡ Some fault
+found-first [] more fault e = absurd (cc)
+found-first (None ∷ looks) more fault e = found-first looks more fault e
+found-first (Some other ∷ looks) more fault e = e
+
+-- where none is found, what is looked at behind it decides
+pub found-none : {A : Type 0} (looks more : List (Option A)) → first_fault looks ≡ None → first_fault (looks ++ more) ≡ first_fault more
+found-none [] more e = refl
+found-none (None ∷ looks) more e = found-none looks more e
+found-none (Some other ∷ looks) more e = absurd (cc)
+
+-- ---- one value and nothing behind it
+
+pub end-some : {A : Type 0} (vs : List Value) (fault : A) → (vs ≡ [] → ⊥) → first_fault (unless_none vs fault ∷ []) ≡ Some fault
+end-some [] fault some = absurd (some refl)
+end-some (v ∷ vs) fault some = refl
+
+pub sole-none : {A : Type 0} (other : A) (fault_of : Value → Option A) (vs : List Value) → vs ≡ [] → sole_fault other fault_of vs ≡ Some other
+sole-none other fault_of vs e = ap (sole_fault other fault_of) e
+
+pub sole-found : {A : Type 0} (other : A) (fault_of : Value → Option A) (vs more : List Value) (v : Value) (found : Option A) → vs ≡ v ∷ more → fault_of v ≡ found
+    → sole_fault other fault_of vs ≡ first_fault (found ∷ unless_none more other ∷ [])
+sole-found {A = A} other fault_of vs more v found e f = ap (sole_fault other fault_of) e ∙ ap (λ (x : Option A). first_fault (x ∷ unless_none more other ∷ [])) f
+
+pub sole-more : {A : Type 0} (other : A) (fault_of : Value → Option A) (vs more : List Value) (v : Value) → vs ≡ v ∷ more → fault_of v ≡ None → (more ≡ [] → ⊥)
+    → sole_fault other fault_of vs ≡ Some other
+sole-more other fault_of vs more v e f some = sole-found other fault_of vs more v None e f ∙ end-some more other some
+
+pub sole-one : {A : Type 0} (other : A) (fault_of : Value → Option A) (vs more : List Value) (v : Value) → vs ≡ v ∷ more → fault_of v ≡ None → more ≡ []
+    → sole_fault other fault_of vs ≡ None
+sole-one other fault_of vs more v e f g = sole-found other fault_of vs more v None e f ∙ ap (λ (ws : List Value). first_fault (unless_none ws other ∷ [])) g
