@@ -9,3 +9,4 @@ pub mod Entries
 pub mod Certificates
 pub mod Sequences
 pub mod Gathering
+pub mod Sought
