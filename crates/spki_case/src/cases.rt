@@ -5,6 +5,7 @@ ghost use Rattle.spki_case.specs.CaseForm.{CaseOf, ValueRefused, IsCaseText, Tex
 ghost use Rattle.spki_case.specs.Sequence.{AreSigned};
 ghost use Rattle.spki_case.specs.Texts.{IsOuter};
 
+use crate::digesting::{asking_key, digested_items};
 use crate::parts::parts_of;
 use crate::rows::table_of;
 use crate::table::AcceptedTable;
@@ -126,6 +127,8 @@ impl<'a> Case<'a> {
             Ok(moment) => moment,
             Err(kind) => return Err(CaseFault::At(outer_fault(kind))),
         };
+        let sequence = digested_items(sequence, &acl, parts.policy);
+        let key = asking_key(&key, &acl, &sequence, parts.policy);
         Ok(Case {
             acl,
             accepted,

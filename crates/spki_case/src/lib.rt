@@ -2,6 +2,7 @@
 #![tactic(auto)]
 
 mod cases;
+mod digesting;
 pub mod laws;
 mod parts;
 mod rows;

@@ -14,3 +14,4 @@ pub mod Entries
 pub mod Certificates
 pub mod Sequences
 pub mod Gathering
+pub mod Sought

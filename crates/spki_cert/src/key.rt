@@ -2,28 +2,62 @@
 
 ghost use Rattle.std.specs.Prelude.{◌≡◌, ◌↔◌, ℕ, List, IsTrue};
 
+use crate::algorithms::Algorithms;
+use crate::hash::HashAlg;
 use crate::octets::Octets;
+use sha1::Sha1;
+use sha2::{Digest, Sha256, Sha512};
 use std::marker::Model;
 
-/// A public key, known by its canonical octets (RFC 2693, section 2.5). Two keys are the same if these are.
+/// Digests of a key's canonical octets, as far as they were made.
+#[derive(Clone, Copy, Debug)]
+struct Digests {
+    sha1: Option<[u8; 20]>,
+    sha256: Option<[u8; 32]>,
+    sha512: Option<[u8; 64]>,
+}
+
+/// A public key, known by its canonical octets (RFC 2693, section 2.5). Two keys are the same if these are. A key
+/// carries the digests that `digested` has made of it.
 #[derive(Debug, Drop)]
 pub struct Key<'a> {
     canonical: Octets<'a>,
+    digests: Digests,
 }
 
 impl<'a> Model for Key<'a> {
+    ghost use Rattle.std.specs.Prelude.{◌≡◌, ℕ, List, IfSome};
+    ghost use Rattle.sha1.specs.Sha1.{sha1};
+    ghost use Rattle.sha2.specs.Sha256.{sha256};
+    ghost use Rattle.sha2.specs.Sha512.{sha512};
+
     ghost Value = { List ℕ };
 
     ghost view = { λ k. k.canonical };
+
+    ghost invariant = { λ k.
+        IfSome k.digests.sha1 (λ digest. digest ≡ sha1 k.canonical)
+        × IfSome k.digests.sha256 (λ digest. digest ≡ sha256 k.canonical)
+        × IfSome k.digests.sha512 (λ digest. digest ≡ sha512 k.canonical) };
 }
 
 impl<'a> Key<'a> {
+    ghost use Rattle.spki_cert.specs.Naming.{is_digest};
+    ghost use Rattle.sha1.specs.Sha1.{sha1};
+    ghost use Rattle.sha2.specs.Sha256.{sha256};
+    ghost use Rattle.sha2.specs.Sha512.{sha512};
+
     /// The key with these canonical octets.
     pub(crate) fn new(octets: &'a [u8]) -> Key<'a>
         ensures { result ≡ octets.now }
     {
         Key {
             canonical: Octets::new(octets),
+            digests: Digests {
+                sha1: None,
+                sha256: None,
+                sha512: None,
+            },
         }
     }
 
@@ -40,6 +74,76 @@ impl<'a> Key<'a> {
     {
         Key {
             canonical: self.canonical.share(),
+            digests: self.digests,
+        }
+    }
+
+    /// The same key, which carries its digests by these algorithms besides those that it has. Takes no memory. A digest that
+    /// the key carries is never made again, by this call or by `Principal::names`.
+    pub fn digested(&self, algorithms: Algorithms) -> Key<'a>
+        ensures { result ≡ self.now }
+    {
+        Key {
+            canonical: self.canonical.share(),
+            digests: Digests {
+                sha1: if algorithms.sha1 {
+                    Some(self.sha1())
+                } else {
+                    self.digests.sha1
+                },
+                sha256: if algorithms.sha256 {
+                    Some(self.sha256())
+                } else {
+                    self.digests.sha256
+                },
+                sha512: if algorithms.sha512 {
+                    Some(self.sha512())
+                } else {
+                    self.digests.sha512
+                },
+            },
+        }
+    }
+
+    /// Whether its canonical octets have this digest under the algorithm. Takes no memory. A digest that the key carries is
+    /// compared; else the key is digested.
+    pub fn has_digest(&self, alg: HashAlg, digest: &[u8]) -> bool
+        ensures { result ≡ is_digest alg digest.now self.now }
+    {
+        match alg {
+            HashAlg::Sha1 => self.sha1().as_slice() == digest,
+            HashAlg::Sha256 => self.sha256().as_slice() == digest,
+            HashAlg::Sha512 => self.sha512().as_slice() == digest,
+        }
+    }
+
+    /// The SHA-1 digest of its canonical octets (FIPS 180-4): the one that the key carries, or one that is made now.
+    pub fn sha1(&self) -> [u8; 20]
+        ensures { result ≡ sha1 self.now }
+    {
+        match self.digests.sha1 {
+            Some(kept) => kept,
+            None => Sha1::digest(self.canonical.as_slice()),
+        }
+    }
+
+    /// The SHA-256 digest of its canonical octets (FIPS 180-4): the one that the key carries, or one that is made now.
+    pub fn sha256(&self) -> [u8; 32]
+        ensures { result ≡ sha256 self.now }
+    {
+        match self.digests.sha256 {
+            Some(kept) => kept,
+            None => Sha256::digest(self.canonical.as_slice()),
+        }
+    }
+
+    /// The SHA-512 digest of its canonical octets (FIPS 180-4): the one that the key carries, or one that is made now.
+    pub fn sha512(&self) -> [u8; 64]
+        ensures { result ≡ sha512 self.now }
+    {
+        match self.digests.sha512 {
+            Some(kept) => kept,
+            None => Sha512::digest(self.canonical.as_slice()),
         }
     }
 

@@ -2,6 +2,7 @@
 #![tactic(auto)]
 
 mod acl;
+mod algorithms;
 mod certificate;
 mod date;
 mod entry;
@@ -24,6 +25,7 @@ mod version;
 mod window;
 
 pub use acl::{acl_of, read_acl};
+pub use algorithms::Algorithms;
 pub use certificate::{AuthCert, NameCert, SeqItem, Signature};
 pub use date::Date;
 pub use entry::{Entry, Subject};

@@ -53,7 +53,7 @@ impl<'a> Principal<'a> {
         match self {
             Principal::Key(own) => own.same(key),
             Principal::Hash { alg, digest } => {
-                policy.admits(*alg) && alg.fits(digest.as_slice(), key.as_slice())
+                policy.admits(*alg) && key.has_digest(*alg, digest.as_slice())
             }
         }
     }

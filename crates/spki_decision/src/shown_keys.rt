@@ -8,8 +8,6 @@ ghost use Rattle.spki_decision.specs.Standing.{issuer_key};
 ghost use Rattle.spki_case.specs.ByDigest.{at_digest};
 ghost use Rattle.spki_decision.specs.ByDigest.{HasFirstKeys};
 
-use sha1::Sha1;
-use sha2::{Digest, Sha256, Sha512};
 use spki_cert::{HashAlg, Key, Policy, Principal};
 use std::alloc::{AllocError, Global};
 use std::collections::BTreeMap;
@@ -141,20 +139,20 @@ fn add_key<'a>(
     ensures { OnOk result ((digest : List ℕ) → at_digest first.new digest
         ≡ option_or (at_digest first.old digest) (find (λ octets. is_digest alg digest octets) (key.now ∷ []))) }
 {
-    let digest = digest_of(alloc, alg, key.as_slice())?;
+    let digest = digest_of(alloc, alg, key)?;
     if !first.contains_key(digest.as_slice()) {
         first.insert(digest, key.share())?;
     }
     Ok(())
 }
 
-/// The digest of octets.
-fn digest_of(alloc: Global, alg: HashAlg, octets: &[u8]) -> Result<Vec<u8>, AllocError>
-    ensures { IfOk result (λ digest. digest.items ≡ digest_of alg octets.now) }
+/// The digest of a key.
+fn digest_of(alloc: Global, alg: HashAlg, key: &Key) -> Result<Vec<u8>, AllocError>
+    ensures { IfOk result (λ digest. digest.items ≡ digest_of alg key.now) }
 {
     match alg {
-        HashAlg::Sha1 => Ok(Vec::from_array(alloc, Sha1::digest(octets))?),
-        HashAlg::Sha256 => Ok(Vec::from_array(alloc, Sha256::digest(octets))?),
-        HashAlg::Sha512 => Ok(Vec::from_array(alloc, Sha512::digest(octets))?),
+        HashAlg::Sha1 => Ok(Vec::from_array(alloc, key.sha1())?),
+        HashAlg::Sha256 => Ok(Vec::from_array(alloc, key.sha256())?),
+        HashAlg::Sha512 => Ok(Vec::from_array(alloc, key.sha512())?),
     }
 }

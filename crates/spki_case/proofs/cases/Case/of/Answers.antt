@@ -91,4 +91,6 @@ returns-in-Err-date_of-clause-refused c =
     })
 
 pub invariant_of-result : goal.invariant_of-result
-invariant_of-result c = record { signed = signed c.in-Some.parts.sequence c.in-Ok-sequence_of.items.items c.in-Ok-sequence_of.ensures.sequence }
+invariant_of-result c = record {
+  signed = rw c.digested_items-sequence.ensures (signed c.in-Some.parts.sequence c.in-Ok-sequence_of.items.items c.in-Ok-sequence_of.ensures.sequence);
+}

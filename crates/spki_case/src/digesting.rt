@@ -1,0 +1,109 @@
+//! Which keys of a case are digested when it is read, and by which algorithms. A key carries its digests, so that it is digested
+//! once for each algorithm, however often it is compared with hashes. What is left out here costs time and changes no answer.
+
+ghost use Rattle.std.specs.Prelude.{◌≡◌};
+
+use spki_cert::{Algorithms, Entry, Key, Policy, Principal, SeqItem};
+
+/// The items of a sequence, whose keys carry their digests by the algorithms of the hashes that they may be compared with: those
+/// of the access list and of the sequence (RFC 2693, section 2.5). Takes no memory.
+pub(crate) fn digested_items<'a>(
+    items: Vec<SeqItem<'a>>,
+    acl: &[Entry],
+    policy: Policy,
+) -> Vec<SeqItem<'a>>
+    ensures { result.items ≡ items.entry.items }
+{
+    let algorithms = all_algorithms(acl, &items, policy);
+    let mut items = items;
+    for place in 0..items.len() {
+        digest_item(&mut items[place], algorithms);
+    }
+    items
+}
+
+/// The key that asks, with its digests by the algorithms of the hashes that it may be compared with: those of the last
+/// certificate's subject, or of the access list's subjects where there is no certificate. Takes no memory.
+pub(crate) fn asking_key<'a>(
+    key: &Key<'a>,
+    acl: &[Entry],
+    items: &[SeqItem],
+    policy: Policy,
+) -> Key<'a>
+    ensures { result ≡ key.now }
+{
+    let mut algorithms = entry_algorithms(acl, policy);
+    for item in items {
+        if let Some(subject) = subject_of(item) {
+            algorithms = Algorithms::none().with(subject, policy);
+        }
+    }
+    key.digested(algorithms)
+}
+
+/// Digests the key that an item shows, or that a certificate has as its issuer.
+fn digest_item(item: &mut SeqItem, algorithms: Algorithms)
+    ensures { item.new ≡ item.old }
+{
+    match item {
+        SeqItem::Key(key) => *key = key.digested(algorithms),
+        SeqItem::Auth(cert) => digest_principal(&mut cert.issuer, algorithms),
+        SeqItem::Name(cert) => digest_principal(&mut cert.issuer, algorithms),
+        SeqItem::DoHash(_) => {}
+        SeqItem::Signature(_) => {}
+    }
+}
+
+/// Digests the key that a principal is.
+fn digest_principal(principal: &mut Principal, algorithms: Algorithms)
+    ensures { principal.new ≡ principal.old }
+{
+    match principal {
+        Principal::Key(key) => *key = key.digested(algorithms),
+        Principal::Hash { .. } => {}
+    }
+}
+
+/// The algorithms of the hashes in an access list and in a sequence.
+fn all_algorithms(acl: &[Entry], items: &[SeqItem], policy: Policy) -> Algorithms {
+    let mut algorithms = entry_algorithms(acl, policy);
+    for item in items {
+        algorithms = item_algorithms(algorithms, item, policy);
+    }
+    algorithms
+}
+
+/// The algorithms of the hashes in an access list.
+fn entry_algorithms(acl: &[Entry], policy: Policy) -> Algorithms {
+    let mut algorithms = Algorithms::none();
+    for entry in acl {
+        algorithms = algorithms.with(&entry.subject.principal, policy);
+    }
+    algorithms
+}
+
+/// These algorithms, and those of the hashes in an item.
+fn item_algorithms(algorithms: Algorithms, item: &SeqItem, policy: Policy) -> Algorithms {
+    match item {
+        SeqItem::Auth(cert) => algorithms
+            .with(&cert.issuer, policy)
+            .with(&cert.subject.principal, policy),
+        SeqItem::Name(cert) => algorithms
+            .with(&cert.issuer, policy)
+            .with(&cert.subject.principal, policy),
+        SeqItem::Signature(signature) => algorithms.with(&signature.signer, policy),
+        SeqItem::Key(_) => algorithms,
+        SeqItem::DoHash(_) => algorithms,
+    }
+}
+
+/// The principal of a certificate's subject, if an item is a certificate.
+fn subject_of<'s, 'a>(item: &'s SeqItem<'a>) -> Option<&'s Principal<'a>> {
+    match item {
+        SeqItem::Auth(cert) => Some(&cert.subject.principal),
+        SeqItem::Name(cert) => Some(&cert.subject.principal),
+        SeqItem::Key(_) => None,
+        SeqItem::DoHash(_) => None,
+        SeqItem::Signature(_) => None,
+    }
+}

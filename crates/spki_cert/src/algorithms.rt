@@ -1,0 +1,68 @@
+//! The algorithms by which keys may have to be digested.
+
+ghost use Rattle.std.specs.Prelude.{◌≡◌, ◌||◌, ◌&&◌, false};
+ghost use Rattle.spki_cert.specs.declared.hash.HashAlg.{HashAlg};
+ghost use Rattle.spki_cert.specs.Naming.{admits};
+ghost use Rattle.spki_cert.specs.Sought.{is_among, is_hash_by, is_same};
+
+use crate::hash::HashAlg;
+use crate::principal::{Policy, Principal};
+
+/// Hash algorithms: those by which a key may have to be digested.
+#[derive(Clone, Copy, Debug, PartialEq, Eq)]
+pub struct Algorithms {
+    /// SHA-1 is among them.
+    pub sha1: bool,
+    /// SHA-256 is among them.
+    pub sha256: bool,
+    /// SHA-512 is among them.
+    pub sha512: bool,
+}
+
+impl Algorithms {
+    /// No algorithm.
+    pub fn none() -> Algorithms
+        ensures { (alg : HashAlg) → is_among result alg ≡ false }
+    {
+        Algorithms {
+            sha1: false,
+            sha256: false,
+            sha512: false,
+        }
+    }
+
+    /// These algorithms, and that of the principal if it is a hash that may name keys under the policy (RFC 2693,
+    /// section 2.5).
+    pub fn with(self, principal: &Principal, policy: Policy) -> Algorithms
+        ensures { (alg : HashAlg) → is_among result alg
+            ≡ (is_among self alg || (is_hash_by principal.now alg && admits policy alg)) }
+    {
+        match principal {
+            Principal::Key(_) => self,
+            Principal::Hash { alg, .. } => {
+                if policy.admits(*alg) {
+                    self.and(*alg)
+                } else {
+                    self
+                }
+            }
+        }
+    }
+
+    /// These algorithms and one more.
+    fn and(self, more: HashAlg) -> Algorithms
+        ensures { (alg : HashAlg) → is_among result alg ≡ (is_among self alg || is_same more alg) }
+    {
+        match more {
+            HashAlg::Sha1 => Algorithms { sha1: true, ..self },
+            HashAlg::Sha256 => Algorithms {
+                sha256: true,
+                ..self
+            },
+            HashAlg::Sha512 => Algorithms {
+                sha512: true,
+                ..self
+            },
+        }
+    }
+}
