@@ -53,9 +53,9 @@ fn meet_owned(alloc: Global, one: Tag, other: &Tag) -> Result<Tag, AllocError>
         return meet_tags(alloc, &one, other);
     }
     match one.node {
-        Node::Set(members) => meet_set(alloc, members, other),
+        Node::Set(members, _) => meet_set(alloc, members, other),
         Node::Leaf(leaf) => meet_tags(alloc, &Tag::leaf(leaf), other),
-        Node::List(head, further) => meet_tags(alloc, &Tag::list(head, further), other),
+        Node::List(head, further, _) => meet_tags(alloc, &Tag::list(head, further), other),
     }
 }
 
