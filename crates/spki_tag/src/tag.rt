@@ -91,9 +91,18 @@ impl Tag {
         requires { spec.IsNormalTag (spec.list (arc_slice_items head) (spec.tags further.items)) }
         ensures { result ≡ spec.list (arc_slice_items head) (spec.tags further.items) }
     {
-        let nodes = 2 + nodes_of(&further);
+        let nodes = nodes_of(&further);
+        Tag::list_counted(head, further, nodes)
+    }
+
+    /// The same of further tags that have this many nodes together.
+    pub(crate) fn list_counted(head: SharedOctets, further: Vec<Tag>, nodes: usize) -> Tag
+        requires normal { spec.IsNormalTag (spec.list (arc_slice_items head) (spec.tags further.items)) }
+        requires counted { nodes ≡ spec.nodes_all (spec.tags further.items) }
+        ensures { result ≡ spec.list (arc_slice_items head) (spec.tags further.items) }
+    {
         Tag {
-            node: Node::List(head, further, nodes),
+            node: Node::List(head, further, 2 + nodes),
         }
     }
 
@@ -103,11 +112,11 @@ impl Tag {
         ensures { result ≡ gather members.items }
     {
         let nodes = nodes_of(&members);
-        Tag::gathered_of(members, nodes)
+        Tag::gathered_counted(members, nodes)
     }
 
     /// The same of tags that have this many nodes together.
-    pub(crate) fn gathered_of(members: Vec<Tag>, nodes: usize) -> Tag
+    pub(crate) fn gathered_counted(members: Vec<Tag>, nodes: usize) -> Tag
         requires normal { spec.IsNormalTag (gather members.items) }
         requires counted { nodes ≡ spec.nodes_all (spec.tags members.items) }
         ensures { result ≡ gather members.items }
@@ -137,9 +146,10 @@ impl Tag {
 }
 
 /// How many nodes some tags have together.
-fn nodes_of(members: &[Tag]) -> usize
+pub(crate) fn nodes_of(members: &[Tag]) -> usize
     requires { spec.nodes_all (spec.tags members.now) ≤ spec.most_nodes }
-    ensures { result ≡ spec.nodes_all (spec.tags members.now) }
+    ensures count { result ≡ spec.nodes_all (spec.tags members.now) }
+    ensures few { result ≤ spec.most_nodes }
 {
     let mut sum = 0;
     for member in members {
