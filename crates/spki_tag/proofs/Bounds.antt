@@ -153,14 +153,14 @@ mutual
       (λ c. list-le head (nodes_all ts) (each_meet ts) c (λ us. each-le ts us))
   meet-le (set ms) b = set_across-le ms (pairs ms) b (λ bs. pairs-le ms bs)
 
-  each-le : (ts us : Tags) → nodes_all (tags (each_meet ts us)) ≤ nodes_all ts * nodes_all us + nodes_all ts + nodes_all us
+  pub each-le : (ts us : Tags) → nodes_all (tags (each_meet ts us)) ≤ nodes_all ts * nodes_all us + nodes_all ts + nodes_all us
   each-le none us = omega (arith, ap nodes_all (tags-items us))
   each-le (more t ts) none = omega (arith, ap nodes_all (tags-items ts))
   each-le (more t ts) (more u us) =
       each_step (nodes t) (nodes_all ts) (nodes u) (nodes_all us) (nodes (meet t u)) (nodes_all (tags (each_meet ts us)))
       (meet-le t u) (each-le ts us)
 
-  pairs-le : (ms bs : Tags) → nodes_all (tags (pairs ms bs)) ≤ nodes_all ms * nodes_all bs
+  pub pairs-le : (ms bs : Tags) → nodes_all (tags (pairs ms bs)) ≤ nodes_all ms * nodes_all bs
   pairs-le none bs = omega arith
   pairs-le (more a ms) bs =
       omega (

@@ -14,5 +14,5 @@ most_le-nodes_all (t ∷ ts) = omega (arith, most_le-nodes_all ts)
 
 pub deep_le-nodes : (n : Node) → max (deep-Node n) 0 ≤ nodes (node_tag n)
 deep_le-nodes (source.Leaf leaf) = omega arith
-deep_le-nodes (source.List head further) = omega (arith, most_le-nodes_all further.items)
-deep_le-nodes (source.Set members) = omega (arith, most_le-nodes_all members.items)
+deep_le-nodes (source.List head further count) = omega (arith, most_le-nodes_all further.items)
+deep_le-nodes (source.Set members count) = omega (arith, most_le-nodes_all members.items)

@@ -34,11 +34,11 @@ impl Tag {
     {
         match &self.node {
             Node::Leaf(_) => TagForm::Single,
-            Node::List(head, further) => TagForm::List {
+            Node::List(head, further, _) => TagForm::List {
                 head: head.as_slice(),
                 further: further.as_slice(),
             },
-            Node::Set(members) => TagForm::Set {
+            Node::Set(members, _) => TagForm::Set {
                 members: members.as_slice(),
             },
         }
@@ -52,8 +52,8 @@ impl Tag {
         match &self.node {
             Node::Leaf(Leaf::Star) => true,
             Node::Leaf(_) => false,
-            Node::List(_, _) => false,
-            Node::Set(_) => false,
+            Node::List(_, _, _) => false,
+            Node::Set(_, _) => false,
         }
     }
 
@@ -64,8 +64,8 @@ impl Tag {
     {
         match &self.node {
             Node::Leaf(_) => false,
-            Node::List(_, _) => false,
-            Node::Set(members) => members.is_empty(),
+            Node::List(_, _, _) => false,
+            Node::Set(members, _) => members.is_empty(),
         }
     }
 }
@@ -76,8 +76,8 @@ pub(crate) fn is_set(tag: &Tag) -> bool
 {
     match &tag.node {
         Node::Leaf(_) => false,
-        Node::List(_, _) => false,
-        Node::Set(_) => true,
+        Node::List(_, _, _) => false,
+        Node::Set(_, _) => true,
     }
 }
 

@@ -18,13 +18,13 @@ impl Tag {
                 GroundNode::String(octets) => leaf.holds(octets),
                 GroundNode::List(_, _) => leaf.holds_lists(),
             },
-            Node::List(head, further) => match &request.node {
+            Node::List(head, further, _) => match &request.node {
                 GroundNode::String(_) => false,
                 GroundNode::List(other, others) => {
                     head.as_slice() == other.as_slice() && each_holds(further, others)
                 }
             },
-            Node::Set(members) => some_holds(members, request),
+            Node::Set(members, _) => some_holds(members, request),
         }
     }
 }

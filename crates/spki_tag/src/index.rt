@@ -20,8 +20,8 @@ impl Tag {
     {
         match &self.node {
             Node::Leaf(_) => slice::from_ref(self),
-            Node::List(_, _) => slice::from_ref(self),
-            Node::Set(members) => members.as_slice(),
+            Node::List(_, _, _) => slice::from_ref(self),
+            Node::Set(members, _) => members.as_slice(),
         }
     }
 }
@@ -51,8 +51,8 @@ impl<'a> Kind<'a> {
                 Leaf::Prefix(_) => Kind::Strings,
                 Leaf::Range(_, _, _) => Kind::Strings,
             },
-            Node::List(head, _) => Kind::Lists(head.as_slice()),
-            Node::Set(_) => Kind::Any,
+            Node::List(head, _, _) => Kind::Lists(head.as_slice()),
+            Node::Set(_, _) => Kind::Any,
         }
     }
 }

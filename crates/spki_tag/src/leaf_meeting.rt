@@ -1,6 +1,6 @@
 //! The intersection of tags without members.
 
-ghost use Rattle.std.specs.Prelude.{◌≡◌, IfOk, option_map};
+ghost use Rattle.std.specs.Prelude.{◌≡◌, IsTrue, IfOk, option_map};
 ghost use Rattle.std.specs.Arc.{arc_slice_items};
 ghost use Rattle.spki_tag.specs.Leaves.{ordering_of, limit_of, leaf_tag, leaf_or_nothing};
 ghost use Rattle.spki_tag.specs.Meet.{greater_low, lesser_up, ordering_meet, ranged, prefixes_meet, string_meet, meet};
@@ -95,6 +95,23 @@ fn meet_prefixes(one: &Prefix, other: &Prefix) -> Result<Option<Leaf>, AllocErro
 }
 
 impl Leaf {
+    /// Whether a tag without members stays as it is where it is met with another, as far as strings and prefixes tell.
+    pub(crate) fn stays(&self, other: &Leaf) -> bool
+        ensures { IsTrue result → meet (leaf_tag self.now) (leaf_tag other.now) ≡ leaf_tag self.now }
+    {
+        match self {
+            Leaf::String(octets) => other.holds(octets.as_slice()),
+            Leaf::Prefix(prefix) => match other {
+                Leaf::Prefix(second) => prefix.octets().starts_with(second.octets()),
+                Leaf::Star => false,
+                Leaf::String(_) => false,
+                Leaf::Range(_, _, _) => false,
+            },
+            Leaf::Star => false,
+            Leaf::Range(_, _, _) => false,
+        }
+    }
+
     /// What two tags without members leave together, and nothing where that is `(* set)`. A prefix counts as the
     /// range of any strings from itself to below the least string above all that start with it.
     pub(crate) fn meet(&self, other: &Leaf) -> Result<Option<Leaf>, AllocError>

@@ -46,15 +46,15 @@ fn meet_single(alloc: Global, one: &Tag, other: &Tag) -> Result<Tag, AllocError>
     match &one.node {
         Node::Leaf(leaf) => match &other.node {
             Node::Leaf(second) => Ok(leaf_or_nothing(alloc, leaf.meet(second)?)),
-            Node::List(_, _) => Ok(Tag::nothing(alloc)),
-            Node::Set(_) => unreachable!(),
+            Node::List(_, _, _) => Ok(Tag::nothing(alloc)),
+            Node::Set(_, _) => unreachable!(),
         },
-        Node::List(head, further) => match &other.node {
+        Node::List(head, further, _) => match &other.node {
             Node::Leaf(_) => Ok(Tag::nothing(alloc)),
-            Node::List(second, others) => meet_lists(alloc, head, further, second, others),
-            Node::Set(_) => unreachable!(),
+            Node::List(second, others, _) => meet_lists(alloc, head, further, second, others),
+            Node::Set(_, _) => unreachable!(),
         },
-        Node::Set(_) => unreachable!(),
+        Node::Set(_, _) => unreachable!(),
     }
 }
 

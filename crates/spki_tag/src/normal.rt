@@ -20,8 +20,10 @@ fn push_member(members: &mut Vec<Tag>, tag: Tag) -> Result<(), AllocError>
 {
     match tag.node {
         Node::Leaf(leaf) => members.push(Tag::leaf(leaf))?,
-        Node::List(head, further) => members.push(Tag::list(head, further))?,
-        Node::Set(inner) => {
+        Node::List(head, further, nodes) => members.push(Tag {
+            node: Node::List(head, further, nodes),
+        })?,
+        Node::Set(inner, _) => {
             let mut inner = inner;
             members.append(&mut inner)?;
         }

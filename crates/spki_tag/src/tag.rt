@@ -20,9 +20,12 @@ pub struct Tag {
 #[cycle(tag)]
 #[derive(Debug, Drop)]
 pub(crate) enum Node {
+    /// A tag without members.
     Leaf(Leaf),
-    List(SharedOctets, Vec<Tag>),
-    Set(Vec<Tag>),
+    /// A head and further members, and how many nodes the list has.
+    List(SharedOctets, Vec<Tag>, usize),
+    /// Members, and how many nodes the set has.
+    Set(Vec<Tag>, usize),
 }
 
 impl Model for Tag {
@@ -33,11 +36,11 @@ impl Model for Tag {
 
     ghost coded = { tag_code };
 
-    ghost use Rattle.spki_tag.specs.Nodes.{node_tag};
+    ghost use Rattle.spki_tag.specs.Nodes.{node_tag, IsCounted};
 
     ghost view = { λ a. node_tag a.node };
 
-    ghost invariant = { λ a. IsNormalTag (node_tag a.node) };
+    ghost invariant = { λ a. IsNormalTag (node_tag a.node) × IsCounted a.node };
 
     ghost size = { nodes };
 
@@ -61,7 +64,7 @@ impl Tag {
         ensures { result ≡ spec.set spec.none }
     {
         Tag {
-            node: Node::Set(Vec::new(alloc)),
+            node: Node::Set(Vec::new(alloc), 1),
         }
     }
 
@@ -88,8 +91,18 @@ impl Tag {
         requires { spec.IsNormalTag (spec.list (arc_slice_items head) (spec.tags further.items)) }
         ensures { result ≡ spec.list (arc_slice_items head) (spec.tags further.items) }
     {
+        let nodes = nodes_of(&further);
+        Tag::list_counted(head, further, nodes)
+    }
+
+    /// The same of further tags that have this many nodes together.
+    pub(crate) fn list_counted(head: SharedOctets, further: Vec<Tag>, nodes: usize) -> Tag
+        requires normal { spec.IsNormalTag (spec.list (arc_slice_items head) (spec.tags further.items)) }
+        requires counted { nodes ≡ spec.nodes_all (spec.tags further.items) }
+        ensures { result ≡ spec.list (arc_slice_items head) (spec.tags further.items) }
+    {
         Tag {
-            node: Node::List(head, further),
+            node: Node::List(head, further, 2 + nodes),
         }
     }
 
@@ -98,36 +111,45 @@ impl Tag {
         requires { spec.IsNormalTag (gather members.items) }
         ensures { result ≡ gather members.items }
     {
+        let nodes = nodes_of(&members);
+        Tag::gathered_counted(members, nodes)
+    }
+
+    /// The same of tags that have this many nodes together.
+    pub(crate) fn gathered_counted(members: Vec<Tag>, nodes: usize) -> Tag
+        requires normal { spec.IsNormalTag (gather members.items) }
+        requires counted { nodes ≡ spec.nodes_all (spec.tags members.items) }
+        ensures { result ≡ gather members.items }
+    {
         let mut members = members;
         if members.len() == 1 {
             members.swap_remove(0)
         } else {
             Tag {
-                node: Node::Set(members),
+                node: Node::Set(members, 1 + nodes),
             }
         }
     }
 
     /// How many nodes the tag has: a string, a prefix, a range and `(*)` are one, a list and a set are one and the
     /// nodes of their members, among which a list's head is.
-    #[cycle(nodes)]
     pub fn nodes(&self) -> usize
         ensures count { result ≡ spec.nodes self.now }
         ensures normal { spec.IsNormalTag self.now }
     {
         match &self.node {
             Node::Leaf(_) => 1,
-            Node::List(_, further) => 2 + nodes_of(further),
-            Node::Set(members) => 1 + nodes_of(members),
+            Node::List(_, _, nodes) => *nodes,
+            Node::Set(_, nodes) => *nodes,
         }
     }
 }
 
 /// How many nodes some tags have together.
-#[cycle(nodes)]
-fn nodes_of(members: &[Tag]) -> usize
+pub(crate) fn nodes_of(members: &[Tag]) -> usize
     requires { spec.nodes_all (spec.tags members.now) ≤ spec.most_nodes }
-    ensures { result ≡ spec.nodes_all (spec.tags members.now) }
+    ensures count { result ≡ spec.nodes_all (spec.tags members.now) }
+    ensures few { result ≤ spec.most_nodes }
 {
     let mut sum = 0;
     for member in members {
@@ -146,11 +168,15 @@ impl Clone for Tag {
             Node::Leaf(leaf) => Ok(Tag {
                 node: Node::Leaf(leaf.copy()?),
             }),
-            Node::List(head, further) => Ok(Tag {
-                node: Node::List(head.clone()?, copies_of(*further.allocator(), further)?),
+            Node::List(head, further, nodes) => Ok(Tag {
+                node: Node::List(
+                    head.clone()?,
+                    copies_of(*further.allocator(), further)?,
+                    *nodes,
+                ),
             }),
-            Node::Set(members) => Ok(Tag {
-                node: Node::Set(copies_of(*members.allocator(), members)?),
+            Node::Set(members, nodes) => Ok(Tag {
+                node: Node::Set(copies_of(*members.allocator(), members)?, *nodes),
             }),
         }
     }

@@ -102,13 +102,13 @@ impl Tag {
     {
         match &self.node {
             Node::Leaf(leaf) => write_leaf(alloc, leaf),
-            Node::List(head, further) => {
+            Node::List(head, further, _) => {
                 let mut out = Vec::new(alloc);
                 out.push(Sexp::plain(alloc, head.as_slice())?)?;
                 push_each(alloc, &mut out, further)?;
                 Ok(Sexp::list(out))
             }
-            Node::Set(members) => {
+            Node::Set(members, _) => {
                 let mut out = starred(alloc, b"set")?;
                 push_each(alloc, &mut out, members)?;
                 Ok(Sexp::list(out))

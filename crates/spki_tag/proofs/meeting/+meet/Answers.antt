@@ -63,8 +63,8 @@ meet_single-meet_lists-requires t c =
     let e : c.args.one.now ≡ list head (tags ts) = sym c.one.view_is ∙ ap node_tag c.in-List.is in
     let f : c.args.other.now ≡ list other (tags us) = sym c.other.view_is ∙ ap node_tag c.in-List-node-2.is in
     let m : ListsMeet head other ts us =
-    lists_meet head other ts us (subst (λ n. IsNormalTag (node_tag n)) c.in-List.is c.one.invariant)
-    (subst (λ n. IsNormalTag (node_tag n)) c.in-List-node-2.is c.other.invariant)
+    lists_meet head other ts us (subst (λ n. IsNormalTag (node_tag n)) c.in-List.is c.one.invariant.0)
+    (subst (λ n. IsNormalTag (node_tag n)) c.in-List-node-2.is c.other.invariant.0)
     (subst (λ a. nodes a * nodes (list other (tags us)) ≤ most_nodes) e
     (subst (λ b. nodes c.args.one.now * nodes b ≤ most_nodes) f c.requires.bound)) in
     rw (c.deref.ensures.value, c.deref-in-List-node-2.ensures.value)
