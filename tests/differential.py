@@ -11,7 +11,7 @@ same seed repeats it. The tables at the end say how often each row of the docume
 never came is a failure.
 
 Needs a C compiler, which makes a shared object of the library in a temporary folder. Build the program by `rt run` in crates/spki, and
-the library by crates/spki_c/archive.py. The last line counts the cases and the rows.
+the library by crates/spki_c/archive.py. The last line counts the commands, and the rows as one.
 Usage: tests/differential.py [--cases N] [--seed S] [--first NUMBER] [--jobs J] [PROGRAM [LIBRARY]]
 """
 import argparse
@@ -221,9 +221,10 @@ def main() -> int:
         print(f"case {number} ends the process that asks, or takes over {SECONDS} seconds: {question(asked.seed, number)!r:.2000}")
     never = [f"{title}: {name}" for (title, name), count in rows.items() if not count] if asked.cases >= WHOLE_COVERAGE else []
     print(*(f"never came: {it}" for it in never), sep="\n", end="\n" if never else "")
-    failed = len(differ) + len(ended) + len(never)
     print(f"{asked.cases} cases, seed {asked.seed}: {len(differ)} differ, {len(ended)} do not end, {time.monotonic() - begun:.0f} seconds")
-    print(f"{asked.cases - len(differ) - len(ended)} passed, {failed} failed")
+    commands = {question(asked.seed, number).command for number in [*differ, *ended]}
+    failed = len(commands) + bool(never)
+    print(f"{len(COMMANDS) + 2 - failed} passed, {failed} failed")
     return 1 if failed else 0
 
 

@@ -38,6 +38,7 @@ class Builder:
     def __init__(self, rng: random.Random) -> None:
         self.rng = rng
         self.keys = rng.sample(KEYS, 3)
+        self.lengths = (0, 0, 1, 1, 1, 2, 2, 2, 3, 3, 4, 5, 8)
         self.request = tags.request(rng)
         self.moment = rng.choice(MOMENTS)
         self.hashed: list[Value] = []
@@ -78,7 +79,8 @@ class Builder:
                 limits.append((word(head), Atom(self.rng.choice(MOMENTS if self.wrong(0.2) else fitting))))
         if self.rng.random() < 0.3:
             self.rng.shuffle(limits)
-            return [(word("valid"), *limits)] if limits or self.wrong(0.3) else []
+            directly = limits[:1] if self.wrong(0.02) else []
+            return [(word("valid"), *limits), *directly] if limits or self.wrong(0.3) else []
         return limits
 
     def tag(self) -> Value:
@@ -133,7 +135,7 @@ class Builder:
         signer = self.principal(key if not self.wrong(0.015) else self.rng.choice(self.keys), 0.15)
         value = self.rng.choice((Atom(b"sig"), (Atom(b"rsa"), Atom(b"\x01\xff")), Atom(b"sig", b"h"), ()))
         self.items.append(certificate)
-        if self.wrong(0.05):
+        if self.wrong(0.1):
             self.items.append((word("do"), word("hash"), Atom(algorithm)))
         self.items.append((word("signature"), (word("hash"), Atom(algorithm), Atom(digest)), signer, value))
         if not self.wrong(0.015):
@@ -175,7 +177,7 @@ class Builder:
     def case(self) -> Value:
         """The case."""
         subject = self.next_subject(0.3)
-        length = self.rng.choice((0, 0, 1, 1, 1, 2, 2, 2, 3, 3, 4, 5, 8))
+        length = self.rng.choice(self.lengths)
         last = self.chain(subject, length)
         entries = self.entries(subject, len(self.items)) if not self.wrong(0.02) else []
         if self.wrong(0.1):

@@ -70,6 +70,7 @@ NEARLY = {
         (by) (by x) (by (public-key (test a)) (hash sha1 "{'x' * 20}")) (by (public-key (test a)) (hash sha1 x) s)
         (by (public-key (test a)) (hash sha256 "{'x' * 32}")) (by (public-key (test a)) (hash sha256 "{'x' * 32}") s s) by
         (by (public-key (test a)) (hash sha512 "{'x' * 64}") s)"""),
+    b"cert": values_of("(cert) (signature) (signature x) (do) (do sign) x (acl) (online) (cert (subject)) (cert (issuer)) (cert x)"),
     b"entry": values_of("""
         (entry) (entry (name bob) (tag (*))) (entry (name bob ()) (tag (*))) (entry (public-key (test a))) (entry (k-of-n) (tag (*)))
         (entry (keyholder a)) (entry (public-key (test a)) (online) (tag ())) entry (entry (public-key (test a)) (tag a) (tag ()))"""),
@@ -80,12 +81,14 @@ NEARLY = {
     b"policy": values_of("(policy) (policy open) (policy [h]strict) (policy (strict)) (policy strict x) strict"),
     b"acl": values_of('(acl) (acl (version "1")) (acl (version)) (acl (version ())) (acl x) acl'),
 }
+# heads that stand once in a case, or that seldom show
+RARE = (b"request", b"request", b"entry", b"do", b"at", b"version")
 # what is put into a text
 SNIPPETS = [it.encode() for it in r"""
     "\q" "\400" "\777" "\18" "\108" "\x6g" "\xg6" "\8" #6g# #616# |ZQ===| |YWJ| |Z| |Z=Q=| |=| |a~| 4"abc" 2#61# 1|YWI=| 0"a" 1"" [a](b)
     [[a]b]c [(a)]b []a [a)b [a[b [a]]b [a])b [~]a [a]~ 03:abc 3x:abc ~ {KDE6YSk=} 00: 1a 0a 01:a [a] [1:a(1:b [1:a]x [a]1:b [1:a]) [1:a~]1:b
     "\ ' \" ( ) ((( ))) 12 9999999999999999999999: [a"b"]c """.split()] + [
-    b"3 :abc", b"[a b]c", b"[ ]a", b"[a ]b", b"[ a ] b", b'"a\\\r\nb"', b'"\\\n\r"', b"# 6 1#", b'"']
+    b"3 :abc", b"[a b]c", b"[ ]a", b"[a ]b", b"[ a ] b", b"[1:a1:b", b"[0:(1:b", b"[1:a",  b'"a\\\r\nb"', b'"\\\n\r"', b"# 6 1#", b'"']
 OCTETS = b'()[]{}"#|:;\\ \n\r\t\v\f0123456789abcfgxyzAZ-./_*+=\x00\x7f\x80\xff~,!'
 LENGTH = re.compile(rb"[0-9]+(?=[:\"#|])")
 Path = tuple[int, ...]
@@ -135,14 +138,15 @@ def nearly(value: Value, rng: random.Random) -> Value:
     heads = [(path, head) for path in places(value) if (head := head_of(part(value, path))) in NEARLY]
     if not heads:
         return replaced(value, some_place(value, rng), (rng.choice(LISTS),))
-    head = rng.choice(sorted({head for _, head in heads if head}))
-    path = rng.choice([path for path, found in heads if found == head])
+    found = sorted({head for _, head in heads if head})
+    head = rng.choice(found + [it for it in RARE if it in found])
+    path = rng.choice([path for path, it in heads if it == head])
     return replaced(value, path, (rng.choice(NEARLY[head]),))
 
 
 def mutated(value: Value, rng: random.Random) -> Value:
     """A value that differs from the given one at one place."""
-    if rng.random() < 0.4:
+    if rng.random() < 0.5:
         return nearly(value, rng)
     everywhere = places(value)
     path = rng.choice(everywhere) if rng.random() < 0.5 else some_place(value, rng)
@@ -220,8 +224,14 @@ def with_snippet(text: bytes, rng: random.Random) -> bytes:
     return text[:at] + rng.choice(SNIPPETS) + rng.choice((b" ", b"")) + text[at:]
 
 
+def begun_otherwise(text: bytes, rng: random.Random) -> bytes:
+    """A text with something before it, or without its first octet."""
+    return rng.choice((text[1:], bytes([rng.choice(OCTETS)]) + text, rng.choice(SNIPPETS) + text))
+
+
 TEXT_MUTATIONS: tuple[Callable[[bytes, random.Random], bytes], ...] = (
-    changed_octets, changed_octets, changed_length, with_snippet, with_snippet, cut, continued)
+    changed_octets, changed_octets, changed_length, with_snippet, with_snippet, cut, continued,
+    begun_otherwise)
 
 
 def mutated_text(text: bytes, rng: random.Random) -> bytes:

@@ -30,12 +30,12 @@ def question(seed: str, number: int) -> Question:
     if at < len(rare.LONG) * len((*COMMANDS, "rows")):
         return long_question(rng, at)
     kind = rng.random()
-    if kind < 0.01:
+    if kind < 0.02:
         return limit_question(rng)
     if kind < 0.3:
         return Question(rng.choice(CONVERSIONS), texts(value(rng), rng))
     if kind < 0.5:
-        return Question("intersect", texts(changed((Atom(b"intersect"), *tags.pair(rng)), rng, 0.25), rng))
+        return Question("intersect", texts(changed((Atom(b"intersect"), *tags.pair(rng)), rng, 0.35), rng))
     return case_question(rng)
 
 
@@ -51,12 +51,12 @@ def long_question(rng: random.Random, at: int) -> Question:
 
 def limit_question(rng: random.Random) -> Question:
     """A text at another limit."""
-    kind = rng.randrange(4)
+    kind = rng.randrange(6)
     if kind == 0:
         return Question("intersect", rare.large_tags(rng))
     if kind == 1:
         return Question("intersect", rare.too_many_nodes(rng))
-    if kind == 2:
+    if kind < 4:
         return Question(rng.choice(OF_CASES[:3]), rare.large_case(rng))
     text = rare.deep(rng)
     text = spellings.in_braces(text, rng) if rng.random() < 0.5 else text

@@ -80,6 +80,10 @@ def tag(rng: random.Random, depth: int = 2) -> Value:
 
 def pair(rng: random.Random) -> tuple[Value, Value]:
     """Two tags, which mostly have a request in common."""
+    if rng.random() < 0.05:
+        return strings_for(body := rng.choice(STRINGS), rng), strings_for(body, rng)
+    if rng.random() < 0.12:
+        return two_sets(rng)
     asked = request(rng)
     first = tag_for(asked, rng)
     if rng.random() < 0.08:
@@ -87,6 +91,25 @@ def pair(rng: random.Random) -> tuple[Value, Value]:
     if rng.random() < 0.2:
         asked = another(asked, rng)
     return first, tag_for(asked, rng) if rng.random() < 0.85 else tag(rng)
+
+
+def two_sets(rng: random.Random) -> tuple[Value, Value]:
+    """Two sets with tags for the same requests, in some order each."""
+    asked = [request(rng, 1) for _ in range(rng.choice((2, 3, 4)))]
+    sets = []
+    for _ in range(2):
+        members = [tag_for(it, rng, 1) if rng.random() < 0.5 else it for it in asked]
+        members += [tag(rng, 1)] if rng.random() < 0.3 else []
+        rng.shuffle(members)
+        sets.append((*NOTHING, *members))
+    return sets[0], sets[1]
+
+
+def strings_for(body: bytes, rng: random.Random) -> Value:
+    """A range or a prefix that contains a string, or nearly."""
+    if rng.random() < 0.7:
+        return range_for(body, rng)
+    return (Atom(b"*"), Atom(b"prefix"), Atom(rng.choice((near(body, rng), rng.choice(STRINGS)))))
 
 
 def another(asked: Value, rng: random.Random) -> Value:

@@ -4,7 +4,8 @@ from .tags import NOTHING, AnyOf, Limit, Plain, Prefix, Range, Star, Tag, Text, 
 
 MOST_PRODUCT = 1_000_000
 RULES = Rows("intersection, rule", [
-    "(*) and any", "a set and any: none is left", "a set and any: one is left", "a set and any: a set is left", "two strings: equal",
+    "(*) and any", "a set and any: none is left", "a set and any: one is left", "a set and any: a set is left",
+    "two sets of several members: several are left", "two strings: equal",
     "two strings: (* set)", "a string and a prefix: contained", "a string and a prefix: (* set)", "a string and a range: contained",
     "a string and a range: (* set)", "two prefixes: the longer", "two prefixes: (* set)", "two ranges: a range",
     "two ranges: the lower string is above", "two ranges: equal strings, one limit strict", "two ranges: alpha and another ordering",
@@ -67,6 +68,8 @@ def of_sets(first: tuple[Tag, ...], second: tuple[Tag, ...]) -> Tag:
         RULES.used("a set and any: none is left")
         return NOTHING
     RULES.used("a set and any: one is left" if len(left) == 1 else "a set and any: a set is left")
+    if min(len(first), len(second), len(left)) > 1:
+        RULES.used("two sets of several members: several are left")
     return left[0] if len(left) == 1 else AnyOf(tuple(left))
 
 
