@@ -2,7 +2,8 @@
 """Compares the library for C programs, and the built program, with the model in `model/` on generated texts.
 
 The model is a second implementation, in Python: it was written from docs/FORMATS.md and not from the sources of the program. Each case
-is a command and a text of `generators/`; of `check_accepted` also a text with rows. The library answers each case, by a few processes
+is a command and a text of `generators/`; of `check_accepted` also a text with rows. First the model answers the rows of the tables beside
+this file, whose answers were worked out by hand. The library answers each case, by a few processes
 that load it, and the program itself about a tenth of them. Status and answer must be those of the model, octet by octet. In some cases
 the library gets a buffer that is too small.
 
@@ -11,7 +12,7 @@ same seed repeats it. The tables at the end say how often each row of the docume
 never came is a failure.
 
 Needs a C compiler, which makes a shared object of the library in a temporary folder. Build the program by `rt run` in crates/spki, and
-the library by crates/spki_c/archive.py. The last line counts the commands, and the rows as one.
+the library by crates/spki_c/archive.py. The last line counts the commands, the tables as one, and the rows that came as one.
 Usage: tests/differential.py [--cases N] [--seed S] [--first NUMBER] [--jobs J] [PROGRAM [LIBRARY]]
 """
 import argparse
@@ -26,6 +27,7 @@ import sys
 import tempfile
 import time
 from collections import Counter
+from collections.abc import MutableSequence
 from dataclasses import dataclass
 from multiprocessing.connection import Connection
 
@@ -34,6 +36,7 @@ from generators.questions import Question, question
 from generators.smaller import smaller
 from model import coverage, laws
 from model.answers import COMMANDS, Answer, ModelDisagrees, answer, check_accepted
+from tables import rows_of
 
 HERE = os.path.dirname(os.path.abspath(__file__))
 PROGRAM = os.path.join(HERE, "..", "crates", "spki", "out", "spki")
@@ -130,10 +133,17 @@ class Comparison:
         return found and f"{found}, the model {shown(wanted)}"
 
 
+def rows_that_differ() -> list[str]:
+    """Where the model's answer is not that of a row of the tables."""
+    names = sorted(name for name in os.listdir(HERE) if name.endswith(".table"))
+    return [f"{place}: {command}: the model answers {shown(met)}" for name in names
+            for place, command, text, status, said in rows_of(os.path.join(HERE, name)) if (met := answer(command, text)) != (status, said)]
+
+
 # ---- many cases
 
 
-def work(comparison: Comparison, numbers: range, at, job: int, results: Connection) -> None:
+def work(comparison: Comparison, numbers: range, at: MutableSequence[int], job: int, results: Connection) -> None:
     """Compares the cases of these numbers, and sends the numbers of those that differ and the counts of the rows."""
     coverage.forget()
     differ = []
@@ -211,6 +221,8 @@ def main() -> int:
             sys.exit(f"{path} is not there: build the program by rt run in crates/spki, the library by crates/spki_c/archive.py")
     print(f"{asked.cases} cases from {asked.first} on, seed {asked.seed}", flush=True)
     begun = time.monotonic()
+    by_hand = rows_that_differ()
+    print(*by_hand, sep="\n", end="\n" if by_hand else "")
     with tempfile.TemporaryDirectory() as folder:
         comparison = Comparison(Library(shared_object(os.path.abspath(asked.library), folder)), os.path.abspath(asked.program), asked.seed)
         differ, ended, rows = compare(comparison, asked.first, asked.cases, min(asked.jobs, asked.cases))
@@ -223,8 +235,8 @@ def main() -> int:
     print(*(f"never came: {it}" for it in never), sep="\n", end="\n" if never else "")
     print(f"{asked.cases} cases, seed {asked.seed}: {len(differ)} differ, {len(ended)} do not end, {time.monotonic() - begun:.0f} seconds")
     commands = {question(asked.seed, number).command for number in [*differ, *ended]}
-    failed = len(commands) + bool(never)
-    print(f"{len(COMMANDS) + 2 - failed} passed, {failed} failed")
+    failed = len(commands) + bool(by_hand) + bool(never)
+    print(f"{len(COMMANDS) + 3 - failed} passed, {failed} failed")
     return 1 if failed else 0
 
 

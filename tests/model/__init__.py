@@ -7,12 +7,12 @@ decides.
 
 | Module | Section of docs/FORMATS.md |
 |---|---|
-| `values`, `canonical`, `transport`, `advanced`, `printed`, `forms` | S-expressions in canonical form, transport form, advanced form |
+| `values`, `octets`, `canonical`, `transport`, `advanced`, `printed`, `forms` | S-expressions in canonical form, transport form, advanced form |
 | `tags`, `intersection` | Tags |
 | `structures`, `case` | Keys, hashes, dates, entries, certificates; the case |
 | `evidence`, `reduction`, `derivations` | Evidence and decision |
 | `answers` | The program; the library for C programs |
-| `coverage` | counts how often each row of these tables was used |
 
-A table that is declared as `Rows` lists what the document names. A row that no generated text reaches shows as zero.
+`laws` tries on the model's own answers what the document says of them beside the tables. `coverage` counts: a table that is declared as
+`Rows` lists what the document names, and a row that no generated text reaches shows as zero.
 """

@@ -2,6 +2,8 @@
 
 An answer is what the program writes, and the status that it exits with.
 """
+from collections.abc import Callable
+
 from . import case as cases
 from . import derivations, evidence, forms, reduction, tags
 from .case import Case, CaseFault, Row
@@ -207,7 +209,8 @@ def reduce(case: Case, rows: list[Row]) -> Answer:
     return of_entries("reduce", case, rows, five, lambda said: True)
 
 
-def of_entries(command, case, rows, said_of, is_good) -> Answer:
+def of_entries(command: str, case: Case, rows: list[Row], said_of: Callable[[Authorization], bytes],
+               is_good: Callable[[bytes], bool]) -> Answer:
     """The lines of all entries. The status is that one of the entries that all certificates joined is good."""
     try:
         steps = evidence.shown(case.items, rows, case.strict)

@@ -22,6 +22,7 @@ def read(text: bytes) -> Value:
 def read_within_limit(text: bytes) -> Value:
     """The same for commands that work on the canonical form, which is a text that is read: TooLong if it is too long."""
     value = read(text)
+    # no canonical form has four times as many octets as another text of the value
     if len(text) > LONGEST // 4 and len(canonical(value)) > LONGEST:
         LIMIT.used("TooLong, though the text is not")
         raise FormFault("TooLong")
