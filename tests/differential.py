@@ -1,0 +1,244 @@
+#!/usr/bin/env python3
+"""Compares the library for C programs, and the built program, with the model in `model/` on generated texts.
+
+The model is a second implementation, in Python: it was written from docs/FORMATS.md and not from the sources of the program. Each case
+is a command and a text of `generators/`; of `check_accepted` also a text with rows. First the model answers the rows of the tables beside
+this file, whose answers were worked out by hand. The library answers each case, by a few processes
+that load it, and the program itself about a tenth of them. Status and answer must be those of the model, octet by octet. In some cases
+the library gets a buffer that is too small.
+
+A case depends on the seed and its number alone. A case that differs is made smaller and printed; `--first NUMBER --cases 1` with the
+same seed repeats it. The tables at the end say how often each row of the document's tables came. With 20,000 cases or more a row that
+never came is a failure.
+
+Needs a C compiler, which makes a shared object of the library in a temporary folder. Build the program by `rt run` in crates/spki, and
+the library by crates/spki_c/archive.py. The last line counts the commands, the tables as one, and the rows that came as one.
+Usage: tests/differential.py [--cases N] [--seed S] [--first NUMBER] [--jobs J] [PROGRAM [LIBRARY]]
+"""
+import argparse
+import ctypes
+import multiprocessing
+import os
+import random
+import secrets
+import signal
+import subprocess
+import sys
+import tempfile
+import time
+from collections import Counter
+from collections.abc import MutableSequence
+from dataclasses import dataclass
+from multiprocessing.connection import Connection
+
+from generators import tags
+from generators.questions import Question, question
+from generators.smaller import smaller
+from model import coverage, laws
+from model.answers import COMMANDS, Answer, ModelDisagrees, answer, check_accepted
+from tables import rows_of
+
+HERE = os.path.dirname(os.path.abspath(__file__))
+PROGRAM = os.path.join(HERE, "..", "crates", "spki", "out", "spki")
+ARCHIVE = os.path.join(HERE, "..", "crates", "spki_c", "out", "libspki_c.a")
+TOO_SMALL = 4
+SECONDS = 60
+PROGRAM_EVERY = 9
+SMALL_BUFFER_EVERY = 11
+WHOLE_COVERAGE = 20_000
+SHOWN = 5
+
+
+# ---- who is asked
+
+
+def model_answer(asked: Question) -> Answer:
+    """What the model answers."""
+    if asked.command == "check_accepted":
+        return check_accepted(asked.text, asked.rows)
+    return answer(asked.command, asked.text)
+
+
+class Library:
+    """The library for C programs, loaded into this process."""
+
+    def __init__(self, path: str) -> None:
+        loaded = ctypes.CDLL(path)
+        buffer = [ctypes.c_char_p, ctypes.c_size_t, ctypes.POINTER(ctypes.c_size_t)]
+        self.by_command, self.by_rows = loaded.spki_c_answer, loaded.spki_c_check_accepted
+        self.by_command.argtypes = [ctypes.c_uint32, ctypes.c_char_p, ctypes.c_size_t, *buffer]
+        self.by_rows.argtypes = [ctypes.c_char_p, ctypes.c_size_t, ctypes.c_char_p, ctypes.c_size_t, *buffer]
+        self.by_command.restype = self.by_rows.restype = ctypes.c_uint32
+
+    def ask(self, asked: Question, room: int) -> tuple[int, int, bytes]:
+        """The status, the length of the answer, and a buffer of this room after the call, which had zeros before it."""
+        buffer, needed = ctypes.create_string_buffer(room + 1), ctypes.c_size_t()
+        text = (asked.text, len(asked.text))
+        if asked.command == "check_accepted":
+            status = self.by_rows(*text, asked.rows, len(asked.rows), buffer, room, needed)
+        else:
+            status = self.by_command(COMMANDS.index(asked.command), *text, buffer, room, needed)
+        return status, needed.value, buffer.raw
+
+    def answers(self, asked: Question, wanted: Answer) -> str | None:
+        """What is wrong with the answer, None if nothing is."""
+        status, said = wanted
+        met_status, needed, buffer = self.ask(asked, len(said) + 8)
+        if met_status == TOO_SMALL:
+            met_status, needed, buffer = self.ask(asked, needed)
+        if (met_status, buffer[:needed]) != wanted:
+            return f"the library answers {shown((met_status, buffer[:needed]))}"
+        return "the library writes behind its answer" if buffer[needed:].strip(b"\0") else None
+
+    def keeps_back(self, asked: Question, wanted: Answer) -> str | None:
+        """What is wrong where the buffer has one octet less than the answer, None if nothing is."""
+        length = len(wanted[1])
+        if not length or self.ask(asked, length - 1) == (TOO_SMALL, length, length * b"\0"):
+            return None
+        return "the library writes to a buffer that is too small, or tells another length or status"
+
+
+def program_answers(program: str, asked: Question, wanted: Answer) -> str | None:
+    """What is wrong with the program's answer, None if nothing is."""
+    done = subprocess.run([program, asked.command], input=asked.text, stdout=subprocess.PIPE, stderr=subprocess.DEVNULL, timeout=SECONDS)
+    return None if (done.returncode, done.stdout) == wanted else f"the program answers {shown((done.returncode, done.stdout))}"
+
+
+def shown(said: Answer) -> str:
+    """An answer in short."""
+    return f"{said[0]} {said[1][:300]!r}"
+
+
+@dataclass
+class Comparison:
+    """What is compared: the model, the library, and the program."""
+
+    library: Library
+    program: str
+    seed: str
+
+    def wrong(self, asked: Question, number: int) -> str | None:
+        """What is wrong with the answers to a question, None if nothing is. The number says who is asked beside the library."""
+        try:
+            wanted = model_answer(asked)
+            rng = random.Random(number)
+            laws.hold(asked.command, asked.text, wanted, lambda near: [tags.request_near(it, rng) for it in near])
+        except ModelDisagrees as why:
+            return f"the model disagrees with itself: {why}"
+        found = self.library.answers(asked, wanted)
+        if not found and number % SMALL_BUFFER_EVERY == 0:
+            found = self.library.keeps_back(asked, wanted)
+        if not found and number % PROGRAM_EVERY == 0 and asked.command != "check_accepted":
+            found = program_answers(self.program, asked, wanted)
+        return found and f"{found}, the model {shown(wanted)}"
+
+
+def rows_that_differ() -> list[str]:
+    """Where the model's answer is not that of a row of the tables."""
+    names = sorted(name for name in os.listdir(HERE) if name.endswith(".table"))
+    return [f"{place}: {command}: the model answers {shown(met)}" for name in names
+            for place, command, text, status, said in rows_of(os.path.join(HERE, name)) if (met := answer(command, text)) != (status, said)]
+
+
+# ---- many cases
+
+
+def work(comparison: Comparison, numbers: range, at: MutableSequence[int], job: int, results: Connection) -> None:
+    """Compares the cases of these numbers, and sends the numbers of those that differ and the counts of the rows."""
+    coverage.forget()
+    differ = []
+    for number in numbers:
+        at[job] = number
+        # a call that does not end ends the process
+        signal.alarm(SECONDS)
+        if comparison.wrong(question(comparison.seed, number), number):
+            differ.append(number)
+    signal.alarm(0)
+    results.send((differ, coverage.counts()))
+
+
+def compare(comparison: Comparison, first: int, cases: int, jobs: int) -> tuple[list[int], list[int], Counter]:
+    """The numbers of the cases that differ, of those that ended their process, and the counts of the rows."""
+    at = multiprocessing.Array("q", jobs)
+    workers = []
+    for job in range(jobs):
+        results, sender = multiprocessing.Pipe(duplex=False)
+        numbers = range(first + job, first + cases, jobs)
+        process = multiprocessing.Process(target=work, args=(comparison, numbers, at, job, sender))
+        process.start()
+        sender.close()
+        workers.append((results, process))
+    differ, ended, rows = [], [], Counter()
+    for job, (results, process) in enumerate(workers):
+        try:
+            numbers, counts = results.recv()
+            differ += numbers
+            rows.update(counts)
+        except EOFError:
+            ended.append(at[job])
+        process.join()
+    return sorted(differ), ended, rows
+
+
+def show(comparison: Comparison, number: int) -> None:
+    """Prints a case that differs, after it was made smaller."""
+    least = smaller(question(comparison.seed, number), lambda it: comparison.wrong(it, number) is not None)
+    print(f"case {number}: {least.command} {least.text[:2000]!r}" + (f" rows {least.rows[:2000]!r}" if least.rows else ""))
+    print(f"    {comparison.wrong(least, number)}")
+
+
+def tables(rows: Counter) -> list[str]:
+    """The tables with the count of each row."""
+    titles: dict[str, list[str]] = {}
+    for (title, name), count in rows.items():
+        titles.setdefault(title, []).append(f"{name} {count}")
+    return [f"{title}: {'; '.join(said)}" for title, said in titles.items()]
+
+
+def shared_object(archive: str, folder: str) -> str:
+    """The library as a shared object, which Python can load."""
+    path = os.path.join(folder, "libspki_c.so")
+    subprocess.run(["cc", "-shared", "-o", path, "-Wl,--whole-archive", archive, "-Wl,--no-whole-archive"], check=True)
+    return path
+
+
+def arguments() -> argparse.Namespace:
+    """What the command line asks for."""
+    asked = argparse.ArgumentParser(description="Compares the library and the program with the model on generated texts.")
+    asked.add_argument("--cases", type=int, default=20_000)
+    asked.add_argument("--seed", default=secrets.token_hex(4))
+    asked.add_argument("--first", type=int, default=0, help="the number of the first case")
+    asked.add_argument("--jobs", type=int, default=os.cpu_count() or 1)
+    asked.add_argument("program", nargs="?", default=PROGRAM)
+    asked.add_argument("library", nargs="?", default=ARCHIVE)
+    return asked.parse_args()
+
+
+def main() -> int:
+    asked = arguments()
+    for path in (asked.program, asked.library):
+        if not os.path.exists(path):
+            sys.exit(f"{path} is not there: build the program by rt run in crates/spki, the library by crates/spki_c/archive.py")
+    print(f"{asked.cases} cases from {asked.first} on, seed {asked.seed}", flush=True)
+    begun = time.monotonic()
+    by_hand = rows_that_differ()
+    print(*by_hand, sep="\n", end="\n" if by_hand else "")
+    with tempfile.TemporaryDirectory() as folder:
+        comparison = Comparison(Library(shared_object(os.path.abspath(asked.library), folder)), os.path.abspath(asked.program), asked.seed)
+        differ, ended, rows = compare(comparison, asked.first, asked.cases, min(asked.jobs, asked.cases))
+        print(*tables(rows), sep="\n")
+        for number in differ[:SHOWN]:
+            show(comparison, number)
+    for number in ended:
+        print(f"case {number} ends the process that asks, or takes over {SECONDS} seconds: {question(asked.seed, number)!r:.2000}")
+    never = [f"{title}: {name}" for (title, name), count in rows.items() if not count] if asked.cases >= WHOLE_COVERAGE else []
+    print(*(f"never came: {it}" for it in never), sep="\n", end="\n" if never else "")
+    print(f"{asked.cases} cases, seed {asked.seed}: {len(differ)} differ, {len(ended)} do not end, {time.monotonic() - begun:.0f} seconds")
+    commands = {question(asked.seed, number).command for number in [*differ, *ended]}
+    failed = len(commands) + bool(by_hand) + bool(never)
+    print(f"{len(COMMANDS) + 3 - failed} passed, {failed} failed")
+    return 1 if failed else 0
+
+
+if __name__ == "__main__":
+    sys.exit(main())

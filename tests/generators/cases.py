@@ -1,0 +1,199 @@
+"""Cases with a chain of certificates, most of which join, and rows that stand apart."""
+import hashlib
+import random
+from dataclasses import dataclass, field
+
+from model.values import Atom, Value, canonical
+
+from . import tags
+from .mutations import mutated
+
+DIGESTS = {b"sha1": hashlib.sha1, b"sha256": hashlib.sha256, b"sha512": hashlib.sha512}
+MOMENTS = [b"2023-12-31_23:59:60", b"2024-01-01_00:00:00", b"2024-02-31_12:00:00", b"2024-06-15_08:30:00", b"2025-01-01_00:00:00"]
+NAMES = [b"bob", b"friends", b"n", b"", b"a b"]
+KEYS: list[Value] = [
+    (Atom(b"public-key"), (Atom(b"test"), Atom(b"a"))), (Atom(b"public-key"), (Atom(b"test"), Atom(b"b"))),
+    (Atom(b"public-key"), (Atom(b"test"), Atom(b"b", b"h"))), (Atom(b"public-key"), (Atom(b"test"),)),
+    (Atom(b"public-key"), (Atom(b"rsa"), (Atom(b"n"), Atom(b"\x00\xc3\x01")), (Atom(b"e"), Atom(b"\x03")))),
+    (Atom(b"public-key"), (Atom(b"*"), ()))]
+FAULTY = 0.025
+
+
+@dataclass
+class Subject:
+    """A subject of the chain: whose it is, and the names behind."""
+
+    key: Value
+    names: list[bytes] = field(default_factory=list)
+
+
+def word(name: str) -> Value:
+    """A word of a structure."""
+    return Atom(name.encode())
+
+
+class Builder:
+    """Builds one case. Each step of it goes wrong by a small chance."""
+
+    def __init__(self, rng: random.Random) -> None:
+        self.rng = rng
+        self.keys = rng.sample(KEYS, 3)
+        self.lengths = (0, 0, 1, 1, 1, 2, 2, 2, 3, 3, 4, 5, 8)
+        self.request = tags.request(rng)
+        self.moment = rng.choice(MOMENTS)
+        self.hashed: list[Value] = []
+        self.items: list[Value] = []
+        self.rows: list[Value] = []
+
+    def wrong(self, chance: float = FAULTY) -> bool:
+        """Whether something goes wrong here."""
+        return self.rng.random() < chance
+
+    # ---- parts
+
+    def principal(self, key: Value, by_hash: float = 0.3) -> Value:
+        """A key, or a hash of it."""
+        if self.rng.random() >= by_hash:
+            return key
+        algorithm = self.rng.choice((b"sha1", b"sha256", b"sha256", b"sha512"))
+        digest = DIGESTS[algorithm](canonical(key)).digest()
+        if self.wrong():
+            digest = digest[:-1] + bytes([digest[-1] ^ 1])
+        uri = ((Atom(b"uri"), Atom(b"x")),) if self.wrong(0.15) else ()
+        return (word("hash"), Atom(algorithm), Atom(digest), *uri)
+
+    def subject(self, subject: Subject, issuer: Value | None = None) -> Value:
+        """A subject as it is written. Where its principal is the issuer's, the name may be relative."""
+        if not subject.names:
+            return self.principal(subject.key)
+        relative = subject.key == issuer and self.rng.random() < 0.4
+        principal = () if relative else (self.principal(subject.key),)
+        return (word("name"), *principal, *map(Atom, subject.names))
+
+    def window(self) -> list[Value]:
+        """The fields of a validity that mostly holds the moment."""
+        limits: list[Value] = []
+        for head in ("not-before", "not-after"):
+            fitting = [it for it in MOMENTS if (it <= self.moment if head == "not-before" else it >= self.moment)]
+            if self.rng.random() < 0.25:
+                limits.append((word(head), Atom(self.rng.choice(MOMENTS if self.wrong(0.2) else fitting))))
+        if self.rng.random() < 0.3:
+            self.rng.shuffle(limits)
+            directly = limits[:1] if self.wrong(0.02) else []
+            return [(word("valid"), *limits), *directly] if limits or self.wrong(0.3) else []
+        return limits
+
+    def tag(self) -> Value:
+        """A field with a tag that mostly contains the request."""
+        return (word("tag"), tags.tag_for(self.request, self.rng) if not self.wrong() else tags.tag(self.rng))
+
+    def fields(self, *needed: Value, propagate: bool, ignored: tuple[str, ...]) -> list[Value]:
+        """Fields in some order."""
+        fields = [*needed, *self.window()]
+        if propagate:
+            fields.append((word("propagate"),))
+        fields += [(word(head), Atom(b"x")) for head in ignored if self.wrong(0.04)]
+        if self.wrong(0.5):
+            self.rng.shuffle(fields)
+        return fields
+
+    # ---- the chain
+
+    def next_subject(self, name_chance: float) -> Subject:
+        """Whom an authorization or a name goes to."""
+        names = [self.rng.choice(NAMES) for _ in range(self.rng.choice((1, 1, 2)))] if self.rng.random() < name_chance else []
+        return Subject(self.rng.choice(self.keys), names)
+
+    def certificate(self, subject: Subject, is_last: bool) -> Subject:
+        """Adds the certificate that goes on from a subject; gives the subject that follows."""
+        issuer = subject.key if not self.wrong() else self.rng.choice(self.keys)
+        principal = self.principal(issuer)
+        self.hashed += [issuer] if principal != issuer else []
+        defines = bool(subject.names) != self.wrong()
+        given = self.next_subject(0.15 if defines else 0.35)
+        ignored = ("display", "issuer-info", "subject-info", "comment")
+        version = [(word("version"), Atom(b"0"))] if self.wrong(0.08) else []
+        follows = (word("subject"), self.subject(given, issuer))
+        if defines:
+            name = subject.names[0] if subject.names and not self.wrong() else self.rng.choice(NAMES)
+            needed = [*version, (word("issuer"), (word("name"), principal, Atom(name))), follows]
+            fields = self.fields(*needed, propagate=self.wrong(0.01), ignored=ignored)
+            given.names += subject.names[1:]
+        else:
+            needed = [*version, (word("issuer"), principal), follows, self.tag()]
+            fields = self.fields(*needed, propagate=not is_last and not self.wrong(0.04), ignored=ignored)
+        self.sign((word("cert"), *fields), issuer)
+        return given
+
+    def sign(self, certificate: Value, key: Value) -> None:
+        """Adds a certificate with its signature, and the row that says that it was verified."""
+        if self.wrong():
+            certificate = mutated(certificate, self.rng)
+        octets = canonical(certificate)
+        algorithm = self.rng.choice((b"sha1", b"sha256", b"sha512"))
+        digest = DIGESTS[algorithm](octets if not self.wrong(0.015) else b"").digest()
+        signer = self.principal(key if not self.wrong(0.015) else self.rng.choice(self.keys), 0.15)
+        value = self.rng.choice((Atom(b"sig"), (Atom(b"rsa"), Atom(b"\x01\xff")), Atom(b"sig", b"h"), ()))
+        self.items.append(certificate)
+        if self.wrong(0.1):
+            self.items.append((word("do"), word("hash"), Atom(algorithm)))
+        self.items.append((word("signature"), (word("hash"), Atom(algorithm), Atom(digest)), signer, value))
+        if not self.wrong(0.015):
+            shown = value if not self.wrong(0.01) else Atom(b"other")
+            self.rows.append((word("by"), key, (word("hash"), word("sha256"), Atom(hashlib.sha256(octets).digest())), shown))
+
+    def chain(self, subject: Subject, length: int) -> Subject:
+        """Adds certificates from a subject on; gives the subject that the chain ends with."""
+        for left in range(length, 0, -1):
+            subject = self.certificate(subject, left == 1)
+        # what names are left is mostly defined
+        while subject.names and not self.wrong(0.1) and len(self.items) < 24:
+            subject = self.certificate(subject, True)
+        return subject
+
+    def key_items(self) -> list[Value]:
+        """The sequence with the keys that are needed for hashes, before or behind."""
+        items = list(self.items)
+        for key in self.hashed:
+            if not self.wrong():
+                items.insert(self.rng.choice((0, 0, len(items))), key)
+        return items
+
+    # ---- the case
+
+    def entries(self, subject: Subject, length: int) -> list[Value]:
+        """The entry of the chain, and others that nearly match."""
+        entries = [self.entry(subject, length > 0)]
+        for _ in range(self.rng.choice((0, 0, 1, 2))):
+            other = subject if self.rng.random() < 0.7 else self.next_subject(0.3)
+            entries.insert(self.rng.randrange(len(entries) + 1), self.entry(other, self.rng.random() < 0.7))
+        return entries
+
+    def entry(self, subject: Subject, propagate: bool) -> Value:
+        """An entry."""
+        fields = self.fields(self.tag(), propagate=propagate and not self.wrong(), ignored=("comment",))
+        return (word("entry"), self.subject(subject), *fields)
+
+    def case(self) -> Value:
+        """The case."""
+        subject = self.next_subject(0.3)
+        length = self.rng.choice(self.lengths)
+        last = self.chain(subject, length)
+        entries = self.entries(subject, len(self.items)) if not self.wrong(0.02) else []
+        if self.wrong(0.1):
+            entries.insert(0, (word("version"), Atom(b"0")))
+        asker = last.key if not self.wrong() else self.rng.choice(self.keys)
+        self.rng.shuffle(self.rows)
+        policy = [(word("policy"), word("strict"))] if self.wrong(0.25) else []
+        request = self.request if not self.wrong() else tags.request(self.rng)
+        return (word("case"), (word("acl"), *entries), (word("accepted"), *self.rows), (word("sequence"), *self.key_items()),
+                (word("key"), asker), (word("request"), request), (word("at"), Atom(self.moment)), *policy)
+
+
+def apart(case: Value, rng: random.Random) -> tuple[Value, Value]:
+    """A case and its rows apart: the case has other rows, or the same."""
+    assert isinstance(case, tuple)
+    rows = case[2]
+    assert isinstance(rows, tuple)
+    inside = rng.choice((rows[:1], rows, rows[:-1]))
+    return (*case[:2], inside, *case[3:]), rows

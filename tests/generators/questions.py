@@ -1,0 +1,110 @@
+"""What is asked in one case: a command and its text, by a seed and a number."""
+import random
+from dataclasses import dataclass
+
+from model.answers import COMMANDS
+from model.values import Atom, Value, canonical
+
+from . import rare, spellings, tags
+from .cases import Builder, apart
+from .mutations import LISTS, mutated, mutated_text
+
+CONVERSIONS = COMMANDS[:3]
+OF_CASES = ("check", "explain", "reduce", "check_accepted")
+BODIES = [b"a", b"ftp", b"", b"my host", b"\x00\xff", b"0a", b'"\\', b"\n\r", b"a\nb", b"?'", b"*", b"\x07\x0b\x7f", b"3:abc", b"ABC=", bytes(range(256))]
+
+
+@dataclass(frozen=True)
+class Question:
+    """A command and a text. `check_accepted` has the text of the rows beside it."""
+
+    command: str
+    text: bytes
+    rows: bytes = b""
+
+
+def question(seed: str, number: int) -> Question:
+    """The question of a number."""
+    rng = random.Random(f"{seed}/{number}")
+    at = number % rare.EVERY
+    if at < len(rare.LONG) * len((*COMMANDS, "rows")):
+        return long_question(rng, at)
+    kind = rng.random()
+    if kind < 0.02:
+        return limit_question(rng)
+    if kind < 0.3:
+        return Question(rng.choice(CONVERSIONS), texts(value(rng), rng))
+    if kind < 0.5:
+        return Question("intersect", texts(changed((Atom(b"intersect"), *tags.pair(rng)), rng, 0.35), rng))
+    return case_question(rng)
+
+
+def long_question(rng: random.Random, at: int) -> Question:
+    """A text at the limit of octets, for each command and for rows."""
+    commands = (*COMMANDS, "rows")
+    text = rare.LONG[at // len(commands)](rng)
+    command = commands[at % len(commands)]
+    if command == "rows":
+        return Question("check_accepted", canonical(Builder(rng).case()), text)
+    return Question(command, text)
+
+
+def limit_question(rng: random.Random) -> Question:
+    """A text at another limit."""
+    kind = rng.randrange(6)
+    if kind == 0:
+        return Question("intersect", rare.large_tags(rng))
+    if kind == 1:
+        return Question("intersect", rare.too_many_nodes(rng))
+    if kind < 4:
+        return Question(rng.choice(OF_CASES[:3]), rare.large_case(rng))
+    text = rare.deep(rng)
+    text = spellings.in_braces(text, rng) if rng.random() < 0.5 else text
+    if rng.random() < 0.3:
+        return Question("check_accepted", canonical(Builder(rng).case()), text)
+    return Question(rng.choice(COMMANDS), text)
+
+
+def case_question(rng: random.Random) -> Question:
+    """A case, nearly one, or a case and rows apart."""
+    command = rng.choice(OF_CASES)
+    case = changed(Builder(rng).case(), rng, 0.3)
+    if command != "check_accepted":
+        return Question(command, texts(case, rng, 0.05))
+    if not isinstance(case, tuple) or len(case) < 3 or not isinstance(case[2], tuple):
+        return Question(command, texts(case, rng, 0.05), b"(accepted)")
+    case, rows = apart(case, rng)
+    return Question(command, texts(case, rng, 0.05), texts(changed(rows, rng, 0.2), rng, 0.1))
+
+
+def changed(whole: Value, rng: random.Random, chance: float) -> Value:
+    """A value, or by chance one that differs at one place or at two."""
+    while rng.random() < chance:
+        whole = mutated(whole, rng)
+        chance /= 2
+    return whole
+
+
+def texts(whole: Value, rng: random.Random, wrong: float = 0.35) -> bytes:
+    """A text of a value, or by chance one that is nearly one."""
+    if rng.random() < wrong / 4:
+        # a transport form whose octets are nearly a canonical form
+        return spellings.in_braces(mutated_text(canonical(whole), rng), rng)
+    text = spellings.text_of(whole, rng)
+    while rng.random() < wrong:
+        text = mutated_text(text, rng)
+        wrong /= 2
+    return text
+
+
+def value(rng: random.Random, depth: int = 3) -> Value:
+    """Any value."""
+    if depth == 3 and rng.random() < 0.1:
+        return tags.tag(rng, 3)
+    kind = rng.random()
+    if kind < 0.1:
+        return rng.choice(LISTS)
+    if depth and kind < 0.55:
+        return tuple(value(rng, depth - 1) for _ in range(rng.randrange(5)))
+    body = rng.choice(BODIES) if rng.random() < 0.7 else rng.randbytes(rng.randrange(7))
+    return Atom(body, rng.choice((b"", b"x", b"text/plain", b"\x80")) if rng.random() < 0.2 else None)

@@ -1,0 +1,95 @@
+"""Texts at the limits: octets, lists inside one another, nodes. Each kind comes at fixed numbers of cases, since some take long."""
+import random
+from collections.abc import Callable
+
+from model.values import LONGEST, Atom, Value, canonical
+
+from .cases import Builder, Subject
+
+EVERY = 10_000
+
+
+def too_long(rng: random.Random) -> bytes:
+    """A text of one octet too many, or of just as many as are read."""
+    return b"%d:" % (LONGEST - 8) + (LONGEST - 8 + rng.choice((0, 1, 1))) * b"a"
+
+
+def too_long_in_braces(rng: random.Random) -> bytes:
+    """A transport form of one octet too many."""
+    return b"{" + LONGEST * b"A" + rng.choice((b"}", b""))
+
+
+def grows(rng: random.Random) -> bytes:
+    """A text within the limit whose canonical form has one octet too many, or just as many as are read."""
+    return b"(" + 131_071 * b"[a]b" + rng.choice((6, 7, 7, 7)) * b"b" + b")"
+
+
+def many_strings(kind: bytes, count: int) -> Value:
+    """A tag of `count` nodes, a list or a set."""
+    head = (Atom(b"f"),) if kind == b"list" else (Atom(b"*"), Atom(b"set"))
+    return (*head, *(count - (2 if kind == b"list" else 1)) * (Atom(b"x"),))
+
+
+def product(rng: random.Random) -> tuple[Value, Value]:
+    """Two tags whose nodes have a product of a million, or one that is a little less or more."""
+    one, other = rng.choice(((1000, 1000), (999, 1001), (977, 1024), (1001, 1000)))
+    return many_strings(b"list", one), many_strings(b"list", other)
+
+
+def large_tags(rng: random.Random) -> bytes:
+    """An intersection of them."""
+    return canonical((Atom(b"intersect"), *product(rng)))
+
+
+def too_many_nodes(rng: random.Random) -> bytes:
+    """An intersection of a tag of 1,024 or 1,025 nodes."""
+    return canonical((Atom(b"intersect"), many_strings(rng.choice((b"list", b"set")), 1024 + rng.randrange(2)), Atom(b"a")))
+
+
+class LargeTags(Builder):
+    """A case in which the tags of an entry and of a certificate have too many nodes, or nearly."""
+
+    def __init__(self, rng: random.Random) -> None:
+        super().__init__(rng)
+        self.request = (Atom(b"f"), *1010 * (Atom(b"x"),))
+        self.lengths = (1, 1, 2)
+
+    def wrong(self, chance: float = 0.0) -> bool:
+        """Only what is often otherwise is so here."""
+        return chance >= 0.1 and super().wrong(chance)
+
+    def tag(self) -> Value:
+        """A field with a large tag."""
+        count = self.rng.choice((1000, 1000, 1001, 1001, 1025 if self.wrong(0.5) else 1001))
+        return (Atom(b"tag"), many_strings(b"list", count))
+
+
+class GrowingTags(LargeTags):
+    """A case in which two sets leave some 10,000 strings, whose nodes with those of the next tag are a million, or just more or less."""
+
+    def __init__(self, rng: random.Random) -> None:
+        super().__init__(rng)
+        self.lengths = (2,)
+        self.left = [many_strings(b"set", rng.choice((101, 102))), many_strings(b"list", rng.choice((100, 101)))]
+
+    def tag(self) -> Value:
+        """The tags of the two certificates, and then that of each entry."""
+        return (Atom(b"tag"), self.left.pop(0) if self.left else many_strings(b"set", 100))
+
+    def next_subject(self, name_chance: float) -> Subject:
+        """A key, so that each certificate is one of an authorization."""
+        return super().next_subject(0)
+
+
+def large_case(rng: random.Random) -> bytes:
+    """Such a case."""
+    return canonical(rng.choice((LargeTags, GrowingTags))(rng).case())
+
+
+def deep(rng: random.Random) -> bytes:
+    """Lists inside one another, 64 or 65 deep."""
+    count = 64 + rng.randrange(2)
+    return count * b"(" + rng.choice((b"", b"a")) + count * b")"
+
+
+LONG: tuple[Callable[[random.Random], bytes], ...] = (too_long, too_long_in_braces, grows)

@@ -1,0 +1,60 @@
+"""Makes a case smaller for as long as it still shows what it shows."""
+import time
+from collections.abc import Callable, Iterator
+from dataclasses import replace
+
+from model import forms
+from model.printed import printed
+from model.values import FormFault, Value, canonical
+
+from .mutations import part, places, replaced
+from .questions import Question
+
+LARGE = 20_000
+
+
+def smaller(question: Question, shows: Callable[[Question], bool], seconds: float = 20) -> Question:
+    """A question that still shows it, and of which nothing can be left out, as far as the time goes."""
+    ends = time.monotonic() + seconds
+    goes_on = True
+    while goes_on and time.monotonic() < ends:
+        goes_on = False
+        for candidate in candidates(question):
+            if time.monotonic() > ends:
+                break
+            if shows(candidate):
+                question, goes_on = candidate, True
+                break
+    return question
+
+
+def candidates(question: Question) -> Iterator[Question]:
+    """Smaller questions of the same command."""
+    for name in ("text", "rows"):
+        for text in smaller_texts(getattr(question, name)):
+            yield replace(question, **{name: text})
+
+
+def smaller_texts(text: bytes) -> Iterator[bytes]:
+    """Smaller texts: of a value without one of its parts, or without some octets."""
+    try:
+        value = forms.read(text) if len(text) < LARGE else None
+    except FormFault:
+        value = None
+    if value is not None:
+        yield from (it for it in (printed(value), canonical(value)) if len(it) < len(text))
+        for smaller_value in values(value):
+            yield from (it for it in (printed(smaller_value), canonical(smaller_value)) if len(it) < len(text))
+    piece = len(text)
+    while piece:
+        for at in range(0, len(text), piece):
+            yield text[:at] + text[at + piece:]
+        piece //= 2
+
+
+def values(value: Value) -> Iterator[Value]:
+    """Values without a part, or with a part in place of the list that it is in."""
+    for path in places(value):
+        if path:
+            yield replaced(value, path, ())
+            yield replaced(value, path[:-1], (part(value, path),))

@@ -1,0 +1,140 @@
+"""Tags and requests that belong together, or nearly."""
+import random
+
+from model.tags import AnyOf, Plain, Prefix, Range, Tag, Text
+from model.values import Atom, Value
+
+STRINGS = [b"ftp", b"read", b"write", b"a", b"b", b"ab", b"abc", b"", b"*", b"set", b"10:00:00", b"23:59:60", b"24:00:00", b"09:30:15",
+           b"2024-01-01_00:00:00", b"2024-02-31_23:59:60", b"2024-13-01_00:00:00", b"2024", b"\xff", b"a\xff", b"a\xff\xff", b"my host", b"z"]
+STAR = (Atom(b"*"),)
+NOTHING = (Atom(b"*"), Atom(b"set"))
+
+
+def request(rng: random.Random, depth: int = 2) -> Value:
+    """A request."""
+    if depth == 0 or rng.random() < 0.3:
+        return Atom(rng.choice(STRINGS))
+    head = Atom(rng.choice([it for it in STRINGS if it != b"*"]))
+    return (head, *(request(rng, depth - 1) for _ in range(rng.randrange(4))))
+
+
+def tag_for(asked: Value, rng: random.Random, depth: int = 3) -> Value:
+    """A tag as it is written that contains a request, or nearly."""
+    kind = rng.random()
+    if kind < 0.06 or depth == 0:
+        return STAR if rng.random() < 0.5 else asked
+    if kind < 0.1:
+        return tag(rng, depth - 1)
+    if kind < 0.3:
+        members = [tag_for(asked, rng, depth - 1)] + [tag(rng, depth - 1) for _ in range(rng.randrange(3))]
+        rng.shuffle(members)
+        return (*NOTHING, *members)
+    if isinstance(asked, tuple):
+        length = rng.randrange(1, len(asked) + 1)
+        members = [tag_for(member, rng, depth - 1) for member in asked[1:length]]
+        if rng.random() < 0.05:
+            members.append(tag(rng, 0))
+        return (asked[0], *members)
+    if kind < 0.5:
+        return asked
+    if kind < 0.65:
+        return (Atom(b"*"), Atom(b"prefix"), Atom(near(asked.body[:rng.randrange(len(asked.body) + 1)], rng)))
+    return range_for(asked.body, rng)
+
+
+def near(body: bytes, rng: random.Random) -> bytes:
+    """A string, or by chance one near it."""
+    if rng.random() < 0.85:
+        return body
+    return rng.choice((body + b"\xff", body[:-1], body + b"a", body[:-1] + bytes([(body[-1] + 1) % 256]) if body else b"a"))
+
+
+def range_for(body: bytes, rng: random.Random) -> Value:
+    """A range that contains a string, or nearly."""
+    if rng.random() < 0.7:
+        fitting = b"time" if len(body) == 8 else b"date" if len(body) == 19 else b"alpha"
+        ordering = fitting if rng.random() < 0.6 else b"alpha"
+    else:
+        ordering = rng.choice((b"alpha", b"time", b"date"))
+    limits: list[Value] = []
+    if rng.random() < 0.7:
+        limits += [Atom(rng.choice((b"g", b"ge", b"ge"))), Atom(rng.choice((body, near(body, rng), body[:1], b"a")))]
+    if rng.random() < 0.7:
+        limits += [Atom(rng.choice((b"l", b"le", b"le"))), Atom(rng.choice((body, near(body, rng), body + b"z", b"a")))]
+    return (Atom(b"*"), Atom(b"range"), Atom(ordering), *limits)
+
+
+def tag(rng: random.Random, depth: int = 2) -> Value:
+    """Any tag as it is written."""
+    kind = rng.random()
+    if kind < 0.05:
+        return STAR
+    if kind < 0.1:
+        return NOTHING
+    if depth == 0 or kind < 0.3:
+        return Atom(rng.choice(STRINGS))
+    if kind < 0.5:
+        return (*NOTHING, *(tag(rng, depth - 1) for _ in range(rng.randrange(4))))
+    return tag_for(request(rng, depth), rng, depth)
+
+
+def pair(rng: random.Random) -> tuple[Value, Value]:
+    """Two tags, which mostly have a request in common."""
+    if rng.random() < 0.05:
+        return strings_for(body := rng.choice(STRINGS), rng), strings_for(body, rng)
+    if rng.random() < 0.12:
+        return two_sets(rng)
+    asked = request(rng)
+    first = tag_for(asked, rng)
+    if rng.random() < 0.08:
+        return first, first
+    if rng.random() < 0.2:
+        asked = another(asked, rng)
+    return first, tag_for(asked, rng) if rng.random() < 0.85 else tag(rng)
+
+
+def two_sets(rng: random.Random) -> tuple[Value, Value]:
+    """Two sets with tags for the same requests, in some order each."""
+    asked = [request(rng, 1) for _ in range(rng.choice((2, 3, 4)))]
+    sets = []
+    for _ in range(2):
+        members = [tag_for(it, rng, 1) if rng.random() < 0.5 else it for it in asked]
+        members += [tag(rng, 1)] if rng.random() < 0.3 else []
+        rng.shuffle(members)
+        sets.append((*NOTHING, *members))
+    return sets[0], sets[1]
+
+
+def strings_for(body: bytes, rng: random.Random) -> Value:
+    """A range or a prefix that contains a string, or nearly."""
+    if rng.random() < 0.7:
+        return range_for(body, rng)
+    return (Atom(b"*"), Atom(b"prefix"), Atom(rng.choice((near(body, rng), rng.choice(STRINGS)))))
+
+
+def another(asked: Value, rng: random.Random) -> Value:
+    """A request that differs from the given one in one string."""
+    if isinstance(asked, Atom):
+        return Atom(rng.choice(STRINGS))
+    at = rng.randrange(len(asked))
+    if at == 0:
+        return (Atom(near(asked[0].body, rng) + b"x"), *asked[1:]) if isinstance(asked[0], Atom) else asked
+    return (*asked[:at], another(asked[at], rng), *asked[at + 1:])
+
+
+def request_near(tag: Tag, rng: random.Random) -> Value:
+    """A request that a tag contains, or nearly."""
+    if isinstance(tag, Text):
+        return Atom(near(tag.body, rng))
+    if isinstance(tag, AnyOf) and tag.members:
+        return request_near(rng.choice(tag.members), rng)
+    if isinstance(tag, Plain):
+        members = [request_near(member, rng) for member in tag.members]
+        members += [request(rng, 1) for _ in range(rng.choice((0, 0, 1)))]
+        return tuple(members) if isinstance(members[0], Atom) and members[0].body != b"*" else members[0]
+    if isinstance(tag, Prefix):
+        return Atom(near(tag.start + rng.choice((b"", b"a", b"\xff")), rng))
+    if isinstance(tag, Range):
+        bodies = [limit.body for limit in (tag.low, tag.up) if limit] + STRINGS
+        return Atom(near(rng.choice((bodies[0], rng.choice(bodies))), rng))
+    return request(rng)

@@ -1,0 +1,101 @@
+"""The case, and rows that stand apart (section "The case")."""
+from collections.abc import Callable
+from dataclasses import dataclass
+from typing import Any
+
+from . import structures, tags
+from .coverage import Rows
+from .structures import Entry, Item, ItemFault, Key, Members, StructureFault, read_date, read_hash, read_key
+from .tags import TagFault
+from .values import Value, canonical, head_of, is_plain
+
+PARTS = (b"acl", b"accepted", b"sequence", b"key", b"request", b"at")
+REFUSED = Rows("case, refused", [
+    "case Shape", "acl 0", "acl", "accepted", "sequence", "key", "request", "at", "accepted: a hash of another algorithm"])
+POLICIES = Rows("case, policy", ["strict", "none"])
+
+
+class CaseFault(Exception):
+    """Why a value is no case, or has a part that has no reading: the words behind `refused` in the line."""
+
+
+@dataclass(frozen=True, slots=True)
+class Row:
+    """A signature that another tool has verified: by whom, of the message with which SHA-256 digest, its value's canonical text."""
+
+    key: Key
+    digest: bytes
+    value: bytes
+
+
+@dataclass(frozen=True, slots=True)
+class Case:
+    """A case."""
+
+    entries: list[Entry]
+    rows: list[Row]
+    items: list[Item]
+    key: Key
+    request: Value
+    moment: bytes
+    strict: bool
+
+
+def has_outer_structure(value: Value) -> bool:
+    """Whether a value has the members of a case, by their heads, with one member behind `key`, `request` and `at`."""
+    if head_of(value) != b"case":
+        return False
+    assert isinstance(value, tuple)
+    parts, policy = value[1:7], value[7:]
+    return (tuple(map(head_of, parts)) == PARTS and all(len(part) == 2 for part in parts[3:])
+            and (not policy or len(policy) == 1 and is_policy(policy[0])))
+
+
+def is_policy(value: Value) -> bool:
+    """Whether a value is `(policy strict)`."""
+    return isinstance(value, tuple) and len(value) == 2 and head_of(value) == b"policy" and is_plain(value[1], b"strict")
+
+
+def read(value: Value) -> Case:
+    """The case that a value is, or its first fault."""
+    if not has_outer_structure(value):
+        REFUSED.used("case Shape")
+        raise CaseFault("case Shape")
+    assert isinstance(value, tuple)
+    acl, accepted, sequence, key, request, at = value[1:7]
+    strict = len(value) == 8
+    POLICIES.used("strict" if strict else "none")
+    return Case(
+        part("acl", structures.read_access_list, acl), part("accepted", read_rows, accepted),
+        part("sequence", structures.read_sequence, sequence), part("key", read_key, key[1]),
+        part("request", tags.read_request, request[1]), part("at", read_date, at[1]), strict)
+
+
+def part(name: str, read_part: Callable[[Value], Any], value: Value) -> Any:
+    """What a reader gives of a part. A fault gets the part's name."""
+    try:
+        return read_part(value)
+    except ItemFault as fault:
+        REFUSED.used("acl 0" if name == "acl" and not fault.item else name)
+        raise CaseFault(f"{name} {fault.item} {fault.kind}") from None
+    except (StructureFault, TagFault) as fault:
+        REFUSED.used(name)
+        raise CaseFault(f"{name} {fault}") from None
+
+
+def read_rows(value: Value) -> list[Row]:
+    """`(accepted row ..)`."""
+    return [structures.numbered(number, read_row, member) for number, member in enumerate(Members(value, b"accepted").left, 1)]
+
+
+def read_row(value: Value) -> Row:
+    """`(by key hash value)`, the hash being by `sha256`."""
+    members = Members(value, b"by")
+    key = read_key(members.next())
+    digest = read_hash(members.next())
+    if digest.algorithm != b"sha256":
+        REFUSED.used("accepted: a hash of another algorithm")
+        raise StructureFault("HashAlg")
+    row = Row(key, digest.digest, canonical(members.next()))
+    members.end()
+    return row

@@ -1,0 +1,107 @@
+"""Which certificates of a sequence stand, and the tuples that they give (section "Evidence and decision")."""
+import hashlib
+from collections.abc import Iterable, Iterator
+from dataclasses import dataclass
+from typing import Union
+
+from .case import Row
+from .coverage import Rows
+from .structures import Certificate, Hash, Item, Key, Principal, Signature, Subject, Window
+from .tags import Tag
+
+STOPS = Rows("evidence, stop", ["KeyNotShown", "DigestDiffers", "SignerDiffers", "NotAccepted"])
+NAMED = Rows("a principal names a key", ["a key", "sha1", "sha1 under the strict policy", "sha256", "sha512"])
+ISSUERS = Rows("evidence, the issuer's key", ["as written", "shown before", "shown behind", "the first of several"])
+
+
+class Stopped(Exception):
+    """A certificate that does not stand: the number of its item, and the first test that it does not pass."""
+
+    def __init__(self, item: int, stop: str) -> None:
+        super().__init__(item, stop)
+        STOPS.used(stop)
+        self.item = item
+        self.stop = stop
+
+
+@dataclass(frozen=True, slots=True)
+class Authorization:
+    """RFC 2693's 5-tuple of a certificate or an entry, whose issuer is Self if there is no key."""
+
+    issuer: Key | None
+    subject: Subject
+    propagate: bool
+    tag: Tag
+    window: Window
+
+
+@dataclass(frozen=True, slots=True)
+class Definition:
+    """RFC 2693's 4-tuple: what a name of a key means."""
+
+    key: Key
+    name: bytes
+    subject: Subject
+    window: Window
+
+
+Tuple = Union[Authorization, Definition]
+
+
+def names(principal: Principal | None, key: Key, strict: bool) -> bool:
+    """Whether a principal names a key: it is the key, or a hash of it. Under the strict policy a `sha1` hash names no key."""
+    if not isinstance(principal, Hash):
+        if principal == key:
+            NAMED.used("a key")
+        return principal == key
+    if not principal.fits(key.octets):
+        return False
+    refused = strict and principal.algorithm == b"sha1"
+    NAMED.used("sha1 under the strict policy" if refused else principal.algorithm.decode())
+    return not refused
+
+
+def shown(items: list[Item], rows: Iterable[Row], strict: bool) -> list[tuple[int, Tuple]]:
+    """The tuple of each certificate, with the number of its item. Stopped at the first certificate that does not stand."""
+    accepted = set(rows)
+    return [(number, tuple_of(number, certificate, signature, items, accepted, strict))
+            for number, certificate, signature in signed(items)]
+
+
+def signed(items: list[Item]) -> Iterator[tuple[int, Certificate, Signature]]:
+    """Each certificate with the number of its item and its signature, which is the next one in the sequence."""
+    for number, item in enumerate(items, 1):
+        if isinstance(item, Certificate):
+            yield number, item, next(it for it in items[number:] if isinstance(it, Signature))
+
+
+def tuple_of(number: int, certificate: Certificate, signature: Signature, items: list[Item], accepted: set[Row],
+             strict: bool) -> Tuple:
+    """The tuple of a certificate that stands, by the four tests in their order."""
+    key = issuer_key(certificate.issuer, number, items, strict)
+    if key is None:
+        raise Stopped(number, "KeyNotShown")
+    if not signature.digest.fits(certificate.octets):
+        raise Stopped(number, "DigestDiffers")
+    if not names(signature.signer, key, strict):
+        raise Stopped(number, "SignerDiffers")
+    if Row(key, hashlib.sha256(certificate.octets).digest(), signature.value) not in accepted:
+        raise Stopped(number, "NotAccepted")
+    if certificate.name is not None:
+        return Definition(key, certificate.name, certificate.subject, certificate.window)
+    assert certificate.tag is not None
+    return Authorization(key, certificate.subject, certificate.propagate, certificate.tag, certificate.window)
+
+
+def issuer_key(issuer: Principal, number: int, items: list[Item], strict: bool) -> Key | None:
+    """The key as written, or the first key item of the whole sequence that the hash names."""
+    if isinstance(issuer, Key):
+        ISSUERS.used("as written")
+        return issuer
+    found = [(at, item) for at, item in enumerate(items, 1) if isinstance(item, Key) and names(issuer, item, strict)]
+    if not found:
+        return None
+    ISSUERS.used("shown before" if found[0][0] < number else "shown behind")
+    if len(found) > 1:
+        ISSUERS.used("the first of several")
+    return found[0][1]

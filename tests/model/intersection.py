@@ -1,0 +1,153 @@
+"""The intersection of two tags by its rules (section "The intersection of two tags"; RFC 2693, section 6.3.1)."""
+from .coverage import Rows
+from .tags import NOTHING, AnyOf, Limit, Plain, Prefix, Range, Star, Tag, Text, in_range, nodes
+
+MOST_PRODUCT = 1_000_000
+RULES = Rows("intersection, rule", [
+    "(*) and any", "a set and any: none is left", "a set and any: one is left", "a set and any: a set is left",
+    "two sets of several members: several are left", "two strings: equal",
+    "two strings: (* set)", "a string and a prefix: contained", "a string and a prefix: (* set)", "a string and a range: contained",
+    "a string and a range: (* set)", "two prefixes: the longer", "two prefixes: (* set)", "two ranges: a range",
+    "two ranges: the lower string is above", "two ranges: equal strings, one limit strict", "two ranges: alpha and another ordering",
+    "two ranges: time and date", "a prefix and a range", "a prefix and a range: no upper limit",
+    "a prefix and a range: octets FF at the end", "two lists: of one length", "two lists: one is longer", "two lists: (* set)",
+    "all else"])
+LIMITS = Rows("intersection, limits", [
+    f"{which}: {case}" for which in ("lower", "upper")
+    for case in ("none", "one is missing", "another string", "equal strings, strict and not", "equal strings and words")])
+REFUSED = Rows("intersection, refused", ["TooLarge", "the product is 1,000,000"])
+
+
+class TooLarge(Exception):
+    """The product of the nodes is over 1,000,000."""
+
+
+def intersection(a: Tag, b: Tag) -> Tag:
+    """The tag of the requests that both contain. TooLarge if the product of the nodes is over 1,000,000."""
+    product = nodes(a) * nodes(b)
+    if product > MOST_PRODUCT:
+        REFUSED.used("TooLarge")
+        raise TooLarge
+    if product == MOST_PRODUCT:
+        REFUSED.used("the product is 1,000,000")
+    return together(a, b)
+
+
+def together(a: Tag, b: Tag) -> Tag:
+    """What two tags have in common, by the first rule that fits."""
+    if isinstance(a, Star) or isinstance(b, Star):
+        RULES.used("(*) and any")
+        return b if isinstance(a, Star) else a
+    if isinstance(a, AnyOf) or isinstance(b, AnyOf):
+        return of_sets(members_of(a), members_of(b))
+    if isinstance(a, Text) or isinstance(b, Text):
+        return of_string(a, b) if isinstance(a, Text) else of_string(b, a)
+    if isinstance(a, Prefix) and isinstance(b, Prefix):
+        return of_prefixes(a, b)
+    if isinstance(a, Range) and isinstance(b, Range):
+        return of_ranges(a, b)
+    if isinstance(a, Prefix) and isinstance(b, Range):
+        return of_ranges(as_range(a), b)
+    if isinstance(a, Range) and isinstance(b, Prefix):
+        return of_ranges(a, as_range(b))
+    if isinstance(a, Plain) and isinstance(b, Plain):
+        return of_lists(a.members, b.members)
+    RULES.used("all else")
+    return NOTHING
+
+
+def members_of(tag: Tag) -> tuple[Tag, ...]:
+    """The members of a set. What is no set counts as its only member."""
+    return tag.members if isinstance(tag, AnyOf) else (tag,)
+
+
+def of_sets(first: tuple[Tag, ...], second: tuple[Tag, ...]) -> Tag:
+    """What each member of the first leaves with each member of the second, in this order."""
+    left = [it for it in (together(a, b) for a in first for b in second) if it != NOTHING]
+    if not left:
+        RULES.used("a set and any: none is left")
+        return NOTHING
+    RULES.used("a set and any: one is left" if len(left) == 1 else "a set and any: a set is left")
+    if min(len(first), len(second), len(left)) > 1:
+        RULES.used("two sets of several members: several are left")
+    return left[0] if len(left) == 1 else AnyOf(tuple(left))
+
+
+def of_string(string: Text, other: Tag) -> Tag:
+    """A string and what is neither a star nor a set."""
+    if isinstance(other, Text):
+        is_left, rule = string == other, "two strings: equal"
+    elif isinstance(other, Prefix):
+        is_left, rule = string.body.startswith(other.start), "a string and a prefix: contained"
+    elif isinstance(other, Range):
+        is_left, rule = in_range(other, string.body), "a string and a range: contained"
+    else:
+        RULES.used("all else")
+        return NOTHING
+    RULES.used(rule if is_left else rule.split(":")[0] + ": (* set)")
+    return string if is_left else NOTHING
+
+
+def of_prefixes(a: Prefix, b: Prefix) -> Tag:
+    """The longer one, if it starts with the shorter one."""
+    shorter, longer = sorted((a, b), key=lambda it: len(it.start))
+    starts = longer.start.startswith(shorter.start)
+    RULES.used("two prefixes: the longer" if starts else "two prefixes: (* set)")
+    return longer if starts else NOTHING
+
+
+def as_range(prefix: Prefix) -> Range:
+    """The range that a prefix counts as: from itself to below the least string above all that start with it."""
+    kept = prefix.start.rstrip(b"\xff")
+    if kept != prefix.start:
+        RULES.used("a prefix and a range: octets FF at the end")
+    RULES.used("a prefix and a range" if kept else "a prefix and a range: no upper limit")
+    above = kept[:-1] + bytes([kept[-1] + 1]) if kept else None
+    return Range(b"alpha", Limit(False, prefix.start), None if above is None else Limit(True, above))
+
+
+def of_ranges(a: Range, b: Range) -> Tag:
+    """The greater lower limit and the lesser upper limit."""
+    orderings = {a.ordering, b.ordering}
+    if orderings == {b"time", b"date"}:
+        RULES.used("two ranges: time and date")
+        return NOTHING
+    if len(orderings) == 2:
+        RULES.used("two ranges: alpha and another ordering")
+        orderings.remove(b"alpha")
+    low, up = tighter("lower", a.low, b.low), tighter("upper", a.up, b.up)
+    if low is not None and up is not None:
+        if low.body > up.body:
+            RULES.used("two ranges: the lower string is above")
+            return NOTHING
+        if low.body == up.body and (low.strict or up.strict):
+            RULES.used("two ranges: equal strings, one limit strict")
+            return NOTHING
+    RULES.used("two ranges: a range")
+    return Range(orderings.pop(), low, up)
+
+
+def tighter(which: str, a: Limit | None, b: Limit | None) -> Limit | None:
+    """The greater of two lower limits, or the lesser of two upper ones. A missing limit gives way, and so does `ge` and `le`."""
+    if a is None or b is None:
+        LIMITS.used(f"{which}: {'none' if a is b else 'one is missing'}")
+        return a or b
+    if a.body == b.body:
+        LIMITS.used(f"{which}: {'equal strings and words' if a == b else 'equal strings, strict and not'}")
+        return a if a.strict else b
+    LIMITS.used(f"{which}: another string")
+    a_is_greater = a.body > b.body
+    return a if a_is_greater == (which == "lower") else b
+
+
+def of_lists(a: tuple[Tag, ...], b: tuple[Tag, ...]) -> Tag:
+    """Two lists member by member, their heads first. The further members of the longer one stay."""
+    members: list[Tag] = []
+    for first, second in zip(a, b):
+        left = together(first, second)
+        if left == NOTHING:
+            RULES.used("two lists: (* set)")
+            return NOTHING
+        members.append(left)
+    RULES.used("two lists: of one length" if len(a) == len(b) else "two lists: one is longer")
+    return Plain((*members, *max(a, b, key=len)[len(members):]))

@@ -1,0 +1,41 @@
+"""What docs/FORMATS.md says of answers beside the tables, tried on the model's own answers.
+
+What is written is read again as the same value, as far as it is within the limits of what is read. An intersection contains a request
+exactly if both tags do: the rules and the sets of requests are two sections of the document, and this compares them.
+"""
+from collections.abc import Callable, Iterable
+
+from . import forms, tags
+from .answers import Answer, ModelDisagrees
+from .coverage import Rows
+from .tags import Tag, contains
+from .values import LONGEST, Value, canonical
+
+TRIED = Rows("law that was tried", ["what is written is read again", "a request of both tags", "a request of one tag or none"])
+
+
+def hold(command: str, text: bytes, answer: Answer, requests: Callable[[tuple[Tag, ...]], Iterable[Value]]) -> None:
+    """Raises ModelDisagrees if an answer breaks a law. `requests` gives some requests that are near some tags."""
+    status, said = answer
+    if status:
+        return
+    if command in ("canonical", "advanced", "transport") and len(said) <= LONGEST // 2:
+        if canonical(forms.read(said)) != canonical(forms.read(text)):
+            raise ModelDisagrees("what is written is read as another value")
+        TRIED.used("what is written is read again")
+    if command == "intersect":
+        value = forms.read(text)
+        assert isinstance(value, tuple)
+        a, b, both = tags.read(value[1]), tags.read(value[2]), any_tag(forms.read(said))
+        for request in requests((a, b, both)):
+            is_of_both = contains(a, request) and contains(b, request)
+            TRIED.used("a request of both tags" if is_of_both else "a request of one tag or none")
+            if contains(both, request) != is_of_both:
+                raise ModelDisagrees(f"{canonical(request)!r}: in both tags: {is_of_both}, in the intersection: {not is_of_both}")
+
+
+def any_tag(value: Value) -> Tag:
+    """A tag that was written, which may have more nodes than one that is read."""
+    reader = tags.Reader()
+    reader.nodes = -10**9
+    return reader.tag(value)

@@ -1,0 +1,45 @@
+"""What the forms share: whitespace, and base64 as it is read."""
+import base64
+import re
+
+from .coverage import Rows
+from .values import WHITESPACE
+
+SPACES = re.compile(rb"[ \t\n\v\f\r]*")
+ALPHABET = b"ABCDEFGHIJKLMNOPQRSTUVWXYZabcdefghijklmnopqrstuvwxyz0123456789+/"
+BODY = re.compile(rb"([A-Za-z0-9+/]*)(=*)")
+PADDING = Rows("base64, padding", ["none is wanted", "whole", "in part", "left out"])
+NO_BASE64 = Rows("base64, fault", ["a symbol behind padding", "too much padding", "one symbol too many", "spare bits"])
+
+
+def skip(text: bytes, at: int) -> int:
+    """The offset of the first octet past whitespace."""
+    found = SPACES.match(text, at)
+    assert found
+    return found.end()
+
+
+def from_base64(body: bytes) -> bytes | None:
+    """The octets that a body of base64 means (RFC 4648), None if it is no base64.
+
+    The body consists of symbols, `=` and whitespace, which is ignored. Some or all of the padding may be left out. Bits that the last
+    symbol has to spare are zero.
+    """
+    found = BODY.fullmatch(body.translate(None, WHITESPACE))
+    if not found:
+        NO_BASE64.used("a symbol behind padding")
+        return None
+    symbols, padding = found.groups()
+    wanted = -len(symbols) % 4
+    if wanted == 3:
+        NO_BASE64.used("one symbol too many")
+        return None
+    if len(padding) > wanted:
+        NO_BASE64.used("too much padding")
+        return None
+    octets = base64.b64decode(symbols + b"=" * wanted)
+    if base64.b64encode(octets).rstrip(b"=") != symbols:
+        NO_BASE64.used("spare bits")
+        return None
+    PADDING.used("none is wanted" if not wanted else "whole" if len(padding) == wanted else "in part" if padding else "left out")
+    return octets

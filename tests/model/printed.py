@@ -1,0 +1,33 @@
+"""The printed text of a value (section "The printed text")."""
+import base64
+import re
+
+from .coverage import Rows
+from .values import Value
+
+TOKEN = re.compile(rb"[A-Za-z\-./_:*+=][A-Za-z0-9\-./_:*+=]*")
+PRINTABLE = re.compile(rb"[\x20-\x7e]*")
+WAYS = Rows("printed text, a string", ["token", "quoted", "base64", "with a hint"])
+
+
+def string(octets: bytes) -> bytes:
+    """A string, hint or not, as it is printed."""
+    if TOKEN.fullmatch(octets):
+        WAYS.used("token")
+        return octets
+    if PRINTABLE.fullmatch(octets):
+        WAYS.used("quoted")
+        return b'"' + octets.replace(b"\\", b"\\\\").replace(b'"', b'\\"') + b'"'
+    WAYS.used("base64")
+    return b"|" + base64.b64encode(octets) + b"|"
+
+
+def printed(value: Value) -> bytes:
+    """The printed text of a value."""
+    if isinstance(value, tuple):
+        return b"(" + b" ".join(map(printed, value)) + b")"
+    if value.hint is None:
+        return string(value.body)
+    WAYS.used("with a hint")
+    return b"[" + string(value.hint) + b"]" + string(value.body)
+

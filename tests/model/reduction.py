@@ -1,0 +1,91 @@
+"""What an entry and the certificates become, joined from the left (section "Evidence and decision"; RFC 2693, 6.3 and 6.4)."""
+from .coverage import Rows
+from .evidence import Authorization, Definition, Tuple, names
+from .intersection import intersection
+from .structures import Entry, Subject, Window
+from .tags import NOTHING
+
+CAUSES = Rows("reduction, cause", [
+    "NotIssuer: names left", "NotIssuer: another key", "NotTheName: no name left", "NotTheName: another key", "NotTheName: another name",
+    "NoDelegation", "NoValidity: an authorization", "NoValidity: a name", "NoTag"])
+JOINS = Rows("reduction, join", ["an authorization", "a name, none left", "a name, more left"])
+
+
+class NoJoin(Exception):
+    """A certificate that does not join what the entry and those before it became: the first cause."""
+
+
+class Stopped(Exception):
+    """The number of the item at which a chain stops, and the cause."""
+
+    def __init__(self, item: int, cause: str) -> None:
+        super().__init__(item, cause)
+        self.item = item
+        self.cause = cause
+
+
+def no_join(row: str) -> NoJoin:
+    """A cause of the table."""
+    CAUSES.used(row)
+    return NoJoin(row.split(":")[0])
+
+
+def of_entry(entry: Entry) -> Authorization:
+    """The tuple of an entry, which the keeper of the list issues: Self."""
+    return Authorization(None, entry.subject, entry.propagate, entry.tag, entry.window)
+
+
+def fold(entry: Entry, steps: list[tuple[int, Tuple]], strict: bool) -> Authorization:
+    """What the entry becomes with all steps in their order. Stopped at the first that does not join."""
+    so_far = of_entry(entry)
+    for item, step in steps:
+        try:
+            so_far = joined(so_far, step, strict) if isinstance(step, Authorization) else resolved(so_far, step, strict)
+        except NoJoin as cause:
+            raise Stopped(item, str(cause)) from None
+    return so_far
+
+
+def joined(left: Authorization, right: Authorization, strict: bool) -> Authorization:
+    """An authorization and the one that its subject issued."""
+    assert right.issuer is not None
+    if left.subject.names:
+        raise no_join("NotIssuer: names left")
+    if not names(left.subject.principal, right.issuer, strict):
+        raise no_join("NotIssuer: another key")
+    if not left.propagate:
+        raise no_join("NoDelegation")
+    window = both(left.window, right.window)
+    if window is None:
+        raise no_join("NoValidity: an authorization")
+    tag = intersection(left.tag, right.tag)
+    if tag == NOTHING:
+        raise no_join("NoTag")
+    JOINS.used("an authorization")
+    return Authorization(left.issuer, right.subject, right.propagate, tag, window)
+
+
+def resolved(left: Authorization, name: Definition, strict: bool) -> Authorization:
+    """An authorization whose subject begins with a name, and what the name means."""
+    if not left.subject.names:
+        raise no_join("NotTheName: no name left")
+    if not names(left.subject.principal, name.key, strict):
+        raise no_join("NotTheName: another key")
+    if left.subject.names[0] != name.name:
+        raise no_join("NotTheName: another name")
+    window = both(left.window, name.window)
+    if window is None:
+        raise no_join("NoValidity: a name")
+    rest = left.subject.names[1:]
+    JOINS.used("a name, more left" if rest else "a name, none left")
+    subject = Subject(name.subject.principal, name.subject.names + rest)
+    return Authorization(left.issuer, subject, left.propagate, left.tag, window)
+
+
+def both(a: Window, b: Window) -> Window | None:
+    """The moments within both windows, None if there are none."""
+    not_before = max((it for it in (a.not_before, b.not_before) if it), default=None)
+    not_after = min((it for it in (a.not_after, b.not_after) if it), default=None)
+    if not_before and not_after and not_before > not_after:
+        return None
+    return Window(not_before, not_after)

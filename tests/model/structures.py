@@ -1,0 +1,465 @@
+"""Keys, hashes, names, dates, entries, certificates, sequences (section "Keys, hashes, dates, entries, certificates").
+
+Each reader takes a value, and gives what it says or raises the first fault in reading order.
+"""
+import hashlib
+from collections.abc import Callable, Iterable
+from dataclasses import dataclass, field
+from typing import Any, Union
+
+from . import tags
+from .coverage import Rows
+from .tags import DATE, Tag, TagFault
+from .values import Atom, Value, canonical, head_of, is_plain
+
+DIGESTS = {b"sha1": hashlib.sha1, b"sha256": hashlib.sha256, b"sha512": hashlib.sha512}
+KINDS = ["Shape", "UnknownVersion", "HashAlg", "DigestLength", "KeyUris", "Threshold", "Keyholder", "Online", "RelativeInEntry",
+         "BadDate", "UnsignedCert", "StraySignature", "UnknownOp"]
+FAULTS = Rows("structure, fault", KINDS + [
+    f"Tag {kind}" for kind in ("EmptyList", "ListHead", "Hint", "UnknownStar", "RangeOrdering", "RangeLimit", "TooManyNodes")])
+SHAPES = Rows("structure, Shape", [
+    "a list of another head", "a member is missing", "a member too many", "an algorithm that is no plain string", "an algorithm is a list",
+    "a digest that is no plain string", "neither a key nor a hash", "a name that is no plain string", "no subject",
+    "a version is a list", "no field", "a field twice", "a field is missing", "validity both ways", "tag or propagate beside a name",
+    "an issuer of two names", "no item"])
+FORMS = Rows("structure that is read", [
+    "key", "hash with uri", "hash without uri", "a key as a subject", "a hash as a subject", "a name as a subject",
+    "a relative name as a subject", "limits directly", "limits in valid", "an empty valid", "no limit", "version of a list",
+    "version of a certificate", "ignored field", "propagate", "a hash as an issuer", "certificate of an authorization",
+    "certificate of a name", "do", "do between certificate and signature", "key item", "a window that holds no moment"])
+
+
+class StructureFault(Exception):
+    """Why a value has no reading: a kind, which has the tag's fault behind it if it is Tag."""
+
+    def __init__(self, kind: str) -> None:
+        super().__init__(kind)
+        FAULTS.used(kind)
+        self.kind = kind
+
+
+class ItemFault(Exception):
+    """A fault of an item of a list, by its number. 0 is the list itself."""
+
+    def __init__(self, item: int, kind: str) -> None:
+        super().__init__(item, kind)
+        self.item = item
+        self.kind = kind
+
+
+def shape(row: str) -> StructureFault:
+    """The fault Shape, and where it was found."""
+    SHAPES.used(row)
+    return StructureFault("Shape")
+
+
+@dataclass(frozen=True, slots=True)
+class Key:
+    """A key: the octets of its canonical text."""
+
+    octets: bytes
+    value: Value = field(compare=False)
+
+
+@dataclass(frozen=True, slots=True)
+class Hash:
+    """A hash of a key's canonical text."""
+
+    algorithm: bytes
+    digest: bytes
+
+    def fits(self, octets: bytes) -> bool:
+        """Whether the digest is that of these octets."""
+        return DIGESTS[self.algorithm](octets).digest() == self.digest
+
+
+Principal = Union[Key, Hash]
+
+
+@dataclass(frozen=True, slots=True)
+class Subject:
+    """A principal, or a name of it. A relative name has no principal of its own."""
+
+    principal: Principal | None
+    names: tuple[bytes, ...] = ()
+
+
+@dataclass(frozen=True, slots=True)
+class Window:
+    """The moments from one to another, both included. A missing limit does not limit."""
+
+    not_before: bytes | None = None
+    not_after: bytes | None = None
+
+    def holds(self, moment: bytes) -> bool:
+        """Whether a moment is in the window."""
+        return (self.not_before or moment) <= moment <= (self.not_after or moment)
+
+
+@dataclass(frozen=True, slots=True)
+class Entry:
+    """An entry of an access list."""
+
+    subject: Subject
+    propagate: bool
+    tag: Tag
+    window: Window
+
+
+@dataclass(frozen=True, slots=True)
+class Certificate:
+    """A certificate. It defines a name of the issuer if it has one, and is one of an authorization if it has none."""
+
+    issuer: Principal
+    name: bytes | None
+    subject: Subject
+    propagate: bool
+    tag: Tag | None
+    window: Window
+    octets: bytes
+
+
+@dataclass(frozen=True, slots=True)
+class Signature:
+    """A signature: of the message with this digest, by whom, and its value's canonical text."""
+
+    digest: Hash
+    signer: Principal
+    value: bytes
+
+
+@dataclass(frozen=True, slots=True)
+class Operation:
+    """`(do hash alg)`, which has no effect."""
+
+
+Item = Union[Key, Operation, Certificate, Signature]
+
+
+# ---- fixed forms
+
+
+class Members:
+    """The members of a list behind its head, taken from the left."""
+
+    def __init__(self, value: Value, head: bytes) -> None:
+        if head_of(value) != head:
+            raise shape("a list of another head")
+        assert isinstance(value, tuple)
+        self.left = value[1:]
+
+    def next(self) -> Value:
+        """The next member."""
+        if not self.left:
+            raise shape("a member is missing")
+        first, self.left = self.left[0], self.left[1:]
+        return first
+
+    def end(self) -> None:
+        """Shape if a member is left."""
+        if self.left:
+            raise shape("a member too many")
+
+
+def read_key(value: Value) -> Key:
+    """`(public-key (alg part*))`."""
+    members = Members(value, b"public-key")
+    if head_of(members.next()) is None:
+        raise shape("an algorithm that is no plain string")
+    if members.left and head_of(members.left[0]) == b"uri":
+        raise StructureFault("KeyUris")
+    members.end()
+    FORMS.used("key")
+    return Key(canonical(value), value)
+
+
+def read_algorithm(value: Value) -> bytes:
+    """The algorithm of a hash."""
+    if isinstance(value, tuple):
+        raise shape("an algorithm is a list")
+    if value.hint is not None or value.body not in DIGESTS:
+        raise StructureFault("HashAlg")
+    return value.body
+
+
+def read_hash(value: Value) -> Hash:
+    """`(hash alg digest (uri x*)?)`."""
+    members = Members(value, b"hash")
+    algorithm = read_algorithm(members.next())
+    digest = members.next()
+    if not isinstance(digest, Atom) or digest.hint is not None:
+        raise shape("a digest that is no plain string")
+    if len(digest.body) != DIGESTS[algorithm]().digest_size:
+        raise StructureFault("DigestLength")
+    has_uri = bool(members.left) and head_of(members.left[0]) == b"uri"
+    if has_uri:
+        members.next()
+    members.end()
+    FORMS.used("hash with uri" if has_uri else "hash without uri")
+    return Hash(algorithm, digest.body)
+
+
+def read_principal(value: Value) -> Principal:
+    """A key, or the hash of one."""
+    if head_of(value) == b"public-key":
+        return read_key(value)
+    if head_of(value) == b"hash":
+        return read_hash(value)
+    raise shape("neither a key nor a hash")
+
+
+def read_name(value: Value) -> Subject:
+    """`(name principal n n*)`, or `(name n n*)`, which has no principal."""
+    members = Members(value, b"name")
+    first = members.next()
+    if isinstance(first, tuple):
+        principal = read_principal(first)
+        names = (members.next(), *members.left)
+    else:
+        principal = None
+        names = (first, *members.left)
+    if not all(map(is_plain, names)):
+        raise shape("a name that is no plain string")
+    return Subject(principal, tuple(name.body for name in names if isinstance(name, Atom)))
+
+
+def read_subject(value: Value) -> Subject:
+    """A principal, a name or a relative name."""
+    head = head_of(value)
+    if head == b"k-of-n":
+        raise StructureFault("Threshold")
+    if head == b"keyholder":
+        raise StructureFault("Keyholder")
+    if head == b"name":
+        subject = read_name(value)
+        FORMS.used("a name as a subject" if subject.principal else "a relative name as a subject")
+        return subject
+    if head not in (b"public-key", b"hash"):
+        raise shape("no subject")
+    principal = read_principal(value)
+    FORMS.used("a key as a subject" if isinstance(principal, Key) else "a hash as a subject")
+    return Subject(principal)
+
+
+def read_date(value: Value) -> bytes:
+    """A date, whose only fault is BadDate."""
+    if not isinstance(value, Atom) or value.hint is not None or not DATE.fullmatch(value.body):
+        raise StructureFault("BadDate")
+    return value.body
+
+
+def read_tag(value: Value) -> Tag:
+    """A tag within a structure."""
+    try:
+        return tags.read(value)
+    except TagFault as fault:
+        raise StructureFault(f"Tag {fault}") from None
+
+
+def read_version(value: Value) -> None:
+    """`(version "0")`."""
+    members = Members(value, b"version")
+    number = members.next()
+    if isinstance(number, tuple):
+        raise shape("a version is a list")
+    if number != Atom(b"0"):
+        raise StructureFault("UnknownVersion")
+    members.end()
+
+
+# ---- fields
+
+
+def one_member(read: Callable[[Value], Any]) -> Callable[[Value], Any]:
+    """The reader of a field that has one member, by the reader of the member."""
+
+    def reader(value: Value) -> Any:
+        members = Members(value, head_of(value) or b"")
+        said = read(members.next())
+        members.end()
+        return said
+
+    return reader
+
+
+def read_propagate(value: Value) -> bool:
+    """`(propagate)`."""
+    Members(value, b"propagate").end()
+    FORMS.used("propagate")
+    return True
+
+
+def read_ignored(value: Value) -> None:
+    """A field that is accepted and not looked at."""
+    FORMS.used("ignored field")
+
+
+def read_issuer(value: Value) -> Subject:
+    """What stands in `(issuer ..)`: a principal, or a name of one with one string."""
+    if head_of(value) != b"name":
+        return Subject(read_principal(value))
+    subject = read_name(value)
+    if subject.principal is None:
+        raise shape("neither a key nor a hash")
+    if len(subject.names) != 1:
+        raise shape("an issuer of two names")
+    return subject
+
+
+def read_valid(value: Value) -> dict[bytes, Any]:
+    """`(valid ..)`, which has the limits as fields."""
+    return read_fields(Members(value, b"valid").left, LIMITS)
+
+
+def read_certificate_version(value: Value) -> None:
+    """The version of a certificate."""
+    read_version(value)
+    FORMS.used("version of a certificate")
+
+
+Readers = dict[bytes, Callable[[Value], Any]]
+LIMITS: Readers = {b"not-before": one_member(read_date), b"not-after": one_member(read_date)}
+ENTRY: Readers = {**LIMITS, b"valid": read_valid, b"tag": one_member(read_tag), b"propagate": read_propagate, b"comment": read_ignored}
+CERTIFICATE: Readers = {
+    **ENTRY, b"issuer": one_member(read_issuer), b"subject": one_member(read_subject), b"version": read_certificate_version,
+    b"display": read_ignored, b"issuer-info": read_ignored, b"subject-info": read_ignored}
+
+
+def read_fields(fields: Iterable[Value], readers: Readers) -> dict[bytes, Any]:
+    """What each field says, by its head. Fields stand in any order, each at most once."""
+    said: dict[bytes, Any] = {}
+    for value in fields:
+        head = head_of(value)
+        if head == b"online":
+            raise StructureFault("Online")
+        if head not in readers:
+            raise shape("no field")
+        if head in said:
+            raise shape("a field twice")
+        said[head] = readers[head](value)
+    return said
+
+
+def needed(said: dict[bytes, Any], *heads: bytes) -> None:
+    """Shape if one of these fields is missing."""
+    if any(head not in said for head in heads):
+        raise shape("a field is missing")
+
+
+def window_of(said: dict[bytes, Any]) -> Window:
+    """The window of the fields. Validity directly and in `(valid ..)` at once is Shape."""
+    directly = {head: said[head] for head in LIMITS if head in said}
+    if b"valid" not in said:
+        limits, form = directly, "limits directly" if directly else "no limit"
+    elif directly:
+        raise shape("validity both ways")
+    else:
+        limits, form = said[b"valid"], "limits in valid" if said[b"valid"] else "an empty valid"
+    FORMS.used(form)
+    window = Window(limits.get(b"not-before"), limits.get(b"not-after"))
+    if len(limits) == 2 and limits[b"not-before"] > limits[b"not-after"]:
+        FORMS.used("a window that holds no moment")
+    return window
+
+
+# ---- lists
+
+
+def read_entry(value: Value) -> Entry:
+    """`(entry subject field*)`."""
+    members = Members(value, b"entry")
+    subject = read_subject(members.next())
+    if subject.principal is None:
+        raise StructureFault("RelativeInEntry")
+    said = read_fields(members.left, ENTRY)
+    needed(said, b"tag")
+    return Entry(subject, b"propagate" in said, said[b"tag"], window_of(said))
+
+
+def read_access_list(value: Value) -> list[Entry]:
+    """`(acl version? entry*)`."""
+    entries = Members(value, b"acl").left
+    if entries and head_of(entries[0]) == b"version":
+        numbered(0, read_version, entries[0])
+        FORMS.used("version of a list")
+        entries = entries[1:]
+    return [numbered(number, read_entry, entry) for number, entry in enumerate(entries, 1)]
+
+
+def numbered(number: int, read: Callable[[Value], Any], value: Value) -> Any:
+    """What a reader gives of an item. A fault gets the item's number."""
+    try:
+        return read(value)
+    except StructureFault as fault:
+        raise ItemFault(number, fault.kind) from None
+
+
+def read_certificate(value: Value) -> Certificate:
+    """`(cert field*)`."""
+    said = read_fields(Members(value, b"cert").left, CERTIFICATE)
+    needed(said, b"issuer", b"subject")
+    issuer, subject = said[b"issuer"], said[b"subject"]
+    if issuer.names:
+        if b"tag" in said or b"propagate" in said:
+            raise shape("tag or propagate beside a name")
+    else:
+        needed(said, b"tag")
+    window = window_of(said)
+    if subject.principal is None:
+        subject = Subject(issuer.principal, subject.names)
+    FORMS.used("certificate of a name" if issuer.names else "certificate of an authorization")
+    if isinstance(issuer.principal, Hash):
+        FORMS.used("a hash as an issuer")
+    name = issuer.names[0] if issuer.names else None
+    return Certificate(issuer.principal, name, subject, b"propagate" in said, said.get(b"tag"), window, canonical(value))
+
+
+def read_signature(value: Value) -> Signature:
+    """`(signature hash principal value)`."""
+    members = Members(value, b"signature")
+    signature = Signature(read_hash(members.next()), read_principal(members.next()), canonical(members.next()))
+    members.end()
+    return signature
+
+
+def read_operation(value: Value) -> Operation:
+    """`(do hash alg)`."""
+    members = Members(value, b"do")
+    if not members.left or not is_plain(members.left[0], b"hash"):
+        raise StructureFault("UnknownOp")
+    members.next()
+    read_algorithm(members.next())
+    members.end()
+    FORMS.used("do")
+    return Operation()
+
+
+def read_sequence(value: Value) -> list[Item]:
+    """`(sequence item*)`, in which a signature follows each certificate."""
+    items: list[Item] = []
+    waits = 0
+    for number, member in enumerate(Members(value, b"sequence").left, 1):
+        if waits and head_of(member) not in (b"do", b"signature"):
+            break
+        if not waits and head_of(member) == b"signature":
+            raise ItemFault(number, StructureFault("StraySignature").kind)
+        item = numbered(number, read_item, member)
+        if waits and isinstance(item, Operation):
+            FORMS.used("do between certificate and signature")
+        waits = number if isinstance(item, Certificate) else 0 if isinstance(item, Signature) else waits
+        items.append(item)
+    if waits:
+        raise ItemFault(waits, StructureFault("UnsignedCert").kind)
+    return items
+
+
+def read_item(value: Value) -> Item:
+    """An item of a sequence."""
+    readers: dict[bytes | None, Callable[[Value], Item]] = {
+        b"public-key": read_key, b"do": read_operation, b"cert": read_certificate, b"signature": read_signature}
+    head = head_of(value)
+    if head not in readers:
+        raise shape("no item")
+    if head == b"public-key":
+        FORMS.used("key item")
+    return readers[head](value)

@@ -1,0 +1,52 @@
+"""The transport form: `{`, the base64 of the canonical form, `}` (section "Transport form")."""
+import base64
+import re
+
+from . import canonical
+from .coverage import Rows
+from .octets import from_base64, skip
+from .values import LONGEST, FormFault, Value, octet_at
+from .values import canonical as canonical_text
+
+INSIDE = re.compile(rb"[A-Za-z0-9+/= \t\n\v\f\r]*")
+FAULTS = Rows("transport form, fault", [
+    "TooLong", "Bad at an octet inside", "Short", "TooDeep at the }", "Bad at the }, no base64", "Bad at the }, no canonical form",
+    "Trailing"])
+
+
+def fault(row: str, kind: str, at: int | None = None) -> FormFault:
+    """A fault of the table."""
+    FAULTS.used(row)
+    return FormFault(kind, at)
+
+
+def read(text: bytes) -> Value:
+    """The value of a text whose first octet past whitespace is `{`, or the first fault from the left."""
+    if len(text) > LONGEST:
+        raise fault("TooLong", "TooLong")
+    begins = skip(text, 0) + 1
+    inside = INSIDE.match(text, begins)
+    assert inside
+    ends = inside.end()
+    if ends == len(text):
+        raise fault("Short", "Short")
+    if octet_at(text, ends) != ord("}"):
+        raise fault("Bad at an octet inside", "Bad", ends)
+    octets = from_base64(inside[0])
+    if octets is None:
+        raise fault("Bad at the }, no base64", "Bad", ends)
+    try:
+        value = canonical.read(octets)
+    except FormFault as found:
+        if found.kind == "TooDeep":
+            raise fault("TooDeep at the }", "TooDeep") from None
+        raise fault("Bad at the }, no canonical form", "Bad", ends) from None
+    behind = skip(text, ends + 1)
+    if behind < len(text):
+        raise fault("Trailing", "Trailing", behind)
+    return value
+
+
+def written(value: Value) -> bytes:
+    """The transport form of a value."""
+    return b"{" + base64.b64encode(canonical_text(value)) + b"}"
