@@ -26,7 +26,7 @@ use Rattle.spki_cert.specs.declared.fault.CertFault.{CertFault}
 use Rattle.spki_tag.specs.FirstFault.{first_fault, unless}
 use Rattle.spki_cert.specs.declared.hash.HashAlg.{HashAlg}
 use Rattle.spki_cert.specs.FixedFaults.{is_plain, any_octets, is_sized}
-use Rattle.spki_cert.specs.FieldFaults.{is_again, limit_fault}
+use Rattle.spki_cert.specs.FieldFaults.{is_again, limit_fault, entry_field_fault, cert_field_fault}
 use Rattle.spki_cert.specs.Readings.{DateOf}
 use Rattle.spki_cert.specs.Subjects.{PrincipalOf, plains}
 use Rattle.spki_cert.specs.Fields.{is_headed, Sole, Given, IssuerIn, WhoIn, LimitsAre, ValidOf, IsField, IsCertField, AreFields, propagates, WindowOf}
@@ -154,6 +154,11 @@ pub record KnownOf (fields : List Value) (k : Known) : Type 0 where
 abbrev pub IsFieldOf : Place → Value → Type 0
 IsFieldOf places.Entry v = IsField v
 IsFieldOf places.Certificate v = IsCertField v
+
+-- the fault of a field of an entry, and that of one of a certificate
+abbrev pub fault_in : Place → Value → Option CertFaultKind
+fault_in places.Entry = entry_field_fault
+fault_in places.Certificate = cert_field_fault
 
 -- whether this is one of the words
 abbrev pub is_among : List (List ℕ) → List ℕ → Bool
