@@ -14,4 +14,5 @@ pub mod Certificates
 pub mod Sequences
 pub mod EntryFaults
 pub mod ItemFaults
+pub mod SequenceFaults
 pub mod Gathering
