@@ -1,21 +1,30 @@
 -- The fault that is named of a field, and of fields one after the other, along the way of their reading.
 use Rattle.std.proofs.Common.{◌≡◌, ◌≢◌, ℕ, List, [], ◌∷◌, ◌++◌, drop, Bool, true, false, Option, Some, None, refl, sym, ap, ◌∙◌, inl, inr}
-use Rattle.std.specs.Prelude.{codes, not, is_some, if◌then◌else◌, ◌||◌}
+use Rattle.std.specs.Prelude.{codes, not, is_some, if◌then◌else◌, ◌||◌, ◌&&◌}
 use Rattle.std.specs.Str.{bytes_eq}
 use Rattle.std.specs.List.{AllByRecursion, list_any}
 use Rattle.std.proofs.lemmas.Slice.Eq.{bytes_eq-Decides}
-use Rattle.sexpr_core.specs.Value.{Value, plain, group}
+use Rattle.sexpr_core.specs.Value.{Value, plain, group, members}
+use Rattle.sexpr_core.specs.Labels.{values-members}
 use Rattle.sexpr_core.specs.Value as sexpr
 use Rattle.sexpr_core.specs.Shapes.{IsNoString, IsNotHeaded}
 use Rattle.spki_tag.specs.FirstFault.{first_fault, unless}
 use Rattle.spki_cert.specs.declared.window.Window.{Window}
 use Rattle.spki_cert.specs.declared.fault.CertFaultKind.{CertFaultKind}
-use Rattle.spki_cert.specs.declared.fault.CertFaultKind.TheVariants.{Shape, UnknownVersion, Online}
+use Rattle.spki_cert.specs.declared.fault.CertFaultKind.TheVariants.{Shape, UnknownVersion, Online, Tag, Memory}
+use Rattle.spki_tag.specs.Read.{ReadsAs}
 use Rattle.spki_cert.specs.Readings.{DateOf}
-use Rattle.spki_cert.specs.Fields.{is_headed, behind_head, contents, Given, Sole, IsLimitField, ValidOf}
-use Rattle.spki_cert.specs.Places.{sole_fault}
+use Rattle.spki_cert.specs.Fields.{is_headed, behind_head, contents, Given, Sole, IsLimitField, ValidOf, IsUnread, display, issuer_info, subject_info}
+use Rattle.spki_cert.specs.Places.{sole_fault, unless_none}
+use Rattle.spki_tag.specs.declared.fault.TagFault.{TagFault}
+use Rattle.spki_tag.specs.FaultOf.{tag_fault, IsNamed}
+use Rattle.spki_cert.specs.declared.fields.Known.{Known}
+use Rattle.spki_cert.specs.declared.fields.Place.{Place}
+use Rattle.spki_cert.specs.declared.fields.Place.TheVariants as places
+use Rattle.spki_cert.specs.SubjectFaults.{subject_fault, issuer_fault}
+use Rattle.spki_cert.specs.Gathering.{IsTagKind, is_among, IsNew, AreRead, KnownOf, IsOneWay, IsBothWays, fault_in, IssuerAt, WhoAt}
 use Rattle.spki_cert.specs.FixedFaults.{is_string, is_plain, date_fault}
-use Rattle.spki_cert.specs.FieldFaults.{head_of, has, has_head, is_again, fields_looked, fields_fault, is_zero, version_fault, limit_fault, time_fault}
+use Rattle.spki_cert.specs.FieldFaults.{head_of, has, has_head, is_again, fields_looked, fields_fault, is_zero, version_fault, limit_fault, time_fault, as_tag, kind_of_tag, entry_field_fault, is_unread, cert_field_fault, is_both_ways}
 use Rattle.spki_cert.proofs.Groups.{headed-by, not-headed, behind-group}
 use Rattle.spki_cert.proofs.Looking.{of-form, no-plain, found-first, found-none}
 use Rattle.spki_cert.proofs.SubjectFaultLaws.{headed-else}
@@ -167,3 +176,220 @@ left-next fault_of all before rest others v left e f =
 
 pub left-none : (fault_of : Value → Option CertFaultKind) (all before rest : List Value) → Left fault_of all before rest → rest ≡ [] → fields_fault fault_of all ≡ None
 left-none fault_of all before rest left e = left ∙ ap (λ (vs : List Value). first_fault (fields_looked fault_of before vs)) e
+
+-- ---- tags
+
+pub tag-named : (fault : TagFault) (kind : CertFaultKind) (v : Value) → IsTagKind fault kind → IsNamed fault (tag_fault v) → kind ≢ Memory → kind_of_tag v ≡ Some kind
+unfolding IsNamed
+tag-named fault kind v (inl is) named known = absurd (known is.1)
+tag-named fault kind v (inr is) (inl lack) known = absurd (is.0 lack)
+tag-named fault kind v (inr is) (inr found) known = ap as_tag found ∙ ap (λ (k : CertFaultKind). Some k) (sym is.1)
+
+pub tag-faultless : (v : Value) → tag_fault v ≡ None → kind_of_tag v ≡ None
+tag-faultless v e = ap as_tag e
+
+-- ---- validity
+
+pub time-valid : (v : Value) (rest : List Value) → v ≡ group (plain (codes "valid") ∷ rest) → time_fault v ≡ fields_fault limit_fault rest
+unfolding time_fault
+time-valid v rest e = of-form (λ b vs. if b then fields_fault limit_fault vs else limit_fault v) (codes "valid") v rest e
+
+pub time-limit : (v : Value) → is_headed (codes "valid") v ≡ false → time_fault v ≡ limit_fault v
+unfolding time_fault
+time-limit v e = ap (λ (b : Bool). if b then fields_fault limit_fault (behind_head v) else limit_fault v) e
+
+-- ---- fields of entries
+
+abbrev entry_looked : Bool → Bool → Bool → List Value → Option CertFaultKind → Option CertFaultKind
+entry_looked tag propagate comment rest found =
+    if tag then sole_fault Shape kind_of_tag rest else (if propagate then unless_none rest Shape else (if comment then None else found))
+
+pub entry-tag_field : (v : Value) (rest : List Value) → v ≡ group (plain (codes "tag") ∷ rest) → entry_field_fault v ≡ sole_fault Shape kind_of_tag rest
+unfolding entry_field_fault
+entry-tag_field v rest e = of-form (λ b vs. entry_looked b (is_headed (codes "propagate") v) (is_headed (codes "comment") v) vs (time_fault v)) (codes "tag") v rest e
+
+pub entry-propagate : (v : Value) (rest : List Value) → v ≡ group (plain (codes "propagate") ∷ rest) → entry_field_fault v ≡ unless_none rest Shape
+unfolding entry_field_fault
+entry-propagate v rest e =
+    λ i. entry_looked (headed-else (codes "propagate") (codes "tag") v rest e refl i) (headed-by v (codes "propagate") rest e i) (is_headed (codes "comment") v)
+    (behind-group v (plain (codes "propagate")) rest e i) (time_fault v)
+
+pub entry-comment : (v : Value) (rest : List Value) → v ≡ group (plain (codes "comment") ∷ rest) → entry_field_fault v ≡ None
+unfolding entry_field_fault
+entry-comment v rest e =
+    λ i. entry_looked (headed-else (codes "comment") (codes "tag") v rest e refl i) (headed-else (codes "comment") (codes "propagate") v rest e refl i)
+    (headed-by v (codes "comment") rest e i) (behind_head v) (time_fault v)
+
+entry-else : (v : Value) → is_headed (codes "tag") v ≡ false → is_headed (codes "propagate") v ≡ false → is_headed (codes "comment") v ≡ false → entry_field_fault v ≡ time_fault v
+unfolding entry_field_fault
+entry-else v p q r = λ i. entry_looked (p i) (q i) (r i) (behind_head v) (time_fault v)
+
+pub entry-time : (v : Value) (found : Option CertFaultKind) → IsNotHeaded v (codes "tag") → IsNotHeaded v (codes "propagate") → IsNotHeaded v (codes "comment") → time_fault v ≡ found
+    → entry_field_fault v ≡ found
+entry-time v found p q r e = entry-else v (not-headed (codes "tag") v p) (not-headed (codes "propagate") v q) (not-headed (codes "comment") v r) ∙ e
+
+pub none-some : (vs : List Value) → (vs ≡ [] → ⊥) → unless_none vs Shape ≡ Some Shape
+none-some [] some = absurd (some refl)
+none-some (v ∷ vs) some = refl
+
+-- ---- fields of certificates
+
+abbrev cert_looked : Bool → Bool → Bool → Bool → List Value → Option CertFaultKind → Option CertFaultKind
+cert_looked issuer subject version unread rest found =
+    if issuer then sole_fault Shape issuer_fault rest else (
+    if subject then sole_fault Shape subject_fault rest else (if version then sole_fault Shape version_fault rest else (if unread then None else found))
+    )
+
+pub cert-issuer_field : (v : Value) (rest : List Value) → v ≡ group (plain (codes "issuer") ∷ rest) → cert_field_fault v ≡ sole_fault Shape issuer_fault rest
+unfolding cert_field_fault
+cert-issuer_field v rest e =
+    of-form (λ b vs. cert_looked b (is_headed (codes "subject") v) (is_headed (codes "version") v) (is_unread v) vs (entry_field_fault v)) (codes "issuer") v rest e
+
+pub cert-subject_field : (v : Value) (rest : List Value) → v ≡ group (plain (codes "subject") ∷ rest) → cert_field_fault v ≡ sole_fault Shape subject_fault rest
+unfolding cert_field_fault
+cert-subject_field v rest e =
+    λ i. cert_looked (headed-else (codes "subject") (codes "issuer") v rest e refl i) (headed-by v (codes "subject") rest e i) (is_headed (codes "version") v) (is_unread v)
+    (behind-group v (plain (codes "subject")) rest e i) (entry_field_fault v)
+
+pub cert-version_field : (v : Value) (rest : List Value) → v ≡ group (plain (codes "version") ∷ rest) → cert_field_fault v ≡ sole_fault Shape version_fault rest
+unfolding cert_field_fault
+cert-version_field v rest e =
+    λ i. cert_looked (headed-else (codes "version") (codes "issuer") v rest e refl i) (headed-else (codes "version") (codes "subject") v rest e refl i)
+    (headed-by v (codes "version") rest e i) (is_unread v) (behind-group v (plain (codes "version")) rest e i) (entry_field_fault v)
+
+-- a field that isn't looked at, by its head
+unread-word : (word : List ℕ) (v : Value) (rest : List Value) → v ≡ group (plain word ∷ rest)
+    → cert_field_fault (group (plain word ∷ rest)) ≡ None → cert_field_fault v ≡ None
+unread-word word v rest e f = ap cert_field_fault e ∙ f
+
+unread-none : (word : List ℕ) (rest : List Value) → is_headed (codes "issuer") (group (plain word ∷ rest)) ≡ false
+    → is_headed (codes "subject") (group (plain word ∷ rest)) ≡ false → is_headed (codes "version") (group (plain word ∷ rest)) ≡ false
+    → is_unread (group (plain word ∷ rest)) ≡ true → cert_field_fault (group (plain word ∷ rest)) ≡ None
+unfolding cert_field_fault
+unread-none word rest p q r s =
+    let v : Value = group (plain word ∷ rest) in λ i. cert_looked (p i) (q i) (r i) (s i) (behind_head v) (entry_field_fault v)
+
+pub cert-unread : (v : Value) → IsUnread v → cert_field_fault v ≡ None
+cert-unread v (display xs e) = unread-word (codes "display") v xs e (unread-none (codes "display") xs refl refl refl refl)
+cert-unread v (issuer_info xs e) = unread-word (codes "issuer-info") v xs e (unread-none (codes "issuer-info") xs refl refl refl refl)
+cert-unread v (subject_info xs e) = unread-word (codes "subject-info") v xs e (unread-none (codes "subject-info") xs refl refl refl refl)
+
+cert-else : (v : Value) → is_headed (codes "issuer") v ≡ false → is_headed (codes "subject") v ≡ false → is_headed (codes "version") v ≡ false → is_unread v ≡ false
+    → cert_field_fault v ≡ entry_field_fault v
+unfolding cert_field_fault
+cert-else v p q r s = λ i. cert_looked (p i) (q i) (r i) (s i) (behind_head v) (entry_field_fault v)
+
+is-headed : (word : List ℕ) (v : Value) → is_headed word v ≡ true → (rest : List Value) × (v ≡ group (plain word ∷ rest))
+is-headed word (sexpr.string hint octets) e = absurd (cc)
+is-headed word (sexpr.list sexpr.none) e = absurd (cc)
+is-headed word (sexpr.list (sexpr.more (sexpr.list vs) others)) e = absurd (cc)
+is-headed word (sexpr.list (sexpr.more (sexpr.string (Some hint) head) others)) e = absurd (cc)
+is-headed word (sexpr.list (sexpr.more (sexpr.string None head) others)) e =
+    let same : head ≡ word = (bytes_eq-Decides head word).0 e in
+    (members others, λ i. sexpr.list (sexpr.more (sexpr.string None (same i)) (sym (values-members others) i)))
+
+not-unread : (v : Value) → (IsUnread v → ⊥) → is_unread v ≡ false
+not-unread v other = by (is_headed (codes "display") v) (is_headed (codes "issuer-info") v) (is_headed (codes "subject-info") v) refl refl refl
+  where
+    by : (a b d : Bool) → is_headed (codes "display") v ≡ a → is_headed (codes "issuer-info") v ≡ b → is_headed (codes "subject-info") v ≡ d → (a || b || d) ≡ false
+    by true b d e f g = absurd (let h = is-headed (codes "display") v e in other (display h.0 h.1))
+    by false true d e f g = absurd (let h = is-headed (codes "issuer-info") v f in other (issuer_info h.0 h.1))
+    by false false true e f g = absurd (let h = is-headed (codes "subject-info") v g in other (subject_info h.0 h.1))
+    by false false false e f g = refl
+
+pub cert-common : (v : Value) (found : Option CertFaultKind) → IsNotHeaded v (codes "issuer") → IsNotHeaded v (codes "subject") → IsNotHeaded v (codes "version") → (IsUnread v → ⊥)
+    → entry_field_fault v ≡ found → cert_field_fault v ≡ found
+cert-common v found p q r other e =
+    cert-else v (not-headed (codes "issuer") v p) (not-headed (codes "subject") v q) (not-headed (codes "version") v r) (not-unread v other) ∙ e
+
+-- ---- what has no head is no field
+
+headless : (word : List ℕ) (v : Value) → head_of v ≡ None → is_headed word v ≡ false
+headless word (sexpr.string hint octets) e = refl
+headless word (sexpr.list sexpr.none) e = refl
+headless word (sexpr.list (sexpr.more (sexpr.list vs) others)) e = refl
+headless word (sexpr.list (sexpr.more (sexpr.string (Some hint) head) others)) e = refl
+headless word (sexpr.list (sexpr.more (sexpr.string None head) others)) e = absurd (cc)
+
+headless-limit : (v : Value) → head_of v ≡ None → limit_fault v ≡ Some Shape
+unfolding limit_fault
+headless-limit v e = λ i. limit_looked (headless (codes "not-before") v e i) (headless (codes "not-after") v e i) (headless (codes "online") v e i) (behind_head v)
+
+headless-entry : (v : Value) → head_of v ≡ None → entry_field_fault v ≡ Some Shape
+headless-entry v e =
+    entry-else v (headless (codes "tag") v e) (headless (codes "propagate") v e) (headless (codes "comment") v e)
+    ∙ time-limit v (headless (codes "valid") v e) ∙ headless-limit v e
+
+headless-cert : (v : Value) → head_of v ≡ None → cert_field_fault v ≡ Some Shape
+headless-cert v e =
+    cert-else v (headless (codes "issuer") v e) (headless (codes "subject") v e) (headless (codes "version") v e)
+    (λ i. headless (codes "display") v e i || headless (codes "issuer-info") v e i || headless (codes "subject-info") v e i)
+    ∙ headless-entry v e
+
+pub headless-field : (place : Place) (v : Value) → head_of v ≡ None → fault_in place v ≡ Some Shape
+headless-field places.Entry v e = headless-entry v e
+headless-field places.Certificate v e = headless-cert v e
+
+head-group : (v : Value) (head : List ℕ) → head_of v ≡ Some head → (rest : List Value) × (v ≡ group (plain head ∷ rest))
+head-group (sexpr.string hint octets) head e = absurd (cc)
+head-group (sexpr.list sexpr.none) head e = absurd (cc)
+head-group (sexpr.list (sexpr.more (sexpr.list vs) others)) head e = absurd (cc)
+head-group (sexpr.list (sexpr.more (sexpr.string (Some hint) word) others)) head e = absurd (cc)
+head-group (sexpr.list (sexpr.more (sexpr.string None word) others)) head e =
+    let same : word ≡ head = cc in (members others, λ i. sexpr.list (sexpr.more (sexpr.string None (same i)) (sym (values-members others) i)))
+
+-- a field whose head isn't new, or that has none
+pub field-not_new : (place : Place) (before : List Value) (heads : List (List ℕ)) (k : Known) (v : Value) → AreRead place before heads k
+    → ((head : List ℕ) → IsNew v heads head → ⊥) → first_fault (field_looked (fault_in place) before v) ≡ Some Shape
+field-not_new place before heads k v read none = by (head_of v) refl
+  where
+    among : (head : List ℕ) (rest : List Value) → v ≡ group (plain head ∷ rest) → (b : Bool) → is_among heads head ≡ b → b ≡ true
+    among head rest e true f = refl
+    among head rest e false f = absurd (none head (record { rest = rest; written = e; fresh = f }))
+
+    by : (o : Option (List ℕ)) → head_of v ≡ o → first_fault (field_looked (fault_in place) before v) ≡ Some Shape
+    by None e = field-misfit (fault_in place) before v (headless-field place v e)
+    by (Some head) e =
+        let form = head-group v head e in
+        field-again (fault_in place) before v
+        (again-headed head before v form.0 form.1 ∙ sym (read.heads_are head) ∙ among head form.0 form.1 (is_among heads head) refl)
+
+pub field-is_new : (place : Place) (before : List Value) (heads : List (List ℕ)) (k : Known) (v : Value) (head : List ℕ) → AreRead place before heads k → IsNew v heads head
+    → is_again before v ≡ false
+field-is_new place before heads k v head read new = again-headed head before v new.rest new.written ∙ sym (read.heads_are head) ∙ new.fresh
+
+-- ---- clashes
+
+pub both-known : (fields : List Value) (k : Known) → KnownOf fields k → is_both_ways fields ≡ (is_some k.valid && (is_some k.limits.not_before || is_some k.limits.not_after))
+both-known fields k known =
+    λ i. has-given (codes "valid") ValidOf fields k.valid known.valid_is i
+    && (has-given (codes "not-before") (Sole DateOf) fields k.limits.not_before known.limits_are.0 i
+    || has-given (codes "not-after") (Sole DateOf) fields k.limits.not_after known.limits_are.1 i)
+
+both-given : (limits : Window) (valid : Option Window) → IsBothWays limits valid → (is_some valid && (is_some limits.not_before || is_some limits.not_after)) ≡ true
+both-given limits None both = absurd both
+both-given limits (Some w) (inl e) = ap (λ (b : Bool). b || is_some limits.not_after) e
+both-given limits (Some w) (inr e) = by (is_some limits.not_before) e
+  where
+    by : (b : Bool) → is_some limits.not_after ≡ true → (b || is_some limits.not_after) ≡ true
+    by true e = refl
+    by false e = e
+
+one-given : (limits : Window) (valid : Option Window) (w : Window) → IsOneWay limits valid w → (is_some valid && (is_some limits.not_before || is_some limits.not_after)) ≡ false
+one-given limits None w one = refl
+one-given limits (Some window) w one = λ i. is_some (one.0 i) || is_some (one.1 i)
+
+pub both-ways : (fields : List Value) (k : Known) → KnownOf fields k → IsBothWays k.limits k.valid → is_both_ways fields ≡ true
+both-ways fields k known both = both-known fields k known ∙ both-given k.limits k.valid both
+
+pub one-way : (fields : List Value) (k : Known) (w : Window) → KnownOf fields k → IsOneWay k.limits k.valid w → is_both_ways fields ≡ false
+one-way fields k w known one = both-known fields k known ∙ one-given k.limits k.valid w one
+
+pub has-tag : (fields : List Value) (k : Known) → KnownOf fields k → has (codes "tag") fields ≡ is_some k.tag
+has-tag fields k known = has-given (codes "tag") (Sole ReadsAs) fields k.tag known.tag_is
+
+pub has-issuer : (fields : List Value) (k : Known) → KnownOf fields k → has (codes "issuer") fields ≡ is_some k.issuer
+has-issuer fields k known = has-given (codes "issuer") IssuerAt fields k.issuer known.issuer_is
+
+pub has-subject : (fields : List Value) (k : Known) → KnownOf fields k → has (codes "subject") fields ≡ is_some k.subject
+has-subject fields k known = has-given (codes "subject") WhoAt fields k.subject known.subject_is

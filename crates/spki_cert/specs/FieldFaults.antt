@@ -1,15 +1,18 @@
 -- Which fault of a field is named, and which one of several fields: the first from the left (RFC 2693, sections 3.3,
 -- 3.4 and 5; the forms are those of the SPKI working group's structure draft).
-use Rattle.std.specs.Prelude.{ℕ, Bool, true, false, not, List, [], ◌∷◌, ◌++◌, Option, Some, None, codes, if◌then◌else◌}
+use Rattle.std.specs.Prelude.{ℕ, Bool, true, false, not, ◌||◌, ◌&&◌, List, [], ◌∷◌, ◌++◌, Option, Some, None, codes, if◌then◌else◌}
 use Rattle.std.specs.Str.{bytes_eq}
 use Rattle.std.specs.List.{list_any}
 use Rattle.sexpr_core.specs.Value.{Value, string, list, none, more}
+use Rattle.spki_tag.specs.declared.fault.TagFault.{TagFault}
 use Rattle.spki_tag.specs.FirstFault.{first_fault, unless}
+use Rattle.spki_tag.specs.FaultOf.{tag_fault}
 use Rattle.spki_cert.specs.declared.fault.CertFaultKind.{CertFaultKind}
-use Rattle.spki_cert.specs.declared.fault.CertFaultKind.TheVariants.{Shape, UnknownVersion, Online}
+use Rattle.spki_cert.specs.declared.fault.CertFaultKind.TheVariants.{Shape, UnknownVersion, Online, Tag}
 use Rattle.spki_cert.specs.Fields.{is_headed, behind_head}
-use Rattle.spki_cert.specs.Places.{sole_fault}
+use Rattle.spki_cert.specs.Places.{unless_none, sole_fault}
 use Rattle.spki_cert.specs.FixedFaults.{is_string, is_plain, date_fault}
+use Rattle.spki_cert.specs.SubjectFaults.{subject_fault, issuer_fault}
 
 -- ---- each at most once
 
@@ -65,3 +68,45 @@ limit_fault v =
 -- a limit, or (valid limit ..)
 unfoldable pub time_fault : Value → Option CertFaultKind
 time_fault v = if is_headed (codes "valid") v then fields_fault limit_fault (behind_head v) else limit_fault v
+
+-- ---- fields of entries
+
+-- a tag's fault as one of a structure
+abbrev pub as_tag : Option TagFault → Option CertFaultKind
+as_tag None = None
+as_tag (Some fault) = Some (Tag fault)
+
+abbrev pub kind_of_tag : Value → Option CertFaultKind
+kind_of_tag v = as_tag (tag_fault v)
+
+-- (tag T), (propagate), (comment x ..), or a field of validity
+unfoldable pub entry_field_fault : Value → Option CertFaultKind
+entry_field_fault v =
+    if is_headed (codes "tag") v then sole_fault Shape kind_of_tag (behind_head v) else (
+    if is_headed (codes "propagate") v then unless_none (behind_head v) Shape else (
+    if is_headed (codes "comment") v then None else time_fault v
+    )
+    )
+
+-- ---- fields of certificates
+
+-- one that isn't looked at: (display x ..), (issuer-info x ..) or (subject-info x ..)
+abbrev pub is_unread : Value → Bool
+is_unread v = is_headed (codes "display") v || is_headed (codes "issuer-info") v || is_headed (codes "subject-info") v
+
+-- (issuer ..), (subject ..), (version 0), one that isn't looked at, or a field of an entry
+unfoldable pub cert_field_fault : Value → Option CertFaultKind
+cert_field_fault v =
+    if is_headed (codes "issuer") v then sole_fault Shape issuer_fault (behind_head v) else (
+    if is_headed (codes "subject") v then sole_fault Shape subject_fault (behind_head v) else (
+    if is_headed (codes "version") v then sole_fault Shape version_fault (behind_head v) else (
+    if is_unread v then None else entry_field_fault v
+    )
+    )
+    )
+
+-- ---- clashes between fields
+
+-- whether limits stand directly and in (valid ..) at once
+abbrev pub is_both_ways : List Value → Bool
+is_both_ways fields = has (codes "valid") fields && (has (codes "not-before") fields || has (codes "not-after") fields)

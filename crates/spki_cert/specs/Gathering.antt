@@ -26,7 +26,7 @@ use Rattle.spki_cert.specs.declared.fault.CertFault.{CertFault}
 use Rattle.spki_tag.specs.FirstFault.{first_fault, unless}
 use Rattle.spki_cert.specs.declared.hash.HashAlg.{HashAlg}
 use Rattle.spki_cert.specs.FixedFaults.{is_plain, any_octets, is_sized}
-use Rattle.spki_cert.specs.FieldFaults.{is_again, limit_fault}
+use Rattle.spki_cert.specs.FieldFaults.{is_again, limit_fault, has, fields_fault, entry_field_fault, cert_field_fault, is_both_ways}
 use Rattle.spki_cert.specs.Readings.{DateOf}
 use Rattle.spki_cert.specs.Subjects.{PrincipalOf, plains}
 use Rattle.spki_cert.specs.Fields.{is_headed, Sole, Given, IssuerIn, WhoIn, LimitsAre, ValidOf, IsField, IsCertField, AreFields, propagates, WindowOf}
@@ -155,6 +155,11 @@ abbrev pub IsFieldOf : Place → Value → Type 0
 IsFieldOf places.Entry v = IsField v
 IsFieldOf places.Certificate v = IsCertField v
 
+-- the fault of a field of an entry, and that of one of a certificate
+abbrev pub fault_in : Place → Value → Option CertFaultKind
+fault_in places.Entry = entry_field_fault
+fault_in places.Certificate = cert_field_fault
+
 -- whether this is one of the words
 abbrev pub is_among : List (List ℕ) → List ℕ → Bool
 is_among words word = list_any (λ w. bytes_eq w word) words
@@ -208,6 +213,18 @@ pub record PartsOf (fields : List Value) (p : CertParts) : Type 0 where
   pub tag_is : Given (codes "tag") (Sole ReadsAs) fields p.tag
   pub window_is : WindowOf fields p.window
 
+-- what is wrong with the fields of a certificate, whichever certificate it is
+abbrev pub parts_looked : List Value → List (Option CertFaultKind)
+parts_looked fields =
+    fields_fault cert_field_fault fields
+    ∷ unless (not (is_both_ways fields)) kinds.Shape
+    ∷ unless (has (codes "issuer") fields) kinds.Shape
+    ∷ unless (has (codes "subject") fields) kinds.Shape
+    ∷ []
+
+unfoldable pub parts_fault : List Value → Option CertFaultKind
+parts_fault fields = first_fault (parts_looked fields)
+
 -- these are the fields of no certificate
 abbrev pub AreNoParts : List Value → Type 0
 AreNoParts fields =
@@ -250,8 +267,3 @@ IsMisplaced None number v fault =
 IsMisplaced (Some item) number v fault =
     (fault.item ≡ item) × (fault.kind ≡ kinds.UnsignedCert)
     × (is_headed (codes "do") v ≡ false) × (is_headed (codes "signature") v ≡ false)
-
--- which certificate waits behind an item with this number
-abbrev pub waiting : Value → Option ℕ → ℕ → Option ℕ
-waiting v before number =
-    if is_headed (codes "cert") v then Some number else if is_headed (codes "signature") v then None else before

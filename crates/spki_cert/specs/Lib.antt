@@ -7,11 +7,13 @@ pub mod Places
 pub mod FixedFaults
 pub mod SubjectFaults
 pub mod FieldFaults
-pub mod ItemFaults
 pub mod Faults
 pub mod Refusals
 pub mod Entries
 pub mod Certificates
 pub mod Sequences
+pub mod EntryFaults
+pub mod ItemFaults
+pub mod SequenceFaults
 pub mod Gathering
 pub mod Sought

@@ -1,6 +1,6 @@
 //! Entries and access lists, as they are read.
 
-ghost use Rattle.std.specs.Prelude.{◌≡◌, ◌≢◌, ◌∷◌, [], IsSome, IfSome, IfOk, IfErr, codes, List};
+ghost use Rattle.std.specs.Prelude.{◌≡◌, ◌≢◌, ◌∷◌, [], Some, None, IsSome, IfSome, IfOk, IfErr, codes, List};
 ghost use Rattle.std.specs.List.{AllZip};
 ghost use Rattle.sexpr_core.specs.Value.{Value, node, plain, group};
 ghost use Rattle.spki_cert.specs.declared.entry.Entry as spec;
@@ -8,6 +8,8 @@ ghost use Rattle.spki_cert.specs.declared.entry.Subject as subjects;
 ghost use Rattle.spki_cert.specs.Subjects.{SubjectOf};
 ghost use Rattle.spki_cert.specs.Faults.{Shows};
 ghost use Rattle.spki_cert.specs.Refusals.{IsRefusedAt};
+ghost use Rattle.spki_cert.specs.SubjectFaults.{entry_subject_fault};
+ghost use Rattle.spki_cert.specs.EntryFaults.{entry_fault, entries_fault, outer_fault, acl_fault};
 ghost use Rattle.spki_cert.specs.Entries.{EntryOf, AclOf, AclRefused, OuterRefused, BeginsWell, behind_version};
 
 use crate::entry::{Entry, Subject};
@@ -25,6 +27,8 @@ use std::alloc::Global;
 fn entry_subject<'a>(alloc: Global, node: &Node<'_, 'a>) -> Result<Subject<'a>, CertFaultKind>
     ensures found { IfOk result (λ subject. SubjectOf node.now subject) }
     ensures refused { IfErr result (λ kind. kind ≢ CertFaultKind.Memory → (s : subjects.Subject) → SubjectOf node.now s → ⊥) }
+    ensures faultless { IfOk result (λ _. entry_subject_fault node.now ≡ None) }
+    ensures named { IfErr result (λ kind. kind ≢ CertFaultKind.Memory → entry_subject_fault node.now ≡ Some kind) }
     ensures shown { IfErr result (λ kind. (rest : List Value) → Shows kind (group (plain (codes "entry") ∷ node.now ∷ rest))) }
 {
     let Who { principal, names } = who_of(alloc, node)?;
@@ -41,6 +45,8 @@ fn entry_subject<'a>(alloc: Global, node: &Node<'_, 'a>) -> Result<Subject<'a>, 
 fn entry_of<'a>(alloc: Global, node: &Node<'_, 'a>) -> Result<Entry<'a>, CertFaultKind>
     ensures entry { IfOk result (λ entry. EntryOf node.now entry) }
     ensures refused { IfErr result (λ kind. kind ≢ CertFaultKind.Memory → (e : spec.Entry) → EntryOf node.now e → ⊥) }
+    ensures faultless { IfOk result (λ _. entry_fault node.now ≡ None) }
+    ensures named { IfErr result (λ kind. kind ≢ CertFaultKind.Memory → entry_fault node.now ≡ Some kind) }
     ensures shown { IfErr result (λ kind. Shows kind node.now) }
 {
     let Some(rest) = node.headed(b"entry") else {
@@ -74,6 +80,8 @@ fn entry_of<'a>(alloc: Global, node: &Node<'_, 'a>) -> Result<Entry<'a>, CertFau
 /// The entries of an access list, behind its head and its version.
 fn entries_of<'a>(alloc: Global, members: Members<'_, 'a>) -> Result<Vec<Entry<'a>>, CertFault>
     ensures entries { IfOk result (λ entries. AllZip EntryOf members.entry entries.items) }
+    ensures faultless { IfOk result (λ _. entries_fault members.entry ≡ None) }
+    ensures named { IfErr result (λ fault. fault.kind ≢ CertFaultKind.Memory → entries_fault members.entry ≡ Some fault) }
     ensures refused { IfErr result (λ fault. fault.kind ≢ CertFaultKind.Memory →
         (v : Value) × IsRefusedAt EntryOf members.entry fault.item v × Shows fault.kind v) }
 {
@@ -102,6 +110,8 @@ fn entries_of<'a>(alloc: Global, members: Members<'_, 'a>) -> Result<Vec<Entry<'
 fn behind_version<'d, 'a>(node: &Node<'d, 'a>) -> Result<Members<'d, 'a>, CertFaultKind>
     ensures found { IfOk result (λ entries. (all : List Value) × (node.now ≡ group (plain (codes "acl") ∷ all))
         × BeginsWell all × (entries ≡ behind_version all)) }
+    ensures faultless { IfOk result (λ _. outer_fault node.now ≡ None) }
+    ensures named { IfErr result (λ kind. outer_fault node.now ≡ Some kind) }
     ensures refused { IfErr result (λ kind. OuterRefused node.now kind) }
 {
     let Some(all) = node.headed(b"acl") else {
@@ -124,6 +134,9 @@ fn behind_version<'d, 'a>(node: &Node<'d, 'a>) -> Result<Members<'d, 'a>, CertFa
 /// The access list that a node is, as `read_acl` reads it, with the same errors.
 pub fn acl_of<'a>(alloc: Global, node: &Node<'_, 'a>) -> Result<Vec<Entry<'a>>, CertFault>
     ensures acl { IfOk result (λ entries. AclOf node.now entries.items) }
+    // The fault that is named is the first from the left; what is read has none.
+    ensures named { IfErr result (λ fault. fault.kind ≢ CertFaultKind.Memory → acl_fault node.now ≡ Some fault) }
+    ensures faultless { IfOk result (λ _. acl_fault node.now ≡ None) }
     // What is refused is named, and the fault shows on it.
     ensures refused { IfErr result (λ fault. fault.kind ≢ CertFaultKind.Memory → AclRefused node.now fault) }
 {
@@ -152,6 +165,10 @@ pub fn read_acl<'a>(
     ensures none { IfSome (node document.now n.0) (λ value.
         IfErr result (λ fault. fault.kind ≢ CertFaultKind.Memory →
         (entries : List spec.Entry) → AclOf value entries → ⊥)) }
+    // The fault that is named is the first from the left; what is read has none.
+    ensures named { IfSome (node document.now n.0) (λ value.
+        IfErr result (λ fault. fault.kind ≢ CertFaultKind.Memory → acl_fault value ≡ Some fault)) }
+    ensures faultless { IfSome (node document.now n.0) (λ value. IfOk result (λ _. acl_fault value ≡ None)) }
     // and what is refused is named, where the entries before it have readings and the fault shows on it.
     ensures refused { IfSome (node document.now n.0) (λ value.
         IfErr result (λ fault. fault.kind ≢ CertFaultKind.Memory → AclRefused value fault)) }

@@ -1,13 +1,16 @@
 //! The fields of entries and of certificates.
 
-ghost use Rattle.std.specs.Prelude.{◌≡◌, ◌≢◌, ◌∷◌, [], ℕ, List, Option, true, false, IfOk, IfErr, MatchOption, MatchBool, codes};
+ghost use Rattle.std.specs.Prelude.{◌≡◌, ◌≢◌, ◌∷◌, [], ℕ, List, Option, Some, None, true, false, IfOk, IfErr, MatchOption, MatchBool, codes};
 ghost use Rattle.sexpr_core.specs.Value.{Value, plain, group};
 ghost use Rattle.spki_tag.specs.Read.{ReadsAs};
 ghost use Rattle.spki_tag.specs.Tag as tags;
 ghost use Rattle.spki_cert.specs.declared.principal.Principal.{Principal};
 ghost use Rattle.spki_cert.specs.Fields.{Sole, IssuerIn, WhoIn, IsTimeField, IsField, IsCertField, IsUnread, AreFields, propagates};
 ghost use Rattle.spki_cert.specs.Faults.{Shows};
-ghost use Rattle.spki_cert.specs.Gathering.{IsTagKind, IssuerAt, WhoAt, Says, gather, KnownOf, IsFieldOf, is_among, IsNew, AreParts};
+ghost use Rattle.spki_cert.specs.Places.{sole_fault};
+ghost use Rattle.spki_cert.specs.SubjectFaults.{subject_fault, issuer_fault};
+ghost use Rattle.spki_cert.specs.FieldFaults.{kind_of_tag, fields_fault, time_fault, entry_field_fault, cert_field_fault};
+ghost use Rattle.spki_cert.specs.Gathering.{fault_in, IsTagKind, IssuerAt, WhoAt, Says, gather, KnownOf, IsFieldOf, is_among, IsNew, AreParts};
 
 use crate::date::Date;
 use crate::fault::CertFaultKind;
@@ -73,6 +76,8 @@ fn tag_in(alloc: Global, members: Members) -> Result<Tag, CertFaultKind>
     ensures found { IfOk result (λ tag. Sole ReadsAs members.entry tag) }
     ensures refused { IfErr result (λ kind. kind ≢ CertFaultKind.Memory →
         (t : tags.Tag) → Sole ReadsAs members.entry t → ⊥) }
+    ensures faultless { IfOk result (λ _. sole_fault CertFaultKind.Shape kind_of_tag members.entry ≡ None) }
+    ensures named { IfErr result (λ kind. kind ≢ CertFaultKind.Memory → sole_fault CertFaultKind.Shape kind_of_tag members.entry ≡ Some kind) }
     ensures shown { IfErr result (λ kind. Shows kind (group (plain (codes "tag") ∷ members.entry))) }
 {
     let Some((value, more)) = members.split_first() else {
@@ -94,6 +99,8 @@ fn tag_in(alloc: Global, members: Members) -> Result<Tag, CertFaultKind>
 fn issuer_in<'a>(members: Members<'_, 'a>) -> Result<Issuer<'a>, CertFaultKind>
     ensures found { IfOk result (λ issuer. IssuerAt members.entry issuer) }
     ensures refused { IfErr result (λ _. (issuer : Principal × Option (List ℕ)) → IssuerIn members.entry issuer → ⊥) }
+    ensures faultless { IfOk result (λ _. sole_fault CertFaultKind.Shape issuer_fault members.entry ≡ None) }
+    ensures named { IfErr result (λ kind. sole_fault CertFaultKind.Shape issuer_fault members.entry ≡ Some kind) }
     ensures shown { IfErr result (λ kind. Shows kind (group (plain (codes "issuer") ∷ members.entry))) }
     ensures fault { IfErr result (λ kind. kind ≢ CertFaultKind.Memory) }
 {
@@ -113,6 +120,8 @@ fn subject_in<'a>(alloc: Global, members: Members<'_, 'a>) -> Result<Who<'a>, Ce
     ensures found { IfOk result (λ who. WhoAt members.entry who) }
     ensures refused { IfErr result (λ kind. kind ≢ CertFaultKind.Memory →
         (who : Option Principal × List (List ℕ)) → WhoIn members.entry who → ⊥) }
+    ensures faultless { IfOk result (λ _. sole_fault CertFaultKind.Shape subject_fault members.entry ≡ None) }
+    ensures named { IfErr result (λ kind. kind ≢ CertFaultKind.Memory → sole_fault CertFaultKind.Shape subject_fault members.entry ≡ Some kind) }
     ensures shown { IfErr result (λ kind. Shows kind (group (plain (codes "subject") ∷ members.entry))) }
 {
     let Some((value, more)) = members.split_first() else {
@@ -131,6 +140,8 @@ fn said_in_both<'a>(alloc: Global, field: &Node) -> Result<Said<'a>, CertFaultKi
     ensures says { IfOk result (λ said. Says field.now said) }
     ensures found { IfOk result (λ _. IsField field.now) }
     ensures refused { IfErr result (λ kind. kind ≢ CertFaultKind.Memory → IsField field.now → ⊥) }
+    ensures faultless { IfOk result (λ _. entry_field_fault field.now ≡ None) }
+    ensures named { IfErr result (λ kind. kind ≢ CertFaultKind.Memory → entry_field_fault field.now ≡ Some kind) }
     ensures shown { IfErr result (λ kind. Shows kind field.now) }
 {
     if let Some(members) = field.headed(b"tag") {
@@ -154,6 +165,8 @@ fn said_of_time<'a>(field: &Node) -> Result<Said<'a>, CertFaultKind>
     ensures says { IfOk result (λ said. Says field.now said) }
     ensures found { IfOk result (λ _. IsTimeField field.now) }
     ensures refused { IfErr result (λ _. IsTimeField field.now → ⊥) }
+    ensures faultless { IfOk result (λ _. time_fault field.now ≡ None) }
+    ensures named { IfErr result (λ kind. time_fault field.now ≡ Some kind) }
     ensures shown { IfErr result (λ kind. Shows kind field.now) }
     ensures fault { IfErr result (λ kind. kind ≢ CertFaultKind.Memory) }
 {
@@ -177,6 +190,8 @@ fn said_in_certificate<'a>(alloc: Global, field: &Node<'_, 'a>) -> Result<Said<'
     ensures says { IfOk result (λ said. Says field.now said) }
     ensures found { IfOk result (λ _. IsCertField field.now) }
     ensures refused { IfErr result (λ kind. kind ≢ CertFaultKind.Memory → IsCertField field.now → ⊥) }
+    ensures faultless { IfOk result (λ _. cert_field_fault field.now ≡ None) }
+    ensures named { IfErr result (λ kind. kind ≢ CertFaultKind.Memory → cert_field_fault field.now ≡ Some kind) }
     ensures shown { IfErr result (λ kind. Shows kind field.now) }
 {
     if let Some(members) = field.headed(b"issuer") {
@@ -216,6 +231,8 @@ fn said_by<'a>(alloc: Global, place: Place, field: &Node<'_, 'a>) -> Result<Said
     ensures says { IfOk result (λ said. Says field.now said) }
     ensures found { IfOk result (λ _. IsFieldOf place field.now) }
     ensures refused { IfErr result (λ kind. kind ≢ CertFaultKind.Memory → IsFieldOf place field.now → ⊥) }
+    ensures faultless { IfOk result (λ _. fault_in place field.now ≡ None) }
+    ensures named { IfErr result (λ kind. kind ≢ CertFaultKind.Memory → fault_in place field.now ≡ Some kind) }
     ensures shown { IfErr result (λ kind. Shows kind field.now) }
 {
     match place {
@@ -295,6 +312,8 @@ pub(crate) fn fields_of<'a>(
     ensures found { IfOk result (λ fields. AreFields (IsFieldOf place) members.entry
         × (fields.propagate ≡ propagates members.entry) × KnownOf members.entry fields.known) }
     ensures refused { IfErr result (λ kind. kind ≢ CertFaultKind.Memory → AreFields (IsFieldOf place) members.entry → ⊥) }
+    ensures faultless { IfOk result (λ _. fields_fault (fault_in place) members.entry ≡ None) }
+    ensures named { IfErr result (λ kind. kind ≢ CertFaultKind.Memory → fields_fault (fault_in place) members.entry ≡ Some kind) }
     ensures shown { IfErr result (λ kind. (v : Value) → AreParts members.entry v → Shows kind v) }
 {
     let mut rest = members;

@@ -1,9 +1,10 @@
 //! Certificates, as they are read.
 
-ghost use Rattle.std.specs.Prelude.{◌≡◌, ◌≢◌, IfOk, IfErr};
+ghost use Rattle.std.specs.Prelude.{◌≡◌, ◌≢◌, Some, None, IfOk, IfErr};
 ghost use Rattle.sexpr_core.specs.Value.{Value};
 ghost use Rattle.spki_cert.specs.Faults.{Shows};
-ghost use Rattle.spki_cert.specs.Gathering.{AreParts, PartsOf, AreNoParts, CertOf, IsNoCert, IsSubjectOf};
+ghost use Rattle.spki_cert.specs.ItemFaults.{cert_fault};
+ghost use Rattle.spki_cert.specs.Gathering.{parts_fault, AreParts, PartsOf, AreNoParts, CertOf, IsNoCert, IsSubjectOf};
 
 use crate::certificate::{AuthCert, NameCert, SeqItem};
 use crate::entry::Subject;
@@ -48,6 +49,8 @@ fn issued_to<'a>(who: Who<'a>, issuer: &Principal<'a>) -> Subject<'a>
 fn parts_of<'a>(alloc: Global, members: Members<'_, 'a>) -> Result<CertParts<'a>, CertFaultKind>
     ensures found { IfOk result (λ parts. PartsOf members.entry parts) }
     ensures refused { IfErr result (λ kind. kind ≢ CertFaultKind.Memory → AreNoParts members.entry) }
+    ensures faultless { IfOk result (λ _. parts_fault members.entry ≡ None) }
+    ensures named { IfErr result (λ kind. kind ≢ CertFaultKind.Memory → parts_fault members.entry ≡ Some kind) }
     ensures shown { IfErr result (λ kind. (v : Value) → AreParts members.entry v → Shows kind v) }
 {
     let Fields { propagate, known } = fields_of(alloc, Place::Certificate, members)?;
@@ -81,6 +84,8 @@ fn parts_of<'a>(alloc: Global, members: Members<'_, 'a>) -> Result<CertParts<'a>
 pub(crate) fn cert_of<'a>(alloc: Global, node: &Node<'_, 'a>) -> Result<SeqItem<'a>, CertFaultKind>
     ensures found { IfOk result (λ item. CertOf node.now item) }
     ensures refused { IfErr result (λ kind. kind ≢ CertFaultKind.Memory → IsNoCert node.now) }
+    ensures faultless { IfOk result (λ _. cert_fault node.now ≡ None) }
+    ensures named { IfErr result (λ kind. kind ≢ CertFaultKind.Memory → cert_fault node.now ≡ Some kind) }
     ensures shown { IfErr result (λ kind. Shows kind node.now) }
 {
     let Some(members) = node.headed(b"cert") else {

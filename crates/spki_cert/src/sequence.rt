@@ -1,13 +1,15 @@
 //! Sequences, as they are read.
 
-ghost use Rattle.std.specs.Prelude.{◌≡◌, ◌≢◌, ◌∷◌, ◌+◌, IsSome, IfSome, IfOk, IfErr, List, is_some, false};
+ghost use Rattle.std.specs.Prelude.{◌≡◌, ◌≢◌, ◌∷◌, ◌+◌, IsSome, IfSome, IfOk, IfErr, List, Some, None, is_some, false};
 ghost use Rattle.std.specs.List.{AllZip};
 ghost use Rattle.sexpr_core.specs.Value.{Value, node};
 ghost use Rattle.spki_cert.specs.declared.certificate.SeqItem as spec;
 ghost use Rattle.spki_cert.specs.Faults.{Shows};
 ghost use Rattle.spki_cert.specs.Fields.{is_headed};
 ghost use Rattle.spki_cert.specs.Sequences.{ItemOf, IsInPlace, AreInPlace, waits_after, SeqOf, ItemsRefused, SeqRefused};
-ghost use Rattle.spki_cert.specs.Gathering.{IsMisplaced, waiting};
+ghost use Rattle.spki_cert.specs.SequenceFaults.{place_fault, waiting, items_fault, sequence_fault};
+ghost use Rattle.spki_cert.specs.ItemFaults.{item_fault};
+ghost use Rattle.spki_cert.specs.Gathering.{IsMisplaced};
 
 use crate::certificate::SeqItem;
 use crate::fault::{CertFault, CertFaultKind};
@@ -32,6 +34,8 @@ fn is_headed(node: &Node, word: &[u8]) -> bool
 fn item_of<'a>(alloc: Global, node: &Node<'_, 'a>) -> Result<SeqItem<'a>, CertFaultKind>
     ensures found { IfOk result (λ item. ItemOf node.now item) }
     ensures refused { IfErr result (λ kind. kind ≢ CertFaultKind.Memory → (item : spec.SeqItem) → ItemOf node.now item → ⊥) }
+    ensures faultless { IfOk result (λ _. item_fault node.now ≡ None) }
+    ensures named { IfErr result (λ kind. kind ≢ CertFaultKind.Memory → item_fault node.now ≡ Some kind) }
     ensures shown { IfErr result (λ kind. Shows kind node.now) }
 {
     if let Some(_) = node.headed(b"cert") {
@@ -50,6 +54,8 @@ fn item_of<'a>(alloc: Global, node: &Node<'_, 'a>) -> Result<SeqItem<'a>, CertFa
 fn check_place(node: &Node, waits: Option<usize>, number: usize) -> Result<(), CertFault>
     ensures found { IfOk result (λ _. IsInPlace (is_some waits) node.now) }
     ensures refused { IfErr result (λ fault. IsMisplaced waits number node.now fault) }
+    ensures faultless { IfOk result (λ _. place_fault waits number node.now ≡ None) }
+    ensures named { IfErr result (λ fault. place_fault waits number node.now ≡ Some fault) }
 {
     let signature = is_headed(node, b"signature");
     let Some(item) = waits else {
@@ -91,6 +97,8 @@ fn items_of<'a>(alloc: Global, members: Members<'_, 'a>) -> Result<Vec<SeqItem<'
     ensures items { IfOk result (λ items. AllZip ItemOf members.entry items.items) }
     ensures in_place { IfOk result (λ _. AreInPlace false members.entry × (waits_after false members.entry ≡ false)) }
     ensures refused { IfErr result (λ fault. fault.kind ≢ CertFaultKind.Memory → ItemsRefused members.entry fault) }
+    ensures faultless { IfOk result (λ _. items_fault members.entry ≡ None) }
+    ensures named { IfErr result (λ fault. fault.kind ≢ CertFaultKind.Memory → items_fault members.entry ≡ Some fault) }
 {
     let mut rest = members;
     let mut items = Vec::new(alloc);
@@ -125,6 +133,9 @@ fn items_of<'a>(alloc: Global, members: Members<'_, 'a>) -> Result<Vec<SeqItem<'
 /// The items of the sequence that a node is, as `read_sequence` reads it, with the same errors.
 pub fn sequence_of<'a>(alloc: Global, node: &Node<'_, 'a>) -> Result<Vec<SeqItem<'a>>, CertFault>
     ensures sequence { IfOk result (λ items. SeqOf node.now items.items) }
+    // The fault that is named is the first from the left; what is read has none.
+    ensures named { IfErr result (λ fault. fault.kind ≢ CertFaultKind.Memory → sequence_fault node.now ≡ Some fault) }
+    ensures faultless { IfOk result (λ _. sequence_fault node.now ≡ None) }
     // What is refused is named, and the fault shows on it.
     ensures refused { IfErr result (λ fault. fault.kind ≢ CertFaultKind.Memory → SeqRefused node.now fault) }
 {
@@ -158,6 +169,10 @@ pub fn read_sequence<'a>(
     ensures none { IfSome (node document.now n.0) (λ value.
         IfErr result (λ fault. fault.kind ≢ CertFaultKind.Memory →
         (items : List spec.SeqItem) → SeqOf value items → ⊥)) }
+    // The fault that is named is the first from the left; what is read has none.
+    ensures named { IfSome (node document.now n.0) (λ value.
+        IfErr result (λ fault. fault.kind ≢ CertFaultKind.Memory → sequence_fault value ≡ Some fault)) }
+    ensures faultless { IfSome (node document.now n.0) (λ value. IfOk result (λ _. sequence_fault value ≡ None)) }
     // and what is refused is named, where the items before it have readings and the fault shows on it.
     ensures refused { IfSome (node document.now n.0) (λ value.
         IfErr result (λ fault. fault.kind ≢ CertFaultKind.Memory → SeqRefused value fault)) }

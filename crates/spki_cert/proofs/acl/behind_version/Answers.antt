@@ -1,4 +1,4 @@
-use Rattle.std.proofs.Common.{subst, sym, ◌∙◌}
+use Rattle.std.proofs.Common.{subst, sym, ◌∙◌, ◌≡◌, Some}
 use Rattle.std.specs.Prelude.{codes}
 use Rattle.sexpr_core.specs.Value.{Value}
 use Rattle.spki_cert.specs.declared.fault.CertFaultKind.{CertFaultKind}
@@ -7,6 +7,8 @@ use Rattle.spki_cert.specs.Gathering.{IsVersionFault}
 use Rattle.spki_cert.proofs.Showing.{carried}
 use Rattle.spki_cert.proofs.Groups.{same_others}
 use Rattle.spki_cert.proofs.EntryLaws.{unversioned, misfit}
+use Rattle.spki_cert.specs.EntryFaults.{outer_fault}
+use Rattle.spki_cert.proofs.EntryFaultLaws.{outer-unheaded, outer-empty, outer-unversioned, outer-versioned}
 use Rattle.spki_cert.proofs.acl.behind_version.Goals as goal
 
 pub returns-in_default-headed-2-clause-found : goal.returns-in_default-headed-2-clause-found
@@ -22,3 +24,22 @@ returns-in_err-check_version-clause-refused c =
     (misfit c.args.node.now c.in-Some-headed.members c.in-Some-split_first.first c.in-Some-split_first.others c.in-Some-headed-2.version _
     c.in-Some-headed.ensures c.in-Some-split_first.ensures c.in-Some-headed-2.ensures c.in_err-check_version.ensures.refused
     (subst (λ (v : Value). IsVersionFault c.in_err-check_version.field-0.0 v) (sym c.in-Some-headed-2.ensures) c.in_err-check_version.ensures.fault))
+
+pub returns-in_default-clause-named : goal.returns-in_default-clause-named
+returns-in_default-clause-named c = outer-unheaded c.args.node.now c.in_default.ensures
+
+pub returns-in_default-split_first-clause-faultless : goal.returns-in_default-split_first-clause-faultless
+returns-in_default-split_first-clause-faultless c = outer-empty c.args.node.now _ c.in-Some-headed.ensures c.in_default-split_first.ensures
+
+pub returns-in_default-headed-2-clause-faultless : goal.returns-in_default-headed-2-clause-faultless
+returns-in_default-headed-2-clause-faultless c =
+    outer-unversioned c.args.node.now _ _ _ c.in-Some-headed.ensures c.in-Some-split_first.ensures c.in_default-headed-2.ensures
+
+pub returns-in_err-check_version-clause-named : goal.returns-in_err-check_version-clause-named
+returns-in_err-check_version-clause-named c =
+    carried c.from_residual.result _ (λ (kind : CertFaultKind). outer_fault c.args.node.now ≡ Some kind) c.from_residual.ensures.1
+    (outer-versioned c.args.node.now _ _ _ _ _ c.in-Some-headed.ensures c.in-Some-split_first.ensures c.in-Some-headed-2.ensures c.in_err-check_version.ensures.named)
+
+pub returns-clause-faultless : goal.returns-clause-faultless
+returns-clause-faultless c =
+    outer-versioned c.args.node.now _ _ _ _ _ c.in-Some-headed.ensures c.in-Some-split_first.ensures c.in-Some-headed-2.ensures c.in_ok-check_version.ensures.faultless

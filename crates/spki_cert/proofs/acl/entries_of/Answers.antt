@@ -1,10 +1,12 @@
-use Rattle.std.proofs.Common.{◌∷◌, ◌++◌, [], List, sym, subst, arith}
+use Rattle.std.proofs.Common.{◌∷◌, ◌++◌, [], List, sym, subst, arith, ◌≡◌, refl, rules}
 use Rattle.std.specs.List.{AllZip}
 use Rattle.std.proofs.lemmas.Slice.Zip.{AllZip-long}
 use Rattle.spki_cert.specs.declared.entry.Entry.{Entry}
 use Rattle.spki_cert.specs.Entries.{EntryOf}
 use Rattle.spki_cert.proofs.Groups.{split, moved}
 use Rattle.spki_cert.proofs.EntryLaws.{items-push}
+use Rattle.spki_cert.specs.EntryFaults.{entry_fault, entries_fault}
+use Rattle.spki_cert.proofs.EntryFaultLaws.{items-all, items-fault, items-next, items-none}
 use Rattle.spki_cert.proofs.acl.entries_of.Goals as goal
 
 pub returns-in-Err-clause-refused : goal.returns-in-Err-clause-refused
@@ -34,4 +36,22 @@ loop-member-preserved c =
       i.0 ++ v ∷ [],
       moved c.args.members i.0 c.in-Some.others v e,
       subst (λ (es : List Entry). AllZip EntryOf (i.0 ++ v ∷ []) es) (sym c.in-Ok-push.ensures.items) more,
+      items-next entry_fault c.args.members i.0 c.loop-member.rest c.in-Some.others v i.3 c.in-Some.ensures c.in-Ok.ensures.faultless,
     )
+
+pub loop-member-init : goal.loop-member-init
+loop-member-init c = ([], refl, subst (λ (es : List Entry). AllZip EntryOf [] es) (sym c.new-entries.ensures.items) tt, items-all entry_fault c.args.members)
+
+pub returns-in-Err-clause-named : goal.returns-in-Err-clause-named
+unfolding entries_fault
+returns-in-Err-clause-named c =
+    let i = c.loop-member.invariant in
+    let long = AllZip-long EntryOf i.0 c.loop-member.entries.items i.2 in
+    λ known.
+    items-fault entry_fault c.args.members i.0 c.loop-member.rest c.in-Some.others c.in-Some.member _ i.3 c.in-Some.ensures (c.in-Err.ensures.named known)
+    (let e = c.len-item.ensures in omega arith)
+
+pub returns-clause-faultless : goal.returns-clause-faultless
+unfolding entries_fault
+returns-clause-faultless c =
+    let i = c.loop-member.invariant in let e : c.loop-member.rest ≡ [] = search rules in items-none entry_fault c.args.members i.0 c.loop-member.rest i.3 e

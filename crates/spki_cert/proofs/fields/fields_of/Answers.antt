@@ -1,14 +1,17 @@
-use Rattle.std.proofs.Common.{◌≡◌, ◌≢◌, ◌∷◌, ◌++◌, [], ℕ, List, sym, ap, subst, ◌∙◌}
+use Rattle.std.proofs.Common.{◌≡◌, ◌≢◌, ◌∷◌, ◌++◌, [], ℕ, List, sym, ap, subst, ◌∙◌, refl, Some, None, rules}
 use Rattle.sexpr_core.specs.Value.{Value}
 use Rattle.spki_cert.specs.declared.fault.CertFaultKind.{CertFaultKind}
 use Rattle.spki_cert.specs.declared.fault.CertFaultKind.TheVariants.{Memory}
 use Rattle.spki_cert.specs.declared.fields.Known.{Known}
 use Rattle.spki_cert.specs.Faults.{Shows}
 use Rattle.spki_cert.specs.Fields.{AreFields}
-use Rattle.spki_cert.specs.Gathering.{IsFieldOf, AreParts, AreRead, IsNew, gather}
+use Rattle.spki_cert.specs.Gathering.{IsFieldOf, AreParts, AreRead, IsNew, gather, fault_in}
 use Rattle.spki_cert.proofs.Showing.{carried, shows-in}
 use Rattle.spki_cert.proofs.Groups.{split, moved}
-use Rattle.spki_cert.proofs.KnownLaws.{read-more, next-field, next-new, first-part}
+use Rattle.spki_cert.proofs.KnownLaws.{read-none, read-more, next-field, next-new, first-part}
+use Rattle.spki_cert.specs.declared.fault.CertFaultKind.TheVariants.{Shape}
+use Rattle.spki_cert.specs.FieldFaults.{fields_fault}
+use Rattle.spki_cert.proofs.FieldFaultLaws.{left-all, left-fault, left-next, left-none, field-new, field-not_new, field-is_new}
 use Rattle.spki_cert.proofs.fields.fields_of.Goals as goal
 
 pub returns-in_default-new_head-clause-refused : goal.returns-in_default-new_head-clause-refused
@@ -48,4 +51,42 @@ loop-field-preserved c =
       subst (λ (k : Known). AreRead c.args.place (i.0 ++ c.in-Some.field ∷ []) c.push.new.self.items k) (sym c.gathered-known.ensures)
           (subst (λ (hs : List (List ℕ)). AreRead c.args.place (i.0 ++ c.in-Some.field ∷ []) hs (gather c.loop-field.known c.in_ok-said.said))
           (sym (c.in_ok-push.ensures.items ∙ ap (λ (h : List ℕ). c.loop-field.heads.items ++ h ∷ []) c.new.ensures)) more),
+      left-next (fault_in c.args.place) c.args.members i.0 c.loop-field.rest c.in-Some.others c.in-Some.field i.3 c.in-Some.ensures
+          (field-new (fault_in c.args.place) i.0 c.in-Some.field _
+          (field-is_new c.args.place i.0 c.loop-field.heads.items c.loop-field.known c.in-Some.field c.in-Some-new_head.head.now i.2 new) c.in_ok-said.ensures.faultless),
     )
+
+pub loop-field-init : goal.loop-field-init
+loop-field-init c = (
+  [],
+  refl,
+  subst
+      (λ (hs : List (List ℕ)). AreRead c.args.place [] hs (record { issuer = None; subject = None; tag = None; limits = record { not_before = None; not_after = None }; valid = None }))
+      (sym c.new-heads.ensures.items) (read-none c.args.place),
+  left-all (fault_in c.args.place) c.args.members,
+)
+
+pub returns-in_default-new_head-clause-named : goal.returns-in_default-new_head-clause-named
+returns-in_default-new_head-clause-named c =
+    let i = c.loop-field.invariant in
+    let none : (head : List ℕ) → IsNew c.in-Some.field c.loop-field.heads.items head → ⊥ =
+    subst (λ (hs : List (List ℕ)). (head : List ℕ) → IsNew c.in-Some.field hs head → ⊥) c.deref.ensures.value c.in_default-new_head.ensures in
+    λ _.
+    left-fault (fault_in c.args.place) c.args.members i.0 c.loop-field.rest c.in-Some.others c.in-Some.field Shape i.3 c.in-Some.ensures
+    (field-not_new c.args.place i.0 c.loop-field.heads.items c.loop-field.known c.in-Some.field i.2 none)
+
+pub returns-in_err-said-clause-named : goal.returns-in_err-said-clause-named
+returns-in_err-said-clause-named c =
+    let i = c.loop-field.invariant in
+    let new : IsNew c.in-Some.field c.loop-field.heads.items c.in-Some-new_head.head.now =
+    subst (λ (hs : List (List ℕ)). IsNew c.in-Some.field hs c.in-Some-new_head.head.now) c.deref.ensures.value c.in-Some-new_head.ensures in
+    carried c.from_residual.result _ (λ (kind : CertFaultKind). kind ≢ Memory → fields_fault (fault_in c.args.place) c.args.members ≡ Some kind) c.from_residual.ensures.1
+    (λ known.
+    left-fault (fault_in c.args.place) c.args.members i.0 c.loop-field.rest c.in-Some.others c.in-Some.field _ i.3 c.in-Some.ensures
+    (field-new (fault_in c.args.place) i.0 c.in-Some.field _
+    (field-is_new c.args.place i.0 c.loop-field.heads.items c.loop-field.known c.in-Some.field c.in-Some-new_head.head.now i.2 new) (c.in_err-said.ensures.named known)))
+
+pub returns-clause-faultless : goal.returns-clause-faultless
+returns-clause-faultless c =
+    let i = c.loop-field.invariant in
+    let e : c.loop-field.rest ≡ [] = search rules in left-none (fault_in c.args.place) c.args.members i.0 c.loop-field.rest i.3 e

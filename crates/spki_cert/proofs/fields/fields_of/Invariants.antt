@@ -1,10 +1,12 @@
 use Rattle.std.proofs.Common.{◌≡◌, ◌++◌, List, length}
 use Rattle.sexpr_core.specs.Value.{Value}
-use Rattle.spki_cert.specs.Gathering.{AreRead}
+use Rattle.spki_cert.specs.Gathering.{AreRead, fault_in}
+use Rattle.spki_cert.proofs.FieldFaultLaws.{Left}
 use Rattle.spki_cert.proofs.fields.fields_of.Given as goal
 
 abbrev pub invariant-loop-field : goal.invariant-loop-field
 invariant-loop-field l = (seen : List Value) × (l.fn.members ≡ seen ++ l.rest) × AreRead l.place seen l.heads.items l.known
+    × Left (fault_in l.place) l.fn.members seen l.rest
 
 abbrev pub decreases-loop-field : goal.decreases-loop-field
 decreases-loop-field l = length l.rest

@@ -1,10 +1,15 @@
-use Rattle.std.proofs.Common.{◌≢◌}
+use Rattle.std.proofs.Common.{◌≢◌, ◌≡◌, ◌∙◌, Some, [], List, ap, rules}
 use Rattle.std.proofs.lemmas.Result.{IfErr-weaker, IfOk-weaker}
 use Rattle.spki_cert.specs.declared.fault.CertFaultKind.{CertFaultKind}
 use Rattle.spki_cert.specs.declared.fault.CertFaultKind.TheVariants.{Memory}
 use Rattle.spki_cert.specs.Fields.{IsField, tag, time, comment}
 use Rattle.spki_cert.proofs.Showing.{carried}
 use Rattle.spki_cert.proofs.FieldLaws.{field-tag, field-time}
+use Rattle.sexpr_core.specs.Value.{Value}
+use Rattle.spki_cert.specs.declared.fault.CertFaultKind.TheVariants.{Shape}
+use Rattle.spki_cert.specs.Places.{unless_none}
+use Rattle.spki_cert.specs.FieldFaults.{entry_field_fault}
+use Rattle.spki_cert.proofs.FieldFaultLaws.{entry-tag_field, entry-propagate, entry-comment, entry-time, none-some}
 use Rattle.spki_cert.proofs.fields.said_in_both.Goals as goal
 
 pub returns-in_err-tag_in-clause-refused : goal.returns-in_err-tag_in-clause-refused
@@ -26,3 +31,33 @@ returns-clause-refused c =
     IfErr-weaker c.said_of_time.result _ _
     (λ kind none _ f. none (field-time c.args.field.now c.in_default.ensures c.in_default-headed.ensures c.in_default-headed-2.ensures f))
     c.said_of_time.ensures.refused
+
+pub returns-in_err-tag_in-clause-named : goal.returns-in_err-tag_in-clause-named
+returns-in_err-tag_in-clause-named c =
+    carried c.from_residual.result _ (λ (kind : CertFaultKind). kind ≢ Memory → entry_field_fault c.args.field.now ≡ Some kind) c.from_residual.ensures.1
+    (λ known. entry-tag_field c.args.field.now _ c.in-Some.ensures ∙ c.in_err-tag_in.ensures.named known)
+
+pub returns-in-Some-clause-faultless : goal.returns-in-Some-clause-faultless
+returns-in-Some-clause-faultless c = entry-tag_field c.args.field.now _ c.in-Some.ensures ∙ c.in_ok-tag_in.ensures.faultless
+
+pub returns-then-is_empty-clause-faultless : goal.returns-then-is_empty-clause-faultless
+returns-then-is_empty-clause-faultless c =
+    let e : c.in-Some-headed.members ≡ [] = search rules in
+    entry-propagate c.args.field.now _ c.in-Some-headed.ensures ∙ ap (λ (vs : List Value). unless_none vs Shape) e
+
+pub returns-else-is_empty-clause-named : goal.returns-else-is_empty-clause-named
+returns-else-is_empty-clause-named c = λ _.
+    entry-propagate c.args.field.now _ c.in-Some-headed.ensures ∙ none-some c.in-Some-headed.members (λ e. absurd (let f = c.if-is_empty.ensures.1 e in cc))
+
+pub returns-in-Some-headed-2-clause-faultless : goal.returns-in-Some-headed-2-clause-faultless
+returns-in-Some-headed-2-clause-faultless c = entry-comment c.args.field.now _ c.in-Some-headed-2.ensures
+
+pub returns-clause-faultless : goal.returns-clause-faultless
+returns-clause-faultless c =
+    IfOk-weaker c.said_of_time.result _ _
+    (λ _ faultless. entry-time c.args.field.now _ c.in_default.ensures c.in_default-headed.ensures c.in_default-headed-2.ensures faultless) c.said_of_time.ensures.faultless
+
+pub returns-clause-named : goal.returns-clause-named
+returns-clause-named c =
+    IfErr-weaker c.said_of_time.result _ _
+    (λ kind named _. entry-time c.args.field.now _ c.in_default.ensures c.in_default-headed.ensures c.in_default-headed-2.ensures named) c.said_of_time.ensures.named

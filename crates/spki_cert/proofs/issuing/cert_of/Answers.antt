@@ -1,4 +1,4 @@
-use Rattle.std.proofs.Common.{◌≢◌, ◌∷◌, [], Option, ℕ, List, sym, subst, ◌∙◌}
+use Rattle.std.proofs.Common.{◌≢◌, ◌∷◌, [], Option, ℕ, List, sym, subst, ◌∙◌, ◌≡◌, Some, true, false, refl, ap}
 use Rattle.std.specs.Prelude.{codes}
 use Rattle.sexpr_core.specs.Value.{plain}
 use Rattle.spki_tag.specs.Tag as tags
@@ -11,6 +11,9 @@ use Rattle.spki_cert.specs.Certificates.{IssuedBy}
 use Rattle.spki_cert.specs.Gathering.{IsNoCert}
 use Rattle.spki_cert.proofs.Showing.{carried, parts-behind}
 use Rattle.spki_cert.proofs.CertLaws.{no-parts, untagged, named-tagged, named-propagates}
+use Rattle.std.specs.Prelude.{is_some}
+use Rattle.spki_cert.specs.ItemFaults.{cert_fault}
+use Rattle.spki_cert.proofs.SequenceFaultLaws.{cert-unheaded, cert-parts, cert-tagged, tagged-right}
 use Rattle.spki_cert.proofs.issuing.cert_of.Goals as goal
 
 pub returns-in_err-issuer-clause-refused : goal.returns-in_err-issuer-clause-refused
@@ -47,3 +50,41 @@ returns-clause-refused c =
     (subst (λ (name : Option (List ℕ)). IssuedBy c.in-Some.members c.in_ok-issuer.field-0.issuer.principal name) c.in-Some-Some.is-0 parts.issuer_is)
     c.in-Some-Some.field-0-1
     (subst (λ (t : Option tags.Tag). Given (codes "tag") (Sole ReadsAs) c.in-Some.members t) c.in-Some-Some.is-1 parts.tag_is)
+
+pub returns-in_default-clause-named : goal.returns-in_default-clause-named
+returns-in_default-clause-named c = λ _. cert-unheaded c.args.node.now c.in_default.ensures
+
+pub returns-in_err-issuer-clause-named : goal.returns-in_err-issuer-clause-named
+returns-in_err-issuer-clause-named c =
+    carried c.from_residual.result _ (λ (kind : CertFaultKind). kind ≢ Memory → cert_fault c.args.node.now ≡ Some kind) c.from_residual.ensures.1
+    (λ known. cert-parts c.args.node.now _ _ c.in-Some.ensures (c.in_err-issuer.ensures.named known))
+
+pub returns-in-None-Some-clause-faultless : goal.returns-in-None-Some-clause-faultless
+returns-in-None-Some-clause-faultless c =
+    cert-tagged c.args.node.now c.in-Some.members true c.in-Some.ensures c.in_ok-issuer.ensures.faultless
+    (tagged-right c.in-Some.members c.in_ok-issuer.field-0 false true c.in_ok-issuer.field-0.propagate c.in_ok-issuer.ensures.found
+    (ap (λ (x : Option (List ℕ)). is_some x) c.in-None-Some.is-0) (ap (λ (x : Option tags.Tag). is_some x) c.in-None-Some.is-1) refl)
+
+pub returns-in-None-None-clause-named : goal.returns-in-None-None-clause-named
+returns-in-None-None-clause-named c = λ _.
+    cert-tagged c.args.node.now c.in-Some.members false c.in-Some.ensures c.in_ok-issuer.ensures.faultless
+    (tagged-right c.in-Some.members c.in_ok-issuer.field-0 false false c.in_ok-issuer.field-0.propagate c.in_ok-issuer.ensures.found
+    (ap (λ (x : Option (List ℕ)). is_some x) c.in-None-None.is-0) (ap (λ (x : Option tags.Tag). is_some x) c.in-None-None.is-1) refl)
+
+pub returns-then-propagate-clause-named : goal.returns-then-propagate-clause-named
+returns-then-propagate-clause-named c = λ _.
+    cert-tagged c.args.node.now c.in-Some.members false c.in-Some.ensures c.in_ok-issuer.ensures.faultless
+    (tagged-right c.in-Some.members c.in_ok-issuer.field-0 true false true c.in_ok-issuer.ensures.found
+    (ap (λ (x : Option (List ℕ)). is_some x) c.in-Some-None.is-0) (ap (λ (x : Option tags.Tag). is_some x) c.in-Some-None.is-1) c.if-propagate.true)
+
+pub returns-in-Some-None-clause-faultless : goal.returns-in-Some-None-clause-faultless
+returns-in-Some-None-clause-faultless c =
+    cert-tagged c.args.node.now c.in-Some.members true c.in-Some.ensures c.in_ok-issuer.ensures.faultless
+    (tagged-right c.in-Some.members c.in_ok-issuer.field-0 true false false c.in_ok-issuer.ensures.found
+    (ap (λ (x : Option (List ℕ)). is_some x) c.in-Some-None.is-0) (ap (λ (x : Option tags.Tag). is_some x) c.in-Some-None.is-1) c.if-propagate.false)
+
+pub returns-clause-named : goal.returns-clause-named
+returns-clause-named c = λ _.
+    cert-tagged c.args.node.now c.in-Some.members false c.in-Some.ensures c.in_ok-issuer.ensures.faultless
+    (tagged-right c.in-Some.members c.in_ok-issuer.field-0 true true c.in_ok-issuer.field-0.propagate c.in_ok-issuer.ensures.found
+    (ap (λ (x : Option (List ℕ)). is_some x) c.in-Some-Some.is-0) (ap (λ (x : Option tags.Tag). is_some x) c.in-Some-Some.is-1) refl)

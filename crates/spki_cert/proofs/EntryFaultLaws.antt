@@ -1,0 +1,203 @@
+-- The fault that is named of an entry or of an access list, along the way of its reading.
+use Rattle.std.proofs.Common.{◌≡◌, ◌≢◌, ℕ, ◌+◌, List, [], ◌∷◌, ◌++◌, drop, length, Bool, true, false, Option, Some, None, refl, sym, ap, subst, ◌∙◌, inl, inr, arith, length-append}
+use Rattle.std.specs.Prelude.{codes, not, is_some, if◌then◌else◌, ◌&&◌}
+use Rattle.std.specs.Str.{bytes_eq}
+use Rattle.sexpr_core.specs.Value.{Value, plain, group}
+use Rattle.sexpr_core.specs.Value as sexpr
+use Rattle.sexpr_core.specs.Shapes.{IsNoString, IsNotHeaded}
+use Rattle.spki_tag.specs.FirstFault.{first_fault, unless}
+use Rattle.spki_cert.specs.declared.fault.CertFault.{CertFault}
+use Rattle.spki_cert.specs.declared.fault.CertFaultKind.{CertFaultKind}
+use Rattle.spki_cert.specs.declared.fault.CertFaultKind.TheVariants.{Shape, RelativeInEntry}
+use Rattle.spki_cert.specs.declared.principal.Principal.{Principal}
+use Rattle.spki_cert.specs.declared.principal.Principal.TheVariants.{Key, Hash}
+use Rattle.spki_cert.specs.Subjects.{PrincipalOf, WhoOf, plains}
+use Rattle.spki_cert.specs.Fields.{is_headed, behind_head}
+use Rattle.spki_cert.specs.Entries.{behind_version}
+use Rattle.spki_cert.specs.Places.{fault_at, sole_fault}
+use Rattle.spki_cert.specs.SubjectFaults.{is_name, subject_fault, entry_subject_fault, is_relative, begins_named}
+use Rattle.spki_cert.specs.FieldFaults.{has, fields_fault, version_fault, entry_field_fault, is_both_ways}
+use Rattle.spki_cert.specs.EntryFaults.{entry_fault, at_item, each_looked, acl_version_fault, outer_fault, entries_fault, acl_fault}
+use Rattle.spki_cert.proofs.Groups.{headed-by, not-headed, behind-group}
+use Rattle.spki_cert.proofs.Looking.{of-form, of-no_form, found-first, found-none}
+use Rattle.spki_cert.proofs.SubjectFaultLaws.{headed-else}
+
+-- ---- subjects of entries
+
+abbrev subject_looked : Option CertFaultKind → Bool → Option CertFaultKind
+subject_looked found relative = first_fault (found ∷ unless (not relative) RelativeInEntry ∷ [])
+
+pub subject-found : (v : Value) (kind : CertFaultKind) → subject_fault v ≡ Some kind → entry_subject_fault v ≡ Some kind
+unfolding entry_subject_fault
+subject-found v kind e = ap (λ (x : Option CertFaultKind). subject_looked x (is_relative v)) e
+
+subject-tested : (v : Value) (b : Bool) → subject_fault v ≡ None → is_relative v ≡ b → entry_subject_fault v ≡ subject_looked None b
+unfolding entry_subject_fault
+subject-tested v b e f = λ i. subject_looked (e i) (f i)
+
+relative-form : (v : Value) (rest : List Value) → v ≡ group (plain (codes "name") ∷ rest) → is_relative v ≡ begins_named rest
+relative-form v rest e = of-form (λ b vs. b && begins_named vs) (codes "name") v rest e
+
+pub subject-relative : (v : Value) (names : List (List ℕ)) → subject_fault v ≡ None → WhoOf v None names → entry_subject_fault v ≡ Some RelativeInEntry
+subject-relative v names e read =
+    subject-tested v true e (relative-form v (plains names) read.written ∙ ap (λ (ns : List (List ℕ)). begins_named (plains ns)) read.names_are)
+
+-- a principal is no name
+no-name : (v : Value) (p : Principal) → PrincipalOf v p → is_name v ≡ false
+no-name v (Key octets) read = ap is_name read.written
+no-name v (Hash alg digest) read = ap is_name read.written
+
+not-name : (v : Value) (p : Principal) → PrincipalOf v p → is_headed (codes "name") v ≡ false
+not-name v (Key octets) read = ap (is_headed (codes "name")) read.written
+not-name v (Hash alg digest) read = ap (is_headed (codes "name")) read.written
+
+pub subject-absolute : (v : Value) (p : Principal) (names : List (List ℕ)) → subject_fault v ≡ None → WhoOf v (Some p) names → entry_subject_fault v ≡ None
+subject-absolute v p names e (inl read) = subject-tested v false e (ap (λ (b : Bool). b && begins_named (behind_head v)) (not-name v p read.0))
+subject-absolute v p names e (inr read) = subject-tested v false e (relative-form v (read.owner ∷ plains names) read.written ∙ no-name read.owner p read.owner_is)
+
+-- ---- entries
+
+abbrev entry_looked : Bool → List Value → Option CertFaultKind
+entry_looked headed rest =
+    first_fault (
+    unless headed Shape ∷ fault_at 0 Shape entry_subject_fault rest ∷ fields_fault entry_field_fault (drop 1 rest)
+    ∷ unless (not (is_both_ways (drop 1 rest))) Shape ∷ unless (has (codes "tag") (drop 1 rest)) Shape ∷ []
+    )
+
+abbrev IsEntered : Value → List Value → Type 0
+IsEntered v rest = v ≡ group (plain (codes "entry") ∷ rest)
+
+pub entry-unheaded : (v : Value) → IsNotHeaded v (codes "entry") → entry_fault v ≡ Some Shape
+unfolding entry_fault
+entry-unheaded v other = of-no_form (codes "entry") v Shape _ other
+
+entry-form : (v : Value) (rest : List Value) → IsEntered v rest → entry_fault v ≡ entry_looked true rest
+unfolding entry_fault
+entry-form v rest e = of-form entry_looked (codes "entry") v rest e
+
+pub entry-empty : (v : Value) (rest : List Value) → IsEntered v rest → rest ≡ [] → entry_fault v ≡ Some Shape
+entry-empty v rest e f = entry-form v rest e ∙ ap (entry_looked true) f
+
+-- what is found in the parts of an entry
+abbrev parts_looked : Option CertFaultKind → Option CertFaultKind → Bool → Bool → Option CertFaultKind
+parts_looked subject fields both tag = first_fault (subject ∷ fields ∷ unless (not both) Shape ∷ unless tag Shape ∷ [])
+
+entry-parts : (v subject : Value) (rest fields : List Value) → IsEntered v rest → rest ≡ subject ∷ fields
+    → entry_fault v ≡ parts_looked (entry_subject_fault subject) (fields_fault entry_field_fault fields) (is_both_ways fields) (has (codes "tag") fields)
+entry-parts v subject rest fields e f = entry-form v rest e ∙ ap (entry_looked true) f
+
+pub entry-subject_found : (v subject : Value) (rest fields : List Value) (kind : CertFaultKind) → IsEntered v rest → rest ≡ subject ∷ fields
+    → entry_subject_fault subject ≡ Some kind → entry_fault v ≡ Some kind
+entry-subject_found v subject rest fields kind e f g =
+    entry-parts v subject rest fields e f
+    ∙ ap (λ (x : Option CertFaultKind). parts_looked x (fields_fault entry_field_fault fields) (is_both_ways fields) (has (codes "tag") fields)) g
+
+pub entry-fields_found : (v subject : Value) (rest fields : List Value) (kind : CertFaultKind) → IsEntered v rest → rest ≡ subject ∷ fields
+    → entry_subject_fault subject ≡ None → fields_fault entry_field_fault fields ≡ Some kind → entry_fault v ≡ Some kind
+entry-fields_found v subject rest fields kind e f g h =
+    entry-parts v subject rest fields e f ∙ (λ i. parts_looked (g i) (h i) (is_both_ways fields) (has (codes "tag") fields))
+
+pub entry-both_ways : (v subject : Value) (rest fields : List Value) → IsEntered v rest → rest ≡ subject ∷ fields
+    → entry_subject_fault subject ≡ None → fields_fault entry_field_fault fields ≡ None → is_both_ways fields ≡ true → entry_fault v ≡ Some Shape
+entry-both_ways v subject rest fields e f g h both =
+    entry-parts v subject rest fields e f ∙ (λ i. parts_looked (g i) (h i) (both i) (has (codes "tag") fields))
+
+pub entry-tagged : (v subject : Value) (rest fields : List Value) (b : Bool) → IsEntered v rest → rest ≡ subject ∷ fields
+    → entry_subject_fault subject ≡ None → fields_fault entry_field_fault fields ≡ None → is_both_ways fields ≡ false → has (codes "tag") fields ≡ b
+    → entry_fault v ≡ parts_looked None None false b
+entry-tagged v subject rest fields b e f g h one tagged =
+    entry-parts v subject rest fields e f ∙ (λ i. parts_looked (g i) (h i) (one i) (tagged i))
+
+-- ---- the outer list
+
+abbrev outer_looked : Bool → List Value → Option CertFaultKind
+outer_looked headed rest = first_fault (unless headed Shape ∷ acl_version_fault rest ∷ [])
+
+abbrev IsListed : Value → List Value → Type 0
+IsListed v rest = v ≡ group (plain (codes "acl") ∷ rest)
+
+pub outer-unheaded : (v : Value) → IsNotHeaded v (codes "acl") → outer_fault v ≡ Some Shape
+unfolding outer_fault
+outer-unheaded v other = of-no_form (codes "acl") v Shape _ other
+
+outer-form : (v : Value) (rest : List Value) → IsListed v rest → outer_fault v ≡ outer_looked true rest
+unfolding outer_fault
+outer-form v rest e = of-form outer_looked (codes "acl") v rest e
+
+pub outer-empty : (v : Value) (rest : List Value) → IsListed v rest → rest ≡ [] → outer_fault v ≡ None
+outer-empty v rest e f = outer-form v rest e ∙ ap (outer_looked true) f
+
+abbrev version_looked : Bool → List Value → Option CertFaultKind
+version_looked headed rest = first_fault ((if headed then sole_fault Shape version_fault rest else None) ∷ [])
+
+outer-first : (v first : Value) (rest others : List Value) → IsListed v rest → rest ≡ first ∷ others → outer_fault v ≡ version_looked (is_headed (codes "version") first) (behind_head first)
+outer-first v first rest others e f = outer-form v rest e ∙ ap (outer_looked true) f
+
+pub outer-unversioned : (v first : Value) (rest others : List Value) → IsListed v rest → rest ≡ first ∷ others → IsNotHeaded first (codes "version") → outer_fault v ≡ None
+outer-unversioned v first rest others e f other =
+    outer-first v first rest others e f ∙ ap (λ (b : Bool). version_looked b (behind_head first)) (not-headed (codes "version") first other)
+
+one-look : (found : Option CertFaultKind) → first_fault (found ∷ []) ≡ found
+one-look None = refl
+one-look (Some kind) = refl
+
+pub outer-versioned : (v first : Value) (rest others behind : List Value) (found : Option CertFaultKind) → IsListed v rest → rest ≡ first ∷ others
+    → first ≡ group (plain (codes "version") ∷ behind) → sole_fault Shape version_fault behind ≡ found → outer_fault v ≡ found
+outer-versioned v first rest others behind found e f g h =
+    outer-first v first rest others e f ∙ of-form version_looked (codes "version") first behind g ∙ one-look (sole_fault Shape version_fault behind) ∙ h
+
+-- ---- items one after the other
+
+-- the first fault among all is that among those that are left
+abbrev pub LeftItems : (Value → Option CertFaultKind) → List Value → List Value → List Value → Type 0
+LeftItems fault_of all before rest = first_fault (each_looked fault_of 1 all) ≡ first_fault (each_looked fault_of (length before + 1) rest)
+
+pub items-all : (fault_of : Value → Option CertFaultKind) (all : List Value) → LeftItems fault_of all [] all
+items-all fault_of all = refl
+
+items-found : (fault_of : Value → Option CertFaultKind) (all before rest others : List Value) (v : Value) (found : Option CertFaultKind)
+    → LeftItems fault_of all before rest → rest ≡ v ∷ others → fault_of v ≡ found
+    → first_fault (each_looked fault_of 1 all) ≡ first_fault (at_item (length before + 1) found ∷ each_looked fault_of (length before + 1 + 1) others)
+items-found fault_of all before rest others v found left e f =
+    left ∙ ap (λ (vs : List Value). first_fault (each_looked fault_of (length before + 1) vs)) e
+    ∙ ap (λ (x : Option CertFaultKind). first_fault (at_item (length before + 1) x ∷ each_looked fault_of (length before + 1 + 1) others)) f
+
+-- a fault with its parts
+pub fault-parts : (fault : CertFault) (item : ℕ) (kind : CertFaultKind) → item ≡ fault.item → kind ≡ fault.kind → Some (record { item = item; kind = kind }) ≡ Some fault
+fault-parts fault item kind e f = λ i. Some (record { item = e i; kind = f i })
+
+pub items-fault : (fault_of : Value → Option CertFaultKind) (all before rest others : List Value) (v : Value) (fault : CertFault)
+    → LeftItems fault_of all before rest → rest ≡ v ∷ others → fault_of v ≡ Some fault.kind → length before + 1 ≡ fault.item
+    → first_fault (each_looked fault_of 1 all) ≡ Some fault
+items-fault fault_of all before rest others v fault left e f g =
+    items-found fault_of all before rest others v (Some fault.kind) left e f ∙ fault-parts fault (length before + 1) fault.kind g refl
+
+pub items-next : (fault_of : Value → Option CertFaultKind) (all before rest others : List Value) (v : Value)
+    → LeftItems fault_of all before rest → rest ≡ v ∷ others → fault_of v ≡ None → LeftItems fault_of all (before ++ v ∷ []) others
+items-next fault_of all before rest others v left e f =
+    items-found fault_of all before rest others v None left e f
+    ∙ ap (λ (n : ℕ). first_fault (each_looked fault_of (n + 1) others)) (sym (length-append before (v ∷ [])))
+
+pub items-none : (fault_of : Value → Option CertFaultKind) (all before rest : List Value) → LeftItems fault_of all before rest → rest ≡ [] → first_fault (each_looked fault_of 1 all) ≡ None
+items-none fault_of all before rest left e = left ∙ ap (λ (vs : List Value). first_fault (each_looked fault_of (length before + 1) vs)) e
+
+-- ---- access lists
+
+acl-parts : (v : Value) (rest : List Value) → IsListed v rest → acl_fault v ≡ first_fault (at_item 0 (outer_fault v) ∷ entries_fault (behind_version rest) ∷ [])
+unfolding acl_fault
+acl-parts v rest e = ap (λ (vs : List Value). first_fault (at_item 0 (outer_fault v) ∷ entries_fault (behind_version vs) ∷ [])) (behind-group v (plain (codes "acl")) rest e)
+
+pub acl-outer : (v : Value) (kind : CertFaultKind) → outer_fault v ≡ Some kind → acl_fault v ≡ Some (record { item = 0; kind = kind })
+unfolding acl_fault
+acl-outer v kind e = ap (λ (x : Option CertFaultKind). first_fault (at_item 0 x ∷ entries_fault (behind_version (behind_head v)) ∷ [])) e
+
+one-fault : (found : Option CertFault) → first_fault (found ∷ []) ≡ found
+one-fault None = refl
+one-fault (Some fault) = refl
+
+pub acl-entries : (v : Value) (rest entries : List Value) (found : Option CertFault) → IsListed v rest → outer_fault v ≡ None → entries ≡ behind_version rest → entries_fault entries ≡ found
+    → acl_fault v ≡ found
+acl-entries v rest entries found e f g h =
+    acl-parts v rest e
+    ∙ (λ i. first_fault (at_item 0 (f i) ∷ entries_fault (sym g i) ∷ []))
+    ∙ one-fault (entries_fault entries) ∙ h
