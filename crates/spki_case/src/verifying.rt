@@ -30,6 +30,26 @@ pub trait Verifier {
         value: &[u8],
     ) -> Result<bool, AllocError>
         ensures { IfOk result (λ yes. IsTrue yes ↔ accepted self.now key.now message.now value.now) };
+
+    /// As `accepts`, where the SHA-256 digest of the message is known, so that a verifier that looks for it does not digest
+    /// the message again. A verifier that has no use for the digest keeps this body.
+    ///
+    /// # Errors
+    ///
+    /// Where memory was refused.
+    fn accepts_digested(
+        &self,
+        alloc: Global,
+        key: &Key,
+        message: &[u8],
+        digest: &[u8],
+        value: &[u8],
+    ) -> Result<bool, AllocError>
+        requires { sha256 message.now ≡ digest.now }
+        ensures { IfOk result (λ yes. IsTrue yes ↔ accepted self.now key.now message.now value.now) }
+    {
+        self.accepts(alloc, key, message, value)
+    }
 }
 
 impl<'a> Verifier for AcceptedTable<'a> {
@@ -47,6 +67,21 @@ impl<'a> Verifier for AcceptedTable<'a> {
     {
         let digest = Sha256::digest(message);
         Ok(some_accepts(self, key, digest.as_slice(), value))
+    }
+
+    fn accepts_digested(
+        &self,
+        _alloc: Global,
+        key: &Key,
+        message: &[u8],
+        digest: &[u8],
+        value: &[u8],
+    ) -> Result<bool, AllocError>
+        requires { sha256 message.now ≡ digest.now }
+        ensures ok { IsOk result }
+        ensures answer { IfOk result (λ yes. IsTrue yes ↔ verified_by self.now key.now message.now value.now) }
+    {
+        Ok(some_accepts(self, key, digest, value))
     }
 }
 

@@ -1,6 +1,7 @@
 //! The evidence of a sequence: the four tests of each certificate.
 
-ghost use Rattle.std.specs.Prelude.{◌≡◌, IfOk, OnOk, IsSome};
+ghost use Rattle.std.specs.Prelude.{◌≡◌, ◌↔◌, IfOk, OnOk, IsSome, IsTrue};
+ghost use Rattle.spki_cert.specs.Naming.{digest_of};
 ghost use Rattle.spki_case.specs.Sequence.{keys_of};
 ghost use Rattle.spki_case.specs.Sequence.{AreSigned};
 ghost use Rattle.spki_decision.specs.Views.{shown_of};
@@ -11,7 +12,7 @@ use crate::certificates::{ShownCert, certificates_of};
 use crate::holder::keys_of;
 use crate::shown_keys::ShownKeys;
 use spki_case::Verifier;
-use spki_cert::{Key, Policy, SeqItem, Signature};
+use spki_cert::{HashAlg, Key, Policy, SeqItem, Signature};
 use spki_reduce::Step;
 use std::alloc::{AllocError, Global};
 
@@ -117,9 +118,31 @@ fn test<'a, V: Verifier>(
     if !signature.signer.names(&holder, policy) {
         return Ok(Tested::Fails(Stop::SignerDiffers));
     }
-    if verifier.accepts(alloc, &holder, octets, signature.value.as_slice())? {
+    if is_accepted(alloc, verifier, &holder, octets, signature)? {
         Ok(Tested::Stands(holder))
     } else {
         Ok(Tested::Fails(Stop::NotAccepted))
+    }
+}
+
+/// Whether the verifier accepts a signature of the octets whose digest it has. A digest by SHA-256 is handed on to the verifier,
+/// so that a certificate is digested once.
+fn is_accepted<V: Verifier>(
+    alloc: Global,
+    verifier: &V,
+    holder: &Key,
+    octets: &[u8],
+    signature: &Signature,
+) -> Result<bool, AllocError>
+    requires { digest_of signature.now.alg octets.now ≡ signature.now.digest }
+    ensures { IfOk result (λ yes. IsTrue yes ↔ V.accepted verifier.now holder.now octets.now signature.now.value) }
+{
+    let value = signature.value.as_slice();
+    match signature.alg {
+        HashAlg::Sha256 => {
+            let digest = signature.digest.as_slice();
+            verifier.accepts_digested(alloc, holder, octets, digest, value)
+        }
+        HashAlg::Sha1 | HashAlg::Sha512 => verifier.accepts(alloc, holder, octets, value),
     }
 }
