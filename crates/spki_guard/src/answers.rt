@@ -1,11 +1,13 @@
 //! The answer to a text: what is found out of it, and what is written.
-ghost use Rattle.std.specs.Prelude.{◌≡◌, [], ◌∷◌, ◌++◌, ◌⊎◌, ◌<◌, length, IfOk, IfErr, IsErrOf};
+ghost use Rattle.std.specs.Prelude.{◌≡◌, ◌≢◌, ℕ, List, [], ◌∷◌, ◌++◌, ◌⊎◌, ◌↔◌, ◌<◌, length, IsTrue, IfOk, IfErr, IfSome, IsNone, IsOkAnd, IsErrOf};
 ghost use Rattle.sexpr_core.specs.Value.{Value, canon};
 ghost use Rattle.sexpr_text.specs.Printed.{adv};
 ghost use Rattle.sexpr_text.specs.Written.{written};
 ghost use Rattle.spki_tag.specs.Tag.{tag_value};
-ghost use Rattle.spki_case.specs.Texts.{IsOuter};
-ghost use Rattle.spki_guard.specs.Answer.{form_of, IsAnswer, AnswersValue, RefusesValue, AnswersRead, RefusesAnswer, RefusesAsLong, WritesMeet, Decides, Reduces, Explains, IsLineOf, refused_line, octets_of, written_by};
+ghost use Rattle.spki_case.specs.CaseForm.{IsCaseText, ValueRefused};
+ghost use Rattle.spki_case.specs.Texts.{IsOuter, IsTextOf};
+ghost use Rattle.spki_case.specs.View.{model};
+ghost use Rattle.spki_guard.specs.Answer.{form_of, IsOnCase, IsAnswer, AnswersValue, RefusesValue, AnswersRead, RefusesAnswer, RefusesAsLong, WritesMeet, Decides, Reduces, Explains, IsLineOf, refused_line, octets_of, written_by};
 ghost use Rattle.spki_guard.specs.Lines.{refused_memory};
 
 use crate::intersection::{IntersectFault, intersect};
@@ -15,8 +17,8 @@ use crate::lines::{
 };
 use crate::printing::push_tag;
 use crate::reports::{push_explanation, push_reduction};
-use sexpr_core::FormFault;
 use sexpr_core::reading::wrap_octets;
+use sexpr_core::{FormFault, MOST_OCTETS};
 use sexpr_text::{Form, convert};
 use spki_case::{Case, CaseFault, RowsFault};
 use spki_decision::{Decision, GuardFault, decide, explain, reduce_case};
@@ -185,14 +187,83 @@ pub fn answer_text(alloc: Global, command: Command, text: &[u8]) -> Answer
     }
 }
 
-/// The answer to a text that isn't refused.
+/// The answer to a text that isn't refused. A case is read where it stands, if its text is canonical.
 fn answered(alloc: Global, command: Command, text: &[u8]) -> Result<Answer, Refusal>
+    ensures answered { IfOk result (λ a. AnswersRead command text.now a.verdict (octets_of a.output)) }
+    ensures refused { IfErr result (λ refusal. RefusesAnswer command text.now refusal) }
+    ensures too_long { 1048576 < length text.now → IsErrOf result (Refusal.Form FormFault.TooLong) }
+{
+    match standing_case(alloc, command, text)? {
+        Some(case) => answer_case(alloc, command, &case),
+        None => answer_converted(alloc, command, text),
+    }
+}
+
+/// The answer to a text, by its value in the form that the command wants.
+fn answer_converted(alloc: Global, command: Command, text: &[u8]) -> Result<Answer, Refusal>
     ensures answered { IfOk result (λ a. AnswersRead command text.now a.verdict (octets_of a.output)) }
     ensures refused { IfErr result (λ refusal. RefusesAnswer command text.now refusal) }
     ensures too_long { 1048576 < length text.now → IsErrOf result (Refusal.Form FormFault.TooLong) }
 {
     let octets = convert(alloc, form_of(command), text)?;
     answer_octets(alloc, command, octets)
+}
+
+/// Whether the command is one on a case.
+fn is_on_case(command: Command) -> bool
+    ensures { IsTrue result ↔ IsOnCase command }
+{
+    match command {
+        Command::Canonical => false,
+        Command::Advanced => false,
+        Command::Transport => false,
+        Command::Intersect => false,
+        Command::Reduce => true,
+        Command::Check => true,
+        Command::Explain => true,
+    }
+}
+
+/// Whether a fault says that a text isn't in canonical form.
+fn is_of_form(fault: CaseFault) -> bool
+    ensures { IsTrue result ↔ ((form : FormFault) × (fault ≡ CaseFault.Form form)) }
+{
+    match fault {
+        CaseFault::Form(_) => true,
+        CaseFault::Shape => false,
+        CaseFault::Acl(_) => false,
+        CaseFault::Accepted(_) => false,
+        CaseFault::Sequence(_) => false,
+        CaseFault::Key(_) => false,
+        CaseFault::Request(_) => false,
+        CaseFault::At(_) => false,
+        CaseFault::Memory => false,
+    }
+}
+
+/// The case that a text is as it stands, for a command on a case; none for another command, and none if the text isn't canonical.
+fn standing_case<'a>(
+    alloc: Global,
+    command: Command,
+    text: &'a [u8],
+) -> Result<Option<Case<'a>>, CaseFault>
+    ensures read { IfOk result (λ standing. IfSome standing (λ case. IsOnCase command × IsCaseText text.entry.now (model case))) }
+    ensures refused { IfErr result (λ fault. fault ≢ CaseFault.Memory →
+        IsOnCase command × IsTextOf (λ v. ValueRefused v fault) text.entry.now) }
+    ensures long { 1048576 < length text.entry.now → IsOkAnd result IsNone }
+{
+    if !is_on_case(command) || text.len() > MOST_OCTETS {
+        return Ok(None);
+    }
+    match Case::read(alloc, text) {
+        Ok(case) => Ok(Some(case)),
+        Err(fault) => {
+            if is_of_form(fault) {
+                return Ok(None);
+            }
+            Err(fault)
+        }
+    }
 }
 
 /// The form that a command wants a value in.
@@ -222,29 +293,55 @@ fn answer_octets(alloc: Global, command: Command, octets: Vec<u8>) -> Result<Ans
         Command::Advanced => Ok(done_line(octets)?),
         Command::Transport => Ok(done_line(wrap_octets(alloc, &octets)?)?),
         Command::Intersect => Ok(tag_line(alloc, &intersect(alloc, &octets)?)?),
-        Command::Reduce => reduce(alloc, &octets),
-        Command::Check => check(alloc, &octets),
-        Command::Explain => explain_case(alloc, &octets),
+        Command::Reduce => answer_canonical(alloc, command, &octets),
+        Command::Check => answer_canonical(alloc, command, &octets),
+        Command::Explain => answer_canonical(alloc, command, &octets),
     }
 }
 
-/// Decides the case that a canonical text is.
-fn check(alloc: Global, text: &[u8]) -> Result<Answer, Refusal>
-    ensures answered { IfOk result (λ a. Decides text.now a.verdict (octets_of a.output)) }
-    ensures refused { (v : Value) → text.now ≡ canon v → IfErr result (λ refusal. RefusesValue Command.Check v refusal) }
+/// The answer of a command on a case to a canonical text.
+fn answer_canonical(alloc: Global, command: Command, text: &[u8]) -> Result<Answer, Refusal>
+    requires { IsOnCase command }
+    ensures answered { (v : Value) → text.now ≡ canon v → IfOk result (λ a. AnswersValue command v a.verdict (octets_of a.output)) }
+    ensures refused { (v : Value) → text.now ≡ canon v → IfErr result (λ refusal. RefusesValue command v refusal) }
 {
     let case = Case::read(alloc, text)?;
-    let decision = decide(alloc, &case, case.accepted())?;
+    answer_case(alloc, command, &case)
+}
+
+/// The answer of a command on a case to the case that a canonical text is.
+fn answer_case(alloc: Global, command: Command, case: &Case) -> Result<Answer, Refusal>
+    requires { IsOnCase command }
+    ensures answered { (v : Value) → IsCaseText (canon v) (model case.now) →
+        IfOk result (λ a. AnswersValue command v a.verdict (octets_of a.output)) }
+    ensures refused { (v : Value) → IsCaseText (canon v) (model case.now) → IfErr result (λ refusal. RefusesValue command v refusal) }
+{
+    match command {
+        Command::Reduce => reduce(alloc, case),
+        Command::Check => check(alloc, case),
+        Command::Explain => explain_case(alloc, case),
+        Command::Canonical => unreachable!(),
+        Command::Advanced => unreachable!(),
+        Command::Transport => unreachable!(),
+        Command::Intersect => unreachable!(),
+    }
+}
+
+/// Decides a case.
+fn check(alloc: Global, case: &Case) -> Result<Answer, Refusal>
+    ensures answered { (text : List ℕ) → IsCaseText text (model case.now) → IfOk result (λ a. Decides text a.verdict (octets_of a.output)) }
+    ensures refused { (v : Value) → IsCaseText (canon v) (model case.now) → IfErr result (λ refusal. RefusesValue Command.Check v refusal) }
+{
+    let decision = decide(alloc, case, case.accepted())?;
     Ok(decision_line(alloc, decision)?)
 }
 
-/// Reduces the case that a canonical text is.
-fn reduce(alloc: Global, text: &[u8]) -> Result<Answer, Refusal>
-    ensures answered { IfOk result (λ a. Reduces text.now a.verdict (octets_of a.output)) }
-    ensures refused { (v : Value) → text.now ≡ canon v → IfErr result (λ refusal. RefusesValue Command.Reduce v refusal) }
+/// Reduces a case.
+fn reduce(alloc: Global, case: &Case) -> Result<Answer, Refusal>
+    ensures answered { (text : List ℕ) → IsCaseText text (model case.now) → IfOk result (λ a. Reduces text a.verdict (octets_of a.output)) }
+    ensures refused { (v : Value) → IsCaseText (canon v) (model case.now) → IfErr result (λ refusal. RefusesValue Command.Reduce v refusal) }
 {
-    let case = Case::read(alloc, text)?;
-    let reduction = reduce_case(alloc, &case, case.accepted())?;
+    let reduction = reduce_case(alloc, case, case.accepted())?;
     let mut lines = Vec::new(alloc);
     let verdict = push_reduction(alloc, &mut lines, &reduction)?;
     Ok(Answer {
@@ -253,13 +350,12 @@ fn reduce(alloc: Global, text: &[u8]) -> Result<Answer, Refusal>
     })
 }
 
-/// Explains the case that a canonical text is.
-fn explain_case(alloc: Global, text: &[u8]) -> Result<Answer, Refusal>
-    ensures answered { IfOk result (λ a. Explains text.now a.verdict (octets_of a.output)) }
-    ensures refused { (v : Value) → text.now ≡ canon v → IfErr result (λ refusal. RefusesValue Command.Explain v refusal) }
+/// Explains a case.
+fn explain_case(alloc: Global, case: &Case) -> Result<Answer, Refusal>
+    ensures answered { (text : List ℕ) → IsCaseText text (model case.now) → IfOk result (λ a. Explains text a.verdict (octets_of a.output)) }
+    ensures refused { (v : Value) → IsCaseText (canon v) (model case.now) → IfErr result (λ refusal. RefusesValue Command.Explain v refusal) }
 {
-    let case = Case::read(alloc, text)?;
-    let explanation = explain(alloc, &case, case.accepted())?;
+    let explanation = explain(alloc, case, case.accepted())?;
     let mut lines = Vec::new(alloc);
     let verdict = push_explanation(alloc, &mut lines, &explanation)?;
     Ok(Answer {

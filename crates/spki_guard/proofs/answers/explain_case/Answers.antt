@@ -1,17 +1,18 @@
-use Rattle.std.proofs.Common.{ap, Err, ◌++◌, ◌∙◌}
+use Rattle.std.proofs.Common.{refl, ap, Err, ◌++◌, ◌∙◌}
+use Rattle.sexpr_core.specs.Value.{canon}
 use Rattle.spki_case.specs.View.{model}
 use Rattle.spki_words.specs.declared.commands.Command.TheVariants.{Explain}
 use Rattle.spki_guard.proofs.Undecided.{err_lifted, undecided}
 use Rattle.spki_guard.proofs.answers.explain_case.Goals as goal
 
 pub returns-clause-answered : goal.returns-clause-answered
-returns-clause-answered c =
+returns-clause-answered c text is =
     let exact = rw c.accepted.ensures at c.in_ok-explanation.ensures.exact in
     let (lines, report, e) = c.in_ok-verdict.ensures in
     let whole = e ∙ ap (λ s. s ++ lines) c.new-lines.ensures.items in
     record {
-      case_read = model c.in_ok-case.case;
-      text_is = c.in_ok-case.ensures.read;
+      case_read = model c.args.case.now;
+      text_is = is;
       explanation = c.in_ok-explanation.explanation;
       explanation_is = exact;
       lines = rw whole report;
@@ -20,7 +21,7 @@ returns-clause-answered c =
 pub returns-in_err-explanation-clause-refused : goal.returns-in_err-explanation-clause-refused
 returns-in_err-explanation-clause-refused c v e =
     let large = rw c.accepted.ensures at c.in_err-explanation.ensures.too_large in
-    let from = c.from_residual-in_err-explanation.ensures in
-    err_lifted c.from_residual-in_err-explanation.result _ _ from.1
-    (λ outer h. undecided Explain v c.args.text.now (model c.in_ok-case.case) c.in_err-explanation.field-0.0 outer e c.in_ok-case.ensures.read
+    let from = c.from_residual.ensures in
+    err_lifted c.from_residual.result _ _ from.1
+    (λ outer h. undecided Explain v (canon v) (model c.args.case.now) c.in_err-explanation.field-0.0 outer refl e
     (λ is. large (ap Err is)) h)

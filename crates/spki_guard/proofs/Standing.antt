@@ -1,0 +1,81 @@
+-- Cases that are read where they stand, since their text is canonical.
+use Rattle.std.proofs.Common.{◌≡◌, ◌≢◌, ◌≤◌, List, ℕ, length, inl, inr, sym, subst, Result, Ok, Err, IfOk, IfErr}
+use Rattle.sexpr_core.specs.Limits.{octet_limit}
+use Rattle.sexpr_core.specs.Value.{Value, canon, IsWithinLimits}
+use Rattle.sexpr_core.specs.declared.fault.FormFault.{FormFault}
+use Rattle.sexpr_text.specs.Spelling.{Spells, IsTextWithin}
+use Rattle.sexpr_text.proofs.CanonicalSpelled.{canonical_spelled}
+use Rattle.spki_case.specs.Case.{Case}
+use Rattle.spki_case.specs.CaseForm.{IsCaseText, TextRefused, ValueRefused}
+use Rattle.spki_case.specs.Texts.{IsOuter, IsTextOf}
+use Rattle.spki_case.specs.declared.cases.CaseFault.{CaseFault}
+use Rattle.spki_case.specs.declared.cases.CaseFault.TheVariants as faults
+use Rattle.spki_words.specs.declared.commands.Command.{Command}
+use Rattle.spki_guard.specs.declared.answers.Answer.{Answer}
+use Rattle.spki_guard.specs.declared.answers.Refusal.{Refusal}
+use Rattle.spki_guard.specs.declared.answers.Refusal.TheVariants as refusals
+use Rattle.spki_guard.specs.Answer.{IsOnCase, AnswersValue, RefusesValue, AnswersRead, RefusesAnswer, octets_of}
+
+canonical_text : (text : List ℕ) (v : Value) → IsWithinLimits v → text ≡ canon v → IsTextWithin text v
+canonical_text text v within e =
+    inl (record {
+      spelling = subst (λ s. Spells s v) (sym e) (canonical_spelled v);
+      short = subst (λ s. length s ≤ octet_limit) (sym e) within.short;
+      shallow = within.shallow;
+    })
+
+-- a fault that isn't of the form is one of the value
+pub of_value : (text : List ℕ) (fault : CaseFault) → TextRefused text fault → ((form : FormFault) × (fault ≡ faults.Form form) → ⊥)
+    → IsTextOf (λ v. ValueRefused v fault) text
+of_value text fault (inl m) other = absurd (other (m.form, m.is))
+of_value text fault (inr t) other = t
+
+answered_by : (command : Command) (text : List ℕ) (v : Value) (r : Result Answer Refusal) → IsTextWithin text v
+    → IfOk r (λ a. AnswersValue command v a.verdict (octets_of a.output))
+    → IfOk r (λ a. AnswersRead command text a.verdict (octets_of a.output))
+answered_by command text v (Ok a) t h = record { value = v; read = t; answer = h }
+answered_by command text v (Err refusal) t h = tt
+
+refused_by : (command : Command) (text : List ℕ) (v : Value) (refusal : Refusal) → IsTextWithin text v
+    → RefusesValue command v refusal → RefusesAnswer command text refusal
+refused_by command text v (refusals.Form fault) t h = absurd h
+refused_by command text v (refusals.Intersect fault) t h = record { value = v; read = t; refused = h }
+refused_by command text v (refusals.Case fault) t h = record { value = v; read = t; refused = h }
+refused_by command text v (refusals.Decision fault) t h = record { value = v; read = t; refused = h }
+refused_by command text v (refusals.Rows fault) t h = absurd h
+refused_by command text v refusals.Memory t h = tt
+
+err_by : (command : Command) (text : List ℕ) (v : Value) (r : Result Answer Refusal) → IsTextWithin text v
+    → IfErr r (λ refusal. RefusesValue command v refusal) → IfErr r (λ refusal. RefusesAnswer command text refusal)
+err_by command text v (Ok a) t h = tt
+err_by command text v (Err refusal) t h = refused_by command text v refusal t h
+
+-- what is answered to the value is answered to the canonical text
+pub standing_answered : (command : Command) (text : List ℕ) (c : Case) (r : Result Answer Refusal) → IsCaseText text c
+    → ((v : Value) → IsCaseText (canon v) c → IfOk r (λ a. AnswersValue command v a.verdict (octets_of a.output)))
+    → IfOk r (λ a. AnswersRead command text a.verdict (octets_of a.output))
+standing_answered command text c r t f =
+    answered_by command text t.value r (canonical_text text t.value t.within t.written)
+    (f t.value (subst (λ s. IsCaseText s c) t.written t))
+
+pub standing_refused : (command : Command) (text : List ℕ) (c : Case) (r : Result Answer Refusal) → IsCaseText text c
+    → ((v : Value) → IsCaseText (canon v) c → IfErr r (λ refusal. RefusesValue command v refusal))
+    → IfErr r (λ refusal. RefusesAnswer command text refusal)
+standing_refused command text c r t f =
+    err_by command text t.value r (canonical_text text t.value t.within t.written)
+    (f t.value (subst (λ s. IsCaseText s c) t.written t))
+
+-- a case that has no reading, as the refusal
+pub no_case : (command : Command) (text : List ℕ) (fault : CaseFault) (outer : Refusal)
+    → (fault ≢ faults.Memory → IsOnCase command × IsTextOf (λ v. ValueRefused v fault) text)
+    → IsOuter (fault ≡ faults.Memory) refusals.Memory (refusals.Case fault) outer → RefusesAnswer command text outer
+no_case command text fault outer f (inl h) = let is = h.1 in rw is tt
+no_case command text fault outer f (inr h) =
+    let is = h.1 in
+    let (on, t) = f h.0 in
+    rw is
+    (record {
+      value = t.value;
+      read = canonical_text text t.value t.within t.written;
+      refused = (on, inr (subst (λ s. IsTextOf (λ v. ValueRefused v fault) s) t.written t));
+    })
