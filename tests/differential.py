@@ -43,6 +43,7 @@ PROGRAM = os.path.join(HERE, "..", "crates", "spki", "out", "spki")
 ARCHIVE = os.path.join(HERE, "..", "crates", "spki_c", "out", "libspki_c.a")
 TOO_SMALL = 4
 SECONDS = 60
+SECONDS_QUIET = 300
 PROGRAM_EVERY = 9
 SMALL_BUFFER_EVERY = 11
 WHOLE_COVERAGE = 20_000
@@ -106,7 +107,7 @@ def program_answers(program: str, asked: Question, wanted: Answer) -> str | None
 
 def shown(said: Answer) -> str:
     """An answer in short."""
-    return f"{said[0]} {said[1][:300]!r}"
+    return f"{said[0]} {said[1][:300]!r}{'..' if len(said[1]) > 300 else ''}"
 
 
 @dataclass
@@ -125,6 +126,9 @@ class Comparison:
             laws.hold(asked.command, asked.text, wanted, lambda near: [tags.request_near(it, rng) for it in near])
         except ModelDisagrees as why:
             return f"the model disagrees with itself: {why}"
+        except Exception as why:
+            # an error of the model is shown with its case, and does not end the run
+            return f"the model fails: {why!r}"
         found = self.library.answers(asked, wanted)
         if not found and number % SMALL_BUFFER_EVERY == 0:
             found = self.library.keeps_back(asked, wanted)
@@ -135,9 +139,16 @@ class Comparison:
 
 def rows_that_differ() -> list[str]:
     """Where the model's answer is not that of a row of the tables."""
-    names = sorted(name for name in os.listdir(HERE) if name.endswith(".table"))
-    return [f"{place}: {command}: the model answers {shown(met)}" for name in names
-            for place, command, text, status, said in rows_of(os.path.join(HERE, name)) if (met := answer(command, text)) != (status, said)]
+    differ = []
+    for name in sorted(name for name in os.listdir(HERE) if name.endswith(".table")):
+        for place, command, text, status, said in rows_of(os.path.join(HERE, name)):
+            try:
+                met = answer(command, text)
+            except ModelDisagrees as why:
+                met = (0, str(why).encode())
+            if met != (status, said):
+                differ.append(f"{place}: {command}: the model answers {shown(met)}")
+    return differ
 
 
 # ---- many cases
@@ -170,6 +181,8 @@ def compare(comparison: Comparison, first: int, cases: int, jobs: int) -> tuple[
         workers.append((results, process))
     differ, ended, rows = [], [], Counter()
     for job, (results, process) in enumerate(workers):
+        while not results.poll(SECONDS_QUIET):
+            print(f"about {sum(at) // jobs - first} cases so far", flush=True)
         try:
             numbers, counts = results.recv()
             differ += numbers

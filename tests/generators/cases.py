@@ -164,7 +164,7 @@ class Builder:
     def entries(self, subject: Subject, length: int) -> list[Value]:
         """The entry of the chain, and others that nearly match."""
         entries = [self.entry(subject, length > 0)]
-        for _ in range(self.rng.choice((0, 0, 1, 2))):
+        for _ in range(self.rng.choice((0, 0, 0, 0, 1, 1, 1, 2, 2, 12))):
             other = subject if self.rng.random() < 0.7 else self.next_subject(0.3)
             entries.insert(self.rng.randrange(len(entries) + 1), self.entry(other, self.rng.random() < 0.7))
         return entries

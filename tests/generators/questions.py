@@ -11,7 +11,9 @@ from .mutations import LISTS, mutated, mutated_text
 
 CONVERSIONS = COMMANDS[:3]
 OF_CASES = ("check", "explain", "reduce", "check_accepted")
-BODIES = [b"a", b"ftp", b"", b"my host", b"\x00\xff", b"0a", b'"\\', b"\n\r", b"a\nb", b"?'", b"*", b"\x07\x0b\x7f", b"3:abc", b"ABC=", bytes(range(256))]
+BODIES = [b"a", b"ftp", b"", b"my host", b"\x00\xff", b"0a", b'"\\', b"\n\r", b"a\nb", b"?'", b"*", b"\x07\x0b\x7f", b"a\x7f", b"~ ", b"a\x1f", b"a\x80", b"3:abc", b"ABC=", bytes(range(256))]
+
+LENGTHS = (9, 10, 63, 64, 65, 99, 100, 255, 256, 1000, 4096)
 
 
 @dataclass(frozen=True)
@@ -30,7 +32,7 @@ def question(seed: str, number: int) -> Question:
     if at < len(rare.LONG) * len((*COMMANDS, "rows")):
         return long_question(rng, at)
     kind = rng.random()
-    if kind < 0.02:
+    if kind < 0.013:
         return limit_question(rng)
     if kind < 0.3:
         return Question(rng.choice(CONVERSIONS), texts(value(rng), rng))
@@ -51,12 +53,10 @@ def long_question(rng: random.Random, at: int) -> Question:
 
 def limit_question(rng: random.Random) -> Question:
     """A text at another limit."""
-    kind = rng.randrange(6)
-    if kind == 0:
-        return Question("intersect", rare.large_tags(rng))
-    if kind == 1:
-        return Question("intersect", rare.too_many_nodes(rng))
-    if kind < 4:
+    kind = rng.randrange(8)
+    if kind < 3:
+        return Question("intersect", (rare.large_tags, rare.too_many_nodes, rare.deep_tags)[kind](rng))
+    if kind < 6:
         return Question(rng.choice(OF_CASES[:3]), rare.large_case(rng))
     text = rare.deep(rng)
     text = spellings.in_braces(text, rng) if rng.random() < 0.5 else text
@@ -106,5 +106,6 @@ def value(rng: random.Random, depth: int = 3) -> Value:
         return rng.choice(LISTS)
     if depth and kind < 0.55:
         return tuple(value(rng, depth - 1) for _ in range(rng.randrange(5)))
-    body = rng.choice(BODIES) if rng.random() < 0.7 else rng.randbytes(rng.randrange(7))
+    length = rng.choice(LENGTHS) if rng.random() < 0.03 else rng.randrange(7)
+    body = rng.choice(BODIES) if rng.random() < 0.7 else rng.randbytes(length)
     return Atom(body, rng.choice((b"", b"x", b"text/plain", b"\x80")) if rng.random() < 0.2 else None)

@@ -6,12 +6,12 @@ from model.values import LONGEST, Atom, Value, canonical
 
 from .cases import Builder, Subject
 
-EVERY = 10_000
+EVERY = 20_000
 
 
 def too_long(rng: random.Random) -> bytes:
     """A text of one octet too many, or of just as many as are read."""
-    return b"%d:" % (LONGEST - 8) + (LONGEST - 8 + rng.choice((0, 1, 1))) * b"a"
+    return b"%d:" % (LONGEST - 8) + (LONGEST - 8 + rng.choice((0, 1, 1, 1, 1))) * b"a"
 
 
 def too_long_in_braces(rng: random.Random) -> bytes:
@@ -21,7 +21,7 @@ def too_long_in_braces(rng: random.Random) -> bytes:
 
 def grows(rng: random.Random) -> bytes:
     """A text within the limit whose canonical form has one octet too many, or just as many as are read."""
-    return b"(" + 131_071 * b"[a]b" + rng.choice((6, 7, 7, 7)) * b"b" + b")"
+    return b"(" + 131_071 * b"[a]b" + (7 if rng.randrange(8) else 6) * b"b" + b")"
 
 
 def many_strings(kind: bytes, count: int) -> Value:
@@ -90,6 +90,21 @@ def deep(rng: random.Random) -> bytes:
     """Lists inside one another, 64 or 65 deep."""
     count = 64 + rng.randrange(2)
     return count * b"(" + rng.choice((b"", b"a")) + count * b")"
+
+
+def deep_tags(rng: random.Random) -> bytes:
+    """An intersection of tags that are deep, whose answer may have more than 64 lists inside one another."""
+    lists: Value = Atom(b"a")
+    for _ in range(rng.choice((rng.randrange(1, 64), 60, 62))):
+        lists = (Atom(b"f"), lists)
+    sets: Value = (Atom(b"*"), Atom(b"prefix"), Atom(b"a"))
+    for _ in range(rng.choice((rng.randrange(1, 32), 30))):
+        members = [(Atom(b"f"), sets), rng.choice(((Atom(b"f"), (Atom(b"*"),)), (Atom(b"f"),), (Atom(b"*"), Atom(b"set")), Atom(b"f")))]
+        rng.shuffle(members)
+        sets = (Atom(b"*"), Atom(b"set"), *members)
+    both = [lists, sets]
+    rng.shuffle(both)
+    return canonical((Atom(b"intersect"), *both))
 
 
 LONG: tuple[Callable[[random.Random], bytes], ...] = (too_long, too_long_in_braces, grows)

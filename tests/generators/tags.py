@@ -95,7 +95,7 @@ def pair(rng: random.Random) -> tuple[Value, Value]:
 
 def two_sets(rng: random.Random) -> tuple[Value, Value]:
     """Two sets with tags for the same requests, in some order each."""
-    asked = [request(rng, 1) for _ in range(rng.choice((2, 3, 4)))]
+    asked = [request(rng, 1) for _ in range(rng.choice((2, 2, 3, 3, 4, 12)))]
     sets = []
     for _ in range(2):
         members = [tag_for(it, rng, 1) if rng.random() < 0.5 else it for it in asked]

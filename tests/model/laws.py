@@ -9,24 +9,33 @@ from . import forms, tags
 from .answers import Answer, ModelDisagrees
 from .coverage import Rows
 from .tags import Tag, contains
-from .values import LONGEST, Value, canonical
+from .values import LONGEST, FormFault, Value, canonical
 
-TRIED = Rows("law that was tried", ["what is written is read again", "a request of both tags", "a request of one tag or none"])
+TRIED = Rows("law that was tried", [
+    "what is written is read again", "a request of both tags", "a request of one tag or none",
+    "an intersection that is too deep to be read again"])
 
 
 def hold(command: str, text: bytes, answer: Answer, requests: Callable[[tuple[Tag, ...]], Iterable[Value]]) -> None:
     """Raises ModelDisagrees if an answer breaks a law. `requests` gives some requests that are near some tags."""
     status, said = answer
-    if status:
+    if status or command not in ("canonical", "advanced", "transport", "intersect") or len(said) > LONGEST // 2:
         return
-    if command in ("canonical", "advanced", "transport") and len(said) <= LONGEST // 2:
-        if canonical(forms.read(said)) != canonical(forms.read(text)):
+    value = forms.read(text)
+    try:
+        again = forms.read(said)
+    except FormFault as fault:
+        if command == "intersect" and fault.kind == "TooDeep":
+            TRIED.used("an intersection that is too deep to be read again")
+            return
+        raise ModelDisagrees(f"what is written is no text: {fault}") from None
+    if command != "intersect":
+        if canonical(again) != canonical(value):
             raise ModelDisagrees("what is written is read as another value")
         TRIED.used("what is written is read again")
-    if command == "intersect":
-        value = forms.read(text)
+    else:
         assert isinstance(value, tuple)
-        a, b, both = tags.read(value[1]), tags.read(value[2]), any_tag(forms.read(said))
+        a, b, both = tags.read(value[1]), tags.read(value[2]), any_tag(again)
         for request in requests((a, b, both)):
             is_of_both = contains(a, request) and contains(b, request)
             TRIED.used("a request of both tags" if is_of_both else "a request of one tag or none")
