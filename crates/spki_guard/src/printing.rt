@@ -27,10 +27,6 @@ pub fn push_tag(alloc: Global, out: &mut Vec<u8>, tag: &Tag) -> Result<(), Alloc
     ensures { OnOk result (out.new.items ≡ out.old.items ++ adv (tag_value tag.now)) }
 {
     match tag.form() {
-        TagForm::Single => {
-            let tree = tag.write(alloc)?;
-            push_tree(alloc, out, &tree)
-        }
         TagForm::List { head, further } => {
             let head = Sexp::plain(alloc, head)?;
             out.push(b'(')?;
@@ -44,6 +40,10 @@ pub fn push_tag(alloc: Global, out: &mut Vec<u8>, tag: &Tag) -> Result<(), Alloc
             push_each(alloc, out, members)?;
             out.push(b')')?;
             Ok(())
+        }
+        _ => {
+            let tree = tag.write(alloc)?;
+            push_tree(alloc, out, &tree)
         }
     }
 }

@@ -1,7 +1,11 @@
 -- The definitions at worked examples.
 use Rattle.std.proofs.Common.{◌≡◌, ℕ, true, false, List, [], ◌∷◌, Option, Some, None, refl}
 use Rattle.std.specs.Prelude.{codes}
-use Rattle.sexpr_core.specs.Value.{canon, verbatim, decimal}
+use Rattle.sexpr_core.specs.Value as value
+use Rattle.sexpr_core.specs.Value.{Value, plain, group, canon, verbatim, decimal}
+use Rattle.spki_tag.specs.declared.fault.TagFault.TheVariants.{EmptyList, ListHead, Hint, UnknownStar, RangeOrdering, RangeLimit, TooManyNodes, StarInRequest}
+use Rattle.spki_tag.specs.FirstFault.{first_fault}
+use Rattle.spki_tag.specs.FaultOf.{looks, tag_fault, request_fault}
 use Rattle.spki_tag.specs.Time.{is_time, is_date}
 use Rattle.spki_tag.specs.Request as request
 use Rattle.spki_tag.specs.Request.{Request, Requests}
@@ -202,3 +206,80 @@ becomes-range = refl
 written-range : canon (tag_value (range alpha (at_least (codes "b")) (below (codes "m")))) ≡ codes "(1:*5:range5:alpha2:ge1:b1:l1:m)"
 unfolding verbatim decimal
 written-range = refl
+
+-- ---- the fault of a value: the first, depth first from the left
+
+abbrev word : List ℕ → Value
+word octets = plain octets
+
+-- [h]x
+abbrev hinted : Value
+hinted = value.string (Some (codes "h")) (codes "x")
+
+abbrev starred_list : List Value → Value
+starred_list vs = group (word (codes "*") ∷ vs)
+
+-- (* set () [h]x)
+fault-first_member : tag_fault (starred_list (word (codes "set") ∷ group [] ∷ hinted ∷ [])) ≡ Some EmptyList
+unfolding tag_fault
+fault-first_member = refl
+
+-- (a (* online) ())
+fault-inside : tag_fault (group (word (codes "a") ∷ starred_list (word (codes "online") ∷ []) ∷ group [] ∷ [])) ≡ Some UnknownStar
+unfolding tag_fault
+fault-inside = refl
+
+-- (() [h]x)
+fault-list_head : tag_fault (group (group [] ∷ hinted ∷ [])) ≡ Some ListHead
+unfolding tag_fault
+fault-list_head = refl
+
+-- ([h]x ())
+fault-hinted_head : tag_fault (group (hinted ∷ group [] ∷ [])) ≡ Some Hint
+unfolding tag_fault
+fault-hinted_head = refl
+
+-- (* prefix [h]x a): not one string
+fault-long_prefix : tag_fault (starred_list (word (codes "prefix") ∷ hinted ∷ word (codes "a") ∷ [])) ≡ Some UnknownStar
+unfolding tag_fault
+fault-long_prefix = refl
+
+-- (* range beta [h]x): the ordering before the limits
+fault-ordering : tag_fault (starred_list (word (codes "range") ∷ word (codes "beta") ∷ hinted ∷ [])) ≡ Some RangeOrdering
+unfolding tag_fault
+fault-ordering = refl
+
+-- (* range alpha (a) [h]x): a hint among the limits before a list
+fault-hint_among_limits :
+    tag_fault (starred_list (word (codes "range") ∷ word (codes "alpha") ∷ group (word (codes "a") ∷ []) ∷ hinted ∷ []))
+    ≡ Some Hint
+unfolding tag_fault
+fault-hint_among_limits = refl
+
+-- (* range alpha g ([h]x)): a list among the limits, whatever it holds
+fault-list_among_limits :
+    tag_fault (starred_list (word (codes "range") ∷ word (codes "alpha") ∷ word (codes "g") ∷ group (hinted ∷ []) ∷ []))
+    ≡ Some RangeLimit
+unfolding tag_fault
+fault-list_among_limits = refl
+
+-- (* online [h]x (tag)): nothing behind an unknown word is looked at
+fault-unknown_word : tag_fault (starred_list (word (codes "online") ∷ hinted ∷ group [] ∷ [])) ≡ Some UnknownStar
+unfolding tag_fault
+fault-unknown_word = refl
+
+-- the 1,025th tag is one too many, whatever it is, and the 1,024th is looked at
+fault-one_too_many : first_fault (looks 1024 (hinted ∷ [])) ≡ Some TooManyNodes
+fault-one_too_many = refl
+
+fault-last_that_fits : first_fault (looks 1023 (hinted ∷ [])) ≡ Some Hint
+fault-last_that_fits = refl
+
+-- (a (* set) [h]x) and (a [h]x (*)) as requests
+fault-star_in_request : request_fault (group (word (codes "a") ∷ starred_list (word (codes "set") ∷ []) ∷ hinted ∷ [])) ≡ Some StarInRequest
+unfolding request_fault
+fault-star_in_request = refl
+
+fault-hint_in_request : request_fault (group (word (codes "a") ∷ hinted ∷ starred_list [] ∷ [])) ≡ Some Hint
+unfolding request_fault
+fault-hint_in_request = refl

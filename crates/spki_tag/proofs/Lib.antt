@@ -27,3 +27,4 @@ pub mod FaultWalk
 pub mod Named
 pub mod NamedRequests
 pub mod Faultless
+pub mod MeetEquations

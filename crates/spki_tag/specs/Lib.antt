@@ -13,6 +13,7 @@ pub mod NodeFalls
 pub mod Grounds
 pub mod GroundFalls
 pub mod Meet
+pub mod MeetRules
 pub mod NormalForm
 pub mod Normal
 pub mod Index

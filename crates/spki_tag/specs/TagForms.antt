@@ -1,19 +1,20 @@
 -- How a tag is built.
-use Rattle.std.specs.Prelude.{◌≡◌}
-use Rattle.spki_tag.specs.Tag.{Tag, tags, star, string, prefix, range, list, set}
+use Rattle.std.specs.Prelude.{◌≡◌, Option, Some, None}
+use Rattle.spki_tag.specs.Tag.{Tag, Limit, tags, star, string, prefix, range, list, set}
+use Rattle.spki_tag.specs.Leaves.{ordering_of}
+use Rattle.spki_tag.specs.declared.form.TagLimit as shown
 use Rattle.spki_tag.specs.declared.form.TagForm.{TagForm}
 use Rattle.spki_tag.specs.declared.form.TagForm.TheVariants as form
 
--- a tag without members
-abbrev pub IsSingle : Tag → Type 0
-IsSingle star = Unit {0}
-IsSingle (string octets) = Unit {0}
-IsSingle (prefix octets) = Unit {0}
-IsSingle (range ordering low up) = Unit {0}
-IsSingle (list head further) = ⊥
-IsSingle (set members) = ⊥
+-- a limit as it is shown
+abbrev pub limit_shown : Option shown.TagLimit → Option Limit
+limit_shown None = None
+limit_shown (Some limit) = Some (record { strict = limit.strict; octets = limit.octets.now })
 
 abbrev pub IsFormOf : Tag → TagForm → Type 0
-IsFormOf t form.Single = IsSingle t
+IsFormOf t form.Everything = t ≡ star
+IsFormOf t (form.String octets) = t ≡ string octets.now
+IsFormOf t (form.Prefix octets) = t ≡ prefix octets.now
+IsFormOf t (form.Range ordering low up) = t ≡ range (ordering_of ordering) (limit_shown low) (limit_shown up)
 IsFormOf t (form.List head further) = t ≡ list head.now (tags further.now)
 IsFormOf t (form.Set members) = t ≡ set (tags members.now)

@@ -1,18 +1,41 @@
-//! How a tag is built: its members, for those who go down into it, and what it is.
+//! How a tag is built, for those who go down into it, and what it is.
 
 ghost use Rattle.std.specs.Prelude.{◌≡◌, ◌↔◌, ◌||◌, IsTrue};
 ghost use Rattle.std.specs.List.{list_any};
 ghost use Rattle.spki_tag.specs.Tag as spec;
-ghost use Rattle.spki_tag.specs.TagForms.{IsFormOf};
+ghost use Rattle.spki_tag.specs.Leaves.{leaf_tag, limit_of};
+ghost use Rattle.spki_tag.specs.TagForms.{IsFormOf, limit_shown};
 
-use crate::leaf::Leaf;
+use crate::leaf::{Leaf, Limit, RangeOrdering};
 use crate::tag::{Node, Tag};
+
+/// A limit of a range.
+#[derive(Clone, Copy, Debug)]
+pub struct TagLimit<'a> {
+    /// Whether the string itself is left out.
+    pub strict: bool,
+    /// The string.
+    pub octets: &'a [u8],
+}
 
 /// A tag without members, or its members (RFC 2693, section 6.3.1).
 #[derive(Clone, Copy, Debug)]
 pub enum TagForm<'a> {
-    /// `(*)`, a string, a prefix or a range.
-    Single,
+    /// `(*)`.
+    Everything,
+    /// A string.
+    String(&'a [u8]),
+    /// `(* prefix p)`, by p.
+    Prefix(&'a [u8]),
+    /// `(* range ordering low? up?)`.
+    Range {
+        /// Which strings the range holds at all.
+        ordering: RangeOrdering,
+        /// The lower limit.
+        low: Option<TagLimit<'a>>,
+        /// The upper limit.
+        up: Option<TagLimit<'a>>,
+    },
     /// `(head t ..)`.
     List {
         /// The string that the list begins with.
@@ -27,13 +50,42 @@ pub enum TagForm<'a> {
     },
 }
 
+/// A limit of a range, as it is shown.
+fn limit_shown(limit: &Option<Limit>) -> Option<TagLimit<'_>>
+    ensures { limit_shown result ≡ limit_of limit.now }
+{
+    match limit {
+        None => None,
+        Some(limit) => Some(TagLimit {
+            strict: limit.strict,
+            octets: limit.octets.as_slice(),
+        }),
+    }
+}
+
+/// How a tag without members is built.
+fn leaf_form(leaf: &Leaf) -> TagForm<'_>
+    ensures { IsFormOf (leaf_tag leaf.now) result }
+{
+    match leaf {
+        Leaf::Star => TagForm::Everything,
+        Leaf::String(octets) => TagForm::String(octets.as_slice()),
+        Leaf::Prefix(prefix) => TagForm::Prefix(prefix.octets()),
+        Leaf::Range(ordering, low, up) => TagForm::Range {
+            ordering: *ordering,
+            low: limit_shown(low),
+            up: limit_shown(up),
+        },
+    }
+}
+
 impl Tag {
-    /// How the tag is built.
+    /// How the tag is built: its string, its limits or its members.
     pub fn form(&self) -> TagForm<'_>
         ensures { IsFormOf self.now result }
     {
         match &self.node {
-            Node::Leaf(_) => TagForm::Single,
+            Node::Leaf(leaf) => leaf_form(leaf),
             Node::List(head, further, _) => TagForm::List {
                 head: head.as_slice(),
                 further: further.as_slice(),

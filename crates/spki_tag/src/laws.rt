@@ -8,6 +8,7 @@ ghost use Rattle.spki_tag.specs.FaultOf.{request_fault, tag_fault, tags_in};
 ghost use Rattle.spki_tag.specs.Faults.{tag_nodes};
 ghost use Rattle.spki_tag.specs.Index.{may_share, places_where, tags_at};
 ghost use Rattle.spki_tag.specs.Meet.{least_above, strict_limit, from, meet, nothing, row};
+ghost use Rattle.spki_tag.specs.MeetRules.{StarRule, SetRule, StringRule, PrefixRule, PrefixesApart, RangeRule, PrefixAsRange, OrderingRule, TimesAndDates, ListRule, HeadsApart, ListsAndStrings};
 ghost use Rattle.spki_tag.specs.Normal.{normal};
 ghost use Rattle.spki_tag.specs.NormalForm.{IsNormalOf};
 ghost use Rattle.spki_tag.specs.Read.{ReadsAs};
@@ -59,6 +60,22 @@ pub fn nodes_as_written()
 pub fn prefix_is_range()
     ensures { (p x : List ℕ) → AreOctets x
         → starts_with nat_eq x p ≡ (is_above (from p) x && is_below (strict_limit (least_above p)) x) }
+{}
+
+/// The rules of the intersection, as equations of the tags that two tags leave together.
+pub fn meet_rules()
+    ensures star { StarRule }
+    ensures sets { SetRule }
+    ensures strings { StringRule }
+    ensures prefixes { PrefixRule }
+    ensures prefixes_apart { PrefixesApart }
+    ensures ranges { RangeRule }
+    ensures prefix_as_range { PrefixAsRange }
+    ensures orderings { OrderingRule }
+    ensures times_and_dates { TimesAndDates }
+    ensures lists { ListRule }
+    ensures heads_apart { HeadsApart }
+    ensures lists_and_strings { ListsAndStrings }
 {}
 
 /// What two tags leave together contains a request exactly if both do.

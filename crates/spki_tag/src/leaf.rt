@@ -13,9 +13,9 @@ use std::sync::ArcSlice;
 /// Octets of a tag. The tags that an intersection leaves share those of the tags that it was made of.
 pub(crate) type SharedOctets = ArcSlice<u8>;
 
-/// Which strings a range holds at all.
+/// Which strings a range holds at all (RFC 2693, section 6.3.1).
 #[derive(Clone, Copy, Debug, PartialEq, Eq)]
-pub(crate) enum RangeOrdering {
+pub enum RangeOrdering {
     /// Any strings.
     Alpha,
     /// Times of day, `HH:MM:SS`.

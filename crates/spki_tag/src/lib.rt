@@ -22,8 +22,9 @@ mod tag;
 mod writing;
 
 pub use fault::{MeetFault, TagFault};
-pub use form::TagForm;
+pub use form::{TagForm, TagLimit};
 pub use index::Index;
+pub use leaf::RangeOrdering;
 pub use moment::{is_date, is_time};
 pub use request::Ground;
 pub use tag::Tag;
