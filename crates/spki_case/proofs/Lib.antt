@@ -9,3 +9,4 @@ pub mod ByDigest
 pub mod FirstRows
 pub mod LackingRow
 pub mod Unrefused
+pub mod RowFaultLaws

@@ -1,5 +1,5 @@
 -- Which case a value is: an access list, what was accepted, what was shown, and what is asked.
-use Rattle.std.specs.Prelude.{◌≡◌, ◌≢◌, ◌⊎◌, ℕ, List, [], ◌∷◌, codes}
+use Rattle.std.specs.Prelude.{◌≡◌, ◌≢◌, ◌⊎◌, ℕ, List, [], ◌∷◌, Some, codes}
 use Rattle.std.specs.List.{AllZip}
 use Rattle.sexpr_core.specs.Value.{Value, plain, group}
 use Rattle.spki_tag.specs.Request.{Request, IsRequest, request_value}
@@ -16,6 +16,10 @@ use Rattle.spki_cert.specs.Entries.{AclOf, AclRefused}
 use Rattle.spki_cert.specs.declared.certificate.SeqItem.{SeqItem}
 use Rattle.spki_cert.specs.Sequences.{SeqOf, SeqRefused}
 use Rattle.spki_cert.specs.Faults.{Shows}
+use Rattle.spki_tag.specs.FaultOf.{request_fault}
+use Rattle.spki_cert.specs.FixedFaults.{key_fault}
+use Rattle.spki_cert.specs.EntryFaults.{acl_fault}
+use Rattle.spki_cert.specs.SequenceFaults.{sequence_fault}
 use Rattle.spki_case.specs.Case.{Case, Row}
 use Rattle.spki_case.specs.Rows.{RowOf, RowsRefused}
 use Rattle.spki_case.specs.Texts.{IsTextOf, IsMalformed}
@@ -98,10 +102,13 @@ ReadsKey p = ReadsItems p × (key : List ℕ) × KeyOf p.key key
 abbrev pub ReadsRequest : Parts → Type 0
 ReadsRequest p = ReadsKey p × (g : Request) × RequestOf p.request g
 
+-- In each of these the fault that is named is the first one of the part.
+
 -- The access list is none, which the fault says of one of its entries or of the whole.
 pub record AclRefusedIn (p : Parts) (fault : CertFault) : Type 0 where
   pub found : fault.kind ≢ kinds.Memory
   pub refused : AclRefused (acl_value p) fault
+  pub named : acl_fault (acl_value p) ≡ Some fault
   pub none : (es : List Entry) → ¬ AclOf (acl_value p) es
 
 -- The accepted list is none, which the fault says of one of its rows.
@@ -115,6 +122,7 @@ pub record SequenceRefusedIn (p : Parts) (fault : CertFault) : Type 0 where
   pub before : ReadsRows p
   pub found : fault.kind ≢ kinds.Memory
   pub refused : SeqRefused (sequence_value p) fault
+  pub named : sequence_fault (sequence_value p) ≡ Some fault
   pub none : (is : List SeqItem) → ¬ SeqOf (sequence_value p) is
 
 -- The key is none.
@@ -123,6 +131,7 @@ pub record KeyRefusedIn (p : Parts) (fault : CertFault) : Type 0 where
   pub outer : fault.item ≡ 0
   pub found : fault.kind ≢ kinds.Memory
   pub shows : Shows fault.kind p.key
+  pub named : key_fault p.key ≡ Some fault.kind
   pub none : (key : List ℕ) → ¬ KeyOf p.key key
 
 -- The request is none.
@@ -130,6 +139,7 @@ pub record RequestRefusedIn (p : Parts) (fault : TagFault) : Type 0 where
   pub before : ReadsKey p
   pub found : fault ≢ tag_faults.Memory
   pub shows : RequestShows fault p.request
+  pub named : request_fault p.request ≡ Some fault
   pub none : (g : Request) → ¬ RequestOf p.request g
 
 -- The moment is none, and is no date.

@@ -2,6 +2,7 @@ pub mod Case
 pub mod Texts
 pub mod ByDigest
 pub mod View
+pub mod RowFaults
 pub mod Rows
 pub mod CaseForm
 pub mod RowsForm

@@ -1,5 +1,5 @@
 -- Which signature, verified elsewhere, a row of an accepted list states.
-use Rattle.std.specs.Prelude.{◌≡◌, ◌≢◌, ◌⊎◌, ℕ, List, [], ◌∷◌, codes}
+use Rattle.std.specs.Prelude.{◌≡◌, ◌≢◌, ◌⊎◌, ℕ, List, [], ◌∷◌, Some, codes}
 use Rattle.sexpr_core.specs.Value.{Value, plain, group, canon}
 use Rattle.spki_cert.specs.declared.hash.HashAlg.{HashAlg}
 use Rattle.spki_cert.specs.declared.hash.HashAlg.TheVariants.{Sha256}
@@ -10,6 +10,7 @@ use Rattle.spki_cert.specs.Readings.{KeyOf, HashOf}
 use Rattle.spki_cert.specs.Refusals.{IsRefusedAt}
 use Rattle.spki_cert.specs.Faults.{Shows}
 use Rattle.spki_case.specs.Case.{Row}
+use Rattle.spki_case.specs.RowFaults.{rows_fault}
 
 -- (by key hash value), where the hash is by SHA-256, and the value is any
 pub record RowOf (v : Value) (row : Row) : Type 0 where
@@ -41,9 +42,11 @@ pub record HasOtherHash (v : Value) : Type 0 where
 abbrev pub RowShows : CertFaultKind → Value → Type 0
 RowShows kind v = Shows kind v ⊎ ((kind ≡ kinds.HashAlg) × HasOtherHash v)
 
--- The rows before the item that is named have readings; it has none, and the fault shows on it.
+-- The rows before the item that is named have readings; it has none, and the fault shows on it. It is the first fault of
+-- the rows.
 pub record RowsRefused (vs : List Value) (fault : CertFault) : Type 0 where
   pub found : fault.kind ≢ kinds.Memory
   pub refused : Value
   pub place : IsRefusedAt RowOf vs fault.item refused
   pub shown : RowShows fault.kind refused
+  pub named : rows_fault vs ≡ Some fault

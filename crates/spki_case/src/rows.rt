@@ -1,10 +1,11 @@
 //! The rows of an accepted list, as they are read.
 
-ghost use Rattle.std.specs.Prelude.{◌≡◌, ◌≢◌, ◌<◌, ◌↔◌, ℕ, List, length, map, IfOk, IfErr, IsErrOf};
+ghost use Rattle.std.specs.Prelude.{◌≡◌, ◌≢◌, ◌<◌, ◌↔◌, ℕ, List, length, map, Some, None, IfOk, IfErr, IsErrOf};
 ghost use Rattle.spki_cert.specs.Readings.{HashOf};
 ghost use Rattle.std.specs.List.{AllZip};
 ghost use Rattle.spki_case.specs.Case as model;
 ghost use Rattle.spki_case.specs.Rows.{RowOf, RowShows, RowsRefused, HashShows};
+ghost use Rattle.spki_case.specs.RowFaults.{sha256_fault, row_fault};
 ghost use Rattle.spki_case.specs.View.{row_of, rows_of};
 ghost use Rattle.spki_case.specs.Texts.{IsOuter};
 ghost use Rattle.spki_case.specs.RowsForm.{RowsOf, NoRows, IsRowsText, RowsTextRefused};
@@ -82,6 +83,8 @@ fn row_at<'a>(node: &Node<'_, 'a>) -> Result<Row<'a>, CertFaultKind>
     ensures row { IfOk result (λ row. RowOf node.now (row_of row)) }
     ensures refused { IfErr result (λ _. (row : model.Row) → ¬ RowOf node.now row) }
     ensures shown { IfErr result (λ kind. (kind ≢ CertFaultKind.Memory) × RowShows kind node.now) }
+    ensures faultless { IfOk result (λ _. row_fault node.now ≡ None) }
+    ensures named { IfErr result (λ kind. row_fault node.now ≡ Some kind) }
 {
     let Some(rest) = node.headed(b"by") else {
         return Err(CertFaultKind::Shape);
@@ -112,6 +115,8 @@ fn sha256_of<'a>(node: &Node<'_, 'a>) -> Result<Octets<'a>, CertFaultKind>
     ensures digest { IfOk result (λ digest. HashOf node.now HashAlg.Sha256 digest) }
     ensures refused { IfErr result (λ _. (digest : List ℕ) → ¬ HashOf node.now HashAlg.Sha256 digest) }
     ensures shown { IfErr result (λ kind. (kind ≢ CertFaultKind.Memory) × HashShows kind node.now) }
+    ensures faultless { IfOk result (λ _. sha256_fault node.now ≡ None) }
+    ensures named { IfErr result (λ kind. sha256_fault node.now ≡ Some kind) }
 {
     let (alg, digest) = hash_of(node)?;
     match alg {

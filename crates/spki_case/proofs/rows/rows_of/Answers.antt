@@ -1,4 +1,4 @@
-use Rattle.std.proofs.Common.{◌≡◌, ◌∷◌, ◌++◌, [], List, map, ap, sym, subst, arith, ◌∙◌}
+use Rattle.std.proofs.Common.{◌≡◌, ◌∷◌, ◌++◌, [], List, map, ap, sym, subst, arith, ◌∙◌, refl}
 use Rattle.std.specs.List.{AllZip}
 use Rattle.std.proofs.lemmas.List.{map-append, length-map}
 use Rattle.std.proofs.lemmas.Slice.Zip.{AllZip-long}
@@ -7,6 +7,9 @@ use Rattle.spki_cert.proofs.EntryLaws.{items-push}
 use Rattle.spki_case.specs.Case.{Row}
 use Rattle.spki_case.specs.Rows.{RowOf}
 use Rattle.spki_case.specs.View.{row_of}
+use Rattle.spki_cert.proofs.EntryFaultLaws.{items-all, items-next}
+use Rattle.spki_case.specs.RowFaults.{row_fault}
+use Rattle.spki_case.proofs.RowFaultLaws.{first-row}
 use Rattle.spki_case.proofs.rows.rows_of.Goals as goal
 
 pub returns-in-Err-clause-refused : goal.returns-in-Err-clause-refused
@@ -28,6 +31,8 @@ returns-in-Err-clause-refused c =
         none = c.in-Err.ensures.refused;
       };
       shown = c.in-Err.ensures.shown.1;
+      named = first-row c.args.members i.0 c.loop-member.rest c.in-Some.others c.in-Some.member _ i.3 c.in-Some.ensures c.in-Err.ensures.named
+          (let e = c.len-item.ensures in omega arith);
     }
 
 pub loop-member-preserved : goal.loop-member-preserved
@@ -41,4 +46,13 @@ loop-member-preserved c =
       i.0 ++ v ∷ [],
       moved c.args.members i.0 c.in-Some.others v e,
       subst (λ (rows : List Row). AllZip RowOf (i.0 ++ v ∷ []) rows) (sym grown) more,
+      items-next row_fault c.args.members i.0 c.loop-member.rest c.in-Some.others v i.3 c.in-Some.ensures c.in-Ok.ensures.faultless,
     )
+
+pub loop-member-init : goal.loop-member-init
+loop-member-init c = (
+  [],
+  refl,
+  subst (λ (rows : List Row). AllZip RowOf [] rows) (sym (ap (map row_of) c.new-rows.ensures.items)) tt,
+  items-all row_fault c.args.members,
+)

@@ -1,4 +1,4 @@
-use Rattle.std.proofs.Common.{◌≢◌, List, refl, sym, subst, ◌∙◌, rules, inr}
+use Rattle.std.proofs.Common.{◌≢◌, List, refl, sym, subst, ◌∙◌, rules, inl, inr, Option, Some, ◌≡◌}
 use Rattle.sexpr_core.specs.Value.{Value}
 use Rattle.spki_cert.specs.declared.fault.CertFaultKind.TheVariants as kinds
 use Rattle.spki_cert.specs.Entries.{AclRefused}
@@ -10,7 +10,15 @@ use Rattle.spki_case.specs.Rows.{RowsRefused}
 use Rattle.spki_case.proofs.Lacking.{lacks}
 use Rattle.spki_case.proofs.RowLaws.{no_rows_at}
 use Rattle.spki_case.proofs.Signed.{signed}
+use Rattle.spki_tag.specs.declared.fault.TagFault.{TagFault}
+use Rattle.spki_tag.specs.declared.fault.TagFault.TheVariants as tag_faults
+use Rattle.spki_tag.specs.FaultOf.{IsNamed}
 use Rattle.spki_case.proofs.cases.Case.of.Goals as goal
+
+request-named : (fault : TagFault) (found : Option TagFault) → IsNamed fault found → fault ≢ tag_faults.Memory → found ≡ Some fault
+unfolding IsNamed
+request-named fault found (inl lack) known = absurd (known lack)
+request-named fault found (inr named) known = named
 
 pub returns-in-Err-clause-refused : goal.returns-in-Err-clause-refused
 returns-in-Err-clause-refused c =
@@ -18,7 +26,12 @@ returns-in-Err-clause-refused c =
     let parts : Parts = h.0 in
     lacks c.args.node.now parts _ _ c.acl_fault.result h.1 c.acl_fault.ensures (λ known.
     let refused : AclRefused (acl_value parts) c.in-Err.fault = subst (λ (v : Value). AclRefused v c.in-Err.fault) h.2.acl (c.in-Err.ensures.refused known) in
-    record { found = known; refused = refused; none = refused-acl (acl_value parts) c.in-Err.fault refused })
+    record {
+      found = known;
+      refused = refused;
+      named = rw h.2.acl at (c.in-Err.ensures.named known);
+      none = refused-acl (acl_value parts) c.in-Err.fault refused;
+    })
 
 pub returns-in-Err-table_of-clause-refused : goal.returns-in-Err-table_of-clause-refused
 returns-in-Err-table_of-clause-refused c =
@@ -42,6 +55,7 @@ returns-in-Err-sequence_of-clause-refused c =
       before = reads;
       found = known;
       refused = refused;
+      named = rw h.2.sequence at (c.in-Err-sequence_of.ensures.named known);
       none = refused-sequence (sequence_value parts) c.in-Err-sequence_of.fault refused;
     })
 
@@ -59,6 +73,7 @@ returns-in-Err-key_of-clause-refused c =
         outer = rw c.outer_fault.ensures refl;
         found = found;
         shows = (let shown = rw h.2.key at c.in-Err-key_of.ensures.shown in rw c.outer_fault.ensures shown);
+        named = (let named = rw h.2.key at c.in-Err-key_of.ensures.named in rw c.outer_fault.ensures named);
         none = λ key e. c.in-Err-key_of.ensures.refused key (rw h.2.key e);
       };
     })
@@ -72,6 +87,7 @@ returns-in-Err-of-clause-refused c =
       before = reads;
       found = known;
       shows = (rw h.2.request at c.in-Err-of.ensures.shows);
+      named = request-named c.in-Err-of.fault _ (rw h.2.request at c.in-Err-of.ensures.named) known;
       none = λ g e. known (c.in-Err-of.ensures.refused g e.is_request (e.written ∙ sym h.2.request));
     })
 
