@@ -1,12 +1,13 @@
 //! The intersection of tags without members.
 
-ghost use Rattle.std.specs.Prelude.{◌≡◌, IsTrue, IfOk, option_map};
+ghost use Rattle.std.specs.Prelude.{◌≡◌, Some, IsTrue, IfOk, option_map};
 ghost use Rattle.std.specs.Arc.{arc_slice_items};
 ghost use Rattle.spki_tag.specs.Leaves.{ordering_of, limit_of, leaf_tag, leaf_or_nothing};
+ghost use Rattle.spki_tag.specs.Tag.{range};
 ghost use Rattle.spki_tag.specs.Meet.{greater_low, lesser_up, ordering_meet, ranged, prefixes_meet, string_meet, meet};
 
 use crate::leaf::{Leaf, Limit, RangeOrdering, SharedOctets, copied_limit};
-use crate::limit_meeting::{exclude, greater_low, lesser_up};
+use crate::limit_meeting::{exclude, greater_low, lesser_up, low_stays, up_stays};
 use crate::prefix::Prefix;
 use std::alloc::AllocError;
 
@@ -70,6 +71,50 @@ fn meet_ranges(
     )
 }
 
+/// Whether the strings of one ordering are all of another.
+fn ordering_stays(one: RangeOrdering, other: RangeOrdering) -> bool
+    ensures { IsTrue result → ordering_meet (ordering_of one) (ordering_of other) ≡ Some (ordering_of one) }
+{
+    match other {
+        RangeOrdering::Alpha => true,
+        RangeOrdering::Time => match one {
+            RangeOrdering::Alpha => false,
+            RangeOrdering::Time => true,
+            RangeOrdering::Date => false,
+        },
+        RangeOrdering::Date => match one {
+            RangeOrdering::Alpha => false,
+            RangeOrdering::Time => false,
+            RangeOrdering::Date => true,
+        },
+    }
+}
+
+/// Whether a range stays as it is where it is met with another.
+fn range_stays(
+    ordering: RangeOrdering,
+    low: &Option<Limit>,
+    up: &Option<Limit>,
+    other: RangeOrdering,
+    other_low: &Option<Limit>,
+    other_up: &Option<Limit>,
+) -> bool
+    ensures { IsTrue result → ranged (ordering_meet (ordering_of ordering) (ordering_of other))
+        (greater_low (limit_of low.now) (limit_of other_low.now)) (lesser_up (limit_of up.now) (limit_of other_up.now))
+        ≡ range (ordering_of ordering) (limit_of low.now) (limit_of up.now) }
+{
+    if !ordering_stays(ordering, other) {
+        return false;
+    }
+    if !low_stays(low, other_low) {
+        return false;
+    }
+    if !up_stays(up, other_up) {
+        return false;
+    }
+    !exclude(low, up)
+}
+
 /// A string, if a tag contains it.
 fn meet_string(octets: &SharedOctets, other: &Leaf) -> Result<Option<Leaf>, AllocError>
     ensures { IfOk result (λ r. leaf_or_nothing r ≡ string_meet (arc_slice_items octets.now) (leaf_tag other.now)) }
@@ -95,7 +140,8 @@ fn meet_prefixes(one: &Prefix, other: &Prefix) -> Result<Option<Leaf>, AllocErro
 }
 
 impl Leaf {
-    /// Whether a tag without members stays as it is where it is met with another, as far as strings and prefixes tell.
+    /// Whether a tag without members stays as it is where it is met with another, as far as is told without making
+    /// anything.
     pub(crate) fn stays(&self, other: &Leaf) -> bool
         ensures { IsTrue result → meet (leaf_tag self.now) (leaf_tag other.now) ≡ leaf_tag self.now }
     {
@@ -107,8 +153,15 @@ impl Leaf {
                 Leaf::String(_) => false,
                 Leaf::Range(_, _, _) => false,
             },
+            Leaf::Range(ordering, low, up) => match other {
+                Leaf::Range(second, second_low, second_up) => {
+                    range_stays(*ordering, low, up, *second, second_low, second_up)
+                }
+                Leaf::Star => false,
+                Leaf::String(_) => false,
+                Leaf::Prefix(_) => false,
+            },
             Leaf::Star => false,
-            Leaf::Range(_, _, _) => false,
         }
     }
 

@@ -1,6 +1,6 @@
 //! What limits of ranges leave together.
 
-ghost use Rattle.std.specs.Prelude.{◌≡◌};
+ghost use Rattle.std.specs.Prelude.{◌≡◌, IsTrue};
 ghost use Rattle.spki_tag.specs.Leaves.{limit_of};
 ghost use Rattle.spki_tag.specs.Meet.{greater_low, lesser_up, exclude};
 
@@ -39,6 +39,42 @@ pub(crate) fn lesser_up<'a>(one: &'a Option<Limit>, other: &'a Option<Limit>) ->
                 } else {
                     other
                 }
+            }
+        },
+    }
+}
+
+/// Whether a lower limit stays where it is met with another, so that it is the greater.
+pub(crate) fn low_stays(one: &Option<Limit>, other: &Option<Limit>) -> bool
+    ensures { IsTrue result → greater_low (limit_of one.now) (limit_of other.now) ≡ limit_of one.now }
+{
+    match one {
+        None => match other {
+            None => true,
+            Some(_) => false,
+        },
+        Some(low) => match other {
+            None => true,
+            Some(second) => {
+                is_within(!low.strict, second.octets.as_slice(), low.octets.as_slice())
+            }
+        },
+    }
+}
+
+/// Whether an upper limit stays where it is met with another, so that it is the lesser.
+pub(crate) fn up_stays(one: &Option<Limit>, other: &Option<Limit>) -> bool
+    ensures { IsTrue result → lesser_up (limit_of one.now) (limit_of other.now) ≡ limit_of one.now }
+{
+    match one {
+        None => match other {
+            None => true,
+            Some(_) => false,
+        },
+        Some(up) => match other {
+            None => true,
+            Some(second) => {
+                is_within(!up.strict, up.octets.as_slice(), second.octets.as_slice())
             }
         },
     }
