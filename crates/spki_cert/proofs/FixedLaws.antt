@@ -39,11 +39,11 @@ unfolding key_fault
 key-unheaded v other = of-no_form (codes "public-key") v Shape _ other
 
 -- what is looked at in a key, by its head and what stands behind it
-abbrev key_looked : Bool → List Value → Option CertFaultKind
+abbrev pub key_looked : Bool → List Value → Option CertFaultKind
 key_looked headed rest =
     first_fault (unless headed Shape ∷ fault_at 0 Shape (λ body. unless (begins_plain body) Shape) rest ∷ behind_key (drop 1 rest) ∷ [])
 
-key-form : (v : Value) (rest : List Value) → v ≡ group (plain (codes "public-key") ∷ rest) → key_fault v ≡ key_looked true rest
+pub key-form : (v : Value) (rest : List Value) → v ≡ group (plain (codes "public-key") ∷ rest) → key_fault v ≡ key_looked true rest
 unfolding key_fault
 key-form v rest e = of-form key_looked (codes "public-key") v rest e
 
