@@ -10,3 +10,4 @@ pub mod FirstRows
 pub mod LackingRow
 pub mod Unrefused
 pub mod RowFaultLaws
+pub mod OneFault

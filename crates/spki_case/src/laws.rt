@@ -3,8 +3,8 @@
 ghost use Rattle.std.specs.Prelude.{◌≡◌, ℕ, List};
 ghost use Rattle.sexpr_core.specs.Value.{Value};
 ghost use Rattle.spki_case.specs.Case.{Case, Row};
-ghost use Rattle.spki_case.specs.CaseForm.{CaseOf, IsCaseText, TextRefused};
-ghost use Rattle.spki_case.specs.RowsForm.{IsRowsText, RowsTextRefused};
+ghost use Rattle.spki_case.specs.CaseForm.{CaseOf, ValueRefused, IsCaseText, TextRefused};
+ghost use Rattle.spki_case.specs.RowsForm.{NoRows, IsRowsText, RowsTextRefused};
 ghost use Rattle.spki_case.specs.declared.cases.CaseFault.{CaseFault};
 ghost use Rattle.spki_case.specs.declared.rows.RowsFault.{RowsFault};
 ghost use Rattle.spki_case.specs.Rows.{RowOf};
@@ -29,4 +29,10 @@ pub fn no_refusal()
 pub fn one_case()
     ensures value { (v : Value) (c d : Case) → CaseOf v c → CaseOf v d → c ≡ d }
     ensures text { (text : List ℕ) (c d : Case) → IsCaseText text c → IsCaseText text d → c ≡ d }
+{}
+
+/// A value that is refused as a case, or as an accepted list, is refused by one fault: the same part, item and kind.
+pub fn one_fault()
+    ensures case { (v : Value) (f g : CaseFault) → ValueRefused v f → ValueRefused v g → f ≡ g }
+    ensures rows { (v : Value) (f g : RowsFault) → NoRows v f → NoRows v g → f ≡ g }
 {}

@@ -279,7 +279,7 @@ cert-else : (v : Value) → is_headed (codes "issuer") v ≡ false → is_headed
 unfolding cert_field_fault
 cert-else v p q r s = λ i. cert_looked (p i) (q i) (r i) (s i) (behind_head v) (entry_field_fault v)
 
-is-headed : (word : List ℕ) (v : Value) → is_headed word v ≡ true → (rest : List Value) × (v ≡ group (plain word ∷ rest))
+pub is-headed : (word : List ℕ) (v : Value) → is_headed word v ≡ true → (rest : List Value) × (v ≡ group (plain word ∷ rest))
 is-headed word (sexpr.string hint octets) e = absurd (cc)
 is-headed word (sexpr.list sexpr.none) e = absurd (cc)
 is-headed word (sexpr.list (sexpr.more (sexpr.list vs) others)) e = absurd (cc)

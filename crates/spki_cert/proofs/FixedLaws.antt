@@ -39,11 +39,11 @@ unfolding key_fault
 key-unheaded v other = of-no_form (codes "public-key") v Shape _ other
 
 -- what is looked at in a key, by its head and what stands behind it
-abbrev key_looked : Bool → List Value → Option CertFaultKind
+abbrev pub key_looked : Bool → List Value → Option CertFaultKind
 key_looked headed rest =
     first_fault (unless headed Shape ∷ fault_at 0 Shape (λ body. unless (begins_plain body) Shape) rest ∷ behind_key (drop 1 rest) ∷ [])
 
-key-form : (v : Value) (rest : List Value) → v ≡ group (plain (codes "public-key") ∷ rest) → key_fault v ≡ key_looked true rest
+pub key-form : (v : Value) (rest : List Value) → v ≡ group (plain (codes "public-key") ∷ rest) → key_fault v ≡ key_looked true rest
 unfolding key_fault
 key-form v rest e = of-form key_looked (codes "public-key") v rest e
 
@@ -131,7 +131,7 @@ alg-known v alg e = alg-plain v (alg_name alg) (Some alg) e (named-alg alg)
 
 -- ---- hashes
 
-abbrev hash_looked : Bool → List Value → Option CertFaultKind
+abbrev pub hash_looked : Bool → List Value → Option CertFaultKind
 hash_looked headed rest =
     first_fault (
     unless headed Shape
@@ -149,7 +149,7 @@ pub hash-unheaded : (v : Value) → IsNotHeaded v (codes "hash") → hash_fault 
 unfolding hash_fault
 hash-unheaded v other = of-no_form (codes "hash") v Shape _ other
 
-hash-form : (v : Value) (rest : List Value) → IsHashed v rest → hash_fault v ≡ hash_looked true rest
+pub hash-form : (v : Value) (rest : List Value) → IsHashed v rest → hash_fault v ≡ hash_looked true rest
 unfolding hash_fault
 hash-form v rest e = of-form hash_looked (codes "hash") v rest e
 

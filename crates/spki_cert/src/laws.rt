@@ -1,11 +1,12 @@
 //! Laws of keys, certificates and access lists, as they are written.
 
-ghost use Rattle.std.specs.Prelude.{◌≡◌, ℕ, List};
+ghost use Rattle.std.specs.Prelude.{◌≡◌, ◌↔◌, ℕ, List, None};
 ghost use Rattle.sexpr_core.specs.Value.{Value};
 ghost use Rattle.spki_cert.specs.declared.hash.HashAlg.{HashAlg};
 ghost use Rattle.spki_cert.specs.declared.entry.Entry.{Entry};
 ghost use Rattle.spki_cert.specs.declared.certificate.SeqItem.{SeqItem};
 ghost use Rattle.spki_cert.specs.Readings.{KeyOf, HashOf, DateOf};
+ghost use Rattle.spki_cert.specs.FixedFaults.{key_fault, hash_fault, date_fault};
 ghost use Rattle.spki_cert.specs.Entries.{AclOf};
 ghost use Rattle.spki_cert.specs.Sequences.{SeqOf};
 
@@ -32,4 +33,11 @@ pub fn one_acl()
 /// A value has at most one reading as a sequence.
 pub fn one_sequence()
     ensures { (v : Value) (is js : List SeqItem) → SeqOf v is → SeqOf v js → is ≡ js }
+{}
+
+/// A value has no fault as a key, a hash or a date exactly if it is one.
+pub fn no_fault()
+    ensures key { (v : Value) → (key_fault v ≡ None) ↔ ((octets : List ℕ) × KeyOf v octets) }
+    ensures hash { (v : Value) → (hash_fault v ≡ None) ↔ ((alg : HashAlg) × (digest : List ℕ) × HashOf v alg digest) }
+    ensures date { (v : Value) → (date_fault v ≡ None) ↔ ((octets : List ℕ) × DateOf v octets) }
 {}

@@ -1,0 +1,156 @@
+-- A value has no fault as a key, a hash or a date exactly where it is one.
+use Rattle.std.proofs.Common.{◌≡◌, ℕ, List, [], ◌∷◌, ◌++◌, length, arith, Bool, true, false, Option, Some, None, refl, sym, ap, ◌∙◌}
+use Rattle.std.specs.Prelude.{codes, ◌↔◌, ◌==◌, is_some, if◌then◌else◌}
+use Rattle.std.specs.Str.{bytes_eq}
+use Rattle.std.proofs.lemmas.Slice.Eq.{bytes_eq-Decides}
+use Rattle.sexpr_core.specs.Value.{Value, plain, group, members, canon}
+use Rattle.sexpr_core.specs.Value as sexpr
+use Rattle.sexpr_core.specs.Labels.{values-members}
+use Rattle.spki_tag.specs.Time.{is_date}
+use Rattle.spki_tag.specs.FirstFault.{first_fault, unless}
+use Rattle.spki_cert.specs.declared.fault.CertFaultKind.{CertFaultKind}
+use Rattle.spki_cert.specs.declared.fault.CertFaultKind.TheVariants.{Shape, HashAlg as UnknownAlg, DigestLength, BadDate}
+use Rattle.spki_cert.specs.declared.hash.HashAlg.{HashAlg}
+use Rattle.spki_cert.specs.declared.hash.HashAlg.TheVariants.{Sha1, Sha256, Sha512}
+use Rattle.spki_cert.specs.Readings.{KeyOf, HashOf, DateOf, IsAlgorithm, AreUris, alg_name, digest_len}
+use Rattle.spki_cert.specs.Fields.{is_headed}
+use Rattle.spki_cert.specs.FixedFaults.{is_plain, any_octets, begins_plain, behind_key, key_fault, is_alg, alg_fault, is_sized, digest_fits, are_uris, hash_fault, date_fault}
+use Rattle.spki_cert.proofs.FixedLaws.{key_looked, key-form, key-whole, named-alg, digest-sized, hash_looked, hash-form, hash-whole, date-tested}
+use Rattle.spki_cert.proofs.FieldFaultLaws.{is-headed}
+
+-- ---- what is looked at without a fault
+
+unless-none : {A : Type 0} (b : Bool) (fault : A) → unless b fault ≡ None → b ≡ true
+unless-none true fault e = refl
+unless-none false fault e = absurd (cc)
+
+abbrev AreNone : {A : Type 0} → Option A → List (Option A) → Type 0
+AreNone look looks = (look ≡ None) × (first_fault looks ≡ None)
+
+none-found : {A : Type 0} (look : Option A) (looks : List (Option A)) → first_fault (look ∷ looks) ≡ None → AreNone look looks
+none-found None looks e = (refl, e)
+none-found (Some fault) looks e = absurd (cc)
+
+-- ---- keys
+
+algorithm : (v : Value) → begins_plain v ≡ true → IsAlgorithm v
+algorithm (sexpr.string hint octets) e = absurd (cc)
+algorithm (sexpr.list sexpr.none) e = absurd (cc)
+algorithm (sexpr.list (sexpr.more (sexpr.list us) vs)) e = absurd (cc)
+algorithm (sexpr.list (sexpr.more (sexpr.string (Some hint) octets) vs)) e = absurd (cc)
+algorithm (sexpr.list (sexpr.more (sexpr.string None octets) vs)) e =
+    (octets, members vs, λ i. sexpr.list (sexpr.more (sexpr.string None octets) (sym (values-members vs) i)))
+
+abbrev SomeKey : Value → Type 0
+SomeKey v = (octets : List ℕ) × KeyOf v octets
+
+key-of : (v : Value) (rest : List Value) → v ≡ group (plain (codes "public-key") ∷ rest) → key_looked true rest ≡ None → SomeKey v
+key-of v [] e f = absurd (cc)
+key-of v (body ∷ []) e f =
+    let looks = none-found (unless (begins_plain body) Shape) (None ∷ []) f in
+    (canon v, record { body = body; algorithm = algorithm body (unless-none (begins_plain body) Shape looks.0); written = e; canonical = refl })
+key-of v (body ∷ third ∷ rest) e f = (
+    let looks = none-found (unless (begins_plain body) Shape) (behind_key (third ∷ rest) ∷ []) f in
+    let g = looks.1 in absurd (cc)
+    )
+
+key-read : (v : Value) → key_fault v ≡ None → SomeKey v
+unfolding key_fault
+key-read v e =
+    let looks = none-found (unless (is_headed (codes "public-key") v) Shape) _ e in
+    let form = is-headed (codes "public-key") v (unless-none (is_headed (codes "public-key") v) Shape looks.0) in
+    key-of v form.0 form.1 (sym (key-form v form.0 form.1) ∙ e)
+
+pub key-none : (v : Value) → (key_fault v ≡ None) ↔ SomeKey v
+key-none v = (key-read v, λ key. key-whole v key.1.body (key.1.body ∷ []) [] key.1.written refl key.1.algorithm refl)
+
+-- ---- hashes
+
+named-read : (word : List ℕ) → is_alg word ≡ true → (alg : HashAlg) × (word ≡ alg_name alg)
+named-read word e = by (bytes_eq word (codes "sha1")) (bytes_eq word (codes "sha256")) (bytes_eq word (codes "sha512")) refl refl refl e
+  where
+    by : (a b d : Bool) → bytes_eq word (codes "sha1") ≡ a → bytes_eq word (codes "sha256") ≡ b → bytes_eq word (codes "sha512") ≡ d
+        → is_some (if a then Some Sha1 else (if b then Some Sha256 else (if d then Some Sha512 else None))) ≡ true → (alg : HashAlg) × (word ≡ alg_name alg)
+    by true b d f g h k = (Sha1, (bytes_eq-Decides word (codes "sha1")).0 f)
+    by false true d f g h k = (Sha256, (bytes_eq-Decides word (codes "sha256")).0 g)
+    by false false true f g h k = (Sha512, (bytes_eq-Decides word (codes "sha512")).0 h)
+    by false false false f g h k = absurd (cc)
+
+alg-read : (v : Value) → alg_fault v ≡ None → (alg : HashAlg) × (v ≡ plain (alg_name alg))
+unfolding alg_fault
+alg-read (sexpr.string None octets) e =
+    let looks = none-found (unless (is_alg octets) UnknownAlg) [] e in
+    let read = named-read octets (unless-none (is_alg octets) UnknownAlg looks.0) in (read.0, ap plain read.1)
+alg-read (sexpr.string (Some hint) octets) e = absurd (cc)
+alg-read (sexpr.list vs) e = absurd (cc)
+
+plain-read : (v : Value) → is_plain any_octets v ≡ true → (octets : List ℕ) × (v ≡ plain octets)
+plain-read (sexpr.string None octets) e = (octets, refl)
+plain-read (sexpr.string (Some hint) octets) e = absurd (cc)
+plain-read (sexpr.list vs) e = absurd (cc)
+
+uris-read : (vs : List Value) → are_uris vs ≡ true → AreUris vs
+uris-read [] e = tt
+uris-read (v ∷ []) e = is-headed (codes "uri") v e
+uris-read (v ∷ w ∷ vs) e = absurd (cc)
+
+sized-read : (m n : ℕ) → (m == n) ≡ true → m ≡ n
+sized-read m n e = grind (arith, e)
+
+abbrev SomeHash : Value → Type 0
+SomeHash v = (alg : HashAlg) × (digest : List ℕ) × HashOf v alg digest
+
+hash-of : (v : Value) (rest : List Value) → v ≡ group (plain (codes "hash") ∷ rest) → hash_looked true rest ≡ None → SomeHash v
+hash-of v [] e f = absurd (cc)
+hash-of v (word ∷ []) e f = (let g = (none-found (alg_fault word) _ f).1 in absurd (cc))
+hash-of v (word ∷ digest ∷ others) e f =
+    let a = none-found (alg_fault word) _ f in
+    let b = none-found (unless (is_plain any_octets digest) Shape) _ a.1 in
+    let d = none-found (unless (digest_fits (word ∷ digest ∷ others)) DigestLength) _ b.1 in
+    let u = none-found (unless (are_uris others) Shape) [] d.1 in
+    let alg = alg-read word a.0 in
+    let octets = plain-read digest (unless-none (is_plain any_octets digest) Shape b.0) in
+    let fits : (length octets.0 == digest_len alg.0) ≡ true =
+    ap (λ (found : Option HashAlg). is_sized found octets.0) (sym (named-alg alg.0))
+    ∙ (λ i. digest_fits (sym alg.1 i ∷ sym octets.1 i ∷ others))
+    ∙ unless-none (digest_fits (word ∷ digest ∷ others)) DigestLength d.0 in (
+      alg.0,
+      octets.0,
+      record {
+        octets = digest;
+        further = others;
+        written = e ∙ ap (λ (w : Value). group (plain (codes "hash") ∷ w ∷ digest ∷ others)) alg.1;
+        digest_is = record { written = octets.1; sized = sized-read (length octets.0) (digest_len alg.0) fits };
+        uris = uris-read others (unless-none (are_uris others) Shape u.0);
+      },
+    )
+
+hash-read : (v : Value) → hash_fault v ≡ None → SomeHash v
+unfolding hash_fault
+hash-read v e =
+    let looks = none-found (unless (is_headed (codes "hash") v) Shape) _ e in
+    let form = is-headed (codes "hash") v (unless-none (is_headed (codes "hash") v) Shape looks.0) in
+    hash-of v form.0 form.1 (sym (hash-form v form.0 form.1) ∙ e)
+
+pub hash-none : (v : Value) → (hash_fault v ≡ None) ↔ SomeHash v
+hash-none v = (
+  hash-read v,
+  λ hash.
+      let read = hash.2 in
+      hash-whole v (plain (alg_name hash.0)) read.octets (plain (alg_name hash.0) ∷ read.octets ∷ read.further) (read.octets ∷ read.further) read.further hash.0
+      read.written refl refl refl (digest-sized hash.0 read.octets hash.1 read.digest_is.written read.digest_is.sized) read.uris,
+)
+
+-- ---- dates
+
+abbrev SomeDate : Value → Type 0
+SomeDate v = (octets : List ℕ) × DateOf v octets
+
+date-read : (v : Value) → date_fault v ≡ None → SomeDate v
+unfolding date_fault
+date-read (sexpr.string None octets) e = (octets, record { written = refl; date = unless-none (is_date octets) BadDate e })
+date-read (sexpr.string (Some hint) octets) e = absurd (cc)
+date-read (sexpr.list vs) e = absurd (cc)
+
+pub date-none : (v : Value) → (date_fault v ≡ None) ↔ SomeDate v
+date-none v = (date-read v, λ date. date-tested v date.0 true date.1.written date.1.date)
