@@ -172,12 +172,14 @@ def bench(name):
 
 def most_work():
     """The texts that ask for the most work known, each with what its answer begins with."""
-    check, convert, intersect, long = map(bench, ("check", "convert", "intersect", "chains"))
+    check, convert, intersect, long, slowest = map(bench, ("check", "convert", "intersect", "chains", "slowest"))
     for make in (check.many_entries, check.many_structures, check.many_certificates, check.many_members, check.lists_in_lists, check.one_string, check.no_value):
         text, answer = make(MOST_OCTETS)
         yield make.__name__, "check", text, answer
     for make in (long.by_keys, long.by_hashes, long.through_names):
         yield make.__name__, "check", make(long.LENGTHS[-1]), b"yes entry 1\n"
+    for make in (slowest.entries_and_chain, slowest.long_key, slowest.long_issuer, slowest.long_name):
+        yield make.__name__, "check", make(MOST_OCTETS)[1], b"no\n"
     for what, text, answer in long.widest():
         yield what, "check", text, answer
         yield what, "explain", text, b"entry 1 "

@@ -1,21 +1,25 @@
 //! The names that lead on from a principal.
 
-ghost use Rattle.std.specs.Prelude.{◌≡◌, ◌↔◌, ℕ, List, [], length, IsTrue};
+ghost use Rattle.std.specs.Prelude.{◌≡◌, ◌↔◌, ◌++◌, ◌∷◌, ◌<◌, ℕ, List, [], length, drop, slice_get, Some, IsTrue, IfOk, MatchOption};
 
 use crate::octets::Octets;
 use std::alloc::AllocError;
 use std::marker::Model;
 
-/// The names behind a principal, in order (RFC 2693, section 2.8).
+/// The names behind a principal, in order (RFC 2693, section 2.8). To take the first away, and to put others in front, takes no
+/// time for those that stay.
 #[derive(Drop)]
 pub struct Names<'a> {
-    names: Vec<Octets<'a>>,
+    from_last: Vec<Octets<'a>>,
 }
 
 impl<'a> Model for Names<'a> {
+    ghost use Rattle.std.specs.Prelude.{ℕ, List};
+    ghost use Rattle.std.proofs.Common.{reverse};
+
     ghost Value = { List (List ℕ) };
 
-    ghost view = { λ n. n.names.items };
+    ghost view = { λ n. reverse n.from_last.items };
 }
 
 impl<'a> Names<'a> {
@@ -23,28 +27,62 @@ impl<'a> Names<'a> {
     pub fn of(names: Vec<Octets<'a>>) -> Names<'a>
         ensures { result ≡ names.entry.items }
     {
-        Names { names }
-    }
-
-    /// The names as a slice.
-    pub fn as_slice(&self) -> &[Octets<'a>]
-        ensures { result.now ≡ self.now }
-    {
-        self.names.as_slice()
+        let mut from_last = names;
+        from_last.reverse();
+        Names { from_last }
     }
 
     /// How many names there are.
     pub fn len(&self) -> usize
         ensures { result ≡ length self.now }
     {
-        self.names.len()
+        self.from_last.len()
     }
 
     /// Whether there is no name.
     pub fn is_empty(&self) -> bool
         ensures { IsTrue result ↔ (self.now ≡ []) }
     {
-        self.names.is_empty()
+        self.from_last.is_empty()
+    }
+
+    /// The first name, if there is one.
+    pub fn first(&self) -> Option<&Octets<'a>>
+        ensures { MatchOption result (self.now ≡ []) (λ name. self.now ≡ name.now ∷ drop 1 self.now) }
+    {
+        self.from_last.last()
+    }
+
+    /// The name at a place, from 0.
+    pub fn at(&self, place: usize) -> &Octets<'a>
+        requires { place < length self.now }
+        ensures { slice_get self.now place ≡ Some result.now }
+    {
+        &self.from_last[self.from_last.len() - 1 - place]
+    }
+
+    /// The names behind the first.
+    pub fn behind_first(self) -> Names<'a>
+        ensures { result ≡ drop 1 self.entry }
+    {
+        let mut from_last = self.from_last;
+        from_last.pop();
+        Names { from_last }
+    }
+
+    /// These names behind others.
+    ///
+    /// # Errors
+    ///
+    /// Where memory was refused.
+    pub fn behind(self, others: &Names<'a>) -> Result<Names<'a>, AllocError>
+        ensures { IfOk result (λ names. names ≡ others.now ++ self.entry) }
+    {
+        let mut from_last = self.from_last;
+        for name in &others.from_last {
+            from_last.push(name.share())?;
+        }
+        Ok(Names { from_last })
     }
 }
 
@@ -54,7 +92,7 @@ impl<'a> Clone for Names<'a> {
 
     fn clone(&self) -> Result<Names<'a>, AllocError> {
         Ok(Names {
-            names: self.names.clone()?,
+            from_last: self.from_last.clone()?,
         })
     }
 }

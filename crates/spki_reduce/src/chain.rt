@@ -103,7 +103,7 @@ impl<'a> Five<'a> {
     {
         match step {
             Step::Auth(next) => self.into_then(alloc, next, policy),
-            Step::Name(definition) => self.into_resolve(alloc, definition, policy),
+            Step::Name(definition) => self.into_resolve(definition, policy),
         }
     }
 }

@@ -1,6 +1,6 @@
 //! The rules by which two tuples become one (RFC 2693, sections 6.3 and 6.4).
 
-ghost use Rattle.std.specs.Prelude.{◌≡◌, ◌≢◌, ◌↔◌, true, [], ◌∷◌, ◌++◌, ◌*◌, ◌<◌, IsTrue, IfOk, IfErr, OnOk, IfSome, IfNone, IsErrOf};
+ghost use Rattle.std.specs.Prelude.{◌≡◌, ◌≢◌, ◌↔◌, true, [], ◌∷◌, ◌++◌, ◌*◌, ◌<◌, IsTrue, IfOk, IfErr, drop, IsFalse, IsErrOf};
 ghost use Rattle.spki_cert.specs.Naming.{names};
 ghost use Rattle.spki_cert.specs.Time.{IsMeet, Overlap};
 ghost use Rattle.spki_tag.specs.Tag.{nodes, set, none};
@@ -14,7 +14,7 @@ ghost use Rattle.spki_reduce.specs.Reduced.{BecomesFive, BecomesFour, IsHandedOn
 use crate::fault::ReduceFault;
 use crate::fold::{Cause, Joined};
 use crate::tuple::{Five, Four, Issuer};
-use spki_cert::{Key, Names, Octets, Policy, Subject, Window};
+use spki_cert::{Key, Names, Policy, Subject, Window};
 use spki_tag::Tag;
 use std::alloc::{AllocError, Global};
 
@@ -93,7 +93,7 @@ impl<'a> Five<'a> {
     /// `Memory` where memory ran out, and no other.
     pub fn resolve(
         &self,
-        alloc: Global,
+        _alloc: Global,
         definition: &Four<'a>,
         policy: Policy,
     ) -> Result<Joined<Five<'a>>, ReduceFault>
@@ -103,13 +103,12 @@ impl<'a> Five<'a> {
             (λ cause. Stops policy (five (five_tuple self.now)) (four (four_tuple definition.now)) cause)) }
         ensures refused { IfErr result (λ fault. fault ≡ ReduceFault.Memory) }
     {
-        self.copy()?.into_resolve(alloc, definition, policy)
+        self.copy()?.into_resolve(definition, policy)
     }
 
     /// As `resolve`, for which this authorization is used up.
     pub(crate) fn into_resolve(
         self,
-        alloc: Global,
         definition: &Four<'a>,
         policy: Policy,
     ) -> Result<Joined<Five<'a>>, ReduceFault>
@@ -119,13 +118,13 @@ impl<'a> Five<'a> {
             (λ cause. Stops policy (five (five_tuple self.entry)) (four (four_tuple definition.now)) cause)) }
         ensures refused { IfErr result (λ fault. fault ≡ ReduceFault.Memory) }
     {
-        let Some(rest) = names_behind(&self.subject, definition, policy) else {
+        if !begins(&self.subject, definition, policy) {
             return Ok(Joined::Stopped(Cause::NotTheName));
-        };
+        }
         let Some(window) = self.window.meet(&definition.window) else {
             return Ok(Joined::Stopped(Cause::NoValidity));
         };
-        let subject = followed(alloc, &definition.subject, rest)?;
+        let subject = followed(&definition.subject, self.subject.names)?;
         Ok(Joined::Done(Five {
             issuer: self.issuer,
             subject,
@@ -206,7 +205,7 @@ impl<'a> Four<'a> {
     /// `Memory` where memory ran out, and no other.
     pub fn then(
         &self,
-        alloc: Global,
+        _alloc: Global,
         next: &Four<'a>,
         policy: Policy,
     ) -> Result<Joined<Four<'a>>, ReduceFault>
@@ -215,68 +214,44 @@ impl<'a> Four<'a> {
             (λ cause. Stops policy (four (four_tuple self.now)) (four (four_tuple next.now)) cause)) }
         ensures refused { IfErr result (λ fault. fault ≡ ReduceFault.Memory) }
     {
-        let Some(rest) = names_behind(&self.subject, next, policy) else {
+        if !begins(&self.subject, next, policy) {
             return Ok(Joined::Stopped(Cause::NotTheName));
-        };
+        }
         let Some(window) = self.window.meet(&next.window) else {
             return Ok(Joined::Stopped(Cause::NoValidity));
         };
         Ok(Joined::Done(Four {
             key: self.key.share(),
             name: self.name.share(),
-            subject: followed(alloc, &next.subject, rest)?,
+            subject: followed(&next.subject, self.subject.names.clone()?)?,
             window,
         }))
     }
 }
 
-/// The names behind a subject's first name, if that is the name that the definition is of.
-fn names_behind<'s, 'a>(
-    subject: &'s Subject<'a>,
-    definition: &Four,
-    policy: Policy,
-) -> Option<&'s [Octets<'a>]>
-    ensures begins { IfSome result (λ rest. IsTrue (names policy subject.now.principal definition.now.key)
-        × (subject.now.names ≡ definition.now.name ∷ rest.now)) }
-    ensures other { IfNone result
-        (¬ Begins policy subject.now.principal subject.now.names (four_tuple definition.now)) }
+/// Whether a subject begins with the name that the definition is of.
+fn begins(subject: &Subject, definition: &Four, policy: Policy) -> bool
+    ensures begins { IsTrue result → IsTrue (names policy subject.now.principal definition.now.key)
+        × (subject.now.names ≡ definition.now.name ∷ drop 1 subject.now.names) }
+    ensures other { IsFalse result
+        → ¬ Begins policy subject.now.principal subject.now.names (four_tuple definition.now) }
 {
-    match subject.names.as_slice() {
-        [] => None,
-        [first, rest @ ..] => {
+    match subject.names.first() {
+        None => false,
+        Some(first) => {
             let named = subject.principal.names(&definition.key, policy);
-            if named && first.same(&definition.name) {
-                Some(rest)
-            } else {
-                None
-            }
+            named && first.same(&definition.name)
         }
     }
 }
 
-/// The definition's subject with further names behind its own.
-fn followed<'a>(
-    alloc: Global,
-    subject: &Subject<'a>,
-    rest: &[Octets<'a>],
-) -> Result<Subject<'a>, AllocError>
+/// The definition's subject, with the names behind the first of these behind its own.
+fn followed<'a>(subject: &Subject<'a>, names: Names<'a>) -> Result<Subject<'a>, AllocError>
     ensures { IfOk result (λ made. (made.principal ≡ subject.now.principal)
-        × (made.names ≡ subject.now.names ++ rest.now)) }
+        × (made.names ≡ subject.now.names ++ drop 1 names.entry)) }
 {
-    let mut names = Vec::new(alloc);
-    push_names(&mut names, subject.names.as_slice())?;
-    push_names(&mut names, rest)?;
     Ok(Subject {
         principal: subject.principal.share(),
-        names: Names::of(names),
+        names: names.behind_first().behind(&subject.names)?,
     })
-}
-
-fn push_names<'a>(names: &mut Vec<Octets<'a>>, more: &[Octets<'a>]) -> Result<(), AllocError>
-    ensures { OnOk result (names.new.items ≡ names.old.items ++ more.now) }
-{
-    for name in more {
-        names.push(name.share())?;
-    }
-    Ok(())
 }

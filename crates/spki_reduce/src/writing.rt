@@ -9,7 +9,7 @@ ghost use Rattle.spki_reduce.specs.Written.{headed, IsWrittenPrincipal, IsWritte
 
 use crate::tuple::{Five, Issuer};
 use sexpr_core::{Sexp, decode};
-use spki_cert::{Date, HashAlg, Key, Octets, Principal, Subject, Window};
+use spki_cert::{Date, HashAlg, Key, Names, Principal, Subject, Window};
 use std::alloc::{AllocError, Global};
 
 /// The members of a written authorization, but for its head and its tag.
@@ -120,11 +120,11 @@ fn write_principal(alloc: Global, principal: &Principal) -> Result<Sexp, AllocEr
 }
 
 /// Adds each name.
-fn push_names(alloc: Global, members: &mut Vec<Sexp>, names: &[Octets]) -> Result<(), AllocError>
+fn push_names(alloc: Global, members: &mut Vec<Sexp>, names: &Names) -> Result<(), AllocError>
     ensures { OnOk result (map sexp_value members.new.items ≡ map sexp_value members.old.items ++ plains names.now) }
 {
-    for name in names {
-        members.push(Sexp::plain(alloc, name.as_slice())?)?;
+    for place in 0..names.len() {
+        members.push(Sexp::plain(alloc, names.at(place).as_slice())?)?;
     }
     Ok(())
 }
@@ -138,7 +138,7 @@ fn write_subject(alloc: Global, subject: &Subject) -> Result<Sexp, AllocError>
     }
     let mut members = begun(alloc, b"name")?;
     members.push(principal)?;
-    push_names(alloc, &mut members, subject.names.as_slice())?;
+    push_names(alloc, &mut members, &subject.names)?;
     Ok(Sexp::list(members))
 }
 

@@ -163,12 +163,17 @@ pub(crate) fn is_subject(subject: &Subject, key: &[u8], names: &[&[u8]]) -> bool
         Principal::Key(octets) => octets.as_slice() == key,
         Principal::Hash { .. } => false,
     };
-    same_key && subject.names.len() == names.len() && are_names(subject.names.as_slice(), names)
+    same_key && are_names(&subject.names, names)
 }
 
-fn are_names(octets: &[Octets], names: &[&[u8]]) -> bool {
-    octets
-        .iter()
-        .zip(names)
-        .all(|(name, other)| name.as_slice() == *other)
+fn are_names(names: &Names, others: &[&[u8]]) -> bool {
+    if names.len() != others.len() {
+        return false;
+    }
+    for place in 0..names.len() {
+        if names.at(place).as_slice() != others[place] {
+            return false;
+        }
+    }
+    true
 }

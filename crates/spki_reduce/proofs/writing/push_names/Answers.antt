@@ -1,7 +1,7 @@
-use Rattle.spki_reduce.proofs.WrittenNames.{name_written}
+use Rattle.spki_reduce.proofs.WrittenNames.{name_written_at}
 use Rattle.spki_reduce.proofs.writing.push_names.Goals as goal
 
-pub loop-name-preserved : goal.loop-name-preserved
-loop-name-preserved c =
-    name_written c.args.names.now c.loop-name.name-index c.name-item.result _ c.in_ok-plain.field-0 c.args.members.now.items _ _
-    c.loop-name-test.true c.name-item.is c.as_slice.ensures c.in_ok-plain.ensures c.loop-name.invariant c.in_ok-push.ensures.items
+pub loop-place-preserved : goal.loop-place-preserved
+loop-place-preserved c =
+    name_written_at c.args.names.now c.loop-place.place c.at.result.now _ c.in_ok-plain.field-0 c.args.members.now.items _ _
+    c.at.ensures c.as_slice.ensures c.in_ok-plain.ensures c.loop-place.invariant c.in_ok-push.ensures.items

@@ -4,6 +4,6 @@ use Rattle.sexpr_core.specs.Tree.{sexp_value}
 use Rattle.spki_cert.specs.Subjects.{plains}
 use Rattle.spki_reduce.proofs.writing.push_names.Given as goal
 
-abbrev pub invariant-loop-name : goal.invariant-loop-name
-invariant-loop-name l =
-    map sexp_value l.members.items ≡ map sexp_value l.initial.members.items ++ plains (take l.name-index l.names)
+abbrev pub invariant-loop-place : goal.invariant-loop-place
+invariant-loop-place l =
+    map sexp_value l.members.items ≡ map sexp_value l.initial.members.items ++ plains (take l.place l.names)
