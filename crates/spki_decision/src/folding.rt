@@ -6,7 +6,7 @@ ghost use Rattle.spki_reduce.specs.Views.{issuer_of, entry_tuple, five_tuple};
 ghost use Rattle.spki_reduce.specs.Chain.{tuples_of, FoldsTo, StopsAt, HasMet, TooLargeAt, Excludes, SupportsNothing, MatchFold};
 
 use spki_cert::{Entry, Policy};
-use spki_reduce::{Five, Fold, Issuer, ReduceFault, Step, fold_chain};
+use spki_reduce::{Five, Fold, Issuer, ReduceFault, Step, fold_owned};
 use std::alloc::{AllocError, Global};
 
 /// What an entry's own 5-tuple and the steps behind it become, joined in turn.
@@ -34,7 +34,7 @@ pub(crate) fn fold_entry<'a>(
     ensures small { IfOk result (λ fold. ¬ TooLargeAt policy (five (entry_tuple entry.now)) (tuples_of steps.now)) }
 {
     let own = own_five(entry)?;
-    fold_chain(alloc, &own, steps, policy)
+    fold_owned(alloc, own, steps, policy)
 }
 
 /// An entry's 5-tuple, whose issuer is the keeper of the access list (RFC 2693, section 6.1).

@@ -55,7 +55,44 @@ pub fn fold_chain<'a>(
     ensures too_large { IsErrOf result ReduceFault.TooLarge →
         1000000 < nodes_product (all_tags (five (five_tuple first.now) ∷ tuples_of steps.now)) }
 {
-    let mut folded = first.copy()?;
+    let own = first.copy()?;
+    fold_owned(alloc, own, steps, policy)
+}
+
+/// As `fold_chain`, for which the first is used up: its tag is not copied.
+///
+/// # Errors
+///
+/// Those of `fold_chain`.
+pub fn fold_owned<'a>(
+    alloc: Global,
+    first: Five<'a>,
+    steps: &[Step<'a>],
+    policy: Policy,
+) -> Result<Fold<'a>, ReduceFault>
+    ensures fold { IfOk result (λ fold. MatchFold fold
+        (FoldsTo policy (five (five_tuple first.entry)) (tuples_of steps.now))
+        (StopsAt policy (five (five_tuple first.entry)) (tuples_of steps.now))) }
+    ensures alone { steps.now ≡ [] → IfOk result (λ fold. MatchFold fold
+        (λ f. five_tuple f ≡ five_tuple first.entry) (λ step cause. ⊥)) }
+    ensures issuer { IfOk result (λ fold. MatchFold fold
+        (λ f. issuer_of f.issuer ≡ issuer_of first.entry.issuer) (λ step cause. Unit {0})) }
+    // Which tag it has: each is met in turn.
+    ensures which { IfOk result (λ fold. MatchFold fold
+        (HasMet (five (five_tuple first.entry)) (tuples_of steps.now)) (λ step cause. Unit {0})) }
+    // What a stop says of the same tuples in any bracketing.
+    ensures excluded { IfOk result (λ fold. MatchFold fold (λ f. Unit {0})
+        (Excludes policy (five (five_tuple first.entry)) (tuples_of steps.now))) }
+    ensures unsupported { IfOk result (λ fold. MatchFold fold (λ f. Unit {0})
+        (λ step cause. SupportsNothing policy (five (five_tuple first.entry) ∷ tuples_of steps.now))) }
+    // When it is refused: the chain joins up to a step that is too large for what it became, so the product of all nodes is.
+    ensures too_large_at { IsErrOf result ReduceFault.TooLarge →
+        TooLargeAt policy (five (five_tuple first.entry)) (tuples_of steps.now) }
+    ensures small { IfOk result (λ fold. ¬ TooLargeAt policy (five (five_tuple first.entry)) (tuples_of steps.now)) }
+    ensures too_large { IsErrOf result ReduceFault.TooLarge →
+        1000000 < nodes_product (all_tags (five (five_tuple first.entry) ∷ tuples_of steps.now)) }
+{
+    let mut folded = first;
     for (place, step) in steps.iter().enumerate() {
         match folded.joined(alloc, step, policy)? {
             Joined::Done(next) => folded = next,

@@ -10,7 +10,7 @@ pub mod laws;
 mod tuple;
 mod writing;
 
-pub use chain::fold_chain;
+pub use chain::{fold_chain, fold_owned};
 pub use fault::ReduceFault;
 pub use fold::{Cause, Fold, Joined};
 pub use last_tests::Lack;
