@@ -109,7 +109,7 @@ pub both : (Q : Value → Type 0) (us vs : List Value) → AllByRecursion Q us �
 both Q [] vs h k = k
 both Q (u ∷ us) vs h k = (h.0, both Q us vs h.1 k)
 
-limits-fine : (low up : Option Limit) → limits_fault (low_values low ++ up_values up) ≡ None
+pub limits-fine : (low up : Option Limit) → limits_fault (low_values low ++ up_values up) ≡ None
 limits-fine None None = refl
 limits-fine None (Some u) = up_by u.strict u.octets
   where

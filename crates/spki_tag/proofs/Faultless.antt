@@ -63,11 +63,11 @@ TagOf v = (w : Tag) × IsTag w × (tag_value w ≡ v)
 abbrev TagsOf : Values → Type 0
 TagsOf vs = (ws : Tags) × AreTags ws × (tag_values ws ≡ vs)
 
-none_is_not_some : {A : Type 0} (a : A) → Some a ≡ None → ⊥
+pub none_is_not_some : {A : Type 0} (a : A) → Some a ≡ None → ⊥
 none_is_not_some a e = cc
 
 -- the ordering with a name
-ordering-of : (name : List ℕ) → is_ordering name ≡ true → (o : Ordering) × (ordering_name o ≡ name)
+pub ordering-of : (name : List ℕ) → is_ordering name ≡ true → (o : Ordering) × (ordering_name o ≡ name)
 ordering-of name h = by (bytes_eq name (codes "alpha")) (bytes_eq name (codes "time")) (bytes_eq name (codes "date")) refl refl refl h
   where
     by : (a b c : Bool) → a ≡ bytes_eq name (codes "alpha") → b ≡ bytes_eq name (codes "time")
@@ -77,7 +77,7 @@ ordering-of name h = by (bytes_eq name (codes "alpha")) (bytes_eq name (codes "t
     by false false true d e f h = (date, sym (same_text name (codes "date") f))
     by false false false d e f h = absurd (true≢false (sym h))
 
-limits-none : (vs : List Value) → limits_fault vs ≡ None → are_limits vs ≡ true
+pub limits-none : (vs : List Value) → limits_fault vs ≡ None → are_limits vs ≡ true
 limits-none vs e = by (list_any is_hinted vs) (are_limits vs) e
   where
     by : (a b : Bool) → first_fault (unless (not a) faults.Hint ∷ unless b faults.RangeLimit ∷ []) ≡ None → b ≡ true

@@ -21,7 +21,7 @@ use Rattle.spki_tag.proofs.Shown.{parts-all, parts-further, parts-member}
 pub empty_list : (vs : List Value) → vs ≡ [] → SomeIs IsEmptyList (value.nodes (group vs))
 empty_list vs e = (group vs, part_itself (group vs), ap group e)
 
-list_head : (us vs : List Value) → SomeIs BeginsWithList (value.nodes (group (group us ∷ vs)))
+pub list_head : (us vs : List Value) → SomeIs BeginsWithList (value.nodes (group (group us ∷ vs)))
 list_head us vs = (group (group us ∷ vs), part_itself (group (group us ∷ vs)), (us, vs, refl))
 
 pub hinted_member : (us : List Value) (v : Value) (vs : List Value) → IsHinted v

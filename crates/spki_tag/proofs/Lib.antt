@@ -28,3 +28,4 @@ pub mod Named
 pub mod NamedRequests
 pub mod Faultless
 pub mod MeetEquations
+pub mod FaultShows

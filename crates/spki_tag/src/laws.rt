@@ -1,11 +1,12 @@
 //! Laws of tags and requests: as they are written, of their intersection, and of what tags can share.
 
-ghost use Rattle.std.specs.Prelude.{◌≡◌, ◌*◌, ◌≤◌, ◌↔◌, ◌&&◌, ℕ, List, None, true, false, length, nat_eq};
+ghost use Rattle.std.specs.Prelude.{◌≡◌, ◌*◌, ◌≤◌, ◌↔◌, ◌&&◌, ℕ, List, None, Some, true, false, length, nat_eq};
 ghost use Rattle.std.specs.List.{starts_with};
 ghost use Rattle.sexpr_core.specs.Octets.{HasOctets};
 ghost use Rattle.sexpr_core.specs.Value.{Value};
 ghost use Rattle.spki_tag.specs.FaultOf.{request_fault, tag_fault, tags_in};
-ghost use Rattle.spki_tag.specs.Faults.{tag_nodes};
+ghost use Rattle.spki_tag.specs.Faults.{TagShows, tag_nodes};
+ghost use Rattle.spki_tag.specs.declared.fault.TagFault.{TagFault};
 ghost use Rattle.spki_tag.specs.Index.{may_share, places_where, tags_at};
 ghost use Rattle.spki_tag.specs.Meet.{least_above, strict_limit, from, meet, nothing, row};
 ghost use Rattle.spki_tag.specs.MeetRules.{StarRule, SetRule, StringRule, PrefixRule, PrefixesApart, RangeRule, PrefixAsRange, OrderingRule, TimesAndDates, ListRule, HeadsApart, ListsAndStrings};
@@ -39,6 +40,11 @@ pub fn tag_fault_none()
 pub fn request_fault_none()
     ensures { (v : Value) → HasOctets v
         → (request_fault v ≡ None) ↔ ((g : Request) × IsRequest g × (request_value g ≡ v)) }
+{}
+
+/// The fault of a value as a tag shows in it.
+pub fn tag_fault_shows()
+    ensures { (v : Value) (fault : TagFault) → tag_fault v ≡ Some fault → TagShows fault v }
 {}
 
 /// There are as many tags in a value as it has nodes of tags.
