@@ -20,7 +20,7 @@ use std::alloc::Global;
 ///
 /// The case's text is read first, its form and then the case in it, and where it is refused the rows are not looked at; then the
 /// text of the rows, its form and then the rows in it. What is said of the rows begins with `refused rows`. Of each text
-/// TooLong is said exactly where it has more than 1,048,576 octets.
+/// TooLong is said exactly where it, or its canonical form, has more than 1,048,576 octets.
 pub fn check_accepted(alloc: Global, text: &[u8], rows: &[u8]) -> Answer
     ensures answer { IsAnswerApart text.now rows.now result.verdict (written_by result) }
     ensures too_long { 1048576 < length text.now → RefusesAsLong result.verdict (written_by result) }
