@@ -18,7 +18,7 @@ use Rattle.spki_cert.specs.Fields.{contents, Sole, propagates, TagOf}
 use Rattle.spki_cert.specs.Certificates.{IssuedBy, AuthCertOf, NameCertOf, SignatureOf}
 use Rattle.spki_cert.specs.Sequences.{ItemOf}
 use Rattle.spki_cert.specs.Faults.{Shows, IsUnknownOp}
-use Rattle.spki_cert.specs.Gathering.{AreNoParts, IsNoCert}
+use Rattle.spki_cert.specs.Inner.Gathering.{AreNoParts, IsNoCert}
 use Rattle.spki_cert.proofs.Groups.{same_others, apart}
 use Rattle.spki_cert.proofs.Showing.{shown-here}
 use Rattle.spki_cert.proofs.SubjectLaws.{name-is_no_principal}

@@ -19,7 +19,7 @@ use Rattle.spki_cert.specs.Fields.{is_headed, Sole, Given, ValidOf, LimitsAre, W
 use Rattle.spki_cert.specs.Refusals.{IsRefusedAt}
 use Rattle.spki_cert.specs.Faults.{Shows, HasRelative, IsUnknownVersion}
 use Rattle.spki_cert.specs.Entries.{EntryOf, AclOf, AclRefused, IsVersion, BeginsMisfit, BeginsWell, behind_version, OuterRefused}
-use Rattle.spki_cert.specs.Gathering.{KnownOf, IsOneWay, IsBothWays}
+use Rattle.spki_cert.specs.Inner.Gathering.{KnownOf, IsOneWay, IsBothWays}
 use Rattle.spki_cert.proofs.Groups.{same_others, same_rest, same_second, not-headed}
 use Rattle.spki_cert.proofs.Showing.{shown-here}
 use Rattle.spki_cert.proofs.GivenLaws.{given-some, given-else, given-none}

@@ -15,7 +15,7 @@ use Rattle.spki_cert.specs.Naming.{names}
 use Rattle.spki_cert.specs.Time.{within, meet_of}
 use Rattle.spki_cert.specs.Readings.{KeyOf, DateOf}
 use Rattle.spki_cert.specs.Subjects.{NameOf}
-use Rattle.spki_cert.specs.Fields.{WindowOf, directly, in_valid, tag}
+use Rattle.spki_cert.specs.Fields.{WindowOf, IsAbsent, IsOnce, directly, in_valid, tag}
 use Rattle.spki_cert.specs.Entries.{EntryOf}
 use Rattle.spki_cert.specs.Sequences.{AreInPlace, waits_after}
 use Rattle.spki_cert.proofs.GivenLaws.{once-push}
@@ -154,6 +154,23 @@ friends_bob = record {
   names_are = refl;
   written = refl;
 }
+
+-- ---- fields
+
+-- the fields of (cert (issuer K) (subject S) (propagate) (tag T))
+abbrev four_fields : Value → Value → Value → List Value
+four_fields k s t =
+    group (plain (codes "issuer") ∷ k ∷ []) ∷ group (plain (codes "subject") ∷ s ∷ []) ∷ group (plain (codes "propagate") ∷ [])
+    ∷ group (plain (codes "tag") ∷ t ∷ []) ∷ []
+
+issuer_once : (k s t : Value) → IsOnce (codes "issuer") (four_fields k s t) (k ∷ [])
+issuer_once k s t = refl
+
+propagate_once : (k s t : Value) → IsOnce (codes "propagate") (four_fields k s t) []
+propagate_once k s t = refl
+
+no_end : (k s t : Value) → IsAbsent (codes "not-after") (four_fields k s t)
+no_end k s t = refl
 
 -- ---- sequences
 

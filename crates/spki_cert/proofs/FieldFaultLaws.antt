@@ -22,7 +22,7 @@ use Rattle.spki_cert.specs.declared.fields.Known.{Known}
 use Rattle.spki_cert.specs.declared.fields.Place.{Place}
 use Rattle.spki_cert.specs.declared.fields.Place.TheVariants as places
 use Rattle.spki_cert.specs.SubjectFaults.{subject_fault, issuer_fault}
-use Rattle.spki_cert.specs.Gathering.{IsTagKind, is_among, IsNew, AreRead, KnownOf, IsOneWay, IsBothWays, fault_in, IssuerAt, WhoAt}
+use Rattle.spki_cert.specs.Inner.Gathering.{IsTagKind, is_among, IsNew, AreRead, KnownOf, IsOneWay, IsBothWays, fault_in, IssuerAt, WhoAt}
 use Rattle.spki_cert.specs.FixedFaults.{is_string, is_plain, date_fault}
 use Rattle.spki_cert.specs.FieldFaults.{head_of, has, has_head, is_again, fields_looked, fields_fault, is_zero, version_fault, limit_fault, time_fault, as_tag, kind_of_tag, entry_field_fault, is_unread, cert_field_fault, is_both_ways}
 use Rattle.spki_cert.proofs.Groups.{headed-by, not-headed, behind-group}

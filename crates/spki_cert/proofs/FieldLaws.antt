@@ -15,7 +15,7 @@ use Rattle.spki_tag.specs.Faults.{TagShows}
 use Rattle.spki_cert.specs.declared.fault.CertFaultKind.{CertFaultKind}
 use Rattle.spki_cert.specs.declared.fault.CertFaultKind.TheVariants as kinds
 use Rattle.spki_cert.specs.Faults.{Shows, HasTagFault}
-use Rattle.spki_cert.specs.Gathering.{is_among, IsTagKind}
+use Rattle.spki_cert.specs.Inner.Gathering.{is_among, IsTagKind}
 use Rattle.spki_cert.proofs.Showing.{shown-here}
 use Rattle.spki_cert.proofs.Groups.{same_others, headed-by, head-same}
 use Rattle.spki_cert.proofs.ValidLaws.{first-limit, last-limit}

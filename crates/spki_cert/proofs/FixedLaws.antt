@@ -18,7 +18,7 @@ use Rattle.spki_cert.specs.Fields.{is_headed, behind_head}
 use Rattle.spki_cert.specs.Places.{fault_at, of_first}
 use Rattle.spki_cert.specs.FixedFaults.{is_plain, any_octets, begins_plain, behind_key, key_fault, date_fault, alg_fault, hash_fault, alg_named, is_alg, is_sized, digest_fits, are_uris, is_string}
 use Rattle.spki_cert.proofs.Groups.{headed-by, not-headed}
-use Rattle.spki_cert.specs.Gathering.{digest_fault}
+use Rattle.spki_cert.specs.Inner.Gathering.{digest_fault}
 use Rattle.spki_cert.proofs.Looking.{of-form, of-no_form, no-plain, found-first, found-none}
 
 -- ---- keys

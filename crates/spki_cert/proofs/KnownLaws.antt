@@ -14,7 +14,7 @@ use Rattle.spki_cert.specs.declared.fields.Said.{Said}
 use Rattle.spki_cert.specs.declared.fields.Said.TheVariants as said
 use Rattle.spki_cert.specs.Readings.{DateOf}
 use Rattle.spki_cert.specs.Fields.{is_headed, contents, Sole, Given, ValidOf, AreFields}
-use Rattle.spki_cert.specs.Gathering.{IssuerAt, WhoAt, Headed, IsSilent, Says, gather, KnownOf, IsFieldOf, is_among, IsNew, AreRead, AreParts}
+use Rattle.spki_cert.specs.Inner.Gathering.{IssuerAt, WhoAt, Headed, IsSilent, Says, gather, KnownOf, IsFieldOf, is_among, IsNew, AreRead, AreParts}
 use Rattle.spki_cert.proofs.Showing.{contains-middle}
 use Rattle.spki_cert.proofs.Groups.{head-same, headed-by, behind-group}
 use Rattle.spki_cert.proofs.GivenLaws.{each-push, each-at, contents-headed, contents-other, once-before, once-push, given-kept, given-first}

@@ -7,7 +7,7 @@ use Rattle.spki_cert.specs.declared.certificate.SeqItem.{SeqItem}
 use Rattle.spki_cert.specs.declared.fault.CertFault.{CertFault}
 use Rattle.spki_cert.specs.Fields.{is_headed}
 use Rattle.spki_cert.specs.Sequences.{ItemOf, waits_behind, waits_after, IsInPlace, AreInPlace, SeqOf, BreaksOff, IsUnsignedAt, IsStrayAt, ItemsRefused, unsigned, stray, item, SeqRefused, outer, inner}
-use Rattle.spki_cert.specs.Gathering.{WaitsAt, Waits, IsMisplaced}
+use Rattle.spki_cert.specs.Inner.Gathering.{WaitsAt, Waits, IsMisplaced}
 use Rattle.spki_cert.specs.SequenceFaults.{waiting}
 use Rattle.spki_cert.proofs.Groups.{same_others, other-head}
 use Rattle.spki_cert.proofs.GivenLaws.{each-push}

@@ -20,7 +20,7 @@ use Rattle.spki_cert.specs.FieldFaults.{has, fields_fault, cert_field_fault, is_
 use Rattle.spki_cert.specs.EntryFaults.{at_item}
 use Rattle.spki_cert.specs.ItemFaults.{signature_fault, do_fault, begins_with_name, has_name_issuer, is_tagged_right, cert_fault, item_fault}
 use Rattle.spki_cert.specs.SequenceFaults.{unsigned_fault, place_fault, waiting, items_looked, items_fault, sequence_fault}
-use Rattle.spki_cert.specs.Gathering.{PartsOf, parts_looked, parts_fault}
+use Rattle.spki_cert.specs.Inner.Gathering.{PartsOf, parts_looked, parts_fault}
 use Rattle.spki_cert.proofs.Groups.{headed-by, not-headed, behind-group}
 use Rattle.spki_cert.proofs.Looking.{of-form, of-no_form, found-first, found-none}
 use Rattle.spki_cert.proofs.SubjectFaultLaws.{headed-else}

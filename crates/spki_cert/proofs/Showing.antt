@@ -10,7 +10,7 @@ use Rattle.spki_cert.specs.declared.fault.CertFaultKind.{CertFaultKind}
 use Rattle.spki_cert.specs.declared.fault.CertFaultKind.TheVariants as kinds
 use Rattle.spki_tag.specs.Faults.{SomeIs}
 use Rattle.spki_cert.specs.Faults.{Shows}
-use Rattle.spki_cert.specs.Gathering.{AreParts}
+use Rattle.spki_cert.specs.Inner.Gathering.{AreParts}
 
 pub shown-here : (P : Value → Type 0) (v : Value) → P v → SomeIs P (nodes v)
 shown-here P v p = (v, part_itself v, p)

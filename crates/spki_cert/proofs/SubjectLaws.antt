@@ -7,7 +7,7 @@ use Rattle.spki_cert.specs.declared.principal.Principal.{Principal}
 use Rattle.spki_cert.specs.declared.principal.Principal.TheVariants.{Key, Hash}
 use Rattle.spki_cert.specs.Readings.{IsNoKey, IsNoHash, alg_name}
 use Rattle.spki_cert.specs.Subjects.{PrincipalOf, WhoOf, IssuerOf, plains}
-use Rattle.spki_cert.specs.Gathering.{NamesWho}
+use Rattle.spki_cert.specs.Inner.Gathering.{NamesWho}
 use Rattle.spki_cert.proofs.Groups.{same_others, apart}
 
 abbrev pub IsNoPrincipal : Value → Type 0

@@ -10,7 +10,7 @@ use Rattle.spki_cert.specs.declared.fault.CertFaultKind.TheVariants as kinds
 use Rattle.spki_cert.specs.Readings.{DateOf, IsNoDate}
 use Rattle.spki_cert.specs.Fields.{is_headed, contents, Sole, IsLimitWord, IsLimitField, ValidOf}
 use Rattle.spki_cert.specs.Faults.{Shows, IsUnknownVersion, HasBadDate}
-use Rattle.spki_cert.specs.Gathering.{Headed, AddsLimit, first, last, HasLimit}
+use Rattle.spki_cert.specs.Inner.Gathering.{Headed, AddsLimit, first, last, HasLimit}
 use Rattle.spki_cert.proofs.Groups.{same_others, apart, head-same, headed-by, behind-group}
 use Rattle.spki_cert.proofs.Showing.{shown-here}
 use Rattle.spki_cert.proofs.GivenLaws.{each-push, each-at, once-before, once-push, given-kept, given-first, given-some, given-none}

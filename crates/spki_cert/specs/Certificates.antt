@@ -10,7 +10,7 @@ use Rattle.spki_cert.specs.declared.certificate.NameCert.{NameCert}
 use Rattle.spki_cert.specs.declared.certificate.Signature.{Signature}
 use Rattle.spki_cert.specs.Readings.{HashOf, alg_name}
 use Rattle.spki_cert.specs.Subjects.{PrincipalOf, IssuedTo}
-use Rattle.spki_cert.specs.Fields.{Sole, Given, contents, IsCertField, AreFields, propagates, TagOf, WindowOf, IssuerIn}
+use Rattle.spki_cert.specs.Fields.{Sole, Given, IsAbsent, IsCertField, AreFields, propagates, TagOf, WindowOf, IssuerIn}
 
 -- the issuer that fields give, with the one name of a name certificate
 abbrev pub IssuedBy : List Value → Principal → Option (List ℕ) → Type 0
@@ -40,7 +40,7 @@ pub record NameCertOf (v : Value) (c : NameCert) : Type 0 where
   pub issuer_is : IssuedBy fields c.issuer (Some c.name)
   pub subject_is : IssuedFor fields c.issuer c.subject
   pub no_propagate : propagates fields ≡ false
-  pub no_tag : contents (codes "tag") fields ≡ []
+  pub no_tag : IsAbsent (codes "tag") fields
   pub window_is : WindowOf fields c.window
   pub octets_are : c.octets ≡ canon v
 

@@ -32,6 +32,17 @@ abbrev pub contents : List ℕ → List Value → List (List Value)
 contents word [] = []
 contents word (v ∷ vs) = if is_headed word v then behind_head v ∷ contents word vs else contents word vs
 
+-- Of the fields of (cert (issuer K) (subject S) (propagate) (tag T)) the contents of issuer are the list of K, those of
+-- propagate the empty list, and not-after is absent.
+
+-- no field has this head
+abbrev pub IsAbsent : List ℕ → List Value → Type 0
+IsAbsent word fields = contents word fields ≡ []
+
+-- exactly one has, and this is what stands behind it
+abbrev pub IsOnce : List ℕ → List Value → List Value → Type 0
+IsOnce word fields rest = contents word fields ≡ rest ∷ []
+
 -- no two have one head
 abbrev pub AreOnce : List Value → Type 0
 AreOnce vs = (word : List ℕ) → length (contents word vs) ≤ 1
@@ -42,8 +53,8 @@ Sole R vs a = (v : Value) × (vs ≡ v ∷ []) × R v a
 
 -- what is read behind the one field with this head, where there is one
 abbrev pub Given : {A : Type 0} → List ℕ → (List Value → A → Type 0) → List Value → Option A → Type 0
-Given word R fields None = contents word fields ≡ []
-Given word R fields (Some a) = (rest : List Value) × (contents word fields ≡ rest ∷ []) × R rest a
+Given word R fields None = IsAbsent word fields
+Given word R fields (Some a) = (rest : List Value) × IsOnce word fields rest × R rest a
 
 -- ---- validity (section 5)
 

@@ -15,5 +15,5 @@ pub mod Sequences
 pub mod EntryFaults
 pub mod ItemFaults
 pub mod SequenceFaults
-pub mod Gathering
 pub mod Sought
+pub mod Inner

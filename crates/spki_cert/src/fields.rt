@@ -10,7 +10,7 @@ ghost use Rattle.spki_cert.specs.Faults.{Shows};
 ghost use Rattle.spki_cert.specs.Places.{sole_fault};
 ghost use Rattle.spki_cert.specs.SubjectFaults.{subject_fault, issuer_fault};
 ghost use Rattle.spki_cert.specs.FieldFaults.{kind_of_tag, fields_fault, time_fault, entry_field_fault, cert_field_fault};
-ghost use Rattle.spki_cert.specs.Gathering.{fault_in, IsTagKind, IssuerAt, WhoAt, Says, gather, KnownOf, IsFieldOf, is_among, IsNew, AreParts};
+ghost use Rattle.spki_cert.specs.Inner.Gathering.{fault_in, IsTagKind, IssuerAt, WhoAt, Says, gather, KnownOf, IsFieldOf, is_among, IsNew, AreParts};
 
 use crate::date::Date;
 use crate::fault::CertFaultKind;

@@ -4,7 +4,7 @@ ghost use Rattle.std.specs.Prelude.{◌≡◌, ◌≢◌, Some, None, IfOk, IfEr
 ghost use Rattle.sexpr_core.specs.Value.{Value};
 ghost use Rattle.spki_cert.specs.Faults.{Shows};
 ghost use Rattle.spki_cert.specs.ItemFaults.{cert_fault};
-ghost use Rattle.spki_cert.specs.Gathering.{parts_fault, AreParts, PartsOf, AreNoParts, CertOf, IsNoCert, IsSubjectOf};
+ghost use Rattle.spki_cert.specs.Inner.Gathering.{parts_fault, AreParts, PartsOf, AreNoParts, CertOf, IsNoCert, IsSubjectOf};
 
 use crate::certificate::{AuthCert, NameCert, SeqItem};
 use crate::entry::Subject;

@@ -8,7 +8,7 @@ ghost use Rattle.spki_cert.specs.Faults.{Shows};
 ghost use Rattle.std.specs.List.{list_all};
 ghost use Rattle.spki_tag.specs.FirstFault.{unless};
 ghost use Rattle.spki_cert.specs.SubjectFaults.{principal_fault, is_name, names_fault, subject_fault, issuer_fault};
-ghost use Rattle.spki_cert.specs.Gathering.{NamesWho, SubjectShows};
+ghost use Rattle.spki_cert.specs.Inner.Gathering.{NamesWho, SubjectShows};
 
 use crate::fault::CertFaultKind;
 use crate::octets::Octets;

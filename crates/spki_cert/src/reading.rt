@@ -5,7 +5,7 @@ ghost use Rattle.spki_cert.specs.declared.hash.HashAlg.{HashAlg};
 ghost use Rattle.sexpr_core.specs.Value.{Value, node, plain, group, canon};
 ghost use Rattle.spki_cert.specs.Faults.{Shows};
 ghost use Rattle.spki_cert.specs.FixedFaults.{key_fault, hash_fault, date_fault, alg_fault};
-ghost use Rattle.spki_cert.specs.Gathering.{AlgShows, digest_fault};
+ghost use Rattle.spki_cert.specs.Inner.Gathering.{AlgShows, digest_fault};
 ghost use Rattle.spki_cert.specs.Readings.{KeyOf, IsNoKey, HashOf, IsNoHash, DateOf, IsNoDate, DigestOf, AreUris, IsAlgorithm, alg_name, digest_len};
 
 use crate::date::Date;

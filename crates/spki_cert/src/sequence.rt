@@ -9,7 +9,7 @@ ghost use Rattle.spki_cert.specs.Fields.{is_headed};
 ghost use Rattle.spki_cert.specs.Sequences.{ItemOf, IsInPlace, AreInPlace, waits_after, SeqOf, ItemsRefused, SeqRefused};
 ghost use Rattle.spki_cert.specs.SequenceFaults.{place_fault, waiting, items_fault, sequence_fault};
 ghost use Rattle.spki_cert.specs.ItemFaults.{item_fault};
-ghost use Rattle.spki_cert.specs.Gathering.{IsMisplaced};
+ghost use Rattle.spki_cert.specs.Inner.Gathering.{IsMisplaced};
 
 use crate::certificate::SeqItem;
 use crate::fault::{CertFault, CertFaultKind};

@@ -9,7 +9,7 @@ ghost use Rattle.spki_cert.specs.Faults.{Shows};
 ghost use Rattle.spki_cert.specs.Places.{sole_fault};
 ghost use Rattle.spki_cert.specs.FixedFaults.{date_fault};
 ghost use Rattle.spki_cert.specs.FieldFaults.{fields_fault, limit_fault};
-ghost use Rattle.spki_cert.specs.Gathering.{LimitLook, AddsLimit, HasLimit, IsOneWay, IsBothWays};
+ghost use Rattle.spki_cert.specs.Inner.Gathering.{LimitLook, AddsLimit, HasLimit, IsOneWay, IsBothWays};
 
 use crate::date::Date;
 use crate::fault::CertFaultKind;

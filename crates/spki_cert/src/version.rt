@@ -5,7 +5,7 @@ ghost use Rattle.sexpr_core.specs.Value.{plain, group};
 ghost use Rattle.spki_cert.specs.Faults.{Shows};
 ghost use Rattle.spki_cert.specs.Places.{sole_fault};
 ghost use Rattle.spki_cert.specs.FieldFaults.{version_fault};
-ghost use Rattle.spki_cert.specs.Gathering.{IsVersionFault};
+ghost use Rattle.spki_cert.specs.Inner.Gathering.{IsVersionFault};
 
 use crate::fault::CertFaultKind;
 use sexpr_core::reading::{Members, NodeKind};

@@ -1,14 +1,16 @@
 -- What answers to one case and one accepted list that stands apart have in common.
-use Rattle.std.proofs.Common.{◌≡◌, ◌≢◌, ℕ, List, Result, Ok, refl, subst, inl, inr}
-use Rattle.sexpr_core.specs.Value.{Value, canon}
+use Rattle.std.proofs.Common.{◌≡◌, ◌≢◌, ℕ, List, Result, Ok, refl, sym, ap, subst, ◌∙◌, inl, inr}
+use Rattle.sexpr_core.specs.Value.{Value, canon, IsShallow}
 use Rattle.sexpr_text.specs.Spelling.{IsTextWithin}
 use Rattle.spki_case.specs.Case.{Case, Row}
-use Rattle.spki_case.specs.CaseForm.{IsCaseText}
-use Rattle.spki_case.specs.RowsForm.{IsRowsText, stated_by}
+use Rattle.spki_case.specs.CaseForm.{IsCaseText, TextRefused}
+use Rattle.spki_case.specs.RowsForm.{IsRowsText, NoRows, RowsTextRefused, stated_by}
 use Rattle.spki_case.specs.declared.cases.CaseFault.{CaseFault}
 use Rattle.spki_case.specs.declared.rows.RowsFault.{RowsFault}
+use Rattle.spki_case.specs.declared.rows.RowsFault.TheVariants as rows_faults
+use Rattle.spki_case.proofs.OneFault.{one-rows_fault}
 use Rattle.spki_case.proofs.OneCase.{text-one}
-use Rattle.spki_case.proofs.Unrefused.{case_unrefused, rows_unrefused, one_list}
+use Rattle.spki_case.proofs.Unrefused.{case_unrefused, rows_unrefused, one_list, one_text, well_formed}
 use Rattle.spki_decision.specs.declared.deciding.Decision.{Decision}
 use Rattle.spki_decision.specs.declared.deciding.GuardFault.{GuardFault}
 use Rattle.spki_decision.specs.Granted.{IsTooLarge}
@@ -20,7 +22,8 @@ use Rattle.spki_guard.specs.declared.answers.Refusal.TheVariants as refusals
 use Rattle.spki_guard.specs.declared.answers.Verdict.{Verdict}
 use Rattle.spki_guard.specs.Answer.{IsLineOf}
 use Rattle.spki_guard.proofs.OneLine.{read_value, decision_line}
-use Rattle.spki_guard.specs.Apart.{ReadsCase, ReadsRows, LacksCase, RefusesRows, DecidesApart, DecidesBy, IsUndecidedBy, RefusesApart, blame_of}
+use Rattle.spki_guard.proofs.OneRefusal.{form_one, long_only, shallow, text_case_one}
+use Rattle.spki_guard.specs.Apart.{ReadsCase, ReadsRows, LacksCase, RefusesRows, DecidesApart, DecidesBy, IsUndecidedBy, RefusesApart}
 
 -- ---- what is read
 
@@ -79,32 +82,56 @@ only_memory text rows verdict output (refusals.Decision fault) a b =
 only_memory text rows verdict output (refusals.Rows fault) a b = absurd (no_blame rows a.is.rows fault a.is.rows_are b.is)
 only_memory text rows verdict output refusals.Memory a b = refl
 
--- two refusals blame the same
-pub one_blame : (text rows : List ℕ) (refusal other : Refusal) → RefusesApart text rows refusal → RefusesApart text rows other
-    → refusal ≢ refusals.Memory → other ≢ refusals.Memory → blame_of refusal ≡ blame_of other
-one_blame text rows refusals.Memory other a b k l = absurd (k refl)
-one_blame text rows (refusals.Intersect f) other a b k l = absurd a
-one_blame text rows (refusals.Form f) refusals.Memory a b k l = absurd (l refl)
-one_blame text rows (refusals.Form f) (refusals.Intersect g) a b k l = absurd b
-one_blame text rows (refusals.Form f) (refusals.Form g) a b k l = refl
-one_blame text rows (refusals.Form f) (refusals.Case g) a b k l = absurd (a.none b.value b.read)
-one_blame text rows (refusals.Form f) (refusals.Rows g) a b k l = absurd (a.none b.text_is.value b.text_is.read)
-one_blame text rows (refusals.Form f) (refusals.Decision g) a b k l = absurd (a.none b.text_is.value b.text_is.read)
-one_blame text rows (refusals.Case f) refusals.Memory a b k l = absurd (l refl)
-one_blame text rows (refusals.Case f) (refusals.Intersect g) a b k l = absurd b
-one_blame text rows (refusals.Case f) (refusals.Form g) a b k l = absurd (b.none a.value a.read)
-one_blame text rows (refusals.Case f) (refusals.Case g) a b k l = refl
-one_blame text rows (refusals.Case f) (refusals.Rows g) a b k l = absurd (no_lack text b.case_read f b.text_is a)
-one_blame text rows (refusals.Case f) (refusals.Decision g) a b k l = absurd (no_lack text b.case_read f b.text_is a)
-one_blame text rows (refusals.Rows f) refusals.Memory a b k l = absurd (l refl)
-one_blame text rows (refusals.Rows f) (refusals.Intersect g) a b k l = absurd b
-one_blame text rows (refusals.Rows f) (refusals.Form g) a b k l = absurd (b.none a.text_is.value a.text_is.read)
-one_blame text rows (refusals.Rows f) (refusals.Case g) a b k l = absurd (no_lack text a.case_read g a.text_is b)
-one_blame text rows (refusals.Rows f) (refusals.Rows g) a b k l = refl
-one_blame text rows (refusals.Rows f) (refusals.Decision g) a b k l = absurd (no_blame rows b.is.rows f b.is.rows_are a.is)
-one_blame text rows (refusals.Decision f) refusals.Memory a b k l = absurd (l refl)
-one_blame text rows (refusals.Decision f) (refusals.Intersect g) a b k l = absurd b
-one_blame text rows (refusals.Decision f) (refusals.Form g) a b k l = absurd (b.none a.text_is.value a.text_is.read)
-one_blame text rows (refusals.Decision f) (refusals.Case g) a b k l = absurd (no_lack text a.case_read g a.text_is b)
-one_blame text rows (refusals.Decision f) (refusals.Rows g) a b k l = absurd (no_blame rows a.is.rows g a.is.rows_are b.is)
-one_blame text rows (refusals.Decision f) (refusals.Decision g) a b k l = refl
+-- what no case is refused for
+cases_one : (text : List ℕ) (f g : CaseFault) → LacksCase text f → LacksCase text g → f ≡ g
+cases_one text f g a b =
+    let there = subst (λ (v : Value). TextRefused (canon v) f) (read_value text a.value b.value a.read b.read) a.refused in
+    text_case_one b.value f g (shallow text b.value b.read) there b.refused
+
+-- what no accepted list is refused for
+text_rows_one : (v : Value) (f g : RowsFault) → IsShallow v → RowsTextRefused (canon v) f → RowsTextRefused (canon v) g → f ≡ g
+text_rows_one v f g h (inl m) (inl n) =
+    m.is ∙ ap rows_faults.Form (long_only v m.form h m.found m.refused ∙ sym (long_only v n.form h n.found n.refused)) ∙ sym n.is
+text_rows_one v f g h (inl m) (inr n) = absurd (well_formed (canon v) n.value m.form n.within n.written m.found m.refused)
+text_rows_one v f g h (inr m) (inl n) = absurd (well_formed (canon v) m.value n.form m.within m.written n.found n.refused)
+text_rows_one v f g h (inr m) (inr n) =
+    one-rows_fault n.value f g
+    (subst (λ (w : Value). NoRows w f) (one_text (canon v) m.value n.value m.written n.written) m.is) n.is
+
+rows_one : (text : List ℕ) (f g : RowsFault) → RefusesRows text f → RefusesRows text g → f ≡ g
+rows_one text f g (inl a) (inl b) = a.named ∙ ap rows_faults.Form (form_one text a.form b.form a.refused b.refused) ∙ sym b.named
+rows_one text f g (inl a) (inr b) = absurd (a.refused.none b.value b.read)
+rows_one text f g (inr a) (inl b) = absurd (b.refused.none a.value a.read)
+rows_one text f g (inr a) (inr b) =
+    let there = subst (λ (v : Value). RowsTextRefused (canon v) f) (read_value text a.value b.value a.read b.read) a.refused in
+    text_rows_one b.value f g (shallow text b.value b.read) there b.refused
+
+-- two refusals are one
+pub one_refused : (text rows : List ℕ) (refusal other : Refusal) → RefusesApart text rows refusal → RefusesApart text rows other
+    → refusal ≢ refusals.Memory → other ≢ refusals.Memory → refusal ≡ other
+one_refused text rows refusals.Memory other a b k l = absurd (k refl)
+one_refused text rows (refusals.Intersect f) other a b k l = absurd a
+one_refused text rows (refusals.Form f) refusals.Memory a b k l = absurd (l refl)
+one_refused text rows (refusals.Form f) (refusals.Intersect g) a b k l = absurd b
+one_refused text rows (refusals.Form f) (refusals.Form g) a b k l = ap refusals.Form (form_one text f g a b)
+one_refused text rows (refusals.Form f) (refusals.Case g) a b k l = absurd (a.none b.value b.read)
+one_refused text rows (refusals.Form f) (refusals.Rows g) a b k l = absurd (a.none b.text_is.value b.text_is.read)
+one_refused text rows (refusals.Form f) (refusals.Decision g) a b k l = absurd (a.none b.text_is.value b.text_is.read)
+one_refused text rows (refusals.Case f) refusals.Memory a b k l = absurd (l refl)
+one_refused text rows (refusals.Case f) (refusals.Intersect g) a b k l = absurd b
+one_refused text rows (refusals.Case f) (refusals.Form g) a b k l = absurd (b.none a.value a.read)
+one_refused text rows (refusals.Case f) (refusals.Case g) a b k l = ap refusals.Case (cases_one text f g a b)
+one_refused text rows (refusals.Case f) (refusals.Rows g) a b k l = absurd (no_lack text b.case_read f b.text_is a)
+one_refused text rows (refusals.Case f) (refusals.Decision g) a b k l = absurd (no_lack text b.case_read f b.text_is a)
+one_refused text rows (refusals.Rows f) refusals.Memory a b k l = absurd (l refl)
+one_refused text rows (refusals.Rows f) (refusals.Intersect g) a b k l = absurd b
+one_refused text rows (refusals.Rows f) (refusals.Form g) a b k l = absurd (b.none a.text_is.value a.text_is.read)
+one_refused text rows (refusals.Rows f) (refusals.Case g) a b k l = absurd (no_lack text a.case_read g a.text_is b)
+one_refused text rows (refusals.Rows f) (refusals.Rows g) a b k l = ap refusals.Rows (rows_one rows f g a.is b.is)
+one_refused text rows (refusals.Rows f) (refusals.Decision g) a b k l = absurd (no_blame rows b.is.rows f b.is.rows_are a.is)
+one_refused text rows (refusals.Decision f) refusals.Memory a b k l = absurd (l refl)
+one_refused text rows (refusals.Decision f) (refusals.Intersect g) a b k l = absurd b
+one_refused text rows (refusals.Decision f) (refusals.Form g) a b k l = absurd (b.none a.text_is.value a.text_is.read)
+one_refused text rows (refusals.Decision f) (refusals.Case g) a b k l = absurd (no_lack text a.case_read g a.text_is b)
+one_refused text rows (refusals.Decision f) (refusals.Rows g) a b k l = absurd (no_blame rows a.is.rows g a.is.rows_are b.is)
+one_refused text rows (refusals.Decision f) (refusals.Decision g) a b k l = ap refusals.Decision (a.is.named ∙ sym b.is.named)

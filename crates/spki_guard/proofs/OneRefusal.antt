@@ -1,4 +1,4 @@
--- A text has one refusal of a command that is on no case, unless memory ran out.
+-- A text has one refusal of a command, unless memory ran out.
 use Rattle.std.proofs.Common.{◌≡◌, ◌≢◌, ℕ, ◌+◌, ◌<◌, ◌⊎◌, inl, inr, List, [], ◌++◌, length, take, drop, Some, refl, sym, ap, subst, ◌∙◌, arith, append-nil, length-drop}
 use Rattle.std.proofs.lemmas.List.{take-append-drop}
 use Rattle.sexpr_core.specs.declared.fault.FormFault.{FormFault}
@@ -14,7 +14,11 @@ use Rattle.sexpr_text.proofs.Openings.{one_of_any}
 use Rattle.spki_tag.specs.declared.fault.TagFault.{TagFault}
 use Rattle.spki_tag.specs.FaultOf.{tag_fault}
 use Rattle.spki_case.specs.Case.{Case, accepted_by}
-use Rattle.spki_case.proofs.Unrefused.{one_text, well_formed}
+use Rattle.spki_case.specs.CaseForm.{ValueRefused, TextRefused}
+use Rattle.spki_case.specs.declared.cases.CaseFault.{CaseFault}
+use Rattle.spki_case.specs.declared.cases.CaseFault.TheVariants as case_faults
+use Rattle.spki_case.proofs.OneFault.{one-fault}
+use Rattle.spki_case.proofs.Unrefused.{one_text, well_formed, case_unrefused}
 use Rattle.spki_words.specs.declared.commands.Command.{Command}
 use Rattle.spki_words.specs.declared.commands.Command.TheVariants.{Canonical, Advanced, Transport, Intersect, Reduce, Check, Explain}
 use Rattle.spki_guard.specs.declared.answers.Refusal.{Refusal}
@@ -35,7 +39,7 @@ too_long_or (Bad at) found = inr tt
 too_long_or (Trailing at) found = inr tt
 too_long_or Memory found = absurd (found refl)
 
-form_one : (text : List ℕ) (e f : FormFault) → RefusesForm text e → RefusesForm text f → e ≡ f
+pub form_one : (text : List ℕ) (e f : FormFault) → RefusesForm text e → RefusesForm text f → e ≡ f
 form_one text e f a b = by (too_long_or e a.found) (too_long_or f b.found)
   where
     by : (e ≡ TooLong) ⊎ IsOfForm e → (f ≡ TooLong) ⊎ IsOfForm f → e ≡ f
@@ -62,7 +66,7 @@ no_trailing v at h s =
     omega (arith, ap length p.1, length-drop at (canon v))
 
 -- it is refused for nothing but its length
-long_only : (v : Value) (fault : FormFault) → IsShallow v → fault ≢ Memory → Refused (canon v) fault → fault ≡ TooLong
+pub long_only : (v : Value) (fault : FormFault) → IsShallow v → fault ≢ Memory → Refused (canon v) fault → fault ≡ TooLong
 long_only v TooLong h found r = refl
 long_only v TooDeep h found r = absurd (shallow_text (canon v) v h refl r)
 long_only v Short h found r = absurd (no_front v r)
@@ -70,7 +74,7 @@ long_only v (Bad at) h found r = absurd (r.2 (begins v (at + 1)))
 long_only v (Trailing at) h found r = absurd (no_trailing v at r.0 r.1)
 long_only v Memory h found r = absurd (found refl)
 
-shallow : (text : List ℕ) (v : Value) → IsTextWithin text v → IsShallow v
+pub shallow : (text : List ℕ) (v : Value) → IsTextWithin text v → IsShallow v
 shallow text v (inl m) = m.shallow
 shallow text v (inr m) = m.shallow
 
@@ -131,7 +135,7 @@ text_not_met_one v fault other h (inr m) (inr n) =
     not_met_one n.value fault other
     (subst (λ (w : Value). ValueNotMet w fault) (one_text (canon v) m.value n.value m.written n.written) m.is) n.is
 
--- ---- a command that is on no case
+-- ---- commands
 
 -- only a command on a case is refused for a case
 on_case : (command : Command) (c : Case) → HasTooLarge command c (accepted_by c) → IsOnCase command
@@ -143,24 +147,50 @@ on_case Reduce c large = tt
 on_case Check c large = tt
 on_case Explain c large = tt
 
--- what else a value is refused for, of a command on no case
-met_fault : (command : Command) (v : Value) (refusal : Refusal) → ¬ IsOnCase command → RefusesValue command v refusal
-    → refusal ≢ refusals.Memory
-    → (fault : IntersectFault) × (refusal ≡ refusals.Intersect fault) × TextNotMet (canon v) fault
-met_fault command v (refusals.Form fault) off r found = absurd r
-met_fault command v (refusals.Intersect fault) off r found = (fault, refl, r.1)
-met_fault command v (refusals.Case fault) off r found = absurd (off r.0)
-met_fault command v (refusals.Decision fault) off r found = absurd (off (on_case command r.case_read r.large))
-met_fault command v (refusals.Rows fault) off r found = absurd r
-met_fault command v refusals.Memory off r found = absurd (found refl)
+-- an intersection is on no case
+off_case : (command : Command) → command ≡ Intersect → IsOnCase command → ⊥
+off_case command e on = subst IsOnCase e on
 
-value_one : (command : Command) (v : Value) (refusal other : Refusal) → ¬ IsOnCase command → IsShallow v
-    → RefusesValue command v refusal → RefusesValue command v other → refusal ≢ refusals.Memory → other ≢ refusals.Memory
-    → refusal ≡ other
-value_one command v refusal other off h r s found known =
-    let m = met_fault command v refusal off r found in
-    let n = met_fault command v other off s known in
-    m.1 ∙ ap refusals.Intersect (text_not_met_one v m.0 n.0 h m.2 n.2) ∙ sym n.1
+-- ---- a case
+
+pub text_case_one : (v : Value) (fault other : CaseFault) → IsShallow v → TextRefused (canon v) fault → TextRefused (canon v) other
+    → fault ≡ other
+text_case_one v fault other h (inl m) (inl n) =
+    m.is ∙ ap case_faults.Form (long_only v m.form h m.found m.refused ∙ sym (long_only v n.form h n.found n.refused)) ∙ sym n.is
+text_case_one v fault other h (inl m) (inr n) =
+    absurd (well_formed (canon v) n.value m.form n.within n.written m.found m.refused)
+text_case_one v fault other h (inr m) (inl n) =
+    absurd (well_formed (canon v) m.value n.form m.within m.written n.found n.refused)
+text_case_one v fault other h (inr m) (inr n) =
+    one-fault n.value fault other
+    (subst (λ (w : Value). ValueRefused w fault) (one_text (canon v) m.value n.value m.written n.written) m.is) n.is
+
+-- ---- a value
+
+module _ (command : Command) (v : Value) (h : IsShallow v) where
+  value_one : (refusal other : Refusal) → RefusesValue command v refusal → RefusesValue command v other
+      → refusal ≢ refusals.Memory → other ≢ refusals.Memory → refusal ≡ other
+  value_one (refusals.Form e) other r s found known = absurd r
+  value_one (refusals.Rows e) other r s found known = absurd r
+  value_one refusals.Memory other r s found known = absurd (found refl)
+  value_one (refusals.Intersect e) (refusals.Form f) r s found known = absurd s
+  value_one (refusals.Intersect e) (refusals.Intersect f) r s found known = ap refusals.Intersect (text_not_met_one v e f h r.1 s.1)
+  value_one (refusals.Intersect e) (refusals.Case f) r s found known = absurd (off_case command r.0 s.0)
+  value_one (refusals.Intersect e) (refusals.Decision f) r s found known = absurd (off_case command r.0 (on_case command s.case_read s.large))
+  value_one (refusals.Intersect e) (refusals.Rows f) r s found known = absurd s
+  value_one (refusals.Intersect e) refusals.Memory r s found known = absurd (known refl)
+  value_one (refusals.Case e) (refusals.Form f) r s found known = absurd s
+  value_one (refusals.Case e) (refusals.Intersect f) r s found known = absurd (off_case command s.0 r.0)
+  value_one (refusals.Case e) (refusals.Case f) r s found known = ap refusals.Case (text_case_one v e f h r.1 s.1)
+  value_one (refusals.Case e) (refusals.Decision f) r s found known = absurd (case_unrefused (canon v) s.case_read e s.text_is r.1)
+  value_one (refusals.Case e) (refusals.Rows f) r s found known = absurd s
+  value_one (refusals.Case e) refusals.Memory r s found known = absurd (known refl)
+  value_one (refusals.Decision e) (refusals.Form f) r s found known = absurd s
+  value_one (refusals.Decision e) (refusals.Intersect f) r s found known = absurd (off_case command s.0 (on_case command r.case_read r.large))
+  value_one (refusals.Decision e) (refusals.Case f) r s found known = absurd (case_unrefused (canon v) r.case_read f r.text_is s.1)
+  value_one (refusals.Decision e) (refusals.Decision f) r s found known = ap refusals.Decision (r.named ∙ sym s.named)
+  value_one (refusals.Decision e) (refusals.Rows f) r s found known = absurd s
+  value_one (refusals.Decision e) refusals.Memory r s found known = absurd (known refl)
 
 -- of what a refusal is said: the form of the text, or a value
 data IsSaid (command : Command) (text : List ℕ) (refusal : Refusal) : Type 0 where
@@ -176,10 +206,10 @@ said command text (refusals.Decision fault) r found = of_value r
 said command text (refusals.Rows fault) r found = absurd r
 said command text refusals.Memory r found = absurd (found refl)
 
-pub refusal_one : (command : Command) (text : List ℕ) (refusal other : Refusal) → ¬ IsOnCase command
+pub refusal_one : (command : Command) (text : List ℕ) (refusal other : Refusal)
     → RefusesAnswer command text refusal → RefusesAnswer command text other
     → refusal ≢ refusals.Memory → other ≢ refusals.Memory → refusal ≡ other
-refusal_one command text refusal other off r s found known =
+refusal_one command text refusal other r s found known =
     by (said command text refusal r found) (said command text other s known)
   where
     by : IsSaid command text refusal → IsSaid command text other → refusal ≡ other
@@ -187,6 +217,6 @@ refusal_one command text refusal other off r s found known =
     by (of_form e p a) (of_value b) = absurd (a.none b.value b.read)
     by (of_value a) (of_form f q b) = absurd (b.none a.value a.read)
     by (of_value a) (of_value b) =
-        value_one command b.value refusal other off (shallow text b.value b.read)
+        value_one command b.value (shallow text b.value b.read) refusal other
         (subst (λ (v : Value). RefusesValue command v refusal) (read_value text a.value b.value a.read b.read) a.refused)
         b.refused found known

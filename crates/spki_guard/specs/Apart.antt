@@ -114,21 +114,3 @@ pub record RefusesTexts (text rows_text : List ℕ) (verdict : Verdict) (output 
 
 abbrev pub IsAnswerApart : List ℕ → List ℕ → Verdict → List ℕ → Type 0
 IsAnswerApart text rows_text verdict output = DecidesApart text rows_text verdict output ⊎ RefusesTexts text rows_text verdict output
-
--- ---- one answer
-
--- what a refusal blames: the form of the case's text, the case in it, the text of the rows, or tags; or memory ran out
-pub data Blame : Type 0 where
-  form : Blame
-  parts : Blame
-  rows : Blame
-  tags : Blame
-  memory : Blame
-
-abbrev pub blame_of : Refusal → Blame
-blame_of (refusals.Form fault) = form
-blame_of (refusals.Intersect fault) = parts
-blame_of (refusals.Case fault) = parts
-blame_of (refusals.Decision fault) = tags
-blame_of (refusals.Rows fault) = rows
-blame_of refusals.Memory = memory

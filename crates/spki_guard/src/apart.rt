@@ -4,7 +4,7 @@ ghost use Rattle.sexpr_core.specs.Value.{Value, canon};
 ghost use Rattle.sexpr_text.specs.Spelling.{IsTextWithin};
 ghost use Rattle.spki_case.specs.View.{model};
 ghost use Rattle.spki_guard.specs.Answer.{RefusesAsLong, written_by};
-ghost use Rattle.spki_guard.specs.Apart.{IsAnswerApart, DecidesApart, DecidesBy, RefusesApart, RefusesBy, RefusesRowsForm, blame_of};
+ghost use Rattle.spki_guard.specs.Apart.{IsAnswerApart, DecidesApart, DecidesBy, RefusesApart, RefusesBy, RefusesRowsForm};
 ghost use Rattle.spki_guard.specs.declared.answers.Refusal.{Refusal};
 ghost use Rattle.spki_guard.specs.declared.answers.Verdict.{Verdict};
 
@@ -65,14 +65,14 @@ fn canonical_rows(alloc: Global, rows: &[u8]) -> Result<Vec<u8>, RowsFault>
     }
 }
 
-/// What the clause of `check_accepted` allows for the same two texts, but for want of memory: one decision, and beside it no
-/// refusal; or refusals that all blame the same.
+/// Two texts have one answer of `check_accepted`, memory apart: at most one decision, and no refusal beside it; else one
+/// refusal, and so one line.
 pub fn one_answer_apart()
     ensures decided { (text rows : List ℕ) (verdict other : Verdict) (output line : List ℕ)
         → DecidesApart text rows verdict output → DecidesApart text rows other line → (verdict ≡ other) × (output ≡ line) }
     ensures unrefused { (text rows : List ℕ) (verdict : Verdict) (output : List ℕ) (refusal : Refusal)
         → DecidesApart text rows verdict output → RefusesApart text rows refusal
         → refusal ≡ Refusal.Memory }
-    ensures blamed { (text rows : List ℕ) (refusal other : Refusal) → RefusesApart text rows refusal
-        → RefusesApart text rows other → refusal ≢ Refusal.Memory → other ≢ Refusal.Memory → blame_of refusal ≡ blame_of other }
+    ensures refused { (text rows : List ℕ) (refusal other : Refusal) → RefusesApart text rows refusal
+        → RefusesApart text rows other → refusal ≢ Refusal.Memory → other ≢ Refusal.Memory → refusal ≡ other }
 {}

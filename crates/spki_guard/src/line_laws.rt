@@ -6,17 +6,17 @@ ghost use Rattle.spki_guard.specs.declared.answers.Refusal.{Refusal};
 ghost use Rattle.spki_guard.specs.declared.answers.Refusal.TheVariants as refusals;
 ghost use Rattle.spki_guard.specs.declared.answers.Verdict.{Verdict};
 ghost use Rattle.spki_guard.specs.declared.intersection.IntersectFault.TheVariants as intersect;
-ghost use Rattle.spki_guard.specs.Answer.{AnswersRead, IsOnCase, RefusesAnswer};
+ghost use Rattle.spki_guard.specs.Answer.{AnswersRead, RefusesAnswer};
 ghost use Rattle.spki_words.specs.declared.commands.Command.{Command};
 
-/// A text has at most one answer of a command, and where it has one it is refused for nothing but want of memory. Two
-/// refusals of a command that is on no case are one, and so is their line, unless memory ran out.
+/// A text has one answer of a command, memory apart: at most one output and verdict, and no refusal beside it but want of
+/// memory; else one refusal, and so one line.
 pub fn one_line()
     ensures same { (command : Command) (text : List ℕ) (x y : Verdict) (output line : List ℕ)
         → AnswersRead command text x output → AnswersRead command text y line → (x ≡ y) × (output ≡ line) }
     ensures answered { (command : Command) (text : List ℕ) (x : Verdict) (output : List ℕ) (refusal : Refusal)
         → AnswersRead command text x output → RefusesAnswer command text refusal → refusal ≡ refusals.Memory }
-    ensures refused { (command : Command) (text : List ℕ) (refusal other : Refusal) → ¬ IsOnCase command
+    ensures refused { (command : Command) (text : List ℕ) (refusal other : Refusal)
         → RefusesAnswer command text refusal → RefusesAnswer command text other
         → refusal ≢ refusals.Memory → other ≢ refusals.Memory → refusal ≡ other }
 {}

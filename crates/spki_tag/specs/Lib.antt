@@ -6,7 +6,6 @@ pub mod FirstFault
 pub mod FaultOf
 pub mod Read
 pub mod Steps
-pub mod Codes
 pub mod Leaves
 pub mod Nodes
 pub mod NodeFalls
@@ -19,3 +18,4 @@ pub mod Normal
 pub mod Index
 pub mod Places
 pub mod TagForms
+pub mod Inner

@@ -179,7 +179,7 @@ impl<'a> Model for Index<'a> {
     ghost use Rattle.std.specs.Prelude.{List};
     ghost use Rattle.std.specs.Coded.{coded_list};
     ghost use Rattle.spki_tag.specs.Tag.{Tag as Written};
-    ghost use Rattle.spki_tag.specs.Codes.{tag_code};
+    ghost use Rattle.spki_tag.specs.Inner.Codes.{tag_code};
 
     ghost Value = { List Written };
 

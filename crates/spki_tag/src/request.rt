@@ -33,7 +33,7 @@ pub(crate) enum GroundNode {
 
 impl Model for Ground {
     ghost use Rattle.spki_tag.specs.Request.{Request, IsRequest, request_size};
-    ghost use Rattle.spki_tag.specs.Codes.{request_code};
+    ghost use Rattle.spki_tag.specs.Inner.Codes.{request_code};
 
     ghost Value = { Request };
 

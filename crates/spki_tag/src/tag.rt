@@ -30,7 +30,7 @@ pub(crate) enum Node {
 
 impl Model for Tag {
     ghost use Rattle.spki_tag.specs.Tag.{Tag as Written, IsNormalTag, nodes};
-    ghost use Rattle.spki_tag.specs.Codes.{tag_code};
+    ghost use Rattle.spki_tag.specs.Inner.Codes.{tag_code};
 
     ghost Value = { Written };
 

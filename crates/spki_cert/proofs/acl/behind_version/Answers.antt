@@ -3,7 +3,7 @@ use Rattle.std.specs.Prelude.{codes}
 use Rattle.sexpr_core.specs.Value.{Value}
 use Rattle.spki_cert.specs.declared.fault.CertFaultKind.{CertFaultKind}
 use Rattle.spki_cert.specs.Entries.{OuterRefused}
-use Rattle.spki_cert.specs.Gathering.{IsVersionFault}
+use Rattle.spki_cert.specs.Inner.Gathering.{IsVersionFault}
 use Rattle.spki_cert.proofs.Showing.{carried}
 use Rattle.spki_cert.proofs.Groups.{same_others}
 use Rattle.spki_cert.proofs.EntryLaws.{unversioned, misfit}

@@ -5,7 +5,7 @@ use Rattle.spki_cert.specs.declared.fault.CertFaultKind.TheVariants.{Memory}
 use Rattle.spki_cert.specs.declared.fields.Known.{Known}
 use Rattle.spki_cert.specs.Faults.{Shows}
 use Rattle.spki_cert.specs.Fields.{AreFields}
-use Rattle.spki_cert.specs.Gathering.{IsFieldOf, AreParts, AreRead, IsNew, gather, fault_in}
+use Rattle.spki_cert.specs.Inner.Gathering.{IsFieldOf, AreParts, AreRead, IsNew, gather, fault_in}
 use Rattle.spki_cert.proofs.Showing.{carried, shows-in}
 use Rattle.spki_cert.proofs.Groups.{split, moved}
 use Rattle.spki_cert.proofs.KnownLaws.{read-none, read-more, next-field, next-new, first-part}

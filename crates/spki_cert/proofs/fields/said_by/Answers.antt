@@ -3,7 +3,7 @@ use Rattle.std.specs.Prelude.{IfErr}
 use Rattle.spki_cert.specs.declared.fields.Place.{Place}
 use Rattle.spki_cert.specs.declared.fault.CertFaultKind.{CertFaultKind}
 use Rattle.spki_cert.specs.declared.fault.CertFaultKind.TheVariants.{Memory}
-use Rattle.spki_cert.specs.Gathering.{IsFieldOf}
+use Rattle.spki_cert.specs.Inner.Gathering.{IsFieldOf}
 use Rattle.spki_cert.proofs.fields.said_by.Goals as goal
 
 pub returns-in-Entry-clause-refused : goal.returns-in-Entry-clause-refused

@@ -8,7 +8,7 @@ use Rattle.spki_cert.specs.declared.fault.CertFaultKind.TheVariants.{Memory}
 use Rattle.spki_cert.specs.Faults.{Shows}
 use Rattle.spki_cert.specs.Fields.{Sole, Given}
 use Rattle.spki_cert.specs.Certificates.{IssuedBy}
-use Rattle.spki_cert.specs.Gathering.{IsNoCert}
+use Rattle.spki_cert.specs.Inner.Gathering.{IsNoCert}
 use Rattle.spki_cert.proofs.Showing.{carried, parts-behind}
 use Rattle.spki_cert.proofs.CertLaws.{no-parts, untagged, named-tagged, named-propagates}
 use Rattle.std.specs.Prelude.{is_some}

@@ -1,13 +1,13 @@
 use Rattle.std.proofs.Common.{◌≢◌, ◌≡◌, ◌∙◌, Option, Some, true, false, refl, ap}
 use Rattle.spki_cert.specs.declared.fault.CertFaultKind.{CertFaultKind}
 use Rattle.spki_cert.specs.declared.fault.CertFaultKind.TheVariants.{Memory}
-use Rattle.spki_cert.specs.Gathering.{AreNoParts}
+use Rattle.spki_cert.specs.Inner.Gathering.{AreNoParts}
 use Rattle.spki_cert.proofs.Showing.{carried}
 use Rattle.std.specs.Prelude.{codes, is_some}
 use Rattle.spki_cert.specs.declared.naming.Issuer.{Issuer}
 use Rattle.spki_cert.specs.declared.naming.Who.{Who}
 use Rattle.spki_cert.specs.FieldFaults.{has}
-use Rattle.spki_cert.specs.Gathering.{parts_fault}
+use Rattle.spki_cert.specs.Inner.Gathering.{parts_fault}
 use Rattle.spki_cert.proofs.FieldFaultLaws.{both-ways, one-way, has-issuer, has-subject}
 use Rattle.spki_cert.proofs.SequenceFaultLaws.{parts-fields, parts-tested}
 use Rattle.spki_cert.proofs.issuing.parts_of.Goals as goal

@@ -7,7 +7,7 @@ use Rattle.spki_cert.specs.declared.fault.CertFaultKind.TheVariants.{Memory}
 use Rattle.spki_cert.specs.declared.principal.Principal.{Principal}
 use Rattle.spki_cert.specs.Subjects.{WhoOf}
 use Rattle.spki_cert.specs.Faults.{HasSubject, Shows}
-use Rattle.spki_cert.specs.Gathering.{SubjectShows}
+use Rattle.spki_cert.specs.Inner.Gathering.{SubjectShows}
 use Rattle.spki_cert.proofs.Showing.{carried, shown-here, shows-in_second}
 use Rattle.spki_cert.proofs.SubjectLaws.{not_name-is_nobody, name-names_who}
 use Rattle.std.proofs.Common.{Some}

@@ -5,7 +5,7 @@ use Rattle.spki_cert.specs.declared.certificate.SeqItem.{SeqItem}
 use Rattle.spki_cert.specs.declared.fault.CertFault.{CertFault}
 use Rattle.spki_cert.specs.declared.fault.CertFaultKind.TheVariants.{Memory}
 use Rattle.spki_cert.specs.Sequences.{ItemOf, ItemsRefused, item}
-use Rattle.spki_cert.specs.Gathering.{Waits}
+use Rattle.spki_cert.specs.Inner.Gathering.{Waits}
 use Rattle.spki_cert.proofs.Groups.{split, moved}
 use Rattle.spki_cert.proofs.Showing.{carried}
 use Rattle.spki_cert.proofs.EntryLaws.{items-push}

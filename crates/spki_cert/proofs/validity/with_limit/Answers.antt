@@ -3,13 +3,13 @@ use Rattle.std.proofs.Common.{◌≡◌, List, ℕ, sym, refl, Option, Some, Non
 use Rattle.std.specs.Prelude.{codes, is_some}
 use Rattle.spki_cert.specs.Faults.{IsHeaded}
 use Rattle.spki_cert.specs.Fields.{IsLimitField}
-use Rattle.spki_cert.specs.Gathering.{first, last, HasLimit}
+use Rattle.spki_cert.specs.Inner.Gathering.{first, last, HasLimit}
 use Rattle.spki_cert.proofs.Showing.{carried, shown-here}
 use Rattle.spki_cert.proofs.ValidLaws.{first-limit, last-limit}
 use Rattle.spki_cert.specs.Readings.{DateOf}
 use Rattle.spki_cert.specs.Fields.{Sole}
 use Rattle.spki_cert.specs.FieldFaults.{limit_fault}
-use Rattle.spki_cert.specs.Gathering.{LimitLook}
+use Rattle.spki_cert.specs.Inner.Gathering.{LimitLook}
 use Rattle.spki_cert.proofs.FieldFaultLaws.{limit-first as looked-first, limit-last as looked-last, limit-online, limit-other, field-again, field-new, field-misfit, again-limit, online-new}
 use Rattle.spki_cert.proofs.validity.with_limit.Goals as goal
 
