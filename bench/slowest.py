@@ -8,8 +8,8 @@ Build the program first (`rt run` in crates/spki). Usage: bench/slowest.py [PROG
 import subprocess
 import time
 
-from chains import a_set, by_keys, certificate, definition, digest, entry, keys_of, name
 from check import PROGRAM, group, key, string
+from shapes import a_set, by_keys, certificate, definition, digest, entry, name
 
 SIZES = [64 * 1024, 256 * 1024, 1024 * 1024]
 SECONDS = 60

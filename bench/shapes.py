@@ -1,0 +1,52 @@
+"""Parts of the cases that the benches time: keys, certificates, chains and wide tags."""
+import hashlib
+
+from check import STAR, group, key, string
+
+NOW = string("2024-01-01_00:00:00")
+
+
+def digest(octets):
+    return group(string("hash"), string("sha256"), string(hashlib.sha256(octets).digest()))
+
+
+def name(principal, *names):
+    return group(string("name"), principal, *map(string, names))
+
+
+def entry(subject, tag=STAR):
+    return group(string("entry"), subject, group(string("propagate")), group(string("tag"), tag))
+
+
+def certificate(issuer, subject, tag=STAR):
+    return group(
+        string("cert"), group(string("issuer"), issuer), group(string("subject"), subject), group(string("propagate")),
+        group(string("tag"), tag))
+
+
+def definition(issuer, subject):
+    return group(string("cert"), group(string("issuer"), issuer), group(string("subject"), subject))
+
+
+def case(entries, links, keys=(), asks=None):
+    """A case of certificates, each with the key that signs it."""
+    rows = [group(string("by"), signer, digest(octets), string("sig")) for octets, signer in links]
+    items = [octets + group(string("signature"), digest(octets), signer, string("sig")) for octets, signer in links]
+    return group(
+        string("case"), group(string("acl"), *entries), group(string("accepted"), *rows), group(string("sequence"), *keys, *items),
+        group(string("key"), asks), group(string("request"), string("ftp")), group(string("at"), NOW))
+
+
+def keys_of(length):
+    return [key(f"k{place:05}") for place in range(length + 1)]
+
+
+def by_keys(length, tag=STAR, entries=1, asks=None):
+    """Each certificate delegates from one key to the next."""
+    keys = keys_of(length)
+    links = [(certificate(issuer, subject, tag), issuer) for issuer, subject in zip(keys, keys[1:])]
+    return case([entry(keys[0], tag)] * entries, links, asks=asks or keys[-1])
+
+
+def a_set(member, members=999):
+    return group(string("*"), string("set"), *[member] * members)
