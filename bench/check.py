@@ -12,7 +12,7 @@ from memory import peak
 
 PROGRAM = sys.argv[1] if len(sys.argv) > 1 else os.path.join(os.path.dirname(__file__), "..", "crates", "spki", "out", "spki")
 SIZES = [64 * 1024, 256 * 1024, 1024 * 1024]
-RUNS = 7
+RUNS = 40
 LIMIT_RATIO = 5.0
 LIMIT_MEMORY = 128
 
