@@ -187,14 +187,14 @@ product-some (t ∷ ts) = omega (arith, mul-le-mul_right (nodes_product ts) (nod
 larger : (n a d : ℕ) → 1 ≤ d → n < a → n < a * d
 larger n a d h k = let out : a * 1 ≤ a * d = mul-le-mul_left a h in omega arith
 
-too_many : (policy : Policy) (root : FiveTuple) (tuple : Tuple) → TooLargeFor policy root tuple
-    → 1000000 < nodes_product (root.tags ++ tags_of tuple)
-too_many policy root (five right) h = h.1
-too_many policy root (four right) h = absurd h
+too_many : (most : ℕ) (policy : Policy) (root : FiveTuple) (tuple : Tuple) → TooLargeFor most policy root tuple
+    → most < nodes_product (root.tags ++ tags_of tuple)
+too_many most policy root (five right) h = h.1
+too_many most policy root (four right) h = absurd h
 
-module _ (policy : Policy) (first : Tuple) (others : List Tuple) where
+module _ (most : ℕ) (policy : Policy) (first : Tuple) (others : List Tuple) where
   -- what is too large at a step is too large for the chain
-  pub too_large : TooLargeAt policy first others → 1000000 < nodes_product (all_tags (first ∷ others))
+  pub too_large : TooLargeAt most policy first others → most < nodes_product (all_tags (first ∷ others))
   too_large h =
       let before = first ∷ take h.place others in
       let after = drop (suc h.place) others in
@@ -207,9 +207,9 @@ module _ (policy : Policy) (first : Tuple) (others : List Tuple) where
       ∙ ap (λ ts. all_tags before ++ ts) (append-nil (tags_of h.tuple))
       ∙ ap (λ ts. ts ++ tags_of h.tuple) (sym (tags_so_far policy first (take h.place others) h.root h.before.derived))) in
       let product = ap nodes_product all ∙ nodes_product-append (h.root.tags ++ tags_of h.tuple) (all_tags after) in
-      let P : ℕ → Type 0 = λ x. 1000000 < x in
-      subst P (sym product) (larger 1000000 (nodes_product (h.root.tags ++ tags_of h.tuple)) (nodes_product (all_tags after))
-      (product-some (all_tags after)) (too_many policy h.root h.tuple h.too_large))
+      let P : ℕ → Type 0 = λ x. most < x in
+      subst P (sym product) (larger most (nodes_product (h.root.tags ++ tags_of h.tuple)) (nodes_product (all_tags after))
+      (product-some (all_tags after)) (too_many most policy h.root h.tuple h.too_large))
 
 -- ---- the code's steps
 
@@ -263,15 +263,16 @@ module _
       let P : List Tuple → Type 0 = λ ts. FoldsTo policy first ts g in
       subst P (sym one_more) (grown policy first (take place (tuples_of steps)) (step_tuple step) f g so_far h.0 h.1)
 
-  pub too_large_here : TooLargeFor policy (five_tuple f) (step_tuple step) → TooLargeAt policy first (tuples_of steps)
-  too_large_here h = record {
+  pub too_large_here : (most : ℕ) → TooLargeFor most policy (five_tuple f) (step_tuple step)
+      → TooLargeAt most policy first (tuples_of steps)
+  too_large_here most h = record {
     place = place;
     tuple = step_tuple step;
     stands = step_stands;
     root = so_far.root;
     before = through;
-    too_large = folding.too_large policy so_far.root f so_far.reduced (step_tuple step) h;
+    too_large = folding.too_large policy so_far.root f so_far.reduced most (step_tuple step) h;
     met_too_large =
-        let P : Tag → Type 0 = λ t. 1000000 < nodes_product (t ∷ tags_of (step_tuple step)) in
-        subst P has_met (too_many policy (five_tuple f) (step_tuple step) h);
+        let P : Tag → Type 0 = λ t. most < nodes_product (t ∷ tags_of (step_tuple step)) in
+        subst P has_met (too_many most policy (five_tuple f) (step_tuple step) h);
   }

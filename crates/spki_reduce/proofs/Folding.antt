@@ -191,20 +191,20 @@ module _ (policy : Policy) (root : FiveTuple) (f : Five) (reduced : ReducesToFiv
   )
   stops (four right) NoTag h = h
 
-  pub too_large : (right : Tuple) → TooLargeFor policy (five_tuple f) right → TooLargeFor policy root right
-  too_large (five right) h = (
+  pub too_large : (most : ℕ) (right : Tuple) → TooLargeFor most policy (five_tuple f) right → TooLargeFor most policy root right
+  too_large most (five right) h = (
     record {
       issues = issues right h.0.issues;
       allowed = sym reduced.delegation ∙ h.0.allowed;
       timely = some_more f.window root.windows right.windows reduced.moments h.0.timely;
     },
-    more_nodes f.tag root.tags right.tags reduced.nodes 1000000 h.1,
+    more_nodes f.tag root.tags right.tags reduced.nodes most h.1,
   )
-  too_large (four right) h = h
+  too_large most (four right) h = h
 
-  pub too_large_back : (right : Tuple) → TooLargeFor policy root right → 1000000 < nodes_product (f.tag ∷ tags_of right)
-      → TooLargeFor policy (five_tuple f) right
-  too_large_back (five right) h large = (
+  pub too_large_back : (most : ℕ) (right : Tuple) → TooLargeFor most policy root right
+      → most < nodes_product (f.tag ∷ tags_of right) → TooLargeFor most policy (five_tuple f) right
+  too_large_back most (five right) h large = (
     record {
       issues = issues_back right h.0.issues;
       allowed = reduced.delegation ∙ h.0.allowed;
@@ -212,7 +212,7 @@ module _ (policy : Policy) (root : FiveTuple) (f : Five) (reduced : ReducesToFiv
     },
     large,
   )
-  too_large_back (four right) h large = h
+  too_large_back most (four right) h large = h
 
 -- what two tuples become is from the left issuer
 pub same_issuer : (policy : Policy) (f g : Five) (right : Tuple) → BecomesFive policy (five (five_tuple f)) right g

@@ -148,10 +148,10 @@ at_end (z ∷ xs) x y (suc k) e = further z (at_end xs x y k e)
     further z (inl p) = inl (p.0, ap (λ us. z ∷ us) p.1)
     further z (inr p) = inr (p.0, ap (λ us. z ∷ us) p.1)
 
-module _ (policy : Policy) (first : Tuple) where
+module _ (most : ℕ) (policy : Policy) (first : Tuple) where
   -- the same step of another chain that begins so
-  moved : (ones others : List Tuple) (h : TooLargeAt policy first ones) → slice_get others h.place ≡ Some h.tuple
-      → take h.place ones ≡ take h.place others → TooLargeAt policy first others
+  moved : (ones others : List Tuple) (h : TooLargeAt most policy first ones) → slice_get others h.place ≡ Some h.tuple
+      → take h.place ones ≡ take h.place others → TooLargeAt most policy first others
   moved ones others h stands same = record {
     place = h.place;
     tuple = h.tuple;
@@ -159,67 +159,67 @@ module _ (policy : Policy) (first : Tuple) where
     root = h.root;
     before = subst (λ ts. GoesThrough policy first ts h.root) same h.before;
     too_large = h.too_large;
-    met_too_large = subst (λ ts. 1000000 < nodes_product (met (all_tags (first ∷ ts)) ∷ tags_of h.tuple)) same h.met_too_large;
+    met_too_large = subst (λ ts. most < nodes_product (met (all_tags (first ∷ ts)) ∷ tags_of h.tuple)) same h.met_too_large;
   }
 
   module _ (before : List Tuple) (tuple : Tuple) (f : Five) (folds : FoldsTo policy first before f)
       (has_met : HasMet first before f) where
-    large_last : (h : TooLargeAt policy first (before ++ tuple ∷ [])) → h.tuple ≡ tuple
-        → take h.place (before ++ tuple ∷ []) ≡ before → TooLargeFor policy (five_tuple f) tuple
+    large_last : (h : TooLargeAt most policy first (before ++ tuple ∷ [])) → h.tuple ≡ tuple
+        → take h.place (before ++ tuple ∷ []) ≡ before → TooLargeFor most policy (five_tuple f) tuple
     large_last h last front =
         let through = subst (λ ts. GoesThrough policy first ts h.root) front h.before in
         let roots : five h.root ≡ five folds.root =
         one_root policy (from_left first before) (from_left first before) (five h.root) (five folds.root) refl through.derived
         folds.derived in
         let same : h.root ≡ folds.root = cc in
-        let large : TooLargeFor policy folds.root tuple =
-        subst (λ r. TooLargeFor policy r tuple) same (subst (λ t. TooLargeFor policy h.root t) last h.too_large) in
-        let product : 1000000 < nodes_product (f.tag ∷ tags_of tuple) =
-        subst (λ t. 1000000 < nodes_product (t ∷ tags_of tuple)) (sym has_met)
-        (subst (λ t. 1000000 < nodes_product (met (all_tags (first ∷ before)) ∷ tags_of t)) last
-        (subst (λ ts. 1000000 < nodes_product (met (all_tags (first ∷ ts)) ∷ tags_of h.tuple)) front h.met_too_large)) in
-        too_large_back policy folds.root f folds.reduced tuple large product
+        let large : TooLargeFor most policy folds.root tuple =
+        subst (λ r. TooLargeFor most policy r tuple) same (subst (λ t. TooLargeFor most policy h.root t) last h.too_large) in
+        let product : most < nodes_product (f.tag ∷ tags_of tuple) =
+        subst (λ t. most < nodes_product (t ∷ tags_of tuple)) (sym has_met)
+        (subst (λ t. most < nodes_product (met (all_tags (first ∷ before)) ∷ tags_of t)) last
+        (subst (λ ts. most < nodes_product (met (all_tags (first ∷ ts)) ∷ tags_of h.tuple)) front h.met_too_large)) in
+        too_large_back policy folds.root f folds.reduced most tuple large product
 
-    small_at : (h : TooLargeAt policy first (before ++ tuple ∷ [])) → (TooLargeAt policy first before → ⊥)
-        → (TooLargeFor policy (five_tuple f) tuple → ⊥)
+    small_at : (h : TooLargeAt most policy first (before ++ tuple ∷ [])) → (TooLargeAt most policy first before → ⊥)
+        → (TooLargeFor most policy (five_tuple f) tuple → ⊥)
         → ((slice_get before h.place ≡ Some h.tuple) × (take h.place (before ++ tuple ∷ []) ≡ take h.place before))
         ⊎ ((h.tuple ≡ tuple) × (take h.place (before ++ tuple ∷ []) ≡ before)) → ⊥
     small_at h so_far this (inl p) = so_far (moved (before ++ tuple ∷ []) before h p.0 p.1)
     small_at h so_far this (inr p) = this (large_last h p.0 p.1)
 
-    pub small_more : (TooLargeAt policy first before → ⊥) → (TooLargeFor policy (five_tuple f) tuple → ⊥)
-        → TooLargeAt policy first (before ++ tuple ∷ []) → ⊥
+    pub small_more : (TooLargeAt most policy first before → ⊥) → (TooLargeFor most policy (five_tuple f) tuple → ⊥)
+        → TooLargeAt most policy first (before ++ tuple ∷ []) → ⊥
     small_more so_far this h = small_at h so_far this (at_end before tuple h.tuple h.place h.stands)
 
   -- a chain that stops isn't too large behind its stop
   module _ (others : List Tuple) (tagged : AreTagged others) (step : ℕ) (cause : Cause)
-      (stops : StopsAt policy first others step cause) (so_far : TooLargeAt policy first (take step others) → ⊥) where
-    small_by : (h : TooLargeAt policy first others) → (h.place < step) ⊎ (step ≤ h.place) → ⊥
+      (stops : StopsAt policy first others step cause) (so_far : TooLargeAt most policy first (take step others) → ⊥) where
+    small_by : (h : TooLargeAt most policy first others) → (h.place < step) ⊎ (step ≤ h.place) → ⊥
     small_by h (inl before) =
         so_far (moved others (take step others) h (within_front others h.place step h.tuple before h.stands)
         (sym (take-take h.place step others (omega arith))))
     small_by h (inr behind) = unstopped policy first others tagged h.place h.root h.before step behind cause stops
 
-    pub small : TooLargeAt policy first others → ⊥
+    pub small : TooLargeAt most policy first others → ⊥
     small h = small_by h (cases_lt h.place step)
 
 -- ---- the code's steps
 
 module _
-    (policy : Policy) (first : Tuple) (steps : List Step) (place : ℕ) (step : Step) (f : Five)
+    (most : ℕ) (policy : Policy) (first : Tuple) (steps : List Step) (place : ℕ) (step : Step) (f : Five)
     (within : place < length steps) (read : step ≡ get_or steps place step)
     (folds : FoldsTo policy first (take place (tuples_of steps)) f) (has_met : HasMet first (take place (tuples_of steps)) f)
-    (so_far : TooLargeAt policy first (take place (tuples_of steps)) → ⊥)
-    (this : TooLargeFor policy (five_tuple f) (step_tuple step) → ⊥) where
-  pub small_here : TooLargeAt policy first (take (place + 1) (tuples_of steps)) → ⊥
+    (so_far : TooLargeAt most policy first (take place (tuples_of steps)) → ⊥)
+    (this : TooLargeFor most policy (five_tuple f) (step_tuple step) → ⊥) where
+  pub small_here : TooLargeAt most policy first (take (place + 1) (tuples_of steps)) → ⊥
   small_here h =
-      small_more policy first (take place (tuples_of steps)) (step_tuple step) f folds has_met so_far this
-      (subst (λ ts. TooLargeAt policy first ts) (one_more policy first steps place step f within read folds has_met) h)
+      small_more most policy first (take place (tuples_of steps)) (step_tuple step) f folds has_met so_far this
+      (subst (λ ts. TooLargeAt most policy first ts) (one_more policy first steps place step f within read folds has_met) h)
 
   pub small_stopped : (cause : Cause) → StopsAt policy first (tuples_of steps) (place + 1) cause
-      → TooLargeAt policy first (tuples_of steps) → ⊥
+      → TooLargeAt most policy first (tuples_of steps) → ⊥
   small_stopped cause stops =
-      small policy first (tuples_of steps) (steps_tagged steps) (place + 1) cause stops small_here
+      small most policy first (tuples_of steps) (steps_tagged steps) (place + 1) cause stops small_here
 
 -- ---- one stop
 

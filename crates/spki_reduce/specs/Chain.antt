@@ -65,16 +65,16 @@ pub record StopsAt (policy : Policy) (first : Tuple) (others : List Tuple) (step
   pub nothing_met : cause ≡ NoTag → met (all_tags (first ∷ take step others)) ≡ set none
 
 -- A chain is too large at a step: no step before it stops the chain, and the step's tuple joins the root of what stands
--- before it but for their tags, the product of whose nodes is over 1000000. So is the product of the nodes of the step's
+-- before it but for their tags, the product of whose nodes is over the most that is met. So is the product of the nodes of the step's
 -- tag and of what the tags before it leave, met in turn.
-pub record TooLargeAt (policy : Policy) (first : Tuple) (others : List Tuple) : Type 0 where
+pub record TooLargeAt (most : ℕ) (policy : Policy) (first : Tuple) (others : List Tuple) : Type 0 where
   pub place : ℕ
   pub tuple : Tuple
   pub stands : slice_get others place ≡ Some tuple
   pub root : FiveTuple
   pub before : GoesThrough policy first (take place others) root
-  pub too_large : TooLargeFor policy root tuple
-  pub met_too_large : 1000000 < nodes_product (met (all_tags (first ∷ take place others)) ∷ tags_of tuple)
+  pub too_large : TooLargeFor most policy root tuple
+  pub met_too_large : most < nodes_product (met (all_tags (first ∷ take place others)) ∷ tags_of tuple)
 
 -- no derivation has these leaves, in no bracketing
 abbrev pub NoDerivation : Policy → List Tuple → Type 0

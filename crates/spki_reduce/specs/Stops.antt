@@ -16,11 +16,12 @@ pub record JoinButForTags (policy : Policy) (left right : FiveTuple) : Type 0 wh
   pub allowed : left.delegation ≡ true
   pub timely : SomeMoment (left.windows ++ right.windows)
 
--- A tuple joins an authorization but for their tags, the product of whose nodes is over 1000000. A definition has none.
-abbrev pub TooLargeFor : Policy → FiveTuple → Tuple → Type 0
-TooLargeFor policy left (five right) =
-    JoinButForTags policy left right × (1000000 < nodes_product (left.tags ++ right.tags))
-TooLargeFor policy left (four right) = ⊥
+-- A tuple joins an authorization but for their tags, the product of whose nodes is over the most that is met. A definition
+-- has none.
+abbrev pub TooLargeFor : ℕ → Policy → FiveTuple → Tuple → Type 0
+TooLargeFor most policy left (five right) =
+    JoinButForTags policy left right × (most < nodes_product (left.tags ++ right.tags))
+TooLargeFor most policy left (four right) = ⊥
 
 -- Why two authorizations don't join: the first cause, in their order, whose condition holds.
 abbrev pub Undelegated : Policy → FiveTuple → FiveTuple → Cause → Type 0

@@ -1,6 +1,6 @@
 //! Chains of tuples, taken from the left (RFC 2693, section 6.3).
 
-ghost use Rattle.std.specs.Prelude.{◌≡◌, ◌∷◌, [], ◌<◌, IfOk, IsErrOf};
+ghost use Rattle.std.specs.Prelude.{◌≡◌, ◌∷◌, [], ◌<◌, ◌≤◌, IfOk, IsErrOf};
 ghost use Rattle.spki_tag.specs.Tag.{set, none};
 ghost use Rattle.spki_reduce.specs.declared.fold.Cause.{Cause};
 ghost use Rattle.spki_reduce.specs.Tuples.{five, tags_of};
@@ -15,6 +15,9 @@ use crate::fold::{Fold, Joined};
 use crate::tuple::{Five, Step};
 use spki_cert::Policy;
 use std::alloc::{AllocError, Global};
+
+/// The greatest product of the numbers of nodes of two tags that `fold_chain` meets.
+const MOST_NODES: usize = 1_000_000;
 
 /// What an authorization and the steps behind it become, joined in turn from the left (RFC 2693, sections 6.3 and 6.4):
 /// each authorization by `Five::then` and each definition by `Five::resolve`. Without steps it is a copy of the first.
@@ -50,26 +53,29 @@ pub fn fold_chain<'a>(
         (λ step cause. SupportsNothing policy (five (five_tuple first.now) ∷ tuples_of steps.now))) }
     // When it is refused: the chain joins up to a step that is too large for what it became, so the product of all nodes is.
     ensures too_large_at { IsErrOf result ReduceFault.TooLarge →
-        TooLargeAt policy (five (five_tuple first.now)) (tuples_of steps.now) }
-    ensures small { IfOk result (λ fold. ¬ TooLargeAt policy (five (five_tuple first.now)) (tuples_of steps.now)) }
+        TooLargeAt 1000000 policy (five (five_tuple first.now)) (tuples_of steps.now) }
+    ensures small { IfOk result (λ fold. ¬ TooLargeAt 1000000 policy (five (five_tuple first.now)) (tuples_of steps.now)) }
     ensures too_large { IsErrOf result ReduceFault.TooLarge →
         1000000 < nodes_product (all_tags (five (five_tuple first.now) ∷ tuples_of steps.now)) }
 {
     let own = first.copy()?;
-    fold_owned(alloc, own, steps, policy)
+    fold_owned(alloc, own, steps, policy, MOST_NODES)
 }
 
-/// As `fold_chain`, for which the first is used up: its tag is not copied.
+/// As `fold_chain`, for which the first is used up, and its tag is not copied, and with a limit that the caller sets.
 ///
 /// # Errors
 ///
-/// Those of `fold_chain`.
+/// `TooLarge` where a step's tag is too large for what those before it became: the product of the numbers of their
+/// nodes is over `most`. `Memory` where memory ran out.
 pub fn fold_owned<'a>(
     alloc: Global,
     first: Five<'a>,
     steps: &[Step<'a>],
     policy: Policy,
+    most: usize,
 ) -> Result<Fold<'a>, ReduceFault>
+    requires { most ≤ 1000000 }
     ensures fold { IfOk result (λ fold. MatchFold fold
         (FoldsTo policy (five (five_tuple first.entry)) (tuples_of steps.now))
         (StopsAt policy (five (five_tuple first.entry)) (tuples_of steps.now))) }
@@ -87,14 +93,14 @@ pub fn fold_owned<'a>(
         (λ step cause. SupportsNothing policy (five (five_tuple first.entry) ∷ tuples_of steps.now))) }
     // When it is refused: the chain joins up to a step that is too large for what it became, so the product of all nodes is.
     ensures too_large_at { IsErrOf result ReduceFault.TooLarge →
-        TooLargeAt policy (five (five_tuple first.entry)) (tuples_of steps.now) }
-    ensures small { IfOk result (λ fold. ¬ TooLargeAt policy (five (five_tuple first.entry)) (tuples_of steps.now)) }
+        TooLargeAt most policy (five (five_tuple first.entry)) (tuples_of steps.now) }
+    ensures small { IfOk result (λ fold. ¬ TooLargeAt most policy (five (five_tuple first.entry)) (tuples_of steps.now)) }
     ensures too_large { IsErrOf result ReduceFault.TooLarge →
-        1000000 < nodes_product (all_tags (five (five_tuple first.entry) ∷ tuples_of steps.now)) }
+        most < nodes_product (all_tags (five (five_tuple first.entry) ∷ tuples_of steps.now)) }
 {
     let mut folded = first;
     for (place, step) in steps.iter().enumerate() {
-        match folded.joined(alloc, step, policy)? {
+        match folded.joined(alloc, step, policy, most)? {
             Joined::Done(next) => folded = next,
             Joined::Stopped(cause) => {
                 return Ok(Fold::Stopped {
@@ -126,7 +132,9 @@ impl<'a> Five<'a> {
         alloc: Global,
         step: &Step<'a>,
         policy: Policy,
+        most: usize,
     ) -> Result<Joined<Five<'a>>, ReduceFault>
+        requires { most ≤ 1000000 }
         ensures joined { IfOk result (λ joined. MatchJoined joined
             (λ f. BecomesFive policy (five (five_tuple self.entry)) (step_tuple step.now) f
             × (f.tag ≡ set none → (self.entry.tag ≡ set none) × (tags_of (step_tuple step.now) ≡ [])))
@@ -135,11 +143,11 @@ impl<'a> Five<'a> {
             (λ f. f.tag ≡ met (self.entry.tag ∷ tags_of (step_tuple step.now)))
             (λ cause. cause ≡ Cause.NoTag → met (self.entry.tag ∷ tags_of (step_tuple step.now)) ≡ set none)) }
         ensures too_large { IsErrOf result ReduceFault.TooLarge →
-            TooLargeFor policy (five_tuple self.entry) (step_tuple step.now) }
-        ensures small { IfOk result (λ joined. ¬ TooLargeFor policy (five_tuple self.entry) (step_tuple step.now)) }
+            TooLargeFor most policy (five_tuple self.entry) (step_tuple step.now) }
+        ensures small { IfOk result (λ joined. ¬ TooLargeFor most policy (five_tuple self.entry) (step_tuple step.now)) }
     {
         match step {
-            Step::Auth(next) => self.into_then(alloc, next, policy),
+            Step::Auth(next) => self.into_then(alloc, next, policy, most),
             Step::Name(definition) => self.into_resolve(definition, policy),
         }
     }

@@ -11,7 +11,7 @@ use thiserror::Error;
 /// Why tuples were not reduced, though they may join.
 #[derive(Clone, Copy, Debug, PartialEq, Eq, Error)]
 pub enum ReduceFault {
-    /// The product of the nodes of two tags is over 1,000,000.
+    /// The product of the nodes of two tags is over the limit, which is 1,000,000 or what the caller set.
     #[error("the tags are too large")]
     TooLarge,
     /// Memory was refused.

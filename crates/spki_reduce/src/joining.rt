@@ -1,6 +1,6 @@
 //! The rules by which two tuples become one (RFC 2693, sections 6.3 and 6.4).
 
-ghost use Rattle.std.specs.Prelude.{◌≡◌, ◌≢◌, ◌↔◌, true, [], ◌∷◌, ◌++◌, ◌*◌, ◌<◌, IsTrue, IfOk, IfErr, drop, IsFalse, IsErrOf};
+ghost use Rattle.std.specs.Prelude.{◌≡◌, ◌≢◌, ◌↔◌, true, [], ◌∷◌, ◌++◌, ◌*◌, ◌<◌, ◌≤◌, IsTrue, IfOk, IfErr, drop, IsFalse, IsErrOf};
 ghost use Rattle.spki_cert.specs.Naming.{names};
 ghost use Rattle.spki_cert.specs.Time.{IsMeet, Overlap};
 ghost use Rattle.spki_tag.specs.Tag.{nodes, set, none};
@@ -56,13 +56,16 @@ impl<'a> Five<'a> {
         }
     }
 
-    /// As `then`, for which this authorization is used up: what stays of its tag is not copied.
+    /// As `then`, for which this authorization is used up: what stays of its tag is not copied. `TooLarge` is for a product
+    /// over `most`.
     pub(crate) fn into_then(
         self,
         alloc: Global,
         next: &Five<'a>,
         policy: Policy,
+        most: usize,
     ) -> Result<Joined<Five<'a>>, ReduceFault>
+        requires { most ≤ 1000000 }
         ensures joined { IfOk result (λ joined. MatchJoined joined
             (λ f. BecomesFive policy (five (five_tuple self.entry)) (five (five_tuple next.now)) f × (f.tag ≢ set none))
             (λ cause. Stops policy (five (five_tuple self.entry)) (five (five_tuple next.now)) cause)) }
@@ -71,12 +74,12 @@ impl<'a> Five<'a> {
             (λ cause. cause ≡ Cause.NoTag → meet self.entry.tag next.now.tag ≡ set none)) }
         ensures too_large { IsErrOf result ReduceFault.TooLarge ↔
             (JoinButForTags policy (five_tuple self.entry) (five_tuple next.now)
-            × (1000000 < nodes self.entry.tag * nodes next.now.tag)) }
+            × (most < nodes self.entry.tag * nodes next.now.tag)) }
     {
         match self.window_with(next, policy) {
             Err(cause) => Ok(Joined::Stopped(cause)),
             Ok(window) => {
-                let tag = self.tag.into_meet(alloc, &next.tag)?;
+                let tag = self.tag.into_meet_within(alloc, &next.tag, most)?;
                 Ok(narrowed(self.issuer, tag, next, window)?)
             }
         }

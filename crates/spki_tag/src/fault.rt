@@ -58,7 +58,7 @@ impl<T: Drop> From<AllocFailed<T>> for TagFault {
 /// Why there is no intersection of two tags.
 #[derive(Clone, Copy, Debug, PartialEq, Eq, Error)]
 pub enum MeetFault {
-    /// The product of the numbers of their nodes is over 1,000,000.
+    /// The product of the numbers of their nodes is over the limit, which is 1,000,000 or what the caller set.
     #[error("too many nodes to meet")]
     TooLarge,
     /// Memory ran out.

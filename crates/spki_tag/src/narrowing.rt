@@ -289,10 +289,24 @@ impl Tag {
             × (ldepth c ≤ max (ldepth self) (ldepth other.now))) }
         ensures too_large { IsErrOf result MeetFault.TooLarge ↔ (1000000 < nodes self * nodes other.now) }
     {
-        if other.is_everything() {
-            return Ok(self);
-        }
-        if self.nodes() * other.nodes() > MOST_NODES {
+        self.into_meet_within(alloc, other, MOST_NODES)
+    }
+
+    /// As `into_meet`, for a caller that sets a smaller limit: `most` instead of 1,000,000.
+    ///
+    /// # Errors
+    ///
+    /// `TooLarge` where the product of the numbers of their nodes is over `most`, and `Memory` where memory ran out.
+    pub fn into_meet_within(self, alloc: Global, other: &Tag, most: usize) -> Result<Tag, MeetFault>
+        requires { most ≤ 1000000 }
+        ensures which { IfOk result (λ c. c ≡ meet self other.now) }
+        ensures exact { IfOk result (λ c. (g : Request) → IsRequest g
+            → contains c g ≡ (contains self g && contains other.now g)) }
+        ensures bounds { IfOk result (λ c. (nodes c ≤ nodes self * nodes other.now)
+            × (ldepth c ≤ max (ldepth self) (ldepth other.now))) }
+        ensures too_large { IsErrOf result MeetFault.TooLarge ↔ (most < nodes self * nodes other.now) }
+    {
+        if self.nodes() * other.nodes() > most {
             return Err(MeetFault::TooLarge);
         }
         Ok(meet_owned(alloc, self, other)?)

@@ -18,11 +18,11 @@ returns-in_err-next-clause-too_large_at c e =
     let same = same_fault c.from_residual.result c.in_err-next.field-0.0 TooLarge c.from_residual.ensures.1 e in
     too_large_here c.args.policy (five (five_tuple c.args.first)) c.args.steps.now c.loop-place.place
     c.index-steps-place.result c.loop-place.folded (omega arith) c.index-steps-place.is c.loop-place.invariant.folds
-    c.loop-place.invariant.which (c.in_err-next.ensures.too_large (ap Err same))
+    c.loop-place.invariant.which c.args.most (c.in_err-next.ensures.too_large (ap Err same))
 
 pub returns-in_err-next-clause-too_large : goal.returns-in_err-next-clause-too_large
 returns-in_err-next-clause-too_large c e =
-    too_large c.args.policy (five (five_tuple c.args.first)) (tuples_of c.args.steps.now)
+    too_large c.args.most c.args.policy (five (five_tuple c.args.first)) (tuples_of c.args.steps.now)
     (returns-in_err-next-clause-too_large_at c e)
 
 pub returns-in-Stopped-clause-fold : goal.returns-in-Stopped-clause-fold
@@ -45,7 +45,7 @@ returns-in-Stopped-clause-unsupported c =
 
 pub returns-in-Stopped-clause-small : goal.returns-in-Stopped-clause-small
 returns-in-Stopped-clause-small c =
-    small_stopped c.args.policy (five (five_tuple c.args.first)) c.args.steps.now c.loop-place.place
+    small_stopped c.args.most c.args.policy (five (five_tuple c.args.first)) c.args.steps.now c.loop-place.place
     c.index-steps-place.result c.loop-place.folded (omega arith) c.index-steps-place.is c.loop-place.invariant.folds
     c.loop-place.invariant.which c.loop-place.invariant.small c.in_ok-next.ensures.small c.in-Stopped.cause
     (returns-in-Stopped-clause-fold c)
@@ -61,7 +61,7 @@ loop-place-preserved c =
           ∙ met_here c.args.policy (five (five_tuple c.args.first)) c.args.steps.now c.loop-place.place
           c.index-steps-place.result c.loop-place.folded (omega arith) c.index-steps-place.is c.loop-place.invariant.folds
           c.loop-place.invariant.which;
-      small = small_here c.args.policy (five (five_tuple c.args.first)) c.args.steps.now c.loop-place.place
+      small = small_here c.args.most c.args.policy (five (five_tuple c.args.first)) c.args.steps.now c.loop-place.place
           c.index-steps-place.result c.loop-place.folded (omega arith) c.index-steps-place.is c.loop-place.invariant.folds
           c.loop-place.invariant.which c.loop-place.invariant.small c.in_ok-next.ensures.small;
       issuer = same_issuer c.args.policy c.loop-place.folded c.in-Done.next (step_tuple c.index-steps-place.result) made.0

@@ -9,7 +9,7 @@ abbrev pub invariant-loop-place : goal.invariant-loop-place
 invariant-loop-place l = record {
   folds : FoldsTo l.policy (five (five_tuple l.fn.first)) (take l.place (tuples_of l.steps)) l.folded;
   which : HasMet (five (five_tuple l.fn.first)) (take l.place (tuples_of l.steps)) l.folded;
-  small : TooLargeAt l.policy (five (five_tuple l.fn.first)) (take l.place (tuples_of l.steps)) → ⊥;
+  small : TooLargeAt l.most l.policy (five (five_tuple l.fn.first)) (take l.place (tuples_of l.steps)) → ⊥;
   issuer : issuer_of l.folded.issuer ≡ issuer_of l.fn.first.issuer;
   alone : l.place ≡ 0 → five_tuple l.folded ≡ five_tuple l.fn.first;
 }
