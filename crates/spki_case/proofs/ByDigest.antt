@@ -27,21 +27,27 @@ apart own digest ks n y =
     let own_is : bytes_eq own ks ≡ true = sym (is_eq-slice_cmp own ks) ∙ y in
     is_eq-slice_cmp digest ks ∙ nat_list_eq_equiv.symm digest ks ∙ sym (nat_list_eq_equiv.congr own ks digest own_is) ∙ n
 
--- the map after an insertion, at each digest
+-- the map after a value is put at octets, at each digest
+pub written : {X : Type 0} (own : List ℕ) (value : X) (old new : BTreeMap (Vec ℕ Global) X)
+    → UpdatesBy compared (λ k. slice_cmp nat_cmp own k.items) old new (Some value) → (digest : List ℕ)
+    → at_digest new digest ≡ cond (bytes_eq own digest) (Some value) (at_digest old digest)
+written {X = X} own value old new h digest = by (cases_Bool (bytes_eq own digest))
+  where
+    by : (bytes_eq own digest ≡ true) ⊎ (bytes_eq own digest ≡ false)
+        → at_digest new digest ≡ cond (bytes_eq own digest) (Some value) (at_digest old digest)
+    by (inl y) =
+        subst (λ l. at_digest new l ≡ Some value) ((bytes_eq-Decides own digest).0 y) h.1
+        ∙ sym (cond-true (bytes_eq own digest) (Some value) (at_digest old digest) y)
+    by (inr n) =
+        others _ old.entries new.entries h.3 _ (λ x y. (eq_by_cmp_equiv nat_list_cmp_total).congr digest x.items y.items)
+        (λ k. apart own digest k.items n)
+        ∙ sym (cond-false (bytes_eq own digest) (Some value) (at_digest old digest) n)
+
+-- after an insertion
 pub inserted : {X : Type 0} (own : Vec ℕ Global) (key : X) (old new : BTreeMap (Vec ℕ Global) X)
     → UpdatesBy compared (compared own) old new (Some key) → (digest : List ℕ)
     → at_digest new digest ≡ cond (bytes_eq own.items digest) (Some key) (at_digest old digest)
-inserted {X = X} own key old new h digest = by (cases_Bool (bytes_eq own.items digest))
-  where
-    by : (bytes_eq own.items digest ≡ true) ⊎ (bytes_eq own.items digest ≡ false)
-        → at_digest new digest ≡ cond (bytes_eq own.items digest) (Some key) (at_digest old digest)
-    by (inl y) =
-        subst (λ l. at_digest new l ≡ Some key) ((bytes_eq-Decides own.items digest).0 y) h.1
-        ∙ sym (cond-true (bytes_eq own.items digest) (Some key) (at_digest old digest) y)
-    by (inr n) =
-        others _ old.entries new.entries h.3 _ (λ x y. (eq_by_cmp_equiv nat_list_cmp_total).congr digest x.items y.items)
-        (λ k. apart own.items digest k.items n)
-        ∙ sym (cond-false (bytes_eq own.items digest) (Some key) (at_digest old digest) n)
+inserted own key old new h = written own.items key old new h
 
 -- ---- one behind others, where f says which of them has a digest
 

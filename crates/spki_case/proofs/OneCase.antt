@@ -100,6 +100,7 @@ case-one v c d read other =
     let request = request-one q.request c.request d.request (subst (λ (w : Value). RequestOf w c.request) same.request read.request) other.request in
     let moment = date-one q.at c.moment d.moment (subst (λ (w : Value). DateOf w c.moment) same.at read.moment) other.moment in
     let policy : c.policy ≡ d.policy = read.policy ∙ same.policy ∙ sym other.policy in
+    let limit : c.most_nodes ≡ d.most_nodes = read.limit ∙ sym other.limit in
     λ i. record {
       entries = entries i;
       rows = rows i;
@@ -108,6 +109,7 @@ case-one v c d read other =
       request = request i;
       moment = moment i;
       policy = policy i;
+      most_nodes = limit i;
     }
 
 -- a canonical text is that of one value

@@ -21,7 +21,8 @@ pub record Row : Type 0 where
   pub value : List ℕ
 
 -- The access list's entries, the signatures that are accepted, the items of the sequence that is shown, and what
--- is asked: whether the key may have the request at the moment, under the policy.
+-- is asked: whether the key may have the request at the moment, under the policy. In one intersection of two tags
+-- nodes(a) * nodes(b) is most_nodes at the most.
 pub record Case : Type 0 where
   pub entries : List Entry
   pub rows : List Row
@@ -30,6 +31,7 @@ pub record Case : Type 0 where
   pub request : Request
   pub moment : List ℕ
   pub policy : Policy
+  pub most_nodes : ℕ
 
 -- whether a row is of this key, message and value
 abbrev pub is_row_of : List ℕ → List ℕ → List ℕ → Row → Bool

@@ -72,7 +72,7 @@ pub record RequestOf (v : Value) (g : Request) : Type 0 where
   pub written : request_value g ≡ v
   pub is_request : IsRequest g
 
--- The value is the case.
+-- The value is the case, in which an intersection has the limit of all tags.
 pub record CaseOf (v : Value) (c : Case) : Type 0 where
   pub parts : Parts
   pub written : v ≡ case_value parts
@@ -83,6 +83,7 @@ pub record CaseOf (v : Value) (c : Case) : Type 0 where
   pub request : RequestOf parts.request c.request
   pub moment : DateOf parts.at c.moment
   pub policy : c.policy ≡ parts.policy
+  pub limit : c.most_nodes ≡ 1000000
 
 -- ---- refusals
 

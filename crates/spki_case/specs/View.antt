@@ -24,4 +24,5 @@ model c = record {
   request = c.request;
   moment = c.moment;
   policy = c.policy;
+  most_nodes = c.most_nodes;
 }

@@ -1,22 +1,22 @@
 //! Cases: an access list, what was accepted, what was shown, and what is asked.
 
-ghost use Rattle.std.specs.Prelude.{◌≡◌, ◌≢◌, ◌<◌, ◌↔◌, length, IfOk, IfErr, IsErrOf};
+ghost use Rattle.std.specs.Prelude.{◌≡◌, ◌≢◌, [], ◌<◌, ◌≤◌, ◌↔◌, length, IfOk, IfErr, IsErrOf};
 ghost use Rattle.spki_case.specs.CaseForm.{CaseOf, ValueRefused, IsCaseText, TextRefused};
 ghost use Rattle.spki_case.specs.Sequence.{AreSigned};
 ghost use Rattle.spki_case.specs.Texts.{IsOuter};
 
-use crate::digesting::{asking_key, digested_items};
+use crate::digesting::{asking_key, digested_items, entry_algorithms};
 use crate::parts::parts_of;
 use crate::rows::table_of;
 use crate::table::AcceptedTable;
 use sexpr_core::reading::Node;
 use sexpr_core::{Doc, FormFault};
 use spki_cert::{
-    CertFault, CertFaultKind, Date, Entry, Key, Policy, SeqItem, acl_of, date_of, key_of,
-    sequence_of,
+    Algorithms, CertFault, CertFaultKind, Date, Entry, Key, Policy, SeqItem, acl_of, date_of,
+    key_of, sequence_of,
 };
 use spki_tag::{Ground, TagFault};
-use std::alloc::Global;
+use std::alloc::{AllocError, Global};
 use thiserror::Error;
 
 /// Why a text is no case. The parts are read in the order of the variants, and the first that has no reading is named.
@@ -69,9 +69,16 @@ pub struct Case<'a> {
     pub moment: Date,
     /// Which hashes name keys.
     pub policy: Policy,
+    /// The greatest product of the numbers of nodes of two tags that are met.
+    pub most_nodes: usize,
     /// Each certificate is followed by its signature.
     ghost signed: { AreSigned sequence.items },
+    /// The limit is at most that of all tags.
+    ghost bounded: { most_nodes ≤ 1000000 },
 }
+
+/// The greatest product of the numbers of nodes of two tags that a case which is read has.
+const MOST_NODES: usize = 1_000_000;
 
 impl<'a> Case<'a> {
     ghost use Rattle.spki_case.specs.View.{model};
@@ -127,8 +134,9 @@ impl<'a> Case<'a> {
             Ok(moment) => moment,
             Err(kind) => return Err(CaseFault::At(outer_fault(kind))),
         };
-        let sequence = digested_items(sequence, &acl, parts.policy);
-        let key = asking_key(&key, &acl, &sequence, parts.policy);
+        let algorithms = entry_algorithms(&acl, parts.policy);
+        let sequence = digested_items(sequence, algorithms, parts.policy);
+        let key = asking_key(&key, algorithms, &sequence, parts.policy);
         Ok(Case {
             acl,
             accepted,
@@ -137,6 +145,50 @@ impl<'a> Case<'a> {
             request,
             moment,
             policy: parts.policy,
+            most_nodes: MOST_NODES,
+        })
+    }
+
+    /// A case without an access list and without an accepted list: what is shown, and what is asked, with the most nodes of an
+    /// intersection. Its keys carry their digests by these algorithms, those of the hashes in an access list that stands elsewhere,
+    /// and by those of the hashes in the sequence.
+    ///
+    /// # Errors
+    ///
+    /// Where memory was refused.
+    pub fn asking(
+        alloc: Global,
+        sequence: Vec<SeqItem<'a>>,
+        key: Key<'a>,
+        request: Ground,
+        moment: Date,
+        policy: Policy,
+        most_nodes: usize,
+        algorithms: Algorithms,
+    ) -> Result<Case<'a>, AllocError>
+        requires signed { AreSigned sequence.items }
+        requires bounded { most_nodes ≤ 1000000 }
+        ensures entries { IfOk result (λ c. c.acl.items ≡ []) }
+        ensures rows { IfOk result (λ c. c.accepted.rows.items ≡ []) }
+        ensures items { IfOk result (λ c. c.sequence.items ≡ sequence.entry.items) }
+        ensures key { IfOk result (λ c. c.key ≡ key.entry) }
+        ensures request { IfOk result (λ c. c.request ≡ request) }
+        ensures moment { IfOk result (λ c. c.moment ≡ moment) }
+        ensures policy { IfOk result (λ c. c.policy ≡ policy) }
+        ensures limit { IfOk result (λ c. c.most_nodes ≡ most_nodes) }
+    {
+        let accepted = AcceptedTable::new(alloc, Vec::new(alloc))?;
+        let sequence = digested_items(sequence, algorithms, policy);
+        let key = asking_key(&key, algorithms, &sequence, policy);
+        Ok(Case {
+            acl: Vec::new(alloc),
+            accepted,
+            sequence,
+            key,
+            request,
+            moment,
+            policy,
+            most_nodes,
         })
     }
 

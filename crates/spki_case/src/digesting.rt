@@ -6,15 +6,15 @@ ghost use Rattle.std.specs.Prelude.{◌≡◌};
 use spki_cert::{Algorithms, Entry, Key, Policy, Principal, SeqItem};
 
 /// The items of a sequence, whose keys carry their digests by the algorithms of the hashes that they may be compared with: those
-/// of the access list and of the sequence (RFC 2693, section 2.5). Takes no memory.
+/// of the access list, which are given, and those of the sequence (RFC 2693, section 2.5). Takes no memory.
 pub(crate) fn digested_items<'a>(
     items: Vec<SeqItem<'a>>,
-    acl: &[Entry],
+    algorithms: Algorithms,
     policy: Policy,
 ) -> Vec<SeqItem<'a>>
     ensures { result.items ≡ items.entry.items }
 {
-    let algorithms = all_algorithms(acl, &items, policy);
+    let algorithms = all_algorithms(algorithms, &items, policy);
     let mut items = items;
     for place in 0..items.len() {
         digest_item(&mut items[place], algorithms);
@@ -23,16 +23,17 @@ pub(crate) fn digested_items<'a>(
 }
 
 /// The key that asks, with its digests by the algorithms of the hashes that it may be compared with: those of the last
-/// certificate's subject, or of the access list's subjects where there is no certificate. Takes no memory.
+/// certificate's subject, or of the access list's subjects, whose algorithms are given, where there is no certificate. Takes no
+/// memory.
 pub(crate) fn asking_key<'a>(
     key: &Key<'a>,
-    acl: &[Entry],
+    algorithms: Algorithms,
     items: &[SeqItem],
     policy: Policy,
 ) -> Key<'a>
     ensures { result ≡ key.now }
 {
-    let mut algorithms = entry_algorithms(acl, policy);
+    let mut algorithms = algorithms;
     for item in items {
         if let Some(subject) = subject_of(item) {
             algorithms = Algorithms::none().with(subject, policy);
@@ -64,9 +65,9 @@ fn digest_principal(principal: &mut Principal, algorithms: Algorithms)
     }
 }
 
-/// The algorithms of the hashes in an access list and in a sequence.
-fn all_algorithms(acl: &[Entry], items: &[SeqItem], policy: Policy) -> Algorithms {
-    let mut algorithms = entry_algorithms(acl, policy);
+/// These algorithms, and those of the hashes in a sequence.
+fn all_algorithms(algorithms: Algorithms, items: &[SeqItem], policy: Policy) -> Algorithms {
+    let mut algorithms = algorithms;
     for item in items {
         algorithms = item_algorithms(algorithms, item, policy);
     }
@@ -74,7 +75,7 @@ fn all_algorithms(acl: &[Entry], items: &[SeqItem], policy: Policy) -> Algorithm
 }
 
 /// The algorithms of the hashes in an access list.
-fn entry_algorithms(acl: &[Entry], policy: Policy) -> Algorithms {
+pub(crate) fn entry_algorithms(acl: &[Entry], policy: Policy) -> Algorithms {
     let mut algorithms = Algorithms::none();
     for entry in acl {
         algorithms = algorithms.with(&entry.subject.principal, policy);

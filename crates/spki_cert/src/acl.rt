@@ -41,8 +41,12 @@ fn entry_subject<'a>(alloc: Global, node: &Node<'_, 'a>) -> Result<Subject<'a>, 
     }
 }
 
-/// The entry that a node is.
-fn entry_of<'a>(alloc: Global, node: &Node<'_, 'a>) -> Result<Entry<'a>, CertFaultKind>
+/// The entry that a node is, `(entry subject ..)`, as `read_acl` reads those of an access list (RFC 2693, section 3.4).
+///
+/// # Errors
+///
+/// The first fault from the left. `Memory` where memory ran out.
+pub fn entry_of<'a>(alloc: Global, node: &Node<'_, 'a>) -> Result<Entry<'a>, CertFaultKind>
     ensures entry { IfOk result (λ entry. EntryOf node.now entry) }
     ensures refused { IfErr result (λ kind. kind ≢ CertFaultKind.Memory → (e : spec.Entry) → EntryOf node.now e → ⊥) }
     ensures faultless { IfOk result (λ _. entry_fault node.now ≡ None) }

@@ -24,7 +24,7 @@ mod validity;
 mod version;
 mod window;
 
-pub use acl::{acl_of, read_acl};
+pub use acl::{acl_of, entry_of, read_acl};
 pub use algorithms::Algorithms;
 pub use certificate::{AuthCert, NameCert, SeqItem, Signature};
 pub use date::Date;

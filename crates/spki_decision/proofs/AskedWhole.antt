@@ -1,12 +1,11 @@
 -- Two verifiers that agree on what they are asked give the same answers.
-use Rattle.std.proofs.Common.{◌≡◌, ℕ, zero, suc, slice_get, List, [], ◌∷◌, ◌++◌, Some, None, true, IsTrue, refl, sym, subst, Result, Ok, Err}
+use Rattle.std.proofs.Common.{◌≡◌, ℕ, zero, suc, slice_get, List, [], ◌∷◌, ◌++◌, Some, refl, subst, Result, Ok, Err}
 use Rattle.std.specs.List.{AllZip, AllByRecursion}
 use Rattle.std.proofs.lemmas.Option.{none-some}
 use Rattle.spki_cert.specs.declared.principal.Policy.{Policy}
-use Rattle.spki_cert.specs.Naming.{names, is_digest}
 use Rattle.spki_reduce.specs.Tuples.{Tuple}
 use Rattle.spki_case.specs.Case.{Case, Verified}
-use Rattle.spki_case.specs.Sequence.{Shown, issuer_of, octets_of, keys_of, certificates}
+use Rattle.spki_case.specs.Sequence.{Shown, octets_of, keys_of, certificates}
 use Rattle.spki_decision.specs.declared.judging.Stop.{Stop}
 use Rattle.spki_decision.specs.declared.judging.Stop.TheVariants.{KeyNotShown, DigestDiffers, SignerDiffers, NotAccepted}
 use Rattle.spki_decision.specs.declared.deciding.Decision.{Decision}
@@ -17,13 +16,13 @@ use Rattle.spki_decision.specs.declared.explaining.Explanation.{Explanation}
 use Rattle.spki_decision.specs.declared.explaining.Explanation.TheVariants as explanation
 use Rattle.spki_decision.specs.declared.reducing.Reduction.{Reduction}
 use Rattle.spki_decision.specs.declared.reducing.Reduction.TheVariants as reduction
-use Rattle.spki_decision.specs.Standing.{issuer_key, Stands, StandsAs, FailsBy, FailsAt, AreShown}
-use Rattle.spki_decision.specs.Granted.{Granted, IsFirstGranted, IsTooLarge}
-use Rattle.spki_decision.specs.Decision.{IsDecision, IsUnrefused}
-use Rattle.spki_decision.specs.Explained.{IsExplanation, AreReasons}
-use Rattle.spki_decision.specs.Reduced.{IsReduction, IsFailure, AreFolds, SomeTooLarge}
+use Rattle.spki_decision.specs.Standing.{Stands, StandsAs, FailsBy, AreShown}
+use Rattle.spki_decision.specs.Granted.{Granted, IsTooLarge}
+use Rattle.spki_decision.specs.Decision.{IsDecision}
+use Rattle.spki_decision.specs.Reduced.{IsReduction, IsFailure, SomeTooLarge}
 use Rattle.spki_decision.specs.Answered.{IsDecided, IsExplained, IsReduced}
-use Rattle.spki_decision.specs.Asked.{Signed, asked_of, asked_with, asked_in, asked, before_all, IsAccepted, AgreeOn}
+use Rattle.spki_decision.proofs.AskedOf.{stands_asked}
+use Rattle.spki_decision.specs.Asked.{Signed, asked_of, asked_in, asked, before_all, IsAccepted, AgreeOn}
 
 swap : (one other : Verified) (signatures : List Signed) → AgreeOn one other signatures → AgreeOn other one signatures
 swap one other [] agree = tt
@@ -32,10 +31,6 @@ swap one other (s ∷ signatures) agree = ((agree.0.1, agree.0.0), swap one othe
 -- ---- certificates
 
 module _ (policy : Policy) (keys : List (List ℕ)) (one other : Verified) where
-  stands_asked : (s : Shown) (holder : List ℕ) → (a : Stands policy keys one s holder)
-      → asked_of policy keys s ≡ Some (record { item = s.item; key = holder; message = octets_of s.certificate; value = a.signature.value })
-  stands_asked s holder a = rw (a.issued, a.signed, a.digest, a.signer) refl
-
   agreed : (s : Shown) (t : Signed) (others : List Signed) → asked_of policy keys s ≡ Some t
       → AgreeOn one other (before_all (asked_of policy keys s) others)
       → ((IsAccepted one t → IsAccepted other t) × (IsAccepted other t → IsAccepted one t)) × AgreeOn one other others
@@ -44,7 +39,7 @@ module _ (policy : Policy) (keys : List (List ℕ)) (one other : Verified) where
   stands : (s : Shown) (holder : List ℕ) (others : List Signed) → AgreeOn one other (before_all (asked_of policy keys s) others)
       → Stands policy keys one s holder → Stands policy keys other s holder × AgreeOn one other others
   stands s holder others agree a =
-      let both = agreed s _ others (stands_asked s holder a) agree in (
+      let both = agreed s _ others (stands_asked policy keys one s holder a) agree in (
         record {
           issued = a.issued;
           signature = a.signature;
@@ -56,7 +51,7 @@ module _ (policy : Policy) (keys : List (List ℕ)) (one other : Verified) where
         both.1,
       )
 
-  all_shown : (shown : List Shown) (ts : List Tuple) → AgreeOn one other (asked_in policy keys shown)
+  pub all_shown : (shown : List Shown) (ts : List Tuple) → AgreeOn one other (asked_in policy keys shown)
       → AllZip (StandsAs policy keys one) shown ts → AllZip (StandsAs policy keys other) shown ts
   all_shown [] [] agree a = tt
   all_shown [] (t ∷ ts) agree a = absurd a
@@ -80,7 +75,7 @@ module _ (policy : Policy) (keys : List (List ℕ)) (one other : Verified) where
   fails_by s others SignerDiffers agree f = f
   fails_by s others NotAccepted agree f = not_accepted s others agree f
 
-  all_before : (before : List Shown) (s : Shown) (after : List Shown) (stop : Stop) → AgreeOn one other (asked_in policy keys (before ++ s ∷ after))
+  pub all_before : (before : List Shown) (s : Shown) (after : List Shown) (stop : Stop) → AgreeOn one other (asked_in policy keys (before ++ s ∷ after))
       → AllByRecursion (λ shown. (holder : List ℕ) × Stands policy keys one shown holder) before → FailsBy policy keys one s stop
       → AllByRecursion (λ shown. (holder : List ℕ) × Stands policy keys other shown holder) before × FailsBy policy keys other s stop
   all_before [] s after stop agree standing f = (tt, fails_by s (asked_in policy keys after) stop agree f)
@@ -105,7 +100,7 @@ module _ (policy : Policy) (keys : List (List ℕ)) (verified : Verified) where
   accepted_at [] ts place s a stands = absurd (none-some s stands)
   accepted_at (x ∷ shown) [] place s a stands = absurd a
   accepted_at (x ∷ shown) (t ∷ ts) place s a stands =
-      let parted = rw (stands_asked policy keys verified verified x a.0.holder a.0.stands) at stands in
+      let parted = rw (stands_asked policy keys verified x a.0.holder a.0.stands) at stands in
       accepted_here _ (asked_in policy keys shown) place s a.0.stands.accepted (λ p e. accepted_at shown ts p s a.1 e) parted
 
 -- ---- cases

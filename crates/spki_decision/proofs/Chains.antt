@@ -51,11 +51,15 @@ module _ (items : List SeqItem) (kept : List ShownCert) (same : map shown_of kep
   taken : take (i + 1) (map shown_of kept) ≡ take i (map shown_of kept) ++ shown_of one ∷ []
   taken = rw at_place at (take_more (map shown_of kept) i (shown_of one) below)
 
+  pub rest_here : drop i (map shown_of kept) ≡ shown_of one ∷ drop (i + 1) (map shown_of kept)
+  rest_here =
+      let first = rw at_place at (drop-cons (map shown_of kept) i (shown_of one) below) in
+      rw (← add-one) at first
+
   parted : certificates items ≡ take i (map shown_of kept) ++ shown_of one ∷ drop (i + 1) (map shown_of kept)
   parted =
       let parts = take-append-drop i (map shown_of kept) in
-      let first = rw at_place at (drop-cons (map shown_of kept) i (shown_of one) below) in
-      sym same ∙ sym parts ∙ ap (λ rest. take i (map shown_of kept) ++ rest) (rw (← add-one) at first)
+      sym same ∙ sym parts ∙ ap (λ rest. take i (map shown_of kept) ++ rest) rest_here
 
   module _ (policy : Policy) (verified : Verified) where
     stood : (front : List Shown) (ts : List Tuple) → AllZip (StandsAs policy (keys_of items) verified) front ts

@@ -31,12 +31,12 @@ module _ (c : Case) (tuples : List Tuple) (place : ℕ) (e : Entry) (stands : sl
       λ k f below there. all k below f there
 
   -- nor is the chain of one more too large
-  pub small_yet : ¬ TooLargeAt c.policy (five (entry_tuple e)) tuples → SmallBefore c tuples place → SmallBefore c tuples (place + 1)
+  pub small_yet : ¬ TooLargeAt c.most_nodes c.policy (five (entry_tuple e)) tuples → SmallBefore c tuples place → SmallBefore c tuples (place + 1)
   small_yet small before =
-      let this : (f : Entry) → slice_get c.entries place ≡ Some f → ¬ TooLargeAt c.policy (five (entry_tuple f)) tuples =
+      let this : (f : Entry) → slice_get c.entries place ≡ Some f → ¬ TooLargeAt c.most_nodes c.policy (five (entry_tuple f)) tuples =
       λ f there. let same = same_entry c place f e there stands in rw same small in
       let all : (k : ℕ) → k < place + 1 → (f : Entry) → slice_get c.entries k ≡ Some f
-      → ¬ TooLargeAt c.policy (five (entry_tuple f)) tuples =
+      → ¬ TooLargeAt c.most_nodes c.policy (five (entry_tuple f)) tuples =
       below_more _ _ (λ k below f there. before k f below there) this in
       λ k f below there. all k below f there
 
@@ -89,5 +89,5 @@ module _ (c : Case) (verified : Verified) (tuples : List Tuple) (shown : AreShow
     tuples = tuples;
     shown = shown;
     at = h.at;
-    large = large c.policy (five (entry_tuple h.entry)) tuples h.at;
+    large = large c.most_nodes c.policy (five (entry_tuple h.entry)) tuples h.at;
   }

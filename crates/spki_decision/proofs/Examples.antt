@@ -84,6 +84,7 @@ module _ (verified : Verified) where
     request = ftp;
     moment = codes "2024-01-01_00:00:00";
     policy = Open;
+    most_nodes = 1000000;
   }
 
   -- ---- second-entry, without certificates

@@ -53,22 +53,22 @@ supported_named c (t ∷ others) e s =
     let begun = front c.policy s.tree (five s.supports.root) (five (entry_tuple e)) (t ∷ []) others s.supports.derived s.leaves_are in
     first_joined c.policy c.key e t others begun.0 begun.1
 
-large_first : (c : Case) (e : Entry) (t : Tuple) (others : List Tuple) → TooLargeFor c.policy (entry_tuple e) t → IsOf c.policy e (first_key c.key (t ∷ others))
+large_first : (c : Case) (e : Entry) (t : Tuple) (others : List Tuple) → TooLargeFor c.most_nodes c.policy (entry_tuple e) t → IsOf c.policy e (first_key c.key (t ∷ others))
 large_first c e (five right) others large = issued c.policy c.key e right others large.0.issues
 large_first c e (four right) others large = absurd large
 
 large_at : (c : Case) (e : Entry) (t : Tuple) (others : List Tuple) (tuple : Tuple) (root : FiveTuple) (place : ℕ) → slice_get (t ∷ others) place ≡ Some tuple
-    → Derives c.policy (from_left (five (entry_tuple e)) (take place (t ∷ others))) (five root) → TooLargeFor c.policy root tuple → IsOf c.policy e (first_key c.key (t ∷ others))
+    → Derives c.policy (from_left (five (entry_tuple e)) (take place (t ∷ others))) (five root) → TooLargeFor c.most_nodes c.policy root tuple → IsOf c.policy e (first_key c.key (t ∷ others))
 large_at c e t others tuple root zero stands d large =
     let same_root : root ≡ entry_tuple e = five_same root (entry_tuple e) d in
     let same_tuple : tuple ≡ t = sym (some_same t tuple stands) in
-    large_first c e t others (subst (λ (b : Tuple). TooLargeFor c.policy (entry_tuple e) b) same_tuple (subst (λ (r : FiveTuple). TooLargeFor c.policy r tuple) same_root large))
+    large_first c e t others (subst (λ (b : Tuple). TooLargeFor c.most_nodes c.policy (entry_tuple e) b) same_tuple (subst (λ (r : FiveTuple). TooLargeFor c.most_nodes c.policy r tuple) same_root large))
 large_at c e t others tuple root (suc place) stands d large =
     let begun = front c.policy (from_left (five (entry_tuple e)) (t ∷ take place others)) (five root) (five (entry_tuple e)) (t ∷ []) (take place others) d
     (from_left-leaves (five (entry_tuple e)) (t ∷ take place others)) in
     first_joined c.policy c.key e t others begun.0 begun.1
 
 -- nor is one whose chain is too large at a step
-pub large_named : (c : Case) (tuples : List Tuple) (e : Entry) → TooLargeAt c.policy (five (entry_tuple e)) tuples → IsOf c.policy e (first_key c.key tuples)
+pub large_named : (c : Case) (tuples : List Tuple) (e : Entry) → TooLargeAt c.most_nodes c.policy (five (entry_tuple e)) tuples → IsOf c.policy e (first_key c.key tuples)
 large_named c [] e l = absurd (no_place l.place l.tuple l.stands)
 large_named c (t ∷ others) e l = large_at c e t others l.tuple l.root l.place l.stands l.before.derived l.too_large

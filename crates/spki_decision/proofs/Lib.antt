@@ -1,4 +1,5 @@
 pub mod Items
+pub mod AskedOf
 pub mod Chains
 pub mod Finding
 pub mod Evident
@@ -15,3 +16,4 @@ pub mod Unrefused
 pub mod LeftOut
 pub mod KeptEntries
 pub mod AskedWhole
+pub mod Answering

@@ -92,15 +92,15 @@ module _ (c : Case) (items : List Entry) (place : ℕ) (e : Entry) (same : items
   stands : slice_get c.entries place ≡ Some e
   stands = rw same at (slice_get-get_or items place e below ∙ ap Some (sym read))
 
-  pub small_here : (tuples : List Tuple) → ¬ TooLargeAt c.policy (five (entry_tuple e)) tuples → SmallBefore c tuples place
+  pub small_here : (tuples : List Tuple) → ¬ TooLargeAt c.most_nodes c.policy (five (entry_tuple e)) tuples → SmallBefore c tuples place
       → SmallBefore c tuples (place + 1)
   small_here tuples small before = small_yet c tuples place e stands small before
 
-  pub large_here : (tuples : List Tuple) → TooLargeAt c.policy (five (entry_tuple e)) tuples → HasLargeTags c tuples
+  pub large_here : (tuples : List Tuple) → TooLargeAt c.most_nodes c.policy (five (entry_tuple e)) tuples → HasLargeTags c tuples
   large_here tuples h = record {
     place = place;
     entry = e;
     stands = stands;
     at = h;
-    large = too_large c.policy (five (entry_tuple e)) tuples h;
+    large = too_large c.most_nodes c.policy (five (entry_tuple e)) tuples h;
   }

@@ -1,6 +1,6 @@
 -- What a verifier is asked of a sequence: the signatures of the certificates that pass the other three tests, up to the first
 -- certificate that fails one of them (RFC 2693, section 6).
-use Rattle.std.specs.Prelude.{ℕ, List, [], ◌∷◌, Option, Some, None, ◌&&◌, if◌then◌else◌, option_and_then}
+use Rattle.std.specs.Prelude.{◌≡◌, ℕ, List, [], ◌∷◌, ◌++◌, length, Option, Some, None, ◌&&◌, if◌then◌else◌, option_and_then}
 use Rattle.std.specs.List.{AllByRecursion}
 use Rattle.spki_cert.specs.declared.principal.Policy.{Policy}
 use Rattle.spki_cert.specs.declared.certificate.Signature as signature
@@ -49,3 +49,21 @@ IsAccepted verified s = verified s.key s.message s.value
 -- Two verifiers agree on signatures.
 abbrev pub AgreeOn : Verified → Verified → List Signed → Type 0
 AgreeOn one other signatures = AllByRecursion (λ s. (IsAccepted one s → IsAccepted other s) × (IsAccepted other s → IsAccepted one s)) signatures
+
+-- what is accepted by a verifier that accepts everything
+abbrev pub every : Verified
+every key message value = Unit {0}
+
+-- Of some signatures this is the first that isn't accepted, if there is one; its place is counted from 0.
+pub record RefusedAt (verified : Verified) (signatures : List Signed) (place : ℕ) : Type 0 where
+  pub before : List Signed
+  pub refused : Signed
+  pub after : List Signed
+  pub parts : signatures ≡ before ++ refused ∷ after
+  pub place_is : place ≡ length before
+  pub accepted : AllByRecursion (IsAccepted verified) before
+  pub not_accepted : ¬ IsAccepted verified refused
+
+abbrev pub IsFirstRefused : Verified → List Signed → Option ℕ → Type 0
+IsFirstRefused verified signatures None = AllByRecursion (IsAccepted verified) signatures
+IsFirstRefused verified signatures (Some place) = RefusedAt verified signatures place

@@ -37,7 +37,7 @@ IsNoneGranted c verified = (n : ℕ) → ¬ Granted n c verified
 
 -- Every certificate stands, and there is an entry, with none before it granted, whose chain is too large at a step: no
 -- certificate before it stops the chain, which joins it but for the tags. So the product of the nodes of the entry's tag
--- and of all the certificates' tags is over 1,000,000.
+-- and of all the certificates' tags is over the case's limit.
 pub record IsTooLarge (c : Case) (verified : Verified) : Type 0 where
   pub place : ℕ
   pub entry : Entry
@@ -45,8 +45,8 @@ pub record IsTooLarge (c : Case) (verified : Verified) : Type 0 where
   pub none_granted : (n : ℕ) → n < suc place → ¬ Granted n c verified
   pub tuples : List Tuple
   pub shown : AreShown c.policy verified c.items tuples
-  pub at : TooLargeAt c.policy (five (entry_tuple entry)) tuples
-  pub large : 1000000 < nodes_product (all_tags (five (entry_tuple entry) ∷ tuples))
+  pub at : TooLargeAt c.most_nodes c.policy (five (entry_tuple entry)) tuples
+  pub large : c.most_nodes < nodes_product (all_tags (five (entry_tuple entry) ∷ tuples))
 
 -- ---- policies
 

@@ -7,6 +7,7 @@ use Rattle.spki_cert.specs.Naming.{names}
 use Rattle.spki_reduce.specs.Tuples.{Issuer, own, key, Tuple, five, four}
 use Rattle.spki_case.specs.Case.{Case, Verified}
 use Rattle.spki_decision.specs.Standing.{AreShown}
+use Rattle.spki_decision.specs.Views.{with_entries}
 use Rattle.spki_decision.specs.declared.deciding.Decision.{Decision}
 use Rattle.spki_decision.specs.declared.deciding.Decision.TheVariants.{Yes, No}
 use Rattle.spki_decision.specs.declared.deciding.GuardFault.{GuardFault}
@@ -51,7 +52,7 @@ second k = k.1
 
 -- the case with these entries alone
 abbrev pub kept_case : Case → List (ℕ × Entry) → Case
-kept_case c kept = record c { entries = map second kept }
+kept_case c kept = with_entries c (map second kept)
 
 -- The same decision, where an entry's number in the part is given by its number in the list.
 abbrev pub IsRenumbered : List (ℕ × Entry) → Decision → Decision → Type 0

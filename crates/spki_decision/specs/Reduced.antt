@@ -92,11 +92,11 @@ pub record HasLargeTags (c : Case) (tuples : List Tuple) : Type 0 where
   pub place : ℕ
   pub entry : Entry
   pub stands : slice_get c.entries place ≡ Some entry
-  pub at : TooLargeAt c.policy (five (entry_tuple entry)) tuples
-  pub large : 1000000 < nodes_product (all_tags (five (entry_tuple entry) ∷ tuples))
+  pub at : TooLargeAt c.most_nodes c.policy (five (entry_tuple entry)) tuples
+  pub large : c.most_nodes < nodes_product (all_tags (five (entry_tuple entry) ∷ tuples))
 
 -- Every certificate stands, and the chain of some entry is too large at a step. So the product of the nodes of its tag
--- and of all the certificates' tags is over 1,000,000.
+-- and of all the certificates' tags is over the case's limit.
 pub record SomeTooLarge (c : Case) (verified : Verified) : Type 0 where
   pub tuples : List Tuple
   pub shown : AreShown c.policy verified c.items tuples

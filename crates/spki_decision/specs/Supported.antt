@@ -34,7 +34,7 @@ Names c tuples No = (k : ℕ) (e : Entry) → slice_get c.entries k ≡ Some e �
 -- no entry before a place has a chain that is too large at a step
 abbrev pub SmallBefore : Case → List Tuple → ℕ → Type 0
 SmallBefore c tuples place =
-    (k : ℕ) (e : Entry) → k < place → slice_get c.entries k ≡ Some e → ¬ TooLargeAt c.policy (five (entry_tuple e)) tuples
+    (k : ℕ) (e : Entry) → k < place → slice_get c.entries k ≡ Some e → ¬ TooLargeAt c.most_nodes c.policy (five (entry_tuple e)) tuples
 
 -- no entry has
 abbrev pub AllSmall : Case → List Tuple → Type 0
@@ -51,4 +51,4 @@ pub record HasLarge (c : Case) (tuples : List Tuple) : Type 0 where
   pub entry : Entry
   pub stands : slice_get c.entries place ≡ Some entry
   pub none_before : NoneBefore c tuples place
-  pub at : TooLargeAt c.policy (five (entry_tuple entry)) tuples
+  pub at : TooLargeAt c.most_nodes c.policy (five (entry_tuple entry)) tuples

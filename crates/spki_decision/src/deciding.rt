@@ -2,6 +2,7 @@
 
 ghost use Rattle.std.specs.Prelude.{◌≡◌, ◌↔◌, List, IsTrue, IfOk, IsErrOf};
 ghost use Rattle.spki_case.specs.View.{model};
+ghost use Rattle.spki_decision.specs.Views.{with_entries};
 ghost use Rattle.spki_reduce.specs.Tuples.{five};
 ghost use Rattle.spki_reduce.specs.Chain.{tuples_of, TooLargeAt};
 ghost use Rattle.spki_reduce.specs.Views.{entry_tuple};
@@ -29,7 +30,7 @@ pub enum Decision {
 /// Why a case was not decided.
 #[derive(Clone, Copy, Debug, PartialEq, Eq, Error)]
 pub enum GuardFault {
-    /// The product of the nodes of a certificate's tag and of what stands before it is over 1,000,000.
+    /// The product of the nodes of a certificate's tag and of what stands before it is over the case's `most_nodes`.
     #[error("the tags are too large")]
     TooLarge,
     /// Memory was refused, to the guard or to the verifier.
@@ -76,7 +77,7 @@ impl From<ReduceFault> for GuardFault {
 /// # Errors
 ///
 /// `TooLarge` only where the certificates stand, and for an entry with none before it granted the tag of one of them
-/// is too large for what the entry and those before it became: the product of their nodes is over 1,000,000. `Memory`
+/// is too large for what the entry and those before it became: the product of their nodes is over `most_nodes`. `Memory`
 /// where memory was refused, to this or to the verifier.
 pub fn decide<V: Verifier>(alloc: Global, case: &Case, verifier: &V) -> Result<Decision, GuardFault>
     ensures exact { IfOk result (IsDecision (model case.now) (V.accepted verifier.now)) }
@@ -86,21 +87,27 @@ pub fn decide<V: Verifier>(alloc: Global, case: &Case, verifier: &V) -> Result<D
 {
     match judge(alloc, &case.sequence, case.policy, verifier)? {
         Evidence::Fails { .. } => Ok(Decision::No),
-        Evidence::Stands { steps, .. } => first_granted(alloc, case, &steps),
+        Evidence::Stands { steps, .. } => first_granted(alloc, &case.acl, case, &steps),
     }
 }
 
-/// The first entry that grants what is asked, where the certificates that are shown are these steps.
-fn first_granted<'a>(
+/// The first entry of an access list that grants what a case asks, where the certificates that it shows are these steps. The
+/// case's own list isn't looked at.
+///
+/// # Errors
+///
+/// Those of `decide`.
+pub fn first_granted<'a>(
     alloc: Global,
+    acl: &[Entry<'a>],
     case: &Case<'a>,
     steps: &[Step<'a>],
 ) -> Result<Decision, GuardFault>
-    ensures named { IfOk result (Names (model case.now) (tuples_of steps.now)) }
-    ensures too_large { IsErrOf result GuardFault.TooLarge → HasLarge (model case.now) (tuples_of steps.now) }
-    ensures small { IfOk result (SmallUpTo (model case.now) (tuples_of steps.now)) }
+    ensures named { IfOk result (Names (with_entries (model case.now) acl.now) (tuples_of steps.now)) }
+    ensures too_large { IsErrOf result GuardFault.TooLarge → HasLarge (with_entries (model case.now) acl.now) (tuples_of steps.now) }
+    ensures small { IfOk result (SmallUpTo (with_entries (model case.now) acl.now) (tuples_of steps.now)) }
 {
-    for (place, entry) in case.acl.iter().enumerate() {
+    for (place, entry) in acl.iter().enumerate() {
         if grants(alloc, entry, steps, case)? {
             return Ok(Decision::Yes(place + 1));
         }
@@ -117,11 +124,11 @@ fn grants<'a>(
 ) -> Result<bool, GuardFault>
     ensures exact { IfOk result (λ yes. IsTrue yes ↔ Supported (model case.now) (tuples_of steps.now) entry.now) }
     ensures too_large { IsErrOf result GuardFault.TooLarge →
-        TooLargeAt case.now.policy (five (entry_tuple entry.now)) (tuples_of steps.now) }
-    ensures small { IfOk result (λ yes. ¬ TooLargeAt case.now.policy (five (entry_tuple entry.now)) (tuples_of steps.now)) }
+        TooLargeAt case.now.most_nodes case.now.policy (five (entry_tuple entry.now)) (tuples_of steps.now) }
+    ensures small { IfOk result (λ yes. ¬ TooLargeAt case.now.most_nodes case.now.policy (five (entry_tuple entry.now)) (tuples_of steps.now)) }
 {
     case.request.known();
-    match fold_entry(alloc, entry, steps, case.policy)? {
+    match fold_entry(alloc, entry, steps, case.policy, case.most_nodes)? {
         Fold::Stopped { .. } => Ok(false),
         Fold::Done(five) => {
             let lack = five.first_lack(&case.key, &case.request, &case.moment, case.policy);

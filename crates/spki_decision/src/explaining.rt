@@ -1,9 +1,11 @@
 //! Why the entries of a case grant what is asked, or don't (RFC 2693, section 6.3).
 
-ghost use Rattle.std.specs.Prelude.{◌≡◌, map, length, IfOk, OnOk, IsErrOf};
+ghost use Rattle.std.specs.Prelude.{◌≡◌, List, map, length, IfOk, OnOk, IsErrOf};
 ghost use Rattle.std.specs.List.{AllZip};
 ghost use Rattle.spki_case.specs.View.{model};
+ghost use Rattle.spki_decision.specs.Views.{with_entries};
 ghost use Rattle.spki_case.specs.Sequence.{certificates};
+ghost use Rattle.spki_cert.specs.declared.entry.Entry.{Entry};
 ghost use Rattle.spki_reduce.specs.Tuples.{five};
 ghost use Rattle.spki_reduce.specs.Chain.{tuples_of, TooLargeAt};
 ghost use Rattle.spki_reduce.specs.Views.{entry_tuple};
@@ -62,7 +64,7 @@ pub enum Explanation {
 /// # Errors
 ///
 /// `TooLarge` only where the certificates stand, and for some entry the tag of one of them is too large for what the
-/// entry and those before it became: the product of their nodes is over 1,000,000. `Memory` where memory was refused,
+/// entry and those before it became: the product of their nodes is over `most_nodes`. `Memory` where memory was refused,
 /// to this or to the verifier.
 pub fn explain<V: Verifier>(
     alloc: Global,
@@ -76,15 +78,21 @@ pub fn explain<V: Verifier>(
     match judge(alloc, &case.sequence, case.policy, verifier)? {
         Evidence::Fails { item, stop } => Ok(Explanation::Evidence { item, stop }),
         Evidence::Stands { items, steps } => {
-            let reasons = entry_reasons(alloc, case, &items, &steps)?;
+            let reasons = entry_reasons(alloc, &case.acl, case, &items, &steps)?;
             Ok(Explanation::Entries(reasons))
         }
     }
 }
 
-/// The reason of each entry with the steps behind it. The items are those of the steps.
-fn entry_reasons<'a>(
+/// The reason of each entry of an access list with the steps behind it. The items are those of the steps. The case's own list
+/// isn't looked at.
+///
+/// # Errors
+///
+/// Those of `explain`.
+pub fn entry_reasons<'a>(
     alloc: Global,
+    acl: &[Entry<'a>],
     case: &Case<'a>,
     items: &[usize],
     steps: &[Step<'a>],
@@ -92,12 +100,12 @@ fn entry_reasons<'a>(
     requires numbered { items.now ≡ map (λ shown. shown.item) (certificates case.now.sequence.items) }
     requires as_many { length steps.now ≡ length items.now }
     ensures each { IfOk result (λ reasons.
-        AllZip (IsReason (model case.now) (tuples_of steps.now)) case.now.acl.items reasons.items) }
-    ensures too_large { IsErrOf result GuardFault.TooLarge → HasLargeTags (model case.now) (tuples_of steps.now) }
-    ensures small { OnOk result (AllSmall (model case.now) (tuples_of steps.now)) }
+        AllZip (IsReason (with_entries (model case.now) acl.now) (tuples_of steps.now)) acl.now reasons.items) }
+    ensures too_large { IsErrOf result GuardFault.TooLarge → HasLargeTags (with_entries (model case.now) acl.now) (tuples_of steps.now) }
+    ensures small { OnOk result (AllSmall (with_entries (model case.now) acl.now) (tuples_of steps.now)) }
 {
     let mut reasons = Vec::new(alloc);
-    for entry in &case.acl {
+    for entry in acl {
         reasons.push(entry_reason(alloc, case, entry, items, steps)?)?;
     }
     Ok(reasons)
@@ -113,10 +121,11 @@ fn entry_reason<'a>(
 ) -> Result<Reason, GuardFault>
     requires numbered { items.now ≡ map (λ shown. shown.item) (certificates case.now.sequence.items) }
     requires as_many { length steps.now ≡ length items.now }
-    ensures exact { IfOk result (IsReason (model case.now) (tuples_of steps.now) entry.now) }
+    ensures exact { (es : List Entry) →
+        IfOk result (IsReason (with_entries (model case.now) es) (tuples_of steps.now) entry.now) }
     ensures too_large { IsErrOf result GuardFault.TooLarge →
-        TooLargeAt case.now.policy (five (entry_tuple entry.now)) (tuples_of steps.now) }
-    ensures small { IfOk result (λ reason. ¬ TooLargeAt case.now.policy (five (entry_tuple entry.now)) (tuples_of steps.now)) }
+        TooLargeAt case.now.most_nodes case.now.policy (five (entry_tuple entry.now)) (tuples_of steps.now) }
+    ensures small { IfOk result (λ reason. ¬ TooLargeAt case.now.most_nodes case.now.policy (five (entry_tuple entry.now)) (tuples_of steps.now)) }
 {
     match entry_fold(alloc, case, entry, items, steps)? {
         EntryFold::Stopped { item, cause } => Ok(Reason::Stopped { item, cause }),

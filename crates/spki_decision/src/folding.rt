@@ -1,6 +1,6 @@
 //! What an entry and the steps behind it become (RFC 2693, section 6.3).
 
-ghost use Rattle.std.specs.Prelude.{◌≡◌, [], ◌∷◌, IfOk, IsErrOf};
+ghost use Rattle.std.specs.Prelude.{◌≡◌, ◌≤◌, [], ◌∷◌, IfOk, IsErrOf};
 ghost use Rattle.spki_reduce.specs.Tuples.{five, own};
 ghost use Rattle.spki_reduce.specs.Views.{issuer_of, entry_tuple, five_tuple};
 ghost use Rattle.spki_reduce.specs.Chain.{tuples_of, FoldsTo, StopsAt, HasMet, TooLargeAt, Excludes, SupportsNothing, MatchFold};
@@ -9,13 +9,15 @@ use spki_cert::{Entry, Policy};
 use spki_reduce::{Five, Fold, Issuer, ReduceFault, Step, fold_owned};
 use std::alloc::{AllocError, Global};
 
-/// What an entry's own 5-tuple and the steps behind it become, joined in turn.
+/// What an entry's own 5-tuple and the steps behind it become, joined in turn, with this limit of an intersection.
 pub(crate) fn fold_entry<'a>(
     alloc: Global,
     entry: &Entry<'a>,
     steps: &[Step<'a>],
     policy: Policy,
+    most: usize,
 ) -> Result<Fold<'a>, ReduceFault>
+    requires { most ≤ 1000000 }
     ensures fold { IfOk result (λ fold. MatchFold fold
         (FoldsTo policy (five (entry_tuple entry.now)) (tuples_of steps.now))
         (StopsAt policy (five (entry_tuple entry.now)) (tuples_of steps.now))) }
@@ -30,11 +32,11 @@ pub(crate) fn fold_entry<'a>(
     ensures unsupported { IfOk result (λ fold. MatchFold fold (λ f. Unit {0})
         (λ step cause. SupportsNothing policy (five (entry_tuple entry.now) ∷ tuples_of steps.now))) }
     ensures too_large { IsErrOf result ReduceFault.TooLarge →
-        TooLargeAt policy (five (entry_tuple entry.now)) (tuples_of steps.now) }
-    ensures small { IfOk result (λ fold. ¬ TooLargeAt policy (five (entry_tuple entry.now)) (tuples_of steps.now)) }
+        TooLargeAt most policy (five (entry_tuple entry.now)) (tuples_of steps.now) }
+    ensures small { IfOk result (λ fold. ¬ TooLargeAt most policy (five (entry_tuple entry.now)) (tuples_of steps.now)) }
 {
     let own = own_five(entry)?;
-    fold_owned(alloc, own, steps, policy)
+    fold_owned(alloc, own, steps, policy, most)
 }
 
 /// An entry's 5-tuple, whose issuer is the keeper of the access list (RFC 2693, section 6.1).

@@ -1,18 +1,15 @@
 //! The evidence of a sequence: the four tests of each certificate.
 
-ghost use Rattle.std.specs.Prelude.{◌≡◌, ◌↔◌, IfOk, OnOk, IsSome, IsTrue};
-ghost use Rattle.spki_cert.specs.Naming.{digest_of};
-ghost use Rattle.spki_case.specs.Sequence.{keys_of};
+ghost use Rattle.std.specs.Prelude.{◌↔◌, map, IfOk, IsTrue};
 ghost use Rattle.spki_case.specs.Sequence.{AreSigned};
-ghost use Rattle.spki_decision.specs.Views.{shown_of};
-ghost use Rattle.spki_decision.specs.Steps.{IsTested};
+ghost use Rattle.spki_decision.specs.Views.{signed_of};
+ghost use Rattle.spki_decision.specs.Asked.{IsAccepted, IsFirstRefused};
 ghost use Rattle.spki_decision.specs.Judged.{IsEvidence};
 
-use crate::certificates::{ShownCert, certificates_of};
-use crate::holder::keys_of;
-use crate::shown_keys::ShownKeys;
+use crate::examination::examine;
+use crate::signed::Signed;
 use spki_case::Verifier;
-use spki_cert::{HashAlg, Key, Policy, SeqItem, Signature};
+use spki_cert::{HashAlg, Policy, SeqItem};
 use spki_reduce::Step;
 use std::alloc::{AllocError, Global};
 
@@ -48,15 +45,6 @@ pub enum Evidence<'a> {
     },
 }
 
-/// What the four tests of one certificate say.
-#[derive(Drop)]
-pub(crate) enum Tested<'a> {
-    /// It stands, and its issuer has this key.
-    Stands(Key<'a>),
-    /// This is the first test that it doesn't pass.
-    Fails(Stop),
-}
-
 /// The evidence of a sequence, in which each certificate is followed by its signature: whether each certificate stands,
 /// in order (RFC 2693, section 6). The verifier is asked with a certificate's canonical form as the message.
 ///
@@ -72,77 +60,52 @@ pub fn judge<'a, V: Verifier>(
     requires { AreSigned sequence.now }
     ensures { IfOk result (IsEvidence policy (V.accepted verifier.now) sequence.now) }
 {
-    let mut keys = ShownKeys::new(keys_of(alloc, sequence)?);
-    let certificates = certificates_of(alloc, sequence)?;
-    let mut items = Vec::new(alloc);
-    let mut steps = Vec::new(alloc);
-    for shown in &certificates {
-        match test(alloc, shown, &mut keys, policy, verifier)? {
-            Tested::Stands(holder) => {
-                items.push(shown.item)?;
-                steps.push(shown.certificate.step(&holder)?)?;
-            }
-            Tested::Fails(stop) => {
-                return Ok(Evidence::Fails {
-                    item: shown.item,
-                    stop,
-                });
-            }
+    let examined = examine(alloc, sequence, policy)?;
+    match first_refused(alloc, &examined.signed, verifier)? {
+        None => Ok(examined.evidence),
+        Some(place) => Ok(Evidence::Fails {
+            item: examined.signed[place].item,
+            stop: Stop::NotAccepted,
+        }),
+    }
+}
+
+/// The place, from 0, of the first of these signatures that the verifier doesn't accept; None where it accepts each.
+///
+/// # Errors
+///
+/// Where memory was refused, to the verifier.
+pub fn first_refused<V: Verifier>(
+    alloc: Global,
+    signed: &[Signed],
+    verifier: &V,
+) -> Result<Option<usize>, AllocError>
+    ensures { IfOk result (IsFirstRefused (V.accepted verifier.now) (map signed_of signed.now)) }
+{
+    for (place, one) in signed.iter().enumerate() {
+        if !is_accepted(alloc, verifier, one)? {
+            return Ok(Some(place));
         }
     }
-    Ok(Evidence::Stands { items, steps })
+    Ok(None)
 }
 
-/// The four tests of a certificate, one after the other.
-fn test<'a, V: Verifier>(
-    alloc: Global,
-    shown: &ShownCert<'_, 'a>,
-    keys: &mut ShownKeys<'a>,
-    policy: Policy,
-    verifier: &V,
-) -> Result<Tested<'a>, AllocError>
-    requires { IsSome (shown_of shown.now).signature }
-    ensures tested { IfOk result (IsTested policy keys.old (V.accepted verifier.now) (shown_of shown.now)) }
-    ensures kept { OnOk result (keys.new ≡ keys.old) }
-{
-    let octets = shown.certificate.octets();
-    let Some(signature) = shown.signature else {
-        unreachable!()
-    };
-    let Some(holder) = keys.holder(alloc, &shown.certificate.issuer(), policy)? else {
-        return Ok(Tested::Fails(Stop::KeyNotShown));
-    };
-    if !signature.alg.fits(signature.digest.as_slice(), octets) {
-        return Ok(Tested::Fails(Stop::DigestDiffers));
-    }
-    if !signature.signer.names(&holder, policy) {
-        return Ok(Tested::Fails(Stop::SignerDiffers));
-    }
-    if is_accepted(alloc, verifier, &holder, octets, signature)? {
-        Ok(Tested::Stands(holder))
-    } else {
-        Ok(Tested::Fails(Stop::NotAccepted))
-    }
-}
-
-/// Whether the verifier accepts a signature of the octets whose digest it has. A digest by SHA-256 is handed on to the verifier,
-/// so that a certificate is digested once.
+/// Whether the verifier accepts a signature. A digest by SHA-256 is handed on to the verifier, so that a certificate is
+/// digested once.
 fn is_accepted<V: Verifier>(
     alloc: Global,
     verifier: &V,
-    holder: &Key,
-    octets: &[u8],
-    signature: &Signature,
+    signed: &Signed,
 ) -> Result<bool, AllocError>
-    requires { digest_of signature.now.alg octets.now ≡ signature.now.digest }
-    ensures { IfOk result (λ yes. IsTrue yes ↔ V.accepted verifier.now holder.now octets.now signature.now.value) }
+    ensures { IfOk result (λ yes. IsTrue yes ↔ IsAccepted (V.accepted verifier.now) (signed_of signed.now)) }
 {
-    let value = signature.value.as_slice();
-    match signature.alg {
+    let message = signed.message.as_slice();
+    let value = signed.value.as_slice();
+    match signed.alg {
         HashAlg::Sha256 => {
-            let digest = signature.digest.as_slice();
-            verifier.accepts_digested(alloc, holder, octets, digest, value)
+            let digest = signed.digest.as_slice();
+            verifier.accepts_digested(alloc, &signed.key, message, digest, value)
         }
-        HashAlg::Sha1 | HashAlg::Sha512 => verifier.accepts(alloc, holder, octets, value),
+        HashAlg::Sha1 | HashAlg::Sha512 => verifier.accepts(alloc, &signed.key, message, value),
     }
 }

@@ -86,7 +86,7 @@ pub fn no_refusal<V: Verifier>()
 pub fn left_out()
     ensures nothing { (c : Case) (tuples : List Tuple) (e : Entry) → IsLeftOut c tuples e → ¬ Supported c tuples e }
     ensures small { (c : Case) (tuples : List Tuple) (e : Entry) → IsLeftOut c tuples e
-        → ¬ TooLargeAt c.policy (five (entry_tuple e)) tuples }
+        → ¬ TooLargeAt c.most_nodes c.policy (five (entry_tuple e)) tuples }
 {}
 
 /// So the decision of a list is that of its other entries, with their numbers in the list: entries may be kept anywhere and

@@ -4,6 +4,7 @@
 
 mod certificates;
 mod deciding;
+mod examination;
 mod explaining;
 mod folding;
 mod holder;
@@ -11,10 +12,13 @@ mod judging;
 pub mod laws;
 mod reducing;
 mod shown_keys;
+mod signed;
 
 pub use certificates::{Certificate, ShownCert, certificates_of};
-pub use deciding::{Decision, GuardFault, decide};
-pub use explaining::{Explanation, Reason, explain};
+pub use deciding::{Decision, GuardFault, decide, first_granted};
+pub use examination::{Examined, examine};
+pub use explaining::{Explanation, Reason, entry_reasons, explain};
 pub use holder::{first_named, keys_of};
-pub use judging::{Evidence, Stop, judge};
-pub use reducing::{EntryFold, Reduction, reduce_case};
+pub use judging::{Evidence, Stop, first_refused, judge};
+pub use reducing::{EntryFold, Reduction, entry_folds, reduce_case};
+pub use signed::Signed;

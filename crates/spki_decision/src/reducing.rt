@@ -1,9 +1,11 @@
 //! What the entries of a case become (RFC 2693, section 6.3).
 
-ghost use Rattle.std.specs.Prelude.{◌≡◌, map, length, IfOk, OnOk, IsErrOf};
+ghost use Rattle.std.specs.Prelude.{◌≡◌, List, map, length, IfOk, OnOk, IsErrOf};
 ghost use Rattle.std.specs.List.{AllZip, AllByRecursion};
 ghost use Rattle.spki_case.specs.View.{model};
+ghost use Rattle.spki_decision.specs.Views.{with_entries};
 ghost use Rattle.spki_case.specs.Sequence.{certificates};
+ghost use Rattle.spki_cert.specs.declared.entry.Entry.{Entry};
 ghost use Rattle.spki_reduce.specs.Tuples.{five};
 ghost use Rattle.spki_reduce.specs.Chain.{tuples_of, TooLargeAt};
 ghost use Rattle.spki_reduce.specs.Views.{entry_tuple};
@@ -53,7 +55,7 @@ pub enum Reduction<'a> {
 /// # Errors
 ///
 /// `TooLarge` only where the certificates stand, and for some entry the tag of one of them is too large for what the
-/// entry and those before it became: the product of their nodes is over 1,000,000. `Memory` where memory was refused,
+/// entry and those before it became: the product of their nodes is over `most_nodes`. `Memory` where memory was refused,
 /// to this or to the verifier.
 pub fn reduce_case<'a, V: Verifier>(
     alloc: Global,
@@ -69,15 +71,21 @@ pub fn reduce_case<'a, V: Verifier>(
     match judge(alloc, &case.sequence, case.policy, verifier)? {
         Evidence::Fails { item, stop } => Ok(Reduction::Evidence { item, stop }),
         Evidence::Stands { items, steps } => {
-            let folds = entry_folds(alloc, case, &items, &steps)?;
+            let folds = entry_folds(alloc, &case.acl, case, &items, &steps)?;
             Ok(Reduction::Entries(folds))
         }
     }
 }
 
-/// What each entry and the steps behind it become. The items are those of the steps.
-fn entry_folds<'a>(
+/// What each entry of an access list and the steps behind it become. The items are those of the steps. The case's own list isn't
+/// looked at.
+///
+/// # Errors
+///
+/// Those of `reduce_case`.
+pub fn entry_folds<'a>(
     alloc: Global,
+    acl: &[Entry<'a>],
     case: &Case<'a>,
     items: &[usize],
     steps: &[Step<'a>],
@@ -85,14 +93,14 @@ fn entry_folds<'a>(
     requires numbered { items.now ≡ map (λ shown. shown.item) (certificates case.now.sequence.items) }
     requires as_many { length steps.now ≡ length items.now }
     ensures each { IfOk result (λ folds.
-        AllZip (IsEntryFold (model case.now) (tuples_of steps.now)) case.now.acl.items folds.items) }
+        AllZip (IsEntryFold (with_entries (model case.now) acl.now) (tuples_of steps.now)) acl.now folds.items) }
     ensures dated { IfOk result (λ folds. AllByRecursion IsDated folds.items) }
     ensures end { IfOk result (λ folds. AllByRecursion EndsAtDate folds.items) }
-    ensures too_large { IsErrOf result GuardFault.TooLarge → HasLargeTags (model case.now) (tuples_of steps.now) }
-    ensures small { OnOk result (AllSmall (model case.now) (tuples_of steps.now)) }
+    ensures too_large { IsErrOf result GuardFault.TooLarge → HasLargeTags (with_entries (model case.now) acl.now) (tuples_of steps.now) }
+    ensures small { OnOk result (AllSmall (with_entries (model case.now) acl.now) (tuples_of steps.now)) }
 {
     let mut folds = Vec::new(alloc);
-    for entry in &case.acl {
+    for entry in acl {
         folds.push(entry_fold(alloc, case, entry, items, steps)?)?;
     }
     Ok(folds)
@@ -108,15 +116,16 @@ pub(crate) fn entry_fold<'a>(
 ) -> Result<EntryFold<'a>, GuardFault>
     requires numbered { items.now ≡ map (λ shown. shown.item) (certificates case.now.sequence.items) }
     requires as_many { length steps.now ≡ length items.now }
-    ensures exact { IfOk result (IsEntryFold (model case.now) (tuples_of steps.now) entry.now) }
+    ensures exact { (es : List Entry) →
+        IfOk result (IsEntryFold (with_entries (model case.now) es) (tuples_of steps.now) entry.now) }
     ensures issuer { IfOk result IsOwn }
     ensures dated { IfOk result IsDated }
     ensures end { IfOk result EndsAtDate }
     ensures too_large { IsErrOf result GuardFault.TooLarge →
-        TooLargeAt case.now.policy (five (entry_tuple entry.now)) (tuples_of steps.now) }
-    ensures small { IfOk result (λ fold. ¬ TooLargeAt case.now.policy (five (entry_tuple entry.now)) (tuples_of steps.now)) }
+        TooLargeAt case.now.most_nodes case.now.policy (five (entry_tuple entry.now)) (tuples_of steps.now) }
+    ensures small { IfOk result (λ fold. ¬ TooLargeAt case.now.most_nodes case.now.policy (five (entry_tuple entry.now)) (tuples_of steps.now)) }
 {
-    match fold_entry(alloc, entry, steps, case.policy)? {
+    match fold_entry(alloc, entry, steps, case.policy, case.most_nodes)? {
         Fold::Done(five) => {
             known(&five.window);
             Ok(EntryFold::Done(five))

@@ -40,7 +40,7 @@ returns-clause-small g c =
     rw c.in-Stands.is at c.in_ok-judge.ensures in
     let shown : AreShown c.args.case.now.policy verified c.args.case.now.sequence.items (tuples_of c.in-Stands.steps.items) =
     rw c.deref.ensures.value at evidence.1 in
-    let small = rw c.deref-in-Stands.ensures.value at c.first_granted.ensures.small in
+    let small = rw (c.deref-in-Stands-2.ensures.value, c.deref-in-Stands.ensures.value) at c.first_granted.ensures.small in
     kept (model c.args.case.now) verified (tuples_of c.in-Stands.steps.items) shown c.first_granted.result small
 
 pub returns-in-Fails-clause-exact : goal.returns-in-Fails-clause-exact
@@ -59,7 +59,7 @@ returns-clause-exact g c =
     rw c.in-Stands.is at c.in_ok-judge.ensures in
     let shown : AreShown c.args.case.now.policy verified c.args.case.now.sequence.items (tuples_of c.in-Stands.steps.items) =
     rw c.deref.ensures.value at evidence.1 in
-    let named = rw c.deref-in-Stands.ensures.value at c.first_granted.ensures.named in
+    let named = rw (c.deref-in-Stands-2.ensures.value, c.deref-in-Stands.ensures.value) at c.first_granted.ensures.named in
     lifted (model c.args.case.now) verified (tuples_of c.in-Stands.steps.items) shown c.first_granted.result named
 
 pub returns-clause-too_large : goal.returns-clause-too_large
@@ -70,5 +70,5 @@ returns-clause-too_large g c h =
     let shown : AreShown c.args.case.now.policy verified c.args.case.now.sequence.items (tuples_of c.in-Stands.steps.items) =
     rw c.deref.ensures.value at evidence.1 in
     let large : HasLarge (model c.args.case.now) (tuples_of c.in-Stands.steps.items) =
-    rw c.deref-in-Stands.ensures.value at (c.first_granted.ensures.too_large h) in
+    rw (c.deref-in-Stands-2.ensures.value, c.deref-in-Stands.ensures.value) at (c.first_granted.ensures.too_large h) in
     too_large (model c.args.case.now) verified (tuples_of c.in-Stands.steps.items) shown large

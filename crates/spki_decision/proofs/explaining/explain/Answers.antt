@@ -14,9 +14,9 @@ entry_reasons-requires-clause-as_many g c =
     let policy = c.args.case.now.policy in
     let evidence : IsEvidence policy verified c.deref.result.now (Stands c.in-Stands.items c.in-Stands.steps) =
     rw c.in-Stands.is at c.in_ok-item.ensures in
-    ap length c.deref-in-Stands-2.ensures.value
+    ap length c.deref-in-Stands-3.ensures.value
     ∙ as_many policy verified c.deref.result.now c.in-Stands.items.items c.in-Stands.steps.items evidence.0 evidence.1
-    ∙ sym (ap length c.deref-in-Stands.ensures.value)
+    ∙ sym (ap length c.deref-in-Stands-2.ensures.value)
 
 pub returns-in-Fails-clause-exact : goal.returns-in-Fails-clause-exact
 returns-in-Fails-clause-exact g c =
@@ -37,7 +37,7 @@ returns-in_ok-reasons-in-Stands-clause-exact g c =
     rw c.in-Stands.is at c.in_ok-item.ensures in
     let shown : AreShown policy verified items (tuples_of c.in-Stands.steps.items) =
     rw c.deref.ensures.value at evidence.1 in
-    let each = rw c.deref-in-Stands-2.ensures.value at c.in_ok-reasons-in-Stands.ensures.each in
-    let small = rw c.deref-in-Stands-2.ensures.value at c.in_ok-reasons-in-Stands.ensures.small in
+    let each = rw (c.deref-in-Stands-3.ensures.value, c.deref-in-Stands.ensures.value) at c.in_ok-reasons-in-Stands.ensures.each in
+    let small = rw (c.deref-in-Stands-3.ensures.value, c.deref-in-Stands.ensures.value) at c.in_ok-reasons-in-Stands.ensures.small in
     are_reasons (model c.args.case.now) verified (tuples_of c.in-Stands.steps.items) c.in_ok-reasons-in-Stands.reasons.items
     c.known.ensures shown each small

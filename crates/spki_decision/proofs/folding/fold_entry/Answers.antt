@@ -26,5 +26,5 @@ returns-clause-which c = rw c.in_ok-own.ensures at c.fold_owned.ensures.which
 
 pub returns-clause-too_large : goal.returns-clause-too_large
 returns-clause-too_large c h =
-    let P : FiveTuple → Type 0 = λ own. TooLargeAt c.args.policy (five own) (tuples_of c.args.steps.now) in
+    let P : FiveTuple → Type 0 = λ own. TooLargeAt c.args.most c.args.policy (five own) (tuples_of c.args.steps.now) in
     subst P c.in_ok-own.ensures (c.fold_owned.ensures.too_large_at h)

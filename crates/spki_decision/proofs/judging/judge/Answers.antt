@@ -1,45 +1,39 @@
-use Rattle.std.proofs.Common.{◌≡◌, ◌∙◌, ap, map}
-use Rattle.spki_decision.specs.declared.judging.Tested.TheVariants.{Stands as Passes, Fails}
-use Rattle.spki_case.specs.Sequence.{certificates, keys_of}
-use Rattle.spki_decision.specs.Standing.{Stands, FailsBy}
-use Rattle.spki_decision.specs.Steps.{IsTested}
-use Rattle.spki_decision.specs.Views.{shown_of}
-use Rattle.spki_decision.proofs.Chains.{signed_here, failing_here, numbered, standing_more}
+use Rattle.std.proofs.Common.{ℕ, Some, None, map, ap, sym, ◌∙◌, subst, List, arith}
+use Rattle.std.specs.List.{AllByRecursion}
+use Rattle.spki_decision.specs.declared.judging.Stop.TheVariants.{NotAccepted}
+use Rattle.spki_decision.specs.Standing.{FailsAt}
+use Rattle.spki_decision.specs.Views.{signed_of}
+use Rattle.spki_decision.specs.Asked.{Signed, IsAccepted, IsFirstRefused, RefusedAt}
+use Rattle.spki_decision.proofs.Answering.{all_accepted, not_accepted, refused_within, refused_item}
 use Rattle.spki_decision.proofs.judging.judge.Goals as goal
 
-pub test-requires : goal.test-requires
-test-requires g c =
-    let items = c.args.sequence.now in
-    let kept = c.deref-shown-items.result.now in
-    let same : map shown_of kept ≡ certificates items = ap (map shown_of) c.deref-shown-items.ensures.value ∙ c.in_ok-certificates.ensures in
-    signed_here items kept same c.loop-shown.shown-index c.loop-shown-test.true c.shown-item.result c.shown-item.is c.requires
-
-pub returns-in-Fails : goal.returns-in-Fails
-returns-in-Fails g c =
-    let items = c.args.sequence.now in
-    let kept = c.deref-shown-items.result.now in
+pub returns-in-None : goal.returns-in-None
+returns-in-None g c =
     let verified = g.V.Verifier.accepted c.args.verifier.now in
-    let same : map shown_of kept ≡ certificates items = ap (map shown_of) c.deref-shown-items.ensures.value ∙ c.in_ok-certificates.ensures in
-    let keys : c.loop-shown.keys ≡ keys_of items = c.loop-shown.invariant.2 in
-    let tested : IsTested c.args.policy c.loop-shown.keys verified (shown_of c.shown-item.result) (Fails c.in-Fails.stop) =
-    rw c.in-Fails.is at c.in_ok-holder.ensures.tested in
-    let fails : FailsBy c.args.policy (keys_of items) verified (shown_of c.shown-item.result) c.in-Fails.stop = rw keys at tested in
-    failing_here items kept same c.loop-shown.shown-index c.loop-shown-test.true c.shown-item.result c.shown-item.is
-    c.args.policy verified (map _ c.loop-shown.steps.items) c.in-Fails.stop c.loop-shown.invariant.1 fails
+    let first : IsFirstRefused verified (map signed_of c.deref.result.now) None = rw c.in-None.is at c.in_ok-first_refused.ensures in
+    let accepted : AllByRecursion (IsAccepted verified) (map signed_of c.in_ok-examined.examined.signed.items) =
+    rw c.deref.ensures.value at first in
+    all_accepted c.args.policy verified c.args.sequence.now c.in_ok-examined.examined.evidence
+    (subst (λ (xs : List Signed). AllByRecursion (IsAccepted verified) xs) c.in_ok-examined.ensures.asked accepted) c.in_ok-examined.ensures.evidence
 
-pub loop-shown-preserved : goal.loop-shown-preserved
-loop-shown-preserved g c =
-    let items = c.args.sequence.now in
-    let kept = c.deref-shown-items.result.now in
+pub index-requires : goal.index-requires
+index-requires g c =
     let verified = g.V.Verifier.accepted c.args.verifier.now in
-    let same : map shown_of kept ≡ certificates items = ap (map shown_of) c.deref-shown-items.ensures.value ∙ c.in_ok-certificates.ensures in
-    let keys : c.loop-shown.keys ≡ keys_of items = c.loop-shown.invariant.2 in
-    let tested : IsTested c.args.policy c.loop-shown.keys verified (shown_of c.shown-item.result) (Passes c.in-Stands.holder) =
-    rw c.in-Stands.is at c.in_ok-holder.ensures.tested in
-    let stands : Stands c.args.policy (keys_of items) verified (shown_of c.shown-item.result) c.in-Stands.holder = rw keys at tested in
-    let i = c.loop-shown.shown-index in
-    let one = c.shown-item.result in
-    let more = numbered items kept same i c.loop-shown-test.true one c.shown-item.is c.args.policy verified c.loop-shown.items.items c.loop-shown.invariant.0 in
-    let grown = standing_more items kept same i c.loop-shown-test.true one c.shown-item.is c.args.policy verified c.loop-shown.steps.items
-    c.in_ok-step-in-Stands.field-0 c.in-Stands.holder c.loop-shown.invariant.1 stands c.in_ok-step-in-Stands.ensures in
-    (c.in_ok-push-in-Stands.ensures.items ∙ more, rw c.in_ok-push-in-Stands-2.ensures.items grown, c.in_ok-holder.ensures.kept ∙ keys)
+    let first : IsFirstRefused verified (map signed_of c.deref.result.now) (Some c.in-Some.place) = rw c.in-Some.is at c.in_ok-first_refused.ensures in
+    let within = refused_within verified c.deref.result.now c.in-Some.place first in
+    let long = c.deref.ensures.len in
+    omega arith
+
+pub returns : goal.returns
+returns g c =
+    let verified = g.V.Verifier.accepted c.args.verifier.now in
+    let policy = c.args.policy in
+    let items = c.args.sequence.now in
+    let first : IsFirstRefused verified (map signed_of c.deref.result.now) (Some c.in-Some.place) = rw c.in-Some.is at c.in_ok-first_refused.ensures in
+    let refused : RefusedAt verified (map signed_of c.in_ok-examined.examined.signed.items) c.in-Some.place =
+    rw c.deref.ensures.value at first in
+    let item_is = c.index.ensures in
+    let same = ap (λ s. s.item) item_is ∙ refused_item verified c.in_ok-examined.examined.signed.items c.in-Some.place refused c.index.result.now in
+    let fails = not_accepted policy verified items (map signed_of c.in_ok-examined.examined.signed.items) c.in-Some.place
+    c.in_ok-examined.ensures.asked refused in
+    subst (λ (n : ℕ). FailsAt policy verified items n NotAccepted) (sym same) fails

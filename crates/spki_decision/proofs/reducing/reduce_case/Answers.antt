@@ -12,9 +12,9 @@ entry_folds-requires-clause-as_many g c =
     let policy = c.args.case.now.policy in
     let evidence : IsEvidence policy verified c.deref.result.now (Stands c.in-Stands.items c.in-Stands.steps) =
     rw c.in-Stands.is at c.in_ok-item.ensures in
-    ap length c.deref-in-Stands-2.ensures.value
+    ap length c.deref-in-Stands-3.ensures.value
     ∙ as_many policy verified c.deref.result.now c.in-Stands.items.items c.in-Stands.steps.items evidence.0 evidence.1
-    ∙ sym (ap length c.deref-in-Stands.ensures.value)
+    ∙ sym (ap length c.deref-in-Stands-2.ensures.value)
 
 pub returns-in-Fails-clause-exact : goal.returns-in-Fails-clause-exact
 returns-in-Fails-clause-exact g c =

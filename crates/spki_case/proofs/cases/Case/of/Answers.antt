@@ -106,7 +106,6 @@ returns-in-Err-date_of-clause-refused c =
       };
     })
 
-pub invariant_of-result : goal.invariant_of-result
-invariant_of-result c = record {
-  signed = rw c.digested_items-sequence.ensures (signed c.in-Some.parts.sequence c.in-Ok-sequence_of.items.items c.in-Ok-sequence_of.ensures.sequence);
-}
+pub invariant_of-result-clause-signed : goal.invariant_of-result-clause-signed
+invariant_of-result-clause-signed c =
+    rw c.digested_items-sequence.ensures (signed c.in-Some.parts.sequence c.in-Ok-sequence_of.items.items c.in-Ok-sequence_of.ensures.sequence)

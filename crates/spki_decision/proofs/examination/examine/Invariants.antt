@@ -1,0 +1,18 @@
+use Rattle.std.proofs.Common.{◌≡◌, ◌++◌, map, take, drop}
+use Rattle.std.specs.List.{AllZip}
+use Rattle.spki_reduce.specs.Views.{step_tuple}
+use Rattle.spki_case.specs.Sequence.{keys_of}
+use Rattle.spki_decision.specs.Standing.{StandsAs}
+use Rattle.spki_decision.specs.Asked.{asked_in, every}
+use Rattle.spki_decision.specs.Views.{shown_of, signed_of}
+use Rattle.spki_decision.proofs.examination.examine.Given as goal
+
+abbrev pub invariant-loop-shown : goal.invariant-loop-shown
+invariant-loop-shown l = record {
+  numbered : l.items.items ≡ map (λ s. s.item) (take l.shown-index (map shown_of l.shown-items));
+  standing : AllZip (StandsAs l.policy (keys_of l.sequence) every) (take l.shown-index (map shown_of l.shown-items))
+      (map step_tuple l.steps.items);
+  keys : l.keys ≡ keys_of l.sequence;
+  asked : asked_in l.policy (keys_of l.sequence) (map shown_of l.shown-items)
+      ≡ map signed_of l.signed.items ++ asked_in l.policy (keys_of l.sequence) (drop l.shown-index (map shown_of l.shown-items));
+}
