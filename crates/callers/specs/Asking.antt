@@ -7,7 +7,7 @@ use Rattle.spki_case.specs.Case.{Case}
 use Rattle.callers.specs.declared.cases.Question.{Question}
 
 -- The case of a service's entries, the items that are shown and a question, without an accepted list, under the strict
--- policy.
+-- policy and with the limit of all tags.
 abbrev pub asked : List Entry → List SeqItem → Question → Case
 asked entries items question = record {
   entries = entries;
@@ -17,4 +17,5 @@ asked entries items question = record {
   request = question.request;
   moment = question.moment;
   policy = Strict;
+  most_nodes = 1000000;
 }

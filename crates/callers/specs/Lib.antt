@@ -1,3 +1,4 @@
 pub mod Asking
 pub mod Narrowing
 pub mod Revoking
+pub mod Serving

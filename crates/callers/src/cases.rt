@@ -59,5 +59,6 @@ pub fn case_of<'a>(
         request,
         moment,
         policy: Policy::Strict,
+        most_nodes: 1_000_000,
     })
 }

@@ -8,6 +8,7 @@ use crate::cases::{Question, case_of};
 use crate::certificates::pinned_key;
 use crate::chains::{Asked, grants};
 use crate::decisions::decide_unrevoked;
+use crate::services::answer_both;
 use crate::streams::text_from;
 use crate::tags::narrowed;
 use crate::texts::same_value;
@@ -19,7 +20,7 @@ use sha2::{Digest, Sha256};
 use spki_cert::{
     Date, Entry, Key, Names, Policy, Principal, Subject, Window, acl_of, date_of, key_of,
 };
-use spki_guard::{Case, Decision};
+use spki_guard::{AcceptedTable, Case, Decision, Instant, Question as Posed, Wanted};
 use spki_reduce::{Five, Issuer};
 use spki_tag::{Ground, Tag};
 use std::alloc::Global;
@@ -192,5 +193,39 @@ fn delegation(rt: HostRuntime) -> Result<(), Fail> {
 fn second_entry(rt: HostRuntime) -> Result<(), Fail> {
     assert!(rt; is_granted(rt.alloc(), KA)?);
     assert!(rt; !is_granted(rt.alloc(), KB)?);
+    Ok(())
+}
+
+/// The question whether a key may do `(ftp)` by the certificate.
+fn posed(key: &[u8]) -> Posed<'_> {
+    Posed {
+        sequence: SHOWN.as_bytes(),
+        key,
+        request: Wanted::Words(&[b"ftp", b"host"]),
+        moment: Instant::Seconds(1_795_428_000),
+    }
+}
+
+/// What a service answers to KB and to KA, where KA's signature is accepted and some keys are revoked.
+fn both_answers(alloc: Global, revoked: &[Key]) -> Result<(Decision, Decision), Fail> {
+    let rows = convert(alloc, Form::Canonical, ACCEPTED.as_bytes())?;
+    let table = AcceptedTable::read(alloc, &rows)?;
+    Ok(answer_both(
+        alloc,
+        ACL.as_bytes(),
+        &posed(KB),
+        &posed(KA),
+        &table,
+        revoked,
+    )?)
+}
+
+#[test]
+fn two_questions(rt: HostRuntime) -> Result<(), Fail> {
+    let alloc = rt.alloc();
+    assert!(rt; both_answers(alloc, &[])? == (Decision::Yes(1), Decision::No));
+    let document = Doc::open(alloc, KA)?;
+    let revoked = [key_of(&document.top())?];
+    assert!(rt; both_answers(alloc, &revoked)? == (Decision::No, Decision::No));
     Ok(())
 }

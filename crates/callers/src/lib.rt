@@ -7,6 +7,7 @@ pub mod chains;
 pub mod decisions;
 #[cfg(test)]
 mod examples;
+pub mod services;
 pub mod streams;
 pub mod tags;
 pub mod texts;

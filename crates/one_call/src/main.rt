@@ -6,6 +6,7 @@
 
 mod cases;
 mod forms;
+mod guards;
 mod missed;
 mod structures;
 mod tags;
@@ -64,11 +65,28 @@ fn of_cases(alloc: Global, name: &str) -> Option<Result<bool, Missed>> {
     }
 }
 
+/// Whether the call on guards of this name gives its example's answer; none if none is called so.
+fn of_guards(alloc: Global, name: &str) -> Option<Result<bool, Missed>> {
+    match name {
+        "Guard::read" => Some(guards::guard_read(alloc)),
+        "Guard::texts" => Some(guards::guard_texts(alloc)),
+        "Guard::ask" => Some(guards::guard_ask(alloc)),
+        "Asked::decide" => Some(guards::asked_decide(alloc)),
+        "Asked::decide_by" => Some(guards::asked_decide_by(alloc)),
+        "Asked::explain" => Some(guards::asked_explain(alloc)),
+        "Asked::explain_by" => Some(guards::asked_explain_by(alloc)),
+        "Asked::reduce" => Some(guards::asked_reduce(alloc)),
+        "Asked::reduce_by" => Some(guards::asked_reduce_by(alloc)),
+        _ => None,
+    }
+}
+
 /// Whether the call of this name gives its example's answer; none if none is called so.
 fn ended(alloc: Global, name: &str) -> Option<Result<bool, Missed>> {
     of_forms(alloc, name)
         .or_else(|| of_structures(alloc, name))
         .or_else(|| of_cases(alloc, name))
+        .or_else(|| of_guards(alloc, name))
 }
 
 /// The word behind the program's name, if there is one.

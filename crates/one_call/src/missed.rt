@@ -2,7 +2,7 @@
 
 use sexpr_core::FormFault;
 use spki_cert::{CertFault, CertFaultKind};
-use spki_guard::{CaseFault, GuardFault};
+use spki_guard::{AclFault, AskFault, CaseFault, GuardFault};
 use spki_reduce::ReduceFault;
 use spki_tag::{MeetFault, TagFault};
 use std::alloc::{AllocError, AllocFailed};
@@ -78,6 +78,18 @@ impl From<GuardFault> for Missed {
 impl From<CaseFault> for Missed {
     fn from(fault: CaseFault) -> Missed {
         Missed::by(fault == CaseFault::Memory)
+    }
+}
+
+impl From<AclFault> for Missed {
+    fn from(fault: AclFault) -> Missed {
+        Missed::by(fault == AclFault::Memory)
+    }
+}
+
+impl From<AskFault> for Missed {
+    fn from(fault: AskFault) -> Missed {
+        Missed::by(fault == AskFault::Memory)
     }
 }
 

@@ -40,7 +40,7 @@ fn refuses_acl(
 }
 
 /// A certificate by KA for KB.
-const CERTIFICATE: &[u8] =
+pub(crate) const CERTIFICATE: &[u8] =
     b"(4:cert(6:issuer(10:public-key(4:test1:a)))(7:subject(10:public-key(4:test1:b)))(3:tag(1:*)))";
 
 /// `sequence-order`: a certificate alone is UnsignedCert, with its signature it is read, and a second one is StraySignature.
@@ -53,7 +53,7 @@ pub(crate) fn read_sequence(alloc: Global) -> Result<bool, Missed> {
 }
 
 /// The sequence of the certificate and so many times its signature by KA.
-fn sequence(alloc: Global, signatures: usize) -> Result<Vec<u8>, Missed> {
+pub(crate) fn sequence(alloc: Global, signatures: usize) -> Result<Vec<u8>, Missed> {
     let digest = Sha256::digest(CERTIFICATE);
     let mut text = Vec::from_slice(alloc, b"(8:sequence")?;
     text.extend_from_slice(CERTIFICATE)?;

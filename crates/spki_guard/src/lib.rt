@@ -24,5 +24,8 @@ pub use spki_decision::{
     Decision, EntryFold, Explanation, GuardFault, Reason, Reduction, Stop, decide, explain,
     first_named, laws, reduce_case,
 };
+pub use spki_service::{
+    AclFault, AskFault, Asked, Guard, Instant, Limits, Part, Question, Signed, Texts, Wanted,
+};
 pub use spki_words::{Command, WordsFault, command_of};
 pub use statuses::Status;

@@ -10,6 +10,8 @@ mod conversions;
 #[cfg(test)]
 mod decisions;
 #[cfg(test)]
+mod doors;
+#[cfg(test)]
 mod ends;
 #[cfg(test)]
 mod evidence;
@@ -17,6 +19,12 @@ mod evidence;
 mod explanations;
 #[cfg(test)]
 mod fault_texts;
+#[cfg(test)]
+mod guard_lists;
+#[cfg(test)]
+mod guard_words;
+#[cfg(test)]
+mod guards;
 #[cfg(test)]
 mod inner_ends;
 #[cfg(test)]

@@ -8,7 +8,5 @@ returns-in_err-sequence-clause-refused c =
     rw (p.1, p.2) c.in_err-sequence.ensures.refused
 
 -- in what is read as a sequence each certificate is followed by its signature
-pub invariant_of-result : goal.invariant_of-result
-invariant_of-result c = record {
-  signed = signed c.args.shown.now c.in_ok-sequence.sequence.items c.in_ok-sequence.ensures.sequence;
-}
+pub invariant_of-result-clause-signed : goal.invariant_of-result-clause-signed
+invariant_of-result-clause-signed c = signed c.args.shown.now c.in_ok-sequence.sequence.items c.in_ok-sequence.ensures.sequence

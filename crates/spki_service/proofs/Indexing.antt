@@ -1,0 +1,57 @@
+-- An index, where one entry comes behind others.
+use Rattle.std.proofs.Common.{◌≡◌, ℕ, ◌+◌, Bool, true, false, cond, ◌⊎◌, inl, inr, List, [], ◌∷◌, ◌++◌, length, Vec, Option, Some, None, bytes_eq, refl, sym, ap, ◌∙◌}
+use Rattle.std.specs.Option.{option_map_or}
+use Rattle.std.specs.declared.alloc.Global.{Global}
+use Rattle.std.proofs.lemmas.Bool.{cases_Bool}
+use Rattle.std.proofs.lemmas.Slice.Eq.{bytes_eq-Decides}
+use Rattle.spki_cert.specs.declared.hash.HashAlg.{HashAlg}
+use Rattle.spki_cert.specs.declared.entry.Entry.{Entry}
+use Rattle.spki_case.specs.ByDigest.{at_digest}
+use Rattle.spki_service.specs.declared.index.Index.{Index}
+use Rattle.spki_service.specs.Kept.{numbers_from}
+use Rattle.spki_service.specs.Indexed.{NumberMap, is_key, is_hash, numbers_at, by_algorithm, IsIndexOf}
+use Rattle.spki_service.proofs.Numbering.{numbers_more}
+
+module _ (es : List Entry) (e : Entry) (number : ℕ) (counted : 1 + length es ≡ number) where
+  more_at : (p : Entry → Bool) (old new : List ℕ) → old ≡ numbers_from 1 p es → new ≡ cond (p e) (old ++ number ∷ []) old
+      → new ≡ numbers_from 1 p (es ++ e ∷ [])
+  more_at p old new stood added =
+      added ∙ ap (λ l. cond (p e) (l ++ number ∷ []) l) stood ∙ sym (numbers_more p es e number counted)
+
+  pub index_more : (old new : Index) → IsIndexOf es old
+      → ((octets : List ℕ) → numbers_at new.by_key octets
+      ≡ cond (is_key octets e.subject.principal) (numbers_at old.by_key octets ++ number ∷ []) (numbers_at old.by_key octets))
+      → ((alg : HashAlg) (digest : List ℕ) → numbers_at (by_algorithm new alg) digest
+      ≡ cond (is_hash alg digest e.subject.principal) (numbers_at (by_algorithm old alg) digest ++ number ∷ [])
+      (numbers_at (by_algorithm old alg) digest))
+      → IsIndexOf (es ++ e ∷ []) new
+  index_more old new stood keys hashes = record {
+    keys = λ octets. more_at (λ f. is_key octets f.subject.principal) (numbers_at old.by_key octets) (numbers_at new.by_key octets)
+        (stood.keys octets) (keys octets);
+    hashes = λ alg digest. more_at (λ f. is_hash alg digest f.subject.principal) (numbers_at (by_algorithm old alg) digest)
+        (numbers_at (by_algorithm new alg) digest) (stood.hashes alg digest) (hashes alg digest);
+  }
+
+-- ---- what stands at octets
+
+pub at_some : (m : NumberMap) (octets : List ℕ) (value : Vec ℕ Global) → at_digest m octets ≡ Some value → numbers_at m octets ≡ value.items
+at_some m octets value stands = ap (λ (o : Option (Vec ℕ Global)). option_map_or (λ v. v.items) o []) stands
+
+pub at_none : (m : NumberMap) (octets : List ℕ) → at_digest m octets ≡ None → numbers_at m octets ≡ []
+at_none m octets stands = ap (λ (o : Option (Vec ℕ Global)). option_map_or (λ v. v.items) o []) stands
+
+-- ---- one number more at octets
+
+pub put : (own other : List ℕ) (old new : NumberMap) (value : Vec ℕ Global) (number : ℕ)
+    → at_digest new other ≡ cond (bytes_eq own other) (Some value) (at_digest old other)
+    → value.items ≡ numbers_at old own ++ number ∷ []
+    → numbers_at new other ≡ cond (bytes_eq own other) (numbers_at old other ++ number ∷ []) (numbers_at old other)
+put own other old new value number found longer =
+    ap (λ (o : Option (Vec ℕ Global)). option_map_or (λ v. v.items) o []) found ∙ by (cases_Bool (bytes_eq own other))
+  where
+    by : (bytes_eq own other ≡ true) ⊎ (bytes_eq own other ≡ false)
+        → option_map_or (λ (v : Vec ℕ Global). v.items) (cond (bytes_eq own other) (Some value) (at_digest old other)) []
+        ≡ cond (bytes_eq own other) (numbers_at old other ++ number ∷ []) (numbers_at old other)
+    by (inl same) =
+        rw same (longer ∙ ap (λ l. numbers_at old l ++ number ∷ []) ((bytes_eq-Decides own other).0 same))
+    by (inr apart) = rw apart refl

@@ -1,0 +1,15 @@
+pub mod Merging
+pub mod Numbering
+pub mod KeptEntries
+pub mod Found
+pub mod Indexing
+pub mod EntryTexts
+pub mod PartLaws
+pub mod WordLaws
+pub mod Picking
+pub mod Marking
+pub mod Deciding
+pub mod Outcomes
+pub mod Reading
+pub mod DateLaws
+pub mod OneAsking

@@ -1,0 +1,292 @@
+-- A question asks one case or has one fault.
+use Rattle.std.proofs.Common.{◌≡◌, ◌≢◌, ◌⊎◌, ℕ, List, inl, inr, length, Option, Some, refl, sym, ap, subst, ◌∙◌, arith}
+use Rattle.sexpr_core.specs.declared.fault.FormFault.{FormFault}
+use Rattle.sexpr_core.specs.declared.fault.FormFault.TheVariants.{TooLong, TooDeep, Short, Bad, Trailing, Memory}
+use Rattle.sexpr_core.specs.Refusal.{IsOfForm}
+use Rattle.sexpr_core.specs.Value.{Value, canon}
+use Rattle.sexpr_text.specs.Spelling.{IsText, IsTextWithin}
+use Rattle.sexpr_text.proofs.OneValue.{one_value}
+use Rattle.sexpr_text.proofs.Openings.{one_of_any}
+use Rattle.spki_tag.specs.declared.fault.TagFault.{TagFault}
+use Rattle.spki_tag.proofs.Requests.{request_only}
+use Rattle.spki_cert.specs.declared.fault.CertFault.{CertFault}
+use Rattle.spki_cert.specs.declared.fault.CertFaultKind.{CertFaultKind}
+use Rattle.spki_cert.specs.Readings.{KeyOf, DateOf}
+use Rattle.spki_cert.specs.Sequences.{SeqOf}
+use Rattle.spki_cert.proofs.OneReading.{key-one, date-one, sequence-one}
+use Rattle.spki_case.specs.Case.{Case}
+use Rattle.spki_case.specs.CaseForm.{RequestOf}
+use Rattle.spki_service.specs.declared.question.Question.{Question}
+use Rattle.spki_service.specs.declared.question.Wanted as wanted
+use Rattle.spki_service.specs.declared.question.Wanted.TheVariants as requests
+use Rattle.spki_service.specs.declared.question.Instant as instant
+use Rattle.spki_service.specs.declared.question.Instant.TheVariants as moments
+use Rattle.spki_service.specs.declared.question.Part.{Part}
+use Rattle.spki_service.specs.declared.question.Part.TheVariants as parts
+use Rattle.spki_service.specs.declared.question.AskFault.{AskFault}
+use Rattle.spki_service.specs.declared.question.AskFault.TheVariants as faults
+use Rattle.spki_service.specs.Form.{RefusesForm, Reads, LacksForm}
+use Rattle.spki_service.specs.Questions.{IsWanted, RefusesWanted, IsAskedAt, IsAsked, IsNoSequence, IsNoKey, IsNoRequest, IsNoDate, ReadsSequence, ReadsKey, ReadsRequest, ReadsBefore, LacksFormOfMoment, LacksFormAt, IsAskedAtNone, IsNotAsked}
+use Rattle.spki_service.proofs.DateLaws.{no_date, one_date}
+
+-- ---- texts
+
+text_is : (text : List ℕ) (v : Value) → IsTextWithin text v → IsText text v
+text_is text v (inl m) = inl m.spelling
+text_is text v (inr m) = inr m.braced
+
+text_one : (text : List ℕ) (v w : Value) → IsTextWithin text v → IsTextWithin text w → v ≡ w
+text_one text v w m n = one_value text v w (text_is text v m) (text_is text w n)
+
+wanted_one : (m : wanted.Wanted) (v w : Value) → IsWanted m v → IsWanted m w → v ≡ w
+wanted_one (requests.Text text) v w a b = text_one text.now v w a b
+wanted_one (requests.Words words) v w a b = a ∙ sym b
+
+too_long_or : (fault : FormFault) → fault ≢ Memory → (fault ≡ TooLong) ⊎ IsOfForm fault
+too_long_or TooLong found = inl refl
+too_long_or TooDeep found = inr tt
+too_long_or Short found = inr tt
+too_long_or (Bad at) found = inr tt
+too_long_or (Trailing at) found = inr tt
+too_long_or Memory found = absurd (found refl)
+
+refuses_one : (text : List ℕ) (e f : FormFault) → RefusesForm text e → RefusesForm text f → e ≡ f
+refuses_one text e f a b = by (too_long_or e a.found) (too_long_or f b.found)
+  where
+    by : (e ≡ TooLong) ⊎ IsOfForm e → (f ≡ TooLong) ⊎ IsOfForm f → e ≡ f
+    by (inl p) q = p ∙ sym (b.long.1 (a.long.0 p))
+    by (inr p) (inl q) = a.long.1 (b.long.0 q) ∙ sym q
+    by (inr p) (inr q) = one_of_any text e f p q a.refused b.refused
+
+wanted_refuses_one : (m : wanted.Wanted) (e f : FormFault) → RefusesWanted m e → RefusesWanted m f → e ≡ f
+wanted_refuses_one (requests.Text text) e f a b = refuses_one text.now e f a b
+wanted_refuses_one (requests.Words words) e f a b = absurd a
+
+wanted_none : (m : wanted.Wanted) (fault : FormFault) (v : Value) → RefusesWanted m fault → ¬ IsWanted m v
+wanted_none (requests.Text text) fault v r = r.none v
+wanted_none (requests.Words words) fault v r = absurd r
+
+-- ---- parts of which each means one value
+
+-- two sayings of the value that a part means
+record Both (P Q : Value → Type 0) : Type 0 where
+  value : Value
+  one : P value
+  other : Q value
+
+module _ (means : Value → Type 0) (single : (v w : Value) → means v → means w → v ≡ w) where
+  both : (P Q : Value → Type 0) → Reads means P → Reads means Q → Both P Q
+  both P Q a b = record { value = b.value; one = subst P (single a.value b.value a.meant b.meant) a.is; other = b.is }
+
+module _ (means : Value → Type 0) (refuses : FormFault → Type 0) (single : (v w : Value) → means v → means w → v ≡ w)
+    (none : (fault : FormFault) (v : Value) → refuses fault → ¬ means v) where
+  form_unread : (P : Value → Type 0) (fault : FormFault) → LacksForm means refuses fault → ¬ Reads means P
+  form_unread P fault (inl r) a = none fault a.value r a.meant
+  form_unread P fault (inr long) a =
+      let e = single long.value a.value long.meant a.meant in
+      omega (arith, ap (λ v. length (canon v)) e, long.long, a.short)
+
+  form_one : ((e f : FormFault) → refuses e → refuses f → e ≡ f) → (e f : FormFault) → LacksForm means refuses e → LacksForm means refuses f → e ≡ f
+  form_one one e f (inl r) (inl s) = one e f r s
+  form_one one e f (inl r) (inr long) = absurd (none e long.value r long.meant)
+  form_one one e f (inr long) (inl s) = absurd (none f long.value s long.meant)
+  form_one one e f (inr long) (inr other) = long.named ∙ sym other.named
+
+some-one : {A : Type 0} {found : Option A} {a b : A} → found ≡ Some a → found ≡ Some b → a ≡ b
+some-one e f = cc
+
+-- ---- the parts of a question
+
+-- a part is read
+abbrev ReadsPart : Question → Part → Type 0
+ReadsPart q parts.Sequence = ReadsSequence q
+ReadsPart q parts.Key = ReadsKey q
+ReadsPart q parts.Request = ReadsRequest q
+ReadsPart q parts.Moment = (date : List ℕ) × IsAskedAt q.moment date
+
+-- a fault of the value of a part, or of its seconds
+abbrev LacksValue : Question → Part → AskFault → Type 0
+LacksValue q parts.Sequence fault = (inner : CertFault) × (fault ≡ faults.Sequence inner) × Reads (IsTextWithin q.sequence.now) (IsNoSequence inner)
+LacksValue q parts.Key fault = (kind : CertFaultKind) × (fault ≡ faults.Key kind) × Reads (IsTextWithin q.key.now) (IsNoKey kind)
+LacksValue q parts.Request fault = (inner : TagFault) × (fault ≡ faults.Request inner) × Reads (IsWanted q.request) (IsNoRequest inner)
+LacksValue q parts.Moment fault = (kind : CertFaultKind) × (fault ≡ faults.Moment kind) × IsAskedAtNone q.moment kind
+
+-- a fault of a part
+abbrev LacksPart : Question → Part → AskFault → Type 0
+LacksPart q part fault = ((form : FormFault) × (fault ≡ faults.Form part form) × LacksFormAt q part form) ⊎ LacksValue q part fault
+
+moment_form_unread : (m : instant.Instant) (form : FormFault) (date : List ℕ) → LacksFormOfMoment m form → ¬ IsAskedAt m date
+moment_form_unread (moments.Text text) form date lacks a =
+    form_unread (IsTextWithin text.now) (RefusesForm text.now) (text_one text.now) (λ fault v r. r.none v) (λ v. DateOf v date) form lacks a
+moment_form_unread (moments.Seconds seconds) form date lacks a = lacks
+
+moment_none : (m : instant.Instant) (kind : CertFaultKind) (date : List ℕ) → IsAskedAtNone m kind → ¬ IsAskedAt m date
+moment_none (moments.Text text) kind date n a =
+    let b = both (IsTextWithin text.now) (text_one text.now) (IsNoDate kind) (λ v. DateOf v date) n a in
+    b.one.none date b.other
+moment_none (moments.Seconds seconds) kind date n a = no_date seconds date n.1 a
+
+form_unread_at : (q : Question) (part : Part) (form : FormFault) → LacksFormAt q part form → ¬ ReadsPart q part
+form_unread_at q parts.Sequence form lacks (items, a) =
+    form_unread (IsTextWithin q.sequence.now) (RefusesForm q.sequence.now) (text_one q.sequence.now) (λ fault v r. r.none v) (λ v. SeqOf v items) form lacks a
+form_unread_at q parts.Key form lacks (key, a) =
+    form_unread (IsTextWithin q.key.now) (RefusesForm q.key.now) (text_one q.key.now) (λ fault v r. r.none v) (λ v. KeyOf v key) form lacks a
+form_unread_at q parts.Request form lacks (g, a) =
+    form_unread (IsWanted q.request) (RefusesWanted q.request) (wanted_one q.request) (wanted_none q.request) (λ v. RequestOf v g) form lacks a
+form_unread_at q parts.Moment form lacks (date, a) = moment_form_unread q.moment form date lacks a
+
+value_unread : (q : Question) (part : Part) (fault : AskFault) → LacksValue q part fault → ¬ ReadsPart q part
+value_unread q parts.Sequence fault (inner, is, n) (items, a) =
+    let b = both (IsTextWithin q.sequence.now) (text_one q.sequence.now) (IsNoSequence inner) (λ v. SeqOf v items) n a in
+    b.one.none items b.other
+value_unread q parts.Key fault (kind, is, n) (key, a) =
+    let b = both (IsTextWithin q.key.now) (text_one q.key.now) (IsNoKey kind) (λ v. KeyOf v key) n a in
+    b.one.none key b.other
+value_unread q parts.Request fault (inner, is, n) (g, a) =
+    let b = both (IsWanted q.request) (wanted_one q.request) (IsNoRequest inner) (λ v. RequestOf v g) n a in
+    b.one.none g b.other
+value_unread q parts.Moment fault (kind, is, n) (date, a) = moment_none q.moment kind date n a
+
+unread : (q : Question) (part : Part) (fault : AskFault) → LacksPart q part fault → ¬ ReadsPart q part
+unread q part fault (inl (form, is, lacks)) a = form_unread_at q part form lacks a
+unread q part fault (inr n) a = value_unread q part fault n a
+
+-- ---- one fault of a part
+
+moment_form_one : (m : instant.Instant) (e f : FormFault) → LacksFormOfMoment m e → LacksFormOfMoment m f → e ≡ f
+moment_form_one (moments.Text text) e f a b =
+    form_one (IsTextWithin text.now) (RefusesForm text.now) (text_one text.now) (λ fault v r. r.none v) (refuses_one text.now) e f a b
+moment_form_one (moments.Seconds seconds) e f a b = absurd a
+
+form_one_at : (q : Question) (part : Part) (e f : FormFault) → LacksFormAt q part e → LacksFormAt q part f → e ≡ f
+form_one_at q parts.Sequence e f a b =
+    form_one (IsTextWithin q.sequence.now) (RefusesForm q.sequence.now) (text_one q.sequence.now) (λ fault v r. r.none v)
+    (refuses_one q.sequence.now) e f a b
+form_one_at q parts.Key e f a b =
+    form_one (IsTextWithin q.key.now) (RefusesForm q.key.now) (text_one q.key.now) (λ fault v r. r.none v)
+    (refuses_one q.key.now) e f a b
+form_one_at q parts.Request e f a b =
+    form_one (IsWanted q.request) (RefusesWanted q.request) (wanted_one q.request) (wanted_none q.request)
+    (wanted_refuses_one q.request) e f a b
+form_one_at q parts.Moment e f a b = moment_form_one q.moment e f a b
+
+kind_one : (m : instant.Instant) (k l : CertFaultKind) → IsAskedAtNone m k → IsAskedAtNone m l → k ≡ l
+kind_one (moments.Text text) k l a b = a.is.named ∙ sym b.is.named
+kind_one (moments.Seconds seconds) k l a b = a.0 ∙ sym b.0
+
+value_one : (q : Question) (part : Part) (f g : AskFault) → LacksValue q part f → LacksValue q part g → f ≡ g
+value_one q parts.Sequence f g (x, is, m) (y, at, n) =
+    let b = both (IsTextWithin q.sequence.now) (text_one q.sequence.now) (IsNoSequence x) (IsNoSequence y) m n in
+    is ∙ ap faults.Sequence (some-one b.one.named b.other.named) ∙ sym at
+value_one q parts.Key f g (x, is, m) (y, at, n) =
+    let b = both (IsTextWithin q.key.now) (text_one q.key.now) (IsNoKey x) (IsNoKey y) m n in
+    is ∙ ap faults.Key (some-one b.one.named b.other.named) ∙ sym at
+value_one q parts.Request f g (x, is, m) (y, at, n) =
+    let b = both (IsWanted q.request) (wanted_one q.request) (IsNoRequest x) (IsNoRequest y) m n in
+    is ∙ ap faults.Request (some-one b.one.named b.other.named) ∙ sym at
+value_one q parts.Moment f g (x, is, m) (y, at, n) = is ∙ ap faults.Moment (kind_one q.moment x y m n) ∙ sym at
+
+-- a part that lacks a form means no value, and so none that is refused
+form_no_value_of_moment : (m : instant.Instant) (form : FormFault) (kind : CertFaultKind) → LacksFormOfMoment m form → ¬ IsAskedAtNone m kind
+form_no_value_of_moment (moments.Text text) form kind lacks n =
+    form_unread (IsTextWithin text.now) (RefusesForm text.now) (text_one text.now) (λ fault v r. r.none v) (IsNoDate kind) form lacks n
+form_no_value_of_moment (moments.Seconds seconds) form kind lacks n = lacks
+
+form_no_value : (q : Question) (part : Part) (form : FormFault) (fault : AskFault) → LacksFormAt q part form → ¬ LacksValue q part fault
+form_no_value q parts.Sequence form fault lacks (x, is, n) =
+    form_unread (IsTextWithin q.sequence.now) (RefusesForm q.sequence.now) (text_one q.sequence.now) (λ fault v r. r.none v) (IsNoSequence x) form lacks n
+form_no_value q parts.Key form fault lacks (x, is, n) =
+    form_unread (IsTextWithin q.key.now) (RefusesForm q.key.now) (text_one q.key.now) (λ fault v r. r.none v) (IsNoKey x) form lacks n
+form_no_value q parts.Request form fault lacks (x, is, n) =
+    form_unread (IsWanted q.request) (RefusesWanted q.request) (wanted_one q.request) (wanted_none q.request) (IsNoRequest x) form lacks n
+form_no_value q parts.Moment form fault lacks (x, is, n) = form_no_value_of_moment q.moment form x lacks n
+
+part_one : (q : Question) (part : Part) (f g : AskFault) → LacksPart q part f → LacksPart q part g → f ≡ g
+part_one q part f g (inl (e, is, a)) (inl (h, at, b)) = is ∙ ap (faults.Form part) (form_one_at q part e h a b) ∙ sym at
+part_one q part f g (inl (e, is, a)) (inr n) = absurd (form_no_value q part e g a n)
+part_one q part f g (inr n) (inl (h, at, b)) = absurd (form_no_value q part h f b n)
+part_one q part f g (inr m) (inr n) = value_one q part f g m n
+
+-- ---- one fault of a question
+
+-- a fault of a part, and those before it are read
+record LacksFirst (q : Question) (fault : AskFault) : Type 0 where
+  part : Part
+  before : ReadsBefore q part
+  lacks : LacksPart q part fault
+
+first_of : (q : Question) (fault : AskFault) → IsNotAsked q fault → LacksFirst q fault
+first_of q faults.TooLong n = absurd n
+first_of q (faults.Form part form) n = record { part = part; before = n.0; lacks = inl (form, refl, n.1) }
+first_of q (faults.Sequence inner) n = record { part = parts.Sequence; before = tt; lacks = inr (inner, refl, n) }
+first_of q (faults.Key kind) n = record { part = parts.Key; before = n.0; lacks = inr (kind, refl, n.1) }
+first_of q (faults.Request inner) n = record { part = parts.Request; before = n.0; lacks = inr (inner, refl, n.1) }
+first_of q (faults.Moment kind) n = record { part = parts.Moment; before = n.0; lacks = inr (kind, refl, n.1) }
+first_of q faults.Memory n = absurd n
+
+-- of two parts the earlier is read where the later is the first that isn't
+ordered : (q : Question) (f g : AskFault) (p r : Part) → ReadsBefore q p → ReadsBefore q r → LacksPart q p f → LacksPart q r g → f ≡ g
+ordered q f g parts.Sequence parts.Sequence a b m n = part_one q parts.Sequence f g m n
+ordered q f g parts.Sequence parts.Key a b m n = absurd (unread q parts.Sequence f m b)
+ordered q f g parts.Sequence parts.Request a b m n = absurd (unread q parts.Sequence f m b.0)
+ordered q f g parts.Sequence parts.Moment a b m n = absurd (unread q parts.Sequence f m b.0)
+ordered q f g parts.Key parts.Sequence a b m n = absurd (unread q parts.Sequence g n a)
+ordered q f g parts.Key parts.Key a b m n = part_one q parts.Key f g m n
+ordered q f g parts.Key parts.Request a b m n = absurd (unread q parts.Key f m b.1)
+ordered q f g parts.Key parts.Moment a b m n = absurd (unread q parts.Key f m b.1.0)
+ordered q f g parts.Request parts.Sequence a b m n = absurd (unread q parts.Sequence g n a.0)
+ordered q f g parts.Request parts.Key a b m n = absurd (unread q parts.Key g n a.1)
+ordered q f g parts.Request parts.Request a b m n = part_one q parts.Request f g m n
+ordered q f g parts.Request parts.Moment a b m n = absurd (unread q parts.Request f m b.1.1)
+ordered q f g parts.Moment parts.Sequence a b m n = absurd (unread q parts.Sequence g n a.0)
+ordered q f g parts.Moment parts.Key a b m n = absurd (unread q parts.Key g n a.1.0)
+ordered q f g parts.Moment parts.Request a b m n = absurd (unread q parts.Request g n a.1.1)
+ordered q f g parts.Moment parts.Moment a b m n = part_one q parts.Moment f g m n
+
+pub fault-one : (q : Question) (f g : AskFault) → IsNotAsked q f → IsNotAsked q g → f ≡ g
+fault-one q f g m n =
+    let a = first_of q f m in
+    let b = first_of q g n in
+    ordered q f g a.part b.part a.before b.before a.lacks b.lacks
+
+-- ---- one case
+
+part_read : (q : Question) (c : Case) → IsAsked q c → (part : Part) → ReadsPart q part
+part_read q c a parts.Sequence = (c.items, a.sequence)
+part_read q c a parts.Key = (c.key, a.key)
+part_read q c a parts.Request = (c.request, a.request)
+part_read q c a parts.Moment = (c.moment, a.moment)
+
+pub unrefused : (q : Question) (c : Case) (fault : AskFault) → IsAsked q c → ¬ IsNotAsked q fault
+unrefused q c fault a n = let f = first_of q fault n in unread q f.part fault f.lacks (part_read q c a f.part)
+
+asked_at_one : (m : instant.Instant) (s t : List ℕ) → IsAskedAt m s → IsAskedAt m t → s ≡ t
+asked_at_one (moments.Text text) s t a b =
+    let two = both (IsTextWithin text.now) (text_one text.now) (λ v. DateOf v s) (λ v. DateOf v t) a b in
+    date-one two.value s t two.one two.other
+asked_at_one (moments.Seconds seconds) s t a b = one_date seconds s t a b
+
+pub case-one : (q : Question) (c d : Case) → IsAsked q c → IsAsked q d → c.policy ≡ d.policy
+    → c.most_nodes ≡ d.most_nodes → c ≡ d
+case-one q c d a b policy most_nodes =
+    let sequences =
+    both (IsTextWithin q.sequence.now) (text_one q.sequence.now) (λ v. SeqOf v c.items) (λ v. SeqOf v d.items) a.sequence b.sequence in
+    let items = sequence-one sequences.value c.items d.items sequences.one sequences.other in
+    let keys = both (IsTextWithin q.key.now) (text_one q.key.now) (λ v. KeyOf v c.key) (λ v. KeyOf v d.key) a.key b.key in
+    let key = key-one keys.value c.key d.key keys.one keys.other in
+    let wants =
+    both (IsWanted q.request) (wanted_one q.request) (λ v. RequestOf v c.request) (λ v. RequestOf v d.request) a.request b.request in
+    let request = request_only d.request c.request (wants.one.written ∙ sym wants.other.written) in
+    let moment = asked_at_one q.moment c.moment d.moment a.moment b.moment in
+    let entries = a.entries ∙ sym b.entries in
+    let rows = a.rows ∙ sym b.rows in
+    λ i. record {
+      entries = entries i;
+      rows = rows i;
+      items = items i;
+      key = key i;
+      request = request i;
+      moment = moment i;
+      policy = policy i;
+      most_nodes = most_nodes i;
+    }

@@ -1,0 +1,136 @@
+-- What a verifier's answers make of a question that was examined.
+use Rattle.std.proofs.Common.{◌≡◌, ℕ, List, [], ◌∷◌, refl, sym, ◌∙◌, subst, Result, Ok, Err}
+use Rattle.std.specs.List.{AllByRecursion}
+use Rattle.spki_cert.specs.declared.entry.Entry.{Entry}
+use Rattle.spki_reduce.specs.Tuples.{Tuple}
+use Rattle.spki_case.specs.Case.{Case, Verified}
+use Rattle.spki_case.specs.Sequence.{keys_of, certificates}
+use Rattle.spki_decision.specs.declared.judging.Stop.{Stop}
+use Rattle.spki_decision.specs.declared.judging.Stop.TheVariants.{NotAccepted}
+use Rattle.spki_decision.specs.declared.deciding.Decision.{Decision}
+use Rattle.spki_decision.specs.declared.deciding.Decision.TheVariants.{No}
+use Rattle.spki_decision.specs.declared.deciding.GuardFault.{GuardFault}
+use Rattle.spki_decision.specs.declared.deciding.GuardFault.TheVariants.{TooLarge, Memory}
+use Rattle.spki_decision.specs.declared.explaining.Explanation.{Explanation}
+use Rattle.spki_decision.specs.declared.explaining.Explanation.TheVariants as explanation
+use Rattle.spki_decision.specs.declared.reducing.Reduction.{Reduction}
+use Rattle.spki_decision.specs.declared.reducing.Reduction.TheVariants as reduction
+use Rattle.spki_decision.specs.Standing.{FailsAt, AreShown}
+use Rattle.spki_decision.specs.LeftOut.{AreKept, IsKept, IsLeftOut, kept_case}
+use Rattle.spki_decision.specs.Reduced.{IsFailure}
+use Rattle.spki_decision.specs.Answered.{IsDecided, IsExplained, IsReduced}
+use Rattle.spki_decision.specs.Asked.{Signed, asked, every, IsAccepted, AgreeOn, RefusedAt}
+use Rattle.spki_decision.specs.Views.{with_entries}
+use Rattle.spki_decision.proofs.Answering.{not_accepted}
+use Rattle.spki_decision.proofs.AskedWhole.{decided_by, explained_by, reduced_by}
+use Rattle.spki_decision.proofs.Entries.{decided, unrefused, too_large}
+use Rattle.spki_decision.proofs.Evident.{none_shown, one_list}
+use Rattle.spki_decision.proofs.KeptEntries.{renumbered}
+use Rattle.spki_decision.proofs.Stopping.{failure}
+use Rattle.spki_service.specs.Asking.{AskedOf, Answers}
+use Rattle.spki_service.specs.Held.{AreEntries}
+use Rattle.spki_service.specs.Partly.{DecidesPartly}
+
+agrees : (verified : Verified) (signatures : List Signed) → AllByRecursion (IsAccepted verified) signatures → AgreeOn every verified signatures
+agrees verified [] accepted = tt
+agrees verified (s ∷ signatures) accepted = ((λ _. accepted.0, λ _. tt), agrees verified signatures accepted.1)
+
+module _ (a : AskedOf) (verified : Verified) where
+  -- ---- each signature is accepted
+
+  module _ (accepted : AllByRecursion (IsAccepted verified) (asked a.case)) where
+    agree : AgreeOn every verified (asked a.case)
+    agree = agrees verified (asked a.case) accepted
+
+    pub decided_all : (r : Result Decision GuardFault) → Answers (λ c x. IsDecided c every x) a r → Answers (λ c x. IsDecided c verified x) a r
+    decided_all (Ok d) h = λ es are. decided_by (with_entries a.case es) every verified agree (Ok d) (h es are)
+    decided_all (Err TooLarge) h = λ es are. decided_by (with_entries a.case es) every verified agree (Err TooLarge) (h es are)
+    decided_all (Err Memory) h = tt
+
+    pub explained_all : (r : Result Explanation GuardFault) → Answers (λ c x. IsExplained c every x) a r
+        → Answers (λ c x. IsExplained c verified x) a r
+    explained_all (Ok d) h = λ es are. explained_by (with_entries a.case es) every verified agree (Ok d) (h es are)
+    explained_all (Err TooLarge) h = λ es are. explained_by (with_entries a.case es) every verified agree (Err TooLarge) (h es are)
+    explained_all (Err Memory) h = tt
+
+    pub reduced_all : (r : Result Reduction GuardFault) → Answers (λ c x. IsReduced c every x) a r
+        → Answers (λ c x. IsReduced c verified x) a r
+    reduced_all (Ok d) h = λ es are. reduced_by (with_entries a.case es) every verified agree (Ok d) (h es are)
+    reduced_all (Err TooLarge) h = λ es are. reduced_by (with_entries a.case es) every verified agree (Err TooLarge) (h es are)
+    reduced_all (Err Memory) h = tt
+
+  -- ---- one is refused
+
+  module _ (place : ℕ) (r : RefusedAt verified (asked a.case) place) where
+    fails : FailsAt a.case.policy verified a.case.items r.refused.item NotAccepted
+    fails = not_accepted a.case.policy verified a.case.items (asked a.case) place refl r
+
+    pub decided_none : Answers (λ c x. IsDecided c verified x) a (Ok No)
+    decided_none = λ es are. (
+      λ n g. none_shown a.case.policy verified a.case.items r.refused.item NotAccepted g.tuples fails g.shown,
+      λ tuples shown. absurd (none_shown a.case.policy verified a.case.items r.refused.item NotAccepted tuples fails shown),
+    )
+
+    failed : (item : ℕ) → item ≡ r.refused.item → (c : Case) → c.policy ≡ a.case.policy → c.items ≡ a.case.items
+        → IsFailure c verified item NotAccepted
+    failed item same c policy items =
+        failure c verified item NotAccepted (rw (same, policy, items) fails)
+
+    pub explained_none : (item : ℕ) → item ≡ r.refused.item → Answers (λ c x. IsExplained c verified x) a (Ok (explanation.Evidence item NotAccepted))
+    explained_none item same = λ es are. failed item same (with_entries a.case es) refl refl
+
+    pub reduced_none : (item : ℕ) → item ≡ r.refused.item → Answers (λ c x. IsReduced c verified x) a (Ok (reduction.Evidence item NotAccepted))
+    reduced_none item same = λ es are. (failed item same (with_entries a.case es) refl refl, tt)
+
+-- ---- the same question, as its fields are
+
+-- a refusal of a list that is the same
+abbrev pub moved : (verified : Verified) (signed other : List Signed) (place : ℕ) → RefusedAt verified signed place → signed ≡ other
+    → RefusedAt verified other place
+moved verified signed other place r same = record {
+  before = r.before;
+  refused = r.refused;
+  after = r.after;
+  parts = sym same ∙ r.parts;
+  place_is = r.place_is;
+  accepted = r.accepted;
+  not_accepted = r.not_accepted;
+}
+
+-- ---- every signature is accepted
+
+module _ (a : AskedOf) where
+  module _ (item : ℕ) (stop : Stop) (fails : FailsAt a.case.policy every a.case.items item stop) where
+    pub decided_failed : Answers (λ c x. IsDecided c every x) a (Ok No)
+    decided_failed = λ es are. (
+      λ n g. none_shown a.case.policy every a.case.items item stop g.tuples fails g.shown,
+      λ tuples shown. absurd (none_shown a.case.policy every a.case.items item stop tuples fails shown),
+    )
+
+    pub explained_failed : Answers (λ c x. IsExplained c every x) a (Ok (explanation.Evidence item stop))
+    explained_failed = λ es are. failure (with_entries a.case es) every item stop fails
+
+    pub reduced_failed : Answers (λ c x. IsReduced c every x) a (Ok (reduction.Evidence item stop))
+    reduced_failed = λ es are. (failure (with_entries a.case es) every item stop fails, tt)
+
+  module _ (tuples : List Tuple) (shown : AreShown a.case.policy every a.case.items tuples) where
+    is_kept : (es : List Entry) (kept : List (ℕ × Entry)) → AreKept (IsLeftOut (with_entries a.case es) tuples) 1 es kept
+        → IsKept (with_entries a.case es) every kept
+    is_kept es kept are others also =
+        let same : tuples ≡ others =
+        one_list a.case.policy (keys_of a.case.items) every (certificates a.case.items) tuples others shown also in
+        subst (λ (ts : List Tuple). AreKept (IsLeftOut (with_entries a.case es) ts) 1 es kept) same are
+
+    pub decided_partly : (r : Result Decision GuardFault)
+        → ((es : List Entry) → AreEntries a.texts es → DecidesPartly (with_entries a.case es) tuples r)
+        → Answers (λ c x. IsDecided c every x) a r
+    decided_partly (Ok d) partly = λ es are.
+        let h = partly es are in
+        let c = with_entries a.case es in
+        renumbered c every h.0 (is_kept es h.0 h.1) (Ok h.2.0) (Ok d)
+        (decided (kept_case c h.0) every tuples shown h.2.0 h.2.1, unrefused (kept_case c h.0) every tuples shown h.2.0 h.2.2) h.2.3
+    decided_partly (Err TooLarge) partly = λ es are.
+        let h = partly es are in
+        let c = with_entries a.case es in
+        renumbered c every h.0 (is_kept es h.0 h.1) (Err TooLarge) (Err TooLarge) (too_large (kept_case c h.0) every tuples shown h.2) refl
+    decided_partly (Err Memory) partly = tt

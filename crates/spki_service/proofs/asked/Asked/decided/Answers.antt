@@ -1,0 +1,20 @@
+use Rattle.std.proofs.Common.{subst}
+use Rattle.spki_reduce.specs.Chain.{tuples_of}
+use Rattle.spki_decision.specs.Judged.{IsEvidence}
+use Rattle.spki_decision.specs.Asked.{every}
+use Rattle.spki_service.specs.Asking.{AskedOf}
+use Rattle.spki_service.proofs.Outcomes.{decided_failed, decided_partly}
+use Rattle.spki_service.proofs.asked.Asked.decided.Goals as goal
+
+pub returns-in-Fails : goal.returns-in-Fails
+returns-in-Fails c =
+    let evident = subst (λ (a : AskedOf). IsEvidence a.case.policy every a.case.items c.self.inside.examined.evidence) c.self.view_is c.self.invariant.1 in
+    let fails = rw c.in-Fails.is at evident in
+    decided_failed c.args.self.now _ _ fails
+
+pub returns-in-Stands : goal.returns-in-Stands
+returns-in-Stands c =
+    let evident = subst (λ (a : AskedOf). IsEvidence a.case.policy every a.case.items c.self.inside.examined.evidence) c.self.view_is c.self.invariant.1 in
+    let stands = rw c.in-Stands.is at evident in
+    decided_partly c.args.self.now (tuples_of c.in-Stands.steps.items) stands.1 c.granted.result
+    (λ es are. rw c.deref.ensures.value at (c.granted.ensures es are))

@@ -1,0 +1,44 @@
+use Rattle.std.proofs.Common.{ℕ, sym, ◌∙◌, ap, subst, List, length}
+use Rattle.spki_cert.specs.declared.entry.Entry.{Entry}
+use Rattle.spki_reduce.specs.Chain.{tuples_of}
+use Rattle.spki_decision.specs.Judged.{IsEvidence}
+use Rattle.spki_decision.specs.Asked.{every}
+use Rattle.spki_decision.specs.Views.{with_entries}
+use Rattle.spki_decision.proofs.Stopping.{as_many}
+use Rattle.spki_case.specs.View.{model}
+use Rattle.spki_service.specs.Asking.{AskedOf}
+use Rattle.spki_service.specs.Held.{AreEntries, octets_of}
+use Rattle.std.specs.List.{AllByRecursion}
+use Rattle.spki_decision.specs.Reduced.{AreFolds, IsDated}
+use Rattle.spki_service.proofs.Outcomes.{reduced_failed}
+use Rattle.spki_service.proofs.asked.Asked.reduced.Goals as goal
+
+pub entry_folds-requires-clause-as_many : goal.entry_folds-requires-clause-as_many
+entry_folds-requires-clause-as_many c =
+    let evident = subst (λ (a : AskedOf). IsEvidence a.case.policy every a.case.items c.self.inside.examined.evidence) c.self.view_is c.self.invariant.1 in
+    let stands = rw c.in-Stands.is at evident in
+    ap length c.deref-in-Stands-3.ensures.value
+    ∙ as_many c.args.self.now.case.policy every c.args.self.now.case.items c.in-Stands.items.items c.in-Stands.steps.items stands.0 stands.1
+    ∙ sym (ap length c.deref-in-Stands-2.ensures.value)
+
+pub returns-in-Fails-clause-reduced : goal.returns-in-Fails-clause-reduced
+returns-in-Fails-clause-reduced c =
+    let evident = subst (λ (a : AskedOf). IsEvidence a.case.policy every a.case.items c.self.inside.examined.evidence) c.self.view_is c.self.invariant.1 in
+    let fails = rw c.in-Fails.is at evident in
+    reduced_failed c.args.self.now c.in-Fails.item c.in-Fails.stop fails
+
+pub returns-in_ok-folds-in-Stands-clause-reduced : goal.returns-in_ok-folds-in-Stands-clause-reduced
+returns-in_ok-folds-in-Stands-clause-reduced c =
+    let m = model c.self.inside.case in
+    let tuples = tuples_of c.in-Stands.steps.items in
+    let evident : IsEvidence m.policy every m.items c.self.inside.examined.evidence = c.self.invariant.1 in
+    let stands = rw c.in-Stands.is at evident in
+    let texts = ap octets_of c.deref.ensures.value ∙ ap (λ h. h.texts) c.guard.view_is in
+    let inner : (es : List Entry) → AreEntries c.self.inside.guard.now.texts es → AreFolds (with_entries m es) every c.in_ok-folds-in-Stands.folds.items × AllByRecursion IsDated c.in_ok-folds-in-Stands.folds.items =
+    λ es are.
+    let there : AreEntries (octets_of c.deref.result.now) es = subst (λ (ts : List (List ℕ)). AreEntries ts es) (sym texts) are in
+    let all = c.deref-in-Stands.ensures.value ∙ c.in_ok-entries-in-Stands.ensures.all es there in
+    let each = rw (c.deref-in-Stands-3.ensures.value, all) at c.in_ok-folds-in-Stands.ensures.each in
+    let small = rw (c.deref-in-Stands-3.ensures.value, all) at c.in_ok-folds-in-Stands.ensures.small in
+    (record { tuples = tuples; shown = stands.1; each = each; small = small }, c.in_ok-folds-in-Stands.ensures.dated) in
+    subst (λ (a : AskedOf). (es : List Entry) → AreEntries a.texts es → AreFolds (with_entries a.case es) every c.in_ok-folds-in-Stands.folds.items × AllByRecursion IsDated c.in_ok-folds-in-Stands.folds.items) c.self.view_is inner

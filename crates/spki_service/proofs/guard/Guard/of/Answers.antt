@@ -1,0 +1,40 @@
+use Rattle.std.proofs.Common.{◌≡◌, sym, ◌∙◌, ap, length, arith}
+use Rattle.spki_cert.proofs.EntryLaws.{refused-acl}
+use Rattle.spki_service.specs.Held.{AreEntries, octets_of}
+use Rattle.spki_service.proofs.Reading.{named_fault, texts_held, many}
+use Rattle.spki_service.proofs.guard.Guard.of.Goals as goal
+
+pub returns-in-Err-clause-refused : goal.returns-in-Err-clause-refused
+returns-in-Err-clause-refused c found =
+    named_fault c.args.list.now c.in-Err.fault c.acl_fault.result c.acl_fault.ensures (λ known. record {
+      found = known;
+      refused = c.in-Err.ensures.refused known;
+      named = c.in-Err.ensures.named known;
+      none = refused-acl c.args.list.now c.in-Err.fault (c.in-Err.ensures.refused known);
+    }) found
+
+pub invariant_of-result : goal.invariant_of-result
+invariant_of-result c =
+    let a = c.in-Ok.ensures.acl in
+    let same = many c.args.list.now c.in-Ok.entries.items a in
+    let value = ap length c.deref.ensures.value in
+    let len = c.len.ensures in
+    let long : length a.entries ≡ c.len.result = omega (arith, same, value, len) in (
+      c.in-Ok.entries.items,
+      texts_held c.args.list.now c.in-Ok.entries.items c.in_ok-texts.texts.items a
+          (c.in_ok-texts.ensures a.version a.entries a.version_is a.written long),
+      rw c.deref.ensures.value at c.in_ok-index.ensures,
+    )
+
+pub returns-clause-list : goal.returns-clause-list
+returns-clause-list c =
+    let a = c.in-Ok.ensures.acl in
+    let same = many c.args.list.now c.in-Ok.entries.items a in
+    let value = ap length c.deref.ensures.value in
+    let len = c.len.ensures in
+    let long : length a.entries ≡ c.len.result = omega (arith, same, value, len) in (
+      c.in-Ok.entries.items,
+      a,
+      texts_held c.args.list.now c.in-Ok.entries.items c.in_ok-texts.texts.items a
+          (c.in_ok-texts.ensures a.version a.entries a.version_is a.written long),
+    )

@@ -1,0 +1,18 @@
+use Rattle.spki_service.proofs.WordLaws.{none_left, too_few, one_less, all_less}
+use Rattle.spki_service.proofs.measure.left_of_words.Goals as goal
+
+pub returns-in_err-left-2 : goal.returns-in_err-left-2
+returns-in_err-left-2 c =
+    none_left _ _ _ c.from_residual-in_err-left-2.ensures
+    (too_few c.args.words.now c.loop-word.word-index c.loop-word.left c.args.room c.loop-word.invariant _ c.if-words-eq1.false
+    c.loop-word-test.true c.in_err-left-2.ensures)
+
+pub loop-word-preserved : goal.loop-word-preserved
+loop-word-preserved c =
+    one_less c.args.words.now c.loop-word.word-index c.loop-word.left c.args.room c.loop-word.invariant _ c.in_ok-left-2.left
+    c.loop-word-test.true c.in_ok-left-2.ensures
+
+pub returns : goal.returns
+returns c =
+    all_less c.args.words.now c.loop-word.word-index c.loop-word.left c.args.room c.loop-word.invariant c.if-words-eq1.false
+    c.loop-word-test.false

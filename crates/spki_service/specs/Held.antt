@@ -1,0 +1,39 @@
+-- What a guard holds: the entries of an access list, each by its canonical text (RFC 2693, section 3.4; RFC 9804, section 6.2).
+use Rattle.std.specs.Prelude.{◌≡◌, ℕ, List, Vec, map}
+use Rattle.std.specs.declared.alloc.Global.{Global}
+use Rattle.std.specs.List.{AllZip}
+use Rattle.sexpr_core.specs.Value.{Value, canon}
+use Rattle.sexpr_text.specs.Spelling.{IsTextWithin}
+use Rattle.spki_cert.specs.declared.entry.Entry.{Entry}
+use Rattle.spki_cert.specs.declared.principal.Policy.{Policy}
+use Rattle.spki_cert.specs.Entries.{EntryOf, AclOf}
+
+-- The text is the canonical text of a value that is the entry.
+pub record IsEntryText (text : List ℕ) (e : Entry) : Type 0 where
+  pub value : Value
+  pub written : text ≡ canon value
+  pub is : EntryOf value e
+
+-- the texts are those of the entries, in order
+abbrev pub AreEntries : List (List ℕ) → List Entry → Type 0
+AreEntries texts es = AllZip IsEntryText texts es
+
+-- What a guard is to its users: the canonical texts of its entries, the policy, and the most octets of a question and nodes of an
+-- intersection.
+pub record Held : Type 0 where
+  pub texts : List (List ℕ)
+  pub policy : Policy
+  pub octets : ℕ
+  pub nodes : ℕ
+
+-- The text is an access list in one of the three forms, and these are the canonical texts of its entries.
+pub record HoldsList (list : List ℕ) (texts : List (List ℕ)) : Type 0 where
+  pub value : Value
+  pub spelled : IsTextWithin list value
+  pub entries : List Entry
+  pub is : AclOf value entries
+  pub held : AreEntries texts entries
+
+-- the octets of some texts
+abbrev pub octets_of : List (Vec ℕ Global) → List (List ℕ)
+octets_of texts = map (λ text. text.items) texts

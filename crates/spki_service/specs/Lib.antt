@@ -1,0 +1,14 @@
+-- What a service holds, and what it is asked.
+pub mod Kept
+pub mod Merged
+pub mod Indexed
+pub mod Held
+pub mod Picked
+pub mod Form
+pub mod Lists
+pub mod Asking
+pub mod Partly
+pub mod Marks
+pub mod Moment
+pub mod Questions
+pub mod Texts

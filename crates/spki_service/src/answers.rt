@@ -1,0 +1,229 @@
+//! The answers to a question that was asked of a guard.
+
+ghost use Rattle.std.specs.Prelude.{◌≡◌, List, map, IfOk};
+ghost use Rattle.std.specs.Option.{option_copied};
+ghost use Rattle.spki_cert.specs.declared.entry.Entry.{Entry};
+ghost use Rattle.spki_reduce.specs.Chain.{tuples_of};
+ghost use Rattle.spki_case.specs.View.{model};
+ghost use Rattle.spki_decision.specs.Asked.{asked, every};
+ghost use Rattle.spki_decision.specs.Answered.{IsDecided, IsExplained, IsReduced};
+ghost use Rattle.spki_decision.specs.Reduced.{EndAtDates};
+ghost use Rattle.spki_decision.specs.LeftOut.{first_key};
+ghost use Rattle.spki_decision.specs.Views.{signed_of, with_entries};
+ghost use Rattle.spki_service.specs.Held.{AreEntries};
+ghost use Rattle.spki_service.specs.Asking.{Answers, IsMarked};
+ghost use Rattle.spki_service.specs.Partly.{DecidesPartly};
+
+use crate::asked::Asked;
+use crate::entry_texts::{all_entries, entries_at};
+use crate::marks::first_unmarked;
+use spki_case::Verifier;
+use spki_cert::Key;
+use spki_decision::{
+    Decision, Evidence, Explanation, GuardFault, Reduction, Signed, Stop, entry_folds,
+    entry_reasons, first_granted, first_refused,
+};
+use spki_reduce::{Issuer, Step};
+use std::alloc::Global;
+
+impl<'a> Asked<'a> {
+    /// The signatures that a verifier is asked of, in order: those of the certificates that pass the first three of the four tests of
+    /// evidence, up to the first that doesn't (RFC 2693, section 6). Nothing is copied.
+    pub fn signed(&self) -> &[Signed<'a>]
+        ensures { map signed_of result.now ≡ asked self.now.case }
+    {
+        &self.examined.signed
+    }
+
+    /// Decides the question, as `spki_decision::decide` decides the case of its parts and the guard's list: yes exactly if every
+    /// certificate stands, with the verifier's word for the signatures, and an entry and all of them, in their order, reduce to an
+    /// authorization that grants what is asked. Only entries whose principal names the first issuer's key, or the asker's where no
+    /// certificate is shown, are looked at.
+    ///
+    /// # Errors
+    ///
+    /// `TooLarge` where an intersection on the way is over the guard's limit of nodes. `Memory` where memory was refused, to this
+    /// or to the verifier.
+    pub fn decide<V: Verifier>(&self, alloc: Global, verifier: &V) -> Result<Decision, GuardFault>
+        ensures { Answers (λ c answer. IsDecided c (V.accepted verifier.now) answer) self.now result }
+    {
+        match first_refused(alloc, &self.examined.signed, verifier)? {
+            None => self.decided(alloc),
+            Some(_) => Ok(Decision::No),
+        }
+    }
+
+    /// Decides the question, where exactly the signatures that `signed` lists at the places that are true here are accepted. A place
+    /// behind the last is false.
+    ///
+    /// # Errors
+    ///
+    /// Those of `decide`.
+    pub fn decide_by(&self, alloc: Global, verified: &[bool]) -> Result<Decision, GuardFault>
+        ensures { Answers (λ c answer. IsDecided c (IsMarked (asked self.now.case) verified.now) answer) self.now result }
+    {
+        match first_unmarked(&self.examined.signed, verified) {
+            None => self.decided(alloc),
+            Some(_) => Ok(Decision::No),
+        }
+    }
+
+    /// The decision where every signature is accepted.
+    fn decided(&self, alloc: Global) -> Result<Decision, GuardFault>
+        ensures { Answers (λ c answer. IsDecided c every answer) self.now result }
+    {
+        match &self.examined.evidence {
+            Evidence::Fails { .. } => Ok(Decision::No),
+            Evidence::Stands { steps, .. } => self.granted(alloc, steps),
+        }
+    }
+
+    /// The decision where the certificates that are shown are these steps, by the entries that are found.
+    fn granted<'s>(&'s self, alloc: Global, steps: &'s [Step<'a>]) -> Result<Decision, GuardFault>
+        ensures { (es : List Entry) → AreEntries self.now.texts es
+            → DecidesPartly (with_entries self.now.case es) (tuples_of steps.now) result }
+    {
+        let guard = self.guard;
+        let numbers = guard.numbers_of(alloc, first_key(&self.case.key, steps))?;
+        let entries = entries_at(alloc, &guard.texts, &numbers)?;
+        match first_granted(alloc, &entries, &self.case, steps)? {
+            Decision::No => Ok(Decision::No),
+            Decision::Yes(place) => Ok(Decision::Yes(numbers[place - 1])),
+        }
+    }
+
+    /// Explains the question, as `spki_decision::explain` explains the case of its parts and the guard's list: where every certificate
+    /// stands, with the verifier's word for the signatures, why each entry grants what is asked or doesn't; else the first
+    /// certificate that doesn't stand. All entries are read.
+    ///
+    /// # Errors
+    ///
+    /// `TooLarge` where an intersection on the way is over the guard's limit of nodes. `Memory` where memory was refused, to this
+    /// or to the verifier.
+    pub fn explain<V: Verifier>(
+        &self,
+        alloc: Global,
+        verifier: &V,
+    ) -> Result<Explanation, GuardFault>
+        ensures { Answers (λ c answer. IsExplained c (V.accepted verifier.now) answer) self.now result }
+    {
+        match first_refused(alloc, &self.examined.signed, verifier)? {
+            None => self.explained(alloc),
+            Some(place) => Ok(Explanation::Evidence {
+                item: self.examined.signed[place].item,
+                stop: Stop::NotAccepted,
+            }),
+        }
+    }
+
+    /// Explains the question, where exactly the signatures that `signed` lists at the places that are true here are accepted.
+    ///
+    /// # Errors
+    ///
+    /// Those of `explain`.
+    pub fn explain_by(&self, alloc: Global, verified: &[bool]) -> Result<Explanation, GuardFault>
+        ensures { Answers (λ c answer. IsExplained c (IsMarked (asked self.now.case) verified.now) answer) self.now result }
+    {
+        match first_unmarked(&self.examined.signed, verified) {
+            None => self.explained(alloc),
+            Some(place) => Ok(Explanation::Evidence {
+                item: self.examined.signed[place].item,
+                stop: Stop::NotAccepted,
+            }),
+        }
+    }
+
+    /// Reduces the question, as `spki_decision::reduce_case` reduces the case of its parts and the guard's list: where every certificate
+    /// stands, with the verifier's word for the signatures, what each entry and all of them become; else the first certificate that
+    /// doesn't stand. All entries are read.
+    ///
+    /// # Errors
+    ///
+    /// Those of `explain`.
+    pub fn reduce<V: Verifier>(
+        &self,
+        alloc: Global,
+        verifier: &V,
+    ) -> Result<Reduction<'a>, GuardFault>
+        ensures reduced { Answers (λ c answer. IsReduced c (V.accepted verifier.now) answer) self.now result }
+        ensures end { IfOk result EndAtDates }
+    {
+        match first_refused(alloc, &self.examined.signed, verifier)? {
+            None => self.reduced(alloc),
+            Some(place) => Ok(Reduction::Evidence {
+                item: self.examined.signed[place].item,
+                stop: Stop::NotAccepted,
+            }),
+        }
+    }
+
+    /// Reduces the question, where exactly the signatures that `signed` lists at the places that are true here are accepted.
+    ///
+    /// # Errors
+    ///
+    /// Those of `explain`.
+    pub fn reduce_by(&self, alloc: Global, verified: &[bool]) -> Result<Reduction<'a>, GuardFault>
+        ensures reduced { Answers (λ c answer. IsReduced c (IsMarked (asked self.now.case) verified.now) answer) self.now result }
+        ensures end { IfOk result EndAtDates }
+    {
+        match first_unmarked(&self.examined.signed, verified) {
+            None => self.reduced(alloc),
+            Some(place) => Ok(Reduction::Evidence {
+                item: self.examined.signed[place].item,
+                stop: Stop::NotAccepted,
+            }),
+        }
+    }
+
+    /// The explanation where every signature is accepted.
+    fn explained(&self, alloc: Global) -> Result<Explanation, GuardFault>
+        ensures { Answers (λ c answer. IsExplained c every answer) self.now result }
+    {
+        self.case.request.known();
+        match &self.examined.evidence {
+            Evidence::Fails { item, stop } => Ok(Explanation::Evidence {
+                item: *item,
+                stop: *stop,
+            }),
+            Evidence::Stands { items, steps } => {
+                let guard = self.guard;
+                let entries = all_entries(alloc, &guard.texts)?;
+                let reasons = entry_reasons(alloc, &entries, &self.case, items, steps)?;
+                Ok(Explanation::Entries(reasons))
+            }
+        }
+    }
+
+    /// The reduction where every signature is accepted.
+    fn reduced(&self, alloc: Global) -> Result<Reduction<'a>, GuardFault>
+        ensures reduced { Answers (λ c answer. IsReduced c every answer) self.now result }
+        ensures end { IfOk result EndAtDates }
+    {
+        match &self.examined.evidence {
+            Evidence::Fails { item, stop } => Ok(Reduction::Evidence {
+                item: *item,
+                stop: *stop,
+            }),
+            Evidence::Stands { items, steps } => {
+                let guard = self.guard;
+                let entries = all_entries(alloc, &guard.texts)?;
+                let folds = entry_folds(alloc, &entries, &self.case, items, steps)?;
+                Ok(Reduction::Entries(folds))
+            }
+        }
+    }
+}
+
+/// The key that the first of the steps is issued by; the asker's where there is none.
+fn first_key<'s, 'a>(asker: &'s Key<'a>, steps: &'s [Step<'a>]) -> Option<&'s Key<'a>>
+    ensures { option_copied result ≡ first_key asker.entry.now (tuples_of steps.entry.now) }
+{
+    match steps.first() {
+        None => Some(asker),
+        Some(Step::Name(definition)) => Some(&definition.key),
+        Some(Step::Auth(five)) => match &five.issuer {
+            Issuer::Own => None,
+            Issuer::Key(key) => Some(key),
+        },
+    }
+}

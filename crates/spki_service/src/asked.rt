@@ -1,0 +1,37 @@
+//! Questions that were asked of a guard and read.
+
+use crate::guard::Guard;
+use spki_case::Case;
+use spki_decision::Examined;
+use std::marker::Model;
+
+/// A question that was asked of a guard: its parts, which were read, and what a verifier is asked. In a contract it is the guard's
+/// entries, and the case of the parts.
+#[derive(Drop)]
+pub struct Asked<'a> {
+    pub(crate) guard: &'a Guard,
+    pub(crate) case: Case<'a>,
+    pub(crate) examined: Examined<'a>,
+}
+
+impl<'a> Model for Asked<'a> {
+    ghost use Rattle.std.specs.Prelude.{◌≡◌, map};
+    ghost use Rattle.std.specs.Coded.{codes};
+    ghost use Rattle.spki_tag.specs.contracts.tag.Tag as tag;
+    ghost use Rattle.spki_tag.specs.contracts.request.Ground as ground;
+    ghost use Rattle.spki_case.specs.View.{model};
+    ghost use Rattle.spki_decision.specs.Asked.{asked, every};
+    ghost use Rattle.spki_decision.specs.Judged.{IsEvidence};
+    ghost use Rattle.spki_decision.specs.Views.{signed_of};
+    ghost use Rattle.spki_service.specs.Asking.{AskedOf};
+
+    ghost Value = { AskedOf };
+
+    ghost coded = { Prim.hlevel (codes, tag.the_row.coded, ground.the_row.coded) };
+
+    ghost view = { λ a. record { texts = a.guard.now.texts; case = model a.case } };
+
+    ghost invariant = { λ a. (map signed_of a.examined.signed.items ≡ asked (model a.case))
+        × IsEvidence a.case.policy every a.case.sequence.items a.examined.evidence
+        × (a.guard.now.policy ≡ a.case.policy) };
+}

@@ -1,0 +1,116 @@
+//! The canonical texts of an access list's entries, and the entries that they are.
+
+ghost use Rattle.std.specs.Prelude.{◌≡◌, ◌<◌, ◌∷◌, ◌++◌, [], ℕ, List, codes, length, map, drop, ◌+◌, slice_get, Some, IfOk, IfErr};
+ghost use Rattle.sexpr_core.specs.Value.{Value, canon, group, plain};
+ghost use Rattle.spki_cert.specs.declared.entry.Entry.{Entry};
+ghost use Rattle.spki_decision.specs.declared.deciding.GuardFault.{GuardFault};
+ghost use Rattle.spki_cert.specs.Entries.{IsVersion};
+ghost use Rattle.spki_service.specs.Held.{IsEntryText, AreEntries, octets_of};
+ghost use Rattle.spki_service.specs.Picked.{AreNumbers, ArePicked};
+
+use sexpr_core::Doc;
+use sexpr_core::reading::{Members, Node};
+use spki_cert::{Entry, entry_of};
+use spki_decision::GuardFault;
+use std::alloc::{AllocError, Global};
+
+/// The canonical texts of the entries of an access list, of which there are this many.
+pub(crate) fn entry_texts(
+    alloc: Global,
+    list: &Node,
+    count: usize,
+) -> Result<Vec<Vec<u8>>, AllocError>
+    ensures { (version entries : List Value) → IsVersion version
+        → list.now ≡ group (plain (codes "acl") ∷ (version ++ entries)) → length entries ≡ count
+        → IfOk result (λ texts. octets_of texts.items ≡ map canon entries) }
+{
+    let Some(members) = list.headed(b"acl") else {
+        return Ok(Vec::new(alloc));
+    };
+    Ok(last(member_texts(alloc, members)?, count))
+}
+
+/// The last of some texts, so many, where there is at most one more.
+fn last(texts: Vec<Vec<u8>>, count: usize) -> Vec<Vec<u8>>
+    ensures all { length texts.items ≡ count → result.items ≡ texts.items }
+    ensures behind { length texts.items ≡ 1 + count → result.items ≡ drop 1 texts.items }
+{
+    let mut texts = texts;
+    if texts.len() > count {
+        texts.remove(0);
+    }
+    texts
+}
+
+/// The canonical texts of the members of a list.
+fn member_texts(alloc: Global, members: Members<'_, '_>) -> Result<Vec<Vec<u8>>, AllocError>
+    ensures { IfOk result (λ texts. octets_of texts.items ≡ map canon members.entry) }
+{
+    let mut rest = members;
+    let mut texts = Vec::new(alloc);
+    while let Some((member, others)) = rest.split_first() {
+        texts.push(Vec::from_slice(alloc, member.slice())?)?;
+        rest = others;
+    }
+    Ok(texts)
+}
+
+/// The entry that a canonical text is.
+///
+/// # Errors
+///
+/// `Memory` where memory was refused, and no other.
+pub(crate) fn entry_in<'a>(alloc: Global, text: &'a [u8]) -> Result<Entry<'a>, GuardFault>
+    ensures entry { (e : Entry) → IsEntryText text.entry.now e → IfOk result (λ found. found ≡ e) }
+    ensures refused { IfErr result (λ fault. fault ≡ GuardFault.Memory) }
+{
+    // The text is that of an entry, so what is refused is memory.
+    let Ok(document) = Doc::open(alloc, text) else {
+        return Err(GuardFault::Memory);
+    };
+    match entry_of(alloc, &document.top()) {
+        Ok(entry) => Ok(entry),
+        Err(_) => Err(GuardFault::Memory),
+    }
+}
+
+/// The entries that have these numbers, counted from 1.
+///
+/// # Errors
+///
+/// `Memory` where memory was refused, and no other.
+pub(crate) fn entries_at<'a>(
+    alloc: Global,
+    texts: &'a [Vec<u8>],
+    numbers: &[usize],
+) -> Result<Vec<Entry<'a>>, GuardFault>
+    requires { AreNumbers (length texts.now) numbers.now }
+    ensures picked { (es : List Entry) → AreEntries (octets_of texts.entry.now) es
+        → IfOk result (λ picked. ArePicked es numbers.now picked.items) }
+    ensures refused { IfErr result (λ fault. fault ≡ GuardFault.Memory) }
+{
+    let mut picked = Vec::new(alloc);
+    for number in numbers {
+        picked.push(entry_in(alloc, &texts[*number - 1])?)?;
+    }
+    Ok(picked)
+}
+
+/// All entries.
+///
+/// # Errors
+///
+/// `Memory` where memory was refused, and no other.
+pub(crate) fn all_entries<'a>(
+    alloc: Global,
+    texts: &'a [Vec<u8>],
+) -> Result<Vec<Entry<'a>>, GuardFault>
+    ensures all { (es : List Entry) → AreEntries (octets_of texts.entry.now) es → IfOk result (λ all. all.items ≡ es) }
+    ensures refused { IfErr result (λ fault. fault ≡ GuardFault.Memory) }
+{
+    let mut all = Vec::new(alloc);
+    for text in texts {
+        all.push(entry_in(alloc, text)?)?;
+    }
+    Ok(all)
+}

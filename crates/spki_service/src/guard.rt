@@ -1,0 +1,201 @@
+//! Access lists that are made ready once.
+
+ghost use Rattle.std.specs.Prelude.{◌≡◌, ◌≢◌, ◌↔◌, ◌⊎◌, ◌<◌, ℕ, List, length, IfOk, IfErr, IsErrOf};
+ghost use Rattle.std.specs.Option.{option_copied};
+ghost use Rattle.sexpr_core.specs.Value.{Value, canon, IsShallow};
+ghost use Rattle.spki_cert.specs.declared.entry.Entry.{Entry};
+ghost use Rattle.spki_cert.specs.Entries.{AclOf};
+ghost use Rattle.spki_case.specs.Texts.{IsOuter};
+ghost use Rattle.spki_service.specs.Held.{AreEntries, HoldsList};
+ghost use Rattle.spki_service.specs.Kept.{numbers_from};
+ghost use Rattle.spki_service.specs.Lists.{IsNoList, IsNoAcl, ListRefused};
+ghost use Rattle.spki_service.specs.Partly.{is_of};
+ghost use Rattle.spki_service.specs.Questions.{IsAsked, IsNotAsked, asked_octets};
+ghost use Rattle.spki_service.specs.Texts.{IsTextsOf};
+ghost use Rattle.spki_service.specs.declared.question.Question.{Question};
+
+use crate::asked::Asked;
+use crate::entry_texts::entry_texts;
+use crate::index::Index;
+use crate::limits::Limits;
+use crate::list_fault::AclFault;
+use crate::parts::case_of;
+use crate::question::{AskFault, Question};
+use crate::texts::{Texts, texts_of};
+use sexpr_core::reading::Node;
+use sexpr_core::{Doc, FormFault};
+use sexpr_text::{Form, convert};
+use spki_cert::{CertFault, CertFaultKind, Key, Policy, acl_of};
+use spki_decision::examine;
+use std::alloc::{AllocError, Global};
+use std::marker::Model;
+
+/// An access list that was made ready once, and is asked often, by several threads at the same time if need be. It owns the
+/// canonical texts of its entries, and an index of them by the principals of their subjects.
+///
+/// In a contract it is these texts, the policy and the limits of its questions.
+#[derive(Drop)]
+pub struct Guard {
+    pub(crate) texts: Vec<Vec<u8>>,
+    index: Index,
+    policy: Policy,
+    limits: Limits,
+}
+
+impl Model for Guard {
+    ghost use Rattle.std.specs.Prelude.{List};
+    ghost use Rattle.spki_cert.specs.declared.entry.Entry.{Entry};
+    ghost use Rattle.spki_service.specs.Held.{Held, AreEntries, octets_of};
+    ghost use Rattle.spki_service.specs.Indexed.{IsIndexOf};
+
+    ghost Value = { Held };
+
+    ghost view = { λ g. record {
+      texts = octets_of g.texts.items;
+      policy = g.policy;
+      octets = g.limits.octets;
+      nodes = g.limits.nodes;
+    } };
+
+    ghost invariant = { λ g. (es : List Entry) × AreEntries (octets_of g.texts.items) es × IsIndexOf es g.index };
+}
+
+impl Guard {
+    /// Reads an access list, `(acl entry ..)`, in any of the three forms (RFC 2693, section 3.4; RFC 9804), and makes it ready to be
+    /// asked, under a policy and with limits of what a question may take.
+    ///
+    /// # Errors
+    ///
+    /// `Form` where the text spells and braces no value within the limits, and `Form(TooLong)` exactly where it has more than
+    /// 1,048,576 octets or its canonical form has; else `Acl` where the value is no access list, with the first fault from the
+    /// left. `Memory` where memory was refused.
+    pub fn read(
+        alloc: Global,
+        list: &[u8],
+        policy: Policy,
+        limits: Limits,
+    ) -> Result<Guard, AclFault>
+        ensures list { IfOk result (λ g. HoldsList list.now g.texts) }
+        ensures policy { IfOk result (λ g. g.policy ≡ policy) }
+        ensures octets { IfOk result (λ g. g.octets ≡ limits.octets) }
+        ensures nodes { IfOk result (λ g. g.nodes ≡ limits.nodes) }
+        ensures refused { IfErr result (λ fault. fault ≢ AclFault.Memory → IsNoList list.now fault) }
+    {
+        match convert(alloc, Form::Canonical, list) {
+            Ok(octets) => Guard::of_text(alloc, &octets, policy, limits),
+            Err(FormFault::Memory) => Err(AclFault::Memory),
+            Err(fault) => Err(AclFault::Form(fault)),
+        }
+    }
+
+    /// How many entries the list has.
+    pub fn entries(&self) -> usize
+        ensures { result ≡ length self.now.texts }
+    {
+        self.texts.len()
+    }
+
+    /// The canonical texts of a question's parts, which `ask` reads. What is in canonical form already isn't copied.
+    ///
+    /// # Errors
+    ///
+    /// `TooLong` exactly where the question's texts together have more octets than the guard's limit, before any of them is read.
+    /// `Memory` where memory was refused.
+    pub fn texts<'q>(&self, alloc: Global, question: &Question<'q>) -> Result<Texts<'q>, AskFault>
+        ensures texts { IfOk result (IsTextsOf question.now) }
+        ensures too_long { IsErrOf result AskFault.TooLong ↔ (self.now.octets < asked_octets question.now) }
+        ensures only { IfErr result (λ fault. (fault ≡ AskFault.TooLong) ⊎ (fault ≡ AskFault.Memory)) }
+    {
+        texts_of(alloc, question, self.limits.octets)
+    }
+
+    /// Reads the parts of a question, each by itself, in the order sequence, key, request, moment, and examines the certificates that
+    /// are shown.
+    ///
+    /// # Errors
+    ///
+    /// The first part that has no reading is named: `Form` where it is no text of a value within the limits, and else what the value
+    /// is refused for. `Memory` where memory was refused.
+    pub fn ask<'a>(&'a self, alloc: Global, texts: &'a Texts<'_>) -> Result<Asked<'a>, AskFault>
+        ensures asked { (q : Question) → IsTextsOf q texts.entry.now → IfOk result (λ a. IsAsked q a.case) }
+        ensures entries { IfOk result (λ a. a.texts ≡ self.entry.now.texts) }
+        ensures policy { IfOk result (λ a. a.case.policy ≡ self.entry.now.policy) }
+        ensures limit { IfOk result (λ a. a.case.most_nodes ≡ self.entry.now.nodes) }
+        ensures refused { (q : Question) → IsTextsOf q texts.entry.now
+            → IfErr result (λ fault. fault ≢ AskFault.Memory → IsNotAsked q fault) }
+    {
+        let algorithms = self.index.algorithms(self.policy);
+        let case = case_of(alloc, texts, self.policy, self.limits, algorithms)?;
+        let examined = examine(alloc, &case.sequence, case.policy)?;
+        Ok(Asked {
+            guard: self,
+            case,
+            examined,
+        })
+    }
+
+    /// The numbers, ascending, of the entries whose principal names the key; none where there is no key.
+    pub(crate) fn numbers_of(
+        &self,
+        alloc: Global,
+        key: Option<&Key>,
+    ) -> Result<Vec<usize>, AllocError>
+        ensures { (es : List Entry) → AreEntries self.now.texts es
+            → IfOk result (λ numbers. numbers.items ≡ numbers_from 1 (is_of self.now.policy (option_copied key.entry)) es) }
+    {
+        match key {
+            None => Ok(Vec::new(alloc)),
+            Some(key) => self.index.found(alloc, key, self.policy),
+        }
+    }
+
+    /// Reads an access list in canonical form.
+    fn of_text(
+        alloc: Global,
+        octets: &[u8],
+        policy: Policy,
+        limits: Limits,
+    ) -> Result<Guard, AclFault>
+        ensures list { (v : Value) → octets.now ≡ canon v
+            → IfOk result (λ g. (es : List Entry) × AclOf v es × AreEntries g.texts es) }
+        ensures given { IfOk result (λ g. (g.policy ≡ policy) × (g.octets ≡ limits.octets) × (g.nodes ≡ limits.nodes)) }
+        ensures refused { (v : Value) → octets.now ≡ canon v → IsShallow v
+            → IfErr result (λ fault. fault ≢ AclFault.Memory → ListRefused v fault) }
+    {
+        match Doc::open(alloc, octets) {
+            Ok(document) => Guard::of(alloc, &document.top(), policy, limits),
+            Err(FormFault::Memory) => Err(AclFault::Memory),
+            Err(fault) => Err(AclFault::Form(fault)),
+        }
+    }
+
+    /// The access list that a node is.
+    fn of(alloc: Global, list: &Node, policy: Policy, limits: Limits) -> Result<Guard, AclFault>
+        ensures list { IfOk result (λ g. (es : List Entry) × AclOf list.now es × AreEntries g.texts es) }
+        ensures given { IfOk result (λ g. (g.policy ≡ policy) × (g.octets ≡ limits.octets) × (g.nodes ≡ limits.nodes)) }
+        ensures refused { IfErr result (λ fault. fault ≢ AclFault.Memory
+            → (inner : CertFault) × (fault ≡ AclFault.Acl inner) × IsNoAcl inner list.now) }
+    {
+        let entries = match acl_of(alloc, list) {
+            Ok(entries) => entries,
+            Err(fault) => return Err(acl_fault(fault)),
+        };
+        let index = Index::of(alloc, &entries)?;
+        let texts = entry_texts(alloc, list, entries.len())?;
+        Ok(Guard {
+            texts,
+            index,
+            policy,
+            limits,
+        })
+    }
+}
+
+fn acl_fault(fault: CertFault) -> AclFault
+    ensures { IsOuter (fault.kind ≡ CertFaultKind.Memory) AclFault.Memory (AclFault.Acl fault) result }
+{
+    match fault.kind {
+        CertFaultKind::Memory => AclFault::Memory,
+        _ => AclFault::Acl(fault),
+    }
+}

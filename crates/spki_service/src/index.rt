@@ -1,0 +1,209 @@
+//! An index of an access list's entries by the principals of their subjects.
+
+ghost use Rattle.std.specs.Prelude.{◌≡◌, ◌+◌, ◌∷◌, ◌++◌, [], ℕ, List, length, bytes_eq, IfOk, OnOk, if◌then◌else◌};
+ghost use Rattle.spki_cert.specs.declared.entry.Entry.{Entry};
+ghost use Rattle.spki_cert.specs.declared.hash.HashAlg.{HashAlg};
+ghost use Rattle.spki_cert.specs.Naming.{names, admits, digest_of};
+ghost use Rattle.spki_service.specs.Kept.{numbers_from};
+ghost use Rattle.spki_service.specs.Merged.{merge};
+ghost use Rattle.spki_service.specs.Indexed.{is_key, is_hash, numbers_at, by_algorithm, IsIndexOf};
+
+use spki_cert::{Algorithms, Entry, HashAlg, Key, Policy, Principal};
+use std::alloc::{AllocError, Global};
+use std::collections::BTreeMap;
+
+/// For each octet string, the numbers of entries, ascending.
+type Numbers = BTreeMap<Vec<u8>, Vec<usize>>;
+
+/// An index of an access list: for each principal, the numbers of the entries whose subject has it. Numbers are ascending and count
+/// from 1. A key is found by its canonical octets, and a hash by its digest, in a map for each algorithm.
+#[derive(Drop)]
+pub(crate) struct Index {
+    by_key: Numbers,
+    by_sha1: Numbers,
+    by_sha256: Numbers,
+    by_sha512: Numbers,
+}
+
+impl Index {
+    /// The index of these entries. For n entries this takes n look-ups in maps of at most n keys.
+    ///
+    /// # Errors
+    ///
+    /// If memory is refused.
+    pub(crate) fn of(alloc: Global, entries: &[Entry]) -> Result<Index, AllocError>
+        ensures { IfOk result (IsIndexOf entries.now) }
+    {
+        let mut index = Index {
+            by_key: BTreeMap::new(alloc),
+            by_sha1: BTreeMap::new(alloc),
+            by_sha256: BTreeMap::new(alloc),
+            by_sha512: BTreeMap::new(alloc),
+        };
+        for (place, entry) in entries.iter().enumerate() {
+            index.add(alloc, &entry.subject.principal, place + 1)?;
+        }
+        Ok(index)
+    }
+
+    /// The algorithms by which `found` may digest a key: those of the hashes in the index that the policy lets name keys. `found`
+    /// digests no key that carries these digests.
+    pub(crate) fn algorithms(&self, policy: Policy) -> Algorithms {
+        Algorithms {
+            sha1: !self.by_sha1.is_empty() && policy.admits(HashAlg::Sha1),
+            sha256: !self.by_sha256.is_empty() && policy.admits(HashAlg::Sha256),
+            sha512: !self.by_sha512.is_empty() && policy.admits(HashAlg::Sha512),
+        }
+    }
+
+    /// The numbers of the entries whose subject's principal names the key under the policy (RFC 2693, section 2.5), ascending.
+    /// This takes at most four look-ups in maps, three digests, and steps in proportion to the numbers found.
+    ///
+    /// # Errors
+    ///
+    /// If memory is refused.
+    pub(crate) fn found(
+        &self,
+        alloc: Global,
+        key: &Key,
+        policy: Policy,
+    ) -> Result<Vec<usize>, AllocError>
+        ensures { (es : List Entry) → IsIndexOf es self.now
+            → IfOk result (λ numbers. numbers.items ≡ numbers_from 1 (λ e. names policy e.subject.principal key.now) es) }
+    {
+        let own = Vec::from_slice(alloc, numbers_at(&self.by_key, key.as_slice()))?;
+        let first = merged(alloc, own, self.admitted(HashAlg::Sha1, key, policy))?;
+        let second = merged(alloc, first, self.admitted(HashAlg::Sha256, key, policy))?;
+        merged(alloc, second, self.admitted(HashAlg::Sha512, key, policy))
+    }
+
+    /// Adds the number of one more entry, whose subject has this principal.
+    fn add(&mut self, alloc: Global, principal: &Principal, number: usize) -> Result<(), AllocError>
+        ensures keys { OnOk result ((octets : List ℕ) → numbers_at self.new.by_key octets
+            ≡ (if is_key octets principal.now then numbers_at self.old.by_key octets ++ number ∷ []
+            else numbers_at self.old.by_key octets)) }
+        ensures hashes { OnOk result ((alg : HashAlg) (digest : List ℕ) → numbers_at (by_algorithm self.new alg) digest
+            ≡ (if is_hash alg digest principal.now then numbers_at (by_algorithm self.old alg) digest ++ number ∷ []
+            else numbers_at (by_algorithm self.old alg) digest)) }
+    {
+        match principal {
+            Principal::Key(key) => add_number(&mut self.by_key, alloc, key.as_slice(), number),
+            Principal::Hash { alg, digest } => match alg {
+                HashAlg::Sha1 => add_number(&mut self.by_sha1, alloc, digest.as_slice(), number),
+                HashAlg::Sha256 => {
+                    add_number(&mut self.by_sha256, alloc, digest.as_slice(), number)
+                }
+                HashAlg::Sha512 => {
+                    add_number(&mut self.by_sha512, alloc, digest.as_slice(), number)
+                }
+            },
+        }
+    }
+
+    /// The numbers of the entries whose principal is the key's hash by the algorithm, or none if the policy lets no such hash name
+    /// a key.
+    fn admitted(&self, alg: HashAlg, key: &Key, policy: Policy) -> &[usize]
+        ensures { result.now ≡ (if admits policy alg then numbers_at (by_algorithm self.now alg) (digest_of alg key.now) else []) }
+    {
+        if policy.admits(alg) {
+            self.hashed(alg, key)
+        } else {
+            &[]
+        }
+    }
+
+    /// The numbers of the entries whose principal is the key's hash by the algorithm. If the index has no hash by the algorithm, the
+    /// key is not digested.
+    fn hashed(&self, alg: HashAlg, key: &Key) -> &[usize]
+        ensures { result.now ≡ numbers_at (by_algorithm self.now alg) (digest_of alg key.now) }
+    {
+        match alg {
+            HashAlg::Sha1 => {
+                if self.by_sha1.is_empty() {
+                    &[]
+                } else {
+                    numbers_at(&self.by_sha1, key.sha1().as_slice())
+                }
+            }
+            HashAlg::Sha256 => {
+                if self.by_sha256.is_empty() {
+                    &[]
+                } else {
+                    numbers_at(&self.by_sha256, key.sha256().as_slice())
+                }
+            }
+            HashAlg::Sha512 => {
+                if self.by_sha512.is_empty() {
+                    &[]
+                } else {
+                    numbers_at(&self.by_sha512, key.sha512().as_slice())
+                }
+            }
+        }
+    }
+}
+
+/// Appends a number to those at the octets.
+fn add_number(
+    numbers: &mut Numbers,
+    alloc: Global,
+    octets: &[u8],
+    number: usize,
+) -> Result<(), AllocError>
+    ensures { OnOk result ((other : List ℕ) → numbers_at numbers.new other
+        ≡ (if bytes_eq octets.now other then numbers_at numbers.old other ++ number ∷ [] else numbers_at numbers.old other)) }
+{
+    match numbers.get_mut(octets) {
+        Some(at) => at.push(number)?,
+        None => {
+            let mut at = Vec::new(alloc);
+            at.push(number)?;
+            numbers.insert(Vec::from_slice(alloc, octets)?, at)?;
+        }
+    }
+    Ok(())
+}
+
+/// The numbers at the octets, or none.
+fn numbers_at<'i>(numbers: &'i Numbers, octets: &[u8]) -> &'i [usize]
+    ensures { result.now ≡ numbers_at numbers.now octets.now }
+{
+    match numbers.get(octets) {
+        Some(at) => at.as_slice(),
+        None => &[],
+    }
+}
+
+/// Merges two ascending lists. If one is empty, the other is kept or copied without comparisons.
+fn merged(alloc: Global, own: Vec<usize>, more: &[usize]) -> Result<Vec<usize>, AllocError>
+    ensures { IfOk result (λ numbers. numbers.items ≡ merge own.items more.now) }
+{
+    if more.is_empty() {
+        Ok(own)
+    } else if own.is_empty() {
+        Vec::from_slice(alloc, more)
+    } else {
+        merge_both(alloc, &own, more)
+    }
+}
+
+/// Merges two ascending lists.
+fn merge_both(alloc: Global, a: &[usize], b: &[usize]) -> Result<Vec<usize>, AllocError>
+    ensures { IfOk result (λ numbers. numbers.items ≡ merge a.now b.now) }
+{
+    let mut out = Vec::new(alloc);
+    let mut i = 0;
+    let mut j = 0;
+    while i < a.len() && j < b.len() {
+        if a[i] < b[j] {
+            out.push(a[i])?;
+            i += 1;
+        } else {
+            out.push(b[j])?;
+            j += 1;
+        }
+    }
+    out.extend_from_slice(&a[i..])?;
+    out.extend_from_slice(&b[j..])?;
+    Ok(out)
+}

@@ -1,0 +1,28 @@
+//! What a service holds: an access list made ready once, and the questions that are asked about it.
+#![tactic(auto)]
+
+mod answers;
+mod asked;
+mod date;
+mod entry_texts;
+mod guard;
+mod index;
+pub mod laws;
+mod limits;
+mod list_fault;
+mod marks;
+mod measure;
+mod parts;
+mod question;
+mod texts;
+mod words;
+
+pub use asked::Asked;
+pub use guard::Guard;
+pub use limits::Limits;
+pub use list_fault::AclFault;
+pub use question::{AskFault, Instant, Part, Question, Wanted};
+pub use spki_decision::{
+    Decision, EntryFold, Explanation, GuardFault, Reason, Reduction, Signed, Stop,
+};
+pub use texts::Texts;

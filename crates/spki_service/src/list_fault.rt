@@ -1,0 +1,32 @@
+//! What an access list that isn't held is refused for.
+
+ghost use Rattle.std.specs.Prelude.{◌≡◌};
+
+use sexpr_core::FormFault;
+use spki_cert::CertFault;
+use std::alloc::AllocError;
+use thiserror::Error;
+
+/// Why a text is no access list.
+#[derive(Clone, Copy, Debug, PartialEq, Eq, Error)]
+pub enum AclFault {
+    /// It is no text of a value within the limits.
+    #[error("form: {0}")]
+    Form(FormFault),
+    /// Its value is no access list; the fault's item is the entry, from 1, or 0 for the whole.
+    #[error("access list: {0}")]
+    Acl(CertFault),
+    /// Memory was refused.
+    #[error("out of memory")]
+    Memory,
+}
+
+impl From<AllocError> for AclFault {
+    ghost use Rattle.spki_service.specs.declared.list_fault.AclFault.TheVariants.{Memory};
+
+    ghost from_gives = { λ _ fault. fault ≡ Memory };
+
+    fn from(_error: AllocError) -> AclFault {
+        AclFault::Memory
+    }
+}

@@ -1,0 +1,51 @@
+//! A service's word for signatures, given as marks: which of those that are listed are right.
+
+ghost use Rattle.std.specs.Prelude.{◌≡◌, ◌↔◌, List, map, true, slice_get, Some, IsTrue};
+ghost use Rattle.spki_decision.specs.Asked.{IsAccepted, IsFirstRefused};
+ghost use Rattle.spki_decision.specs.Views.{signed_of};
+ghost use Rattle.spki_service.specs.Asking.{IsMarked};
+ghost use Rattle.spki_service.specs.Marks.{AskSame};
+
+use spki_decision::Signed;
+
+/// The place, from 0, of the first signature that no true mark is for; None where there is none. A mark is for the signature at its
+/// place, and for each that asks for the same.
+pub(crate) fn first_unmarked(signed: &[Signed], marks: &[bool]) -> Option<usize>
+    ensures { IsFirstRefused (IsMarked (map signed_of signed.now) marks.now) (map signed_of signed.now) result }
+{
+    for (place, one) in signed.iter().enumerate() {
+        if !(is_set(marks, place) || is_marked(signed, marks, one)) {
+            return Some(place);
+        }
+    }
+    None
+}
+
+/// Whether the mark at a place is true; behind the last none is.
+fn is_set(marks: &[bool], place: usize) -> bool
+    ensures { IsTrue result ↔ (slice_get marks.now place ≡ Some true) }
+{
+    match marks.get(place) {
+        None => false,
+        Some(mark) => *mark,
+    }
+}
+
+/// Whether a true mark is for a signature that asks for the same as this one.
+fn is_marked(signed: &[Signed], marks: &[bool], one: &Signed) -> bool
+    ensures { IsTrue result ↔ IsAccepted (IsMarked (map signed_of signed.now) marks.now) (signed_of one.now) }
+{
+    for (place, other) in signed.iter().enumerate() {
+        if is_set(marks, place) && asks_same(other, one) {
+            return true;
+        }
+    }
+    false
+}
+
+/// Whether two signatures ask for the same: by the same key, over the same message, with the same value.
+fn asks_same(one: &Signed, other: &Signed) -> bool
+    ensures { IsTrue result ↔ AskSame (signed_of one.now) (signed_of other.now) }
+{
+    one.value.same(&other.value) && one.message.same(&other.message) && one.key.same(&other.key)
+}

@@ -1,0 +1,222 @@
+//! The parts of a question, read from their texts.
+
+ghost use Rattle.std.specs.Prelude.{◌≡◌, ◌≢◌, IfOk, IfErr};
+ghost use Rattle.sexpr_core.specs.Value.{Value, canon, IsWithinLimits};
+ghost use Rattle.spki_cert.specs.Readings.{KeyOf, DateOf};
+ghost use Rattle.spki_cert.specs.Sequences.{SeqOf};
+ghost use Rattle.spki_case.specs.CaseForm.{RequestOf};
+ghost use Rattle.spki_case.specs.Sequence.{AreSigned};
+ghost use Rattle.spki_case.specs.Texts.{IsOuter};
+ghost use Rattle.spki_case.specs.View.{model};
+ghost use Rattle.spki_service.specs.Questions.{IsAsked, IsNotAsked};
+ghost use Rattle.spki_service.specs.Texts.{IsTextsOf, OfText, IsInstant, NamesPart, NamesSequence, NamesKey, NamesRequest, NamesMoment, NamesInstant};
+ghost use Rattle.spki_service.specs.declared.question.Question.{Question};
+
+use crate::limits::Limits;
+use crate::question::{AskFault, Part};
+use crate::texts::{MomentText, PartText, Texts};
+use sexpr_core::reading::Node;
+use sexpr_core::{Doc, FormFault};
+use spki_case::Case;
+use spki_cert::{
+    Algorithms, CertFault, CertFaultKind, Date, Key, Policy, SeqItem, date_of, key_of, sequence_of,
+};
+use spki_tag::{Ground, TagFault};
+use std::alloc::Global;
+
+/// The case that a question asks, with no entries and with a guard's policy and limit of nodes: its parts are read in the order sequence, key, request, moment. Its keys carry
+/// their digests by these algorithms, those of the hashes that an access list has, and by those of the hashes in the sequence.
+///
+/// # Errors
+///
+/// The first part that has no reading is named: `Form` where it is no text of a value within the limits, and else what the value
+/// is refused for. `Memory` where memory was refused.
+pub(crate) fn case_of<'a>(
+    alloc: Global,
+    texts: &'a Texts<'_>,
+    policy: Policy,
+    limits: Limits,
+    algorithms: Algorithms,
+) -> Result<Case<'a>, AskFault>
+    ensures asked { (q : Question) → IsTextsOf q texts.entry.now → IfOk result (λ c. IsAsked q (model c)) }
+    ensures policy { IfOk result (λ c. c.policy ≡ policy) }
+    ensures limit { IfOk result (λ c. c.most_nodes ≡ limits.nodes) }
+    ensures refused { (q : Question) → IsTextsOf q texts.entry.now
+        → IfErr result (λ fault. fault ≢ AskFault.Memory → IsNotAsked q fault) }
+{
+    let sequence = sequence_in(alloc, &texts.sequence)?;
+    let key = key_in(alloc, &texts.key)?;
+    let request = request_in(alloc, &texts.request)?;
+    let moment = moment_in(alloc, &texts.moment)?;
+    Ok(Case::asking(
+        alloc,
+        sequence,
+        key,
+        request,
+        moment,
+        policy,
+        limits.nodes,
+        algorithms,
+    )?)
+}
+
+/// The document of a canonical text that was made.
+fn made_document<'a>(alloc: Global, part: Part, octets: &'a [u8]) -> Result<Doc<'a>, AskFault>
+    ensures read { IfOk result (λ document. octets.entry.now ≡ canon document) }
+    ensures refused { IfErr result (λ fault. fault ≢ AskFault.Memory → (form : FormFault) × (fault ≡ AskFault.Form part form)
+        × ((v : Value) → IsWithinLimits v → octets.entry.now ≡ canon v → ⊥)) }
+{
+    match Doc::open(alloc, octets) {
+        Ok(document) => Ok(document),
+        Err(FormFault::Memory) => Err(AskFault::Memory),
+        Err(fault) => Err(AskFault::Form { part, fault }),
+    }
+}
+
+/// The sequence that a text is.
+fn sequence_in<'a>(alloc: Global, text: &'a PartText<'_>) -> Result<Vec<SeqItem<'a>>, AskFault>
+    ensures read { IfOk result (λ items. OfText text.entry.now (λ v. SeqOf v items.items)) }
+    ensures signed { IfOk result (λ items. AreSigned items.items) }
+    ensures refused { IfErr result (λ fault. fault ≢ AskFault.Memory → NamesPart Part.Sequence NamesSequence text.entry.now fault) }
+{
+    match text {
+        PartText::Standing(document) => sequence_at(alloc, &document.top()),
+        PartText::Made(octets) => {
+            let document = made_document(alloc, Part::Sequence, octets)?;
+            sequence_at(alloc, &document.top())
+        }
+        PartText::Malformed(fault) => Err(AskFault::Form {
+            part: Part::Sequence,
+            fault: *fault,
+        }),
+    }
+}
+
+/// The key that a text is.
+fn key_in<'a>(alloc: Global, text: &'a PartText<'_>) -> Result<Key<'a>, AskFault>
+    ensures read { IfOk result (λ key. OfText text.entry.now (λ v. KeyOf v key)) }
+    ensures refused { IfErr result (λ fault. fault ≢ AskFault.Memory → NamesPart Part.Key NamesKey text.entry.now fault) }
+{
+    match text {
+        PartText::Standing(document) => key_at(&document.top()),
+        PartText::Made(octets) => {
+            let document = made_document(alloc, Part::Key, octets)?;
+            key_at(&document.top())
+        }
+        PartText::Malformed(fault) => Err(AskFault::Form {
+            part: Part::Key,
+            fault: *fault,
+        }),
+    }
+}
+
+/// The request that a text is.
+fn request_in(alloc: Global, text: &PartText) -> Result<Ground, AskFault>
+    ensures read { IfOk result (λ request. OfText text.now (λ v. RequestOf v request)) }
+    ensures refused { IfErr result (λ fault. fault ≢ AskFault.Memory → NamesPart Part.Request NamesRequest text.now fault) }
+{
+    match text {
+        PartText::Standing(document) => request_at(alloc, &document.top()),
+        PartText::Made(octets) => {
+            let document = made_document(alloc, Part::Request, octets)?;
+            request_at(alloc, &document.top())
+        }
+        PartText::Malformed(fault) => Err(AskFault::Form {
+            part: Part::Request,
+            fault: *fault,
+        }),
+    }
+}
+
+/// The date that the text of a moment is.
+fn date_in(alloc: Global, text: &PartText) -> Result<Date, AskFault>
+    ensures read { IfOk result (λ date. OfText text.now (λ v. DateOf v date)) }
+    ensures refused { IfErr result (λ fault. fault ≢ AskFault.Memory → NamesPart Part.Moment NamesMoment text.now fault) }
+{
+    match text {
+        PartText::Standing(document) => date_of_node(&document.top()),
+        PartText::Made(octets) => {
+            let document = made_document(alloc, Part::Moment, octets)?;
+            date_of_node(&document.top())
+        }
+        PartText::Malformed(fault) => Err(AskFault::Form {
+            part: Part::Moment,
+            fault: *fault,
+        }),
+    }
+}
+
+/// The date of a moment.
+fn moment_in(alloc: Global, text: &MomentText) -> Result<Date, AskFault>
+    ensures read { IfOk result (λ date. IsInstant text.now date) }
+    ensures refused { IfErr result (λ fault. fault ≢ AskFault.Memory → NamesInstant text.now fault) }
+{
+    match text {
+        MomentText::Text(text) => date_in(alloc, text),
+        MomentText::At(date) => Ok(*date),
+        MomentText::Dateless => Err(AskFault::Moment(CertFaultKind::BadDate)),
+    }
+}
+
+/// The sequence that a node is.
+fn sequence_at<'a>(alloc: Global, node: &Node<'_, 'a>) -> Result<Vec<SeqItem<'a>>, AskFault>
+    ensures read { IfOk result (λ items. SeqOf node.now items.items) }
+    ensures signed { IfOk result (λ items. AreSigned items.items) }
+    ensures refused { IfErr result (λ fault. fault ≢ AskFault.Memory → NamesSequence fault node.now) }
+{
+    match sequence_of(alloc, node) {
+        Ok(items) => Ok(items),
+        Err(fault) => Err(sequence_fault(fault)),
+    }
+}
+
+fn sequence_fault(fault: CertFault) -> AskFault
+    ensures { IsOuter (fault.kind ≡ CertFaultKind.Memory) AskFault.Memory (AskFault.Sequence fault) result }
+{
+    match fault.kind {
+        CertFaultKind::Memory => AskFault::Memory,
+        _ => AskFault::Sequence(fault),
+    }
+}
+
+/// The key that a node is.
+fn key_at<'a>(node: &Node<'_, 'a>) -> Result<Key<'a>, AskFault>
+    ensures read { IfOk result (λ key. KeyOf node.now key) }
+    ensures refused { IfErr result (λ fault. fault ≢ AskFault.Memory → NamesKey fault node.now) }
+{
+    match key_of(node) {
+        Ok(key) => Ok(key),
+        Err(kind) => Err(AskFault::Key(kind)),
+    }
+}
+
+/// The request that a node is.
+fn request_at(alloc: Global, node: &Node) -> Result<Ground, AskFault>
+    ensures read { IfOk result (λ request. RequestOf node.now request) }
+    ensures refused { IfErr result (λ fault. fault ≢ AskFault.Memory → NamesRequest fault node.now) }
+{
+    match Ground::of(alloc, node) {
+        Ok(request) => Ok(request),
+        Err(fault) => Err(request_fault(fault)),
+    }
+}
+
+fn request_fault(fault: TagFault) -> AskFault
+    ensures { IsOuter (fault ≡ TagFault.Memory) AskFault.Memory (AskFault.Request fault) result }
+{
+    match fault {
+        TagFault::Memory => AskFault::Memory,
+        _ => AskFault::Request(fault),
+    }
+}
+
+/// The date that a node is.
+fn date_of_node(node: &Node) -> Result<Date, AskFault>
+    ensures read { IfOk result (λ date. DateOf node.now date) }
+    ensures refused { IfErr result (λ fault. fault ≢ AskFault.Memory → NamesMoment fault node.now) }
+{
+    match date_of(node) {
+        Ok(date) => Ok(date),
+        Err(kind) => Err(AskFault::Moment(kind)),
+    }
+}

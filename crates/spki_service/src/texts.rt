@@ -1,0 +1,143 @@
+//! The texts of a question's parts, in canonical form.
+
+ghost use Rattle.std.specs.Prelude.{◌≡◌, ◌≢◌, ◌<◌, ◌⊎◌, ◌↔◌, map, length, IsTrue, IfOk, IfErr, IsErrOf};
+ghost use Rattle.sexpr_core.specs.Value.{Value, canon};
+ghost use Rattle.sexpr_text.specs.Spelling.{IsTextWithin};
+ghost use Rattle.spki_service.specs.Form.{RefusesForm};
+ghost use Rattle.spki_service.specs.Questions.{words_value, asked_octets, IsWanted, RefusesWanted};
+ghost use Rattle.spki_service.specs.Texts.{IsReadAs, IsTextsOf, IsMomentText, IsMade};
+
+use crate::date::date_at;
+use crate::measure::is_within;
+use crate::question::{AskFault, Instant, Question, Wanted};
+use crate::words::words_text;
+use sexpr_core::{Doc, FormFault, MOST_OCTETS};
+use sexpr_text::{Form, convert};
+use spki_cert::Date;
+use std::alloc::Global;
+
+/// The text of a part, in canonical form.
+#[derive(Drop)]
+pub(crate) enum PartText<'q> {
+    /// It is canonical as it stands: its document.
+    Standing(Doc<'q>),
+    /// The canonical form of its value.
+    Made(Vec<u8>),
+    /// It has none.
+    Malformed(FormFault),
+}
+
+/// The text of a moment.
+#[derive(Drop)]
+pub(crate) enum MomentText<'q> {
+    /// The moment was given as a text.
+    Text(PartText<'q>),
+    /// It was given as seconds, and this is their date.
+    At(Date),
+    /// It was given as seconds that have none.
+    Dateless,
+}
+
+/// The texts of a question's parts, in canonical form; of a part that has none, the fault of its form.
+#[derive(Drop)]
+pub struct Texts<'q> {
+    pub(crate) sequence: PartText<'q>,
+    pub(crate) key: PartText<'q>,
+    pub(crate) request: PartText<'q>,
+    pub(crate) moment: MomentText<'q>,
+}
+
+/// The canonical texts of a question's parts. What stands in canonical form already isn't copied. A part that has no canonical text
+/// is no error here: `case_of` names the first part that is wrong.
+///
+/// # Errors
+///
+/// `TooLong` exactly where the four texts together have more than `most_octets` octets, before any of them is read. Strings count
+/// as the canonical form of their value, seconds as that of a date. `Memory` where memory was refused.
+pub(crate) fn texts_of<'q>(
+    alloc: Global,
+    question: &Question<'q>,
+    most_octets: usize,
+) -> Result<Texts<'q>, AskFault>
+    ensures texts { IfOk result (IsTextsOf question.now) }
+    ensures too_long { IsErrOf result AskFault.TooLong ↔ (most_octets < asked_octets question.now) }
+    ensures only { IfErr result (λ fault. (fault ≡ AskFault.TooLong) ⊎ (fault ≡ AskFault.Memory)) }
+{
+    if !is_within(question, most_octets) {
+        return Err(AskFault::TooLong);
+    }
+    Ok(Texts {
+        sequence: part_text(alloc, question.sequence)?,
+        key: part_text(alloc, question.key)?,
+        request: wanted_text(alloc, &question.request)?,
+        moment: moment_text(alloc, &question.moment)?,
+    })
+}
+
+/// The canonical text of a part's text.
+fn part_text<'q>(alloc: Global, text: &'q [u8]) -> Result<PartText<'q>, AskFault>
+    ensures read { IfOk result (IsReadAs (IsTextWithin text.entry.now) (RefusesForm text.entry.now)) }
+    ensures only { IfErr result (λ fault. fault ≡ AskFault.Memory) }
+{
+    match Doc::open(alloc, text) {
+        Ok(document) => Ok(PartText::Standing(document)),
+        Err(FormFault::Memory) => Err(AskFault::Memory),
+        Err(_) => converted_text(alloc, text),
+    }
+}
+
+/// The canonical text of a text in any of the three forms, which is made anew.
+fn converted_text(alloc: Global, text: &[u8]) -> Result<PartText<'static>, AskFault>
+    ensures read { IfOk result (IsReadAs (IsTextWithin text.now) (RefusesForm text.now)) }
+    ensures only { IfErr result (λ fault. fault ≡ AskFault.Memory) }
+{
+    match convert(alloc, Form::Canonical, text) {
+        Ok(octets) => Ok(made_text(octets)),
+        Err(FormFault::Memory) => Err(AskFault::Memory),
+        Err(fault) => Ok(PartText::Malformed(fault)),
+    }
+}
+
+/// A canonical text that was made, unless it is too long.
+fn made_text(octets: Vec<u8>) -> PartText<'static>
+    ensures { IsMade octets.items result }
+{
+    if octets.len() > MOST_OCTETS {
+        PartText::Malformed(FormFault::TooLong)
+    } else {
+        PartText::Made(octets)
+    }
+}
+
+/// The canonical text of a request.
+fn wanted_text<'q>(alloc: Global, wanted: &Wanted<'q>) -> Result<PartText<'q>, AskFault>
+    ensures read { IfOk result (IsReadAs (IsWanted wanted.now) (RefusesWanted wanted.now)) }
+    ensures only { IfErr result (λ fault. fault ≡ AskFault.Memory) }
+{
+    match wanted {
+        Wanted::Text(text) => part_text(alloc, text),
+        Wanted::Words(words) => Ok(made_text(words_text(alloc, words)?)),
+    }
+}
+
+/// The text of a moment, or its date.
+fn moment_text<'q>(alloc: Global, moment: &Instant<'q>) -> Result<MomentText<'q>, AskFault>
+    ensures read { IfOk result (IsMomentText moment.now) }
+    ensures only { IfErr result (λ fault. fault ≡ AskFault.Memory) }
+{
+    match moment {
+        Instant::Text(text) => Ok(MomentText::Text(part_text(alloc, text)?)),
+        Instant::Seconds(seconds) => Ok(seconds_text(seconds)),
+    }
+}
+
+/// The date of seconds.
+fn seconds_text(seconds: &i64) -> MomentText<'static>
+    ensures { IsMomentText (Instant.Seconds seconds.now) result }
+{
+    let seconds = *seconds;
+    match date_at(seconds) {
+        Some(date) => MomentText::At(date),
+        None => MomentText::Dateless,
+    }
+}

@@ -1,0 +1,214 @@
+//! The worked examples of cases, asked of guards of their access lists.
+
+use crate::chains::{ALL, C1, KA, KB, accepted, case_of, hash_as_issuer, signed};
+use crate::doors::{Spelling, both_doors, parts_of, question_of};
+use crate::texts::{FIRST_RUN, FIRST_RUN_ADVANCED, FIRST_RUN_IN_BRACES, case, joined};
+use sexpr_core::FormFault;
+use sexpr_text::{Form, convert};
+use spki_cert::{CertFault, CertFaultKind, Policy};
+use spki_guard::{
+    AclFault, AskFault, Case, CaseFault, Decision, Guard, Instant, Limits, Part, Question, Wanted,
+};
+use spki_tag::TagFault;
+use std::alloc::Global;
+use std::test::Fail;
+
+/// An entry for KA, for what is asked and less.
+const HOST: &str = "(entry (public-key (test a)) (tag (ftp host)))";
+
+#[test]
+fn first_run(rt: HostRuntime) -> Result<(), Fail> {
+    for text in [FIRST_RUN, FIRST_RUN_ADVANCED, FIRST_RUN_IN_BRACES] {
+        assert!(rt; both_doors(rt.alloc(), text)?, "{text}");
+    }
+    Ok(())
+}
+
+/// Requests of `shorter-request` and beside them.
+const REQUESTS: &[&str] = &[
+    "(ftp)",
+    "(ftp host dir)",
+    "(ftp host)",
+    "ftp",
+    "(http host)",
+];
+
+#[test]
+fn shorter_request(rt: HostRuntime) -> Result<(), Fail> {
+    for request in REQUESTS {
+        let text = case(rt.alloc(), HOST, request)?;
+        assert!(rt; both_doors(rt.alloc(), &text)?, "{request}");
+    }
+    Ok(())
+}
+
+/// Access lists with one entry for KA behind others, before others, and none.
+const LISTS: &[&str] = &[
+    "",
+    "(entry (public-key (test c)) (tag (*)))(entry (public-key (test a)) (propagate) (tag (*)))",
+    "(entry (public-key (test a)) (propagate) (tag (ftp)))(entry (public-key (test a)) (propagate) (tag (*)))",
+    "(entry (public-key (test b)) (propagate) (tag (*)))(entry (name (public-key (test a)) x) (propagate) (tag (*)))",
+    "(entry (public-key (test a)) (tag (*)))(entry (public-key (test a)) (propagate) (tag http))",
+];
+
+#[test]
+fn second_entry(rt: HostRuntime) -> Result<(), Fail> {
+    let alloc = rt.alloc();
+    let rows = accepted(alloc, C1, KA)?;
+    let items = signed(alloc, C1, KA)?;
+    for list in LISTS {
+        for key in [KA, KB] {
+            let shown = case_of(alloc, list, &rows, &items, key)?;
+            assert!(rt; both_doors(alloc, &shown)?, "{shown}");
+            let alone = case_of(alloc, list, "", "", key)?;
+            assert!(rt; both_doors(alloc, &alone)?, "{alone}");
+        }
+    }
+    Ok(())
+}
+
+#[test]
+fn not_accepted(rt: HostRuntime) -> Result<(), Fail> {
+    let alloc = rt.alloc();
+    for signer in [KA, KB] {
+        for row in [KA, KB] {
+            let rows = accepted(alloc, C1, row)?;
+            let text = case_of(alloc, ALL, &rows, &signed(alloc, C1, signer)?, KB)?;
+            assert!(rt; both_doors(alloc, &text)?, "{text}");
+        }
+        let none = case_of(alloc, ALL, "", &signed(alloc, C1, signer)?, KB)?;
+        assert!(rt; both_doors(alloc, &none)?, "{none}");
+    }
+    Ok(())
+}
+
+#[test]
+fn hash_issuer(rt: HostRuntime) -> Result<(), Fail> {
+    for behind in [KA, KB, ""] {
+        let text = hash_as_issuer(rt.alloc(), behind)?;
+        assert!(rt; both_doors(rt.alloc(), &text)?, "{text}");
+    }
+    Ok(())
+}
+
+/// The case of parts, at the beginning of 2024 or at another moment.
+fn case_with(
+    alloc: Global,
+    list: &str,
+    sequence: &str,
+    key: &str,
+    request: &str,
+    at: &str,
+) -> Result<String, Fail> {
+    let parts = [
+        "(case ",
+        list,
+        "(accepted)",
+        sequence,
+        "(key ",
+        key,
+        ")(request ",
+        request,
+        ")(at ",
+        at,
+        "))",
+    ];
+    Ok(joined(alloc, &parts)?)
+}
+
+const NOW: &str = "\"2024-01-01_00:00:00\"";
+
+const MANY: &str = "(acl (entry (public-key (test a)) (tag (*))))";
+
+/// The parts of cases that are refused: the list, the sequence, the key, the request and the moment.
+const REFUSED: &[[&str; 5]] = &[
+    ["(acl x)", "(sequence)", KA, "a", NOW],
+    [
+        "(acl (entry (public-key (test a)) (tag a)) (entry (public-key (test a)) (tag ())))",
+        "(sequence)",
+        KA,
+        "a",
+        NOW,
+    ],
+    ["(acl (version \"1\"))", "(sequence)", KA, "a", NOW],
+    [MANY, "(sequence (signature))", "x", "(*)", "x"],
+    [
+        MANY,
+        "(sequence (public-key (test b)) (do now))",
+        "x",
+        "(*)",
+        "x",
+    ],
+    [MANY, "(sequence)", "x", "(*)", "x"],
+    [
+        MANY,
+        "(sequence)",
+        "(public-key (test a) (uri x))",
+        "(*)",
+        "x",
+    ],
+    [MANY, "(sequence)", KA, "(*)", "x"],
+    [MANY, "(sequence)", KA, "()", "x"],
+    [MANY, "(sequence)", KA, "(a [b]c)", "x"],
+    [MANY, "(sequence)", KA, "a", "x"],
+    [MANY, "(sequence)", KA, "a", "\"2024-13-01_00:00:00\""],
+];
+
+/// What a guard's refusal of a list or a question says of the case.
+fn case_fault(fault: AskFault) -> CaseFault {
+    match fault {
+        AskFault::TooLong => CaseFault::Form(FormFault::TooLong),
+        AskFault::Form { part: _, fault } => CaseFault::Form(fault),
+        AskFault::Sequence(fault) => CaseFault::Sequence(fault),
+        AskFault::Key(kind) => CaseFault::Key(CertFault { item: 0, kind }),
+        AskFault::Request(fault) => CaseFault::Request(fault),
+        AskFault::Moment(kind) => CaseFault::At(CertFault { item: 0, kind }),
+        AskFault::Memory => CaseFault::Memory,
+    }
+}
+
+/// What a guard refuses of a case's parts, if anything.
+fn guard_refuses(
+    alloc: Global,
+    text: &[u8],
+    spelling: Spelling,
+) -> Result<Option<CaseFault>, Fail> {
+    let parts = parts_of(alloc, text, spelling)?;
+    let guard = match Guard::read(alloc, &parts.list, parts.policy, Limits::default()) {
+        Ok(guard) => guard,
+        Err(AclFault::Acl(fault)) => return Ok(Some(CaseFault::Acl(fault))),
+        Err(AclFault::Form(fault)) => return Ok(Some(CaseFault::Form(fault))),
+        Err(AclFault::Memory) => return Ok(Some(CaseFault::Memory)),
+    };
+    let texts = guard.texts(alloc, &question_of(&parts))?;
+    match guard.ask(alloc, &texts) {
+        Ok(_) => Ok(None),
+        Err(fault) => Ok(Some(case_fault(fault))),
+    }
+}
+
+/// What the case's own reader refuses it for.
+fn case_refuses(alloc: Global, text: &[u8]) -> Option<CaseFault> {
+    match Case::read(alloc, text) {
+        Ok(_) => None,
+        Err(fault) => Some(fault),
+    }
+}
+
+/// Whether both doors refuse the case in a text, for the same.
+fn both_refuse(alloc: Global, text: &str) -> Result<bool, Fail> {
+    let octets = convert(alloc, Form::Canonical, text.as_bytes())?;
+    let fault = case_refuses(alloc, &octets);
+    let canonical = guard_refuses(alloc, &octets, Spelling::Canonical)?;
+    let advanced = guard_refuses(alloc, &octets, Spelling::Advanced)?;
+    Ok(fault.is_some() && canonical == fault && advanced == fault)
+}
+
+#[test]
+fn case_faults(rt: HostRuntime) -> Result<(), Fail> {
+    for [list, sequence, key, request, at] in REFUSED {
+        let text = case_with(rt.alloc(), list, sequence, key, request, at)?;
+        assert!(rt; both_refuse(rt.alloc(), &text)?, "{text}");
+    }
+    Ok(())
+}
