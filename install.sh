@@ -1,12 +1,31 @@
 #!/usr/bin/env bash
-# Builds the proved program and the library for C programs, and installs them with the library's header and the manual under a
-# prefix. Needs the toolchain's `rt` in the path, but where both are built already and given.
-# Usage: ./install.sh [PREFIX [PROGRAM [LIBRARY]]]        /usr/local where no prefix is given
+# Builds the proved program and the libraries for C programs, and installs them with the libraries' header, what pkg-config reads and
+# the manual under a prefix. Needs the toolchain's `rt` in the path and a C compiler, but where all is built already and given.
+# --uninstall removes the files that this version installs, and leaves the folders.
+# Usage: ./install.sh [PREFIX [PROGRAM [LIBRARY]]]        /usr/local where no prefix is given; libspki_c.so lies beside the LIBRARY
+#        ./install.sh --uninstall [PREFIX]
 set -euo pipefail
+uninstalls=
+if [[ ${1:-} == --uninstall ]]; then
+    uninstalls=yes
+    shift
+fi
 prefix=$(realpath -m "${1:-/usr/local}")
 program=${2:+$(realpath "$2")}
 library=${3:+$(realpath "$3")}
 cd "$(dirname "$0")"
+version=$(< VERSION)
+soname=libspki_c.so.${version%.*}
+
+if [[ $uninstalls ]]; then
+    for place in bin/spki lib/libspki_c.a "lib/$soname" lib/libspki_c.so lib/pkgconfig/spki.pc include/spki.h share/man/man1/spki.1; do
+        if [[ -e $prefix/$place || -L $prefix/$place ]]; then
+            rm "$prefix/$place"
+            echo "removed $prefix/$place"
+        fi
+    done
+    exit
+fi
 
 # Puts a file at a place under the prefix, with this mode.
 placed() {
@@ -25,5 +44,20 @@ if [[ -z $library ]]; then
 fi
 placed 755 "$program" bin/spki
 placed 644 "$library" lib/libspki_c.a
+placed 644 "${library%.a}.so" "lib/$soname"
+ln -sfn "$soname" "$prefix/lib/libspki_c.so"
+echo "installed $prefix/lib/libspki_c.so"
+placed 644 <(cat << END
+prefix=$prefix
+libdir=\${prefix}/lib
+includedir=\${prefix}/include
+
+Name: spki
+Description: a proved checker of requests by access lists and certificates (SPKI, RFC 2693)
+Version: $version
+Libs: -L\${libdir} -lspki_c
+Cflags: -I\${includedir}
+END
+) lib/pkgconfig/spki.pc
 placed 644 crates/spki_c/spki.h include/spki.h
 placed 644 docs/spki.1 share/man/man1/spki.1

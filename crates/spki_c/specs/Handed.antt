@@ -3,27 +3,26 @@ use Rattle.std.specs.Prelude.{◌≡◌, ℕ, ◌<◌, ◌≤◌, List, ◌++◌
 use Rattle.spki_words.specs.declared.commands.Command.{Command}
 use Rattle.spki_guard.specs.declared.answers.Verdict.{Verdict}
 use Rattle.spki_guard.specs.Answer.{IsAnswer, RefusesAsLong}
-use Rattle.spki_guard.specs.Status.{status_of, code_of}
 
 -- The answer to a text is that of the program. One of more than 1,048,576 octets is too long.
 pub record AnswersText (command : Command) (text : List ℕ) (verdict : Verdict) (output : List ℕ) : Type 0 where
   pub answer : IsAnswer command text verdict output
   pub too_long : 1048576 < length text → RefusesAsLong verdict output
 
--- The answer stands in front of what was in the buffer, which keeps its length, with the status that the program ends with.
-pub record IsWrittenTo (old new : List ℕ) (status : ℕ) (verdict : Verdict) (output : List ℕ) : Type 0 where
+-- The answer stands in front of what was in the buffer, which keeps its length, with its status.
+pub record IsWrittenTo (old new : List ℕ) (status answered : ℕ) (output : List ℕ) : Type 0 where
   pub written : new ≡ output ++ drop (length output) old
-  pub status_is : status ≡ code_of (status_of verdict)
+  pub status_is : status ≡ answered
 
 -- The buffer is as it was, and the status says that it is too small.
 pub record IsKeptBack (old new : List ℕ) (status : ℕ) : Type 0 where
   pub unchanged : new ≡ old
   pub status_is : status ≡ 4
 
--- An answer is told by its length, and written exactly where the buffer is large enough.
-pub record IsHanded (old new : List ℕ) (needed status : ℕ) (verdict : Verdict) (output : List ℕ) : Type 0 where
+-- An answer of a status is told by its length, and written exactly where the buffer is large enough.
+pub record IsHanded (old new : List ℕ) (needed status answered : ℕ) (output : List ℕ) : Type 0 where
   pub needed_is : needed ≡ length output
-  pub fits : length output ≤ length old → IsWrittenTo old new status verdict output
+  pub fits : length output ≤ length old → IsWrittenTo old new status answered output
   pub too_small : length old < length output → IsKeptBack old new status
 
 -- There is no answer.

@@ -3,18 +3,19 @@ ghost use Rattle.std.specs.Prelude.{◌≡◌, ◌≢◌, ℕ, List};
 ghost use Rattle.spki_words.specs.declared.commands.Command.{Command};
 ghost use Rattle.spki_guard.specs.declared.answers.Verdict.{Verdict};
 ghost use Rattle.spki_guard.specs.Apart.{IsAnswerApart};
-ghost use Rattle.spki_c.specs.Numbers.{number_of};
+ghost use Rattle.spki_c.specs.Numbers.{number_of, status_of, decided};
 ghost use Rattle.spki_c.specs.Handed.{IsHanded, IsMisuse, AnswersText};
 
 use crate::handing::{hand_over, misused};
-use crate::numbers::command_of;
-use spki_guard::{answer_text, check_accepted};
+use crate::numbers::{command_of, status_number};
+use spki_guard::{Command, answer_text, check_accepted};
 use std::alloc::Global;
 
 /// Does the command of this number with a text in any of the three forms, and puts the answer into the buffer.
 ///
-/// The status is that of the program: 0 for yes or done, 1 for no, 2 for a refusal. It is 4 where the buffer is too small, which
-/// stays as it is then, and 5 where no command has this number. In all cases `needed` is the length of the answer.
+/// The status of `check` is 0 for yes and 1 for no. That of every other command is 6 for an answer that is written, whether it
+/// says yes or no. It is 2 for a refusal, 4 where the buffer is too small, which stays as it is then, and 5 where no command has
+/// this number. In all cases `needed` is the length of the answer.
 #[unsafe(no_mangle)]
 pub extern "C" fn spki_c_answer(
     alloc: Global,
@@ -24,12 +25,21 @@ pub extern "C" fn spki_c_answer(
     needed: &mut usize,
 ) -> u32
     ensures answered { (c : Command) → command ≡ number_of c → (verdict : Verdict) × (output : List ℕ)
-        × AnswersText c text.now verdict output × IsHanded buffer.old buffer.new needed.new result verdict output }
+        × AnswersText c text.now verdict output
+        × IsHanded buffer.old buffer.new needed.new result (status_of c verdict) output }
     ensures misused { ((c : Command) → command ≢ number_of c) → IsMisuse buffer.old buffer.new needed.new result }
 {
     match command_of(command) {
         None => misused(needed),
-        Some(command) => hand_over(&answer_text(alloc, command, text), buffer, needed),
+        Some(command) => {
+            let answer = answer_text(alloc, command, text);
+            hand_over(
+                &answer,
+                status_number(command, answer.verdict),
+                buffer,
+                needed,
+            )
+        }
     }
 }
 
@@ -44,7 +54,14 @@ pub extern "C" fn spki_c_check_accepted(
     needed: &mut usize,
 ) -> u32
     ensures { (verdict : Verdict) × (output : List ℕ)
-        × IsAnswerApart text.now rows.now verdict output × IsHanded buffer.old buffer.new needed.new result verdict output }
+        × IsAnswerApart text.now rows.now verdict output
+        × IsHanded buffer.old buffer.new needed.new result (decided verdict) output }
 {
-    hand_over(&check_accepted(alloc, text, rows), buffer, needed)
+    let answer = check_accepted(alloc, text, rows);
+    hand_over(
+        &answer,
+        status_number(Command::Check, answer.verdict),
+        buffer,
+        needed,
+    )
 }

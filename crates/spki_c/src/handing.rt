@@ -4,12 +4,12 @@ ghost use Rattle.spki_guard.specs.Answer.{written_by};
 ghost use Rattle.spki_c.specs.Handed.{IsHanded};
 
 use crate::numbers::{MISUSED, TOO_SMALL};
-use spki_guard::{Answer, Status};
+use spki_guard::Answer;
 
-/// Puts an answer into a buffer, if it is large enough, and tells its length; the status is that of the program, or that the
+/// Puts an answer into a buffer, if it is large enough, and tells its length. The status is the one that is given, or that the
 /// buffer is too small.
-pub fn hand_over(answer: &Answer, buffer: &mut [u8], needed: &mut usize) -> u32
-    ensures { IsHanded buffer.old buffer.new needed.new result answer.now.verdict (written_by answer.now) }
+pub fn hand_over(answer: &Answer, status: u32, buffer: &mut [u8], needed: &mut usize) -> u32
+    ensures { IsHanded buffer.old buffer.new needed.new result status (written_by answer.now) }
 {
     let octets = answer.octets();
     *needed = octets.len();
@@ -17,7 +17,7 @@ pub fn hand_over(answer: &Answer, buffer: &mut [u8], needed: &mut usize) -> u32
         return TOO_SMALL;
     }
     buffer[..octets.len()].copy_from_slice(octets);
-    u32::from(Status::from(answer.verdict).code())
+    status
 }
 
 /// Says that there is no such command.

@@ -1,14 +1,26 @@
-//! The numbers of commands, and the statuses that are told beside those of the program.
+//! The numbers of commands and of statuses.
 ghost use Rattle.std.specs.Prelude.{◌≡◌, ◌≢◌, MatchOption};
-ghost use Rattle.spki_c.specs.Numbers.{number_of};
+ghost use Rattle.spki_c.specs.Numbers.{number_of, status_of, decided, written};
 
-use spki_guard::Command;
+use spki_guard::{Command, Verdict};
+
+/// The status of a decision that is a yes.
+pub const YES: u32 = 0;
+
+/// The status of a decision that is a no.
+pub const NO: u32 = 1;
+
+/// The status of a refusal.
+pub const REFUSED: u32 = 2;
 
 /// The status where the buffer is too small for the answer.
 pub const TOO_SMALL: u32 = 4;
 
 /// The status where there is no command of this number.
 pub const MISUSED: u32 = 5;
+
+/// The status of an answer that is written and decides nothing.
+pub const DONE: u32 = 6;
 
 /// The command of a number.
 pub fn command_of(number: u32) -> Option<Command>
@@ -23,5 +35,40 @@ pub fn command_of(number: u32) -> Option<Command>
         5 => Some(Command::Check),
         6 => Some(Command::Explain),
         _ => None,
+    }
+}
+
+/// The status of the answer to a command.
+pub fn status_number(command: Command, verdict: Verdict) -> u32
+    ensures { result ≡ status_of command verdict }
+{
+    match command {
+        Command::Canonical => written_number(verdict),
+        Command::Advanced => written_number(verdict),
+        Command::Transport => written_number(verdict),
+        Command::Intersect => written_number(verdict),
+        Command::Reduce => written_number(verdict),
+        Command::Check => decided_number(verdict),
+        Command::Explain => written_number(verdict),
+    }
+}
+
+fn decided_number(verdict: Verdict) -> u32
+    ensures { result ≡ decided verdict }
+{
+    match verdict {
+        Verdict::Done => YES,
+        Verdict::No => NO,
+        Verdict::Refused => REFUSED,
+    }
+}
+
+fn written_number(verdict: Verdict) -> u32
+    ensures { result ≡ written verdict }
+{
+    match verdict {
+        Verdict::Done => DONE,
+        Verdict::No => DONE,
+        Verdict::Refused => REFUSED,
     }
 }

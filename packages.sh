@@ -1,0 +1,54 @@
+#!/usr/bin/env bash
+# Makes two Debian packages of what install.sh installs: `spki`, the program and its manual, and `libspki-dev`, the library for C programs.
+# A machine without the toolchain can install them: `apt-get install ./spki_*.deb`. Needs dpkg-deb, and the file VERSION at the top.
+# DEBFULLNAME and DEBEMAIL name the maintainer.
+# Usage: ./packages.sh [FOLDER [PROGRAM [LIBRARY]]]        the packages go to FOLDER, or here; the rest is as for install.sh
+set -euo pipefail
+here=$(realpath "$(dirname "$0")")
+target=$(realpath -m "${1:-.}")
+version=$(< "$here/VERSION")
+architecture=$(dpkg --print-architecture)
+room=$(mktemp -d)
+trap 'rm -rf "$room"' EXIT
+umask 022
+
+# The newest version of the C library that a file asks for.
+libc_of() {
+    grep -aoE 'GLIBC_2\.[0-9]+' "$1" | sort -uV | tail -n 1 | cut -d _ -f 2
+}
+
+# Makes a package of a folder: its name, what else it depends on, its section, and its descriptions, the short one first.
+package() {
+    local name=$1 depends=$2 section=$3 short=$4 long=$5 folder=$room/$1
+    install -D -m 644 "$room/copyright" "$folder/usr/share/doc/$name/copyright"
+    gzip -9nc "$here/CHANGELOG.md" > "$folder/usr/share/doc/$name/changelog.gz"
+    mkdir "$folder/DEBIAN"
+    cat > "$folder/DEBIAN/control" << END
+Package: $name
+Version: $version
+Architecture: $architecture
+Maintainer: ${DEBFULLNAME:-nobody} <${DEBEMAIL:-nobody@localhost}>
+Section: $section
+Priority: optional
+Depends: $depends
+Installed-Size: $(du -sk --exclude=DEBIAN "$folder" | cut -f 1)
+Description: $short
+ $long
+END
+    (cd "$folder" && find usr -type f -print0 | sort -z | xargs -0 md5sum > DEBIAN/md5sums)
+    dpkg-deb --root-owner-group --build "$folder" "$target/${name}_${version}_$architecture.deb"
+}
+
+echo "No license is given yet: it is for the owner to choose." > "$room/copyright"
+"$here/install.sh" "$room/all/usr" "${@:2}"
+for file in "$room"/all/usr/lib/pkgconfig/*.pc; do
+    [[ ! -e $file ]] || sed -i 's|^prefix=.*|prefix=/usr|' "$file"
+done
+mkdir -p "$target" "$room/spki/usr" "$room/libspki-dev/usr"
+mv "$room"/all/usr/{bin,share} "$room/spki/usr"
+mv "$room"/all/usr/{include,lib} "$room/libspki-dev/usr"
+gzip -9n "$room"/spki/usr/share/man/man1/*.1
+package spki "libc6 (>= $(libc_of "$room/spki/usr/bin/spki"))" utils "decide requests by access lists and certificates (SPKI)" \
+    "The program reads one question and answers yes or no by the rules of RFC 2693."
+package libspki-dev "libc6-dev" libdevel "decide requests by access lists and certificates, from C" \
+    "The library answers what the program spki answers, from memory to memory."
