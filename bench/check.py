@@ -10,20 +10,14 @@ import time
 
 from memory import peak
 
-PROGRAM = sys.argv[1] if len(sys.argv) > 1 else os.path.join(os.path.dirname(__file__), "..", "crates", "spki", "out", "spki")
+sys.path.append(os.path.join(os.path.dirname(os.path.abspath(__file__)), "..", "tests"))
+from support import PROGRAM as BUILT, group, string  # noqa: E402
+
+PROGRAM = sys.argv[1] if len(sys.argv) > 1 else BUILT
 SIZES = [64 * 1024, 256 * 1024, 1024 * 1024]
 RUNS = 40
 LIMIT_RATIO = 5.0
 LIMIT_MEMORY = 128
-
-
-def string(octets):
-    octets = octets.encode() if isinstance(octets, str) else octets
-    return str(len(octets)).encode() + b":" + octets
-
-
-def group(*members):
-    return b"(" + b"".join(members) + b")"
 
 
 def key(name):
@@ -67,9 +61,12 @@ def many_certificates(size):
     """A sequence of certificates with their signatures, of which the first has another digest."""
     cert = group(string("cert"), group(string("issuer"), key("a")), group(string("subject"), key("b")), group(string("tag"), STAR))
     pair = cert + group(string("signature"), group(string("hash"), string("sha256"), string("d" * 32)), key("a"), string("sig"))
-    whole = lambda items: group(
-        string("case"), group(string("acl"), entry("a", STAR)), group(string("accepted")), group(string("sequence"), *items),
-        group(string("key"), key("a")), group(string("request"), string("ftp")), group(string("at"), string("2024-01-01_00:00:00")))
+
+    def whole(items):
+        return group(
+            string("case"), group(string("acl"), entry("a", STAR)), group(string("accepted")), group(string("sequence"), *items),
+            group(string("key"), key("a")), group(string("request"), string("ftp")), group(string("at"), string("2024-01-01_00:00:00")))
+
     return whole([pair] * ((size - len(whole([]))) // len(pair))), b"no"
 
 

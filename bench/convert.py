@@ -15,7 +15,10 @@ import tempfile
 
 from memory import peak
 
-PROGRAM = sys.argv[1] if len(sys.argv) > 1 else os.path.join(os.path.dirname(__file__), "..", "crates", "spki", "out", "spki")
+sys.path.append(os.path.join(os.path.dirname(os.path.abspath(__file__)), "..", "tests"))
+from support import PROGRAM as BUILT, braced  # noqa: E402
+
+PROGRAM = sys.argv[1] if len(sys.argv) > 1 else BUILT
 PEER = "sexp-conv"
 FORMS = ("canonical", "advanced", "transport")
 SIZES = [64 * 1024, 256 * 1024, 1024 * 1024]
@@ -81,7 +84,7 @@ def hexadecimal_strings(size):
 
 def braces(size):
     """Short strings, in braces."""
-    return b"{" + base64.b64encode(filled(3 * (size - 4) // 4, b"3:abc1:d")) + b"}"
+    return braced(filled(3 * (size - 4) // 4, b"3:abc1:d"))
 
 
 SHAPES = (short_tokens, tokens, quoted_strings, one_string, deep_lists, wide_lists, hints, binary_strings, one_binary_string,

@@ -13,18 +13,13 @@ import tempfile
 from counting import counter
 from memory import peak
 
-PROGRAM = sys.argv[1] if len(sys.argv) > 1 else os.path.join(os.path.dirname(__file__), "..", "crates", "spki", "out", "spki")
+sys.path.append(os.path.join(os.path.dirname(os.path.abspath(__file__)), "..", "tests"))
+from support import PROGRAM as BUILT, group, string  # noqa: E402
+
+PROGRAM = sys.argv[1] if len(sys.argv) > 1 else BUILT
 MEMBERS = [125, 250, 500, 999]
 MOST_RATIO = 12.0
 MOST_MEMORY = 256
-
-
-def string(octets):
-    return f"{len(octets)}:{octets}".encode()
-
-
-def group(*members):
-    return b"(" + b"".join(members) + b")"
 
 
 def set_of(members):

@@ -6,7 +6,7 @@ They don't do the same work: a macaroon is checked with a secret that the servic
 are compared as whole texts. Of the certificates the digests are taken, names, tags and windows are joined, and the accepted rows
 are looked up; that their signatures are right another tool has found before (for what that takes see bench/chains.py).
 
-Build the library first (crates/spki_c/archive.sh), and install libmacaroons (Debian: libmacaroons-dev).
+Build the library first (crates/spki_c/archive.py), and install libmacaroons (Debian: libmacaroons-dev).
 Usage: bench/macaroons.py
 """
 import os

@@ -15,10 +15,10 @@ import sys
 import tempfile
 
 HERE = os.path.dirname(os.path.abspath(__file__))
-sys.path.insert(0, os.path.join(HERE, "signed"))
-from sexp import canonical, read  # noqa: E402
+sys.path.append(os.path.join(HERE, "..", "tests"))
+from support import canonical, given_program, read, run  # noqa: E402
 
-PROGRAM = os.path.abspath(sys.argv[1] if len(sys.argv) > 1 else os.path.join(HERE, "..", "crates", "spki", "out", "spki"))
+PROGRAM = given_program()
 TOOLS = ("lsh-keygen", "lsh-writekey", "lsh-authorize", "lsh-export-key", "ssh-conv", "sexp-conv")
 SECONDS = 120
 
@@ -62,8 +62,7 @@ class Home:
 
 
 def spki(command, text):
-    done = subprocess.run([PROGRAM, command], input=text, stdout=subprocess.PIPE, stderr=subprocess.DEVNULL, timeout=SECONDS)
-    return done.stdout
+    return run(PROGRAM, command, text)[1]
 
 
 def check(access_list, key, request=b"login", policy=b""):
@@ -89,14 +88,16 @@ def of_keys(home):
         yield f"{name}: its name there is the SHA-1 hash that names the key", check(of_hash("sha1", listed), key), "yes entry 1"
         yield f"{name}: but not under the strict policy", check(of_hash("sha1", listed), key, policy=b"(policy strict)"), "no"
         digest = home.run(["sexp-conv", "--hash=sha256"], files["public"]).decode().strip()
-        yield f"{name}: sexp-conv --hash=sha256 gives a hash that names it", check(of_hash("sha256", digest), key, policy=b"(policy strict)"), "yes entry 1"
+        named = check(of_hash("sha256", digest), key, policy=b"(policy strict)")
+        yield f"{name}: sexp-conv --hash=sha256 gives a hash that names it", named, "yes entry 1"
         yield f"{name}: the private half is no key", check(b"(acl)", spki("canonical", files["private"])), "refused key Shape"
     exported = home.run(["lsh-export-key", "--openssh"], home.file("RSA.pub"))
-    yield "RSA: by way of OpenSSH's form it is the same key", spki("canonical", home.run(["ssh-conv"], exported)), spki("canonical", home.file("RSA.pub"))
-    _, (algorithm, modulus, exponent) = read(spki("canonical", home.file("RSA.pub")))
+    public = spki("canonical", home.file("RSA.pub"))
+    yield "RSA: by way of OpenSSH's form it is the same key", spki("canonical", home.run(["ssh-conv"], exported)), public
+    _, (algorithm, modulus, exponent) = read(public)
     yield "RSA: the modulus stands first", (algorithm, modulus[0], exponent[0]), (b"rsa-pkcs1-sha1", b"n", b"e")
     turned = canonical([b"public-key", [algorithm, exponent, modulus]])
-    yield "RSA: with the exponent first it is another key", check(b"(acl (entry %s (tag login)))" % turned, spki("canonical", home.file("RSA.pub"))), "no"
+    yield "RSA: with the exponent first it is another key", check(b"(acl (entry %s (tag login)))" % turned, public), "no"
 
 
 def of_captured_list(home):
@@ -114,7 +115,7 @@ def of_captured_list(home):
 
 
 def main():
-    for program in (PROGRAM, *TOOLS):
+    for program in TOOLS:
         if shutil.which(program) is None:
             sys.exit(f"{program} is not there")
     passed = failed = 0

@@ -14,7 +14,10 @@ import subprocess
 import sys
 
 HERE = os.path.dirname(os.path.abspath(__file__))
-PROGRAM = sys.argv[1] if len(sys.argv) > 1 else os.path.join(HERE, "..", "crates", "spki", "out", "spki")
+sys.path.append(os.path.join(HERE, "..", "tests"))
+from support import given_program, run  # noqa: E402
+
+PROGRAM = given_program()
 FOLDER = sys.argv[2] if len(sys.argv) > 2 else os.path.join(HERE, "texts")
 PEER = "sexp-conv"
 FORMS = ("canonical", "advanced", "transport")
@@ -47,15 +50,9 @@ KNOWN = {
 }
 
 
-def run(command, text):
-    """The status of a program and what it writes."""
-    done = subprocess.run(command, input=text, stdout=subprocess.PIPE, stderr=subprocess.DEVNULL, timeout=SECONDS)
-    return done.returncode, done.stdout
-
-
 def by_spki(form, text):
     """What `spki` writes for a text, None where it refuses it."""
-    status, output = run([PROGRAM, form], text)
+    status, output = run(PROGRAM, form, text, SECONDS)
     if status not in (0, 2):
         sys.exit(f"{PROGRAM} {form} ended with status {status}")
     return output if status == 0 else None
@@ -63,8 +60,8 @@ def by_spki(form, text):
 
 def by_peer(syntax, text):
     """What `sexp-conv` writes for a text, None where it gives up."""
-    status, output = run([PEER, "-s", syntax], text)
-    return output if status == 0 else None
+    done = subprocess.run([PEER, "-s", syntax], input=text, stdout=subprocess.PIPE, stderr=subprocess.DEVNULL, timeout=SECONDS)
+    return done.stdout if done.returncode == 0 else None
 
 
 def there_and_back(written, read, forms, text):
@@ -99,7 +96,7 @@ def compare(name, text):
 
 
 def main():
-    missing = [program for program in (PROGRAM, PEER) if shutil.which(program) is None]
+    missing = [program for program in (PEER,) if shutil.which(program) is None]
     missing += [] if os.path.isdir(FOLDER) else [FOLDER]
     if missing:
         print(f"{missing[0]} is not there", file=sys.stderr)

@@ -2,8 +2,8 @@
 """Holds the pages for callers, crates/*/CALLING.md, against the sources that they quote.
 
 The paragraph before a block of code ends with the block's file. A block under `## A caller` stands word for word in that file of
-crates/callers, which the gate proves. Any other block quotes, up to indentation and attributes of proofs: a call's doc comment, signature and clauses,
-whole and without the body; a type; the head of an `impl` round them. Each call that the library's lib.rt passes on is quoted, or
+crates/callers, which the gate proves. Any other block quotes, up to indentation and attributes of proofs: a call's doc comment, signature
+and clauses, whole and without the body; a type; the head of an `impl` round them. Each call that the library's lib.rt passes on is quoted, or
 named in backticks. Each definition of a library here that a quoted clause cites has a row in the table of words of this page or of its
 own library's; a row's word is defined in the row's file. Prints what is otherwise; the last line counts blocks, calls and words.
 
@@ -14,7 +14,8 @@ import os
 import re
 import sys
 
-ROOT = os.path.join(os.path.dirname(os.path.abspath(__file__)), "..")
+from support import TOP as ROOT
+
 CRATES = os.listdir(os.path.join(ROOT, "crates"))
 SECTION = re.compile(r"^## (.*)$", re.MULTILINE)
 BLOCK = re.compile(r"`([\w./]+\.(?:rt|antt))`[^`\n]*\n\n```(?:rust|antt)\n(.*?)^```$", re.MULTILINE | re.DOTALL)

@@ -3,6 +3,8 @@ import base64
 import hashlib
 import re
 
+from support import string
+
 TOKEN = re.compile(r'\s*(?:([()])|"([^"]*)"|#([0-9a-f]*)#|([^\s()"#]+))')
 NOW = '"2024-01-01_00:00:00"'
 
@@ -12,7 +14,7 @@ def canonical(text):
     written = b""
     for mark, quoted, digits, token in TOKEN.findall(text):
         octets = bytes.fromhex(digits) if digits else (quoted or token).encode()
-        written += mark.encode() if mark else b"%d:%s" % (len(octets), octets)
+        written += mark.encode() if mark else string(octets)
     return written
 
 
@@ -77,7 +79,8 @@ def chains():
         for how in ("key not shown", "digest differs", "signer differs", "not accepted"):
             yield f"certificate {place + 1}: {how}", case(entry("a"), *chain(place, how)), NO
     rows, items = chain()
-    yield "hashed issuer, its key shown", case(entry("a"), *(lambda c: (row(c, key("a")), signed(c, key("a")) + key("a")))(cert(digest(key("a")), key("d")))), YES
+    hashed = cert(digest(key("a")), key("d"))
+    yield "hashed issuer, its key shown", case(entry("a"), row(hashed, key("a")), signed(hashed, key("a")) + key("a")), YES
     yield "chain in another order", case(entry("a"), rows, " ".join(reversed([signed(cert(*link), link[0]) for link in CHAIN]))), NO
     yield "one certificate left out", case(entry("a"), rows, signed(cert(*CHAIN[0]), key("a"))), NO
     yield "one certificate twice", case(entry("a"), rows, items + signed(cert(*CHAIN[2]), key("c"))), NO
@@ -90,7 +93,8 @@ def chains():
 
 
 def windows_and_tags():
-    for limit, answer in (('(not-after "2024-01-01_00:00:00")', YES), ('(not-after "2023-12-31_23:59:59")', NO), ('(valid (not-before "2024-01-01_00:00:01"))', NO)):
+    for limit, answer in (('(not-after "2024-01-01_00:00:00")', YES), ('(not-after "2023-12-31_23:59:59")', NO),
+                          ('(valid (not-before "2024-01-01_00:00:01"))', NO)):
         c = cert(key("a"), key("d"), f"(tag (*)) {limit}")
         yield f"window {limit}", case(entry("a"), row(c, key("a")), signed(c, key("a"))), answer
     for tag, answer in (("(ftp)", YES), ("(ftp host)", NO), ("(http)", NO), ("(* set (http) (ftp))", YES)):
@@ -100,14 +104,18 @@ def windows_and_tags():
 
 def sizes():
     """Products of nodes from both sides of 1,000,000, and an entry before and behind a larger one."""
-    set_of = lambda n: "(* set " + " ".join(f"n{i}" for i in range(n)) + ")"
+    def set_of(n):
+        return "(* set " + " ".join(f"n{i}" for i in range(n)) + ")"
+
     big = cert(key("a"), key("d"), f"(tag {set_of(1000)})")
     large, small = entry("a", f"(propagate) (tag {set_of(999)})"), entry("a", "(propagate) (tag n0)")
     shown = row(big, key("a")), signed(big, key("a"))
     yield "too large", case(large + small, *shown, request="n0"), refused("TooLarge")
     yield "granted before too large", case(small + large, *shown, request="n0"), YES
     for third, answer in ((101, YES), (102, refused("TooLarge"))):
-        copies = lambda n: "(* set " + " ".join(["a"] * n) + ")"
+        def copies(n):
+            return "(* set " + " ".join(["a"] * n) + ")"
+
         first, second = cert(key("a"), key("b"), f"(propagate) (tag {copies(99)})"), cert(key("b"), key("d"), f"(tag {copies(third)})")
         both = row(first, key("a")) + row(second, key("b")), signed(first, key("a")) + signed(second, key("b"))
         yield f"chain with {third} strings", case(entry("a", f"(propagate) (tag {copies(99)})"), *both, request="a"), answer
@@ -157,7 +165,8 @@ def order():
     """Where signatures stand."""
     a, c1 = key("a"), cert(key("a"), key("b"), "(tag (*))")
     one = f"(signature {digest(c1)} {a} sig)"
-    for items, line in ((one, "1 StraySignature"), (f"{c1} {a} {one}", "1 UnsignedCert"), (c1, "1 UnsignedCert"), (f"{c1} {one} {one}", "3 StraySignature"), ("(do sign)", "1 UnknownOp")):
+    for items, line in ((one, "1 StraySignature"), (f"{c1} {a} {one}", "1 UnsignedCert"), (c1, "1 UnsignedCert"),
+                        (f"{c1} {one} {one}", "3 StraySignature"), ("(do sign)", "1 UnknownOp")):
         yield f"sequence {items}", case(entry("a"), "", items), refused(f"sequence {line}")
     with_operations = f"(do hash sha1) {c1} (do hash sha256) {one}"
     yield "operations between", case(entry("a"), row(c1, a), with_operations, key("b")), YES
@@ -228,7 +237,8 @@ def explained():
         0, f"entry 1 (five (subject {a}) (tag (*)) {valid})\n"), (1, "entry 1 WindowLacks\n")
     until = entry("a", '(propagate) (tag (*)) (not-after "2024-06-01_00:00:00")')
     for start, reduced, why in (
-        ("2024-06-01_00:00:00", (0, 'entry 1 (five (subject (public-key (test b))) (tag (*)) (valid (not-before "2024-06-01_00:00:00") (not-after "2024-06-01_00:00:00")))\n'), "WindowLacks"),
+        ("2024-06-01_00:00:00", (0, 'entry 1 (five (subject (public-key (test b))) (tag (*)) '
+                                    '(valid (not-before "2024-06-01_00:00:00") (not-after "2024-06-01_00:00:00")))\n'), "WindowLacks"),
         ("2024-06-01_00:00:01", (1, "entry 1 item 1 NoValidity\n"), "item 1 NoValidity"),
     ):
         limited = cert(a, b, f'(tag (*)) (valid (not-before "{start}"))')

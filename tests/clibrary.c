@@ -175,6 +175,9 @@ static void misuse(void)
         broken("a null text with a length");
     if (spki_answer(SPKI_CHECK, "1:a", 3, NULL, 64, NULL) != SPKI_MISUSED)
         broken("a null buffer with a length");
+    if (spki_answer(SPKI_CHECK, "1:a", (size_t)PTRDIFF_MAX + 1, buffer, sizeof buffer, NULL) != SPKI_MISUSED
+        || spki_answer(SPKI_CHECK, "1:a", 3, buffer, SIZE_MAX, NULL) != SPKI_MISUSED)
+        broken("more octets than memory has");
     if (spki_check_accepted(NULL, 1, "", 0, buffer, sizeof buffer, NULL) != SPKI_MISUSED
         || spki_check_accepted("", 0, NULL, 1, buffer, sizeof buffer, NULL) != SPKI_MISUSED
         || spki_check_accepted("", 0, "", 0, NULL, 1, NULL) != SPKI_MISUSED)

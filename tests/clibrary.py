@@ -1,36 +1,45 @@
 #!/usr/bin/env python3
-"""Asks the static library for C what the program answers, and compares octet by octet.
+"""Asks the libraries for C what the program answers, and compares octet by octet.
 
 `clibrary.c` asks each question with no buffer, with one of no octets, with one octet too few, with enough and with more, between
 canaries, with requests for memory refused, and then from several threads with 256 KiB of stack each: every command on each file of
-`examples/`, the rows of the tables beside this file, and cases whose rows of accepted signatures stand apart.
-`examples/c/guard.c` guards a request. Both run under valgrind too, where it is there. Builds the library if it isn't there. Needs
-a C compiler.
+`examples/`, the rows of the tables beside this file, and cases whose rows of accepted signatures stand apart. It asks the static
+library and the shared one, and the static one also under AddressSanitizer and, where it is there, under valgrind.
+`examples/c/guard.c` guards a request.
+
+The symbols of both libraries must be the calls that the header declares and no others, and what they need a few functions of the C
+library. `linked.c` is compiled as C11 and, where there is a compiler, as C++17, with all warnings, and linked with either library; and
+with two copies of the static one. Builds the libraries if they aren't there. Needs a C compiler.
 
 Prints what fails; the last line counts.
-Usage: tests/clibrary.py [PROGRAM [LIBRARY]]
+Usage: tests/clibrary.py [PROGRAM [LIBRARY]]        the shared library lies beside the static LIBRARY
 """
 import hashlib
 import os
+import re
+import shutil
 import subprocess
 import sys
 import tempfile
 from concurrent.futures import ThreadPoolExecutor
 
-from tables import COMMANDS, HERE, PROGRAM, rows_of, run
-
-TOP = os.path.join(HERE, "..")
-sys.path.insert(0, os.path.join(TOP, "examples", "signed"))
-from sexp import canonical, read  # noqa: E402
+from support import COMMANDS, EXAMPLES, PROGRAM, TESTS, TOP, canonical, read, run, tables_here
+from tables import rows_of
 
 CRATE = os.path.join(TOP, "crates", "spki_c")
-C_EXAMPLE = os.path.join(TOP, "examples", "c")
+C_EXAMPLE = os.path.join(EXAMPLES, "c")
 CHECK_ACCEPTED = 7
+DONE = 6
 THREADS = 8
 REFUSALS = 40
 SHORT = 20_000
 SECONDS = 900
-STRICT = ["cc", "-std=c11", "-Wall", "-Wextra", "-Wpedantic", "-Werror", "-O1", "-g", "-pthread"]
+WARNINGS = ["-Wall", "-Wextra", "-Wpedantic", "-Werror"]
+STRICT = ["cc", "-std=c11", *WARNINGS, "-O1", "-g", "-pthread"]
+REFUSING = ["-Wl,--wrap=malloc,--wrap=realloc"]
+SANITIZED = ["-fsanitize=address,undefined", "-fno-sanitize-recover=all", "-fno-omit-frame-pointer"]
+CALL = re.compile(r"^\w[\w *]*\b(spki_\w+)\(", re.MULTILINE)
+NEEDED = {"malloc", "realloc", "free", "memcpy", "memmove", "memset", "memcmp"}
 VALGRIND = ["valgrind", "--quiet", "--leak-check=full", "--show-leak-kinds=all", "--error-exitcode=98"]
 MOMENT = "2024-01-01_00:00:00"
 NO_ROWS = b"(accepted)"
@@ -38,25 +47,32 @@ NO_ROWS = b"(accepted)"
 SHA1_OF_B = hashlib.sha1(b"(10:public-key(4:test1:b))").hexdigest()
 
 
+def as_library(command, answer):
+    """What the library answers where the program answers so: yes and no are answered by decisions alone."""
+    status, octets = answer
+    return (DONE, octets) if COMMANDS[command] != "check" and status in (0, 1) else answer
+
+
 def questions_of_files(program):
     """Each command on each file of the examples, with what the program answers."""
     texts = {}
-    for folder, _, names in os.walk(os.path.join(TOP, "examples")):
+    for folder, _, names in os.walk(EXAMPLES):
         for name in names:
             if name.endswith(("sexp", ".table")):
                 with open(os.path.join(folder, name), "rb") as file:
                     texts[name] = file.read()
     asked = [(f"{command} {name}", number, text, b"") for name, text in sorted(texts.items()) for number, command in enumerate(COMMANDS)]
     with ThreadPoolExecutor(os.cpu_count()) as pool:
-        wanted = pool.map(lambda each: run(program, COMMANDS[each[1]], each[2]), asked)
+        wanted = pool.map(lambda each: as_library(each[1], run(program, COMMANDS[each[1]], each[2])), asked)
         return list(zip(asked, wanted))
 
 
 def questions_of_tables():
     """The rows of the tables, with what is wanted."""
-    for name in sorted(each for each in os.listdir(HERE) if each.endswith(".table")):
-        for place, command, text, status, answer in rows_of(os.path.join(HERE, name)):
-            yield (place, COMMANDS.index(command), text, b""), (status, answer)
+    for table in tables_here():
+        for place, command, text, status, answer in rows_of(table):
+            number = COMMANDS.index(command)
+            yield (place, number, text, b""), as_library(number, (status, answer))
 
 
 def rows_apart(program, answered):
@@ -76,7 +92,7 @@ def rows_apart(program, answered):
 
 def worked_rows():
     """The case of the first certificate, with its rows apart, changed and not readable."""
-    with open(os.path.join(TOP, "examples", "delegation.sexp"), "rb") as file:
+    with open(os.path.join(EXAMPLES, "delegation.sexp"), "rb") as file:
         case = file.read()
     at, end = case.index(b"(accepted"), case.index(b"\n (sequence")
     rows, bare = case[at:end], case[:at] + NO_ROWS + case[end:]
@@ -141,7 +157,8 @@ def guards(words):
     with open(os.path.join(C_EXAMPLE, own[2]), encoding="ascii") as file:
         certificate = file.read().strip().removeprefix("(sequence").removesuffix(")")
     texts = {"no-rows": "(accepted)", "other-key": "(public-key (test c))", "two-keys": "(public-key (test b))) (request (ftp)",
-             "long": "(sequence" + " " * 65536 + ")", "many": f"(sequence {certificate * 17})", "sha1": f"(acl (entry (hash sha1 #{SHA1_OF_B}#) (tag (*))))", "none": "(sequence)",
+             "long": "(sequence" + " " * 65536 + ")", "many": f"(sequence {certificate * 17})",
+             "sha1": f"(acl (entry (hash sha1 #{SHA1_OF_B}#) (tag (*))))", "none": "(sequence)",
              "read": "(acl (entry (public-key (test b)) (tag (cache (* prefix /cache/team1/) read))))"}
     with tempfile.TemporaryDirectory() as room:
         for name, text in texts.items():
@@ -177,35 +194,112 @@ def guards(words):
     return well
 
 
-def compiled(source, library, to, *more):
-    """Whether a C program compiles without a warning and links with nothing but the library."""
-    words = [*STRICT, "-I", CRATE, "-o", to, source, "-L", os.path.dirname(library), "-lspki_c", *more]
-    return subprocess.run(words, timeout=SECONDS).returncode == 0
+def is_compiled(*words):
+    """Whether a program compiles without a warning, and links."""
+    return subprocess.run([*words, "-I", CRATE], timeout=SECONDS).returncode == 0
+
+
+def has_compiler(words):
+    """Whether a compiler is there; says so if not."""
+    if not shutil.which(words[0]):
+        print(f"{words[0]} is not there: what it compiles is left out")
+    return bool(shutil.which(words[0]))
+
+
+def symbols(library, *words):
+    """The symbols of a library that `nm` lists with these words, without their versions."""
+    listed = subprocess.run(["nm", "--format=just-symbols", *words, library], stdout=subprocess.PIPE, text=True, check=True).stdout
+    return {line.split("@")[0] for line in listed.splitlines() if line and not line.endswith(":")}
+
+
+def soname_of(shared):
+    """The name by which programs ask the loader for a shared object."""
+    said = subprocess.run(["readelf", "--dynamic", shared], stdout=subprocess.PIPE, text=True, check=True).stdout
+    return re.search(r"\(SONAME\).*\[(.*)\]", said)[1]
+
+
+def has_its_symbols(library, *words):
+    """Whether a library gives the calls of the header and no other symbol, and needs only what is known."""
+    with open(os.path.join(CRATE, "spki.h"), encoding="ascii") as header:
+        calls = set(CALL.findall(header.read()))
+    given = symbols(library, *words, "--defined-only", "--extern-only")
+    # (the weak ones are those that the C compiler puts into each shared object)
+    needed = {name for name in symbols(library, *words, "--undefined-only") if not name.startswith(("_ITM_", "__cxa_finalize", "__gmon_start__"))}
+    if given != calls or not needed <= NEEDED:
+        print(f"{library}: gives {sorted(given)} and not {sorted(calls)}, and needs {sorted(needed - NEEDED)} beside what is known")
+    return given == calls and needed <= NEEDED
+
+
+def links(room, archive, shared):
+    """By name, whether `linked.c` is compiled and linked in each way and ends with 0."""
+    source, other = os.path.join(TESTS, "linked.c"), os.path.join(room, "libother.a")
+    renamed = [f"--redefine-sym={name}=other_{name}" for name in ("spki_answer", "spki_check_accepted")]
+    subprocess.run(["objcopy", *renamed, archive, other], check=True)
+    beside = ["-L", os.path.dirname(shared), "-lspki_c", f"-Wl,-rpath,{os.path.dirname(shared)}"]
+    results = {}
+    for language, words in {"C11": ["cc", "-std=c11"], "C++17": ["g++", "-std=c++17", "-x", "c++"]}.items():
+        if not has_compiler(words):
+            continue
+        for way, more in {"static": [archive], "shared": beside, "two archives": ["-DOTHER", archive, other]}.items():
+            to = os.path.join(room, "linked")
+            flags = [it for it in more if it.startswith("-D")]
+            made = is_compiled(*words, *WARNINGS, *flags, "-o", to, source, "-x", "none", *(it for it in more if it not in flags))
+            results[f"linked.c as {language}, {way}"] = made and subprocess.run([to], timeout=SECONDS).returncode == 0
+    return results
+
+
+def asks_all(program, asker, ways):
+    """By name, whether the library answers all questions as it should; those in `ways`, which begin with the words to run it by, only
+    the short ones."""
+    files, tables = questions_of_files(program), list(questions_of_tables())
+    apart = list(rows_apart(program, files + tables))
+    results = {}
+    for name, questions in {"files": files, "tables": tables, "rows apart": apart, "worked rows": list(worked_rows())}.items():
+        print(f"{name}: {len(questions)} questions")
+        results[name] = agree([asker, str(THREADS), str(REFUSALS)], questions)
+    short = [each for each in files + apart if len(each[0][2]) + len(each[0][3]) <= SHORT] + list(worked_rows())[:8]
+    for name, words in ways.items():
+        print(f"{name}: {len(short)} questions")
+        results[name] = agree(words, short)
+    return results
+
+
+def results_of(program, archive, shared, room):
+    """By name, what passed."""
+    asker, guard = os.path.join(room, "clibrary"), os.path.join(room, "guard")
+    beside, sanitized = os.path.join(room, "beside"), os.path.join(room, "sanitized")
+    source, example = os.path.join(TESTS, "clibrary.c"), os.path.join(C_EXAMPLE, "guard.c")
+    results = {"symbols of the archive": has_its_symbols(archive), "symbols of the shared object": has_its_symbols(shared, "--dynamic"),
+               "compiling": is_compiled(*STRICT, "-o", asker, source, archive, *REFUSING)
+               and is_compiled(*STRICT, *SANITIZED, "-o", sanitized, source, archive, *REFUSING)
+               and is_compiled(*STRICT, "-o", beside, source, shared, *REFUSING, f"-Wl,-rpath,{os.path.dirname(shared)}")
+               and is_compiled(*STRICT, "-o", guard, example, archive), **links(room, archive, shared)}
+    if not results["compiling"]:
+        return results
+    # (of the shared object no request for memory is refused: it calls the C library itself)
+    ways = {"the shared object": [beside, "2", "0"], "under AddressSanitizer": [sanitized, "0", str(REFUSALS)]}
+    has_valgrind = has_compiler(VALGRIND)
+    if has_valgrind:
+        ways["under valgrind"] = [*VALGRIND, asker, "2", str(REFUSALS)]
+    results.update(asks_all(program, asker, ways))
+    results["guard"] = guards([guard])
+    if has_valgrind:
+        results["guard under valgrind"] = guards([*VALGRIND, guard])
+    return results
 
 
 def main():
     program = os.path.abspath(sys.argv[1] if len(sys.argv) > 1 else PROGRAM)
-    library = os.path.abspath(sys.argv[2] if len(sys.argv) > 2 else os.path.join(CRATE, "out", "libspki_c.a"))
-    if not os.path.exists(library):
+    archive = os.path.abspath(sys.argv[2] if len(sys.argv) > 2 else os.path.join(CRATE, "out", "libspki_c.a"))
+    shared = archive.removesuffix(".a") + ".so"
+    if not os.path.exists(archive) or not os.path.exists(shared):
         subprocess.run([os.path.join(CRATE, "archive.py")], check=True)
     with tempfile.TemporaryDirectory() as room:
-        asker, guard = os.path.join(room, "clibrary"), os.path.join(room, "guard")
-        results = {"compiling": compiled(os.path.join(HERE, "clibrary.c"), library, asker, "-Wl,--wrap=malloc,--wrap=realloc")
-                   and compiled(os.path.join(C_EXAMPLE, "guard.c"), library, guard)}
-        if results["compiling"]:
-            files, tables = questions_of_files(program), list(questions_of_tables())
-            apart = list(rows_apart(program, files + tables))
-            for name, questions in {"files": files, "tables": tables, "rows apart": apart, "worked rows": list(worked_rows())}.items():
-                print(f"{name}: {len(questions)} questions")
-                results[name] = agree([asker, str(THREADS), str(REFUSALS)], questions)
-            results["guard"] = guards([guard])
-            short = [each for each in files + apart if len(each[0][2]) + len(each[0][3]) <= SHORT] + list(worked_rows())[:8]
-            if subprocess.run(["which", "valgrind"], stdout=subprocess.DEVNULL).returncode == 0:
-                print(f"under valgrind: {len(short)} questions")
-                results["under valgrind"] = agree([*VALGRIND, asker, "2", str(REFUSALS)], short)
-                results["guard under valgrind"] = guards([*VALGRIND, guard])
-            else:
-                print("valgrind is not there: what is read, written and freed is left out")
+        # (programs ask for the shared object by its own name)
+        link = os.path.join(room, os.path.basename(shared))
+        shutil.copy(shared, link)
+        os.symlink(link, os.path.join(room, soname_of(shared)))
+        results = results_of(program, archive, link, room)
     failed = [name for name, passed in results.items() if not passed]
     print("".join(f"failed: {name}\n" for name in failed), end="")
     print(f"{len(results) - len(failed)} passed, {len(failed)} failed")

@@ -36,12 +36,11 @@ from generators.questions import Question, question
 from generators.smaller import smaller
 from model import coverage, laws
 from model.answers import COMMANDS, Answer, ModelDisagrees, answer, check_accepted
+from support import LIBRARY as ARCHIVE, PROGRAM, tables_here
 from tables import rows_of
 
-HERE = os.path.dirname(os.path.abspath(__file__))
-PROGRAM = os.path.join(HERE, "..", "crates", "spki", "out", "spki")
-ARCHIVE = os.path.join(HERE, "..", "crates", "spki_c", "out", "libspki_c.a")
-TOO_SMALL = 4
+TOO_SMALL, DONE = 4, 6
+DECISIONS = ("check", "check_accepted")
 SECONDS = 60
 SECONDS_QUIET = 300
 PROGRAM_EVERY = 9
@@ -66,7 +65,7 @@ class Library:
     def __init__(self, path: str) -> None:
         loaded = ctypes.CDLL(path)
         buffer = [ctypes.c_char_p, ctypes.c_size_t, ctypes.POINTER(ctypes.c_size_t)]
-        self.by_command, self.by_rows = loaded.spki_c_answer, loaded.spki_c_check_accepted
+        self.by_command, self.by_rows = loaded.spki_answer, loaded.spki_check_accepted
         self.by_command.argtypes = [ctypes.c_uint32, ctypes.c_char_p, ctypes.c_size_t, *buffer]
         self.by_rows.argtypes = [ctypes.c_char_p, ctypes.c_size_t, ctypes.c_char_p, ctypes.c_size_t, *buffer]
         self.by_command.restype = self.by_rows.restype = ctypes.c_uint32
@@ -84,6 +83,8 @@ class Library:
     def answers(self, asked: Question, wanted: Answer) -> str | None:
         """What is wrong with the answer, None if nothing is."""
         status, said = wanted
+        if asked.command not in DECISIONS and status in (0, 1):
+            wanted = (DONE, said)
         met_status, needed, buffer = self.ask(asked, len(said) + 8)
         if met_status == TOO_SMALL:
             met_status, needed, buffer = self.ask(asked, needed)
@@ -140,8 +141,8 @@ class Comparison:
 def rows_that_differ() -> list[str]:
     """Where the model's answer is not that of a row of the tables."""
     differ = []
-    for name in sorted(name for name in os.listdir(HERE) if name.endswith(".table")):
-        for place, command, text, status, said in rows_of(os.path.join(HERE, name)):
+    for table in tables_here():
+        for place, command, text, status, said in rows_of(table):
             try:
                 met = answer(command, text)
             except ModelDisagrees as why:

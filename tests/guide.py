@@ -1,11 +1,12 @@
 #!/usr/bin/env python3
 """Does what README.md, docs/GUIDE.md and the examples of docs/spki.1 say, each in an empty folder, and compares the answers.
 
-A fenced block `sexp NAME` or `sh NAME` of README.md and the guide is a file, which is written where it stands on the page and has no
+A fenced block `sexp NAME`, `sh NAME` or `python NAME` of README.md and the guide is a file, which is written where it stands on the page and has no
 permission to be run until a command gives it. If examples/ has a file of this name, it must be the same. In a block `console`, and in
 the manual's blocks, a line that begins with `$ ` is a command of the shell, one with `> ` goes on with it, and the lines up to the
 next command are what it should write. The commands of a page run as they stand, one after the other in one shell, with the program
-as `spki`: once in `sh`, and once in `bash` if it is there. Prints each command that answers otherwise; the last line counts.
+as `spki` and tools/locate as `locate`: once in `sh`, and once in `bash` if it is there. Prints each command that answers otherwise; the last
+line counts.
 
 Build the program first (`rt run` in crates/spki).
 Usage: tests/guide.py [PROGRAM]
@@ -20,9 +21,8 @@ import sys
 import tempfile
 import textwrap
 
-HERE = os.path.dirname(os.path.abspath(__file__))
-PROGRAM = os.path.join(HERE, "..", "crates", "spki", "out", "spki")
-TOP = os.path.join(HERE, "..")
+from support import TOP, given_program
+
 BLOCK = re.compile(r"^```(\w+)(?: (\S+))?\n(.*?)^```$", re.MULTILINE | re.DOTALL)
 SECONDS = 60
 END = "---- end of command ----"
@@ -39,7 +39,7 @@ def commands(text):
 def steps_of_markdown(page):
     """The page's files and commands, in order: a file's name and text, or a command and what it should write."""
     for kind, name, text in BLOCK.findall(page):
-        if kind in ("sexp", "sh") and name:
+        if kind in ("sexp", "sh", "python") and name:
             yield "file", name, text
         elif kind == "console":
             yield from commands(text)
@@ -48,8 +48,11 @@ def steps_of_markdown(page):
 
 
 def steps_of_manual(page):
-    """The manual's commands, from its blocks without filling."""
+    """The manual's commands, from its blocks without filling. Those with `openssl` are left out if it is not there."""
     for block in re.findall(r"^\.nf\n(.*?)^\.fi$", page, re.MULTILINE | re.DOTALL):
+        if "openssl" in block and not shutil.which("openssl"):
+            print("openssl is not there (Debian: openssl): the manual's example with it is left out")
+            continue
         yield from commands(textwrap.dedent(block).replace("\\-", "-").replace("\\(aq", "'"))
 
 
@@ -68,6 +71,7 @@ def outputs_of(shell, found, program):
         for folder in ("bin", "work"):
             os.mkdir(os.path.join(room, folder))
         os.symlink(program, os.path.join(room, "bin", "spki"))
+        os.symlink(os.path.abspath(os.path.join(TOP, "tools", "locate")), os.path.join(room, "bin", "locate"))
         path = os.path.join(room, "bin") + os.pathsep + os.environ["PATH"]
         done = subprocess.run([shell], input="".join(script(found)), cwd=os.path.join(room, "work"), env={**os.environ, "PATH": path},
                               text=True, stdout=subprocess.PIPE, stderr=subprocess.STDOUT, timeout=SECONDS)
@@ -101,9 +105,7 @@ def run_page(shell, name, steps, program):
 
 
 def main():
-    program = os.path.abspath(sys.argv[1] if len(sys.argv) > 1 else PROGRAM)
-    if not os.access(program, os.X_OK):
-        sys.exit(f"{program} is not there: build it by rt run in crates/spki")
+    program = given_program()
     pages = {"README.md": steps_of_markdown, "docs/GUIDE.md": steps_of_markdown, "docs/spki.1": steps_of_manual}
     shells = [shell for shell in ("sh", "bash") if shutil.which(shell)]
     counts = [run_page(shell, name, steps, program) for shell in shells for name, steps in pages.items()]

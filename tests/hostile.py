@@ -4,8 +4,8 @@ cut short, ends that fail, limits from both sides, a small stack, and the texts 
 each call of the libraries by itself, on the worked example that is named for it.
 
 `refuse.c` beside this file is compiled by `cc` and preloaded, and refuses what it is told to. Build the programs first (`rt run` in
-crates/spki and crates/one_call). Prints each fault, and by part the examples, runs, refusals that were met and faults; then the time and memory of the
-largest texts. The last line counts the parts. With --short the longest parts are left out, which `.ci/deep` runs.
+crates/spki and crates/one_call). Prints each fault, and by part the examples, runs, refusals that were met and faults; then the time and
+memory of the largest texts. The last line counts the parts. With --short the longest parts are left out, which `.ci/deep` runs.
 Usage: tests/hostile.py [--short] [PROGRAM]
 """
 import importlib.util
@@ -23,13 +23,11 @@ from itertools import count
 import chains
 import limits
 import tables
-from limits import MOST_OCTETS, braced
+from limits import MOST_OCTETS
 from refusing import PIPE, Program, built
-from tables import COMMANDS
+from support import BENCH, COMMANDS, EXAMPLES, PROGRAM, TOP, braced, tables_here
 
-BENCH = os.path.join(tables.HERE, "..", "bench")
-EXAMPLES = os.path.join(tables.HERE, "..", "examples")
-ONE_CALL = os.path.join(tables.HERE, "..", "crates", "one_call", "out", "one_call")
+ONE_CALL = os.path.join(TOP, "crates", "one_call", "out", "one_call")
 sys.path.append(BENCH)
 import memory  # noqa: E402
 
@@ -59,12 +57,14 @@ CALLS = (
 # What is written of the cases of examples/, and of some of chains.py: the status and the line. A command that the program doesn't
 # have is passed over.
 FILES = {
-    "first-run.csexp": {"check": "0 yes entry 1", "explain": "0 entry 1 grants", "reduce": "0 entry 1 (five (subject (public-key (test a))) (tag (ftp host)))"},
+    "first-run.csexp": {"check": "0 yes entry 1", "explain": "0 entry 1 grants",
+                        "reduce": "0 entry 1 (five (subject (public-key (test a))) (tag (ftp host)))"},
     "shorter-request.csexp": {"check": "1 no", "explain": "1 entry 1 TagLacks"},
     "second-entry.csexp": {"check": "0 yes entry 2"},
     "no-entries.csexp": {"check": "1 no", "explain": "1 no entries", "reduce": "1 no entries"},
     "bad-date.csexp": {"check": "2 refused at BadDate", "explain": "2 refused at BadDate", "reduce": "2 refused at BadDate"},
-    "delegation.sexp": {"check": "0 yes entry 1", "explain": "0 entry 1 grants", "reduce": "0 entry 1 (five (subject (public-key (test b))) (tag (*)))"},
+    "delegation.sexp": {"check": "0 yes entry 1", "explain": "0 entry 1 grants",
+                        "reduce": "0 entry 1 (five (subject (public-key (test b))) (tag (*)))"},
 }
 CHAINS = {
     "whole chain": {"explain": "0 entry 1 grants", "reduce": "0 entry 1 (five (subject (public-key (test d))) (propagate) (tag (*)))"},
@@ -131,10 +131,9 @@ def of_chains():
 
 def of_tables():
     """The rows of the tables beside this file."""
-    for name in sorted(os.listdir(tables.HERE)):
-        if name.endswith(".table"):
-            for place, command, text, status, answer in tables.rows_of(os.path.join(tables.HERE, name)):
-                yield Example(place, command, text, (status, answer, b""))
+    for table in tables_here():
+        for place, command, text, status, answer in tables.rows_of(table):
+            yield Example(place, command, text, (status, answer, b""))
 
 
 def of_limits():
@@ -173,7 +172,8 @@ def bench(name):
 def most_work():
     """The texts that ask for the most work known, each with what its answer begins with."""
     check, convert, intersect, long, slowest = map(bench, ("check", "convert", "intersect", "chains", "slowest"))
-    for make in (check.many_entries, check.many_structures, check.many_certificates, check.many_members, check.lists_in_lists, check.one_string, check.no_value):
+    for make in (check.many_entries, check.many_structures, check.many_certificates, check.many_members, check.lists_in_lists,
+                 check.one_string, check.no_value):
         text, answer = make(MOST_OCTETS)
         yield make.__name__, "check", text, answer
     for make in (long.by_keys, long.by_hashes, long.through_names):
@@ -424,7 +424,7 @@ LONGEST = ("less and less memory", "a small stack", "under valgrind", "the most 
 def main():
     short = sys.argv[1:2] == ["--short"]
     words = sys.argv[2 if short else 1:]
-    path = os.path.abspath(words[0] if words else tables.PROGRAM)
+    path = os.path.abspath(words[0] if words else PROGRAM)
     parts = {part: tasks for part, tasks in PARTS.items() if not (short and part in LONGEST)}
     if not os.access(path, os.X_OK):
         sys.exit(f"{path} is not there: build it by rt run in crates/spki")

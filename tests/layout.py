@@ -1,5 +1,6 @@
 #!/usr/bin/env python3
-"""Tests before anything is proved what else would fail late: that each source file is laid out as `rt fmt` lays it out, and that
+"""Tests before anything is proved what else would fail late: that each source file is laid out as `rt fmt` lays it out, that pyflakes
+and pycodestyle find nothing in the scripts in Python (Debian: pyflakes3, pycodestyle; left out if they are not there), and that
 CONTRIBUTING.md's line on the last run of `.ci/deep` names a commit of the history.
 
 Prints what fails; the last line counts.
@@ -12,7 +13,9 @@ import shutil
 import subprocess
 import sys
 
-ROOT = os.path.realpath(os.path.join(os.path.dirname(__file__), ".."))
+from support import TOP as ROOT
+
+CHECKERS = [["pyflakes3"], ["pycodestyle", "--max-line-length", "150"]]
 LINE = re.compile(r"Last run of `\.ci/deep`: commit ([0-9a-f]{12,40}), \d+ passed, \d+ failed, ")
 
 
@@ -32,6 +35,19 @@ def misplaced(rattle):
         done = subprocess.run([rattle, "fmt", "--check", *files], stdout=subprocess.PIPE, stderr=subprocess.STDOUT, text=True)
         if done.returncode:
             yield f"{os.path.relpath(crate, ROOT)}: run rt fmt there\n{done.stdout[:600]}"
+
+
+def flawed():
+    """What the checkers say of the scripts."""
+    scripts = [path for path in git("ls-files", "-co", "--exclude-standard").stdout.splitlines()
+               if path.endswith(".py") or path in (".ci/deep", "tools/locate")]
+    for checker in CHECKERS:
+        if shutil.which(checker[0]) is None:
+            print(f"{checker[0]} is not there (Debian: {checker[0]}): the scripts in Python are not checked by it")
+            continue
+        done = subprocess.run([*checker, *scripts], cwd=ROOT, stdout=subprocess.PIPE, stderr=subprocess.STDOUT, text=True)
+        if done.returncode:
+            yield done.stdout
 
 
 def git(*words):
@@ -54,7 +70,7 @@ def deep_run():
 
 
 def main():
-    faults = [*misplaced(formatter()), *filter(None, [deep_run()])]
+    faults = [*misplaced(formatter()), *flawed(), *filter(None, [deep_run()])]
     print(*faults, sep="\n", end="\n" if faults else "")
     print(f"{0 if faults else 1} passed, {len(faults)} failed")
     return 1 if faults else 0

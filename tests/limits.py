@@ -1,8 +1,7 @@
 """Texts at the limits from both sides, with the answers that docs/FORMATS.md has for them."""
-import base64
-
 import chains
 from chains import YES, case, cert, entry, key, refused, row, signed
+from support import braced
 
 MOST_OCTETS = 1048576
 MOST_DEPTH = 64
@@ -10,10 +9,6 @@ MOST_NODES = 1024
 FORMS = ("canonical", "advanced", "braces")
 CONVERSIONS = ("canonical", "advanced", "transport")
 STRUCTURES = {"intersect": "intersect Shape", "check": "case Shape", "reduce": "case Shape", "explain": "case Shape"}
-
-
-def braced(canonical):
-    return b"{" + base64.b64encode(canonical) + b"}"
 
 
 def strings(count, each="a"):
@@ -76,7 +71,9 @@ def lists_in_lists():
 
 def deep_parts():
     """Requests and tags as deep as may be, and deeper by one list."""
-    nested = lambda depth: "(f " * depth + "f" + ")" * depth
+    def nested(depth):
+        return "(f " * depth + "f" + ")" * depth
+
     for depth, answer in ((62, YES), (63, refused("form TooDeep"))):
         yield f"a request of {depth} lists", "check", case(entry("a"), asks=key("a"), request=nested(depth)), answer
     for depth, answer in ((60, YES), (61, refused("form TooDeep"))):
@@ -104,21 +101,29 @@ def nodes():
 
 def products():
     """Products of two tags' nodes around 1,000,000."""
-    sets = lambda one, other: f"(intersect (* set {one}) (* set {other}))"
+    def sets(one, other):
+        return f"(intersect (* set {one}) (* set {other}))"
+
     yield "1,024 nodes and 976", "intersect", sets(strings(1023), strings(975)), (0, f"(* set {strings(1023 * 975)})\n")
     yield "1,024 nodes and 977", "intersect", sets(strings(1023), strings(976)), refused("TooLarge")
     yield "1,000 nodes twice", "intersect", sets(numbered(999), numbered(999)), (0, f"(* set {numbered(999)})\n")
     yield "1,001 nodes and 1,000", "intersect", sets(numbered(1000), numbered(999)), refused("TooLarge")
     yield "1,001 nodes twice", "intersect", sets(numbered(1000), numbered(1000)), refused("TooLarge")
-    list_of = lambda count: f"({strings(count, 'x')})"
+
+    def list_of(count):
+        return f"({strings(count, 'x')})"
+
     yield "lists of 1,000 nodes", "intersect", f"(intersect {list_of(999)} {list_of(999)})", (0, list_of(999) + "\n")
     yield "lists of 1,001 nodes", "intersect", f"(intersect {list_of(1000)} {list_of(1000)})", refused("TooLarge")
     for name, text, answer in chains.sizes():
         yield name, "check", text, answer
 
 
+def octets(words):
+    return words if isinstance(words, bytes) else words.encode()
+
+
 def rows():
     for rows_of in (lengths, longer_in_canonical_form, lists_in_lists, deep_parts, nodes, products):
         for name, command, text, (status, answer) in rows_of():
-            octets = lambda words: words if isinstance(words, bytes) else words.encode()
             yield f"limits.py: {name}", command, octets(text), status, octets(answer)

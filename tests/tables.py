@@ -21,19 +21,15 @@ Usage: tests/tables.py [PROGRAM]
 """
 import os
 import re
-import subprocess
 import sys
 from concurrent.futures import ThreadPoolExecutor
 
 import chains
 import pairs
+from support import COMMANDS, TOP, given_program, run, tables_here
 
-HERE = os.path.dirname(os.path.abspath(__file__))
-PROGRAM = os.path.join(HERE, "..", "crates", "spki", "out", "spki")
-COMMANDS = ("canonical", "advanced", "transport", "intersect", "reduce", "check", "explain")
 GRANTS = re.compile(rb"entry (\d+) grants")
 TOO_LARGE = (2, b"refused TooLarge\n")
-SECONDS = 120
 ESCAPE = re.compile(rb"%(?:([0-9A-F]{2})|(n)|(-)|<(\d+)\*([^>]*)>|\[([^]]+)\]|())")
 
 
@@ -51,7 +47,7 @@ def unescaped(field):
         if times:
             return int(times) * repeated
         if path:
-            with open(os.path.join(HERE, "..", path.decode()), "rb") as file:
+            with open(os.path.join(TOP, path.decode()), "rb") as file:
                 return file.read()
         raise ValueError(f"{field!r} has an unknown escape")
 
@@ -72,12 +68,6 @@ def rows_of(table):
             command, status, text, answer = fields
             for each in COMMANDS if command == b"any" else [command.decode()]:
                 yield place, each, unescaped(text), int(status), unescaped(answer)
-
-
-def run(program, command, text):
-    """The exit status of a command on a text, and what it writes."""
-    done = subprocess.run([program, command], input=text, stdout=subprocess.PIPE, stderr=subprocess.DEVNULL, timeout=SECONDS)
-    return done.returncode, done.stdout
 
 
 def fault_of(program, row):
@@ -111,12 +101,9 @@ def fault_beside(program, place, text, decided):
 
 
 def main():
-    program = os.path.abspath(sys.argv[1] if len(sys.argv) > 1 else PROGRAM)
-    if not os.access(program, os.X_OK):
-        sys.exit(f"{program} is not there: build it by rt run in crates/spki")
-    failed = 0
+    program, failed = given_program(), 0
     with ThreadPoolExecutor(os.cpu_count()) as pool:
-        tables = {name: list(rows_of(os.path.join(HERE, name))) for name in sorted(os.listdir(HERE)) if name.endswith(".table")}
+        tables = {os.path.basename(path): list(rows_of(path)) for path in tables_here()}
         tables["pairs.py"] = list(pairs.rows(lambda text: pool.submit(run, program, "intersect", text)))
         tables["chains.py"] = list(chains.rows())
         for name, rows in tables.items():

@@ -6,22 +6,21 @@ nothing on standard output and the help on standard error, which names each exit
 Build the program first (`rt run` in crates/spki). Prints what fails; the last line counts.
 Usage: tests/words.py [PROGRAM]
 """
-import os
 import subprocess
 import sys
 
-import tables
+from support import COMMANDS, SECONDS, given_program
 
 WRONG = [(), (b"frob",), (b"check", b"check"), (b"",), (b"\xff",), (b"check", b"\xff"), (b"Check",), (b"check ",), (b"--",),
          (b"--frob",), (b"check", b"--frob"), (b"help",)]
-HELP = [(b"--help",), (b"-h",)] + [(command.encode(), b"--help") for command in tables.COMMANDS]
+HELP = [(b"--help",), (b"-h",)] + [(command.encode(), b"--help") for command in COMMANDS]
 STATUSES = (b"\n  0  ", b"\n  2  ", b"\n  3  ")
 TEXT = b"(1:a)"
 
 
 def run(program, words):
     """The status, and what goes to standard output and to standard error."""
-    done = subprocess.run([program.encode(), *words], input=TEXT, stdout=subprocess.PIPE, stderr=subprocess.PIPE, timeout=tables.SECONDS)
+    done = subprocess.run([program.encode(), *words], input=TEXT, stdout=subprocess.PIPE, stderr=subprocess.PIPE, timeout=SECONDS)
     return done.returncode, done.stdout, done.stderr
 
 
@@ -36,7 +35,7 @@ def faults(program):
 
 
 def main():
-    program = os.path.abspath(sys.argv[1] if len(sys.argv) > 1 else tables.PROGRAM)
+    program = given_program()
     results = list(faults(program))
     for words, right in results:
         if not right:

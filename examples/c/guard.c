@@ -12,7 +12,7 @@
  *
  * Prints the decision, and exits with the status of `spki check`, or with 3 where a file cannot be read. Only status 0 is a yes.
  *
- *     cc -std=c11 -Wall -Wextra -o guard guard.c -lspki_c
+ *     cc -std=c11 -Wall -Wextra -o guard guard.c $(pkg-config --cflags --libs spki)
  */
 #include <spki.h>
 #include <stdio.h>
@@ -81,7 +81,7 @@ static struct text value_of(const char *path, size_t most)
         status = spki_answer(SPKI_CANONICAL, text.octets, text.length, value.octets, value.length, &value.length);
     }
     free(text.octets);
-    if (status != SPKI_YES)
+    if (status != SPKI_DONE)
         refuse(path, value.octets, value.length, status);
     return value;
 }

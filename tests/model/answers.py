@@ -279,4 +279,3 @@ def written_window(window: Window) -> tuple[Value, ...]:
         return ()
     FIVES.used("valid with both" if len(limits) == 2 else "valid with not-before" if window.not_before else "valid with not-after")
     return ((Atom(b"valid"), *limits),)
-

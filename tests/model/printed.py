@@ -30,4 +30,3 @@ def printed(value: Value) -> bytes:
         return string(value.body)
     WAYS.used("with a hint")
     return b"[" + string(value.hint) + b"]" + string(value.body)
-

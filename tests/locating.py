@@ -1,0 +1,138 @@
+#!/usr/bin/env python3
+"""Runs tools/locate on texts that are refused, and compares what it shows.
+
+First on texts with one mistake each, written out here with the place and a word of the remark that it should show. Then on each row of
+the tables beside this file, and on generated texts beside the model: it must find the refusal that is the answer there, and none if there
+is another answer. Refusals of tags that are too large are left out: they have no place.
+Prints each text that is otherwise; the last line counts.
+Usage: tests/locating.py
+"""
+import contextlib
+import importlib.machinery
+import importlib.util
+import io
+import os
+import sys
+import tempfile
+
+from generators.questions import question
+from model.answers import answer
+from support import COMMANDS, TOP, tables_here
+from tables import rows_of
+
+PATH = os.path.join(TOP, "tools", "locate")
+GENERATED, SEED = 150, "locate"
+READ_AS = {"intersect": "refused tag", "check": "refused case", "explain": "refused case", "reduce": "refused case"}
+KEY = "(public-key (test a))"
+HASH = f"(hash sha256 #{'00' * 32}#)"
+CERT = f"(cert\n (issuer {KEY})\n (subject {KEY})\n (tag ftp)\n FIELD)"
+CASE = f'(case (acl (entry {KEY} (tag ftp)))\n (accepted)\n (sequence {KEY} {KEY}\n CERT (signature {HASH} {KEY} sig))\n' \
+       f' (key {KEY}) (request ftp) (at "2024-01-01_00:00:00"))'
+
+
+def with_certificate(text):
+    return CASE.replace("CERT", text)
+
+
+def with_field(field):
+    return with_certificate(CERT.replace("FIELD", field))
+
+
+# A text, the refusal, the place as line and column, and words of the remark.
+MISTAKES = [
+    ("(a\n ~)", "form Bad 4", (2, 2), "a member or `)`"),
+    ("(a 2024-01-01)", "form Bad 7", (1, 8), "put quotes around"),
+    ('(a "\\q")', "form Bad 5", (1, 6), "no escape"),
+    ("#616#", "form Bad 4", (1, 5), "odd"),
+    ("(a)\n(b)", "form Trailing 4", (2, 1), "a text is one value"),
+    ("(a\n (b c", "form Short", (2, 6), "not closed"),
+    ('(a "b', "form Short", (1, 6), "string is not whole"),
+    ("(9:abc)", "form Short", (1, 8), "9 octets"),
+    ("", "form Short", (1, 1), "no value"),
+    ("(" * 65, "form TooDeep", (1, 65), "65th list"),
+    ("{KDE6YSk=", "form Short", (1, 10), "before `}`"),
+    (with_field('(not-afer "2024-01-01_00:00:00")'), "sequence 3 Shape", (8, 2), "`not-after` meant"),
+    (with_field("(tag x)"), "sequence 3 Shape", (8, 2), "a second time"),
+    (with_certificate(f"(cert (issuer {KEY}) (subject {KEY}))"), "sequence 3 Shape", (4, 2), "`(tag ..)` is missing"),
+    (with_certificate(f"(cert (issuer {KEY}) (tag x))"), "sequence 3 Shape", (4, 2), "`(subject ..)` is missing"),
+    (with_field("(propagate yes)"), "sequence 3 Shape", (8, 13), "too many"),
+    (with_field('(not-after "2024-01-01_00:00:00") (valid)'), "sequence 3 Shape", (8, 2), "`(valid ..)` too"),
+    (with_certificate(f"(cert (issuer (name {KEY} n)) (subject {KEY}) (tag x))"), "sequence 3 Shape", (4, 80), "defines a name"),
+    (with_certificate(f"(cert (issuer (key a)) (subject {KEY}) (tag x))"), "sequence 3 Shape", (4, 16), "a principal is"),
+    (CASE.replace("(tag ftp)", "(taag ftp)", 1).replace("CERT", KEY), "acl 1 Shape", (1, 41), "`tag` meant"),
+    (with_certificate(KEY).replace("(accepted)", f"(accepted (by {KEY} {HASH}))"), "accepted 1 Shape", (2, 118), "is missing"),
+    (with_certificate(KEY).replace('"2024-01-01_00:00:00"', '"2024-13-01_00:00:00"'), "sequence 4 StraySignature", (4, 24), "no certificate"),
+    ("(intersect (* range numeric) a)", "tag 1 RangeOrdering", (1, 21), "`alpha`, `time` or `date`"),
+]
+
+
+def tool():
+    """The tool as a module, so that a thousand texts need no thousand programs."""
+    loader = importlib.machinery.SourceFileLoader("locate", PATH)
+    sys.dont_write_bytecode = True
+    made = importlib.util.module_from_spec(importlib.util.spec_from_loader("locate", loader))
+    sys.modules["locate"] = made
+    loader.exec_module(made)
+    return made
+
+
+def printed(locate, text):
+    """What the tool prints of a text."""
+    with tempfile.NamedTemporaryFile() as file:
+        file.write(text)
+        file.flush()
+        out, sys.argv = io.StringIO(), ["locate", file.name]
+        with contextlib.redirect_stdout(out):
+            locate.main()
+    return out.getvalue()
+
+
+def otherwise_of_mistakes(locate):
+    for text, wanted, (line, column), words in MISTAKES:
+        said = printed(locate, text.encode())
+        first = said.split("\n")[1] if "\n" in said else ""
+        if f"refused {wanted}\n" not in said or not first.startswith(f"line {line}, column {column},") or words not in said:
+            yield f"{text!r}\nwanted {wanted} at line {line}, column {column}, {words}, and not\n{said}"
+
+
+def has_no_place(answer):
+    return answer in (b"refused TooLarge\n", b"refused Memory\n")
+
+
+def otherwise(locate, place, command, text, wanted):
+    """What is wrong with the refusal that the tool finds, where the answer is wanted, or None."""
+    wrong, inner, places = locate.fault_of(text, READ_AS.get(command, "refused form"))
+    found = f"{locate.refusal(wrong, places)}\n".encode() if wrong else b""
+    for at, _ in [(wrong.at, wrong.why), *wrong.others] if wrong else []:
+        locate.place_shown(inner, places, at)
+    status, answer = wanted
+    refused = answer if status == 2 and not has_no_place(answer) else b""
+    return None if found == refused else f"{place}: {command}: found {found!r}, and not {refused!r}"
+
+
+def otherwise_of_rows(locate):
+    for table in tables_here():
+        for place, command, text, status, said in rows_of(table):
+            yield otherwise(locate, place, command, text, (status, said))
+
+
+def otherwise_of_generated(locate):
+    for number in range(GENERATED):
+        asked = question(SEED, number)
+        if asked.command in COMMANDS:
+            yield otherwise(locate, f"case {number}", asked.command, asked.text, answer(asked.command, asked.text))
+
+
+def main():
+    locate = tool()
+    results = {"mistakes": list(otherwise_of_mistakes(locate)), "rows": list(filter(None, otherwise_of_rows(locate))),
+               "generated": list(filter(None, otherwise_of_generated(locate)))}
+    for faults in results.values():
+        print(*faults[:20], sep="\n", end="\n" if faults else "")
+    failed = sum(map(bool, results.values()))
+    print(f"{len(results) - failed} passed, {failed} failed")
+    return 1 if failed else 0
+
+
+if __name__ == "__main__":
+    sys.exit(main())

@@ -1,0 +1,56 @@
+"""What the scripts of tests/, bench/ and examples/ share: where the programs are, how one is run, and how S-expressions are written.
+
+A service that takes over `examples/signed/` does not need this module: `sexp.py` and `tools.py` there stand by themselves.
+"""
+import base64
+import os
+import subprocess
+import sys
+
+TOP = os.path.realpath(os.path.join(os.path.dirname(os.path.abspath(__file__)), ".."))
+TESTS, BENCH, EXAMPLES = (os.path.join(TOP, name) for name in ("tests", "bench", "examples"))
+sys.path.append(os.path.join(EXAMPLES, "signed"))
+from sexp import canonical, on_one_line, read  # noqa: E402
+
+PROGRAM = os.path.join(TOP, "crates", "spki", "out", "spki")
+LIBRARY = os.path.join(TOP, "crates", "spki_c", "out", "libspki_c.a")
+COMMANDS = ("canonical", "advanced", "transport", "intersect", "reduce", "check", "explain")
+SECONDS = 120
+
+__all__ = ["BENCH", "COMMANDS", "EXAMPLES", "LIBRARY", "PROGRAM", "SECONDS", "TESTS", "TOP", "braced", "canonical", "given_program", "group",
+           "on_one_line", "read", "run", "string", "tables_here"]
+
+
+def given_program(place=1):
+    """The program that the command line gives at a place, or the built one. It must be there."""
+    program = os.path.abspath(sys.argv[place] if len(sys.argv) > place else PROGRAM)
+    if not os.access(program, os.X_OK):
+        sys.exit(f"{program} is not there: build it by rt run in crates/spki")
+    return program
+
+
+def run(program, command, text, seconds=SECONDS):
+    """The exit status of a command on a text, and what it writes."""
+    done = subprocess.run([program, command], input=text, stdout=subprocess.PIPE, stderr=subprocess.DEVNULL, timeout=seconds)
+    return done.returncode, done.stdout
+
+
+def string(octets):
+    """A string in canonical form."""
+    octets = octets.encode() if isinstance(octets, str) else octets
+    return b"%d:%s" % (len(octets), octets)
+
+
+def group(*members):
+    """A list in canonical form, of members in canonical form."""
+    return b"(" + b"".join(members) + b")"
+
+
+def braced(octets):
+    """A text in the transport form, of one in canonical form."""
+    return b"{" + base64.b64encode(octets) + b"}"
+
+
+def tables_here():
+    """The tables of tests/, by their paths."""
+    return [os.path.join(TESTS, name) for name in sorted(os.listdir(TESTS)) if name.endswith(".table")]
