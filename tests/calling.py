@@ -2,7 +2,7 @@
 """Holds the pages for callers, crates/*/CALLING.md, against the sources that they quote.
 
 The paragraph before a block of code ends with the block's file. A block under `## A caller` stands word for word in that file of
-crates/callers, which the gate proves. Any other block quotes, up to indentation and attributes of proofs: a call's doc comment, signature
+crates/test_callers, which the gate proves. Any other block quotes, up to indentation and attributes of proofs: a call's doc comment, signature
 and clauses, whole and without the body; a type; the head of an `impl` round them. Each call that the library's lib.rt passes on is quoted, or
 named in backticks. Each definition of a library here that a quoted clause cites has a row in the table of words of this page or of its
 own library's; a row's word is defined in the row's file. Prints what is otherwise; the last line counts blocks, calls and words.
@@ -191,7 +191,7 @@ def checks(crate):
             path = path_in(crate, named)
             source = text_of(path)
             if title == "A caller":
-                stands = path.startswith("crates/callers/") and f"\n{block}" in source
+                stands = path.startswith("crates/test_callers/") and f"\n{block}" in source
                 yield f"the caller in {path}", None if stands else "doesn't stand in the file"
                 continue
             lines, imports = bare_lines(source), list(imports_of(source))

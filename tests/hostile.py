@@ -1,10 +1,10 @@
 #!/usr/bin/env python3
 """Runs the built program as one who means it harm would: each request for memory, each read and each write refused in turn, texts
-cut short, ends that fail, limits from both sides, a small stack, and the texts that ask for the most work. `one_call` does the same to
+cut short, ends that fail, limits from both sides, a small stack, and the texts that ask for the most work. `test_one_call` does the same to
 each call of the libraries by itself, on the worked example that is named for it.
 
 `refuse.c` beside this file is compiled by `cc` and preloaded, and refuses what it is told to. Build the programs first (`rt run` in
-crates/spki and crates/one_call). Prints each fault, and by part the examples, runs, refusals that were met and faults; then the time and
+crates/spki and crates/test_one_call). Prints each fault, and by part the examples, runs, refusals that were met and faults; then the time and
 memory of the largest texts. The last line counts the parts. With --short the longest parts are left out, which `.ci/deep` runs.
 Usage: tests/hostile.py [--short] [PROGRAM]
 """
@@ -27,7 +27,7 @@ from limits import MOST_OCTETS
 from refusing import PIPE, Program, built
 from support import BENCH, COMMANDS, EXAMPLES, PROGRAM, TOP, braced, tables_here
 
-ONE_CALL = os.path.join(TOP, "crates", "one_call", "out", "one_call")
+ONE_CALL = os.path.join(TOP, "crates", "test_one_call", "out", "test_one_call")
 sys.path.append(BENCH)
 import memory  # noqa: E402
 
@@ -47,7 +47,7 @@ READ_FAULT = (3, b"", b"spki: read fault\n")
 WRITE_FAULT = (3, b"", b"spki: write fault\n")
 UNSAID_FAULT = (3, b"", b"")
 
-# The calls that may be refused memory. `one_call` runs the example of each.
+# The calls that may be refused memory. `test_one_call` runs the example of each.
 CALLS = (
     "decode", "encode", "read_any", "print_advanced", "wrap", "unwrap_braces", "Doc::open", "read_advanced",
     "Tag::read", "Ground::read", "Tag::meet", "Tag::write", "read_acl", "read_sequence", "read_key", "read_hash",
@@ -429,7 +429,7 @@ def main():
     if not os.access(path, os.X_OK):
         sys.exit(f"{path} is not there: build it by rt run in crates/spki")
     if not os.access(ONE_CALL, os.X_OK):
-        sys.exit(f"{ONE_CALL} is not there: build it by rt run in crates/one_call")
+        sys.exit(f"{ONE_CALL} is not there: build it by rt run in crates/test_one_call")
     lines, failed = [], 0
     with tempfile.TemporaryDirectory() as folder, ProcessPoolExecutor() as pool:
         program = Program(path, built(folder))

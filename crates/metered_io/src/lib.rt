@@ -1,10 +1,10 @@
 //! Readers and writers with a meter round them, a whole text read within a limit, and a whole output written.
 #![tactic(auto)]
 
+mod input;
 mod meters;
-mod reading;
-mod writing;
+mod output;
 
+pub use input::{ReadFault, read_whole};
 pub use meters::Metered;
-pub use reading::{ReadFault, read_whole};
-pub use writing::{WriteFault, write_whole};
+pub use output::{WriteFault, write_whole};

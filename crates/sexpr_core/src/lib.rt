@@ -1,11 +1,11 @@
 //! S-expressions (RFC 9804): canonical form, read into documents, owned trees, and the transport form.
 //!
-//! `reading` has what readers of other crates are built from, and `laws` what is proved of the definitions.
+//! `syntax` has what readers of other crates are built from, and `laws` what is proved of the definitions.
 #![tactic(auto)]
 
 mod braces;
 mod checker;
-mod copying;
+mod copies;
 mod document;
 mod equality;
 mod fault;
@@ -15,9 +15,9 @@ mod layout;
 mod numbers;
 mod owned;
 mod parser;
-pub mod reading;
 mod siblings;
 mod spaces;
+pub mod syntax;
 mod tree;
 mod writer;
 

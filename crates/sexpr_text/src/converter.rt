@@ -21,7 +21,7 @@ use crate::hinted::read_hinted_string;
 use crate::printer::{print_string, stands_in_token};
 use crate::strings::{read_string, token_end};
 use crate::whole::opens_braces;
-use sexpr_core::reading::{append_verbatim, ended, octet_at, octets_in_braces, skip_spaces};
+use sexpr_core::syntax::{append_verbatim, ended, octet_at, octets_in_braces, skip_spaces};
 use sexpr_core::{FormFault, MOST_LISTS, MOST_OCTETS};
 use std::alloc::{AllocError, Global};
 

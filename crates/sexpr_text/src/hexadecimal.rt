@@ -14,7 +14,7 @@ ghost use Rattle.sexpr_core.specs.Spaces.{visible};
 use crate::strings::MarkedString;
 use hex::FromHexError;
 use sexpr_core::FormFault;
-use sexpr_core::reading::{is_space, octet_at};
+use sexpr_core::syntax::{is_space, octet_at};
 use std::alloc::Global;
 
 #[derive(Drop)]

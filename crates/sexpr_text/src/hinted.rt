@@ -11,7 +11,7 @@ ghost use Rattle.sexpr_text.specs.Begun.{IsPartEnd, GoesValue, Anywhere, IsUnclo
 
 use crate::strings::read_string;
 use sexpr_core::FormFault;
-use sexpr_core::reading::{octet_at, skip_spaces};
+use sexpr_core::syntax::{octet_at, skip_spaces};
 use std::alloc::Global;
 use std::borrow::CowSlice;
 

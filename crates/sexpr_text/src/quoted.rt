@@ -13,7 +13,7 @@ ghost use Rattle.sexpr_text.specs.Unclosed.{OpensQuoted};
 
 use crate::strings::{MarkedString, ReadString};
 use sexpr_core::FormFault;
-use sexpr_core::reading::octet_at;
+use sexpr_core::syntax::octet_at;
 use std::alloc::Global;
 use std::borrow::CowSlice;
 

@@ -15,7 +15,7 @@ ghost use Rattle.sexpr_text.specs.Spelling.{IsSpelledWithin, IsTextWithin};
 use crate::hinted::{HintedString, read_hinted_string};
 use crate::strings::{ReadString, own, read_string};
 use crate::whole::opens_braces;
-use sexpr_core::reading::{ended, octet_at, skip_spaces};
+use sexpr_core::syntax::{ended, octet_at, skip_spaces};
 use sexpr_core::{Atom, FormFault, MOST_LISTS, MOST_OCTETS, Sexp, unwrap_braces};
 use std::alloc::Global;
 

@@ -14,7 +14,7 @@ ghost use Rattle.sexpr_core.specs.Reading.{StandsAt};
 use crate::hexadecimal::read_hexadecimal;
 use crate::printer::stands_in_token;
 use crate::quoted::{lend_quoted, read_quoted};
-use sexpr_core::reading::{Unpacked, octet_at, read_base64};
+use sexpr_core::syntax::{Unpacked, octet_at, read_base64};
 use sexpr_core::{FormFault, MOST_OCTETS};
 use std::alloc::{AllocError, Global};
 use std::borrow::CowSlice;

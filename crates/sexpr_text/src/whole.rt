@@ -2,7 +2,7 @@
 
 ghost use Rattle.std.specs.Prelude.{◌≡◌, ℕ, List, ◌≤◌, ◌↔◌, ◌∷◌, length, drop, IsTrue};
 
-use sexpr_core::reading::octet_at;
+use sexpr_core::syntax::octet_at;
 
 /// Whether an opening brace stands at an offset.
 pub(crate) fn opens_braces(text: &[u8], at: usize) -> bool

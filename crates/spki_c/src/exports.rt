@@ -6,7 +6,7 @@ ghost use Rattle.spki_guard.specs.Apart.{IsAnswerApart};
 ghost use Rattle.spki_c.specs.Numbers.{number_of, status_of, decided};
 ghost use Rattle.spki_c.specs.Handed.{IsHanded, IsMisuse, AnswersText};
 
-use crate::handing::{hand_over, misused};
+use crate::buffer::{hand_over, misused};
 use crate::numbers::{command_of, status_number};
 use spki_guard::{Command, answer_text, check_accepted};
 use std::alloc::Global;

@@ -2,8 +2,8 @@
 //! has verified. `spki.h` declares it, and says what a caller has to keep to.
 #![tactic(auto)]
 
+mod buffer;
 mod exports;
-mod handing;
 mod numbers;
 
 pub use exports::{spki_c_answer, spki_c_check_accepted};

@@ -5,11 +5,11 @@ ghost use Rattle.spki_case.specs.CaseForm.{CaseOf, ValueRefused, IsCaseText, Tex
 ghost use Rattle.spki_case.specs.Sequence.{AreSigned};
 ghost use Rattle.spki_case.specs.Texts.{IsOuter};
 
-use crate::digesting::{asking_key, digested_items, entry_algorithms};
+use crate::digests::{asking_key, digested_items, entry_algorithms};
 use crate::parts::parts_of;
 use crate::rows::table_of;
 use crate::table::AcceptedTable;
-use sexpr_core::reading::Node;
+use sexpr_core::syntax::Node;
 use sexpr_core::{Doc, FormFault};
 use spki_cert::{
     Algorithms, CertFault, CertFaultKind, Date, Entry, Key, Policy, SeqItem, acl_of, date_of,

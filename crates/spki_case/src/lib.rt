@@ -2,14 +2,14 @@
 #![tactic(auto)]
 
 mod cases;
-mod digesting;
+mod digests;
 pub mod laws;
 mod parts;
 mod rows;
 mod table;
-mod verifying;
+mod verifier;
 
 pub use cases::{Case, CaseFault};
 pub use rows::RowsFault;
 pub use table::{AcceptedTable, Row};
-pub use verifying::Verifier;
+pub use verifier::Verifier;

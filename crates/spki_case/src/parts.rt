@@ -7,7 +7,7 @@ ghost use Rattle.spki_case.specs.CaseForm as spec;
 ghost use Rattle.spki_case.specs.CaseForm.{case_value, part_values, policy_values};
 ghost use Rattle.spki_case.specs.Parts.{IsPart, IsNoPart, ArePartsOf};
 
-use sexpr_core::reading::{Members, Node};
+use sexpr_core::syntax::{Members, Node};
 use spki_cert::Policy;
 
 /// The parts of a case, behind their heads; the access list and the sequence stand with theirs.

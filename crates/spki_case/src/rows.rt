@@ -11,7 +11,7 @@ ghost use Rattle.spki_case.specs.Texts.{IsOuter};
 ghost use Rattle.spki_case.specs.RowsForm.{RowsOf, NoRows, IsRowsText, RowsTextRefused};
 
 use crate::table::{AcceptedTable, Row};
-use sexpr_core::reading::{Members, Node};
+use sexpr_core::syntax::{Members, Node};
 use sexpr_core::{Doc, FormFault};
 use spki_cert::{CertFault, CertFaultKind, HashAlg, Octets, hash_of, key_of};
 use std::alloc::Global;

@@ -11,7 +11,7 @@ use Rattle.spki_cert.specs.declared.fault.CertFaultKind.{CertFaultKind}
 use Rattle.spki_cert.specs.declared.fault.CertFaultKind.TheVariants.{Shape, UnsignedCert, StraySignature}
 use Rattle.spki_cert.specs.declared.principal.Principal.{Principal}
 use Rattle.spki_cert.specs.declared.principal.Principal.TheVariants.{Key, Hash}
-use Rattle.spki_cert.specs.declared.issuing.CertParts.{CertParts}
+use Rattle.spki_cert.specs.declared.certificate_reader.CertParts.{CertParts}
 use Rattle.spki_cert.specs.Subjects.{PrincipalOf, IssuerOf}
 use Rattle.spki_cert.specs.Fields.{is_headed, behind_head, contents, Sole, propagates}
 use Rattle.spki_cert.specs.Certificates.{IssuedBy}

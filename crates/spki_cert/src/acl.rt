@@ -16,10 +16,10 @@ use crate::entry::{Entry, Subject};
 use crate::fault::{CertFault, CertFaultKind};
 use crate::fields::{Fields, Known, Place, fields_of};
 use crate::names::Names;
-use crate::naming::{Who, who_of};
+use crate::principal_reader::{Who, who_of};
 use crate::validity::one_way;
 use crate::version::check_version;
-use sexpr_core::reading::{Members, Node};
+use sexpr_core::syntax::{Members, Node};
 use sexpr_core::{Doc, NodeId};
 use std::alloc::Global;
 

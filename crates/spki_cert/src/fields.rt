@@ -14,12 +14,12 @@ ghost use Rattle.spki_cert.specs.Inner.Gathering.{fault_in, IsTagKind, IssuerAt,
 
 use crate::date::Date;
 use crate::fault::CertFaultKind;
-use crate::naming::{Issuer, Who, issuer_of, who_of};
 use crate::octets::Octets;
+use crate::principal_reader::{Issuer, Who, issuer_of, who_of};
 use crate::validity::{date_in, valid_in};
 use crate::version::check_version;
 use crate::window::Window;
-use sexpr_core::reading::{Members, Node};
+use sexpr_core::syntax::{Members, Node};
 use spki_tag::{Tag, TagFault};
 use std::alloc::Global;
 

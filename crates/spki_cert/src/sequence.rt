@@ -12,11 +12,11 @@ ghost use Rattle.spki_cert.specs.ItemFaults.{item_fault};
 ghost use Rattle.spki_cert.specs.Inner.Gathering.{IsMisplaced};
 
 use crate::certificate::SeqItem;
+use crate::certificate_reader::cert_of;
 use crate::fault::{CertFault, CertFaultKind};
-use crate::issuing::cert_of;
-use crate::reading::key_of;
 use crate::signature::{do_hash_of, signature_of};
-use sexpr_core::reading::{Members, Node};
+use crate::value_readers::key_of;
+use sexpr_core::syntax::{Members, Node};
 use sexpr_core::{Doc, NodeId};
 use std::alloc::Global;
 

@@ -10,10 +10,10 @@ ghost use Rattle.spki_cert.specs.Certificates.{SignatureOf, DoHashOf};
 use crate::certificate::Signature;
 use crate::fault::CertFaultKind;
 use crate::hash::HashAlg;
-use crate::naming::principal_of;
 use crate::octets::Octets;
-use crate::reading::{algorithm_of, hash_of};
-use sexpr_core::reading::Node;
+use crate::principal_reader::principal_of;
+use crate::value_readers::{algorithm_of, hash_of};
+use sexpr_core::syntax::Node;
 
 /// The signature that a node is.
 pub(crate) fn signature_of<'a>(node: &Node<'_, 'a>) -> Result<Signature<'a>, CertFaultKind>

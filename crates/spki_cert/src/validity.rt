@@ -13,9 +13,9 @@ ghost use Rattle.spki_cert.specs.Inner.Gathering.{LimitLook, AddsLimit, HasLimit
 
 use crate::date::Date;
 use crate::fault::CertFaultKind;
-use crate::reading::date_of;
+use crate::value_readers::date_of;
 use crate::window::Window;
-use sexpr_core::reading::{Members, Node};
+use sexpr_core::syntax::{Members, Node};
 
 /// The one date that stands behind the head of a limit.
 pub(crate) fn date_in(members: Members) -> Result<Date, CertFaultKind>

@@ -8,7 +8,7 @@ ghost use Rattle.spki_cert.specs.FieldFaults.{version_fault};
 ghost use Rattle.spki_cert.specs.Inner.Gathering.{IsVersionFault};
 
 use crate::fault::CertFaultKind;
-use sexpr_core::reading::{Members, NodeKind};
+use sexpr_core::syntax::{Members, NodeKind};
 
 /// Reads what stands behind the head `version`: the string 0 alone.
 pub(crate) fn check_version(members: Members) -> Result<(), CertFaultKind>

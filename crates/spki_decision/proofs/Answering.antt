@@ -8,9 +8,9 @@ use Rattle.spki_cert.specs.declared.certificate.SeqItem.{SeqItem}
 use Rattle.spki_case.specs.Case.{Verified}
 use Rattle.spki_case.specs.Sequence.{Shown, keys_of, certificates}
 use Rattle.spki_reduce.specs.Views.{step_tuple}
-use Rattle.spki_decision.specs.declared.judging.Evidence.{Evidence}
-use Rattle.spki_decision.specs.declared.judging.Evidence.TheVariants as evidence
-use Rattle.spki_decision.specs.declared.judging.Stop.TheVariants.{NotAccepted}
+use Rattle.spki_decision.specs.declared.evidence.Evidence.{Evidence}
+use Rattle.spki_decision.specs.declared.evidence.Evidence.TheVariants as evidence
+use Rattle.spki_decision.specs.declared.evidence.Stop.TheVariants.{NotAccepted}
 use Rattle.spki_decision.specs.Standing.{Stands, FailsBy, FailsAt}
 use Rattle.spki_decision.specs.Judged.{IsEvidence}
 use Rattle.spki_decision.specs.declared.signed.Signed as examined

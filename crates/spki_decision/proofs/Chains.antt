@@ -8,7 +8,7 @@ use Rattle.spki_reduce.specs.declared.tuple.Step.{Step}
 use Rattle.spki_reduce.specs.Tuples.{Tuple}
 use Rattle.spki_reduce.specs.Views.{step_tuple}
 use Rattle.spki_decision.specs.declared.certificates.ShownCert.{ShownCert}
-use Rattle.spki_decision.specs.declared.judging.Stop.{Stop}
+use Rattle.spki_decision.specs.declared.evidence.Stop.{Stop}
 use Rattle.spki_case.specs.Case.{Verified}
 use Rattle.spki_case.specs.Sequence.{AreSigned, Shown, certificates, keys_of}
 use Rattle.spki_decision.specs.Standing.{tuple_of}

@@ -8,8 +8,8 @@ use Rattle.spki_reduce.specs.Chain.{TooLargeAt}
 use Rattle.spki_reduce.proofs.Chains.{too_large as large}
 use Rattle.spki_case.specs.Case.{Case, Verified}
 use Rattle.spki_case.specs.Sequence.{keys_of, certificates}
-use Rattle.spki_decision.specs.declared.deciding.Decision.{Decision}
-use Rattle.spki_decision.specs.declared.deciding.Decision.TheVariants.{Yes, No}
+use Rattle.spki_decision.specs.declared.decision.Decision.{Decision}
+use Rattle.spki_decision.specs.declared.decision.Decision.TheVariants.{Yes, No}
 use Rattle.spki_decision.specs.Standing.{AreShown}
 use Rattle.spki_decision.specs.Supported.{Supported, NoneBefore, Names, HasLarge, SmallBefore, SmallUpTo}
 use Rattle.spki_decision.specs.Granted.{Granted, IsTooLarge}

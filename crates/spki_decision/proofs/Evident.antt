@@ -6,8 +6,8 @@ use Rattle.spki_cert.specs.declared.certificate.Signature as signature
 use Rattle.spki_cert.specs.declared.certificate.SeqItem.{SeqItem}
 use Rattle.spki_cert.specs.Naming.{names, is_digest}
 use Rattle.spki_reduce.specs.Tuples.{Tuple}
-use Rattle.spki_decision.specs.declared.judging.Stop.TheVariants.{KeyNotShown, DigestDiffers, SignerDiffers, NotAccepted}
-use Rattle.spki_decision.specs.declared.judging.Stop.{Stop}
+use Rattle.spki_decision.specs.declared.evidence.Stop.TheVariants.{KeyNotShown, DigestDiffers, SignerDiffers, NotAccepted}
+use Rattle.spki_decision.specs.declared.evidence.Stop.{Stop}
 use Rattle.spki_case.specs.Case.{Verified}
 use Rattle.spki_case.specs.Sequence.{Shown, issuer_of, octets_of, keys_of}
 use Rattle.spki_decision.specs.Standing.{issuer_key, tuple_of}

@@ -6,14 +6,14 @@ use Rattle.spki_case.specs.Case.{Case, Verified, accepted_by}
 use Rattle.spki_case.specs.CaseForm.{IsCaseText}
 use Rattle.spki_case.specs.Sequence.{keys_of, certificates}
 use Rattle.spki_case.proofs.OneCase.{text-one}
-use Rattle.spki_decision.specs.declared.deciding.Decision.{Decision}
-use Rattle.spki_decision.specs.declared.deciding.Decision.TheVariants.{Yes, No}
-use Rattle.spki_decision.specs.declared.deciding.GuardFault.{GuardFault}
-use Rattle.spki_decision.specs.declared.deciding.GuardFault.TheVariants.{TooLarge, Memory}
-use Rattle.spki_decision.specs.declared.explaining.Explanation.{Explanation}
-use Rattle.spki_decision.specs.declared.explaining.Explanation.TheVariants as explanation
-use Rattle.spki_decision.specs.declared.reducing.Reduction.{Reduction}
-use Rattle.spki_decision.specs.declared.reducing.Reduction.TheVariants as reduction
+use Rattle.spki_decision.specs.declared.decision.Decision.{Decision}
+use Rattle.spki_decision.specs.declared.decision.Decision.TheVariants.{Yes, No}
+use Rattle.spki_decision.specs.declared.fault.GuardFault.{GuardFault}
+use Rattle.spki_decision.specs.declared.fault.GuardFault.TheVariants.{TooLarge, Memory}
+use Rattle.spki_decision.specs.declared.explanation.Explanation.{Explanation}
+use Rattle.spki_decision.specs.declared.explanation.Explanation.TheVariants as explanation
+use Rattle.spki_decision.specs.declared.reduction.Reduction.{Reduction}
+use Rattle.spki_decision.specs.declared.reduction.Reduction.TheVariants as reduction
 use Rattle.spki_decision.specs.Standing.{AreShown}
 use Rattle.spki_decision.specs.Supported.{AllSmall}
 use Rattle.spki_decision.specs.Granted.{IsFirstGranted, IsTooLarge}

@@ -20,12 +20,12 @@ use Rattle.spki_reduce.proofs.Lacking.{never}
 use Rattle.spki_reduce.proofs.Through.{HasTag, AreTagged, unstopped, one_stop}
 use Rattle.spki_case.specs.Case.{Case, Verified}
 use Rattle.spki_case.specs.Sequence.{Certificate, auth, name, Shown, issuer_of, keys_of, certificates}
-use Rattle.spki_decision.specs.declared.explaining.Explanation.{Explanation}
-use Rattle.spki_decision.specs.declared.explaining.Explanation.TheVariants.{Evidence, Entries}
-use Rattle.spki_decision.specs.declared.explaining.Reason.{Reason}
-use Rattle.spki_decision.specs.declared.explaining.Reason.TheVariants.{Grants, NotTheKey, TagLacks, WindowLacks, Stopped}
-use Rattle.spki_decision.specs.declared.judging.Stop.TheVariants.{KeyNotShown, DigestDiffers, SignerDiffers, NotAccepted}
-use Rattle.spki_decision.specs.declared.judging.Stop.{Stop}
+use Rattle.spki_decision.specs.declared.explanation.Explanation.{Explanation}
+use Rattle.spki_decision.specs.declared.explanation.Explanation.TheVariants.{Evidence, Entries}
+use Rattle.spki_decision.specs.declared.explanation.Reason.{Reason}
+use Rattle.spki_decision.specs.declared.explanation.Reason.TheVariants.{Grants, NotTheKey, TagLacks, WindowLacks, Stopped}
+use Rattle.spki_decision.specs.declared.evidence.Stop.TheVariants.{KeyNotShown, DigestDiffers, SignerDiffers, NotAccepted}
+use Rattle.spki_decision.specs.declared.evidence.Stop.{Stop}
 use Rattle.spki_decision.specs.Standing.{issuer_key, tuple_of, Stands, StandsAs, FailsBy, FailsAt}
 use Rattle.spki_decision.specs.Reduced.{StopsAtItem}
 use Rattle.spki_decision.specs.Explained.{LacksFirst, IsReason, reason_of, AreReasons, IsExplanation, IsSameExplanation}

@@ -11,10 +11,10 @@ use Rattle.spki_reduce.proofs.OneFold.{one_fold}
 use Rattle.spki_reduce.proofs.Through.{AreTagged, becomes_nothing}
 use Rattle.spki_case.specs.Case.{Case, Verified}
 use Rattle.spki_case.specs.Sequence.{keys_of, certificates}
-use Rattle.spki_decision.specs.declared.reducing.EntryFold.{EntryFold}
-use Rattle.spki_decision.specs.declared.reducing.EntryFold.TheVariants.{Done, Stopped}
-use Rattle.spki_decision.specs.declared.reducing.Reduction.{Reduction}
-use Rattle.spki_decision.specs.declared.reducing.Reduction.TheVariants.{Evidence, Entries}
+use Rattle.spki_decision.specs.declared.reduction.EntryFold.{EntryFold}
+use Rattle.spki_decision.specs.declared.reduction.EntryFold.TheVariants.{Done, Stopped}
+use Rattle.spki_decision.specs.declared.reduction.Reduction.{Reduction}
+use Rattle.spki_decision.specs.declared.reduction.Reduction.TheVariants.{Evidence, Entries}
 use Rattle.spki_decision.specs.Reduced.{IsEntryFold, AreFolds, IsReduction, IsSameReduction, IsDated, AreDated}
 use Rattle.spki_decision.proofs.Evident.{one_list}
 use Rattle.spki_decision.proofs.OneExplanation.{one_failure, are_tagged, one_item}

@@ -17,13 +17,13 @@ use Rattle.spki_reduce.proofs.Bracketing.{from_left-leaves, one_root}
 use Rattle.spki_reduce.proofs.Chains.{unsupported}
 use Rattle.spki_reduce.proofs.Lacking.{never}
 use Rattle.spki_case.specs.Case.{Case, Verified}
-use Rattle.spki_decision.specs.declared.deciding.Decision.{Decision}
-use Rattle.spki_decision.specs.declared.deciding.Decision.TheVariants.{Yes, No}
-use Rattle.spki_decision.specs.declared.explaining.Explanation.{Explanation}
-use Rattle.spki_decision.specs.declared.explaining.Explanation.TheVariants.{Evidence, Entries}
-use Rattle.spki_decision.specs.declared.explaining.Reason.{Reason}
-use Rattle.spki_decision.specs.declared.explaining.Reason.TheVariants.{Grants, NotTheKey, TagLacks, WindowLacks, Stopped}
-use Rattle.spki_decision.specs.declared.judging.Stop.{Stop}
+use Rattle.spki_decision.specs.declared.decision.Decision.{Decision}
+use Rattle.spki_decision.specs.declared.decision.Decision.TheVariants.{Yes, No}
+use Rattle.spki_decision.specs.declared.explanation.Explanation.{Explanation}
+use Rattle.spki_decision.specs.declared.explanation.Explanation.TheVariants.{Evidence, Entries}
+use Rattle.spki_decision.specs.declared.explanation.Reason.{Reason}
+use Rattle.spki_decision.specs.declared.explanation.Reason.TheVariants.{Grants, NotTheKey, TagLacks, WindowLacks, Stopped}
+use Rattle.spki_decision.specs.declared.evidence.Stop.{Stop}
 use Rattle.spki_decision.specs.Standing.{AreShown}
 use Rattle.spki_decision.specs.Supported.{Supported, AllSmall}
 use Rattle.spki_decision.specs.Granted.{Granted}

@@ -15,7 +15,7 @@ use Rattle.spki_reduce.specs.Chain.{tuples_of, StopsAt, TooLargeAt, Excludes}
 use Rattle.spki_reduce.proofs.Chains.{too_large}
 use Rattle.spki_case.specs.Case.{Case, Verified}
 use Rattle.spki_case.specs.Sequence.{Shown, certificates, keys_of}
-use Rattle.spki_decision.specs.declared.judging.Stop.{Stop}
+use Rattle.spki_decision.specs.declared.evidence.Stop.{Stop}
 use Rattle.spki_decision.specs.Standing.{AreShown, StandsAs, FailsAt}
 use Rattle.spki_decision.specs.Reduced.{IsFailure, StopsAtItem, HasLargeTags}
 use Rattle.spki_decision.specs.Supported.{SmallBefore}

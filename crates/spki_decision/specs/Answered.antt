@@ -1,11 +1,11 @@
 -- What is answered of a case, memory apart: what decide, explain and reduce_case promise of each answer but Memory.
 use Rattle.std.specs.Prelude.{◌≡◌, Result, Ok, Err}
 use Rattle.spki_case.specs.Case.{Case, Verified}
-use Rattle.spki_decision.specs.declared.deciding.Decision.{Decision}
-use Rattle.spki_decision.specs.declared.deciding.GuardFault.{GuardFault}
-use Rattle.spki_decision.specs.declared.deciding.GuardFault.TheVariants.{TooLarge, Memory}
-use Rattle.spki_decision.specs.declared.explaining.Explanation.{Explanation}
-use Rattle.spki_decision.specs.declared.reducing.Reduction.{Reduction}
+use Rattle.spki_decision.specs.declared.decision.Decision.{Decision}
+use Rattle.spki_decision.specs.declared.fault.GuardFault.{GuardFault}
+use Rattle.spki_decision.specs.declared.fault.GuardFault.TheVariants.{TooLarge, Memory}
+use Rattle.spki_decision.specs.declared.explanation.Explanation.{Explanation}
+use Rattle.spki_decision.specs.declared.reduction.Reduction.{Reduction}
 use Rattle.spki_decision.specs.Decision.{IsDecision, IsUnrefused}
 use Rattle.spki_decision.specs.Granted.{IsTooLarge}
 use Rattle.spki_decision.specs.Explained.{IsExplanation}

@@ -1,7 +1,7 @@
 -- The model's answer that a decision is.
 use Rattle.std.specs.Prelude.{List}
-use Rattle.spki_decision.specs.declared.deciding.Decision.{Decision}
-use Rattle.spki_decision.specs.declared.deciding.Decision.TheVariants.{Yes, No}
+use Rattle.spki_decision.specs.declared.decision.Decision.{Decision}
+use Rattle.spki_decision.specs.declared.decision.Decision.TheVariants.{Yes, No}
 use Rattle.spki_case.specs.Case.{Case, Verified}
 use Rattle.spki_decision.specs.Granted.{IsFirstGranted, IsNoneGranted}
 use Rattle.spki_decision.specs.Standing.{AreShown}

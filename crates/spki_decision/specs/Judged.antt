@@ -3,8 +3,8 @@ use Rattle.std.specs.Prelude.{◌≡◌, List, map}
 use Rattle.spki_cert.specs.declared.principal.Policy.{Policy}
 use Rattle.spki_cert.specs.declared.certificate.SeqItem.{SeqItem}
 use Rattle.spki_reduce.specs.Views.{step_tuple}
-use Rattle.spki_decision.specs.declared.judging.Evidence.{Evidence}
-use Rattle.spki_decision.specs.declared.judging.Evidence.TheVariants.{Stands, Fails}
+use Rattle.spki_decision.specs.declared.evidence.Evidence.{Evidence}
+use Rattle.spki_decision.specs.declared.evidence.Evidence.TheVariants.{Stands, Fails}
 use Rattle.spki_case.specs.Case.{Verified}
 use Rattle.spki_case.specs.Sequence.{certificates}
 use Rattle.spki_decision.specs.Standing.{AreShown, FailsAt}

@@ -8,9 +8,9 @@ use Rattle.spki_reduce.specs.Tuples.{Issuer, own, key, Tuple, five, four}
 use Rattle.spki_case.specs.Case.{Case, Verified}
 use Rattle.spki_decision.specs.Standing.{AreShown}
 use Rattle.spki_decision.specs.Views.{with_entries}
-use Rattle.spki_decision.specs.declared.deciding.Decision.{Decision}
-use Rattle.spki_decision.specs.declared.deciding.Decision.TheVariants.{Yes, No}
-use Rattle.spki_decision.specs.declared.deciding.GuardFault.{GuardFault}
+use Rattle.spki_decision.specs.declared.decision.Decision.{Decision}
+use Rattle.spki_decision.specs.declared.decision.Decision.TheVariants.{Yes, No}
+use Rattle.spki_decision.specs.declared.fault.GuardFault.{GuardFault}
 
 abbrev pub key_of : Issuer → Option (List ℕ)
 key_of own = None

@@ -10,11 +10,11 @@ use Rattle.spki_reduce.specs.Restrictions.{nodes_product}
 use Rattle.spki_reduce.specs.Chain.{FoldsTo, HasMet, StopsAt, TooLargeAt, Excludes, all_tags}
 use Rattle.spki_case.specs.Case.{Case, Verified}
 use Rattle.spki_case.specs.Sequence.{Shown, certificates}
-use Rattle.spki_decision.specs.declared.judging.Stop.{Stop}
-use Rattle.spki_decision.specs.declared.reducing.EntryFold.{EntryFold}
-use Rattle.spki_decision.specs.declared.reducing.EntryFold.TheVariants.{Done, Stopped}
-use Rattle.spki_decision.specs.declared.reducing.Reduction.{Reduction}
-use Rattle.spki_decision.specs.declared.reducing.Reduction.TheVariants.{Evidence, Entries}
+use Rattle.spki_decision.specs.declared.evidence.Stop.{Stop}
+use Rattle.spki_decision.specs.declared.reduction.EntryFold.{EntryFold}
+use Rattle.spki_decision.specs.declared.reduction.EntryFold.TheVariants.{Done, Stopped}
+use Rattle.spki_decision.specs.declared.reduction.Reduction.{Reduction}
+use Rattle.spki_decision.specs.declared.reduction.Reduction.TheVariants.{Evidence, Entries}
 use Rattle.spki_decision.specs.Standing.{AreShown, FailsAt}
 use Rattle.spki_decision.specs.Supported.{AllSmall}
 

@@ -1,8 +1,8 @@
 -- Why a case isn't decided, where a reduction is refused.
 use Rattle.spki_reduce.specs.declared.fault.ReduceFault.{ReduceFault}
 use Rattle.spki_reduce.specs.declared.fault.ReduceFault.TheVariants as reduce
-use Rattle.spki_decision.specs.declared.deciding.GuardFault.{GuardFault}
-use Rattle.spki_decision.specs.declared.deciding.GuardFault.TheVariants.{TooLarge, Memory}
+use Rattle.spki_decision.specs.declared.fault.GuardFault.{GuardFault}
+use Rattle.spki_decision.specs.declared.fault.GuardFault.TheVariants.{TooLarge, Memory}
 
 abbrev pub guard_fault : ReduceFault → GuardFault
 guard_fault reduce.TooLarge = TooLarge

@@ -9,8 +9,8 @@ use Rattle.spki_cert.specs.declared.certificate.SeqItem.{SeqItem}
 use Rattle.spki_cert.specs.Naming.{names, is_digest}
 use Rattle.spki_reduce.specs.Tuples.{Tuple, five, four}
 use Rattle.spki_reduce.specs.Views.{auth_tuple, name_tuple}
-use Rattle.spki_decision.specs.declared.judging.Stop.{Stop}
-use Rattle.spki_decision.specs.declared.judging.Stop.TheVariants.{KeyNotShown, DigestDiffers, SignerDiffers, NotAccepted}
+use Rattle.spki_decision.specs.declared.evidence.Stop.{Stop}
+use Rattle.spki_decision.specs.declared.evidence.Stop.TheVariants.{KeyNotShown, DigestDiffers, SignerDiffers, NotAccepted}
 use Rattle.spki_case.specs.Case.{Verified}
 use Rattle.spki_case.specs.Sequence.{Certificate, auth, name, Shown, issuer_of, octets_of, keys_of, certificates}
 

@@ -6,8 +6,8 @@ use Rattle.spki_reduce.specs.Views.{entry_tuple}
 use Rattle.spki_reduce.specs.Chain.{TooLargeAt}
 use Rattle.spki_reduce.specs.LastTests.{IsSupported}
 use Rattle.spki_case.specs.Case.{Case}
-use Rattle.spki_decision.specs.declared.deciding.Decision.{Decision}
-use Rattle.spki_decision.specs.declared.deciding.Decision.TheVariants.{Yes, No}
+use Rattle.spki_decision.specs.declared.decision.Decision.{Decision}
+use Rattle.spki_decision.specs.declared.decision.Decision.TheVariants.{Yes, No}
 
 -- what an entry and the certificates derive, in some bracketing, is what is asked
 abbrev pub Supported : Case → List Tuple → Entry → Type 0

@@ -8,8 +8,8 @@ ghost use Rattle.spki_decision.specs.Judged.{IsEvidence};
 ghost use Rattle.spki_decision.specs.Steps.{IsTested};
 
 use crate::certificates::{ShownCert, certificates_of};
-use crate::holder::keys_of;
-use crate::judging::{Evidence, Stop};
+use crate::evidence::{Evidence, Stop};
+use crate::named_key::keys_of;
 use crate::shown_keys::ShownKeys;
 use crate::signed::Signed;
 use spki_cert::{Octets, Policy, SeqItem};

@@ -3,11 +3,11 @@
 ghost use Rattle.std.specs.Prelude.{◌≡◌, ℕ, List, Result, Ok, Some, slice_get};
 ghost use Rattle.spki_case.specs.Case.{Case, accepted_by};
 ghost use Rattle.spki_case.specs.CaseForm.{IsCaseText};
-ghost use Rattle.spki_decision.specs.declared.deciding.Decision.{Decision};
-ghost use Rattle.spki_decision.specs.declared.deciding.Decision.TheVariants.{No};
-ghost use Rattle.spki_decision.specs.declared.deciding.GuardFault.{GuardFault};
-ghost use Rattle.spki_decision.specs.declared.explaining.Explanation.{Explanation};
-ghost use Rattle.spki_decision.specs.declared.reducing.Reduction.{Reduction};
+ghost use Rattle.spki_decision.specs.declared.decision.Decision.{Decision};
+ghost use Rattle.spki_decision.specs.declared.decision.Decision.TheVariants.{No};
+ghost use Rattle.spki_decision.specs.declared.fault.GuardFault.{GuardFault};
+ghost use Rattle.spki_decision.specs.declared.explanation.Explanation.{Explanation};
+ghost use Rattle.spki_decision.specs.declared.reduction.Reduction.{Reduction};
 ghost use Rattle.spki_decision.specs.Granted.{Granted, IsTooLarge, strict, opened};
 ghost use Rattle.spki_decision.specs.Decision.{IsDecision, IsUnrefused};
 ghost use Rattle.spki_decision.specs.Reduced.{IsSameReduction};

@@ -3,22 +3,24 @@
 #![tactic(auto)]
 
 mod certificates;
-mod deciding;
+mod decision;
+mod entry_chain;
+mod evidence;
 mod examination;
-mod explaining;
-mod folding;
-mod holder;
-mod judging;
+mod explanation;
+mod fault;
 pub mod laws;
-mod reducing;
+mod named_key;
+mod reduction;
 mod shown_keys;
 mod signed;
 
 pub use certificates::{Certificate, ShownCert, certificates_of};
-pub use deciding::{Decision, GuardFault, decide, first_granted};
+pub use decision::{Decision, decide, first_granted};
+pub use evidence::{Evidence, Stop, first_refused, judge};
 pub use examination::{Examined, examine};
-pub use explaining::{Explanation, Reason, entry_reasons, explain};
-pub use holder::{first_named, keys_of};
-pub use judging::{Evidence, Stop, first_refused, judge};
-pub use reducing::{EntryFold, Reduction, entry_folds, reduce_case};
+pub use explanation::{Explanation, Reason, entry_reasons, explain};
+pub use fault::GuardFault;
+pub use named_key::{first_named, keys_of};
+pub use reduction::{EntryFold, Reduction, entry_folds, reduce_case};
 pub use signed::Signed;

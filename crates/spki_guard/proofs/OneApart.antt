@@ -11,8 +11,8 @@ use Rattle.spki_case.specs.declared.rows.RowsFault.TheVariants as rows_faults
 use Rattle.spki_case.proofs.OneFault.{one-rows_fault}
 use Rattle.spki_case.proofs.OneCase.{text-one}
 use Rattle.spki_case.proofs.Unrefused.{case_unrefused, rows_unrefused, one_list, one_text, well_formed}
-use Rattle.spki_decision.specs.declared.deciding.Decision.{Decision}
-use Rattle.spki_decision.specs.declared.deciding.GuardFault.{GuardFault}
+use Rattle.spki_decision.specs.declared.decision.Decision.{Decision}
+use Rattle.spki_decision.specs.declared.fault.GuardFault.{GuardFault}
 use Rattle.spki_decision.specs.Granted.{IsTooLarge}
 use Rattle.spki_decision.specs.Answered.{IsDecided}
 use Rattle.spki_decision.proofs.OneDecision.{decided_one, of_text}

@@ -15,17 +15,17 @@ use Rattle.spki_case.proofs.Building.{behind_head}
 use Rattle.spki_case.proofs.OneCase.{text-one}
 use Rattle.spki_case.proofs.Unrefused.{one_text, well_formed, case_unrefused}
 use Rattle.spki_reduce.proofs.OneFive.{written_one}
-use Rattle.spki_decision.specs.declared.deciding.Decision.{Decision}
-use Rattle.spki_decision.specs.declared.deciding.Decision.TheVariants as decision
-use Rattle.spki_decision.specs.declared.deciding.GuardFault.{GuardFault}
-use Rattle.spki_decision.specs.declared.deciding.GuardFault.TheVariants.{TooLarge}
-use Rattle.spki_decision.specs.declared.reducing.Reduction.{Reduction}
-use Rattle.spki_decision.specs.declared.reducing.Reduction.TheVariants as reduction
-use Rattle.spki_decision.specs.declared.reducing.EntryFold.{EntryFold}
-use Rattle.spki_decision.specs.declared.reducing.EntryFold.TheVariants as folded
-use Rattle.spki_decision.specs.declared.explaining.Explanation.{Explanation}
-use Rattle.spki_decision.specs.declared.explaining.Explanation.TheVariants as explanation
-use Rattle.spki_decision.specs.declared.explaining.Reason.{Reason}
+use Rattle.spki_decision.specs.declared.decision.Decision.{Decision}
+use Rattle.spki_decision.specs.declared.decision.Decision.TheVariants as decision
+use Rattle.spki_decision.specs.declared.fault.GuardFault.{GuardFault}
+use Rattle.spki_decision.specs.declared.fault.GuardFault.TheVariants.{TooLarge}
+use Rattle.spki_decision.specs.declared.reduction.Reduction.{Reduction}
+use Rattle.spki_decision.specs.declared.reduction.Reduction.TheVariants as reduction
+use Rattle.spki_decision.specs.declared.reduction.EntryFold.{EntryFold}
+use Rattle.spki_decision.specs.declared.reduction.EntryFold.TheVariants as folded
+use Rattle.spki_decision.specs.declared.explanation.Explanation.{Explanation}
+use Rattle.spki_decision.specs.declared.explanation.Explanation.TheVariants as explanation
+use Rattle.spki_decision.specs.declared.explanation.Reason.{Reason}
 use Rattle.spki_decision.specs.Explained.{IsSameExplanation}
 use Rattle.spki_decision.specs.Reduced.{IsSameReduction}
 use Rattle.spki_decision.specs.Answered.{IsDecided, IsExplained, IsReduced, AreSame}

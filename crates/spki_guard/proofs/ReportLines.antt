@@ -1,7 +1,7 @@
 -- The lines of entries' chains, one behind another.
 use Rattle.std.proofs.Common.{◌≡◌, ℕ, suc, ◌+◌, ◌<◌, List, [], ◌∷◌, ◌++◌, length, drop, get_or, refl, sym, ap, ◌∙◌, append_assoc, append-nil, arith}
 use Rattle.std.proofs.lemmas.List.{drop_more}
-use Rattle.spki_decision.specs.declared.reducing.EntryFold.{EntryFold}
+use Rattle.spki_decision.specs.declared.reduction.EntryFold.{EntryFold}
 use Rattle.spki_guard.specs.Reports.{IsFoldLine, AreFoldLines}
 
 -- These lines, and those of the folds from place k on, are the lines of all.

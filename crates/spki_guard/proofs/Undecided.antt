@@ -5,8 +5,8 @@ use Rattle.sexpr_core.specs.Value.{Value, canon}
 use Rattle.spki_case.specs.Case.{Case, accepted_by}
 use Rattle.spki_case.specs.CaseForm.{IsCaseText}
 use Rattle.spki_case.specs.Texts.{IsOuter}
-use Rattle.spki_decision.specs.declared.deciding.GuardFault.{GuardFault}
-use Rattle.spki_decision.specs.declared.deciding.GuardFault.TheVariants as guard
+use Rattle.spki_decision.specs.declared.fault.GuardFault.{GuardFault}
+use Rattle.spki_decision.specs.declared.fault.GuardFault.TheVariants as guard
 use Rattle.spki_words.specs.declared.commands.Command.{Command}
 use Rattle.spki_guard.specs.declared.answers.Refusal.{Refusal}
 use Rattle.spki_guard.specs.declared.answers.Refusal.TheVariants as refusals

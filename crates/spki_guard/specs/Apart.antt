@@ -9,9 +9,9 @@ use Rattle.spki_case.specs.declared.cases.CaseFault.{CaseFault}
 use Rattle.spki_case.specs.RowsForm.{IsRowsText, RowsTextRefused, stated_by}
 use Rattle.spki_case.specs.declared.rows.RowsFault.{RowsFault}
 use Rattle.spki_case.specs.declared.rows.RowsFault.TheVariants as rows_faults
-use Rattle.spki_decision.specs.declared.deciding.Decision.{Decision}
-use Rattle.spki_decision.specs.declared.deciding.GuardFault.{GuardFault}
-use Rattle.spki_decision.specs.declared.deciding.GuardFault.TheVariants as guard
+use Rattle.spki_decision.specs.declared.decision.Decision.{Decision}
+use Rattle.spki_decision.specs.declared.fault.GuardFault.{GuardFault}
+use Rattle.spki_decision.specs.declared.fault.GuardFault.TheVariants as guard
 use Rattle.spki_decision.specs.Decision.{IsDecision, IsUnrefused}
 use Rattle.spki_decision.specs.Granted.{IsTooLarge}
 use Rattle.spki_guard.specs.declared.answers.Refusal.{Refusal}

@@ -11,14 +11,14 @@ use Rattle.spki_case.specs.declared.cases.CaseFault.{CaseFault}
 use Rattle.spki_case.specs.declared.cases.CaseFault.TheVariants as faults
 use Rattle.spki_case.specs.declared.rows.RowsFault.{RowsFault}
 use Rattle.spki_case.specs.declared.rows.RowsFault.TheVariants as rows
-use Rattle.spki_decision.specs.declared.deciding.GuardFault.{GuardFault}
-use Rattle.spki_decision.specs.declared.deciding.GuardFault.TheVariants as guard
+use Rattle.spki_decision.specs.declared.fault.GuardFault.{GuardFault}
+use Rattle.spki_decision.specs.declared.fault.GuardFault.TheVariants as guard
 use Rattle.spki_reduce.specs.declared.fold.Cause.{Cause}
 use Rattle.spki_reduce.specs.declared.fold.Cause.TheVariants as cause
-use Rattle.spki_decision.specs.declared.judging.Stop.{Stop}
-use Rattle.spki_decision.specs.declared.judging.Stop.TheVariants as stop
-use Rattle.spki_decision.specs.declared.explaining.Reason.{Reason}
-use Rattle.spki_decision.specs.declared.explaining.Reason.TheVariants as reason
+use Rattle.spki_decision.specs.declared.evidence.Stop.{Stop}
+use Rattle.spki_decision.specs.declared.evidence.Stop.TheVariants as stop
+use Rattle.spki_decision.specs.declared.explanation.Reason.{Reason}
+use Rattle.spki_decision.specs.declared.explanation.Reason.TheVariants as reason
 use Rattle.spki_guard.specs.declared.intersection.IntersectFault.{IntersectFault}
 use Rattle.spki_guard.specs.declared.intersection.IntersectFault.TheVariants as intersect
 

@@ -3,14 +3,14 @@ use Rattle.std.specs.Prelude.{◌≡◌, ℕ, suc, Bool, true, false, ◌||◌, 
 use Rattle.sexpr_core.specs.Value.{Value}
 use Rattle.sexpr_text.specs.Printed.{adv}
 use Rattle.spki_reduce.specs.Written.{IsWrittenFive}
-use Rattle.spki_decision.specs.declared.reducing.Reduction.{Reduction}
-use Rattle.spki_decision.specs.declared.reducing.Reduction.TheVariants as reduction
-use Rattle.spki_decision.specs.declared.reducing.EntryFold.{EntryFold}
-use Rattle.spki_decision.specs.declared.reducing.EntryFold.TheVariants as folded
-use Rattle.spki_decision.specs.declared.explaining.Explanation.{Explanation}
-use Rattle.spki_decision.specs.declared.explaining.Explanation.TheVariants as explanation
-use Rattle.spki_decision.specs.declared.explaining.Reason.{Reason}
-use Rattle.spki_decision.specs.declared.explaining.Reason.TheVariants as reason
+use Rattle.spki_decision.specs.declared.reduction.Reduction.{Reduction}
+use Rattle.spki_decision.specs.declared.reduction.Reduction.TheVariants as reduction
+use Rattle.spki_decision.specs.declared.reduction.EntryFold.{EntryFold}
+use Rattle.spki_decision.specs.declared.reduction.EntryFold.TheVariants as folded
+use Rattle.spki_decision.specs.declared.explanation.Explanation.{Explanation}
+use Rattle.spki_decision.specs.declared.explanation.Explanation.TheVariants as explanation
+use Rattle.spki_decision.specs.declared.explanation.Reason.{Reason}
+use Rattle.spki_decision.specs.declared.explanation.Reason.TheVariants as reason
 use Rattle.spki_guard.specs.declared.answers.Verdict.{Verdict}
 use Rattle.spki_guard.specs.declared.answers.Verdict.TheVariants.{Done, No}
 use Rattle.spki_guard.specs.Lines.{entry_line, stopped_line, reason_line, item_line, no_entries}

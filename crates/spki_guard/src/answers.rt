@@ -15,9 +15,9 @@ use crate::lines::{
     push_no, push_refused_case, push_refused_decision, push_refused_form, push_refused_intersect,
     push_refused_memory, push_refused_rows, push_yes_entry,
 };
-use crate::printing::push_tag;
+use crate::printer::push_tag;
 use crate::reports::{push_explanation, push_reduction};
-use sexpr_core::reading::wrap_octets;
+use sexpr_core::syntax::wrap_octets;
 use sexpr_core::{FormFault, MOST_OCTETS};
 use sexpr_text::{Form, convert};
 use spki_case::{Case, CaseFault, RowsFault};
@@ -152,7 +152,7 @@ impl From<RowsFault> for Refusal {
 }
 
 impl From<GuardFault> for Refusal {
-    ghost use Rattle.spki_decision.specs.declared.deciding.GuardFault.{GuardFault};
+    ghost use Rattle.spki_decision.specs.declared.fault.GuardFault.{GuardFault};
     ghost use Rattle.spki_guard.specs.declared.answers.Refusal.{Refusal};
 
     ghost from_gives = { λ fault refusal.

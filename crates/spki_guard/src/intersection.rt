@@ -5,7 +5,7 @@ ghost use Rattle.sexpr_core.specs.Value.{Value};
 ghost use Rattle.spki_case.specs.Texts.{IsOuter};
 ghost use Rattle.spki_guard.specs.Intersect.{intersect_value, outer_fault, Intersects, ValueNotMet, IsMetText, TextNotMet};
 
-use sexpr_core::reading::{Members, Node};
+use sexpr_core::syntax::{Members, Node};
 use sexpr_core::{Doc, FormFault};
 use spki_tag::{MeetFault, Tag, TagFault};
 use std::alloc::Global;

@@ -1,7 +1,7 @@
 //! Laws of what is answered to a text.
 
 ghost use Rattle.std.specs.Prelude.{◌≡◌, ◌≢◌, ℕ, List};
-ghost use Rattle.spki_decision.specs.declared.deciding.GuardFault.TheVariants as guard;
+ghost use Rattle.spki_decision.specs.declared.fault.GuardFault.TheVariants as guard;
 ghost use Rattle.spki_guard.specs.declared.answers.Refusal.{Refusal};
 ghost use Rattle.spki_guard.specs.declared.answers.Refusal.TheVariants as refusals;
 ghost use Rattle.spki_guard.specs.declared.answers.Verdict.{Verdict};

@@ -5,7 +5,7 @@ ghost use Rattle.spki_guard.specs.Reports.{verdict_of, IsFoldLine, AreFoldLines,
 
 use crate::answers::Verdict;
 use crate::entry_lines::{push_entry, push_item, push_no_entries, push_reason, push_stopped};
-use crate::printing::push_five;
+use crate::printer::push_five;
 use spki_decision::{EntryFold, Explanation, Reason, Reduction};
 use std::alloc::{AllocError, Global};
 

@@ -4,15 +4,15 @@
 mod chain;
 mod fault;
 mod fold;
-mod joining;
+mod joins;
 mod last_tests;
 pub mod laws;
 mod tuple;
-mod writing;
+mod writer;
 
 pub use chain::{fold_chain, fold_owned};
 pub use fault::ReduceFault;
 pub use fold::{Cause, Fold, Joined};
 pub use last_tests::Lack;
 pub use tuple::{Five, Four, Issuer, Step};
-pub use writing::WrittenParts;
+pub use writer::WrittenParts;

@@ -5,16 +5,16 @@ use Rattle.spki_cert.specs.declared.entry.Entry.{Entry}
 use Rattle.spki_reduce.specs.Tuples.{Tuple}
 use Rattle.spki_case.specs.Case.{Case, Verified}
 use Rattle.spki_case.specs.Sequence.{keys_of, certificates}
-use Rattle.spki_decision.specs.declared.judging.Stop.{Stop}
-use Rattle.spki_decision.specs.declared.judging.Stop.TheVariants.{NotAccepted}
-use Rattle.spki_decision.specs.declared.deciding.Decision.{Decision}
-use Rattle.spki_decision.specs.declared.deciding.Decision.TheVariants.{No}
-use Rattle.spki_decision.specs.declared.deciding.GuardFault.{GuardFault}
-use Rattle.spki_decision.specs.declared.deciding.GuardFault.TheVariants.{TooLarge, Memory}
-use Rattle.spki_decision.specs.declared.explaining.Explanation.{Explanation}
-use Rattle.spki_decision.specs.declared.explaining.Explanation.TheVariants as explanation
-use Rattle.spki_decision.specs.declared.reducing.Reduction.{Reduction}
-use Rattle.spki_decision.specs.declared.reducing.Reduction.TheVariants as reduction
+use Rattle.spki_decision.specs.declared.evidence.Stop.{Stop}
+use Rattle.spki_decision.specs.declared.evidence.Stop.TheVariants.{NotAccepted}
+use Rattle.spki_decision.specs.declared.decision.Decision.{Decision}
+use Rattle.spki_decision.specs.declared.decision.Decision.TheVariants.{No}
+use Rattle.spki_decision.specs.declared.fault.GuardFault.{GuardFault}
+use Rattle.spki_decision.specs.declared.fault.GuardFault.TheVariants.{TooLarge, Memory}
+use Rattle.spki_decision.specs.declared.explanation.Explanation.{Explanation}
+use Rattle.spki_decision.specs.declared.explanation.Explanation.TheVariants as explanation
+use Rattle.spki_decision.specs.declared.reduction.Reduction.{Reduction}
+use Rattle.spki_decision.specs.declared.reduction.Reduction.TheVariants as reduction
 use Rattle.spki_decision.specs.Standing.{FailsAt, AreShown}
 use Rattle.spki_decision.specs.LeftOut.{AreKept, IsKept, IsLeftOut, kept_case}
 use Rattle.spki_decision.specs.Reduced.{IsFailure}

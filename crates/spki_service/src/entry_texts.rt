@@ -3,13 +3,13 @@
 ghost use Rattle.std.specs.Prelude.{◌≡◌, ◌<◌, ◌∷◌, ◌++◌, [], ℕ, List, codes, length, map, drop, ◌+◌, slice_get, Some, IfOk, IfErr};
 ghost use Rattle.sexpr_core.specs.Value.{Value, canon, group, plain};
 ghost use Rattle.spki_cert.specs.declared.entry.Entry.{Entry};
-ghost use Rattle.spki_decision.specs.declared.deciding.GuardFault.{GuardFault};
+ghost use Rattle.spki_decision.specs.declared.fault.GuardFault.{GuardFault};
 ghost use Rattle.spki_cert.specs.Entries.{IsVersion};
 ghost use Rattle.spki_service.specs.Held.{IsEntryText, AreEntries, octets_of};
 ghost use Rattle.spki_service.specs.Picked.{AreNumbers, ArePicked};
 
 use sexpr_core::Doc;
-use sexpr_core::reading::{Members, Node};
+use sexpr_core::syntax::{Members, Node};
 use spki_cert::{Entry, entry_of};
 use spki_decision::GuardFault;
 use std::alloc::{AllocError, Global};

@@ -22,7 +22,7 @@ use crate::list_fault::AclFault;
 use crate::parts::case_of;
 use crate::question::{AskFault, Question};
 use crate::texts::{Texts, texts_of};
-use sexpr_core::reading::Node;
+use sexpr_core::syntax::Node;
 use sexpr_core::{Doc, FormFault};
 use sexpr_text::{Form, convert};
 use spki_cert::{CertFault, CertFaultKind, Key, Policy, acl_of};

@@ -15,7 +15,7 @@ ghost use Rattle.spki_service.specs.declared.question.Question.{Question};
 use crate::limits::Limits;
 use crate::question::{AskFault, Part};
 use crate::texts::{MomentText, PartText, Texts};
-use sexpr_core::reading::Node;
+use sexpr_core::syntax::Node;
 use sexpr_core::{Doc, FormFault};
 use spki_case::Case;
 use spki_cert::{

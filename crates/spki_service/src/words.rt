@@ -4,7 +4,7 @@ ghost use Rattle.std.specs.Prelude.{◌≡◌, map, IfOk};
 ghost use Rattle.sexpr_core.specs.Value.{canon};
 ghost use Rattle.spki_service.specs.Questions.{words_value};
 
-use sexpr_core::reading::append_verbatim;
+use sexpr_core::syntax::append_verbatim;
 use std::alloc::{AllocError, Global};
 
 /// The canonical text of strings: that of the list of them, or of the string where there is one.

@@ -3,23 +3,23 @@
 
 mod fault;
 mod form;
-mod holding;
 mod index;
+mod intersection;
+mod intersection_in_place;
 pub mod laws;
 mod leaf;
-mod leaf_meeting;
-mod limit_meeting;
-mod meeting;
+mod leaf_intersection;
+mod limit_intersection;
+mod membership;
 mod moment;
-mod narrowing;
 mod normal;
 mod parts;
 mod prefix;
 mod ranges;
-mod reading;
+mod reader;
 mod request;
 mod tag;
-mod writing;
+mod writer;
 
 pub use fault::{MeetFault, TagFault};
 pub use form::{TagForm, TagLimit};

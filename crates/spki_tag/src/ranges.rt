@@ -11,7 +11,7 @@ ghost use Rattle.spki_tag.specs.Steps.{AreLimits, IsNoLimit, LimitsShow, Orderin
 
 use crate::fault::TagFault;
 use crate::leaf::{Leaf, Limit, RangeOrdering};
-use sexpr_core::reading::{Members, Node, NodeKind};
+use sexpr_core::syntax::{Members, Node, NodeKind};
 use std::alloc::{AllocError, Global};
 use std::sync::ArcSlice;
 

@@ -10,8 +10,8 @@ ghost use Rattle.spki_tag.specs.Request.{IsHead, IsRequest, request_value};
 ghost use Rattle.spki_tag.specs.Steps.{AreReadRequests, RequestsShow, fault_of_requests};
 
 use crate::fault::TagFault;
-use crate::reading::head_of;
-use sexpr_core::reading::{Members, Node, NodeKind};
+use crate::reader::head_of;
+use sexpr_core::syntax::{Members, Node, NodeKind};
 use sexpr_core::{Doc, NodeId};
 use std::alloc::Global;
 use std::marker::Model;

@@ -2,7 +2,7 @@
 #![tactic(auto)]
 
 mod commands;
-mod helping;
+mod help;
 mod words;
 
 pub use commands::Command;

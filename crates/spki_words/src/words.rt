@@ -6,7 +6,7 @@ ghost use Rattle.spki_words.specs.Command.{word_of};
 ghost use Rattle.spki_words.specs.Words.{spki, bare, leaf, subcommand_in, faults_of, IsFaultOf, IsProgram, IsFault, code_of};
 
 use crate::commands::{COMMANDS, Command};
-use crate::helping::{ABOUT, DETAILS, about, details};
+use crate::help::{ABOUT, DETAILS, about, details};
 use clap::error::ErrorKind;
 use std::alloc::{AllocError, Global};
 use thiserror::Error;

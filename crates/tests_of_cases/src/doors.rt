@@ -1,6 +1,6 @@
 //! A case, and its parts asked of a guard of its access list: both have to give the same answers.
 
-use sexpr_core::reading::{Members, Node, wrap_octets};
+use sexpr_core::syntax::{Members, Node, wrap_octets};
 use sexpr_core::{Doc, encode};
 use sexpr_text::{Form, convert};
 use spki_cert::Policy;

@@ -1,7 +1,7 @@
 //! Requests that are given to a guard as strings, and moments as seconds.
 
 use crate::texts::KA;
-use sexpr_core::reading::append_verbatim;
+use sexpr_core::syntax::append_verbatim;
 use spki_cert::{CertFaultKind, Policy};
 use spki_guard::{AskFault, Decision, Guard, Instant, Limits, Question, Wanted};
 use spki_tag::TagFault;

@@ -7,8 +7,8 @@ use Rattle.sexpr_core.specs.PartOf.{IsPartOf}
 use Rattle.spki_tag.specs.Read.{ReadsAs}
 use Rattle.spki_cert.specs.declared.principal.Principal.{Principal}
 use Rattle.spki_cert.specs.declared.window.Window.{Window}
-use Rattle.spki_cert.specs.declared.naming.Issuer.{Issuer}
-use Rattle.spki_cert.specs.declared.naming.Who.{Who}
+use Rattle.spki_cert.specs.declared.principal_reader.Issuer.{Issuer}
+use Rattle.spki_cert.specs.declared.principal_reader.Who.{Who}
 use Rattle.spki_cert.specs.declared.fields.Known.{Known}
 use Rattle.spki_cert.specs.declared.fields.Place.{Place}
 use Rattle.spki_cert.specs.declared.fields.Place.TheVariants as places
@@ -19,7 +19,7 @@ use Rattle.spki_tag.specs.declared.fault.TagFault.TheVariants as tag_faults
 use Rattle.spki_cert.specs.declared.fault.CertFaultKind.{CertFaultKind}
 use Rattle.spki_cert.specs.declared.fault.CertFaultKind.TheVariants as kinds
 use Rattle.spki_cert.specs.declared.entry.Subject.{Subject}
-use Rattle.spki_cert.specs.declared.issuing.CertParts.{CertParts}
+use Rattle.spki_cert.specs.declared.certificate_reader.CertParts.{CertParts}
 use Rattle.spki_cert.specs.declared.certificate.SeqItem.{SeqItem}
 use Rattle.spki_cert.specs.declared.certificate.SeqItem.TheVariants as items
 use Rattle.spki_cert.specs.declared.fault.CertFault.{CertFault}

@@ -26,6 +26,6 @@ tag::Tag::write-returns-in_ok-push_each-in-Set t c =
     rw (← c.self.view_is, c.in-Set.is)
     (set_written ts (sexp_value c.list-in-Set.result) (map sexp_value front) (map sexp_value c.push_each-in-Set.new.out.items) c.list-in-Set.ensures out c.in_ok-out-in-Set.ensures)
 
-pub writing::push_each-write-requires : goal.writing::push_each-write-requires
-writing::push_each-write-requires t c =
+pub writer::push_each-write-requires : goal.writer::push_each-write-requires
+writer::push_each-write-requires t c =
     (omega (arith, c.decreases, nodes_le-of_read c.args.members.now c.loop-member.member-index c.member-item.result c.loop-member-test.true c.member-item.is), tt)

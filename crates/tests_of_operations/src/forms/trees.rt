@@ -1,6 +1,6 @@
 //! Trees built by hand, and the calls on octets that take memory.
 
-use sexpr_core::reading::{append_verbatim, octets_in_braces, read_base64, wrap_octets};
+use sexpr_core::syntax::{append_verbatim, octets_in_braces, read_base64, wrap_octets};
 use sexpr_core::{Doc, FormFault, Sexp, encode};
 use std::alloc::{AllocError, Global};
 use std::test::Fail;

@@ -1,6 +1,6 @@
 use Rattle.std.proofs.Common.{◌≡◌, Result}
-use Rattle.spki_decision.specs.declared.deciding.Decision.{Decision}
-use Rattle.spki_decision.specs.declared.deciding.GuardFault.{GuardFault}
+use Rattle.spki_decision.specs.declared.decision.Decision.{Decision}
+use Rattle.spki_decision.specs.declared.fault.GuardFault.{GuardFault}
 use Rattle.spki_decision.specs.Answered.{IsDecided}
 use Rattle.spki_decision.proofs.OneDecision.{decided_one, of_text, own_of_text}
 use Rattle.spki_decision.proofs.laws.one_decision.Goals as goal

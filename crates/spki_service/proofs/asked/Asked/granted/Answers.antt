@@ -3,8 +3,8 @@ use Rattle.std.specs.Option.{option_copied}
 use Rattle.spki_cert.specs.declared.entry.Entry.{Entry}
 use Rattle.spki_reduce.specs.Chain.{tuples_of}
 use Rattle.spki_case.specs.View.{model}
-use Rattle.spki_decision.specs.declared.deciding.Decision.TheVariants.{Yes, No}
-use Rattle.spki_decision.specs.declared.deciding.GuardFault.TheVariants.{TooLarge, Memory}
+use Rattle.spki_decision.specs.declared.decision.Decision.TheVariants.{Yes, No}
+use Rattle.spki_decision.specs.declared.fault.GuardFault.TheVariants.{TooLarge, Memory}
 use Rattle.spki_decision.specs.Supported.{Names, SmallUpTo, HasLarge}
 use Rattle.spki_decision.specs.Views.{with_entries}
 use Rattle.spki_service.specs.Asking.{AskedOf}

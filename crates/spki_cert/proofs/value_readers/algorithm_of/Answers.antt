@@ -1,0 +1,20 @@
+use Rattle.std.proofs.Common.{◌≡◌, rules}
+use Rattle.sexpr_core.specs.Value.{Value, plain, group, string}
+use Rattle.std.specs.Prelude.{Some}
+use Rattle.spki_cert.proofs.FixedLaws.{alg-list, alg-hinted, alg-other, alg-known}
+use Rattle.spki_cert.proofs.value_readers.algorithm_of.Goals as goal
+
+pub returns-in-List-clause-first : goal.returns-in-List-clause-first
+returns-in-List-clause-first c = alg-list c.args.node.now c.in-List.field-0 (search rules)
+
+pub returns-in-String-Some-default-clause-first : goal.returns-in-String-Some-default-clause-first
+returns-in-String-Some-default-clause-first c =
+    let e : c.args.node.now ≡ string (Some c.in-String-Some-default.hint-0.now) c.in-String-Some-default.body.now = search rules in
+    alg-hinted c.args.node.now _ _ e
+
+pub returns-in-Some-clause-faultless : goal.returns-in-Some-clause-faultless
+returns-in-Some-clause-faultless c = alg-known c.args.node.now c.in-Some.alg (search rules)
+
+pub returns-in-None-clause-first : goal.returns-in-None-clause-first
+returns-in-None-clause-first c =
+    let e : c.args.node.now ≡ plain c.in-String-None-default.body.now = search rules in alg-other c.args.node.now _ e c.in-None.ensures

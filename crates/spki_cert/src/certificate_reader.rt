@@ -1,0 +1,127 @@
+//! Certificates, as they are read.
+
+ghost use Rattle.std.specs.Prelude.{◌≡◌, ◌≢◌, Some, None, IfOk, IfErr};
+ghost use Rattle.sexpr_core.specs.Value.{Value};
+ghost use Rattle.spki_cert.specs.Faults.{Shows};
+ghost use Rattle.spki_cert.specs.ItemFaults.{cert_fault};
+ghost use Rattle.spki_cert.specs.Inner.Gathering.{parts_fault, AreParts, PartsOf, AreNoParts, CertOf, IsNoCert, IsSubjectOf};
+
+use crate::certificate::{AuthCert, NameCert, SeqItem};
+use crate::entry::Subject;
+use crate::fault::CertFaultKind;
+use crate::fields::{Fields, Known, Place, fields_of};
+use crate::names::Names;
+use crate::octets::Octets;
+use crate::principal::Principal;
+use crate::principal_reader::{Issuer, Who};
+use crate::validity::one_way;
+use crate::window::Window;
+use sexpr_core::syntax::{Members, Node};
+use spki_tag::Tag;
+use std::alloc::Global;
+
+/// What the fields of a certificate say.
+#[derive(Drop)]
+pub(crate) struct CertParts<'a> {
+    pub issuer: Issuer<'a>,
+    pub subject: Subject<'a>,
+    pub propagate: bool,
+    pub tag: Option<Tag>,
+    pub window: Window,
+}
+
+/// The subject of a certificate: a relative name is one of the issuer's.
+fn issued_to<'a>(who: Who<'a>, issuer: &Principal<'a>) -> Subject<'a>
+    ensures { IsSubjectOf issuer.now who.entry.principal who.entry.names.items result }
+{
+    let Who { principal, names } = who;
+    let names = Names::of(names);
+    match principal {
+        Some(principal) => Subject { principal, names },
+        None => Subject {
+            principal: issuer.share(),
+            names,
+        },
+    }
+}
+
+/// The parts of a certificate with these fields.
+fn parts_of<'a>(alloc: Global, members: Members<'_, 'a>) -> Result<CertParts<'a>, CertFaultKind>
+    ensures found { IfOk result (λ parts. PartsOf members.entry parts) }
+    ensures refused { IfErr result (λ kind. kind ≢ CertFaultKind.Memory → AreNoParts members.entry) }
+    ensures faultless { IfOk result (λ _. parts_fault members.entry ≡ None) }
+    ensures named { IfErr result (λ kind. kind ≢ CertFaultKind.Memory → parts_fault members.entry ≡ Some kind) }
+    ensures shown { IfErr result (λ kind. (v : Value) → AreParts members.entry v → Shows kind v) }
+{
+    let Fields { propagate, known } = fields_of(alloc, Place::Certificate, members)?;
+    let Known {
+        issuer,
+        subject,
+        tag,
+        limits,
+        valid,
+    } = known;
+    let Some(window) = one_way(limits, valid) else {
+        return Err(CertFaultKind::Shape);
+    };
+    let Some(issuer) = issuer else {
+        return Err(CertFaultKind::Shape);
+    };
+    let Some(who) = subject else {
+        return Err(CertFaultKind::Shape);
+    };
+    let subject = issued_to(who, &issuer.principal);
+    Ok(CertParts {
+        issuer,
+        subject,
+        propagate,
+        tag,
+        window,
+    })
+}
+
+/// The certificate that a node is: of an authorization where the issuer is a principal, and else of a name.
+pub(crate) fn cert_of<'a>(alloc: Global, node: &Node<'_, 'a>) -> Result<SeqItem<'a>, CertFaultKind>
+    ensures found { IfOk result (λ item. CertOf node.now item) }
+    ensures refused { IfErr result (λ kind. kind ≢ CertFaultKind.Memory → IsNoCert node.now) }
+    ensures faultless { IfOk result (λ _. cert_fault node.now ≡ None) }
+    ensures named { IfErr result (λ kind. kind ≢ CertFaultKind.Memory → cert_fault node.now ≡ Some kind) }
+    ensures shown { IfErr result (λ kind. Shows kind node.now) }
+{
+    let Some(members) = node.headed(b"cert") else {
+        return Err(CertFaultKind::Shape);
+    };
+    let CertParts {
+        issuer,
+        subject,
+        propagate,
+        tag,
+        window,
+    } = parts_of(alloc, members)?;
+    let Issuer { principal, name } = issuer;
+    let octets = Octets::new(node.slice());
+    match (name, tag) {
+        (None, Some(tag)) => Ok(SeqItem::Auth(AuthCert {
+            issuer: principal,
+            subject,
+            propagate,
+            tag,
+            window,
+            octets,
+        })),
+        (Some(name), None) => {
+            if propagate {
+                return Err(CertFaultKind::Shape);
+            }
+            Ok(SeqItem::Name(NameCert {
+                issuer: principal,
+                name,
+                subject,
+                window,
+                octets,
+            }))
+        }
+        (None, None) => Err(CertFaultKind::Shape),
+        (Some(_), Some(_)) => Err(CertFaultKind::Shape),
+    }
+}

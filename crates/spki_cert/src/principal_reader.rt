@@ -1,0 +1,175 @@
+//! Principals, names, subjects and issuers, as they are read.
+
+ghost use Rattle.std.specs.Prelude.{◌≡◌, ◌≢◌, false, ◌∷◌, ◌++◌, [], ℕ, List, Option, Some, None, codes, IfOk, IfErr};
+ghost use Rattle.sexpr_core.specs.Value.{Value, plain, group};
+ghost use Rattle.spki_cert.specs.declared.principal.Principal.{Principal};
+ghost use Rattle.spki_cert.specs.Subjects.{PrincipalOf, IsWho, WhoOf, IssuerOf, plains};
+ghost use Rattle.spki_cert.specs.Faults.{Shows};
+ghost use Rattle.std.specs.List.{list_all};
+ghost use Rattle.spki_tag.specs.FirstFault.{unless};
+ghost use Rattle.spki_cert.specs.SubjectFaults.{principal_fault, is_name, names_fault, subject_fault, issuer_fault};
+ghost use Rattle.spki_cert.specs.Inner.Gathering.{NamesWho, SubjectShows};
+
+use crate::fault::CertFaultKind;
+use crate::octets::Octets;
+use crate::principal::Principal;
+use crate::value_readers::{hash_of, key_of};
+use sexpr_core::syntax::{Members, Node};
+use std::alloc::Global;
+
+/// Who is named; without a principal the name is relative to one that isn't written.
+#[derive(Drop)]
+pub(crate) struct Who<'a> {
+    pub principal: Option<Principal<'a>>,
+    pub names: Vec<Octets<'a>>,
+}
+
+/// Who issues a certificate, and the name that a name certificate defines.
+#[derive(Drop)]
+pub(crate) struct Issuer<'a> {
+    pub principal: Principal<'a>,
+    pub name: Option<Octets<'a>>,
+}
+
+/// The principal that a node is: a key or a hash (RFC 2693, section 2.5). Takes no memory.
+///
+/// # Errors
+///
+/// The fault of the hash where the node is headed `hash`, and else that of the key, which is `Shape` for what is neither.
+pub fn principal_of<'a>(node: &Node<'_, 'a>) -> Result<Principal<'a>, CertFaultKind>
+    ensures found { IfOk result (λ principal. PrincipalOf node.now principal) }
+    ensures refused { IfErr result (λ _. (principal : Principal) → PrincipalOf node.now principal → ⊥) }
+    ensures faultless { IfOk result (λ _. principal_fault node.now ≡ None) }
+    ensures named { IfErr result (λ kind. principal_fault node.now ≡ Some kind) }
+    ensures shown { IfErr result (λ kind. Shows kind node.now) }
+    ensures fault { IfErr result (λ kind. kind ≢ CertFaultKind.Memory) }
+{
+    match node.headed(b"hash") {
+        Some(_) => {
+            let (alg, digest) = hash_of(node)?;
+            Ok(Principal::Hash { alg, digest })
+        }
+        None => {
+            let key = key_of(node)?;
+            Ok(Principal::Key(key))
+        }
+    }
+}
+
+/// These names and those that stand behind them.
+fn names_behind<'a>(
+    names: Vec<Octets<'a>>,
+    members: Members<'_, 'a>,
+) -> Result<Vec<Octets<'a>>, CertFaultKind>
+    ensures found { IfOk result (λ all. (behind : List (List ℕ)) × (all.items ≡ names.entry.items ++ behind)
+        × (members.entry ≡ plains behind)) }
+    ensures refused { IfErr result (λ kind. kind ≢ CertFaultKind.Memory →
+        (behind : List (List ℕ)) → members.entry ≢ plains behind) }
+    ensures named { IfErr result (λ kind. kind ≢ CertFaultKind.Memory →
+        (list_all is_name members.entry ≡ false) × (kind ≡ CertFaultKind.Shape)) }
+    ensures shown { IfErr result (λ kind. (v : Value) → Shows kind v) }
+{
+    let mut rest = members;
+    let mut all = names;
+    while let Some((name, others)) = rest.split_first() {
+        let Some(octets) = name.plain_octets() else {
+            return Err(CertFaultKind::Shape);
+        };
+        all.push(Octets::new(octets))?;
+        rest = others;
+    }
+    Ok(all)
+}
+
+/// Who is named behind the head `name`.
+fn named_by<'a>(alloc: Global, members: Members<'_, 'a>) -> Result<Who<'a>, CertFaultKind>
+    ensures found { IfOk result (λ who. NamesWho members.entry who.principal who.names.items) }
+    ensures refused { IfErr result (λ kind. kind ≢ CertFaultKind.Memory →
+        (principal : Option Principal) (names : List (List ℕ)) → NamesWho members.entry principal names → ⊥) }
+    ensures faultless { IfOk result (λ _. names_fault members.entry ≡ None) }
+    ensures named { IfErr result (λ kind. kind ≢ CertFaultKind.Memory → names_fault members.entry ≡ Some kind) }
+    ensures shown { IfErr result (λ kind. Shows kind (group (plain (codes "name") ∷ members.entry))) }
+{
+    let Some((first, others)) = members.split_first() else {
+        return Err(CertFaultKind::Shape);
+    };
+    if let Some(octets) = first.plain_octets() {
+        let mut names = Vec::new(alloc);
+        names.push(Octets::new(octets))?;
+        let names = names_behind(names, others)?;
+        return Ok(Who {
+            principal: None,
+            names,
+        });
+    }
+    let principal = principal_of(&first)?;
+    if others.is_empty() {
+        return Err(CertFaultKind::Shape);
+    }
+    let names = names_behind(Vec::new(alloc), others)?;
+    Ok(Who {
+        principal: Some(principal),
+        names,
+    })
+}
+
+/// The subject that a node is: a principal, a name, or a relative name.
+pub(crate) fn who_of<'a>(alloc: Global, node: &Node<'_, 'a>) -> Result<Who<'a>, CertFaultKind>
+    ensures found { IfOk result (λ who. WhoOf node.now who.principal who.names.items) }
+    ensures refused { IfErr result (λ kind. kind ≢ CertFaultKind.Memory →
+        (principal : Option Principal) (names : List (List ℕ)) → WhoOf node.now principal names → ⊥) }
+    ensures faultless { IfOk result (λ _. subject_fault node.now ≡ None) }
+    ensures named { IfErr result (λ kind. kind ≢ CertFaultKind.Memory → subject_fault node.now ≡ Some kind) }
+    ensures shown { IfErr result (λ kind. SubjectShows kind node.now) }
+{
+    if let Some(_) = node.headed(b"k-of-n") {
+        return Err(CertFaultKind::Threshold);
+    }
+    if let Some(_) = node.headed(b"keyholder") {
+        return Err(CertFaultKind::Keyholder);
+    }
+    let Some(members) = node.headed(b"name") else {
+        let principal = principal_of(node)?;
+        return Ok(Who {
+            principal: Some(principal),
+            names: Vec::new(alloc),
+        });
+    };
+    named_by(alloc, members)
+}
+
+/// The issuer that a node is: a principal, or a name of one word.
+pub(crate) fn issuer_of<'a>(node: &Node<'_, 'a>) -> Result<Issuer<'a>, CertFaultKind>
+    ensures found { IfOk result (λ issuer. IssuerOf node.now issuer.principal issuer.name) }
+    ensures refused { IfErr result (λ _.
+        (principal : Principal) (name : Option (List ℕ)) → IssuerOf node.now principal name → ⊥) }
+    ensures faultless { IfOk result (λ _. issuer_fault node.now ≡ None) }
+    ensures named { IfErr result (λ kind. issuer_fault node.now ≡ Some kind) }
+    ensures shown { IfErr result (λ kind. Shows kind node.now) }
+    ensures fault { IfErr result (λ kind. kind ≢ CertFaultKind.Memory) }
+{
+    let Some(members) = node.headed(b"name") else {
+        let principal = principal_of(node)?;
+        return Ok(Issuer {
+            principal,
+            name: None,
+        });
+    };
+    let Some((owner, rest)) = members.split_first() else {
+        return Err(CertFaultKind::Shape);
+    };
+    let principal = principal_of(&owner)?;
+    let Some((name, more)) = rest.split_first() else {
+        return Err(CertFaultKind::Shape);
+    };
+    let Some(octets) = name.plain_octets() else {
+        return Err(CertFaultKind::Shape);
+    };
+    if !more.is_empty() {
+        return Err(CertFaultKind::Shape);
+    }
+    Ok(Issuer {
+        principal,
+        name: Some(Octets::new(octets)),
+    })
+}

@@ -1,0 +1,226 @@
+//! Keys, hashes and dates, as they are read.
+
+ghost use Rattle.std.specs.Prelude.{◌≡◌, ◌≢◌, IfOk, IfErr, codes, ◌∷◌, ℕ, List, Some, None, IsSome, MatchOption, MatchResult, IfSome, MatchBool};
+ghost use Rattle.spki_cert.specs.declared.hash.HashAlg.{HashAlg};
+ghost use Rattle.sexpr_core.specs.Value.{Value, node, plain, group, canon};
+ghost use Rattle.spki_cert.specs.Faults.{Shows};
+ghost use Rattle.spki_cert.specs.FixedFaults.{key_fault, hash_fault, date_fault, alg_fault};
+ghost use Rattle.spki_cert.specs.Inner.Gathering.{AlgShows, digest_fault};
+ghost use Rattle.spki_cert.specs.Readings.{KeyOf, IsNoKey, HashOf, IsNoHash, DateOf, IsNoDate, DigestOf, AreUris, IsAlgorithm, alg_name, digest_len};
+
+use crate::date::Date;
+use crate::fault::{CertFault, CertFaultKind};
+use crate::hash::HashAlg;
+use crate::key::Key;
+use crate::octets::Octets;
+use sexpr_core::syntax::{Members, Node, NodeKind};
+use sexpr_core::{Doc, NodeId};
+
+/// The key that a node is.
+pub fn key_of<'a>(node: &Node<'_, 'a>) -> Result<Key<'a>, CertFaultKind>
+    ensures key { IfOk result (λ key. KeyOf node.now key) }
+    ensures refused { IfErr result (λ _. IsNoKey node.now) }
+    ensures faultless { IfOk result (λ _. key_fault node.now ≡ None) }
+    ensures named { IfErr result (λ kind. key_fault node.now ≡ Some kind) }
+    ensures shown { IfErr result (λ kind. Shows kind node.now) }
+    ensures fault { IfErr result (λ kind. kind ≢ CertFaultKind.Memory) }
+{
+    let Some(rest) = node.headed(b"public-key") else {
+        return Err(CertFaultKind::Shape);
+    };
+    let Some((body, rest)) = rest.split_first() else {
+        return Err(CertFaultKind::Shape);
+    };
+    if !is_algorithm(&body) {
+        return Err(CertFaultKind::Shape);
+    }
+    match rest.split_first() {
+        None => Ok(Key::new(node.slice())),
+        Some((third, _)) => match third.headed(b"uri") {
+            Some(_) => Err(CertFaultKind::KeyUris),
+            None => Err(CertFaultKind::Shape),
+        },
+    }
+}
+
+/// Whether the node is a list headed by a string without display hint.
+fn is_algorithm(node: &Node) -> bool
+    ensures { MatchBool result (IsAlgorithm node.now) (IsAlgorithm node.now → ⊥) }
+{
+    let Some(all) = node.members() else {
+        return false;
+    };
+    match all.split_first() {
+        None => false,
+        Some((alg, _)) => alg.plain_octets().is_some(),
+    }
+}
+
+/// The date that a node is.
+pub fn date_of(node: &Node) -> Result<Date, CertFaultKind>
+    ensures date { IfOk result (λ date. DateOf node.now date) }
+    ensures refused { IfErr result (λ _. IsNoDate node.now) }
+    ensures faultless { IfOk result (λ _. date_fault node.now ≡ None) }
+    ensures named { IfErr result (λ kind. date_fault node.now ≡ Some kind) }
+    ensures fault { IfErr result (λ kind. kind ≡ CertFaultKind.BadDate) }
+{
+    let Some(octets) = node.plain_octets() else {
+        return Err(CertFaultKind::BadDate);
+    };
+    match Date::of(octets) {
+        Some(date) => Ok(date),
+        None => Err(CertFaultKind::BadDate),
+    }
+}
+
+/// The algorithm that a node names.
+pub(crate) fn algorithm_of(node: &Node) -> Result<HashAlg, CertFaultKind>
+    ensures named { IfOk result (λ alg. node.now ≡ plain (alg_name alg)) }
+    ensures refused { IfErr result (λ _. (alg : HashAlg) → node.now ≢ plain (alg_name alg)) }
+    ensures faultless { IfOk result (λ _. alg_fault node.now ≡ None) }
+    ensures first { IfErr result (λ kind. alg_fault node.now ≡ Some kind) }
+    ensures shown { IfErr result (λ kind. AlgShows kind node.now) }
+    ensures fault { IfErr result (λ kind. kind ≢ CertFaultKind.Memory) }
+{
+    match node.kind() {
+        NodeKind::List(_) => Err(CertFaultKind::Shape),
+        NodeKind::String { hint: Some(_), .. } => Err(CertFaultKind::HashAlg),
+        NodeKind::String { hint: None, body } => match HashAlg::named(body) {
+            Some(alg) => Ok(alg),
+            None => Err(CertFaultKind::HashAlg),
+        },
+    }
+}
+
+/// The digest that a node is.
+fn digest_of<'a>(alg: HashAlg, node: &Node<'_, 'a>) -> Result<Octets<'a>, CertFaultKind>
+    ensures digest { IfOk result (λ digest. DigestOf node.now alg digest) }
+    ensures refused { IfErr result (λ _. (digest : List ℕ) → DigestOf node.now alg digest → ⊥) }
+    ensures faultless { IfOk result (λ _. digest_fault alg node.now ≡ None) }
+    ensures named { IfErr result (λ kind. digest_fault alg node.now ≡ Some kind) }
+    ensures shown { IfErr result (λ kind. (rest : List Value) →
+        Shows kind (group (plain (codes "hash") ∷ plain (alg_name alg) ∷ node.now ∷ rest))) }
+    ensures fault { IfErr result (λ kind. kind ≢ CertFaultKind.Memory) }
+{
+    let Some(octets) = node.plain_octets() else {
+        return Err(CertFaultKind::Shape);
+    };
+    if octets.len() == alg.digest_len() {
+        Ok(Octets::new(octets))
+    } else {
+        Err(CertFaultKind::DigestLength)
+    }
+}
+
+/// Whether nothing is left behind a digest, or uris alone.
+fn ends_in_uris(rest: Members) -> bool
+    ensures { MatchBool result (AreUris rest.entry) (AreUris rest.entry → ⊥) }
+{
+    match rest.split_first() {
+        None => true,
+        Some((uris, more)) => uris.headed(b"uri").is_some() && more.is_empty(),
+    }
+}
+
+/// The hash that a node is.
+pub fn hash_of<'a>(node: &Node<'_, 'a>) -> Result<(HashAlg, Octets<'a>), CertFaultKind>
+    ensures hash { IfOk result (λ h. HashOf node.now h.0 h.1) }
+    ensures refused { IfErr result (λ _. IsNoHash node.now) }
+    ensures faultless { IfOk result (λ _. hash_fault node.now ≡ None) }
+    ensures named { IfErr result (λ kind. hash_fault node.now ≡ Some kind) }
+    ensures shown { IfErr result (λ kind. Shows kind node.now) }
+    ensures fault { IfErr result (λ kind. kind ≢ CertFaultKind.Memory) }
+{
+    let Some(rest) = node.headed(b"hash") else {
+        return Err(CertFaultKind::Shape);
+    };
+    let Some((word, rest)) = rest.split_first() else {
+        return Err(CertFaultKind::Shape);
+    };
+    let alg = algorithm_of(&word)?;
+    let Some((octets, rest)) = rest.split_first() else {
+        return Err(CertFaultKind::Shape);
+    };
+    let digest = digest_of(alg, &octets)?;
+    if ends_in_uris(rest) {
+        Ok((alg, digest))
+    } else {
+        Err(CertFaultKind::Shape)
+    }
+}
+
+/// Reads node n of a document as a key: `(public-key (alg part ..))`. Takes no memory.
+///
+/// # Errors
+///
+/// The first fault from the left: `KeyUris` where a list headed `uri` stands behind the algorithm's list, and
+/// `Shape` else. The item is 0.
+pub fn read_key<'a>(document: &Doc<'a>, n: NodeId) -> Result<Key<'a>, CertFault>
+    requires { IsSome (node document.now n.0) }
+    ensures key { IfSome (node document.now n.0) (λ value. IfOk result (λ key. KeyOf value key)) }
+    ensures refused { IfSome (node document.now n.0) (λ value. IfErr result (λ _. IsNoKey value)) }
+    // The fault that is named is the first from the left; what is read has none.
+    ensures named { IfSome (node document.now n.0) (λ value. IfErr result (λ fault. key_fault value ≡ Some fault.kind)) }
+    ensures faultless { IfSome (node document.now n.0) (λ value. IfOk result (λ _. key_fault value ≡ None)) }
+    // A kind other than Shape shows on the value.
+    ensures shown { IfSome (node document.now n.0) (λ value. IfErr result (λ fault. Shows fault.kind value)) }
+    ensures fault { IfErr result (λ fault. (fault.item ≡ 0) × (fault.kind ≢ CertFaultKind.Memory)) }
+{
+    match document.node(n) {
+        Some(value) => match key_of(&value) {
+            Ok(key) => Ok(key),
+            Err(kind) => Err(CertFault { item: 0, kind }),
+        },
+        None => unreachable!(),
+    }
+}
+
+/// Reads node n of a document as a hash: `(hash alg digest)`, or with `(uri x ..)` behind it. Takes no memory.
+///
+/// # Errors
+///
+/// The first fault from the left: `HashAlg` where the algorithm is a string other than `sha1`, `sha256` and
+/// `sha512`, `DigestLength` where the digest hasn't its 20, 32 or 64 octets, and `Shape` else. The item is 0.
+pub fn read_hash<'a>(document: &Doc<'a>, n: NodeId) -> Result<(HashAlg, Octets<'a>), CertFault>
+    requires { IsSome (node document.now n.0) }
+    ensures hash { IfSome (node document.now n.0) (λ value. IfOk result (λ hash. HashOf value hash.0 hash.1)) }
+    ensures refused { IfSome (node document.now n.0) (λ value. IfErr result (λ _. IsNoHash value)) }
+    // The fault that is named is the first from the left; what is read has none.
+    ensures named { IfSome (node document.now n.0) (λ value. IfErr result (λ fault. hash_fault value ≡ Some fault.kind)) }
+    ensures faultless { IfSome (node document.now n.0) (λ value. IfOk result (λ _. hash_fault value ≡ None)) }
+    // A kind other than Shape shows on the value.
+    ensures shown { IfSome (node document.now n.0) (λ value. IfErr result (λ fault. Shows fault.kind value)) }
+    ensures fault { IfErr result (λ fault. (fault.item ≡ 0) × (fault.kind ≢ CertFaultKind.Memory)) }
+{
+    match document.node(n) {
+        Some(value) => match hash_of(&value) {
+            Ok(hash) => Ok(hash),
+            Err(kind) => Err(CertFault { item: 0, kind }),
+        },
+        None => unreachable!(),
+    }
+}
+
+/// Reads node n of a document as a date: a string without display hint of the form `YYYY-MM-DD_HH:MM:SS`. Takes
+/// no memory.
+///
+/// # Errors
+///
+/// `BadDate` alone; the item is 0.
+pub fn read_date(document: &Doc, n: NodeId) -> Result<Date, CertFault>
+    requires { IsSome (node document.now n.0) }
+    ensures date { IfSome (node document.now n.0) (λ value. IfOk result (λ date. DateOf value date)) }
+    ensures refused { IfSome (node document.now n.0) (λ value. IfErr result (λ _. IsNoDate value)) }
+    // The fault that is named is the first from the left; what is read has none.
+    ensures named { IfSome (node document.now n.0) (λ value. IfErr result (λ fault. date_fault value ≡ Some fault.kind)) }
+    ensures faultless { IfSome (node document.now n.0) (λ value. IfOk result (λ _. date_fault value ≡ None)) }
+    ensures fault { IfErr result (λ fault. (fault.item ≡ 0) × (fault.kind ≡ CertFaultKind.BadDate)) }
+{
+    match document.node(n) {
+        Some(value) => match date_of(&value) {
+            Ok(date) => Ok(date),
+            Err(kind) => Err(CertFault { item: 0, kind }),
+        },
+        None => unreachable!(),
+    }
+}

@@ -1,0 +1,9 @@
+use Rattle.std.proofs.Common.{map, take}
+use Rattle.std.specs.List.{AllByRecursion}
+use Rattle.spki_decision.specs.Views.{signed_of}
+use Rattle.spki_decision.specs.Asked.{IsAccepted}
+use Rattle.spki_decision.proofs.evidence.first_refused.Given as goal
+
+-- each so far is accepted
+abbrev pub invariant-loop-place : goal.invariant-loop-place
+invariant-loop-place g l = AllByRecursion (IsAccepted (g.V.Verifier.accepted l.verifier)) (take l.place (map signed_of l.signed))

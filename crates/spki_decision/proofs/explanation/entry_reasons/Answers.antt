@@ -1,0 +1,28 @@
+use Rattle.std.proofs.Common.{refl, arith, rules}
+use Rattle.spki_case.specs.View.{model}
+use Rattle.spki_reduce.specs.Chain.{tuples_of}
+use Rattle.spki_decision.specs.Views.{with_entries}
+use Rattle.spki_decision.specs.Explained.{IsReason}
+use Rattle.spki_decision.proofs.Stopping.{answered, large_here, small_here}
+use Rattle.spki_decision.proofs.explanation.entry_reasons.Goals as goal
+
+pub returns-in_err-entry_reason-clause-too_large : goal.returns-in_err-entry_reason-clause-too_large
+returns-in_err-entry_reason-clause-too_large c h =
+    large_here (with_entries (model c.args.case.now) c.args.acl.now) c.args.acl.now c.loop-entry.entry-index c.entry-item.result
+    refl c.loop-entry-test.true c.entry-item.is (tuples_of c.args.steps.now)
+    (c.in_err-entry_reason.ensures.too_large (search (rules, h, c.from_residual.ensures)))
+
+pub loop-entry-preserved : goal.loop-entry-preserved
+loop-entry-preserved c = record {
+  each = answered (with_entries (model c.args.case.now) c.args.acl.now) c.args.acl.now c.loop-entry.entry-index c.entry-item.result
+      refl c.loop-entry-test.true c.entry-item.is
+      (IsReason (with_entries (model c.args.case.now) c.args.acl.now) (tuples_of c.args.steps.now)) c.loop-entry.reasons.items c.push.new.self.items
+      c.in_ok-entry_reason.field-0 c.loop-entry.invariant.each (c.in_ok-entry_reason.ensures.exact c.args.acl.now) c.in_ok-push.ensures.items;
+  small = small_here (with_entries (model c.args.case.now) c.args.acl.now) c.args.acl.now c.loop-entry.entry-index c.entry-item.result
+      refl c.loop-entry-test.true c.entry-item.is (tuples_of c.args.steps.now)
+      c.in_ok-entry_reason.ensures.small c.loop-entry.invariant.small;
+}
+
+pub returns-clause-small : goal.returns-clause-small
+returns-clause-small c k e below there =
+    c.loop-entry.invariant.small k e (omega arith) there

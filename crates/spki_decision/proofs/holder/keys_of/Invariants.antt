@@ -1,6 +1,0 @@
-use Rattle.std.proofs.Common.{◌≡◌, take}
-use Rattle.spki_case.specs.Sequence.{keys_of}
-use Rattle.spki_decision.proofs.holder.keys_of.Given as goal
-
-abbrev pub invariant-loop-item : goal.invariant-loop-item
-invariant-loop-item l = l.keys.items ≡ keys_of (take l.item-index l.sequence)

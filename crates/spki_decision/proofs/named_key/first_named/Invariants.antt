@@ -1,0 +1,8 @@
+use Rattle.std.proofs.Common.{◌≡◌, ℕ, ◌<◌, List, Some, slice_get, false}
+use Rattle.spki_decision.specs.FirstNamed.{Says}
+use Rattle.spki_decision.proofs.named_key.first_named.Given as goal
+
+-- of no key so far it says so
+abbrev pub invariant-loop-place : goal.invariant-loop-place
+invariant-loop-place g l =
+    (k : ℕ) (key : List ℕ) → k < l.place → slice_get l.keys k ≡ Some key → Says g.F.Fn l.names l.principal key false

@@ -1,0 +1,32 @@
+use Rattle.std.proofs.Common.{◌≡◌, List, [], ◌∷◌, refl, ◌∙◌}
+use Rattle.spki_reduce.specs.declared.tuple.Step.{Step}
+use Rattle.std.proofs.lemmas.List.{length-map}
+use Rattle.spki_case.specs.View.{model}
+use Rattle.spki_reduce.specs.Tuples.{five}
+use Rattle.spki_reduce.specs.Views.{entry_tuple, step_tuple}
+use Rattle.spki_reduce.specs.Chain.{tuples_of, StopsAt, Excludes}
+use Rattle.spki_decision.specs.Views.{with_entries}
+use Rattle.spki_decision.proofs.Stopping.{stops_at_item}
+use Rattle.spki_decision.proofs.reduction.entry_fold.Goals as goal
+
+no_steps : (steps : List Step) → tuples_of steps ≡ [] → steps ≡ []
+no_steps [] e = refl
+no_steps (step ∷ steps) e = absurd cc
+
+pub returns-in-Done-clause-exact : goal.returns-in-Done-clause-exact
+returns-in-Done-clause-exact c es = (
+  rw c.in-Done.is at c.in_ok-five.ensures.fold,
+  rw c.in-Done.is at c.in_ok-five.ensures.which,
+  λ none. rw c.in-Done.is at (c.in_ok-five.ensures.alone (no_steps c.args.steps.now none)),
+)
+
+pub returns-in-Stopped-clause-exact : goal.returns-in-Stopped-clause-exact
+returns-in-Stopped-clause-exact c es =
+    let policy = c.args.case.now.policy in
+    let first = five (entry_tuple c.args.entry.now) in
+    let steps = tuples_of c.args.steps.now in
+    let stops : StopsAt policy first steps c.in-Stopped.step c.in-Stopped.cause = rw c.in-Stopped.is at c.in_ok-five.ensures.fold in
+    let excludes : Excludes policy first steps c.in-Stopped.step c.in-Stopped.cause =
+    rw c.in-Stopped.is at c.in_ok-five.ensures.excluded in
+    stops_at_item (with_entries (model c.args.case.now) es) steps c.args.entry.now c.args.items.now c.in-Stopped.step c.in-Stopped.cause
+    c.requires.numbered (length-map c.args.steps.now step_tuple ∙ c.requires.as_many) stops excludes

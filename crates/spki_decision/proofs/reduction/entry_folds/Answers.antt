@@ -1,0 +1,32 @@
+use Rattle.std.proofs.Common.{refl, arith, rules}
+use Rattle.spki_case.specs.View.{model}
+use Rattle.spki_reduce.specs.Chain.{tuples_of}
+use Rattle.spki_decision.specs.Views.{with_entries}
+use Rattle.spki_decision.specs.Reduced.{IsEntryFold, IsDated, EndsAtDate}
+use Rattle.spki_decision.proofs.Stopping.{all_pushed, answered, large_here, small_here}
+use Rattle.spki_decision.proofs.reduction.entry_folds.Goals as goal
+
+pub returns-in_err-entry_fold-clause-too_large : goal.returns-in_err-entry_fold-clause-too_large
+returns-in_err-entry_fold-clause-too_large c h =
+    large_here (with_entries (model c.args.case.now) c.args.acl.now) c.args.acl.now c.loop-entry.entry-index c.entry-item.result
+    refl c.loop-entry-test.true c.entry-item.is (tuples_of c.args.steps.now)
+    (c.in_err-entry_fold.ensures.too_large (search (rules, h, c.from_residual.ensures)))
+
+pub loop-entry-preserved : goal.loop-entry-preserved
+loop-entry-preserved c = record {
+  each = answered (with_entries (model c.args.case.now) c.args.acl.now) c.args.acl.now c.loop-entry.entry-index c.entry-item.result
+      refl c.loop-entry-test.true c.entry-item.is
+      (IsEntryFold (with_entries (model c.args.case.now) c.args.acl.now) (tuples_of c.args.steps.now)) c.loop-entry.folds.items c.push.new.self.items
+      c.in_ok-entry_fold.field-0 c.loop-entry.invariant.each (c.in_ok-entry_fold.ensures.exact c.args.acl.now) c.in_ok-push.ensures.items;
+  dated = all_pushed IsDated c.loop-entry.folds.items c.push.new.self.items c.in_ok-entry_fold.field-0
+      c.loop-entry.invariant.dated c.in_ok-entry_fold.ensures.dated c.in_ok-push.ensures.items;
+  end = all_pushed EndsAtDate c.loop-entry.folds.items c.push.new.self.items c.in_ok-entry_fold.field-0
+      c.loop-entry.invariant.end c.in_ok-entry_fold.ensures.end c.in_ok-push.ensures.items;
+  small = small_here (with_entries (model c.args.case.now) c.args.acl.now) c.args.acl.now c.loop-entry.entry-index c.entry-item.result
+      refl c.loop-entry-test.true c.entry-item.is (tuples_of c.args.steps.now)
+      c.in_ok-entry_fold.ensures.small c.loop-entry.invariant.small;
+}
+
+pub returns-clause-small : goal.returns-clause-small
+returns-clause-small c k e below there =
+    c.loop-entry.invariant.small k e (omega arith) there

@@ -1,0 +1,16 @@
+use Rattle.std.proofs.Common.{take}
+use Rattle.std.specs.List.{AllZip, AllByRecursion}
+use Rattle.spki_case.specs.View.{model}
+use Rattle.spki_reduce.specs.Chain.{tuples_of}
+use Rattle.spki_decision.specs.Views.{with_entries}
+use Rattle.spki_decision.specs.Reduced.{IsEntryFold, IsDated, EndsAtDate}
+use Rattle.spki_decision.specs.Supported.{SmallBefore}
+use Rattle.spki_decision.proofs.reduction.entry_folds.Given as goal
+
+abbrev pub invariant-loop-entry : goal.invariant-loop-entry
+invariant-loop-entry l = record {
+  each : AllZip (IsEntryFold (with_entries (model l.case) l.acl) (tuples_of l.steps)) (take l.entry-index l.acl) l.folds.items;
+  dated : AllByRecursion IsDated l.folds.items;
+  end : AllByRecursion EndsAtDate l.folds.items;
+  small : SmallBefore (with_entries (model l.case) l.acl) (tuples_of l.steps) l.entry-index;
+}

@@ -1,0 +1,51 @@
+//! Why a case was not decided.
+
+ghost use Rattle.std.specs.Prelude.{◌≡◌};
+
+use spki_reduce::ReduceFault;
+use std::alloc::{AllocError, AllocFailed};
+use thiserror::Error;
+
+/// Why a case was not decided.
+#[derive(Clone, Copy, Debug, PartialEq, Eq, Error)]
+pub enum GuardFault {
+    /// The product of the nodes of a certificate's tag and of what stands before it is over the case's `most_nodes`.
+    #[error("the tags are too large")]
+    TooLarge,
+    /// Memory was refused, to the guard or to the verifier.
+    #[error("out of memory")]
+    Memory,
+}
+
+impl From<AllocError> for GuardFault {
+    ghost use Rattle.spki_decision.specs.declared.fault.GuardFault.TheVariants.{Memory};
+
+    ghost from_gives = { λ _ fault. fault ≡ Memory };
+
+    fn from(_error: AllocError) -> GuardFault {
+        GuardFault::Memory
+    }
+}
+
+impl<T: Drop> From<AllocFailed<T>> for GuardFault {
+    ghost use Rattle.spki_decision.specs.declared.fault.GuardFault.TheVariants.{Memory};
+
+    ghost from_gives = { λ _ fault. fault ≡ Memory };
+
+    fn from(_error: AllocFailed<T>) -> GuardFault {
+        GuardFault::Memory
+    }
+}
+
+impl From<ReduceFault> for GuardFault {
+    ghost use Rattle.spki_decision.specs.Refusal.{guard_fault};
+
+    ghost from_gives = { λ fault outer. outer ≡ guard_fault fault };
+
+    fn from(fault: ReduceFault) -> GuardFault {
+        match fault {
+            ReduceFault::TooLarge => GuardFault::TooLarge,
+            ReduceFault::Memory => GuardFault::Memory,
+        }
+    }
+}

@@ -1,0 +1,32 @@
+use Rattle.std.proofs.Common.{◌+◌, ◌*◌, length}
+use Rattle.sexpr_core.specs.Value.{values}
+use Rattle.spki_tag.proofs.Weight.{weight, weights}
+use Rattle.spki_tag.proofs.Spelling.{IsReadSoFar}
+use Rattle.spki_tag.proofs.reader.+read.Given as goal
+
+abbrev pub decreases-read_tag : goal.decreases-read_tag
+decreases-read_tag l = 4 * weight l.value.now
+
+abbrev pub decreases-read_list : goal.decreases-read_list
+decreases-read_list l = 4 * weights (values l.members) + 3
+
+abbrev pub decreases-read_starred : goal.decreases-read_starred
+decreases-read_starred l = 4 * weights (values l.further) + 3
+
+abbrev pub decreases-read_form : goal.decreases-read_form
+decreases-read_form l = 4 * weights (values l.further) + 3
+
+abbrev pub decreases-read_set : goal.decreases-read_set
+decreases-read_set l = 4 * weights (values l.further) + 2
+
+abbrev pub decreases-read_plain_list : goal.decreases-read_plain_list
+decreases-read_plain_list l = 4 * weights (values l.further) + 2
+
+abbrev pub decreases-read_members : goal.decreases-read_members
+decreases-read_members l = 4 * weights (values l.members) + 1
+
+abbrev pub invariant-read_members-loop-first : goal.invariant-read_members-loop-first
+invariant-read_members-loop-first l = IsReadSoFar l.fn.used l.fn.members l.tags.items l.counted l.left
+
+abbrev pub decreases-read_members-loop-first : goal.decreases-read_members-loop-first
+decreases-read_members-loop-first l = length l.left

@@ -1,0 +1,314 @@
+//! The intersection in the place of one of its tags.
+
+ghost use Rattle.std.specs.Prelude.{◌≡◌, ℕ, ◌+◌, ◌*◌, ◌<◌, ◌≤◌, ◌↔◌, ◌++◌, ◌∷◌, ◌&&◌, [], true, false, max, length, take, drop, slice_index_or, IsTrue, IfOk, OnOk, IsErrOf, MatchOption};
+ghost use Rattle.std.specs.Arc.{arc_slice_items};
+ghost use Rattle.spki_tag.specs.Request.{Request, IsRequest};
+ghost use Rattle.spki_tag.specs.Tag.{IsNormalTag, contains, each_normal, is_nothing, is_set, is_star, ldepth, list, more, most_nodes, nodes, nodes_all, none, set, star, tags};
+ghost use Rattle.spki_tag.specs.Meet.{each_meet, has_nothing, kept, meet, pairs};
+
+use crate::fault::MeetFault;
+use crate::form::is_set;
+use crate::intersection::{MOST_NODES, meet_tags};
+use crate::leaf::SharedOctets;
+use crate::parts::push_copies;
+use crate::tag::{Node, Tag, nodes_of};
+use std::alloc::{AllocError, Global};
+use std::mem;
+
+/// Tags, and how many nodes they have together.
+#[derive(Drop)]
+struct Counted {
+    tags: Vec<Tag>,
+    nodes: usize,
+}
+
+/// How many of some tags are met and kept, and how many nodes these have together with the tags that are still to be met.
+#[derive(Clone, Copy)]
+struct Kept {
+    tags: usize,
+    nodes: usize,
+}
+
+/// Whether a tag stays as it is where it is met with another, as far as strings and limits tell.
+fn stays(one: &Tag, other: &Tag) -> bool
+    ensures same { IsTrue result → meet one.now other.now ≡ one.now }
+    ensures some { IsTrue result → is_nothing one.now ≡ false }
+{
+    match &one.node {
+        Node::Leaf(leaf) => match &other.node {
+            Node::Leaf(second) => leaf.stays(second),
+            Node::List(_, _, _) => false,
+            Node::Set(_, _) => false,
+        },
+        Node::List(_, _, _) => false,
+        Node::Set(_, _) => false,
+    }
+}
+
+/// Takes the tag out of a place, in which `(*)` is left.
+fn taken(members: &mut Vec<Tag>, place: usize) -> Tag
+    requires { place < length members.old.items }
+    ensures taken { result ≡ slice_index_or members.old.items place star }
+    ensures long { length members.new.items ≡ length members.old.items }
+    ensures before { (n : ℕ) → n ≤ place → take n members.new.items ≡ take n members.old.items }
+    ensures behind { drop (place + 1) members.new.items ≡ drop (place + 1) members.old.items }
+{
+    mem::replace(&mut members[place], Tag::everything())
+}
+
+/// Puts the tag from a place into an earlier one, unless they are the same.
+fn keep(members: &mut Vec<Tag>, to: usize, place: usize)
+    requires inside { place < length members.old.items }
+    requires earlier { to ≤ place }
+    ensures long { length members.new.items ≡ length members.old.items }
+    ensures kept { take (to + 1) members.new.items
+        ≡ take to members.old.items ++ slice_index_or members.old.items place star ∷ [] }
+    ensures behind { drop (place + 1) members.new.items ≡ drop (place + 1) members.old.items }
+{
+    if to < place {
+        members.swap(to, place);
+    }
+}
+
+/// Meets the tag in a place with another, and puts what that leaves, but for `(* set)`, behind the tags that are kept.
+#[cycle(narrowing)]
+fn meet_place(
+    alloc: Global,
+    members: &mut Vec<Tag>,
+    before: Kept,
+    place: usize,
+    other: &Tag,
+) -> Result<Kept, AllocError>
+    requires inside { place < length members.old.items }
+    requires earlier { before.tags ≤ place }
+    requires few { nodes (slice_index_or members.old.items place star) * nodes other.now ≤ most_nodes }
+    requires counted { nodes (slice_index_or members.old.items place star) ≤ before.nodes }
+    requires small { before.nodes ≤ 2 * most_nodes }
+    ensures long { OnOk result (length members.new.items ≡ length members.old.items) }
+    ensures behind { OnOk result (drop (place + 1) members.new.items ≡ drop (place + 1) members.old.items) }
+    ensures earlier { IfOk result (λ k. k.tags ≤ place + 1) }
+    ensures met { IfOk result (λ k. take k.tags members.new.items
+        ≡ take before.tags members.old.items ++ kept (meet (slice_index_or members.old.items place star) other.now) []) }
+    ensures counted { IfOk result (λ k. k.nodes + nodes (slice_index_or members.old.items place star)
+        ≡ before.nodes + nodes_all (tags (kept (meet (slice_index_or members.old.items place star) other.now) []))) }
+{
+    if stays(&members[place], other) {
+        keep(members, before.tags, place);
+        return Ok(Kept {
+            tags: before.tags + 1,
+            nodes: before.nodes,
+        });
+    }
+    let member = taken(members, place);
+    let rest = before.nodes - member.nodes();
+    let met = meet_owned(alloc, member, other)?;
+    if met.is_nothing() {
+        return Ok(Kept {
+            tags: before.tags,
+            nodes: rest,
+        });
+    }
+    let count = rest + met.nodes();
+    members[before.tags] = met;
+    Ok(Kept {
+        tags: before.tags + 1,
+        nodes: count,
+    })
+}
+
+/// What each of some tags leaves of another, in their places, but for `(* set)`. They have this many nodes together.
+#[cycle(narrowing)]
+fn met_in_place(
+    alloc: Global,
+    members: Vec<Tag>,
+    count: usize,
+    other: &Tag,
+) -> Result<Counted, AllocError>
+    requires counted { count ≡ nodes_all (tags members.items) }
+    requires few { nodes_all (tags members.items) * nodes other.now ≤ most_nodes }
+    ensures met { IfOk result (λ met. met.tags.items ≡ pairs (tags members.items) (more other.now none)) }
+    ensures counted { IfOk result (λ met. met.nodes ≡ nodes_all (tags met.tags.items)) }
+{
+    let mut members = members;
+    let mut kept = Kept {
+        tags: 0,
+        nodes: count,
+    };
+    for place in 0..members.len() {
+        kept = meet_place(alloc, &mut members, kept, place, other)?;
+    }
+    members.truncate(kept.tags);
+    Ok(Counted {
+        tags: members,
+        nodes: kept.nodes,
+    })
+}
+
+/// What a set of these tags leaves of another that is neither a set nor `(*)`. The set has this many nodes.
+#[cycle(narrowing)]
+fn meet_set(alloc: Global, members: Vec<Tag>, count: usize, other: &Tag) -> Result<Tag, AllocError>
+    requires set { IsNormalTag (set (tags members.items)) }
+    requires counted { count ≡ nodes (set (tags members.items)) }
+    requires other { IsNormalTag other.now }
+    requires no_star { is_star other.now ≡ false }
+    requires no_set { is_set other.now ≡ false }
+    requires few { nodes (set (tags members.items)) * nodes other.now ≤ most_nodes }
+    ensures { IfOk result (λ c. c ≡ meet (set (tags members.items)) other.now) }
+{
+    let met = met_in_place(alloc, members, count - 1, other)?;
+    Ok(Tag::gathered_counted(met.tags, met.nodes))
+}
+
+/// What some tags leave of others in each place, in their places, the longer one's further members as they are; nothing where
+/// that of some place is `(* set)`. They have this many nodes together.
+#[cycle(narrowing)]
+fn each_in_place(
+    alloc: Global,
+    members: Vec<Tag>,
+    count: usize,
+    others: &[Tag],
+) -> Result<Option<Counted>, AllocError>
+    requires counted { count ≡ nodes_all (tags members.items) }
+    requires few { count ≤ most_nodes }
+    requires others { nodes_all (tags others.now) ≤ most_nodes }
+    requires bound { nodes_all (tags members.items) * nodes_all (tags others.now) ≤ most_nodes }
+    requires one { each_normal is_nothing (tags members.items) ≡ true }
+    requires other { each_normal is_nothing (tags others.now) ≡ true }
+    ensures { IfOk result (λ r. let met = each_meet (tags members.items) (tags others.now) in
+        MatchOption r (has_nothing met ≡ true)
+        (λ m. (m.tags.items ≡ met) × (m.nodes ≡ nodes_all (tags met)) × (has_nothing met ≡ false))) }
+{
+    let common = members.len().min(others.len());
+    let mut members = members;
+    let mut count = count;
+    for i in 0..common {
+        let member = taken(&mut members, i);
+        let rest = count - member.nodes();
+        let met = meet_owned(alloc, member, &others[i])?;
+        if met.is_nothing() {
+            return Ok(None);
+        }
+        count = rest + met.nodes();
+        members[i] = met;
+    }
+    count += nodes_of(&others[common..]);
+    push_copies(&mut members, &others[common..])?;
+    Ok(Some(Counted {
+        tags: members,
+        nodes: count,
+    }))
+}
+
+/// What lists with these heads and further members leave together, where the first is used up. The first one's further members
+/// have this many nodes together.
+#[cycle(narrowing)]
+fn lists_in_place(
+    alloc: Global,
+    head: SharedOctets,
+    further: Vec<Tag>,
+    count: usize,
+    other: &SharedOctets,
+    others: &[Tag],
+) -> Result<Tag, AllocError>
+    requires counted { count ≡ nodes_all (tags further.items) }
+    requires few { count ≤ most_nodes }
+    requires others { nodes_all (tags others.now) ≤ most_nodes }
+    requires bound { nodes_all (tags further.items) * nodes_all (tags others.now) ≤ most_nodes }
+    requires one { each_normal is_nothing (tags further.items) ≡ true }
+    requires other { each_normal is_nothing (tags others.now) ≡ true }
+    requires met { IsNormalTag (meet (list (arc_slice_items head) (tags further.items)) (list (arc_slice_items other.now) (tags others.now))) }
+    ensures { IfOk result (λ c. c ≡ meet (list (arc_slice_items head) (tags further.items)) (list (arc_slice_items other.now) (tags others.now))) }
+{
+    if head.as_slice() != other.as_slice() {
+        return Ok(Tag::nothing(alloc));
+    }
+    match each_in_place(alloc, further, count, others)? {
+        None => Ok(Tag::nothing(alloc)),
+        Some(met) => Ok(Tag::list_counted(head, met.tags, met.nodes)),
+    }
+}
+
+/// What a list of this head and these further members leaves of another tag that is neither a set nor `(*)`. The list has
+/// this many nodes.
+#[cycle(narrowing)]
+fn meet_list(
+    alloc: Global,
+    head: SharedOctets,
+    further: Vec<Tag>,
+    count: usize,
+    other: &Tag,
+) -> Result<Tag, AllocError>
+    requires list { IsNormalTag (list (arc_slice_items head) (tags further.items)) }
+    requires counted { count ≡ nodes (list (arc_slice_items head) (tags further.items)) }
+    requires no_star { is_star other.now ≡ false }
+    requires no_set { is_set other.now ≡ false }
+    requires few { nodes (list (arc_slice_items head) (tags further.items)) * nodes other.now ≤ most_nodes }
+    ensures { IfOk result (λ c. c ≡ meet (list (arc_slice_items head) (tags further.items)) other.now) }
+{
+    match &other.node {
+        Node::Leaf(_) => Ok(Tag::nothing(alloc)),
+        Node::List(second, others, _) => {
+            lists_in_place(alloc, head, further, count - 2, second, others)
+        }
+        Node::Set(_, _) => unreachable!(),
+    }
+}
+
+/// What a tag and another leave together, where the first is used up.
+#[cycle(narrowing)]
+fn meet_owned(alloc: Global, one: Tag, other: &Tag) -> Result<Tag, AllocError>
+    requires { nodes one * nodes other.now ≤ most_nodes }
+    ensures { IfOk result (λ c. c ≡ meet one other.now) }
+{
+    if other.is_everything() {
+        return Ok(one);
+    }
+    if is_set(other) {
+        return meet_tags(alloc, &one, other);
+    }
+    match one.node {
+        Node::Set(members, count) => meet_set(alloc, members, count, other),
+        Node::Leaf(leaf) => meet_tags(alloc, &Tag::leaf(leaf), other),
+        Node::List(head, further, count) => meet_list(alloc, head, further, count, other),
+    }
+}
+
+impl Tag {
+    /// The intersection, as `meet` has it, for which this tag is used up: where the other is `(*)` it takes no memory, and
+    /// where the other is no set, that of one member at a time.
+    ///
+    /// # Errors
+    ///
+    /// `TooLarge` where the product of the numbers of their nodes is over 1,000,000, and `Memory` where memory ran
+    /// out.
+    pub fn into_meet(self, alloc: Global, other: &Tag) -> Result<Tag, MeetFault>
+        ensures which { IfOk result (λ c. c ≡ meet self other.now) }
+        ensures exact { IfOk result (λ c. (g : Request) → IsRequest g
+            → contains c g ≡ (contains self g && contains other.now g)) }
+        ensures bounds { IfOk result (λ c. (nodes c ≤ nodes self * nodes other.now)
+            × (ldepth c ≤ max (ldepth self) (ldepth other.now))) }
+        ensures too_large { IsErrOf result MeetFault.TooLarge ↔ (1000000 < nodes self * nodes other.now) }
+    {
+        self.into_meet_within(alloc, other, MOST_NODES)
+    }
+
+    /// As `into_meet`, for a caller that sets a smaller limit: `most` instead of 1,000,000.
+    ///
+    /// # Errors
+    ///
+    /// `TooLarge` where the product of the numbers of their nodes is over `most`, and `Memory` where memory ran out.
+    pub fn into_meet_within(self, alloc: Global, other: &Tag, most: usize) -> Result<Tag, MeetFault>
+        requires { most ≤ 1000000 }
+        ensures which { IfOk result (λ c. c ≡ meet self other.now) }
+        ensures exact { IfOk result (λ c. (g : Request) → IsRequest g
+            → contains c g ≡ (contains self g && contains other.now g)) }
+        ensures bounds { IfOk result (λ c. (nodes c ≤ nodes self * nodes other.now)
+            × (ldepth c ≤ max (ldepth self) (ldepth other.now))) }
+        ensures too_large { IsErrOf result MeetFault.TooLarge ↔ (most < nodes self * nodes other.now) }
+    {
+        if self.nodes() * other.nodes() > most {
+            return Err(MeetFault::TooLarge);
+        }
+        Ok(meet_owned(alloc, self, other)?)
+    }
+}

@@ -1,0 +1,200 @@
+//! The intersection of tags without members.
+
+ghost use Rattle.std.specs.Prelude.{◌≡◌, Some, IsTrue, IfOk, option_map};
+ghost use Rattle.std.specs.Arc.{arc_slice_items};
+ghost use Rattle.spki_tag.specs.Leaves.{ordering_of, limit_of, leaf_tag, leaf_or_nothing};
+ghost use Rattle.spki_tag.specs.Tag.{range};
+ghost use Rattle.spki_tag.specs.Meet.{greater_low, lesser_up, ordering_meet, ranged, prefixes_meet, string_meet, meet};
+
+use crate::leaf::{Leaf, Limit, RangeOrdering, SharedOctets, copied_limit};
+use crate::limit_intersection::{exclude, greater_low, lesser_up, low_stays, up_stays};
+use crate::prefix::Prefix;
+use std::alloc::AllocError;
+
+/// The ordering of the strings that two orderings are of. Times and dates have none in common.
+fn common_ordering(one: RangeOrdering, other: RangeOrdering) -> Option<RangeOrdering>
+    ensures { option_map ordering_of result ≡ ordering_meet (ordering_of one) (ordering_of other) }
+{
+    match one {
+        RangeOrdering::Alpha => Some(other),
+        RangeOrdering::Time => match other {
+            RangeOrdering::Alpha => Some(one),
+            RangeOrdering::Time => Some(one),
+            RangeOrdering::Date => None,
+        },
+        RangeOrdering::Date => match other {
+            RangeOrdering::Alpha => Some(one),
+            RangeOrdering::Time => None,
+            RangeOrdering::Date => Some(one),
+        },
+    }
+}
+
+/// The range of an ordering with two limits, unless they exclude each other.
+fn limited(
+    ordering: Option<RangeOrdering>,
+    low: &Option<Limit>,
+    up: &Option<Limit>,
+) -> Result<Option<Leaf>, AllocError>
+    ensures { IfOk result (λ r. leaf_or_nothing r
+        ≡ ranged (option_map ordering_of ordering) (limit_of low.now) (limit_of up.now)) }
+{
+    match ordering {
+        None => Ok(None),
+        Some(common) => {
+            if exclude(low, up) {
+                Ok(None)
+            } else {
+                Ok(Some(Leaf::Range(common, copied_limit(low)?, copied_limit(up)?)))
+            }
+        }
+    }
+}
+
+/// What two ranges leave together: the greater lower limit and the lesser upper limit.
+fn meet_ranges(
+    ordering: RangeOrdering,
+    low: &Option<Limit>,
+    up: &Option<Limit>,
+    other: RangeOrdering,
+    other_low: &Option<Limit>,
+    other_up: &Option<Limit>,
+) -> Result<Option<Leaf>, AllocError>
+    ensures { IfOk result (λ r. leaf_or_nothing r
+        ≡ ranged (ordering_meet (ordering_of ordering) (ordering_of other))
+        (greater_low (limit_of low.now) (limit_of other_low.now)) (lesser_up (limit_of up.now) (limit_of other_up.now))) }
+{
+    limited(
+        common_ordering(ordering, other),
+        greater_low(low, other_low),
+        lesser_up(up, other_up),
+    )
+}
+
+/// Whether the strings of one ordering are all of another.
+fn ordering_stays(one: RangeOrdering, other: RangeOrdering) -> bool
+    ensures { IsTrue result → ordering_meet (ordering_of one) (ordering_of other) ≡ Some (ordering_of one) }
+{
+    match other {
+        RangeOrdering::Alpha => true,
+        RangeOrdering::Time => match one {
+            RangeOrdering::Alpha => false,
+            RangeOrdering::Time => true,
+            RangeOrdering::Date => false,
+        },
+        RangeOrdering::Date => match one {
+            RangeOrdering::Alpha => false,
+            RangeOrdering::Time => false,
+            RangeOrdering::Date => true,
+        },
+    }
+}
+
+/// Whether a range stays as it is where it is met with another.
+fn range_stays(
+    ordering: RangeOrdering,
+    low: &Option<Limit>,
+    up: &Option<Limit>,
+    other: RangeOrdering,
+    other_low: &Option<Limit>,
+    other_up: &Option<Limit>,
+) -> bool
+    ensures { IsTrue result → ranged (ordering_meet (ordering_of ordering) (ordering_of other))
+        (greater_low (limit_of low.now) (limit_of other_low.now)) (lesser_up (limit_of up.now) (limit_of other_up.now))
+        ≡ range (ordering_of ordering) (limit_of low.now) (limit_of up.now) }
+{
+    if !ordering_stays(ordering, other) {
+        return false;
+    }
+    if !low_stays(low, other_low) {
+        return false;
+    }
+    if !up_stays(up, other_up) {
+        return false;
+    }
+    !exclude(low, up)
+}
+
+/// A string, if a tag contains it.
+fn meet_string(octets: &SharedOctets, other: &Leaf) -> Result<Option<Leaf>, AllocError>
+    ensures { IfOk result (λ r. leaf_or_nothing r ≡ string_meet (arc_slice_items octets.now) (leaf_tag other.now)) }
+{
+    if other.holds(octets.as_slice()) {
+        Ok(Some(Leaf::String(octets.clone()?)))
+    } else {
+        Ok(None)
+    }
+}
+
+/// The longer of two prefixes, if it starts with the shorter.
+fn meet_prefixes(one: &Prefix, other: &Prefix) -> Result<Option<Leaf>, AllocError>
+    ensures { IfOk result (λ r. leaf_or_nothing r ≡ prefixes_meet one.now other.now) }
+{
+    if one.octets().starts_with(other.octets()) {
+        Ok(Some(Leaf::Prefix(one.clone()?)))
+    } else if other.octets().starts_with(one.octets()) {
+        Ok(Some(Leaf::Prefix(other.clone()?)))
+    } else {
+        Ok(None)
+    }
+}
+
+impl Leaf {
+    /// Whether a tag without members stays as it is where it is met with another, as far as is told without making
+    /// anything.
+    pub(crate) fn stays(&self, other: &Leaf) -> bool
+        ensures { IsTrue result → meet (leaf_tag self.now) (leaf_tag other.now) ≡ leaf_tag self.now }
+    {
+        match self {
+            Leaf::String(octets) => other.holds(octets.as_slice()),
+            Leaf::Prefix(prefix) => match other {
+                Leaf::Prefix(second) => prefix.octets().starts_with(second.octets()),
+                Leaf::Star => false,
+                Leaf::String(_) => false,
+                Leaf::Range(_, _, _) => false,
+            },
+            Leaf::Range(ordering, low, up) => match other {
+                Leaf::Range(second, second_low, second_up) => {
+                    range_stays(*ordering, low, up, *second, second_low, second_up)
+                }
+                Leaf::Star => false,
+                Leaf::String(_) => false,
+                Leaf::Prefix(_) => false,
+            },
+            Leaf::Star => false,
+        }
+    }
+
+    /// What two tags without members leave together, and nothing where that is `(* set)`. A prefix counts as the
+    /// range of any strings from itself to below the least string above all that start with it.
+    pub(crate) fn meet(&self, other: &Leaf) -> Result<Option<Leaf>, AllocError>
+        ensures { IfOk result (λ r. leaf_or_nothing r ≡ meet (leaf_tag self.now) (leaf_tag other.now)) }
+    {
+        match self {
+            Leaf::Star => Ok(Some(other.copy()?)),
+            Leaf::String(octets) => meet_string(octets, other),
+            Leaf::Prefix(prefix) => match other {
+                Leaf::Star => Ok(Some(self.copy()?)),
+                Leaf::String(octets) => meet_string(octets, self),
+                Leaf::Prefix(second) => meet_prefixes(prefix, second),
+                Leaf::Range(ordering, low, up) => {
+                    let from = prefix.lower_limit()?;
+                    let below = prefix.upper_limit()?;
+                    meet_ranges(RangeOrdering::Alpha, &from, &below, *ordering, low, up)
+                }
+            },
+            Leaf::Range(ordering, low, up) => match other {
+                Leaf::Star => Ok(Some(self.copy()?)),
+                Leaf::String(octets) => meet_string(octets, self),
+                Leaf::Prefix(prefix) => {
+                    let from = prefix.lower_limit()?;
+                    let below = prefix.upper_limit()?;
+                    meet_ranges(*ordering, low, up, RangeOrdering::Alpha, &from, &below)
+                }
+                Leaf::Range(second, second_low, second_up) => {
+                    meet_ranges(*ordering, low, up, *second, second_low, second_up)
+                }
+            },
+        }
+    }
+}

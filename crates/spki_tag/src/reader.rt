@@ -1,0 +1,252 @@
+//! Reading tags.
+
+ghost use Rattle.std.specs.Prelude.{◌≡◌, ◌+◌, ◌≤◌, ◌<◌, ◌∷◌, List, Some, None, IfOk, IfErr, IfSome, IsSome, IsOkUnless, codes};
+ghost use Rattle.sexpr_core.specs.Value.{Value, plain, group, values, node};
+ghost use Rattle.spki_tag.specs.Leaves.{leaf_tag};
+ghost use Rattle.spki_tag.specs.Tag.{Tag, IsTag, tag_value, starred, nodes};
+ghost use Rattle.spki_tag.specs.Request.{IsHead};
+ghost use Rattle.spki_tag.specs.Read.{ReadsAs, IsNoTag, most_read};
+ghost use Rattle.spki_tag.specs.FaultOf.{IsNamed, group_fault, list_fault, prefix_fault, tag_fault};
+ghost use Rattle.spki_tag.specs.Faults.{TagShows, RequestShows};
+ghost use Rattle.spki_tag.specs.Steps.{IsRead, AreRead, TagShowsAfter, TagsShowAfter, fault_after, fault_after_all};
+
+use crate::fault::TagFault;
+use crate::leaf::Leaf;
+use crate::prefix::Prefix;
+use crate::ranges::read_range;
+use crate::tag::Tag;
+use sexpr_core::syntax::{Members, Node, NodeKind};
+use sexpr_core::{Doc, NodeId};
+use std::alloc::Global;
+use std::sync::ArcSlice;
+
+/// The most nodes that a tag has where it is read.
+const MOST_READ: usize = 1024;
+
+/// The octets of a list's first member, a string without display hint.
+pub(crate) fn head_of<'a>(first: &Node<'_, 'a>) -> Result<&'a [u8], TagFault>
+    ensures string { IfOk result (λ head. first.now ≡ plain head.now) }
+    ensures shows { IfErr result (λ fault. (vs : List Value)
+        → TagShows fault (group (first.now ∷ vs)) × RequestShows fault (group (first.now ∷ vs))) }
+    ensures named { IfErr result (λ fault. (vs : List Value)
+        → (list_fault (first.now ∷ vs) ≡ Some fault) × (group_fault (first.now ∷ vs) ≡ Some fault)) }
+{
+    match first.kind() {
+        NodeKind::List(_) => Err(TagFault::ListHead),
+        NodeKind::String { hint: None, body } => Ok(body),
+        NodeKind::String { hint: Some(_), .. } => Err(TagFault::Hint),
+    }
+}
+
+/// Reads what is behind `*` and `prefix`.
+fn read_prefix(alloc: Global, further: Members<'_, '_>) -> Result<Leaf, TagFault>
+    ensures read { IfOk result (λ leaf. tag_value (leaf_tag leaf) ≡ starred (codes "prefix") (values further.entry)) }
+    ensures shows { IfErr result (λ fault. TagShows fault (starred (codes "prefix") (values further.entry))) }
+    ensures named { IfErr result (λ fault. IsNamed fault (prefix_fault further.entry)) }
+{
+    match further.split_first() {
+        None => Err(TagFault::UnknownStar),
+        Some((prefix, rest)) => {
+            if !rest.is_empty() {
+                return Err(TagFault::UnknownStar);
+            }
+            match prefix.kind() {
+                NodeKind::List(_) => Err(TagFault::UnknownStar),
+                NodeKind::String { hint: None, body } => {
+                    Ok(Leaf::Prefix(Prefix::of(alloc, body)?))
+                }
+                NodeKind::String { hint: Some(_), .. } => Err(TagFault::Hint),
+            }
+        }
+    }
+}
+
+/// Reads a value as a tag, of which so many nodes were counted before, and answers how many are counted then.
+#[cycle(read)]
+fn read_tag(alloc: Global, value: &Node<'_, '_>, used: usize) -> Result<(Tag, usize), TagFault>
+    ensures read { IfOk result (λ p. IsRead used value.now p.0 p.1) }
+    ensures shows { IfErr result (λ fault. TagShowsAfter used fault value.now) }
+    ensures named { IfErr result (λ fault. IsNamed fault (fault_after used value.now)) }
+{
+    if used >= MOST_READ {
+        return Err(TagFault::TooManyNodes);
+    }
+    match value.kind() {
+        NodeKind::List(members) => read_list(alloc, members, used),
+        NodeKind::String { hint: None, body } => Ok((
+            Tag::string(ArcSlice::from_slice(alloc, body)?),
+            used + 1,
+        )),
+        NodeKind::String { hint: Some(_), .. } => Err(TagFault::Hint),
+    }
+}
+
+/// Reads a list of these members as a tag.
+#[cycle(read)]
+fn read_list(alloc: Global, members: Members<'_, '_>, used: usize) -> Result<(Tag, usize), TagFault>
+    requires { used < most_read }
+    ensures read { IfOk result (λ p. IsRead used (group members.entry) p.0 p.1) }
+    ensures shows { IfErr result (λ fault. TagShowsAfter used fault (group members.entry)) }
+    ensures named { IfErr result (λ fault. IsNamed fault (fault_after used (group members.entry))) }
+{
+    match members.split_first() {
+        None => Err(TagFault::EmptyList),
+        Some((first, further)) => {
+            let head = head_of(&first)?;
+            if head == b"*".as_slice() {
+                read_starred(alloc, further, used)
+            } else {
+                read_plain_list(alloc, head, further, used)
+            }
+        }
+    }
+}
+
+/// Reads what stands behind the head `*` of a list.
+#[cycle(read)]
+fn read_starred(
+    alloc: Global,
+    further: Members<'_, '_>,
+    used: usize,
+) -> Result<(Tag, usize), TagFault>
+    requires { used < most_read }
+    ensures read { IfOk result (λ p. IsRead used (group (plain (codes "*") ∷ further.entry)) p.0 p.1) }
+    ensures shows { IfErr result (λ fault. TagShowsAfter used fault (group (plain (codes "*") ∷ further.entry))) }
+    ensures named { IfErr result (λ fault. IsNamed fault (fault_after used (group (plain (codes "*") ∷ further.entry)))) }
+{
+    match further.split_first() {
+        None => Ok((Tag::everything(), used + 1)),
+        Some((form, rest)) => match form.kind() {
+            NodeKind::List(_) => Err(TagFault::UnknownStar),
+            NodeKind::String { hint: None, body } => read_form(alloc, body, rest, used),
+            NodeKind::String { hint: Some(_), .. } => Err(TagFault::Hint),
+        },
+    }
+}
+
+/// Reads what stands behind `*` and this word.
+#[cycle(read)]
+fn read_form(
+    alloc: Global,
+    word: &[u8],
+    further: Members<'_, '_>,
+    used: usize,
+) -> Result<(Tag, usize), TagFault>
+    requires { used < most_read }
+    ensures read { IfOk result (λ p. IsRead used (starred word.now (values further.entry)) p.0 p.1) }
+    ensures shows { IfErr result (λ fault. TagShowsAfter used fault (starred word.now (values further.entry))) }
+    ensures named { IfErr result (λ fault. IsNamed fault (fault_after used (starred word.now (values further.entry)))) }
+{
+    if word == b"set".as_slice() {
+        read_set(alloc, further, used)
+    } else if word == b"prefix".as_slice() {
+        Ok((Tag::leaf(read_prefix(alloc, further)?), used + 1))
+    } else if word == b"range".as_slice() {
+        Ok((Tag::leaf(read_range(alloc, further)?), used + 1))
+    } else {
+        Err(TagFault::UnknownStar)
+    }
+}
+
+/// Reads what stands behind `*` and `set`.
+#[cycle(read)]
+fn read_set(alloc: Global, further: Members<'_, '_>, used: usize) -> Result<(Tag, usize), TagFault>
+    requires { used < most_read }
+    ensures read { IfOk result (λ p. IsRead used (starred (codes "set") (values further.entry)) p.0 p.1) }
+    ensures shows { IfErr result (λ fault. TagShowsAfter used fault (starred (codes "set") (values further.entry))) }
+    ensures named { IfErr result (λ fault. IsNamed fault (fault_after used (starred (codes "set") (values further.entry)))) }
+{
+    let (members, after) = read_members(alloc, further, used + 1)?;
+    Ok((Tag::set_of(alloc, members)?, after))
+}
+
+/// Reads a list with this head, which isn't `*`, and these members behind it as a tag.
+#[cycle(read)]
+fn read_plain_list(
+    alloc: Global,
+    head: &[u8],
+    further: Members<'_, '_>,
+    used: usize,
+) -> Result<(Tag, usize), TagFault>
+    requires room { used < most_read }
+    requires head { IsHead head.now }
+    ensures read { IfOk result (λ p. IsRead used (group (plain head.now ∷ further.entry)) p.0 p.1) }
+    ensures shows { IfErr result (λ fault. TagShowsAfter used fault (group (plain head.now ∷ further.entry))) }
+    ensures named { IfErr result (λ fault. IsNamed fault (fault_after used (group (plain head.now ∷ further.entry)))) }
+{
+    if used + 1 >= MOST_READ {
+        return Err(TagFault::TooManyNodes);
+    }
+    let (members, after) = read_members(alloc, further, used + 2)?;
+    let octets = ArcSlice::from_slice(alloc, head)?;
+    Ok((Tag::list_of(octets, members), after))
+}
+
+/// Reads each of the members as a tag.
+#[cycle(read)]
+fn read_members(
+    alloc: Global,
+    members: Members<'_, '_>,
+    used: usize,
+) -> Result<(Vec<Tag>, usize), TagFault>
+    requires { used ≤ most_read }
+    ensures read { IfOk result (λ p. AreRead used members.entry p.0.items p.1) }
+    ensures shows { IfErr result (λ fault. TagsShowAfter used fault members.entry) }
+    ensures named { IfErr result (λ fault. IsNamed fault (fault_after_all used members.entry)) }
+{
+    let mut tags = Vec::new(alloc);
+    let mut counted = used;
+    let mut left = members;
+    while let Some((first, further)) = left.split_first() {
+        let (tag, after) = read_tag(alloc, &first, counted)?;
+        tags.push(tag)?;
+        counted = after;
+        left = further;
+    }
+    Ok((tags, counted))
+}
+
+impl Tag {
+    /// Reads a node of a document as a tag, and brings it into normal form.
+    ///
+    /// # Errors
+    ///
+    /// The first fault, depth first from the left: more than 1,024 nodes as written are `TooManyNodes`, a string with
+    /// a display hint is `Hint`, a list without members `EmptyList`, one that begins with a list `ListHead`, and one
+    /// that begins with `*` and is no form of a tag `UnknownStar`. A range of another ordering than `alpha`, `time`
+    /// and `date` is `RangeOrdering`, and one with other limits than at most a lower one and then at most an upper
+    /// one `RangeLimit`. `Memory` where memory ran out.
+    pub fn of(alloc: Global, value: &Node<'_, '_>) -> Result<Tag, TagFault>
+        ensures read { IfOk result (λ tag. ReadsAs value.now tag) }
+        ensures only { (t : Tag) → IsTag t → nodes t ≤ most_read → tag_value t ≡ value.now
+            → IsOkUnless result TagFault.Memory }
+        ensures refused { IfErr result (λ fault. IsNoTag fault value.now) }
+        ensures shows { IfErr result (λ fault. TagShows fault value.now) }
+        ensures named { IfErr result (λ fault. IsNamed fault (tag_fault value.now)) }
+        ensures faultless { IfOk result (λ tag. tag_fault value.now ≡ None) }
+    {
+        let (tag, _) = read_tag(alloc, value, 0)?;
+        Ok(tag)
+    }
+
+    /// Reads node n of a document as a tag, as `of` does.
+    ///
+    /// # Errors
+    ///
+    /// Those of `of`.
+    pub fn read(alloc: Global, document: &Doc<'_>, n: NodeId) -> Result<Tag, TagFault>
+        requires { IsSome (node document.now n.0) }
+        ensures read { IfSome (node document.now n.0) (λ value. IfOk result (λ tag. ReadsAs value tag)) }
+        ensures only { IfSome (node document.now n.0) (λ value.
+            (t : Tag) → IsTag t → nodes t ≤ most_read → tag_value t ≡ value → IsOkUnless result TagFault.Memory) }
+        ensures refused { IfSome (node document.now n.0) (λ value. IfErr result (λ fault. IsNoTag fault value)) }
+        ensures shows { IfSome (node document.now n.0) (λ value. IfErr result (λ fault. TagShows fault value)) }
+        ensures named { IfSome (node document.now n.0) (λ value. IfErr result (λ fault. IsNamed fault (tag_fault value))) }
+        ensures faultless { IfSome (node document.now n.0) (λ value. IfOk result (λ tag. tag_fault value ≡ None)) }
+    {
+        match document.node(n) {
+            Some(value) => Tag::of(alloc, &value),
+            None => unreachable!(),
+        }
+    }
+}

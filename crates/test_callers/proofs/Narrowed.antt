@@ -1,0 +1,15 @@
+-- Tags that aren't met.
+use Rattle.std.proofs.Common.{◌≡◌, ◌*◌, ◌<◌, refl}
+use Rattle.sexpr_core.specs.Value.{Value}
+use Rattle.spki_tag.specs.declared.fault.MeetFault.{MeetFault}
+use Rattle.spki_tag.specs.declared.fault.MeetFault.TheVariants.{TooLarge, Memory}
+use Rattle.spki_tag.specs.Tag.{Tag, nodes}
+use Rattle.spki_tag.specs.Read.{ReadsAs}
+use Rattle.test_callers.specs.declared.tags.NarrowFault.TheVariants as faults
+use Rattle.test_callers.specs.Narrowing.{IsNotNarrowed}
+
+-- two tags that are read and not met, where the fault of size says what it does
+pub not_met : (own : Tag) (v : Value) (t : Tag) (fault : MeetFault) → ReadsAs v t
+    → (fault ≡ TooLarge → 1000000 < nodes own * nodes t) → IsNotNarrowed own v (faults.Meet fault)
+not_met own v t TooLarge reads large = (t, reads, large refl)
+not_met own v t Memory reads large = (t, reads)

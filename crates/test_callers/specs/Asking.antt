@@ -1,0 +1,21 @@
+-- What is asked of a service.
+use Rattle.std.specs.Prelude.{List, []}
+use Rattle.spki_cert.specs.declared.entry.Entry.{Entry}
+use Rattle.spki_cert.specs.declared.certificate.SeqItem.{SeqItem}
+use Rattle.spki_cert.specs.declared.principal.Policy.TheVariants.{Strict}
+use Rattle.spki_case.specs.Case.{Case}
+use Rattle.test_callers.specs.declared.cases.Question.{Question}
+
+-- The case of a service's entries, the items that are shown and a question, without an accepted list, under the strict
+-- policy and with the limit of all tags.
+abbrev pub asked : List Entry → List SeqItem → Question → Case
+asked entries items question = record {
+  entries = entries;
+  rows = [];
+  items = items;
+  key = question.key;
+  request = question.request;
+  moment = question.moment;
+  policy = Strict;
+  most_nodes = 1000000;
+}

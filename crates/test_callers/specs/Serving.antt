@@ -1,0 +1,18 @@
+-- What a service answers to those who ask.
+use Rattle.std.specs.Prelude.{◌≡◌, ℕ, List, Ok}
+use Rattle.spki_cert.specs.declared.entry.Entry.{Entry}
+use Rattle.spki_cert.specs.declared.principal.Policy.{Policy}
+use Rattle.spki_case.specs.Case.{Case, Verified}
+use Rattle.spki_decision.specs.declared.decision.Decision.{Decision}
+use Rattle.spki_decision.specs.Decision.{IsDecision}
+use Rattle.spki_decision.specs.Views.{with_entries}
+use Rattle.spki_service.specs.declared.question.Question.{Question}
+use Rattle.spki_service.specs.Held.{AreEntries}
+use Rattle.spki_service.specs.Questions.{IsAsked}
+
+-- The answer is the decision of the case that has the entries of these texts, and asks what the question asks, under this policy.
+pub record IsAnswered (texts : List (List ℕ)) (policy : Policy) (q : Question) (verified : Verified) (d : Decision) : Type 0 where
+  pub case : Case
+  pub asked : IsAsked q case
+  pub under : case.policy ≡ policy
+  pub decided : (es : List Entry) → AreEntries texts es → IsDecision (with_entries case es) verified d

@@ -1,0 +1,64 @@
+//! A caller of `spki_guard`, which makes a case of parts.
+
+ghost use Rattle.std.specs.Prelude.{◌≡◌, ◌≢◌, List, IfOk, IfErr};
+ghost use Rattle.spki_cert.specs.declared.certificate.SeqItem.{SeqItem};
+ghost use Rattle.spki_cert.specs.Sequences.{SeqOf, SeqRefused};
+ghost use Rattle.spki_case.specs.View.{model};
+ghost use Rattle.test_callers.specs.Asking.{asked};
+
+use sexpr_core::syntax::Node;
+use spki_cert::{CertFault, CertFaultKind, Date, Entry, Key, Policy, sequence_of};
+use spki_guard::{AcceptedTable, Case};
+use spki_tag::Ground;
+use std::alloc::Global;
+
+/// Who asks a service for what, and when.
+#[derive(Drop)]
+pub struct Question<'a> {
+    /// The key that asks.
+    pub key: Key<'a>,
+    /// What it asks for.
+    pub request: Ground,
+    /// When.
+    pub moment: Date,
+}
+
+/// The case of a service's own access list, a sequence that is shown to it and what is asked, under the strict policy. Its
+/// accepted list is empty: it is for a verifier of the service's own.
+///
+/// # Errors
+///
+/// Those of `sequence_of`, and `Memory` at item 0.
+pub fn case_of<'a>(
+    alloc: Global,
+    acl: Vec<Entry<'a>>,
+    shown: &Node<'_, 'a>,
+    question: Question<'a>,
+) -> Result<Case<'a>, CertFault>
+    ensures case { IfOk result (λ case. (items : List SeqItem) × SeqOf shown.now items
+        × (model case ≡ asked acl.entry.items items question.entry)) }
+    ensures refused { IfErr result (λ fault. fault.kind ≢ CertFaultKind.Memory → SeqRefused shown.now fault) }
+{
+    let sequence = sequence_of(alloc, shown)?;
+    let Ok(accepted) = AcceptedTable::new(alloc, Vec::new(alloc)) else {
+        return Err(CertFault {
+            item: 0,
+            kind: CertFaultKind::Memory,
+        });
+    };
+    let Question {
+        key,
+        request,
+        moment,
+    } = question;
+    Ok(Case {
+        acl,
+        accepted,
+        sequence,
+        key,
+        request,
+        moment,
+        policy: Policy::Strict,
+        most_nodes: 1_000_000,
+    })
+}

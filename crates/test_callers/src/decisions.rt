@@ -1,0 +1,69 @@
+//! A caller of `spki_guard`, with a verifier of its own.
+
+ghost use Rattle.std.specs.Prelude.{◌≡◌, ◌↔◌, ℕ, Contains, IsTrue, IfOk, IsErrOf};
+ghost use Rattle.spki_case.specs.View.{model};
+ghost use Rattle.spki_decision.specs.Granted.{Granted, IsTooLarge};
+ghost use Rattle.spki_decision.specs.Decision.{IsDecision};
+ghost use Rattle.test_callers.specs.Revoking.{unrevoked};
+
+use spki_cert::Key;
+use spki_guard::{Case, Decision, GuardFault, Verifier, decide};
+use std::alloc::{AllocError, Global};
+
+/// Accepts what another verifier accepts, but no signature of a revoked key.
+#[derive(Drop)]
+pub struct Unrevoked<'v, 'k, V> {
+    /// The other verifier.
+    pub verifier: &'v V,
+    /// The revoked keys.
+    pub revoked: &'v [Key<'k>],
+}
+
+/// Whether a key is among some.
+fn is_among(keys: &[Key], key: &Key) -> bool
+    ensures { IsTrue result ↔ Contains keys.now key.now }
+{
+    keys.iter().any(|one| one.same(key))
+}
+
+impl<'v, 'k, V: Verifier> Verifier for Unrevoked<'v, 'k, V> {
+    ghost accepted = { λ own. unrevoked own.revoked.now (V.accepted own.verifier.now) };
+
+    fn accepts(
+        &self,
+        alloc: Global,
+        key: &Key,
+        message: &[u8],
+        value: &[u8],
+    ) -> Result<bool, AllocError>
+        ensures { IfOk result (λ yes. IsTrue yes
+            ↔ unrevoked self.now.revoked.now (V.accepted self.now.verifier.now) key.now message.now value.now) }
+    {
+        if is_among(self.revoked, key) {
+            return Ok(false);
+        }
+        self.verifier.accepts(alloc, key, message, value)
+    }
+}
+
+/// Decides a case as `decide` does, but lets no signature of a revoked key count.
+///
+/// # Errors
+///
+/// Those of `decide`.
+pub fn decide_unrevoked<V: Verifier>(
+    alloc: Global,
+    case: &Case,
+    verifier: &V,
+    revoked: &[Key],
+) -> Result<Decision, GuardFault>
+    // Yes says that this entry is granted by certificates that the verifier accepts and no revoked key has signed.
+    ensures granted { (n : ℕ) → result ≡ Ok (Decision.Yes n)
+        → Granted n (model case.now) (unrevoked revoked.now (V.accepted verifier.now)) }
+    ensures exact { IfOk result (IsDecision (model case.now) (unrevoked revoked.now (V.accepted verifier.now))) }
+    ensures too_large { IsErrOf result GuardFault.TooLarge
+        → IsTooLarge (model case.now) (unrevoked revoked.now (V.accepted verifier.now)) }
+{
+    let unrevoked = Unrevoked { verifier, revoked };
+    decide(alloc, case, &unrevoked)
+}

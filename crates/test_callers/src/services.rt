@@ -1,0 +1,77 @@
+//! A caller of `spki_guard`, which holds an access list and asks two questions.
+
+ghost use Rattle.std.specs.Prelude.{◌≡◌, ℕ, List, IfOk};
+ghost use Rattle.spki_service.specs.Held.{HoldsList};
+ghost use Rattle.test_callers.specs.Revoking.{unrevoked};
+ghost use Rattle.test_callers.specs.Serving.{IsAnswered};
+
+use crate::decisions::Unrevoked;
+use spki_cert::{Key, Policy};
+use spki_guard::{AclFault, AskFault, Decision, Guard, GuardFault, Limits, Question, Verifier};
+use std::alloc::Global;
+use thiserror::Error;
+
+/// Why a service doesn't answer.
+#[derive(Clone, Copy, Debug, PartialEq, Eq, Error)]
+pub enum ServiceFault {
+    /// Its list is no access list.
+    #[error("{0}")]
+    List(AclFault),
+    /// The question is refused.
+    #[error("{0}")]
+    Question(AskFault),
+    /// The question isn't decided.
+    #[error("{0}")]
+    Decision(GuardFault),
+}
+
+/// What a guard answers to a question, where no signature of a revoked key counts.
+fn answer<V: Verifier>(
+    alloc: Global,
+    guard: &Guard,
+    question: &Question,
+    verifier: &Unrevoked<V>,
+) -> Result<Decision, ServiceFault>
+    ensures { IfOk result (IsAnswered guard.now.texts guard.now.policy question.now
+        (unrevoked verifier.now.revoked.now (V.accepted verifier.now.verifier.now))) }
+{
+    let texts = match guard.texts(alloc, question) {
+        Ok(texts) => texts,
+        Err(fault) => return Err(ServiceFault::Question(fault)),
+    };
+    let asked = match guard.ask(alloc, &texts) {
+        Ok(asked) => asked,
+        Err(fault) => return Err(ServiceFault::Question(fault)),
+    };
+    match asked.decide(alloc, verifier) {
+        Ok(decision) => Ok(decision),
+        Err(fault) => Err(ServiceFault::Decision(fault)),
+    }
+}
+
+/// Reads an access list once and answers two questions by it, under the strict policy. No signature of a revoked key counts.
+///
+/// # Errors
+///
+/// `List` where the list is no access list, `Question` where a question is refused, `Decision` where one isn't decided.
+pub fn answer_both<V: Verifier>(
+    alloc: Global,
+    list: &[u8],
+    first: &Question,
+    second: &Question,
+    verifier: &V,
+    revoked: &[Key],
+) -> Result<(Decision, Decision), ServiceFault>
+    ensures { IfOk result (λ both. (texts : List (List ℕ)) × HoldsList list.now texts
+        × IsAnswered texts Policy.Strict first.now (unrevoked revoked.now (V.accepted verifier.now)) both.0
+        × IsAnswered texts Policy.Strict second.now (unrevoked revoked.now (V.accepted verifier.now)) both.1) }
+{
+    let guard = match Guard::read(alloc, list, Policy::Strict, Limits::default()) {
+        Ok(guard) => guard,
+        Err(fault) => return Err(ServiceFault::List(fault)),
+    };
+    let unrevoked = Unrevoked { verifier, revoked };
+    let to_first = answer(alloc, &guard, first, &unrevoked)?;
+    let to_second = answer(alloc, &guard, second, &unrevoked)?;
+    Ok((to_first, to_second))
+}

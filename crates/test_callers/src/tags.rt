@@ -1,0 +1,40 @@
+//! A caller of `spki_tag`.
+
+ghost use Rattle.std.specs.Prelude.{◌≡◌, ◌&&◌, IfOk, IfErr};
+ghost use Rattle.spki_tag.specs.Request.{Request, IsRequest};
+ghost use Rattle.spki_tag.specs.Tag.{Tag, contains};
+ghost use Rattle.spki_tag.specs.Read.{ReadsAs};
+ghost use Rattle.test_callers.specs.Narrowing.{IsNotNarrowed};
+
+use sexpr_core::syntax::Node;
+use spki_tag::{MeetFault, Tag, TagFault};
+use std::alloc::Global;
+use thiserror::Error;
+
+/// Why a service's tag isn't narrowed.
+#[derive(Clone, Copy, Debug, PartialEq, Eq, Error)]
+pub enum NarrowFault {
+    /// What was given is no tag.
+    #[error("tag: {0}")]
+    Tag(TagFault),
+    /// The two tags aren't met.
+    #[error("meet: {0}")]
+    Meet(MeetFault),
+}
+
+/// The tag of the requests that are in a service's own tag and in the one that someone was given, as it is written.
+///
+/// # Errors
+///
+/// `Tag` with the fault of `Tag::of`, and else `Meet` with that of `Tag::meet`.
+pub fn narrowed(alloc: Global, own: &Tag, given: &Node) -> Result<Tag, NarrowFault>
+    ensures both { IfOk result (λ both. (t : Tag) × ReadsAs given.now t
+        × ((g : Request) → IsRequest g → contains both g ≡ (contains own.now g && contains t g))) }
+    ensures refused { IfErr result (IsNotNarrowed own.now given.now) }
+{
+    let given = Tag::of(alloc, given).map_err(NarrowFault::Tag)?;
+    match own.meet(alloc, &given) {
+        Ok(both) => Ok(both),
+        Err(fault) => Err(NarrowFault::Meet(fault)),
+    }
+}

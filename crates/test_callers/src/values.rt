@@ -1,0 +1,33 @@
+//! A caller of `sexpr_core`.
+
+ghost use Rattle.std.specs.Prelude.{◌≡◌, IfOk, IfErr, IsOkUnless, option_map};
+ghost use Rattle.std.specs.Option.{option_copied};
+ghost use Rattle.sexpr_core.specs.Value.{Value, canon, IsWithinLimits};
+ghost use Rattle.sexpr_core.specs.Parts.{part_at};
+ghost use Rattle.sexpr_core.specs.Refusal.{Refused};
+
+use sexpr_core::syntax::NodeKind;
+use sexpr_core::{Doc, FormFault};
+use std::alloc::Global;
+
+/// The canonical octets of the first member of the list that a canonical text is, as they stand in the text: what is
+/// hashed, signed or compared. None where the text is a string or the empty list.
+///
+/// # Errors
+///
+/// Those of `Doc::open`.
+pub fn first_member<'a>(alloc: Global, text: &'a [u8]) -> Result<Option<&'a [u8]>, FormFault>
+    ensures first { IfOk result (λ member. (v : Value) × (text.entry.now ≡ canon v)
+        × (option_copied member ≡ option_map canon (part_at 0 v))) }
+    ensures only { (v : Value) → IsWithinLimits v → text.entry.now ≡ canon v → IsOkUnless result FormFault.Memory }
+    ensures refused { IfErr result (λ fault. Refused text.entry.now fault) }
+{
+    let document = Doc::open(alloc, text)?;
+    match document.top().kind() {
+        NodeKind::String { .. } => Ok(None),
+        NodeKind::List(members) => match members.split_first() {
+            None => Ok(None),
+            Some((first, _)) => Ok(Some(first.slice())),
+        },
+    }
+}
