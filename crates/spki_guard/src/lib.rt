@@ -10,7 +10,7 @@ mod lines;
 mod printer;
 mod program;
 mod reports;
-mod run;
+mod runs;
 mod statuses;
 
 pub use answers::{Answer, Verdict, answer_text};
@@ -18,7 +18,7 @@ pub use apart::{check_accepted, one_answer_apart};
 pub use intersection::{IntersectFault, intersect};
 pub use metered_io::Metered;
 pub use program::run_words;
-pub use run::run;
+pub use runs::run;
 pub use spki_case::{AcceptedTable, Case, CaseFault, Row, RowsFault, Verifier};
 pub use spki_decision::{
     Decision, EntryFold, Explanation, GuardFault, Reason, Reduction, Stop, decide, explain,

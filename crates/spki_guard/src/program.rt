@@ -5,7 +5,7 @@ ghost use Rattle.spki_words.specs.declared.words.WordsFault.{WordsFault};
 ghost use Rattle.std.specs.IoError.{error_kind};
 ghost use Rattle.spki_guard.specs.Program.{IsAsked, IsNoText, IsUnasked, IsUnread, IsSaid, IsReported, IsRefused, DoesCommand, SaysFault};
 
-use crate::run::run;
+use crate::runs::run;
 use crate::statuses::Status;
 use metered_io::{Metered, write_whole};
 use spki_words::{Command, WordsFault, command_of};

@@ -1,6 +1,6 @@
 use Rattle.spki_guard.proofs.Replies.{ended_unless_refused}
 use Rattle.spki_guard.specs.declared.answers.Verdict.TheVariants.{Done, No}
-use Rattle.spki_guard.proofs.run.run.Goals as goal
+use Rattle.spki_guard.proofs.runs.run.Goals as goal
 
 pub returns-in-Some-clause-ended_at_done : goal.returns-in-Some-clause-ended_at_done
 returns-in-Some-clause-ended_at_done g c e =
