@@ -48,5 +48,13 @@ def by_keys(length, tag=STAR, entries=1, asks=None):
     return case([entry(keys[0], tag)] * entries, links, asks=asks or keys[-1])
 
 
+def through_names(length, entries=1, asks=None):
+    """Each certificate defines one key's friends as the next key's."""
+    keys = keys_of(length)
+    links = [(definition(name(issuer, "friends"), name(subject, "friends")), issuer) for issuer, subject in zip(keys, keys[1:-1])]
+    links.append((definition(name(keys[-2], "friends"), keys[-1]), keys[-2]))
+    return case([entry(name(keys[0], "friends"))] * entries, links, asks=asks or keys[-1])
+
+
 def a_set(member, members=999):
     return group(string("*"), string("set"), *[member] * members)

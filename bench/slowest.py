@@ -1,18 +1,24 @@
 #!/usr/bin/env python3
 """Times `spki check` on the texts that are known to take longest for their octets: the table of README.md under "Limits".
 
-Each text is made for three lengths. A run is ended after a minute.
+Each text is made for three lengths. A run is ended after a minute. All but the last text have a limit on the seconds at 1 MiB. All but
+the last and the one of the large product have a limit on how many times as long as a quarter of the octets that is, where it is long
+enough to be measured.
 
 Build the program first (`rt run` in crates/spki). Usage: bench/slowest.py [PROGRAM]
 """
 import subprocess
+import sys
 import time
 
-from check import PROGRAM, group, key, string
-from shapes import a_set, by_keys, certificate, definition, digest, entry, name
+from check import PROGRAM, STAR, group, key, string
+from shapes import a_set, by_keys, certificate, definition, digest, entry, name, through_names
 
 SIZES = [64 * 1024, 256 * 1024, 1024 * 1024]
 SECONDS = 60
+LIMIT_SECONDS = 1.0
+LIMIT_RATIO = 5.0
+LEAST_SECONDS = 0.2
 
 
 def shown(octets, signer):
@@ -38,12 +44,25 @@ def chain(size):
     return f"1 entry, {certificates:,} certificates in a chain", by_keys(certificates, asks=key("other"))
 
 
-def entries_and_chain(size):
-    """Entries for the first issuer, each of which is joined with each certificate."""
-    link, one = len(by_keys(2)) - len(by_keys(1)), len(entry(key("k00000")))
+def entries_and_chain(size, tag=STAR, what="(*)"):
+    """Entries for the first issuer, and a chain of certificates."""
+    link, one = len(by_keys(2, tag)) - len(by_keys(1, tag)), len(entry(key("k00000"), tag))
     certificates, entries = (size // 2 - 512) // link, (size // 2 - 512) // one
-    return (f"{entries:,} entries for the first issuer, {certificates:,} certificates in a chain",
-            by_keys(certificates, entries=entries, asks=key("other")))
+    return (f"{entries:,} entries for the first issuer, {certificates:,} certificates in a chain, all for {what}",
+            by_keys(certificates, tag, entries=entries, asks=key("other")))
+
+
+def entries_and_tags(size):
+    """The same, where the product of all nodes is over the limit, so that each entry's tag is met with each certificate's."""
+    return entries_and_chain(size, group(string("ftp")), "(ftp)")
+
+
+def entries_and_names(size):
+    """Entries for the first name, and a chain of definitions."""
+    link, one = len(through_names(3)) - len(through_names(2)), len(entry(name(key("k00000"), "friends")))
+    certificates, entries = (size // 2 - 512) // link, (size // 2 - 512) // one
+    return (f"{entries:,} entries for the first name, {certificates:,} definitions in a chain",
+            through_names(certificates, entries=entries, asks=key("other")))
 
 
 def long_key(size):
@@ -85,22 +104,38 @@ def large_tag(size):
 
 
 def seconds_of(text):
-    """How long the program takes for a text."""
+    """How long the program takes for a text, and how that is printed."""
     begun = time.perf_counter()
     try:
         done = subprocess.run([PROGRAM, "check"], input=text, stdout=subprocess.PIPE, timeout=SECONDS)
     except subprocess.TimeoutExpired:
-        return f"over {SECONDS} s"
+        return SECONDS, f"over {SECONDS} s"
     took = time.perf_counter() - begun
-    return f"{took:.2f} s" if done.stdout == b"no\n" else f"wrong answer: {done.stdout!r}"
+    return took, f"{took:.2f} s" if done.stdout == b"no\n" else f"wrong answer: {done.stdout!r}"
+
+
+def is_within(make, times):
+    """Whether the times of a text for these lengths are within the limits that it has."""
+    before, last = times[-2:]
+    grows = last >= LEAST_SECONDS and last > LIMIT_RATIO * before
+    return make is large_tag or last <= LIMIT_SECONDS and (make is entries_and_tags or not grows)
 
 
 def main():
+    over = []
     print(f"{'octets':>9}  {'time':>10}  text")
-    for make in (chain, entries_and_chain, long_key, long_issuer, long_name, large_tag):
+    for make in (chain, entries_and_chain, entries_and_tags, entries_and_names, long_key, long_issuer, long_name, large_tag):
+        times = []
         for size in SIZES:
             what, text = make(size)
-            print(f"{len(text):>9,}  {seconds_of(text):>10}  {what}", flush=True)
+            took, shown_as = seconds_of(text)
+            times.append(took)
+            print(f"{len(text):>9,}  {shown_as:>10}  {what}", flush=True)
+        if not is_within(make, times):
+            over.append(make.__name__)
+    print(f"over the limits: {', '.join(over) or 'none'}")
+    if over:
+        sys.exit(1)
 
 
 if __name__ == "__main__":

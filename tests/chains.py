@@ -121,6 +121,47 @@ def sizes():
         yield f"chain with {third} strings", case(entry("a", f"(propagate) (tag {copies(99)})"), *both, request="a"), answer
 
 
+def long_lists():
+    """Lists of eight entries that are denied, each for one reason, and a ninth."""
+    rows, items = chain()
+    ninth = (0, "yes entry 9\n")
+    over = '(not-after "2023-12-31_23:59:59")'
+    for why, other in (("of another key", entry("x")), ("that don't delegate", entry("a", "(tag (*))")),
+                       ("whose window is over", entry("a", f"(propagate) (tag (*)) {over}")),
+                       ("for another request", entry("a", "(propagate) (tag (http))"))):
+        yield f"eight entries {why}, and one that grants", case(other * 8 + entry("a"), rows, items), ninth
+        yield f"nine entries {why}", case(other * 9, rows, items), NO
+    yield "nine entries, and another key asks", case(entry("a") * 9, rows, items, asks=key("x")), NO
+    yield "nine entries, and a certificate twice", case(entry("a") * 9, rows, items + signed(cert(*CHAIN[2]), key("c"))), NO
+    big = cert(key("a"), key("d"), f"(tag (* set {'n ' * 1000}))")
+    large, small = (entry("a", f"(propagate) (tag {tag}) {over}") for tag in (f"(* set {'n ' * 999})", "n"))
+    granted, shown = entry("a", "(propagate) (tag n)"), (row(big, key("a")), signed(big, key("a")))
+    yield "eight entries whose window is over, and one too large", case(small * 8 + large, *shown, request="n"), refused("TooLarge")
+    yield "eight entries whose window is over, and one that grants, before one too large", \
+        case(small * 8 + granted + large, *shown, request="n"), ninth
+    named = [f"(entry (name {key('a')} {names}) (tag (*)))" for names in ("friends", "friends friends", "others")]
+    first, second = (f"(cert (issuer (name {key(issuer)} friends)) (subject {key(subject)}))" for issuer, subject in ("ab", "bd"))
+    both = row(first, key("a")) + row(second, key("b")), signed(first, key("a")) + signed(second, key("b"))
+    yield "eight entries for a name, and one for two names", case(named[0] * 8 + named[1], *both), ninth
+    one = row(first, key("a")), signed(first, key("a"))
+    yield "eight entries for another name, and one for the name", case(named[2] * 8 + named[0], *one, asks=key("b")), ninth
+    yield "nine entries for a name that is another key's", case(named[0] * 9, *one), NO
+
+
+def long_lists_of_tags():
+    """Lists of nine entries, and two certificates whose tags have over 1,000,000 as the product of their nodes."""
+    def behind(entries, tag):
+        first, second = cert(key("a"), key("b"), f"(propagate) (tag {tag})"), cert(key("b"), key("d"), f"(tag {tag})")
+        both = row(first, key("a")) + row(second, key("b")), signed(first, key("a")) + signed(second, key("b"))
+        return case(entries, *both, request="n")
+
+    over, granted = entry("a", '(propagate) (tag n) (not-after "2023-12-31_23:59:59")'), entry("a", "(propagate) (tag n)")
+    one, copies = "(* set n " + " ".join(f"a{i}" for i in range(999)) + ")", f"(* set {'n ' * 1000})"
+    yield "eight entries of which one member is left, and one that grants", behind(over * 8 + granted, one), (0, "yes entry 9\n")
+    yield "nine entries of which 1,000 members are left", behind(over * 9, copies), refused("TooLarge")
+    yield "nine entries of which nothing is left", behind(entry("a", "(propagate) (tag m)") * 9, copies), NO
+
+
 def moments():
     """A window that holds its own last moment, and two windows that share one moment or none."""
     alone = f"(entry {key('a')} (tag (*)) (not-after \"2024-12-31_23:59:59\"))"
@@ -297,7 +338,8 @@ def decided(lines):
 
 
 def rows():
-    for examples in (chains, windows_and_tags, moments, policies, order, sizes, malformed):
+    for examples in (chains, windows_and_tags, moments, policies, order, sizes, long_lists, long_lists_of_tags,
+                     malformed):
         for name, text, (status, answer) in examples():
             yield f"chains.py: {name}", "check", text.encode(), status, answer.encode()
     for name, text, reduced, why in explained():

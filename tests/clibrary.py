@@ -5,7 +5,8 @@
 canaries, with requests for memory refused, and then from several threads with 256 KiB of stack each: every command on each file of
 `examples/`, the rows of the tables beside this file, and cases whose rows of accepted signatures stand apart. It asks the static
 library and the shared one, and the static one also under AddressSanitizer and, where it is there, under valgrind.
-`examples/c/guard.c` guards a request.
+`cguard.c` holds guards and asks them: right and wrong marks, misuse, buffers that are too
+small, requests by strings, refused memory, and one guard from several threads.
 
 The symbols of both libraries must be the calls that the header declares and no others, and what they need a few functions of the C
 library. `linked.c` is compiled as C11 and, where there is a compiler, as C++17, with all warnings, and linked with either library; and
@@ -14,7 +15,6 @@ with two copies of the static one. Builds the libraries if they aren't there. Ne
 Prints what fails; the last line counts.
 Usage: tests/clibrary.py [PROGRAM [LIBRARY]]        the shared library lies beside the static LIBRARY
 """
-import hashlib
 import os
 import re
 import shutil
@@ -27,7 +27,6 @@ from support import COMMANDS, EXAMPLES, PROGRAM, TESTS, TOP, canonical, read, ru
 from tables import rows_of
 
 CRATE = os.path.join(TOP, "crates", "spki_c")
-C_EXAMPLE = os.path.join(EXAMPLES, "c")
 CHECK_ACCEPTED = 7
 DONE = 6
 THREADS = 8
@@ -41,10 +40,9 @@ SANITIZED = ["-fsanitize=address,undefined", "-fno-sanitize-recover=all", "-fno-
 CALL = re.compile(r"^\w[\w *]*\b(spki_\w+)\(", re.MULTILINE)
 NEEDED = {"malloc", "realloc", "free", "memcpy", "memmove", "memset", "memcmp"}
 VALGRIND = ["valgrind", "--quiet", "--leak-check=full", "--show-leak-kinds=all", "--error-exitcode=98"]
+HELGRIND = ["valgrind", "--tool=helgrind", "--quiet", "--error-exitcode=98"]
 MOMENT = "2024-01-01_00:00:00"
 NO_ROWS = b"(accepted)"
-# of the canonical form of `(public-key (test b))`
-SHA1_OF_B = hashlib.sha1(b"(10:public-key(4:test1:b))").hexdigest()
 
 
 def as_library(command, answer):
@@ -151,49 +149,6 @@ def agree(words, questions):
     return not faults
 
 
-def guards(words):
-    """Whether the example prints and exits as it should, with its own files and words and with others in their place."""
-    own = ["acl.sexp", "rows.sexp", "sequence.sexp", "key.sexp", MOMENT, "ftp"]
-    with open(os.path.join(C_EXAMPLE, own[2]), encoding="ascii") as file:
-        certificate = file.read().strip().removeprefix("(sequence").removesuffix(")")
-    texts = {"no-rows": "(accepted)", "other-key": "(public-key (test c))", "two-keys": "(public-key (test b))) (request (ftp)",
-             "long": "(sequence" + " " * 65536 + ")", "many": f"(sequence {certificate * 17})",
-             "sha1": f"(acl (entry (hash sha1 #{SHA1_OF_B}#) (tag (*))))", "none": "(sequence)",
-             "read": "(acl (entry (public-key (test b)) (tag (cache (* prefix /cache/team1/) read))))"}
-    with tempfile.TemporaryDirectory() as room:
-        for name, text in texts.items():
-            with open(os.path.join(room, name), "w", encoding="ascii") as file:
-                file.write(text)
-        at = {name: os.path.join(room, name) for name in (*texts, "missing")}
-        reading = [at["read"], "rows.sexp", at["none"], "key.sexp", MOMENT, "cache"]
-        well = True
-        for given, wanted in [
-            (own, (0, "yes entry 1\n")),
-            ([own[0], at["no-rows"], *own[2:]], (1, "no\n")),
-            ([*own[:3], at["other-key"], *own[4:]], (1, "no\n")),
-            ([*own[:3], at["two-keys"], *own[4:]], (2, "refused form Trailing 21\n")),
-            ([own[0], "sequence.sexp", *own[2:]], (2, "refused rows Shape\n")),
-            ([*own[:4], "2024-13-01_00:00:00", *own[5:]], (2, "refused at BadDate\n")),
-            ([*own[:4], f"{MOMENT})(1:x", *own[5:]], (2, "refused at BadDate\n")),
-            ([at["missing"], *own[1:]], (3, "")),
-            ([*own[:2], at["long"], *own[3:]], (2, "refused form TooLong\n")),
-            ([*own[:2], at["many"], *own[3:]], (2, "refused: too many certificates\n")),
-            ([at["sha1"], "rows.sexp", at["none"], *own[3:]], (1, "no\n")),
-            ([*reading, "/cache/team1/a.o", "read"], (0, "yes entry 1\n")),
-            ([*reading, "/cache/team1/a.o", "write"], (1, "no\n")),
-            ([*reading, "/cache/team1/a.o read", "write"], (1, "no\n")),
-            ([*reading, "/cache/team1/a.o 4:read", "write"], (1, "no\n")),
-            ([*reading, '/cache/team1/a.o")) (x', "read"], (0, "yes entry 1\n")),
-            ([*reading, "/cache/team1/a.o", ""], (1, "no\n")),
-            (own[:5], (2, "")),
-        ]:
-            done = subprocess.run([*words, *given], capture_output=True, text=True, cwd=C_EXAMPLE, timeout=SECONDS)
-            if (done.returncode, done.stdout) != wanted:
-                print(f"guard {' '.join(given)}: status {done.returncode} and {done.stdout!r} {done.stderr!r}, and not {wanted}")
-                well = False
-    return well
-
-
 def is_compiled(*words):
     """Whether a program compiles without a warning, and links."""
     return subprocess.run([*words, "-I", CRATE], timeout=SECONDS).returncode == 0
@@ -218,10 +173,15 @@ def soname_of(shared):
     return re.search(r"\(SONAME\).*\[(.*)\]", said)[1]
 
 
+def calls_of_header():
+    """The calls that the header declares."""
+    with open(os.path.join(CRATE, "spki.h"), encoding="ascii") as header:
+        return set(CALL.findall(header.read()))
+
+
 def has_its_symbols(library, *words):
     """Whether a library gives the calls of the header and no other symbol, and needs only what is known."""
-    with open(os.path.join(CRATE, "spki.h"), encoding="ascii") as header:
-        calls = set(CALL.findall(header.read()))
+    calls = calls_of_header()
     given = symbols(library, *words, "--defined-only", "--extern-only")
     # (the weak ones are those that the C compiler puts into each shared object)
     needed = {name for name in symbols(library, *words, "--undefined-only") if not name.startswith(("_ITM_", "__cxa_finalize", "__gmon_start__"))}
@@ -233,7 +193,7 @@ def has_its_symbols(library, *words):
 def links(room, archive, shared):
     """By name, whether `linked.c` is compiled and linked in each way and ends with 0."""
     source, other = os.path.join(TESTS, "linked.c"), os.path.join(room, "libother.a")
-    renamed = [f"--redefine-sym={name}=other_{name}" for name in ("spki_answer", "spki_check_accepted")]
+    renamed = [f"--redefine-sym={name}=other_{name}" for name in calls_of_header()]
     subprocess.run(["objcopy", *renamed, archive, other], check=True)
     beside = ["-L", os.path.dirname(shared), "-lspki_c", f"-Wl,-rpath,{os.path.dirname(shared)}"]
     results = {}
@@ -245,6 +205,39 @@ def links(room, archive, shared):
             flags = [it for it in more if it.startswith("-D")]
             made = is_compiled(*words, *WARNINGS, *flags, "-o", to, source, "-x", "none", *(it for it in more if it not in flags))
             results[f"linked.c as {language}, {way}"] = made and subprocess.run([to], timeout=SECONDS).returncode == 0
+    return results
+
+
+def worked_question():
+    """The list, the sequence and the key of the case of the first certificate."""
+    with open(os.path.join(EXAMPLES, "delegation.sexp"), encoding="ascii") as file:
+        case = file.read()
+    at = [case.index(f"({part}") for part in ("acl", "accepted", "sequence", "key", "request")]
+    return [case[at[0]:at[1]].strip(), case[at[2]:at[3]].strip(), case[at[3]:at[4]].strip()[len("(key "):-1]]
+
+
+def holds_guards(words, threads, refusals):
+    """Whether `cguard.c` finds that guards do as the header says."""
+    done = subprocess.run([*words, str(threads), str(refusals), *worked_question()], capture_output=True, text=True, timeout=SECONDS)
+    if done.returncode:
+        print(f"{' '.join(words)}: status {done.returncode}: {done.stderr[-2000:]}")
+    return not done.returncode
+
+
+def guards_held(archive, shared, room):
+    """By name, whether guards that are held do as the header says, with each library and under what looks for faults of memory."""
+    source = os.path.join(TESTS, "cguard.c")
+    ways = {"static": ([], archive, REFUSALS), "shared": ([f"-Wl,-rpath,{os.path.dirname(shared)}"], shared, 0),
+            "AddressSanitizer": (SANITIZED, archive, REFUSALS)}
+    results = {}
+    for name, (more, library, refusals) in ways.items():
+        to = os.path.join(room, f"cguard-{name}")
+        made = is_compiled(*STRICT, *more, "-o", to, source, library, *REFUSING)
+        results[f"guards held, {name}"] = made and holds_guards([to], THREADS, refusals)
+    if has_compiler(VALGRIND):
+        to = os.path.join(room, "cguard-static")
+        results["guards held, valgrind"] = holds_guards([*VALGRIND, to], 2, REFUSALS)
+        results["guards held, helgrind"] = holds_guards([*HELGRIND, to], THREADS, 0)
     return results
 
 
@@ -266,25 +259,21 @@ def asks_all(program, asker, ways):
 
 def results_of(program, archive, shared, room):
     """By name, what passed."""
-    asker, guard = os.path.join(room, "clibrary"), os.path.join(room, "guard")
-    beside, sanitized = os.path.join(room, "beside"), os.path.join(room, "sanitized")
-    source, example = os.path.join(TESTS, "clibrary.c"), os.path.join(C_EXAMPLE, "guard.c")
+    asker, beside, sanitized = (os.path.join(room, name) for name in ("clibrary", "beside", "sanitized"))
+    source = os.path.join(TESTS, "clibrary.c")
     results = {"symbols of the archive": has_its_symbols(archive), "symbols of the shared object": has_its_symbols(shared, "--dynamic"),
                "compiling": is_compiled(*STRICT, "-o", asker, source, archive, *REFUSING)
                and is_compiled(*STRICT, *SANITIZED, "-o", sanitized, source, archive, *REFUSING)
-               and is_compiled(*STRICT, "-o", beside, source, shared, *REFUSING, f"-Wl,-rpath,{os.path.dirname(shared)}")
-               and is_compiled(*STRICT, "-o", guard, example, archive), **links(room, archive, shared)}
+               and is_compiled(*STRICT, "-o", beside, source, shared, *REFUSING, f"-Wl,-rpath,{os.path.dirname(shared)}"),
+               **links(room, archive, shared)}
     if not results["compiling"]:
         return results
     # (of the shared object no request for memory is refused: it calls the C library itself)
     ways = {"the shared object": [beside, "2", "0"], "under AddressSanitizer": [sanitized, "0", str(REFUSALS)]}
-    has_valgrind = has_compiler(VALGRIND)
-    if has_valgrind:
+    if has_compiler(VALGRIND):
         ways["under valgrind"] = [*VALGRIND, asker, "2", str(REFUSALS)]
+    results.update(guards_held(archive, shared, room))
     results.update(asks_all(program, asker, ways))
-    results["guard"] = guards([guard])
-    if has_valgrind:
-        results["guard under valgrind"] = guards([*VALGRIND, guard])
     return results
 
 

@@ -32,10 +32,14 @@ from dataclasses import dataclass
 from multiprocessing.connection import Connection
 
 from generators import tags
-from generators.questions import Question, question
+from generators.guards import GuardQuestion
+from generators.questions import Asked, Question, question
 from generators.smaller import smaller
+from guard_door import GuardDoor
+from guard_door import model_answer as model_guard_answer
 from model import coverage, laws
 from model.answers import COMMANDS, Answer, ModelDisagrees, answer, check_accepted
+from model.guard import WISHES
 from support import LIBRARY as ARCHIVE, PROGRAM, tables_here
 from tables import rows_of
 
@@ -64,6 +68,7 @@ class Library:
 
     def __init__(self, path: str) -> None:
         loaded = ctypes.CDLL(path)
+        self.guards = GuardDoor(loaded)
         buffer = [ctypes.c_char_p, ctypes.c_size_t, ctypes.POINTER(ctypes.c_size_t)]
         self.by_command, self.by_rows = loaded.spki_answer, loaded.spki_check_accepted
         self.by_command.argtypes = [ctypes.c_uint32, ctypes.c_char_p, ctypes.c_size_t, *buffer]
@@ -119,8 +124,23 @@ class Comparison:
     program: str
     seed: str
 
-    def wrong(self, asked: Question, number: int) -> str | None:
+    def wrong(self, asked: Asked, number: int) -> str | None:
         """What is wrong with the answers to a question, None if nothing is. The number says who is asked beside the library."""
+        return self.wrong_of_guard(asked) if isinstance(asked, GuardQuestion) else self.wrong_of_text(asked, number)
+
+    def wrong_of_guard(self, asked: GuardQuestion) -> str | None:
+        """What is wrong with the answer of a guard."""
+        try:
+            wanted = model_guard_answer(asked)
+        except ModelDisagrees as why:
+            return f"the model disagrees with itself: {why}"
+        except Exception as why:
+            return f"the model fails: {why!r}"
+        found = self.library.guards.answers(asked, wanted)
+        return found and f"{found}, the model {shown(wanted[0])}"
+
+    def wrong_of_text(self, asked: Question, number: int) -> str | None:
+        """What is wrong with the answers to a text."""
         try:
             wanted = model_answer(asked)
             rng = random.Random(number)
@@ -197,7 +217,7 @@ def compare(comparison: Comparison, first: int, cases: int, jobs: int) -> tuple[
 def show(comparison: Comparison, number: int) -> None:
     """Prints a case that differs, after it was made smaller."""
     least = smaller(question(comparison.seed, number), lambda it: comparison.wrong(it, number) is not None)
-    print(f"case {number}: {least.command} {least.text[:2000]!r}" + (f" rows {least.rows[:2000]!r}" if least.rows else ""))
+    print(f"case {number}: {least!r:.4000}")
     print(f"    {comparison.wrong(least, number)}")
 
 
@@ -250,7 +270,7 @@ def main() -> int:
     print(f"{asked.cases} cases, seed {asked.seed}: {len(differ)} differ, {len(ended)} do not end, {time.monotonic() - begun:.0f} seconds")
     commands = {question(asked.seed, number).command for number in [*differ, *ended]}
     failed = len(commands) + bool(by_hand) + bool(never)
-    print(f"{len(COMMANDS) + 3 - failed} passed, {failed} failed")
+    print(f"{len(COMMANDS) + len(WISHES) + 3 - failed} passed, {failed} failed")
     return 1 if failed else 0
 
 

@@ -2,7 +2,8 @@
 """Does what README.md, docs/GUIDE.md and the examples of docs/spki.1 say, each in an empty folder, and compares the answers.
 
 A fenced block `sexp NAME`, `sh NAME` or `python NAME` of README.md and the guide is a file, which is written where it stands on the page and has no
-permission to be run until a command gives it. If examples/ has a file of this name, it must be the same. In a block `console`, and in
+permission to be run until a command gives it. If examples/ has a file of this name, it must be the same. A block `c NAME`, `rust NAME` or
+`python NAME` that an example of this name in PROGRAMS has is a quotation: it must be a part of it. In a block `console`, and in
 the manual's blocks, a line that begins with `$ ` is a command of the shell, one with `> ` goes on with it, and the lines up to the
 next command are what it should write. The commands of a page run as they stand, one after the other in one shell, with the program
 as `spki` and tools/locate as `locate`: once in `sh`, and once in `bash` if it is there. Prints each command that answers otherwise; the last
@@ -26,6 +27,8 @@ from support import TOP, given_program
 BLOCK = re.compile(r"^```(\w+)(?: (\S+))?\n(.*?)^```$", re.MULTILINE | re.DOTALL)
 SECONDS = 60
 END = "---- end of command ----"
+# The folders of the examples that pages quote. tests/bindings.py runs them.
+PROGRAMS = ("examples/c", "bindings/rust/examples", "bindings/python/examples")
 
 
 def commands(text):
@@ -39,12 +42,20 @@ def commands(text):
 def steps_of_markdown(page):
     """The page's files and commands, in order: a file's name and text, or a command and what it should write."""
     for kind, name, text in BLOCK.findall(page):
-        if kind in ("sexp", "sh", "python") and name:
+        if kind in ("c", "rust", "python") and name and program_of(name):
+            yield "quotation", name, text
+        elif kind in ("sexp", "sh", "python") and name:
             yield "file", name, text
         elif kind == "console":
             yield from commands(text)
         else:
             raise ValueError(f"a block of kind {kind} without a name is neither a file nor commands")
+
+
+def program_of(name):
+    """The example of this name that a page may quote, or None."""
+    paths = [os.path.join(TOP, folder, name) for folder in PROGRAMS]
+    return next(filter(os.path.exists, paths), None)
 
 
 def steps_of_manual(page):
@@ -61,7 +72,7 @@ def script(found):
     for kind, first, second in found:
         if kind == "file":
             yield f"printf %s {shlex.quote(second)} > {shlex.quote(first)}\n"
-        else:
+        elif kind == "command":
             yield f"{first}\necho\necho '{END}'\n"
 
 
@@ -78,13 +89,14 @@ def outputs_of(shell, found, program):
     return done.stdout.split(f"{END}\n")
 
 
-def is_as_in_examples(name, text):
-    """Whether examples/ has no file of this name, or one with this text."""
-    path = os.path.join(TOP, "examples", name)
+def is_as_in_examples(kind, name, text):
+    """Whether examples/ has no file of this name, or one with this text; of a quotation whether its program has it."""
+    path = program_of(name) if kind == "quotation" else os.path.join(TOP, "examples", name)
     if not os.path.exists(path):
         return True
     with open(path, encoding="utf-8") as file:
-        return file.read() == text
+        whole = file.read()
+    return text in whole if kind == "quotation" else text == whole
 
 
 def run_page(shell, name, steps, program):
@@ -92,7 +104,7 @@ def run_page(shell, name, steps, program):
     with open(os.path.join(TOP, name), encoding="utf-8") as page:
         found = list(steps(page.read()))
     wanted = [(command, answer) for kind, command, answer in found if kind == "command"]
-    others = [file for kind, file, text in found if kind == "file" and not is_as_in_examples(file, text)]
+    others = [file for kind, file, text in found if kind != "command" and not is_as_in_examples(kind, file, text)]
     print("".join(f"{name}: {file} is not as in examples/\n" for file in others), end="")
     answers = outputs_of(shell, found, program)
     failed = len(others)

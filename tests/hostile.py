@@ -53,6 +53,8 @@ CALLS = (
     "Tag::read", "Ground::read", "Tag::meet", "Tag::write", "read_acl", "read_sequence", "read_key", "read_hash",
     "Five::then", "fold_chain", "Five::resolve", "Four::then", "Five::write",
     "Case::read", "decide", "reduce_case", "explain", "run",
+    "Guard::read", "Guard::texts", "Guard::ask", "Asked::decide", "Asked::decide_by", "Asked::explain", "Asked::explain_by",
+    "Asked::reduce", "Asked::reduce_by", "answer_question", "signed_octets",
 )
 # What is written of the cases of examples/, and of some of chains.py: the status and the line. A command that the program doesn't
 # have is passed over.
@@ -178,7 +180,8 @@ def most_work():
         yield make.__name__, "check", text, answer
     for make in (long.by_keys, long.by_hashes, long.through_names):
         yield make.__name__, "check", make(long.LENGTHS[-1]), b"yes entry 1\n"
-    for make in (slowest.entries_and_chain, slowest.long_key, slowest.long_issuer, slowest.long_name):
+    for make in (slowest.entries_and_chain, slowest.entries_and_tags, slowest.entries_and_names, slowest.long_key, slowest.long_issuer,
+                 slowest.long_name):
         yield make.__name__, "check", make(MOST_OCTETS)[1], b"no\n"
     for what, text, answer in long.widest():
         yield what, "check", text, answer

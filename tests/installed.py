@@ -15,7 +15,7 @@ import subprocess
 import sys
 import tempfile
 
-from support import EXAMPLES, TOP, tables_here
+from support import EXAMPLES, TESTS, TOP, tables_here
 
 REFUSAL = re.compile(r" refused ([A-Za-z0-9 ]+)%n$", re.MULTILINE)
 SECONDS = 3600
@@ -33,15 +33,14 @@ def program_answers(prefix):
 
 
 def library_answers(prefix, *linking):
-    """Whether a C program compiles with what is installed, links by these words, and guards its example."""
-    example, guard = os.path.join(EXAMPLES, "c"), os.path.join(prefix, "guard")
-    words = ["cc", "-std=c11", "-Wall", "-Wextra", "-Werror", "-o", guard, "guard.c", *linking]
-    given = ["acl.sexp", "rows.sexp", "sequence.sexp", "key.sexp", "2024-01-01_00:00:00", "ftp"]
+    """Whether `linked.c` compiles with what is installed, links by these words, and ends with 0."""
+    linked = os.path.join(prefix, "linked")
+    words = ["cc", "-std=c11", "-Wall", "-Wextra", "-Werror", "-o", linked, os.path.join(TESTS, "linked.c"), *linking]
     found = {**os.environ, "LD_LIBRARY_PATH": os.path.join(prefix, "lib")}
-    for run, wanted, settings in [(words, (0, ""), {}), ([guard, *given], (0, "yes entry 1\n"), {"env": found})]:
-        met = output_of(run, cwd=example, **settings)
-        if met != wanted:
-            print(f"{' '.join(run)}: status {met[0]} and {met[1]!r}, and not {wanted}")
+    for run, settings in [(words, {}), ([linked], {"env": found})]:
+        met = output_of(run, **settings)
+        if met != (0, ""):
+            print(f"{' '.join(run)}: status {met[0]} and {met[1]!r}")
             return False
     return True
 
@@ -53,7 +52,7 @@ def told_by(prefix, *words):
 
 
 def libraries_answer(prefix):
-    """By name, whether a C program links with each library and guards its example."""
+    """By name, whether a C program links with each library and gets its answers."""
     include, folder = f"-I{os.path.join(prefix, 'include')}", os.path.join(prefix, "lib")
     results = {"the installed shared library": library_answers(prefix, include, f"-L{folder}", "-lspki_c"),
                "the installed static library": library_answers(prefix, include, os.path.join(folder, "libspki_c.a"))}
@@ -135,7 +134,7 @@ def main():
             print("cc is not there: whether a C program links with the libraries is left out")
         else:
             results.update(libraries_answer(prefix))
-            os.remove(os.path.join(prefix, "guard"))
+            os.remove(os.path.join(prefix, "linked"))
         if shutil.which("man") is None:
             print("man is not there: whether the manual is shown without a warning is left out")
         else:

@@ -12,7 +12,7 @@ import sys
 
 from support import TESTS, TOP
 
-KINDS = (".md", ".1", ".py", ".rt", ".h", ".c", ".sh")
+KINDS = (".md", ".1", ".py", ".rs", ".rt", ".h", ".c", ".sh")
 WITHOUT_END = ("tools/locate", ".ci/run", ".ci/deep")
 
 

@@ -1,16 +1,36 @@
 /* Conguraki from C: a proved checker of requests by access lists and certificates (SPKI, RFC 2693).
  *
- * A call reads one text or two, and gives one answer: the octets that the program `spki` writes to it, and a status. Nothing is kept
- * between calls. Several threads may call at the same time.
+ * There are two ways to ask. A service holds a guard: spki_guard_open reads its access list once, and each question has its parts
+ * apart, so that no octets of one part can become another part. spki_answer and spki_check_accepted read a whole case as one text,
+ * which the caller puts together. Several threads may call at the same time, also with one guard.
+ *
+ *     spki_guard *guard;
+ *     struct spki_question question = {0};
+ *     struct spki_signed signatures[16];
+ *     unsigned char verified[16], octets[65536], line[64];
+ *     size_t count, index;
+ *     if (spki_guard_open(list, list_length, SPKI_STRICT, NULL, &guard, line, sizeof line, NULL) != SPKI_DONE) ...
+ *     question.sequence = ...                    from the client
+ *     question.key = ...                         of the client, who has shown to hold it
+ *     question.words = ...                       what is asked for
+ *     question.seconds = ...                     now
+ *     if (spki_guard_signed(guard, &question, signatures, 16, &count, octets, sizeof octets, NULL) != SPKI_DONE) ...
+ *     for (index = 0; index < count; index++)
+ *         verified[index] = is_signed(signatures[index].key, signatures[index].message, signatures[index].value);
+ *     if (spki_guard_decide(guard, &question, verified, count, line, sizeof line, NULL) == SPKI_YES) ...
+ *
+ * A call gives one answer: the octets that the program `spki` writes to the case, and a status. Of a case as one text:
  *
  *     unsigned char line[64];
  *     size_t length;
  *     enum spki_status status = spki_check_accepted(text, text_length, rows, rows_length, line, sizeof line, &length);
  *     if (status == SPKI_YES) ...
  *
- * Only SPKI_YES is a yes, and only a decision answers it: SPKI_CHECK and spki_check_accepted. Take every other status for a no.
+ * Only SPKI_YES is a yes, and only a decision answers it: SPKI_CHECK, spki_check_accepted and spki_guard_decide. Take every other
+ * status for a no.
  *
- * How a case is put together. The library cannot see which part of a text came from whom, so the caller must:
+ * How a case is put together, where no guard is held. The library cannot see which part of a text came from whom, so the caller
+ * must:
  *
  * - Write a string from outside, as a path or a user's name, as LENGTH:OCTETS: its number of octets in decimal, a colon, and the
  *   octets as they are. Never paste it. `(cache /cache/team1/a.o read write)` is a request of four strings, which a right to
@@ -29,7 +49,8 @@
  *
  * - A pointer with a length points to as many octets, and no other thread writes them meanwhile. The pointer may be null if the
  *   length is 0. The contents of the buffer before the call do not matter. `needed` may be null.
- * - The buffer and `needed` overlap neither each other nor a text.
+ * - The buffer, the signatures, `count` and `needed` overlap neither each other nor a text.
+ * - A guard is closed once, when no call uses it. Its pointer is only passed on, and nothing is read or written behind it.
  * - `malloc`, `realloc` and `free` of the program are those of one allocator. They align a block to each power of two up to 16 that
  *   divides its size, as those of every common C library do. If `malloc` returns null, the answer is `refused Memory`.
  * - No call is made in a signal handler, nor in a child that a process with several threads forked.
@@ -69,8 +90,9 @@ enum spki_status {
     SPKI_NO = 1,        /* a decision: the request is not granted */
     SPKI_REFUSED = 2,   /* the answer is a line that begins with `refused`: the text is no input, or memory ran out */
     SPKI_TOO_SMALL = 4, /* the buffer is too small: nothing is written to it, and `*needed` is the length of the answer */
-    SPKI_MISUSED = 5,   /* no such command, or a null pointer with a length: there is no answer, and `*needed` is 0 */
-    SPKI_DONE = 6       /* no decision: what was asked for is written, and says nothing of whether the request is granted */
+    SPKI_MISUSED = 5,   /* no such command, a null pointer with a length, or another misuse: there is no answer, and `*needed` is 0 */
+    SPKI_DONE = 6,      /* no decision: what was asked for is written, and says nothing of whether the request is granted */
+    SPKI_NONE = 7       /* spki_string: the value has no string there */
 };
 
 /* Does a command with a text. The answer is written to the front of the buffer, and the rest of the buffer is unchanged. `*needed`
@@ -91,6 +113,99 @@ enum spki_status spki_answer(enum spki_command command, const void *text, size_t
  * the answer says so, whatever `rows` is. The buffer and `needed` are as above. */
 enum spki_status spki_check_accepted(const void *text, size_t text_length, const void *rows, size_t rows_length, void *buffer,
                                      size_t buffer_length, size_t *needed);
+
+/* ---- guards */
+
+/* The most octets and nodes that limits may set. */
+#define SPKI_MOST_OCTETS 1048576
+#define SPKI_MOST_NODES 1000000
+
+/* A text: octets that do not change while a call runs. `octets` may be null if `length` is 0. */
+struct spki_text {
+    const void *octets;
+    size_t length;
+};
+
+enum spki_policy {
+    SPKI_OPEN = 0,  /* hashes of all algorithms name keys, as in a case without a policy */
+    SPKI_STRICT = 1 /* hashes by SHA-1 name no key, as `(policy strict)` in a case */
+};
+
+/* Limits of each question. A null pointer in place of them sets the highest, SPKI_MOST_OCTETS and SPKI_MOST_NODES. */
+struct spki_limits {
+    size_t octets; /* the most octets of a question's texts together: more are `refused question TooLong` */
+    size_t nodes;  /* the most nodes of one tag times nodes of another, whose intersection is computed: more are `refused TooLarge` */
+};
+
+/* An access list that was read once and is asked often. A call that is given one never changes it. */
+typedef struct spki_guard spki_guard;
+
+/* What is asked. Each part is one value in any of the three forms of RFC 9804, and is read by itself. */
+struct spki_question {
+    struct spki_text sequence;     /* `(sequence ..)`: the certificates that are shown */
+    struct spki_text key;          /* `(public-key ..)` of an asker who has shown to hold it */
+    struct spki_text request;      /* what is asked for, if `words` is null */
+    const struct spki_text *words; /* what is asked for, by its strings, whose octets may be any: the list of them, or the string
+                                      if there is one */
+    size_t word_count;
+    struct spki_text moment;       /* a date, as `19:2024-01-01_00:00:00`, if `seconds` is null */
+    const int64_t *seconds;        /* the moment in seconds since 1970-01-01 00:00:00 UTC */
+};
+
+/* One signature that is to be verified: by this key, of this message, with this value. The texts are in canonical form. */
+struct spki_signed {
+    struct spki_text key, message, value;
+};
+
+/* Reads an access list, `(acl ..)` in any of the three forms, into a guard.
+ *
+ * SPKI_DONE: `*guard` is the guard, and `*needed` is 0. It must be closed by spki_guard_close. With every other status `*guard` is
+ * null. SPKI_REFUSED: a line is in the buffer that begins with `refused form` or `refused acl`, or is `refused Memory`.
+ * SPKI_TOO_SMALL: the line does not fit the buffer. SPKI_MISUSED: `guard` is null, there is no such policy, or a limit is over the
+ * highest. */
+enum spki_status spki_guard_open(const void *list, size_t list_length, enum spki_policy policy, const struct spki_limits *limits,
+                                 spki_guard **guard, void *buffer, size_t buffer_length, size_t *needed);
+
+/* Frees a guard, which no other call may use then or later. A null pointer is left alone. */
+void spki_guard_close(spki_guard *guard);
+
+/* How many entries the access list has; 0 if the pointer is null. */
+size_t spki_guard_entries(const spki_guard *guard);
+
+/* Lists the signatures of a question that are to be verified. A verifier is asked of no others.
+ *
+ * SPKI_DONE: the first `*count` of the signatures are set, and their octets are the first `*needed` in the buffer.
+ * SPKI_TOO_SMALL: `room` is below `*count` or the buffer is too small, and neither is written. `*count` and `*needed` say how many
+ * are wanted. SPKI_REFUSED: as of spki_guard_decide, and `*count` is 0. */
+enum spki_status spki_guard_signed(const spki_guard *guard, const struct spki_question *question, struct spki_signed *signatures,
+                                   size_t room, size_t *count, void *buffer, size_t buffer_length, size_t *needed);
+
+/* Decides a question, if exactly those signatures are valid that spki_guard_signed lists at the places where `verified` is 1. Every
+ * other number says that a signature is not valid. `count` must be the count of spki_guard_signed, or the call is SPKI_MISUSED.
+ *
+ * SPKI_YES with `yes entry N`, or SPKI_NO with `no`, as SPKI_CHECK has them for the case of these parts and the guard's list.
+ * SPKI_REFUSED: the line says which part is refused, as `refused sequence Bad 5` for what is no text of a value, or
+ * `refused sequence 3 Shape` for a value that is no sequence; `refused key ..`, `refused request ..`, `refused at ..`; or
+ * `refused question TooLong`, `refused TooLarge`, `refused Memory`. */
+enum spki_status spki_guard_decide(const spki_guard *guard, const struct spki_question *question, const unsigned char *verified,
+                                   size_t count, void *buffer, size_t buffer_length, size_t *needed);
+
+/* As spki_guard_decide, but writes the lines of SPKI_EXPLAIN or SPKI_REDUCE, and answers SPKI_DONE in the place of yes and no. */
+enum spki_status spki_guard_explain(const spki_guard *guard, const struct spki_question *question, const unsigned char *verified,
+                                    size_t count, void *buffer, size_t buffer_length, size_t *needed);
+enum spki_status spki_guard_reduce(const spki_guard *guard, const struct spki_question *question, const unsigned char *verified,
+                                   size_t count, void *buffer, size_t buffer_length, size_t *needed);
+
+/* ---- strings */
+
+/* Finds the octets of a string inside a value in canonical form. They lie in the text. Each number of the path is that of the member
+ * of a list to go into, from 0: in `(public-key (rsa-pkcs1-sha256 (e #010001#) (n |..|)))` the path {1, 2, 1} leads to the modulus.
+ * With a depth of 0 the text itself is the string.
+ *
+ * SPKI_DONE: `*octets` and `*length` are set. With every other status they are null and 0. SPKI_NONE: no string is there.
+ * SPKI_REFUSED: the text is no value in canonical form of at most 1,048,576 octets and 64 open lists, or memory ran out. */
+enum spki_status spki_string(const void *text, size_t text_length, const size_t *path, size_t depth, const void **octets,
+                             size_t *length);
 
 #ifdef __cplusplus
 }

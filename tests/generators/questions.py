@@ -1,13 +1,16 @@
 """What is asked in one case: a command and its text, by a seed and a number."""
 import random
 from dataclasses import dataclass
+from typing import Union
 
 from model.answers import COMMANDS
 from model.values import Atom, Value, canonical
 
 from . import rare, spellings, tags
 from .cases import Builder, apart
-from .mutations import LISTS, mutated, mutated_text
+from .guards import GuardQuestion, guard_question
+from .mutations import LISTS
+from .nearly import changed, texts
 
 CONVERSIONS = COMMANDS[:3]
 OF_CASES = ("check", "explain", "reduce", "check_accepted")
@@ -26,7 +29,10 @@ class Question:
     rows: bytes = b""
 
 
-def question(seed: str, number: int) -> Question:
+Asked = Union[Question, GuardQuestion]
+
+
+def question(seed: str, number: int) -> Asked:
     """The question of a number."""
     rng = random.Random(f"{seed}/{number}")
     at = number % rare.EVERY
@@ -39,7 +45,7 @@ def question(seed: str, number: int) -> Question:
         return Question(rng.choice(CONVERSIONS), texts(value(rng), rng))
     if kind < 0.5:
         return Question("intersect", texts(changed((Atom(b"intersect"), *tags.pair(rng)), rng, 0.35), rng))
-    return case_question(rng)
+    return guard_question(rng) if kind < 0.65 else case_question(rng)
 
 
 def long_question(rng: random.Random, at: int) -> Question:
@@ -76,26 +82,6 @@ def case_question(rng: random.Random) -> Question:
         return Question(command, texts(case, rng, 0.05), b"(accepted)")
     case, rows = apart(case, rng)
     return Question(command, texts(case, rng, 0.05), texts(changed(rows, rng, 0.2), rng, 0.1))
-
-
-def changed(whole: Value, rng: random.Random, chance: float) -> Value:
-    """A value, or by chance one that differs at one place or at two."""
-    while rng.random() < chance:
-        whole = mutated(whole, rng)
-        chance /= 2
-    return whole
-
-
-def texts(whole: Value, rng: random.Random, wrong: float = 0.35) -> bytes:
-    """A text of a value, or by chance one that is nearly one."""
-    if rng.random() < wrong / 4:
-        # a transport form whose octets are nearly a canonical form
-        return spellings.in_braces(mutated_text(canonical(whole), rng), rng)
-    text = spellings.text_of(whole, rng)
-    while rng.random() < wrong:
-        text = mutated_text(text, rng)
-        wrong /= 2
-    return text
 
 
 def value(rng: random.Random, depth: int = 3) -> Value:

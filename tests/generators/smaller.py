@@ -8,12 +8,12 @@ from model.printed import printed
 from model.values import FormFault, Value, canonical
 
 from .mutations import part, places, replaced
-from .questions import Question
+from .questions import Asked, Question
 
 LARGE = 20_000
 
 
-def smaller(question: Question, shows: Callable[[Question], bool], seconds: float = 20) -> Question:
+def smaller(question: Asked, shows: Callable[[Asked], bool], seconds: float = 20) -> Asked:
     """A question that still shows it, and of which nothing can be left out, as far as the time goes."""
     ends = time.monotonic() + seconds
     goes_on = True
@@ -28,9 +28,10 @@ def smaller(question: Question, shows: Callable[[Question], bool], seconds: floa
     return question
 
 
-def candidates(question: Question) -> Iterator[Question]:
+def candidates(question: Asked) -> Iterator[Asked]:
     """Smaller questions of the same command."""
-    for name in ("text", "rows"):
+    names = ("text", "rows") if isinstance(question, Question) else ("acl", "sequence", "key", "request", "moment", "rows")
+    for name in names:
         for text in smaller_texts(getattr(question, name)):
             yield replace(question, **{name: text})
 

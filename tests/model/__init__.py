@@ -12,6 +12,7 @@ decides.
 | `structures`, `case` | Keys, hashes, dates, entries, certificates; the case |
 | `evidence`, `reduction`, `derivations` | Evidence and decision |
 | `answers` | The program; the library for C programs |
+| `guard` | Questions to a guard |
 
 `laws` tries on the model's own answers what the document says of them beside the tables. `coverage` counts: a table that is declared as
 `Rows` lists what the document names, and a row that no generated text reaches shows as zero. The document names more that no text

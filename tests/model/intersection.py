@@ -1,4 +1,7 @@
 """The intersection of two tags by its rules (section "The intersection of two tags"; RFC 2693, section 6.3.1)."""
+from collections.abc import Iterator
+from contextlib import contextmanager
+
 from .coverage import Rows
 from .tags import NOTHING, AnyOf, Limit, Plain, Prefix, Range, Star, Tag, Text, in_range, nodes
 
@@ -18,14 +21,28 @@ LIMITS = Rows("intersection, limits", [
 REFUSED = Rows("intersection, refused", ["TooLarge", "the product is 1,000,000"])
 
 
+most_product = MOST_PRODUCT
+
+
 class TooLarge(Exception):
-    """The product of the nodes is over 1,000,000."""
+    """The product of the nodes is over the limit."""
+
+
+@contextmanager
+def limited(most: int) -> Iterator[None]:
+    """Within this the product of the nodes has another limit than 1,000,000."""
+    global most_product
+    before, most_product = most_product, most
+    try:
+        yield
+    finally:
+        most_product = before
 
 
 def intersection(a: Tag, b: Tag) -> Tag:
-    """The tag of the requests that both contain. TooLarge if the product of the nodes is over 1,000,000."""
+    """The tag of the requests that both contain. TooLarge if the product of the nodes is over the limit."""
     product = nodes(a) * nodes(b)
-    if product > MOST_PRODUCT:
+    if product > most_product:
         REFUSED.used("TooLarge")
         raise TooLarge
     if product == MOST_PRODUCT:

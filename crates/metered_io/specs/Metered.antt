@@ -10,23 +10,23 @@ use Rattle.metered_io.specs.declared.meters.Metered.{Metered}
 abbrev pub inner_of : {T : Type 0} → Metered T → T
 inner_of m = m.inner
 
--- the reader inside gave these octets, where it tells them
+-- the reader inside returned these octets, if it exposes them
 abbrev pub Gives : {R : Type 0} → (R → Option (List ℕ)) → Metered R → Metered R → List ℕ → Type 0
 Gives remaining old new octets = Consumes (remaining (inner_of old)) (remaining (inner_of new)) octets
 
--- it gave nothing
+-- it returned none
 abbrev pub GivesNone : {R : Type 0} → (R → Option (List ℕ)) → Metered R → Metered R → Type 0
 GivesNone remaining old new = Keeps (remaining (inner_of old)) (remaining (inner_of new))
 
--- it has no more to give
+-- it has no octets left
 abbrev pub HasGivenAll : {R : Type 0} → (R → Option (List ℕ)) → Metered R → Type 0
 HasGivenAll remaining reader = IsAtEnd (remaining (inner_of reader))
 
--- the writer inside took these octets, where it tells them
+-- the writer inside accepted these octets, if it exposes them
 abbrev pub Takes : {W : Type 0} → (W → Option (List ℕ)) → Metered W → Metered W → List ℕ → Type 0
 Takes contents old new octets = Appends (contents (inner_of old)) (contents (inner_of new)) octets
 
--- it took nothing
+-- it accepted none
 abbrev pub TakesNone : {W : Type 0} → (W → Option (List ℕ)) → Metered W → Metered W → Type 0
 TakesNone contents old new = Keeps (contents (inner_of old)) (contents (inner_of new))
 
@@ -34,15 +34,15 @@ TakesNone contents old new = Keeps (contents (inner_of old)) (contents (inner_of
 abbrev pub counted : ℕ → ℕ
 counted n = min (n + 1) (2 ^ 64 - 1)
 
--- an error is a fault, unless it only asks for the call to be made again
+-- an error is a fault unless it is `Interrupted`, which asks for the call to be repeated
 abbrev pub IsFault : Error → Type 0
 IsFault e = error_kind e ≢ Interrupted
 
--- a write of none of some octets is a fault too
+-- writing 0 octets of a buffer that is not empty is a fault too
 abbrev pub IsEmptyWrite : List ℕ → ℕ → Type 0
 IsEmptyWrite octets n = (n ≡ 0) × (0 < length octets)
 
--- the count of faults goes up by one at a fault, and else stays
+-- the count of faults increases by one at a fault, and otherwise does not change
 pub record CountsIf (fault : Type 0) (old new : ℕ) : Type 0 where
   pub faulty : fault → new ≡ counted old
   pub faultless : ¬ fault → new ≡ old

@@ -1,4 +1,4 @@
-//! The text that a reader gives, within a limit.
+//! Reads the whole text of a reader, within a limit.
 ghost use Rattle.std.specs.Prelude.{◌≡◌, ℕ, ◌+◌, ◌<◌, ◌≤◌, ◌⊎◌, ◌++◌, List, length, take, max, vec_len, IsTrue, IfOk, OnOk, OnErr, IfSome, IfNone, IsErrOf};
 ghost use Rattle.metered_io.specs.Metered.{counted, Gives, GivesNone, HasGivenAll};
 
@@ -7,16 +7,16 @@ use std::alloc::Global;
 use std::io::Read;
 use thiserror::Error;
 
-/// The most asks of a reader.
+/// The largest number of calls of a reader.
 const READER_ASKS: u64 = 2_097_152;
 
-/// How many octets one read may give.
+/// How many octets one read may return at most.
 const PIECE_OCTETS: usize = 8192;
 
-/// Why there is no text.
+/// Why no text is returned.
 #[derive(Clone, Copy, Debug, PartialEq, Eq, Error)]
 pub enum ReadFault {
-    /// The reader failed other than by `Interrupted`, or was asked too often.
+    /// The reader failed with an error other than `Interrupted`, or was called too often.
     #[error("read fault")]
     Failed,
     /// The text has more octets than the limit.
@@ -27,7 +27,7 @@ pub enum ReadFault {
     Memory,
 }
 
-/// One read: how many octets it gave, or none where it is to be asked again.
+/// Reads once. Returns how many octets were read, or None if the read must be repeated.
 fn ask<R: Read>(reader: &mut Metered<R>, buffer: &mut [u8]) -> Result<Option<usize>, ReadFault>
     ensures asks { reader.new.asks ≡ counted reader.old.asks }
     ensures fault { IsErrOf result ReadFault.Failed → reader.new.faults ≡ counted reader.old.faults }
@@ -53,8 +53,8 @@ fn ask<R: Read>(reader: &mut Metered<R>, buffer: &mut [u8]) -> Result<Option<usi
     }
 }
 
-/// One read, of no more than is needed to see that a text is too long, put behind the text. Says whether the
-/// reader has ended.
+/// Reads once, no more than is needed to see that a text is too long, and appends the octets to the text. Returns whether
+/// the reader has ended.
 fn read_piece<R: Read>(
     reader: &mut Metered<R>,
     buffer: &mut [u8],
@@ -89,7 +89,7 @@ fn read_piece<R: Read>(
     }
 }
 
-/// Puts octets behind the text.
+/// Appends octets to the text.
 fn append(text: &mut Vec<u8>, octets: &[u8], most: usize) -> Result<(), ReadFault>
     requires short { vec_len text.old ≤ most }
     requires wanted { vec_len text.old + length octets.now ≤ most + 1 }
@@ -106,13 +106,13 @@ fn append(text: &mut Vec<u8>, octets: &[u8], most: usize) -> Result<(), ReadFaul
     Ok(())
 }
 
-/// The whole text of a reader, of at most `most` octets. The reader is asked again where it answers `Interrupted`,
-/// and is asked until its count of asks is 2,097,152. No more octets are taken of it than one above `most`.
+/// Reads the whole text of a reader, of at most `most` octets. A read that fails with `Interrupted` is repeated. The reader
+/// is called until its count `asks` is 2,097,152. At most `most` octets and one more are taken from it.
 ///
 /// # Errors
 ///
-/// `Failed` at another error and at that count; `TooLong` where one octet more than `most` came; `Memory` where it
-/// ran out.
+/// `Failed` at another error, and at that count; `TooLong` if one octet more than `most` was read; `Memory` if memory ran
+/// out.
 pub fn read_whole<R: Read>(
     alloc: Global,
     reader: &mut Metered<R>,

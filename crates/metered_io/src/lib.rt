@@ -1,4 +1,4 @@
-//! Readers and writers with a meter round them, a whole text read within a limit, and a whole output written.
+//! Readers and writers whose calls are counted; reading a whole text within a limit, and writing a whole output.
 #![tactic(auto)]
 
 mod input;

@@ -1,4 +1,4 @@
-//! A meter round a reader or a writer.
+//! Counts the calls of a reader or a writer.
 ghost use Rattle.std.specs.Prelude.{◌≡◌, ◌↔◌, ◌<◌, length, IsTrue, IsOk, false};
 ghost use Rattle.std.specs.IoError.{error_kind};
 ghost use Rattle.std.specs.Io.{ReadsAtMost, WritesAtMost};
@@ -11,19 +11,20 @@ use std::io::{Error, ErrorKind, Read, Write};
 /// Passes calls on to a reader or a writer, and counts them.
 #[derive(Drop)]
 pub struct Metered<T> {
-    /// How many reads, writes and flushes were passed on; it stays at its type's end.
+    /// The number of reads, writes and flushes that were passed on. It stops at the greatest `u64`.
     pub asks: u64,
-    /// How many of them failed other than by `Interrupted`, or wrote none of some octets; it stays at its type's end.
+    /// The number of them that failed with an error other than `Interrupted`, or wrote 0 octets of a buffer that is not
+    /// empty. It stops at the greatest `u64`.
     pub faults: u64,
-    /// Whether the last read into a buffer with room was answered by 0 octets.
+    /// Whether the last read into a buffer with room returned 0 octets.
     pub ended: bool,
-    /// Whether the last write or flush was a flush that was answered.
+    /// Whether the last write or flush was a flush that succeeded.
     pub flushed: bool,
     inner: T,
 }
 
 impl<T> Metered<T> {
-    /// A meter that has counted nothing yet, round `inner`.
+    /// A meter around `inner` that has counted nothing yet.
     pub fn new(inner: T) -> Metered<T>
         ensures asks { result.asks ≡ 0 }
         ensures faults { result.faults ≡ 0 }
@@ -40,7 +41,7 @@ impl<T> Metered<T> {
         }
     }
 
-    /// Begins to count anew.
+    /// Resets the counts to 0 and the flags to false.
     pub fn restart(&mut self)
         ensures asks { self.new.asks ≡ 0 }
         ensures faults { self.new.faults ≡ 0 }
@@ -54,7 +55,7 @@ impl<T> Metered<T> {
         self.flushed = false;
     }
 
-    /// The reader or the writer inside.
+    /// Returns the reader or the writer inside.
     pub fn into_inner(self) -> T
         ensures { result ≡ inner_of self }
     {
@@ -62,7 +63,7 @@ impl<T> Metered<T> {
     }
 }
 
-/// Whether an error only asks for the call to be made again.
+/// Whether an error is `Interrupted`, which asks for the call to be repeated.
 pub(crate) fn is_interrupted(error: &Error) -> bool
     ensures { IsTrue result ↔ (error_kind error.now ≡ ErrorKind.Interrupted) }
 {

@@ -1,4 +1,4 @@
-//! What goes to a writer, all of it or a front of it.
+//! Writes a whole output to a writer.
 ghost use Rattle.std.specs.Prelude.{◌≡◌, ℕ, ◌+◌, ◌<◌, ◌≤◌, ◌⊎◌, ◌++◌, List, length, take, max, IsTrue, IfOk, OnOk, OnErr};
 ghost use Rattle.metered_io.specs.Metered.{counted, Takes, TakesNone};
 ghost use Rattle.metered_io.specs.Sent.{SendsFront};
@@ -7,15 +7,16 @@ use crate::meters::{Metered, is_interrupted};
 use std::io::Write;
 use thiserror::Error;
 
-/// The most asks of a writer, beside one for each octet.
+/// The largest number of calls of a writer, in addition to one for each octet.
 const WRITER_ASKS: u64 = 2_097_152;
 
-/// The writer failed other than by `Interrupted`, took none of some octets, or was asked too often.
+/// The writer failed with an error other than `Interrupted`, wrote 0 octets of a buffer that is not empty, or was called too
+/// often.
 #[derive(Debug, Drop, Error)]
 #[error("write fault")]
 pub struct WriteFault;
 
-/// One write of some octets: how many went out, none where the writer is to be asked again.
+/// Writes once. Returns how many octets were written, 0 if the write must be repeated.
 fn write_piece<W: Write>(writer: &mut Metered<W>, octets: &[u8]) -> Result<usize, WriteFault>
     requires some { 0 < length octets.now }
     ensures asks { writer.new.asks ≡ counted writer.old.asks }
@@ -38,7 +39,7 @@ fn write_piece<W: Write>(writer: &mut Metered<W>, octets: &[u8]) -> Result<usize
     }
 }
 
-/// One flush. Says whether it was answered, and not to be asked for again.
+/// Flushes once. Returns true if the flush succeeded, and false if it must be repeated.
 fn flush_once<W: Write>(writer: &mut Metered<W>) -> Result<bool, WriteFault>
     ensures asks { writer.new.asks ≡ counted writer.old.asks }
     ensures fault { OnErr result (writer.new.faults ≡ counted writer.old.faults) }
@@ -58,13 +59,13 @@ fn flush_once<W: Write>(writer: &mut Metered<W>) -> Result<bool, WriteFault>
     }
 }
 
-/// Writes all the octets and flushes the writer, which is asked again where it answers `Interrupted`. It is asked
-/// until its count of asks is 2,097,152 above the number of the octets.
+/// Writes all the octets and flushes the writer. A call that fails with `Interrupted` is repeated. The writer is called
+/// until its count `asks` is 2,097,152 more than the number of the octets.
 ///
 /// # Errors
 ///
-/// `WriteFault` at another error, at a write of none of some octets, and at that count. A front of the octets went
-/// out then.
+/// `WriteFault` at another error, if 0 octets of a buffer that is not empty are written, and at that count. A beginning of
+/// the octets has been written then.
 pub fn write_whole<W: Write>(writer: &mut Metered<W>, octets: &[u8]) -> Result<(), WriteFault>
     ensures octets { OnOk result (Takes W.contents writer.old writer.new octets.now) }
     ensures flushed { OnOk result (IsTrue writer.new.flushed) }

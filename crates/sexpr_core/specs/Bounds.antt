@@ -1,4 +1,4 @@
--- What a fault says of a part of a text.
+-- What a fault means for a part of a text.
 use Rattle.std.specs.Prelude.{◌≡◌, ◌≢◌, ℕ, ◌<◌, List, length}
 use Rattle.sexpr_core.specs.declared.fault.FormFault.{FormFault}
 use Rattle.sexpr_core.specs.declared.fault.FormFault.TheVariants.{TooLong, TooDeep, Short, Bad, Trailing, Memory}
@@ -6,7 +6,7 @@ use Rattle.sexpr_core.specs.Value.{Value, canon}
 use Rattle.sexpr_core.specs.Refusal.{Refused}
 use Rattle.sexpr_core.specs.Spaces.{Skips}
 
--- the text ends too soon, or memory is refused
+-- the text ends too soon, or memory ran out
 abbrev pub IsShort : FormFault → Type 0
 IsShort TooLong = ⊥
 IsShort TooDeep = ⊥
@@ -15,7 +15,7 @@ IsShort (Bad at) = ⊥
 IsShort (Trailing at) = ⊥
 IsShort Memory = Unit {0}
 
--- the fault of octets at an offset, and no other offset
+-- the fault is Bad at this offset, or memory ran out
 abbrev pub IsFaultAt : ℕ → FormFault → Type 0
 IsFaultAt at TooLong = ⊥
 IsFaultAt at TooDeep = ⊥
@@ -24,7 +24,7 @@ IsFaultAt at (Bad k) = k ≡ at
 IsFaultAt at (Trailing k) = ⊥
 IsFaultAt at Memory = Unit {0}
 
--- the fault of a body that ends at an offset, by the fault of its octets
+-- the fault of a body that ends at an offset, for a fault of its octets
 abbrev pub IsBodyFault : FormFault → ℕ → FormFault → Type 0
 IsBodyFault TooLong at fault = fault ≡ Bad at
 IsBodyFault TooDeep at fault = fault ≡ TooDeep
@@ -33,7 +33,7 @@ IsBodyFault (Bad k) at fault = fault ≡ Bad at
 IsBodyFault (Trailing k) at fault = fault ≡ Bad at
 IsBodyFault Memory at fault = fault ≡ Memory
 
--- what the fault of a body that ends at an offset says of its octets
+-- what the fault of a body that ends at an offset means for its octets
 abbrev pub RefusesBody : List ℕ → ℕ → FormFault → Type 0
 RefusesBody octets at TooLong = ⊥
 RefusesBody octets at TooDeep = Refused octets TooDeep
@@ -42,7 +42,7 @@ RefusesBody octets at (Bad k) = (k ≡ at) × ((v : Value) → octets ≢ canon 
 RefusesBody octets at (Trailing k) = ⊥
 RefusesBody octets at Memory = Unit {0}
 
--- whitespace, which begins at an offset, is followed by an octet
+-- whitespace begins at an offset, and another octet follows it
 abbrev pub IsTrailingBehind : List ℕ → ℕ → FormFault → Type 0
 IsTrailingBehind text at TooLong = ⊥
 IsTrailingBehind text at TooDeep = ⊥

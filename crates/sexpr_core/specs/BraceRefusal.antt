@@ -11,7 +11,7 @@ use Rattle.sexpr_core.specs.Refusal.{Refused}
 use Rattle.sexpr_core.specs.Spaces.{AreSpaces, visible}
 use Rattle.sexpr_core.specs.Braces.{IsBase64, Braced, IsBraced, IsBracedWithin}
 
--- a text begins with whitespace, an opening brace, base64 of octets that are refused as too deep, and a closing brace
+-- a text begins with whitespace, an opening brace, base64 of octets that are refused as TooDeep, and a closing brace
 pub record BracesDeep (text : List ℕ) : Type 0 where
   pub before : List ℕ
   pub body : List ℕ
@@ -28,8 +28,8 @@ pub record IsShallowBraced (text : List ℕ) : Type 0 where
   pub braced : Braced text value
   pub shallow : IsShallow value
 
--- whitespace, an opening brace, and symbols of base64, = and whitespace: a body of which nothing is said until its brace
--- is closed
+-- whitespace, an opening brace, and symbols of base64, = and whitespace: nothing is claimed of a body before its closing
+-- brace
 pub record OpensBraces (text : List ℕ) : Type 0 where
   pub before : List ℕ
   pub body : List ℕ
@@ -37,15 +37,15 @@ pub record OpensBraces (text : List ℕ) : Type 0 where
   pub spaces_before : AreSpaces before
   pub symbols : AreBodyOctets body
 
--- The octets may go on: they begin a text that braces a value within the limit on depth, or they end inside braces.
+-- The octets may continue: they begin a text that braces a value within the limit on depth, or they end inside braces.
 abbrev pub BracesGoOn : List ℕ → Type 0
 BracesGoOn text = Begins IsShallowBraced text ⊎ OpensBraces text
 
--- What each refusal says of the text. TooLong: it has more than 1,048,576 octets. TooDeep: what stands in braces is
--- refused so. Short: it may go on, and braces no value. Bad: the octets before the offset may go on and brace no value,
--- and with the octet there they may not go on, nor do braces end there whose octets are refused as too deep; and no text
--- in braces begins with them. Trailing: the octets before the offset brace a value within the limits, and with the octet
--- there they may not go on.
+-- What each refusal means for the text. TooLong: it has more than 1,048,576 octets. TooDeep: the octets in its braces are
+-- refused as TooDeep. Short: it may continue, and braces no value. Bad: the octets before the offset may continue, and brace
+-- no value. With the octet at the offset they may not continue, no text in braces begins with them, and they do not close
+-- braces with octets that are refused as TooDeep. Trailing: the octets before the offset brace a value within the limits,
+-- and with the octet at the offset they may not continue.
 abbrev pub RefusesBraces : List ℕ → FormFault → Type 0
 RefusesBraces text TooLong = octet_limit < length text
 RefusesBraces text TooDeep = BracesDeep text

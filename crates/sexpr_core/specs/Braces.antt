@@ -1,4 +1,4 @@
--- Base64 (RFC 4648, section 4) among whitespace, and the transport form (RFC 9804, sections 4.5, 6.1 and 6.3).
+-- Base64 (RFC 4648, section 4) with whitespace in it, and the transport form (RFC 9804, sections 4.5, 6.1 and 6.3).
 use Rattle.std.specs.Prelude.{◌≡◌, ℕ, ◌<◌, ◌≤◌, List, [], ◌∷◌, ◌++◌, length, drop, replicate}
 use Rattle.base64.specs.Engines.{standard}
 use Rattle.base64.specs.GeneralPurpose.{encode_of, IsBytes}
@@ -7,8 +7,8 @@ use Rattle.sexpr_core.specs.Limits.{octet_limit}
 use Rattle.sexpr_core.specs.Value.{Value, canon, IsShallow}
 use Rattle.sexpr_core.specs.Spaces.{AreSpaces, visible}
 
--- The symbols are the padded base64 of the octets in the standard alphabet, or the same with some or all of its
--- padding left out, which is two times = at most.
+-- The symbols are the padded base64 of the octets in the standard alphabet, or the same without some or all of its padding.
+-- The padding is at most two `=`.
 pub record IsBase64 (symbols octets : List ℕ) : Type 0 where
   pub are_octets : IsBytes octets
   pub missing : ℕ
@@ -23,8 +23,8 @@ in_braces octets = char "{" ∷ (encode_of standard octets ++ char "}" ∷ [])
 abbrev pub transport : Value → List ℕ
 transport v = in_braces (canon v)
 
--- A text is whitespace, an opening brace, a body, a closing brace, whitespace; and the body, without its
--- whitespace, is base64 of the value's canonical text.
+-- The text is whitespace, an opening brace, a body, a closing brace and whitespace. The body, without its whitespace, is
+-- base64 of the value's canonical text.
 pub record Braced (text : List ℕ) (v : Value) : Type 0 where
   pub before : List ℕ
   pub body : List ℕ
@@ -45,7 +45,7 @@ pub record IsBracedWithin (text : List ℕ) (v : Value) : Type 0 where
   pub short : length text ≤ octet_limit
   pub shallow : IsShallow v
 
--- a body and the mark behind it, which stand from one offset of a text on, up to another
+-- a body in base64 and the mark behind it, from one offset of a text up to another
 pub record ReadsBase64 (text : List ℕ) (at mark : ℕ) (octets : List ℕ) (to : ℕ) : Type 0 where
   pub body : List ℕ
   pub spelled : drop at text ≡ body ++ mark ∷ drop to text
@@ -53,7 +53,7 @@ pub record ReadsBase64 (text : List ℕ) (at mark : ℕ) (octets : List ℕ) (to
   pub goes_on : at < to
   pub within : to ≤ length text
 
--- base64 stands at an offset of a text, and the mark behind it
+-- base64 and the mark behind it are at an offset of a text
 pub record PackedAt (at mark : ℕ) (text : List ℕ) : Type 0 where
   pub body : List ℕ
   pub rest : List ℕ

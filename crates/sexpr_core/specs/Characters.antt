@@ -1,9 +1,9 @@
--- Characters by how they are written. RFC 9804 gives the octets of its forms as characters of ASCII.
+-- Characters as they are written. RFC 9804 gives the octets of its forms as characters of ASCII.
 use Prim.Native.Char.{code}
 use Prim.Native.Nat.{ℕ}
 use Prim.Native.String.{String, [], ◌∷◌}
 
--- the octet that a text of one character is
+-- the octet of a text of one character
 abbrev pub char : String → ℕ
 char [] = 0
 char (c ∷ rest) = code c

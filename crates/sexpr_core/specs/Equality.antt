@@ -3,6 +3,6 @@ use Rattle.std.specs.Prelude.{Bool}
 use Rattle.std.specs.Str.{bytes_eq}
 use Rattle.sexpr_core.specs.Value.{Value, canon}
 
--- whether two values have the same canonical text, and so are the same
+-- whether two values have the same canonical text, and so are equal
 abbrev pub is_same : Value → Value → Bool
 is_same v w = bytes_eq (canon v) (canon w)

@@ -1,4 +1,4 @@
--- What is gathered of a body in base64: all but its whitespace.
+-- What is kept of a body in base64: everything except its whitespace.
 use Rattle.std.specs.Prelude.{◌≡◌, ℕ, ◌<◌, ◌≤◌, ◌==◌, ◌||◌, ◌&&◌, nat_le, Bool, true, false, List, [], ◌∷◌, ◌++◌, length, drop}
 use Rattle.std.specs.List.{AllByRecursion}
 use Rattle.sexpr_core.specs.Characters.{char}
@@ -17,12 +17,12 @@ is_body_octet c = is_whitespace c || is_symbol c
 abbrev pub AreBodyOctets : List ℕ → Type 0
 AreBodyOctets xs = AllByRecursion (λ c. is_body_octet c ≡ true) xs
 
--- no symbol stands first
+-- the first octet, if there is one, is no symbol
 abbrev pub StartsNoSymbol : List ℕ → Type 0
 StartsNoSymbol [] = Unit {0}
 StartsNoSymbol (c ∷ cs) = is_symbol c ≡ false
 
--- all the symbols that stand from one offset of a text on, up to another
+-- all the symbols from one offset of a text up to another
 pub record SkipsSymbols (text : List ℕ) (at to : ℕ) : Type 0 where
   pub symbols : List ℕ
   pub are_symbols : AllByRecursion (λ c. is_symbol c ≡ true) symbols
@@ -31,7 +31,7 @@ pub record SkipsSymbols (text : List ℕ) (at to : ℕ) : Type 0 where
   pub ordered : at ≤ to
   pub within : to ≤ length text
 
--- a body's octets from one offset of a text up to another, with the mark that ends them, and what was gathered of them
+-- a body's octets from one offset of a text up to another, the mark that ends them, and the symbols that are kept of them
 pub record GathersTo (text : List ℕ) (at mark : ℕ) (symbols : List ℕ) (to : ℕ) : Type 0 where
   pub body : List ℕ
   pub octets : AreBodyOctets body
@@ -40,7 +40,7 @@ pub record GathersTo (text : List ℕ) (at mark : ℕ) (symbols : List ℕ) (to 
   pub goes_on : at < to
   pub within : to ≤ length text
 
--- a body stands at an offset of a text, and the mark behind it
+-- a body and the mark behind it are at an offset of a text
 pub record BodyAt (at mark : ℕ) (text : List ℕ) : Type 0 where
   pub body : List ℕ
   pub rest : List ℕ
@@ -55,8 +55,8 @@ pub record Passed (p : ℕ → Bool) (text : List ℕ) (at to : ℕ) : Type 0 wh
   pub ordered : at ≤ to
   pub within : to ≤ length text
 
--- Where a body is refused whose octets pass a test. Short: all octets pass that stand from the offset on. Bad: those
--- before the octet pass, and it does not.
+-- Where a body is refused, if its octets have to pass a test. Short: all octets from the offset on pass. Bad: those before
+-- the octet at k pass, and this one does not.
 abbrev pub IsBodyEnd : (ℕ → Bool) → List ℕ → ℕ → FormFault → Type 0
 IsBodyEnd p text at TooLong = ⊥
 IsBodyEnd p text at TooDeep = ⊥

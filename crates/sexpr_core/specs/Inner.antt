@@ -1,2 +1,2 @@
--- What only the contracts of private functions cite.
+-- Definitions that only the contracts of private functions cite.
 pub mod PartFaults

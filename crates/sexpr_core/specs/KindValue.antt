@@ -1,4 +1,4 @@
--- The value that a reader of a node sees.
+-- The value that a reader of a node returns.
 use Rattle.std.specs.Option.{option_copied}
 use Rattle.sexpr_core.specs.declared.handle.NodeKind.{NodeKind}
 use Rattle.sexpr_core.specs.declared.handle.NodeKind.TheVariants.{String, List as Group}

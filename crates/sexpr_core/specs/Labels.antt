@@ -1,11 +1,11 @@
--- A value as the list of its nodes' labels, by which a proof stores it and tells it from other values.
+-- A value as the list of its nodes' labels. Proofs store a value by them and distinguish it from other values.
 use Rattle.std.specs.Prelude.{◌≡◌, ℕ, List, [], ◌∷◌, ◌++◌, length, take, drop, map, Option, ◌⊎◌, refl}
 use Rattle.std.specs.Coded.{Coded, code_by, coded×, coded⊎, coded_ℕ, coded_list, coded_option}
 use Rattle.std.proofs.Common.{sym, ap, ◌∙◌, append_assoc, inl, inr}
 use Rattle.std.proofs.lemmas.List.{map-append, take_at, drop_at, append-nil}
 use Rattle.sexpr_core.specs.Value.{Value, string, list, Values, none, more, members, values, plain, group, nodes, nodes_all}
 
--- of a list how many members it has; of a string its display hint and its octets
+-- for a list the number of its members; for a string its display hint and its octets
 abbrev pub Label : Type 0
 Label = ℕ ⊎ (Option (List ℕ) × List ℕ)
 
@@ -21,7 +21,7 @@ abbrev grown : Label → List Value → List Value
 grown (inr s) rest = string s.0 s.1 ∷ rest
 grown (inl n) rest = group (take n rest) ∷ drop n rest
 
--- the values that labels stand for, one after another
+-- the values that labels represent, one after another
 abbrev pub grow : List Label → List Value
 grow [] = []
 grow (l ∷ ls) = grown l (grow ls)
@@ -30,11 +30,11 @@ abbrev first : List Value → Value
 first [] = plain []
 first (v ∷ vs) = v
 
--- the value that labels stand for
+-- the value that labels represent
 abbrev pub tree : List Label → Value
 tree ls = first (grow ls)
 
--- ---- labels stand for their value
+-- ---- labels represent their value
 
 pub values-members : (vs : Values) → values (members vs) ≡ vs
 values-members none = refl

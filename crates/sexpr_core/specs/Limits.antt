@@ -5,6 +5,6 @@ use Rattle.std.specs.Prelude.{ℕ}
 abbrev pub octet_limit : ℕ
 octet_limit = 1048576
 
--- the most lists that are open at once
+-- the most lists that may be open at once
 abbrev pub depth_limit : ℕ
 depth_limit = 64

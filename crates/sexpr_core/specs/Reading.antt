@@ -1,4 +1,4 @@
--- What a step of the reader of canonical form has read of a text, from offset `at` to offset `to`.
+-- What a step of the reader of canonical form has read, from offset `at` to offset `to`.
 use Rattle.std.specs.Prelude.{◌≡◌, ℕ, ◌+◌, ◌<◌, ◌≤◌, min, List, [], ◌∷◌, ◌++◌, length, drop, Option}
 use Rattle.sexpr_core.specs.Characters.{char}
 use Rattle.sexpr_core.specs.Limits.{octet_limit}
@@ -11,7 +11,7 @@ pub record StandsAt (text : List ℕ) (at octet : ℕ) : Type 0 where
   pub spelled : drop at text ≡ octet ∷ drop (at + 1) text
   pub within : at < length text
 
--- a length and its colon; a number past the longest text counts as one past it
+-- a length and its colon; a number over the limit on octets is replaced by the limit plus one
 pub record ReadsLength (text : List ℕ) (at number to : ℕ) : Type 0 where
   pub written : ℕ
   pub capped : number ≡ min written (octet_limit + 1)
@@ -26,7 +26,7 @@ pub record ReadsVerbatim (text : List ℕ) (at body to : ℕ) : Type 0 where
   pub ends : to ≡ body + length octets
   pub within : to ≤ length text
 
--- a string with or without hint, and its record
+-- a string with or without a hint, and its record
 pub record ReadsString (text : List ℕ) (at : ℕ) (read : Record) : Type 0 where
   pub hint : Option (List ℕ)
   pub octets : List ℕ
@@ -34,7 +34,7 @@ pub record ReadsString (text : List ℕ) (at : ℕ) (read : Record) : Type 0 whe
   pub placed : records at (string hint octets) ≡ read ∷ []
   pub within : read.end ≤ length text
 
--- a value in which at most `room` lists are open at once, whose records stand behind the old ones
+-- a value in which at most `room` lists are open at once; its records follow the old ones
 pub record ReadsValue (room : ℕ) (text : List ℕ) (at to : ℕ) (old new : List Record) : Type 0 where
   pub value : Value
   pub fits : depth value ≤ room
@@ -53,7 +53,7 @@ pub record ReadsMembers (room : ℕ) (text : List ℕ) (at parts to : ℕ) (old 
   pub goes_on : at < to
   pub within : to ≤ length text
 
--- A value, and the members of a list with its closing parenthesis, of which no records are kept: some would be theirs.
+-- The same for a value, and for the members of a list with its closing parenthesis, if no records are kept.
 abbrev pub PassesValue : ℕ → List ℕ → ℕ → ℕ → Type 0
 PassesValue room text at to = (nodes : List Record) × ReadsValue room text at to [] nodes
 

@@ -10,10 +10,10 @@ use Rattle.sexpr_core.specs.Texts.{IsCanon, IsCanonWithin}
 abbrev pub IsShallowText : List ℕ → Type 0
 IsShallowText t = IsCanonWithin depth_limit t
 
--- What each refusal says of the text. TooLong: it has more than 1,048,576 octets. TooDeep: some prefix of it is
--- one of a canonical text, and of no shallow one. Short: it is a proper prefix of a shallow text. Bad: the octets
--- before the offset are, and with the octet there they are a prefix of no canonical text. Trailing: the octets
--- before the offset are a shallow text, and one stands there.
+-- What each refusal means for the text. TooLong: it has more than 1,048,576 octets. TooDeep: some beginning of it begins a
+-- canonical text, but no shallow one. Short: it is a proper beginning of a shallow text. Bad: the octets before the offset
+-- are a proper beginning of a shallow text, and with the octet at the offset they begin no canonical text. Trailing: the
+-- octets before the offset are a shallow text, and there is an octet at the offset.
 abbrev pub Refused : List ℕ → FormFault → Type 0
 Refused text TooLong = octet_limit < length text
 Refused text TooDeep = (n : ℕ) × Begins IsCanon (take n text) × (Begins IsShallowText (take n text) → ⊥)
@@ -22,7 +22,7 @@ Refused text (Bad at) = (at < length text) × Front IsShallowText (take at text)
 Refused text (Trailing at) = (at < length text) × IsShallowText (take at text)
 Refused text Memory = Unit {0}
 
--- a refusal that speaks of a text's form, and not of its length or of memory
+-- a refusal for the form of a text, and not for its length or for memory
 abbrev pub IsOfForm : FormFault → Type 0
 IsOfForm TooLong = ⊥
 IsOfForm TooDeep = Unit {0}

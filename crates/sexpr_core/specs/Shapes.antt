@@ -1,8 +1,8 @@
--- What a value isn't.
+-- What a value is not.
 use Rattle.std.specs.Prelude.{◌≢◌, ℕ, List, ◌∷◌}
 use Rattle.sexpr_core.specs.Value.{Value, plain, group}
 
--- not a string without display hint
+-- not a string without a display hint
 abbrev pub IsNoString : Value → Type 0
 IsNoString v = (octets : List ℕ) → v ≢ plain octets
 

@@ -13,16 +13,16 @@ IsSpace c = is_whitespace c ≡ true
 abbrev pub AreSpaces : List ℕ → Type 0
 AreSpaces xs = AllByRecursion IsSpace xs
 
--- the octets that are no whitespace
+-- the octets that are not whitespace
 abbrev pub visible : List ℕ → List ℕ
 visible xs = filter (λ c. not (is_whitespace c)) xs
 
--- the octets begin with no whitespace
+-- the first octet, if there is one, is not whitespace
 abbrev pub StartsVisible : List ℕ → Type 0
 StartsVisible [] = Unit {0}
 StartsVisible (c ∷ cs) = is_whitespace c ≡ false
 
--- all the whitespace that stands from one offset of a text on, up to another
+-- all the whitespace from one offset of a text up to another
 pub record Skips (text : List ℕ) (at to : ℕ) : Type 0 where
   pub spaces : List ℕ
   pub are_spaces : AreSpaces spaces

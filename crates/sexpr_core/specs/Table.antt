@@ -1,4 +1,4 @@
--- The value that a table of records shows in a text.
+-- The value that a table of records describes in a text.
 use Rattle.std.specs.Prelude.{◌≡◌, ℕ, ◌+◌, List, length, map, Some, None, slice_range}
 use Rattle.std.proofs.Common.{inl, inr}
 use Rattle.sexpr_core.specs.declared.layout.Record.{Record}
@@ -8,7 +8,7 @@ use Rattle.sexpr_core.specs.Value.{Value, string, list, members, canon, size}
 use Rattle.sexpr_core.specs.Labels.{Label, tree}
 use Rattle.sexpr_core.specs.Layout.{shape, records}
 
--- the record of a value whose text begins at this offset
+-- the shape of a value whose text begins at this offset
 abbrev pub shape_of : ℕ → Value → Shape
 shape_of at (string hint octets) = shape at hint octets
 shape_of at (list vs) = Group (length (members vs))
@@ -16,7 +16,7 @@ shape_of at (list vs) = Group (length (members vs))
 abbrev pub record_of : ℕ → Value → Record
 record_of at v = record { start = at; end = at + length (canon v); size = size v; shape = shape_of at v }
 
--- the label of a node of this shape that ends there
+-- the label of a node of this shape that ends at this offset
 abbrev pub label_as : List ℕ → ℕ → Shape → Label
 label_as text end (Plain body) = inr (None, slice_range text body end)
 label_as text end (Hinted hint hint_end body) = inr (Some (slice_range text hint hint_end), slice_range text body end)

@@ -1,4 +1,4 @@
--- The sorts of texts that a reader of canonical form looks for (RFC 9804, section 6.2).
+-- The sets of texts that the reader of canonical form reads (RFC 9804, section 6.2).
 use Rattle.std.specs.Prelude.{◌≡◌, ℕ, ◌≤◌, List, [], ◌∷◌, ◌++◌}
 use Rattle.sexpr_core.specs.Characters.{char}
 use Rattle.sexpr_core.specs.Value.{Value, Values, decimal, verbatim, canon, canons, depth, depths}
@@ -8,7 +8,7 @@ pub record IsCanon (t : List ℕ) : Type 0 where
   pub value : Value
   pub is : t ≡ canon value
 
--- that of a value in which at most so many lists are open at once
+-- the same for a value in which at most so many lists are open at once
 pub record IsCanonWithin (room : ℕ) (t : List ℕ) : Type 0 where
   pub value : Value
   pub fits : depth value ≤ room
@@ -29,7 +29,7 @@ pub record IsVerbatim (t : List ℕ) : Type 0 where
   pub octets : List ℕ
   pub is : t ≡ verbatim octets
 
--- a hinted string behind its hint
+-- the part of a hinted string behind its hint
 pub record IsClosing (t : List ℕ) : Type 0 where
   pub octets : List ℕ
   pub is : t ≡ char "]" ∷ verbatim octets

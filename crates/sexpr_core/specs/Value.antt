@@ -5,8 +5,8 @@ use Rattle.sexpr_core.specs.Characters.{char}
 use Rattle.sexpr_core.specs.Limits.{octet_limit, depth_limit}
 
 mutual
-  -- An octet string, with a display hint or without one (sections 4 and 4.6), or a list (section 5). Octets
-  -- are plain numbers: that each is below 256 is a fact about a text.
+  -- An octet string, with or without a display hint (sections 4 and 4.6), or a list (section 5). Octets are plain numbers:
+  -- that each is below 256 is stated of texts.
   pub data Value : Type 0 where
     string : Option (List ℕ) → List ℕ → Value
     list : Values → Value
@@ -26,7 +26,7 @@ abbrev pub values : List Value → Values
 values [] = none
 values (v ∷ vs) = more v (values vs)
 
--- a string without display hint
+-- a string without a display hint
 abbrev pub plain : List ℕ → Value
 plain octets = string None octets
 
@@ -68,8 +68,8 @@ abbrev mutual
   depths (more v vs) = max (depth v) (depths vs)
 
 abbrev mutual
-  -- the nodes: the value and its parts, in the order in which they begin in the canonical text. A list stands
-  -- before its members, and a display hint is no node.
+  -- the nodes: the value and its parts, in the order in which they begin in the canonical text. A list comes before its
+  -- members, and a display hint is no node.
   pub nodes : Value → List Value
   nodes (string hint octets) = string hint octets ∷ []
   nodes (list vs) = list vs ∷ nodes_all vs
@@ -82,7 +82,7 @@ abbrev mutual
 abbrev pub node : Value → ℕ → Option Value
 node v n = slice_get (nodes v) n
 
--- how many nodes
+-- the number of nodes
 abbrev pub size : Value → ℕ
 size v = length (nodes v)
 

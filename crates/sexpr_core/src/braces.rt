@@ -21,12 +21,12 @@ use base64::DecodeAllocError;
 use base64::engine::general_purpose::STANDARD;
 use std::alloc::{AllocError, Global};
 
-/// Octets that stood in base64, and the offset behind the mark that ended them.
+/// Octets that were decoded from base64, and the offset behind the mark that ended them.
 #[derive(Debug, Drop)]
 pub struct Unpacked {
     /// The octets.
     pub octets: Vec<u8>,
-    /// Where the closing mark has ended.
+    /// The offset behind the closing mark.
     pub end: usize,
 }
 
@@ -35,7 +35,7 @@ struct Gathered {
     end: usize,
 }
 
-/// The transport form of a tree (RFC 9804, section 6.3): the padded base64 of its canonical form, in braces.
+/// Returns the transport form of a tree (RFC 9804, section 6.3): the padded base64 of its canonical form, in braces.
 pub fn wrap(alloc: Global, tree: &Sexp) -> Result<Vec<u8>, AllocError>
     ensures { IfOk result (λ text. text.items ≡ transport (sexp_value tree.now)) }
 {
@@ -43,8 +43,7 @@ pub fn wrap(alloc: Global, tree: &Sexp) -> Result<Vec<u8>, AllocError>
     wrap_octets(alloc, &octets)
 }
 
-/// Octets in braces: the padded base64 of whatever octets these are. Of a value's canonical form it is the value's
-/// transport form.
+/// Returns octets in braces: the padded base64 of any octets. For a value's canonical form this is its transport form.
 pub fn wrap_octets(alloc: Global, octets: &[u8]) -> Result<Vec<u8>, AllocError>
     ensures { IfOk result (λ text. text.items ≡ in_braces octets.now) }
 {
@@ -56,7 +55,7 @@ pub fn wrap_octets(alloc: Global, octets: &[u8]) -> Result<Vec<u8>, AllocError>
     Ok(text)
 }
 
-/// Whether an octet may stand in base64: a symbol of the standard alphabet, or `=`.
+/// Whether an octet may occur in base64: a symbol of the standard alphabet, or `=`.
 fn is_base64_octet(octet: u8) -> bool
     ensures { result ≡ is_symbol octet }
 {
@@ -68,7 +67,7 @@ fn is_base64_octet(octet: u8) -> bool
         || octet == b'='
 }
 
-/// The offset behind the symbols that begin at an offset.
+/// Returns the offset behind the symbols that begin at an offset.
 fn skip_symbols(text: &[u8], at: usize) -> usize
     requires { at ≤ length text.now }
     ensures { SkipsSymbols text.now at result }
@@ -83,7 +82,7 @@ fn skip_symbols(text: &[u8], at: usize) -> usize
     i
 }
 
-/// The symbols of a body that stands before a mark.
+/// Returns the symbols of a body that ends at a mark.
 fn gather(alloc: Global, text: &[u8], at: usize, mark: u8) -> Result<Gathered, FormFault>
     requires begins { at ≤ length text.now }
     requires apart { is_body_octet mark ≡ false }
@@ -112,7 +111,7 @@ fn gather(alloc: Global, text: &[u8], at: usize, mark: u8) -> Result<Gathered, F
     Err(FormFault::Short)
 }
 
-/// Puts missing padding behind symbols.
+/// Appends missing padding to symbols.
 fn pad(symbols: &mut Vec<u8>, missing: usize) -> Result<(), AllocError>
     ensures { OnOk result (symbols.new.items ≡ symbols.old.items ++ replicate missing 61) }
 {
@@ -122,7 +121,7 @@ fn pad(symbols: &mut Vec<u8>, missing: usize) -> Result<(), AllocError>
     Ok(())
 }
 
-/// The octets that symbols stand for; else the fault is Bad at the offset given.
+/// Decodes symbols. If they are no base64, the fault is Bad at the offset given.
 fn unpack(alloc: Global, symbols: Vec<u8>, at: usize) -> Result<Vec<u8>, FormFault>
     ensures read { IfOk result (λ octets. IsBase64 symbols.items octets.items) }
     ensures only { (octets : List ℕ) → IsBase64 symbols.items octets → IsOkUnless result FormFault.Memory }
@@ -141,11 +140,13 @@ fn unpack(alloc: Global, symbols: Vec<u8>, at: usize) -> Result<Vec<u8>, FormFau
     }
 }
 
-/// Reads base64 with whitespace in it, which stands from an offset on up to a closing mark. The octets' padding
-/// may be left out as a whole or in part, and spare bits are zero (RFC 9804, section 4.5; RFC 4648, section 4).
+/// Reads base64 from an offset up to a closing mark, with whitespace in it. Some or all of the padding may be missing, and
+/// unused bits are zero (RFC 9804, section 4.5; RFC 4648, section 4).
 ///
-/// Short: the text ends before the mark. Bad: at the first octet that can't stand there, or at the mark where the
-/// body is no base64; no text that begins with the octets up to this one has base64 and the mark at the offset.
+/// # Errors
+///
+/// Short: the text ends before the mark. Bad: at the first octet that is not allowed there, or at the mark if the body is no
+/// base64. No text that begins with the octets up to this one has base64 and the mark at the offset.
 pub fn read_base64(alloc: Global, text: &[u8], at: usize, mark: u8) -> Result<Unpacked, FormFault>
     requires begins { at ≤ length text.now }
     requires apart { is_body_octet mark ≡ false }
@@ -160,7 +161,7 @@ pub fn read_base64(alloc: Global, text: &[u8], at: usize, mark: u8) -> Result<Un
     Ok(Unpacked { octets, end })
 }
 
-/// Why a body is refused that ends at this offset where its octets are no canonical form within the limits.
+/// The fault of a body that ends at this offset, if its octets are no canonical form within the limits.
 fn body_fault(fault: FormFault, at: usize) -> FormFault
     ensures { IsBodyFault fault at result }
 {
@@ -171,7 +172,7 @@ fn body_fault(fault: FormFault, at: usize) -> FormFault
     }
 }
 
-/// Whether the octets of a body that ends at this offset are a canonical form within the limits.
+/// Checks that the octets of a body that ends at this offset are a canonical form within the limits.
 fn check_body(octets: &[u8], at: usize) -> Result<(), FormFault>
     requires { length octets.now ≤ 1048576 }
     ensures read { OnOk result ((v : Value) × (octets.now ≡ canon v) × IsWithinLimits v) }
@@ -184,13 +185,15 @@ fn check_body(octets: &[u8], at: usize) -> Result<(), FormFault>
     }
 }
 
-/// Reads the transport form (RFC 9804, section 6.3): braces round base64 of a canonical form, with whitespace
-/// allowed round the braces and in them, and padding that may be left out as a whole or in part.
+/// Reads the transport form (RFC 9804, section 6.3): braces around base64 of a canonical form. Whitespace is allowed around
+/// the braces and inside them. Some or all of the padding may be missing.
 ///
-/// TooLong: the text has more than `MOST_OCTETS` octets. Then, from the left, Bad: another first octet than an
-/// opening brace, or an octet in the body that is neither a symbol, `=` nor whitespace. Short: the text ends before
-/// the closing brace. At the closing brace, TooDeep: the octets open more than `MOST_LISTS` lists at once; Bad:
-/// the body is no base64 of a canonical form. Trailing: an octet behind it is no whitespace.
+/// # Errors
+///
+/// TooLong: the text has more than `MOST_OCTETS` octets. Otherwise the first fault from the left. Bad: the first octet past
+/// whitespace is no opening brace, or an octet in the body is not a symbol, `=` or whitespace. Short: the text ends before
+/// the closing brace. At the closing brace TooDeep: the octets open more than `MOST_LISTS` lists at once; or Bad: the body
+/// is no base64 of a canonical form. Trailing: an octet behind the braces is not whitespace.
 pub fn unwrap_braces(alloc: Global, text: &[u8]) -> Result<Sexp, FormFault>
     ensures read { IfOk result (λ tree. IsBracedWithin text.now (sexp_value tree)) }
     ensures only { (v : Value) → IsBracedWithin text.now v → IsOkUnless result FormFault.Memory }
@@ -202,7 +205,7 @@ pub fn unwrap_braces(alloc: Global, text: &[u8]) -> Result<Sexp, FormFault>
     Ok(tree)
 }
 
-/// The canonical form of the value that a text braces, with the refusals of `unwrap_braces`.
+/// Returns the canonical form of the value that a text braces. The refusals are those of `unwrap_braces`.
 pub fn octets_in_braces(alloc: Global, text: &[u8]) -> Result<Vec<u8>, FormFault>
     ensures read { IfOk result (λ octets. (v : Value) × IsBracedWithin text.now v × (octets.items ≡ canon v)) }
     ensures only { (v : Value) → IsBracedWithin text.now v → IsOkUnless result FormFault.Memory }

@@ -1,4 +1,4 @@
-//! Whether a text is in canonical form (RFC 9804, section 6.2), found out without a table of its nodes.
+//! Checks that a text is in canonical form (RFC 9804, section 6.2), without a table of its nodes.
 
 ghost use Rattle.std.specs.Prelude.{◌≡◌, ◌<◌, ◌≤◌, ◌↔◌, length, drop, MatchResult, IfErr, OnOk, IsErrOf, IsOkUnless};
 ghost use Rattle.sexpr_core.specs.Value.{Value, canon, IsWithinLimits};
@@ -11,7 +11,7 @@ use crate::fault::FormFault;
 use crate::parser::{MOST_LISTS, MOST_OCTETS, read_string};
 use crate::spaces::octet_at;
 
-/// The end of a value. At most `room` lists may open in it.
+/// Returns the end of a value. At most `room` lists may be open at once in it.
 #[cycle(passing)]
 fn pass_value(text: &[u8], at: usize, room: usize) -> Result<usize, FormFault>
     requires short { length text.now ≤ 1048576 }
@@ -30,7 +30,7 @@ fn pass_value(text: &[u8], at: usize, room: usize) -> Result<usize, FormFault>
     Ok(read.end)
 }
 
-/// The end of a list, of whose text the first octet is its opening parenthesis.
+/// Returns the end of a list. The first octet of its text is its opening parenthesis.
 #[cycle(passing)]
 fn pass_list(text: &[u8], at: usize, room: usize) -> Result<usize, FormFault>
     requires short { length text.now ≤ 1048576 }
@@ -46,7 +46,7 @@ fn pass_list(text: &[u8], at: usize, room: usize) -> Result<usize, FormFault>
     Ok(end)
 }
 
-/// The end of the closing parenthesis of a list whose members begin at an offset.
+/// Returns the end of the closing parenthesis of a list whose members begin at an offset.
 #[cycle(passing)]
 fn pass_members(text: &[u8], at: usize, room: usize) -> Result<usize, FormFault>
     requires short { length text.now ≤ 1048576 }
@@ -65,7 +65,7 @@ fn pass_members(text: &[u8], at: usize, room: usize) -> Result<usize, FormFault>
     Err(FormFault::Short)
 }
 
-/// Whether a text is one value in canonical form, with the refusals of `Doc::open`.
+/// Checks that a text is one value in canonical form. The refusals are those of `Doc::open`.
 pub(crate) fn check_canonical(text: &[u8]) -> Result<(), FormFault>
     ensures read { OnOk result ((v : Value) × IsWithinLimits v × (text.now ≡ canon v)) }
     ensures only { (v : Value) → IsWithinLimits v → text.now ≡ canon v → IsOkUnless result FormFault.Memory }

@@ -6,7 +6,7 @@ ghost use Rattle.sexpr_core.specs.Tree.{atom_value, sexp_value};
 use crate::tree::{Atom, Sexp};
 use std::alloc::{AllocError, Global};
 
-/// A copy has the same hint, or none, and the same octets.
+/// A copy has the same hint, or none as well, and the same octets.
 impl Clone for Atom {
     ghost is_clone = { λ atom copy. atom_value copy ≡ atom_value atom };
 
@@ -20,7 +20,7 @@ impl Clone for Atom {
     }
 }
 
-/// A copy has the same value. The call is as deep as the tree.
+/// A copy has the same value. The recursion is as deep as the tree.
 impl Clone for Sexp {
     ghost is_clone = { λ tree copy. sexp_value copy ≡ sexp_value tree };
 
@@ -33,7 +33,7 @@ impl Clone for Sexp {
     }
 }
 
-/// A copy of each tree, in order.
+/// Copies each tree, in order.
 #[cycle(copy)]
 fn copies_of(alloc: Global, trees: &[Sexp]) -> Result<Vec<Sexp>, AllocError>
     ensures { IfOk result (λ copies. map sexp_value copies.items ≡ map sexp_value trees.now) }

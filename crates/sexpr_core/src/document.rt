@@ -13,12 +13,12 @@ use crate::parser::parse;
 use std::alloc::Global;
 use std::marker::Model;
 
-/// The number of a node in its document. Nodes are numbered from 0 in the order in which they begin in the
-/// canonical text; a list stands before its members, and a display hint is no node.
+/// The number of a node in its document. Nodes are numbered from 0 in the order in which they begin in the canonical text. A
+/// list comes before its members, and a display hint is no node.
 #[derive(Clone, Copy, Debug, PartialEq, Eq)]
 pub struct NodeId(pub usize);
 
-/// A canonical text (RFC 9804, section 6.2) with a table of its nodes. In a contract it is its value.
+/// A canonical text (RFC 9804, section 6.2) with a table of its nodes. In a contract a document is its value.
 #[derive(Debug, Drop)]
 pub struct Doc<'a> {
     text: &'a [u8],
@@ -41,9 +41,12 @@ impl<'a> Model for Doc<'a> {
 }
 
 impl<'a> Doc<'a> {
-    /// Reads a text that is one value in canonical form (RFC 9804, section 6.2), of at most `MOST_OCTETS` octets and
-    /// with at most `MOST_LISTS` lists open at once. It takes time linear in the octets, and looks at no octet of
-    /// a string's body. The first fault from the left is the answer; `FormFault` says what each means.
+    /// Reads a text that is one value in canonical form (RFC 9804, section 6.2), of at most `MOST_OCTETS` octets and with at
+    /// most `MOST_LISTS` lists open at once. It takes time linear in the octets, and reads no octet of a string's body.
+    ///
+    /// # Errors
+    ///
+    /// The first fault from the left. `FormFault` says what each means.
     pub fn open(alloc: Global, text: &'a [u8]) -> Result<Doc<'a>, FormFault>
         ensures read { IfOk result (λ document. (text.entry.now ≡ canon document) × IsWithinLimits document) }
         ensures only { (v : Value) → IsWithinLimits v → text.entry.now ≡ canon v → IsOkUnless result FormFault.Memory }
@@ -54,14 +57,14 @@ impl<'a> Doc<'a> {
         Ok(Doc { text, table })
     }
 
-    /// The document's value itself, as a node.
+    /// The node of the document's whole value.
     pub fn top<'d>(&'d self) -> Node<'d, 'a>
         ensures { result ≡ self.now }
     {
         Node::at(self, 0)
     }
 
-    /// The node with this number; None where the document has no such node.
+    /// The node with this number. None if the document has no such node.
     pub fn node<'d>(&'d self, n: NodeId) -> Option<Node<'d, 'a>>
         ensures { result ≡ node self.now n.0 }
     {
@@ -89,7 +92,7 @@ impl<'a> Doc<'a> {
         self.table[n]
     }
 
-    /// How many nodes there are.
+    /// The number of nodes.
     pub(crate) fn node_count(&self) -> usize
         ensures { result ≡ size self.now }
     {

@@ -9,7 +9,7 @@ ghost use Rattle.sexpr_core.specs.Tree.{atom_value, sexp_value};
 
 use crate::tree::{Atom, Sexp};
 
-/// Strings are equal if their octets are and their hints are. An empty hint is a hint.
+/// Strings are equal if their octets and their hints are equal. An empty hint is a hint.
 impl PartialEq for Atom {
     ghost eq = { λ atom other. is_same (atom_value atom) (atom_value other) };
 
@@ -27,7 +27,7 @@ impl Eq for Atom {
     ghost laws = { on_equiv (λ atom. canon (atom_value atom)) nat_list_eq_equiv };
 }
 
-/// Trees are equal if their values are. The call is as deep as the first tree.
+/// Trees are equal if their values are. The recursion is as deep as the first tree.
 impl PartialEq for Sexp {
     ghost eq = { λ tree other. is_same (sexp_value tree) (sexp_value other) };
 

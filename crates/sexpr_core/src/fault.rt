@@ -1,4 +1,4 @@
-//! Why a text is refused, in whichever form it is read.
+//! Why a text is refused, in any form.
 
 ghost use Rattle.std.specs.Prelude.{◌≡◌};
 ghost use Rattle.sexpr_core.specs.declared.fault.FormFault.TheVariants.{Memory};
@@ -6,25 +6,25 @@ ghost use Rattle.sexpr_core.specs.declared.fault.FormFault.TheVariants.{Memory};
 use std::alloc::{AllocError, AllocFailed};
 use thiserror::Error;
 
-/// Why a text was refused. A text is read from the left, and the first fault met is answered.
+/// Why a text was refused. A text is read from the left, and the first fault is returned.
 #[derive(Clone, Copy, Debug, PartialEq, Eq, Error)]
 pub enum FormFault {
-    /// The text has more than 1,048,576 octets; found before any octet is read.
+    /// The text has more than 1,048,576 octets. This is tested before any octet is read.
     #[error("the text is too long")]
     TooLong,
     /// A 65th list begins while 64 are open.
     #[error("the lists are too deep")]
     TooDeep,
-    /// The text ends before the value is whole.
+    /// The text ends before the value is complete.
     #[error("the text ends too soon")]
     Short,
-    /// The octet at this offset can't stand in its place.
+    /// The octet at this offset is not allowed in its place.
     #[error("bad octet at {0}")]
     Bad(usize),
-    /// A whole value is followed by an octet, at this offset.
+    /// An octet follows the complete value, at this offset.
     #[error("trailing octet at {0}")]
     Trailing(usize),
-    /// Memory was refused.
+    /// Memory ran out.
     #[error("out of memory")]
     Memory,
 }

@@ -12,7 +12,7 @@ use crate::layout::Shape;
 use crate::siblings::Members;
 use std::marker::Model;
 
-/// A node of a document. In a contract it is the node's value.
+/// A node of a document. In a contract a node is its value.
 #[derive(Debug, Drop)]
 pub struct Node<'d, 'a> {
     document: &'d Doc<'a>,
@@ -65,7 +65,7 @@ impl<'d, 'a> Node<'d, 'a> {
         Node { document, number }
     }
 
-    /// The node's canonical text, as it stands in the document.
+    /// The node's canonical text, as it is in the document.
     pub fn slice(&self) -> &'a [u8]
         ensures { result.now ≡ canon self.now }
     {
@@ -96,7 +96,7 @@ impl<'d, 'a> Node<'d, 'a> {
         }
     }
 
-    /// The octets of a string without display hint; None for a string with one, and for a list.
+    /// The octets of a string without a display hint. None for a string with one, and for a list.
     pub fn plain_octets(&self) -> Option<&'a [u8]>
         ensures { MatchOption result (IsNoString self.now) (λ octets. self.now ≡ plain octets.now) }
     {
@@ -117,8 +117,7 @@ impl<'d, 'a> Node<'d, 'a> {
         }
     }
 
-    /// What stands in a list behind its head, where the head is this word without display hint; None for every
-    /// other value.
+    /// The members of a list behind its head, if the head is this word without a display hint. None for every other value.
     pub fn headed(&self, word: &[u8]) -> Option<Members<'d, 'a>>
         ensures { MatchOption result (IsNotHeaded self.now word.now)
             (λ vs. self.now ≡ group (plain word.now ∷ vs)) }

@@ -13,34 +13,35 @@ ghost use Rattle.base64.specs.GeneralPurpose.{IsBytes};
 
 use crate::tree::{Atom, Sexp};
 
-/// No value's canonical text is a prefix of another's: what begins with a canonical text begins with that of one
-/// value alone, and goes on in one way (RFC 9804, section 6.2).
+/// No value's canonical text is a proper beginning of that of another value. If a text begins with a canonical text, it
+/// begins with that of one value only, and the rest is determined (RFC 9804, section 6.2).
 pub fn canonical_form_is_prefix_free()
     ensures { (v w : Value) (x y : List ℕ) → canon v ++ x ≡ canon w ++ y → (v ≡ w) × (x ≡ y) }
 {}
 
-/// A text has at most one refusal that speaks of its form, with its offset, and none if it is a value's canonical
-/// text within the limits. So each of TooDeep, Short, Bad and Trailing comes exactly where its meaning holds of a
-/// text that is not too long, if memory is not refused.
+/// A text has at most one refusal for its form, with its offset, and none if it is a value's canonical text within the
+/// limits. So each of TooDeep, Short, Bad and Trailing is returned exactly if its meaning holds of a text that is not too
+/// long, if memory does not run out.
 pub fn one_refusal()
     ensures none { (text : List ℕ) (e : FormFault) (v : Value) → IsOfForm e → Refused text e → IsWithinLimits v → text ≢ canon v }
     ensures one { (text : List ℕ) (e f : FormFault) → IsOfForm e → IsOfForm f → Refused text e → Refused text f → e ≡ f }
 {}
 
-/// The same of texts in braces: a text has at most one refusal of the transport form that speaks of its form, with its
-/// offset, and none if it braces a value within the limits.
+/// The same for texts in braces: a text has at most one refusal of the transport form for its form, with its offset, and
+/// none if it braces a value within the limits.
 pub fn one_refusal_in_braces()
     ensures none { (text : List ℕ) (e : FormFault) (v : Value) → IsOfForm e → RefusesBraces text e → ¬ IsBracedWithin text v }
     ensures one { (text : List ℕ) (e f : FormFault) → IsOfForm e → IsOfForm f → RefusesBraces text e → RefusesBraces text f → e ≡ f }
 {}
 
-/// Two values have the same canonical text exactly if they are the same. This is what `==` of two trees, or of two
-/// strings, tests.
+/// Two values have the same canonical text exactly if they are equal. This is what `==` of two trees, or of two strings,
+/// tests.
 pub fn equality_is_of_canonical_forms()
     ensures { (v w : Value) → IsTrue (is_same v w) ↔ (v ≡ w) }
 {}
 
-/// Each octet of a tree's value is below 256. The tree is walked, as deep as it is, and nothing else is done.
+/// Each octet of a tree's value is below 256. The call walks the tree, with recursion as deep as the tree, and does nothing
+/// else.
 pub fn octets_are_below_256(tree: &Sexp)
     ensures { HasOctets (sexp_value tree.now) }
 {

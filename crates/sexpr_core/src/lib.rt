@@ -1,6 +1,6 @@
-//! S-expressions (RFC 9804): canonical form, read into documents, owned trees, and the transport form.
+//! S-expressions (RFC 9804): the reader of canonical form, documents, owned trees, and the transport form.
 //!
-//! `syntax` has what readers of other crates are built from, and `laws` what is proved of the definitions.
+//! `syntax` contains what readers in other crates are built from, and `laws` what is proved about the definitions.
 #![tactic(auto)]
 
 mod braces;

@@ -1,4 +1,4 @@
-//! What a document's nodes are, asked by their numbers. A number that the document doesn't have gives None.
+//! The properties of a document's nodes, by their numbers. For a number that the document does not have the result is None.
 
 ghost use Rattle.std.specs.Prelude.{◌≡◌, ◌<◌, ◌^◌, length, option_map, IfSome};
 ghost use Rattle.std.specs.Option.{option_copied};
@@ -11,14 +11,14 @@ use crate::document::{Doc, NodeId};
 use crate::handle::NodeKind;
 
 impl<'a> Doc<'a> {
-    /// The document's value itself.
+    /// The number of the document's whole value.
     pub fn root(&self) -> NodeId
         ensures { result.0 ≡ 0 }
     {
         NodeId(0)
     }
 
-    /// How many members a list has; None for a string.
+    /// The number of members of a list. None for a string.
     pub fn parts(&self, n: NodeId) -> Option<usize>
         ensures { result ≡ of_node part_count self.now n.0 }
     {
@@ -26,8 +26,8 @@ impl<'a> Doc<'a> {
         node.part_count()
     }
 
-    /// The number of member i of a list, counted from 0; None for a string, and where there are no more than i
-    /// members. It takes a step for each member before that one: to go over all members use `Node::members`.
+    /// The number of member i of a list, counted from 0. None for a string, and for a list with i or fewer members. It takes
+    /// a step for each member before this one: use `Node::members` to go over all of them.
     pub fn part(&self, n: NodeId, i: usize) -> Option<NodeId>
         ensures number { option_map (λ m. m.0) result ≡ of_node (part_number n.0 i) self.now n.0 }
         ensures member { IfSome result (λ m. node self.now m.0 ≡ of_node (part_at i) self.now n.0) }
@@ -55,7 +55,7 @@ impl<'a> Doc<'a> {
         number
     }
 
-    /// The octets of a string; None for a list.
+    /// The octets of a string. None for a list.
     pub fn body(&self, n: NodeId) -> Option<&'a [u8]>
         ensures { option_copied result ≡ of_node body_of self.now n.0 }
     {
@@ -65,7 +65,7 @@ impl<'a> Doc<'a> {
         }
     }
 
-    /// The display hint of a string that has one.
+    /// The display hint of a string that has one. None otherwise.
     pub fn hint(&self, n: NodeId) -> Option<&'a [u8]>
         ensures { option_copied result ≡ of_node hint_of self.now n.0 }
     {
@@ -75,7 +75,7 @@ impl<'a> Doc<'a> {
         }
     }
 
-    /// The canonical text of a node, as it stands in the document.
+    /// The canonical text of a node, as it is in the document.
     pub fn slice(&self, n: NodeId) -> Option<&'a [u8]>
         ensures { option_copied result ≡ option_map canon (node self.now n.0) }
     {
@@ -83,8 +83,8 @@ impl<'a> Doc<'a> {
         Some(node.slice())
     }
 
-    /// Where the canonical text of a node begins in the document's text, by octets from 0. So `slice` of the node is
-    /// the part of the text from there on.
+    /// The offset from 0 where the canonical text of a node begins in the document's text. The `slice` of the node is at
+    /// this offset.
     pub fn start(&self, n: NodeId) -> Option<usize>
         ensures start { result ≡ start_of self.now n.0 }
         ensures place { IfSome result (λ at. LiesAt (canon self.now) (canon (node_at self.now n.0)) at) }

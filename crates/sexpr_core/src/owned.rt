@@ -1,4 +1,4 @@
-//! Owned trees, made from canonical texts.
+//! Owned trees, read from canonical texts.
 
 ghost use Rattle.std.specs.Prelude.{◌≡◌, ◌<◌, ◌↔◌, length, map, IfOk, IfErr, IsErrOf, IsOkUnless};
 ghost use Rattle.std.specs.Option.{option_copied};
@@ -13,9 +13,12 @@ use crate::siblings::Members;
 use crate::tree::{Atom, Sexp};
 use std::alloc::{AllocError, Global};
 
-/// Reads a text that is one value in canonical form (RFC 9804, section 6.2), of at most `MOST_OCTETS` octets and
-/// with at most `MOST_LISTS` lists open at once, as an owned tree. It answers as `Doc::open` does; `FormFault` says
-/// what each fault means.
+/// Reads a text that is one value in canonical form (RFC 9804, section 6.2), of at most `MOST_OCTETS` octets and with at
+/// most `MOST_LISTS` lists open at once, as an owned tree.
+///
+/// # Errors
+///
+/// Those of `Doc::open`. `FormFault` says what each means.
 pub fn decode(alloc: Global, text: &[u8]) -> Result<Sexp, FormFault>
     ensures read { IfOk result (λ tree. (text.now ≡ canon (sexp_value tree)) × IsWithinLimits (sexp_value tree)) }
     ensures only { (v : Value) → IsWithinLimits v → text.now ≡ canon v → IsOkUnless result FormFault.Memory }
@@ -62,7 +65,7 @@ fn trees_of(alloc: Global, members: Members) -> Result<Vec<Sexp>, AllocError>
 }
 
 impl Sexp {
-    /// A node of a document with all that is in it, as a tree of its own.
+    /// Copies a node of a document, with all its parts, as an owned tree.
     pub fn of_node(alloc: Global, node: &Node) -> Result<Sexp, AllocError>
         ensures { IfOk result (λ tree. sexp_value tree ≡ node.now) }
     {

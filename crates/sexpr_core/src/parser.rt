@@ -13,13 +13,13 @@ use crate::layout::{Record, Shape};
 use crate::spaces::octet_at;
 use std::alloc::Global;
 
-/// The most octets that a text may have.
+/// The largest number of octets of a text.
 pub const MOST_OCTETS: usize = 1_048_576;
 
-/// The most lists that may be open at once.
+/// The largest number of lists that may be open at once.
 pub const MOST_LISTS: usize = 64;
 
-/// A length as it stands before a string, at most one past the most octets, and where its colon has ended.
+/// The length before a string, at most `MOST_OCTETS` plus one, and the offset behind its colon.
 #[derive(Clone, Copy)]
 struct Length {
     number: usize,
@@ -33,7 +33,7 @@ struct Piece {
     end: usize,
 }
 
-/// How many members a list has, and where its closing parenthesis has ended.
+/// The number of members of a list, and the offset behind its closing parenthesis.
 #[derive(Clone, Copy)]
 struct ListEnd {
     parts: usize,
@@ -58,8 +58,8 @@ fn first_digit(text: &[u8], at: usize) -> Result<usize, FormFault>
     }
 }
 
-/// A decimal length without leading zero, and the colon behind it. A length of any size is read, since a text
-/// may go on for as long; past the most octets it stays one past them.
+/// Reads a decimal length without leading zeros, and the colon behind it. A length of any size is read, since a text may
+/// continue for as long. One over `MOST_OCTETS` is returned as `MOST_OCTETS` plus one.
 fn read_length(text: &[u8], at: usize) -> Result<Length, FormFault>
     requires { at ≤ length text.now }
     ensures { MatchResult result
@@ -81,7 +81,7 @@ fn read_length(text: &[u8], at: usize) -> Result<Length, FormFault>
     Err(FormFault::Short)
 }
 
-/// A string in verbatim form. Its octets are not looked at.
+/// Reads a string in verbatim form. Its octets are not examined.
 fn read_verbatim(text: &[u8], at: usize) -> Result<Piece, FormFault>
     requires short { length text.now ≤ 1048576 }
     requires begins { at ≤ length text.now }
@@ -99,7 +99,7 @@ fn read_verbatim(text: &[u8], at: usize) -> Result<Piece, FormFault>
     })
 }
 
-/// The closing bracket of a hint and the string behind it.
+/// Reads the closing bracket of a hint and the string behind it.
 fn read_closing(text: &[u8], at: usize) -> Result<Piece, FormFault>
     requires short { length text.now ≤ 1048576 }
     requires begins { at ≤ length text.now }
@@ -117,7 +117,7 @@ fn read_closing(text: &[u8], at: usize) -> Result<Piece, FormFault>
     Ok(read)
 }
 
-/// A string with a hint, from its opening bracket on.
+/// Reads a string with a hint, from its opening bracket on.
 fn read_hinted(text: &[u8], at: usize) -> Result<Record, FormFault>
     requires short { length text.now ≤ 1048576 }
     requires begins { StandsAt text.now at 91 }
@@ -140,7 +140,7 @@ fn read_hinted(text: &[u8], at: usize) -> Result<Record, FormFault>
     })
 }
 
-/// A string, of whose text the first octet is known.
+/// Reads a string. The first octet of its text is known.
 pub(crate) fn read_string(text: &[u8], at: usize, octet: u8) -> Result<Record, FormFault>
     requires short { length text.now ≤ 1048576 }
     requires begins { StandsAt text.now at octet }
@@ -164,7 +164,7 @@ pub(crate) fn read_string(text: &[u8], at: usize, octet: u8) -> Result<Record, F
     })
 }
 
-/// A value, whose records go behind those of the nodes before it. At most `room` lists may open in it.
+/// Reads a value, and appends its records to those of the nodes before it. At most `room` lists may be open at once in it.
 #[cycle(reading)]
 fn read_value(
     text: &[u8],
@@ -189,7 +189,7 @@ fn read_value(
     Ok(read.end)
 }
 
-/// A list, from its opening parenthesis on.
+/// Reads a list, from its opening parenthesis on.
 #[cycle(reading)]
 fn read_list(
     text: &[u8],
@@ -224,7 +224,7 @@ fn read_list(
     Ok(read.end)
 }
 
-/// The members of a list and its closing parenthesis.
+/// Reads the members of a list and its closing parenthesis.
 #[cycle(reading)]
 fn read_members(
     text: &[u8],
@@ -250,7 +250,7 @@ fn read_members(
     Err(FormFault::Short)
 }
 
-/// Reads a text that is one value in canonical form, and gives the records of its nodes in order.
+/// Reads a text that is one value in canonical form, and returns the records of its nodes in order.
 pub(crate) fn parse(alloc: Global, text: &[u8]) -> Result<Vec<Record>, FormFault>
     ensures read { IfOk result (λ nodes.
         (v : Value) × IsWithinLimits v × (text.now ≡ canon v) × (nodes.items ≡ records 0 v)) }
@@ -261,7 +261,8 @@ pub(crate) fn parse(alloc: Global, text: &[u8]) -> Result<Vec<Record>, FormFault
     if text.len() > MOST_OCTETS {
         return Err(FormFault::TooLong);
     }
-    let mut nodes = Vec::new(alloc);
+    // A node of a certificate has some 12 octets of text.
+    let mut nodes = Vec::with_capacity(alloc, text.len() / 12)?;
     let end = read_value(text, 0, MOST_LISTS, &mut nodes)?;
     if end < text.len() {
         return Err(FormFault::Trailing(end));

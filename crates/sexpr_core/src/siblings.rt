@@ -9,7 +9,7 @@ use crate::document::Doc;
 use crate::handle::Node;
 use std::marker::Model;
 
-/// The members of a list that are still to come. In a contract it is the list of their values.
+/// The members of a list that are still to be read. In a contract it is the list of their values.
 #[derive(Debug, Drop)]
 pub struct Members<'d, 'a> {
     document: &'d Doc<'a>,
@@ -35,7 +35,7 @@ impl<'d, 'a> Model for Members<'d, 'a> {
 }
 
 impl<'d, 'a> Members<'d, 'a> {
-    /// The members of node n, a list.
+    /// The members of node n, which is a list.
     pub(crate) fn of(document: &'d Doc<'a>, n: usize) -> Members<'d, 'a>
         requires known { n < size document.now }
         requires listed { IsList (node_at document.now n) }
@@ -56,7 +56,7 @@ impl<'d, 'a> Members<'d, 'a> {
         self.from == self.to
     }
 
-    /// The next member and those behind it; None where none is left.
+    /// Returns the next member and the members behind it. None if no member is left.
     pub fn split_first(self) -> Option<(Node<'d, 'a>, Members<'d, 'a>)>
         ensures { MatchOption result (self.entry ≡ []) (λ p. self.entry ≡ p.0 ∷ p.1) }
     {

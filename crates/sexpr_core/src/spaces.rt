@@ -7,7 +7,7 @@ ghost use Rattle.sexpr_core.specs.Spaces.{is_whitespace, AreSpaces, Skips};
 
 use crate::fault::FormFault;
 
-/// The octet at an offset; None at the end of the text.
+/// The octet at an offset. None at the end of the text.
 pub fn octet_at(text: &[u8], at: usize) -> Option<u8>
     requires { at ≤ length text.now }
     ensures { MatchOption result (drop at text.now ≡ []) (λ octet. StandsAt text.now at octet) }
@@ -26,7 +26,7 @@ pub fn is_space(octet: u8) -> bool
     octet == b' ' || (octet >= 9 && octet <= 13)
 }
 
-/// The offset behind the whitespace that begins at an offset.
+/// Returns the offset behind the whitespace that begins at an offset.
 pub fn skip_spaces(text: &[u8], at: usize) -> usize
     requires { at ≤ length text.now }
     ensures { Skips text.now at result }
@@ -41,7 +41,11 @@ pub fn skip_spaces(text: &[u8], at: usize) -> usize
     i
 }
 
-/// Whether nothing but whitespace stands from an offset on. Trailing: at the first other octet.
+/// Checks that nothing but whitespace follows from an offset on.
+///
+/// # Errors
+///
+/// Trailing: at the first other octet.
 pub fn ended(text: &[u8], at: usize) -> Result<(), FormFault>
     requires { at ≤ length text.now }
     ensures read { OnOk result (AreSpaces (drop at text.now)) }

@@ -25,7 +25,7 @@ pub struct Atom {
 }
 
 impl Sexp {
-    /// A copy of the octets as a string without display hint.
+    /// Returns a copy of the octets as a string without a display hint.
     pub fn plain(alloc: Global, octets: &[u8]) -> Result<Sexp, AllocError>
         ensures { IfOk result (λ s. sexp_value s ≡ plain octets.now) }
     {
@@ -33,7 +33,7 @@ impl Sexp {
         Ok(Sexp::Atom(Atom { hint: None, body }))
     }
 
-    /// The list with these members.
+    /// Returns the list with these members.
     pub fn list(members: Vec<Sexp>) -> Sexp
         ensures { sexp_value result ≡ group (map sexp_value members.items) }
     {

@@ -1,4 +1,4 @@
-//! Canonical form, written (RFC 9804, section 6.2).
+//! Writes canonical form (RFC 9804, section 6.2).
 
 ghost use Rattle.std.specs.Prelude.{◌≡◌, ◌++◌, length, take, IfOk, OnOk};
 ghost use Rattle.sexpr_core.specs.Value.{canon, decimal, verbatim};
@@ -7,7 +7,8 @@ ghost use Rattle.sexpr_core.specs.Tree.{atom_value, sexp_value};
 use crate::tree::{Atom, Sexp};
 use std::alloc::{AllocError, Global};
 
-/// The canonical form of a tree (RFC 9804, section 6.2). It may be longer than what `decode` reads, and deeper.
+/// Returns the canonical form of a tree (RFC 9804, section 6.2). It may be longer, and the tree deeper, than what `decode`
+/// reads.
 pub fn encode(alloc: Global, tree: &Sexp) -> Result<Vec<u8>, AllocError>
     ensures { IfOk result (λ octets. octets.items ≡ canon (sexp_value tree.now)) }
 {
@@ -29,7 +30,7 @@ fn append_decimal(number: usize, out: &mut Vec<u8>) -> Result<(), AllocError>
     Ok(())
 }
 
-/// Puts a length behind what is written, in decimal. One of a single digit takes no recursion.
+/// Appends a length in decimal to the output. A length of one digit takes no recursion.
 fn append_length(octets: usize, out: &mut Vec<u8>) -> Result<(), AllocError>
     ensures written { OnOk result (out.new.items ≡ out.old.items ++ decimal octets) }
     ensures kept { take (length out.old.items) out.new.items ≡ out.old.items }
@@ -41,8 +42,8 @@ fn append_length(octets: usize, out: &mut Vec<u8>) -> Result<(), AllocError>
     append_decimal(octets, out)
 }
 
-/// Puts a string's verbatim form (RFC 9804, section 4.1) behind what is written: its length in decimal, a colon, its
-/// octets. Where memory is refused, a part of it may stand there; what stood before stays.
+/// Appends a string's verbatim form (RFC 9804, section 4.1) to the output: its length in decimal, a colon, its octets. If
+/// memory runs out, a part of it may have been appended. The output before it does not change.
 #[tactic(auto, using(crate::proofs::Written::verbatim_written))]
 pub fn append_verbatim(octets: &[u8], out: &mut Vec<u8>) -> Result<(), AllocError>
     ensures written { OnOk result (out.new.items ≡ out.old.items ++ verbatim octets.now) }

@@ -1,4 +1,4 @@
--- What stands of a part of a text where a fault is met in it.
+-- Which octets of a part were read when a fault was found in it.
 use Rattle.std.specs.Prelude.{◌≡◌, ℕ, suc, ◌+◌, ◌≤◌, Bool, ◌⊎◌, List, [], ◌∷◌, ◌++◌, length, drop}
 use Rattle.sexpr_core.specs.Characters.{char}
 use Rattle.sexpr_core.specs.declared.fault.FormFault.{FormFault}
@@ -10,7 +10,7 @@ use Rattle.sexpr_text.specs.Spelling.{SpellsAs, SpellsMembers}
 use Rattle.sexpr_text.specs.Unclosed.{IsUnclosed, IsUnclosedString, UnclosedMembers, UnclosedValue, depth_open}
 use Rattle.sexpr_text.specs.Reads.{ValueAt, MembersAt}
 
--- the octets from one offset up to another are one of G
+-- the octets from one offset up to another are in G
 pub record Begun (G : List ℕ → Type 0) (text : List ℕ) (at to : ℕ) : Type 0 where
   pub part : List ℕ
   pub spelled : drop at text ≡ part ++ drop to text
@@ -18,11 +18,11 @@ pub record Begun (G : List ℕ → Type 0) (text : List ℕ) (at to : ℕ) : Typ
   pub ordered : at ≤ to
   pub within : to ≤ length text
 
--- the octets from an offset on are one of U
+-- the octets from an offset on are in U
 abbrev pub From : (List ℕ → Type 0) → ℕ → List ℕ → Type 0
 From U at text = U (drop at text)
 
--- Where a part is refused that may go on as those of G. U are those that aren't closed.
+-- Where a part is refused that may continue as those in G. U contains the parts that are not closed.
 abbrev pub IsPartEnd : (G U : List ℕ → Type 0) → List ℕ → ℕ → FormFault → Type 0
 IsPartEnd G U text at TooLong = ⊥
 IsPartEnd G U text at TooDeep = ⊥
@@ -31,7 +31,7 @@ IsPartEnd G U text at (Bad k) = Begun G text at k × StopsAt (From U at) text at
 IsPartEnd G U text at (Trailing k) = ⊥
 IsPartEnd G U text at Memory = Unit {0}
 
--- the same where nothing is said of those that aren't closed
+-- the same, with no claim about parts that are not closed
 abbrev pub IsFrontEnd : (G : List ℕ → Type 0) → List ℕ → ℕ → FormFault → Type 0
 IsFrontEnd G text at TooLong = ⊥
 IsFrontEnd G text at TooDeep = ⊥
@@ -42,22 +42,22 @@ IsFrontEnd G text at Memory = Unit {0}
 
 -- ---- the parts
 
--- a proper prefix of a piece of a quoted string, whatever follows the piece; these octets stand in front
+-- a proper beginning of a piece of a quoted string, whatever follows the piece; the octets `front` come before it
 pub record GoesPiece (front part : List ℕ) : Type 0 where
   pub piece : Piece
   pub rest : List ℕ
   pub right : (behind : List ℕ) → IsPiece piece behind
   pub spelled : front ++ (part ++ rest) ≡ piece_text piece
 
--- nothing
+-- no octets
 abbrev pub GoesDigit : List ℕ → Type 0
 GoesDigit part = part ≡ []
 
--- nothing yet, or a string between marks that isn't closed
+-- no octets yet, or a string between marks that is not closed
 abbrev pub GoesMarked : List ℕ → Type 0
 GoesMarked part = (part ≡ []) ⊎ IsUnclosed part
 
--- a string without hint
+-- a string without a hint
 pub record IsStringPart (text : List ℕ) : Type 0 where
   pub ends_token : Bool
   pub octets : List ℕ
@@ -101,7 +101,7 @@ GoesMembers room part = Begins (IsMembersPart room) part ⊎ AreUnclosedMembers 
 
 -- ---- parts in which lists may open
 
--- a value of such a depth stands at an offset
+-- a value of such a depth is at an offset
 pub record ValueStandsIn (room at : ℕ) (text : List ℕ) : Type 0 where
   pub value : Value
   pub rest : List ℕ
@@ -112,19 +112,20 @@ pub record MembersStandIn (room at : ℕ) (text : List ℕ) : Type 0 where
   pub rest : List ℕ
   pub stands : MembersAt room text at items rest
 
--- such a part of any depth
+-- such a part, with any number of lists open
 abbrev pub Anywhere : (U : ℕ → List ℕ → Type 0) → List ℕ → Type 0
 Anywhere U text = (room : ℕ) × U room text
 
--- A list is one too many: with it one more is open than there is room for, and nothing with that room goes on so.
+-- One list too many begins at an octet. A part with one more list open may continue with this octet, and no part within
+-- `room` may.
 pub record IsDeepAt (room : ℕ) (G W U : ℕ → List ℕ → Type 0) (text : List ℕ) (at : ℕ) : Type 0 where
   pub place : ℕ
   pub begun : Begun (G (suc room)) text at (place + 1)
   pub none_whole : StopsAt (W room) text at place
   pub none_open : StopsAt (From (U room) at) text at place
 
--- Where a part is refused, of which at most so many lists may be open at once: G are its beginnings, W the texts that
--- have it whole there, U the parts that aren't closed.
+-- Where a part is refused, if at most `room` lists may be open at once in it. G contains its beginnings, W the texts that
+-- have the whole part there, U the parts that are not closed.
 abbrev pub IsValueEnd : ℕ → (G W U : ℕ → List ℕ → Type 0) → List ℕ → ℕ → FormFault → Type 0
 IsValueEnd room G W U text at TooLong = ⊥
 IsValueEnd room G W U text at TooDeep = IsDeepAt room G W U text at

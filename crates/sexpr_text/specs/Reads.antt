@@ -15,7 +15,7 @@ use Rattle.sexpr_core.specs.Spaces.{is_whitespace, visible}
 use Rattle.sexpr_text.specs.Strings.{IsToken, escape_value, Piece, piece_text, piece_octets, IsPiece, Simple, IsApart}
 use Rattle.sexpr_text.specs.Spelling.{SpellsAs, SpellsMembers}
 
--- a spelling of the octets, of one sort
+-- a spelling of the octets, of the kind P
 pub record Reads (P : List ℕ → List ℕ → Type 0) (text : List ℕ) (at : ℕ) (octets : List ℕ) (to : ℕ) : Type 0 where
   pub spelling : List ℕ
   pub spelled : drop at text ≡ spelling ++ drop to text
@@ -43,14 +43,14 @@ IsNoHexadecimalOctet c at (Bad k) = (k ≡ at) × (is_hexadecimal_octet c ≡ fa
 IsNoHexadecimalOctet c at (Trailing k) = ⊥
 IsNoHexadecimalOctet c at Memory = Unit {0}
 
--- why a hexadecimal body is refused whose mark stands at an offset, by what is wrong with its digits
+-- why a hexadecimal body with its closing mark at an offset is refused, by the fault of its digits
 abbrev pub IsDigitsFault : FromHexError → ℕ → FormFault → Type 0
 IsDigitsFault (InvalidHexCharacter c index) at fault = fault ≡ Bad at
 IsDigitsFault OddLength at fault = fault ≡ Bad at
 IsDigitsFault InvalidStringLength at fault = fault ≡ Bad at
 IsDigitsFault OutOfMemory at fault = fault ≡ Memory
 
--- octets of a hexadecimal body, and its digits
+-- octets of a hexadecimal body, and the digits among them
 pub record Keeps (text : List ℕ) (at : ℕ) (kept : List ℕ) (to : ℕ) : Type 0 where
   pub body : List ℕ
   pub octets : AllByRecursion (λ c. is_hexadecimal_octet c ≡ true) body
@@ -59,14 +59,14 @@ pub record Keeps (text : List ℕ) (at : ℕ) (kept : List ℕ) (to : ℕ) : Typ
   pub ordered : at ≤ to
   pub within : to ≤ length text
 
--- octets of a quoted string that stand for themselves
+-- octets of a quoted string that mean themselves
 pub record ReadsPlain (text : List ℕ) (at : ℕ) (octets : List ℕ) (to : ℕ) : Type 0 where
   pub spelled : drop at text ≡ octets ++ drop to text
   pub plain : AllByRecursion (λ c. (c ≢ char "\"") × (c ≢ char "\\")) octets
   pub ordered : at ≤ to
   pub within : to ≤ length text
 
--- a piece of a quoted string; its octets are put behind others
+-- a piece of a quoted string; its octets are appended to others
 pub record ReadsPiece (text : List ℕ) (at : ℕ) (old new : List ℕ) (to : ℕ) : Type 0 where
   pub piece : Piece
   pub spelled : drop at text ≡ piece_text piece ++ drop to text
@@ -75,12 +75,12 @@ pub record ReadsPiece (text : List ℕ) (at : ℕ) (old new : List ℕ) (to : �
   pub forward : at < to
   pub within : to ≤ length text
 
--- the octets that an escape stands for: one, or none at a line's end
+-- the octets that an escape means: one, or none at a line end
 abbrev pub escape_octets : Option ℕ → List ℕ
 escape_octets None = []
 escape_octets (Some c) = c ∷ []
 
--- the rest of an escape of a quoted string, of which these octets stand in front
+-- the rest of an escape of a quoted string; the octets `front` come before it
 pub record ReadsEscape (front text : List ℕ) (at : ℕ) (octet : Option ℕ) (to : ℕ) : Type 0 where
   pub piece : Piece
   pub spelled : front ++ drop at text ≡ piece_text piece ++ drop to text
@@ -98,7 +98,7 @@ IsNoLetter c at (Bad k) = (k ≡ at) × (escape_value c ≡ None)
 IsNoLetter c at (Trailing k) = ⊥
 IsNoLetter c at Memory = Unit {0}
 
--- a CR of which an LF makes a pair, or the other way round
+-- a CR that forms a pair with an LF, or an LF that forms a pair with a CR
 abbrev pub IsLineEnd : List ℕ → ℕ → ℕ → Type 0
 IsLineEnd text at second = (StandsAt text at 13 × (second ≡ 10)) ⊎ (StandsAt text at 10 × (second ≡ 13))
 
@@ -109,7 +109,7 @@ pub record ReadsDigit (text : List ℕ) (at value : ℕ) : Type 0 where
   pub valued : hex_digit_value octet ≡ Some value
   pub low : value < 16
 
--- the digits of a length; a number past the longest text counts as one past it
+-- the digits of a length; a number over the limit on octets is replaced by the limit plus one
 pub record ReadsCount (text : List ℕ) (at number to : ℕ) : Type 0 where
   pub written : ℕ
   pub capped : number ≡ min written (octet_limit + 1)
@@ -117,12 +117,12 @@ pub record ReadsCount (text : List ℕ) (at number to : ℕ) : Type 0 where
   pub forward : at < to
   pub within : to ≤ length text
 
--- no octet that passes a test stands first
+-- the first octet, if there is one, does not pass a test
 abbrev pub Stops : (ℕ → Bool) → List ℕ → Type 0
 Stops p [] = Unit {0}
 Stops p (c ∷ cs) = p c ≡ false
 
--- so many octets as they stand
+-- so many octets, as they are
 pub record ReadsOctets (text : List ℕ) (at number : ℕ) (octets : List ℕ) (to : ℕ) : Type 0 where
   pub spelled : drop at text ≡ octets ++ drop to text
   pub counted : length octets ≡ number
@@ -130,7 +130,7 @@ pub record ReadsOctets (text : List ℕ) (at number : ℕ) (octets : List ℕ) (
   pub ordered : at ≤ to
   pub within : to ≤ length text
 
--- there are fewer octets from an offset on
+-- fewer octets than this number follow from an offset on
 abbrev pub IsTooFew : List ℕ → ℕ → ℕ → FormFault → Type 0
 IsTooFew text at number TooLong = ⊥
 IsTooFew text at number TooDeep = ⊥
@@ -139,9 +139,9 @@ IsTooFew text at number (Bad k) = ⊥
 IsTooFew text at number (Trailing k) = ⊥
 IsTooFew text at number Memory = Unit {0}
 
--- ---- strings and values, and what stands behind them
+-- ---- strings and values, and the octets behind them
 
--- a string without hint stands at an offset, and these octets behind it
+-- a string without a hint is at an offset, and these octets follow it
 pub record StringAt (text : List ℕ) (at : ℕ) (octets rest : List ℕ) : Type 0 where
   pub ends_token : Bool
   pub spelling : List ℕ
@@ -155,7 +155,7 @@ pub record ReadsString (text : List ℕ) (at : ℕ) (octets : List ℕ) (to : �
   pub forward : at < to
   pub within : to ≤ length text
 
--- a value in which at most `room` lists are open at once stands at an offset, and these octets behind it
+-- a value in which at most `room` lists are open at once is at an offset, and these octets follow it
 pub record ValueAt (room : ℕ) (text : List ℕ) (at : ℕ) (v : Value) (rest : List ℕ) : Type 0 where
   pub ends_token : Bool
   pub spelling : List ℕ
@@ -170,7 +170,7 @@ pub record ReadsValue (room : ℕ) (text : List ℕ) (at : ℕ) (v : Value) (to 
   pub forward : at < to
   pub within : to ≤ length text
 
--- the members of a list stand at an offset, whitespace round each, and behind the closing parenthesis these octets
+-- the members of a list are at an offset, with whitespace around each, and these octets follow the closing parenthesis
 pub record MembersAt (room : ℕ) (text : List ℕ) (at : ℕ) (vs : Values) (rest : List ℕ) : Type 0 where
   pub inside : List ℕ
   pub spelled : drop at text ≡ inside ++ char ")" ∷ rest
@@ -183,8 +183,8 @@ pub record ReadsMembers (room : ℕ) (text : List ℕ) (at : ℕ) (vs : Values) 
   pub forward : at < to
   pub within : to ≤ length text
 
--- What a fault says of a text of which a part was looked for, from an offset on, in which lists may open: T are the
--- texts that have such a part there.
+-- What a fault means for a text, if a part that may contain lists is read from an offset on. T is the set of texts that have
+-- such a part there.
 abbrev pub IsValueFault : (T : List ℕ → Type 0) → List ℕ → ℕ → FormFault → Type 0
 IsValueFault T text at TooLong = ⊥
 IsValueFault T text at TooDeep = Unit {0}

@@ -1,4 +1,4 @@
--- What a refusal of a text says of it. A text has at most one.
+-- What a refusal means for a text. A text has at most one.
 use Rattle.std.specs.Prelude.{◌≡◌, ◌⊎◌, ℕ, ◌+◌, ◌<◌, ◌≤◌, List, ◌∷◌, ◌++◌, length, take}
 use Rattle.sexpr_core.specs.Characters.{char}
 use Rattle.sexpr_core.specs.declared.fault.FormFault.{FormFault}
@@ -22,19 +22,19 @@ pub record IsSpellingWithin (room : ℕ) (text : List ℕ) : Type 0 where
   pub spelled : Spells text value
   pub fits : depth value ≤ room
 
--- The octets may go on: they begin a text that spells a value, or they end inside a string between marks.
+-- The octets may continue: they begin a text that spells a value, or they end inside a string between marks.
 abbrev pub GoesOn : List ℕ → Type 0
 GoesOn text = Begins IsSpelling text ⊎ ((room : ℕ) × IsUnclosedText room text)
 
--- the same where at most so many lists are open at once
+-- the same, if at most so many lists are open at once
 abbrev pub GoesOnWithin : ℕ → List ℕ → Type 0
 GoesOnWithin room text = Begins (IsSpellingWithin room) text ⊎ IsUnclosedText room text
 
--- What each refusal says of a text that is read in advanced form. TooLong: it has more than 1,048,576 octets.
--- TooDeep: up to some octet it may go on, and only with more than 64 lists open at once. Short: it may go on, and
--- spells no value. Bad: the octets before the offset may go on and spell no value, and with the octet there they may
--- not go on. Trailing: the octets before the offset spell a value within the limits, and with the octet there they may
--- not go on.
+-- What each refusal means for a text in advanced form. TooLong: it has more than 1,048,576 octets. TooDeep: up to some octet
+-- it may continue, and only with more than 64 lists open at once. Short: it may continue, and spells no value. Bad: the
+-- octets before the offset may continue and spell no value, and with the octet at the offset they may not continue.
+-- Trailing: the octets before the offset spell a value within the limits, and with the octet at the offset they may not
+-- continue.
 abbrev pub RefusesSpelling : List ℕ → FormFault → Type 0
 RefusesSpelling text TooLong = octet_limit < length text
 RefusesSpelling text TooDeep = (n : ℕ) × GoesOn (take n text) × (GoesOnWithin depth_limit (take n text) → ⊥)
@@ -52,7 +52,8 @@ pub record OpensBrace (text : List ℕ) : Type 0 where
   pub parts : text ≡ before ++ char "{" ∷ rest
   pub spaces_before : AreSpaces before
 
--- What a refusal says of a text in any form: one that opens a brace is read as one in braces, any other in advanced form.
+-- What a refusal means for a text in any form. If the first octet past whitespace is an opening brace, the text is read as
+-- transport form, otherwise as advanced form.
 unfoldable pub RefusesText : List ℕ → FormFault → Type 0
 RefusesText text fault = (OpensBrace text × RefusesBraces text fault) ⊎ ((OpensBrace text → ⊥) × RefusesSpelling text fault)
 

@@ -7,7 +7,7 @@ use Rattle.sexpr_core.specs.Spaces.{AreSpaces}
 use Rattle.sexpr_core.specs.Braces.{Braced, IsBracedWithin}
 use Rattle.sexpr_text.specs.Strings.{Simple, IsApart}
 
--- a string with a display hint: the hint in brackets, whitespace anywhere between
+-- a string with a display hint: the hint is in brackets, with whitespace allowed between all parts
 pub record IsHinted (ends_token : Bool) (text hint octets : List ℕ) : Type 0 where
   pub as_token : Bool
   pub inside : List ℕ
@@ -23,21 +23,21 @@ pub record IsHinted (ends_token : Bool) (text hint octets : List ℕ) : Type 0 w
   pub octets_meant : Simple ends_token octets_text octets
 
 abbrev mutual
-  -- a text, from its first octet to its last, spells a value; the test says whether it ends in a token
+  -- the whole text spells a value, without whitespace around it; the test tells whether it ends in a token
   pub SpellsAs : Bool → List ℕ → Value → Type 0
   SpellsAs ends_token text (string None octets) = Simple ends_token text octets
   SpellsAs ends_token text (string (Some hint) octets) = IsHinted ends_token text hint octets
   SpellsAs ends_token text (list vs) =
       (inside : List ℕ) × (ends_token ≡ false) × (text ≡ char "(" ∷ (inside ++ char ")" ∷ [])) × SpellsMembers inside vs
 
-  -- a text spells members one behind the other, with whitespace round each
+  -- a text spells members one after another, with whitespace around each
   pub SpellsMembers : List ℕ → Values → Type 0
   SpellsMembers text none = AreSpaces text
   SpellsMembers text (more v vs) =
       (before : List ℕ) × (ends_token : Bool) × (first : List ℕ) × (rest : List ℕ) × (text ≡ before ++ (first ++ rest))
       × AreSpaces before × SpellsAs ends_token first v × IsApart ends_token rest × SpellsMembers rest vs
 
--- a text spells a value, with whitespace round it
+-- a text spells a value, with whitespace around it
 pub record Spells (text : List ℕ) (v : Value) : Type 0 where
   pub before : List ℕ
   pub ends_token : Bool
@@ -48,7 +48,7 @@ pub record Spells (text : List ℕ) (v : Value) : Type 0 where
   pub spelled : SpellsAs ends_token middle v
   pub spaces_after : AreSpaces after
 
--- the same within the limits on octets and depth
+-- the same, within the limits on octets and depth
 pub record IsSpelledWithin (text : List ℕ) (v : Value) : Type 0 where
   pub spelling : Spells text v
   pub short : length text ≤ octet_limit
@@ -58,6 +58,6 @@ pub record IsSpelledWithin (text : List ℕ) (v : Value) : Type 0 where
 abbrev pub IsText : List ℕ → Value → Type 0
 IsText text v = Spells text v ⊎ Braced text v
 
--- the same within the limits on octets and depth
+-- the same, within the limits on octets and depth
 abbrev pub IsTextWithin : List ℕ → Value → Type 0
 IsTextWithin text v = IsSpelledWithin text v ⊎ IsBracedWithin text v

@@ -1,4 +1,4 @@
--- That a part of a spelling stands at an offset of a text, whatever stands behind it.
+-- A part of a spelling is at an offset of a text, whatever follows it.
 use Rattle.std.specs.Prelude.{◌≡◌, ℕ, ◌+◌, ◌<◌, List, ◌∷◌, ◌++◌, drop, Some, Ok}
 use Rattle.hex.specs.Hex.{hex_digit_value, decode_of}
 use Rattle.sexpr_core.specs.Characters.{char}
@@ -7,7 +7,7 @@ use Rattle.sexpr_core.specs.Spaces.{visible}
 use Rattle.sexpr_text.specs.Strings.{Piece, piece_text, IsPiece}
 use Rattle.sexpr_text.specs.Reads.{StringAt, ValueAt, MembersAt}
 
--- a spelling of one sort
+-- a spelling of the kind P
 pub record Stands (P : List ℕ → List ℕ → Type 0) (at : ℕ) (text : List ℕ) : Type 0 where
   pub spelling : List ℕ
   pub octets : List ℕ
@@ -15,7 +15,7 @@ pub record Stands (P : List ℕ → List ℕ → Type 0) (at : ℕ) (text : List
   pub meant : P spelling octets
   pub spelled : drop at text ≡ spelling ++ rest
 
--- a piece of a quoted string, of which these octets stand in front
+-- a piece of a quoted string; the octets `front` come before it
 pub record PieceStands (front : List ℕ) (at : ℕ) (text : List ℕ) : Type 0 where
   pub piece : Piece
   pub rest : List ℕ
@@ -45,7 +45,7 @@ pub record DigitsStand (at : ℕ) (text : List ℕ) : Type 0 where
   pub packed : decode_of (visible body) ≡ Ok octets
   pub spelled : drop at text ≡ body ++ char "#" ∷ rest
 
--- a string without hint
+-- a string without a hint
 pub record StringStands (at : ℕ) (text : List ℕ) : Type 0 where
   pub octets : List ℕ
   pub rest : List ℕ

@@ -1,4 +1,4 @@
--- Which texts spell a string without display hint in advanced form (RFC 9804, sections 4.1 to 4.5).
+-- Which texts spell a string without a display hint in advanced form (RFC 9804, sections 4.1 to 4.5).
 use Rattle.std.specs.Prelude.{◌≡◌, ◌≢◌, ℕ, ◌+◌, ◌*◌, ◌<◌, ◌==◌, ◌&&◌, ◌||◌, nat_le, Bool, true, false, ◌⊎◌, List, [], ◌∷◌, ◌++◌, length, Option, Some, None, Ok, if◌then◌else◌}
 use Rattle.std.specs.List.{AllByRecursion}
 use Rattle.hex.specs.Hex.{hex_digit_value, decode_of}
@@ -16,12 +16,12 @@ is_digit c = nat_le (char "0") c && nat_le c (char "9")
 abbrev pub is_token_octet : ℕ → Bool
 is_token_octet c = (nat_le (char "a") c && nat_le c (char "z")) || (nat_le (char "A") c && nat_le c (char "Z")) || (nat_le (char "-") c && nat_le c (char ":")) || c == char "*" || c == char "+" || c == char "=" || c == char "_"
 
--- one or more of these, the first of them no digit
+-- one or more of these, and the first is no digit
 abbrev pub IsToken : List ℕ → Type 0
 IsToken [] = ⊥
 IsToken (c ∷ cs) = (is_digit c ≡ false) × AllByRecursion (λ k. is_token_octet k ≡ true) (c ∷ cs)
 
--- where a spelling ends in a token, no octet of a token follows
+-- if a spelling ends in a token, no octet of a token follows
 abbrev pub IsApart : Bool → List ℕ → Type 0
 IsApart false rest = Unit {0}
 IsApart true [] = Unit {0}
@@ -29,7 +29,7 @@ IsApart true (c ∷ cs) = is_token_octet c ≡ false
 
 -- ---- quoted strings
 
--- the octet that an octet behind a backslash stands for
+-- the octet that the octet behind a backslash means
 abbrev pub escape_value : ℕ → Option ℕ
 escape_value e =
     if e == char "a" then Some 7
@@ -45,9 +45,9 @@ escape_value e =
     else if e == char "\\" then Some (char "\\")
     else None
 
--- What stands between the quotes: an octet for itself; a backslash with an octet that stands for another; with
--- three octal digits; with x and two hexadecimal digits, whose values stand beside them; with CR or LF; with CRLF
--- or LFCR.
+-- The pieces between the quotes: an octet that means itself; a backslash and an octet that means another; a backslash and
+-- three octal digits; a backslash, x and two hexadecimal digits, with the values of the digits; a backslash and CR or LF; a
+-- backslash and CR LF or LF CR.
 pub data Piece : Type 0 where
   raw : ℕ → Piece
   escaped : ℕ → ℕ → Piece
@@ -64,7 +64,7 @@ piece_text (hexadecimal h l m n) = char "\\" ∷ char "x" ∷ h ∷ l ∷ []
 piece_text (line c) = char "\\" ∷ c ∷ []
 piece_text (line_pair c d) = char "\\" ∷ c ∷ d ∷ []
 
--- the octets meant; a line's end behind a backslash vanishes
+-- the octets that a piece means; a backslash with a line end means none
 abbrev pub piece_octets : Piece → List ℕ
 piece_octets (raw c) = c ∷ []
 piece_octets (escaped e c) = c ∷ []
@@ -78,8 +78,8 @@ abbrev pub StartsOther : ℕ → List ℕ → Type 0
 StartsOther d [] = Unit {0}
 StartsOther d (c ∷ cs) = c ≢ d
 
--- A piece is right where these octets follow. Of the pairs CRLF and LFCR the longer is taken, so a lone CR is
--- followed by no LF, and a lone LF by no CR.
+-- A piece is well formed if these octets follow it. The longer line end is taken, so no LF follows a lone CR, and no CR
+-- follows a lone LF.
 abbrev pub IsPiece : Piece → List ℕ → Type 0
 IsPiece (raw c) rest = (c ≢ char "\"") × (c ≢ char "\\")
 IsPiece (escaped e c) rest = escape_value e ≡ Some c
@@ -96,14 +96,14 @@ abbrev pub pieces_octets : List Piece → List ℕ
 pieces_octets [] = []
 pieces_octets (p ∷ ps) = piece_octets p ++ pieces_octets ps
 
--- pieces one behind the other, and these octets behind them all
+-- pieces one after another, with these octets behind them all
 abbrev pub ArePieces : List Piece → List ℕ → Type 0
 ArePieces [] rest = Unit {0}
 ArePieces (p ∷ ps) rest = IsPiece p (pieces_text ps ++ rest) × ArePieces ps rest
 
 -- ---- strings
 
--- the length of a string, where it is written in front of it
+-- the length of a string, if it is written in front
 abbrev pub IsCount : List ℕ → ℕ → Type 0
 IsCount count n = (count ≡ []) ⊎ (count ≡ decimal n)
 
@@ -114,7 +114,7 @@ pub record IsQuoted (text octets : List ℕ) : Type 0 where
   pub meant : octets ≡ pieces_octets pieces
   pub right : ArePieces pieces (char "\"" ∷ [])
 
--- #..#, an even number of hexadecimal digits with whitespace anywhere
+-- #..#, an even number of hexadecimal digits, with whitespace anywhere
 pub record IsHexadecimal (text octets : List ℕ) : Type 0 where
   pub body : List ℕ
   pub spelled : text ≡ char "#" ∷ (body ++ char "#" ∷ [])
@@ -130,7 +130,7 @@ pub record IsPacked (text octets : List ℕ) : Type 0 where
 abbrev pub IsMarked : List ℕ → List ℕ → Type 0
 IsMarked text octets = IsQuoted text octets ⊎ (IsHexadecimal text octets ⊎ IsPacked text octets)
 
--- the same, with its length in front or without
+-- the same, with or without its length in front
 pub record IsCounted (text octets : List ℕ) : Type 0 where
   pub count : List ℕ
   pub marked : List ℕ
@@ -138,7 +138,7 @@ pub record IsCounted (text octets : List ℕ) : Type 0 where
   pub counts : IsCount count (length octets)
   pub meant : IsMarked marked octets
 
--- A text spells a string without hint: as a token (the test says so), in verbatim form, or between marks.
+-- A text spells a string without a hint: as a token, which the test tells, in verbatim form, or between marks.
 abbrev pub Simple : Bool → List ℕ → List ℕ → Type 0
 Simple true text octets = (text ≡ octets) × IsToken octets
 Simple false text octets = (text ≡ verbatim octets) ⊎ IsCounted text octets

@@ -1,5 +1,5 @@
--- Texts that end inside a string between marks (RFC 9804, sections 4.2 to 4.5). Until its closing mark comes nothing is
--- said of how many octets it means, nor whether they are packed rightly.
+-- Texts that end inside a string between marks (RFC 9804, sections 4.2 to 4.5). Before the closing mark nothing is claimed
+-- about how many octets the string has, or whether they are encoded correctly.
 use Rattle.std.specs.Prelude.{◌≡◌, ℕ, suc, ◌<◌, ◌≤◌, max, Bool, true, ◌⊎◌, List, [], ◌∷◌, ◌++◌, length}
 use Rattle.std.specs.List.{AllByRecursion}
 use Rattle.sexpr_core.specs.Characters.{char}
@@ -12,7 +12,7 @@ use Rattle.sexpr_text.specs.Spelling.{SpellsAs}
 
 -- ---- strings
 
--- a quote, and a proper prefix of what a quoted string has behind it
+-- a quote, and a proper beginning of what follows the opening quote in a quoted string
 pub record OpensQuoted (text : List ℕ) : Type 0 where
   pub body : List ℕ
   pub more : List ℕ
@@ -37,7 +37,7 @@ pub record OpensPacked (text : List ℕ) : Type 0 where
 abbrev pub IsUnclosed : List ℕ → Type 0
 IsUnclosed text = OpensQuoted text ⊎ (OpensHexadecimal text ⊎ OpensPacked text)
 
--- the same, with a length in front or without
+-- the same, with or without a length in front
 pub record IsUnclosedString (text : List ℕ) : Type 0 where
   pub count : List ℕ
   pub number : ℕ
@@ -46,7 +46,7 @@ pub record IsUnclosedString (text : List ℕ) : Type 0 where
   pub counts : IsCount count number
   pub meant : IsUnclosed marked
 
--- a bracket, and a display hint that isn't closed
+-- a bracket, and a display hint that is not closed
 pub record IsUnclosedHint (text : List ℕ) : Type 0 where
   pub inside : List ℕ
   pub last : List ℕ
@@ -54,7 +54,7 @@ pub record IsUnclosedHint (text : List ℕ) : Type 0 where
   pub spaces_inside : AreSpaces inside
   pub unclosed : IsUnclosedString last
 
--- a display hint in brackets, and a string that isn't closed
+-- a display hint in brackets, and a string that is not closed
 pub record IsUnclosedHinted (text : List ℕ) : Type 0 where
   pub as_token : Bool
   pub hint : List ℕ
@@ -75,14 +75,14 @@ IsUnclosedAtom text = IsUnclosedString text ⊎ (IsUnclosedHint text ⊎ IsUnclo
 
 -- ---- lists
 
--- spelled members of a list, with whitespace round each, and behind them a text of U
+-- spelled members of a list, with whitespace around each, and a text of U behind them
 abbrev pub UnclosedMembers : (U : List ℕ → Type 0) → Values → List ℕ → Type 0
 UnclosedMembers U none text = (spaces : List ℕ) × (last : List ℕ) × (text ≡ spaces ++ last) × AreSpaces spaces × U last
 UnclosedMembers U (more v vs) text =
     (before : List ℕ) × (ends_token : Bool) × (first : List ℕ) × (rest : List ℕ) × (text ≡ before ++ (first ++ rest))
     × AreSpaces before × SpellsAs ends_token first v × IsApart ends_token rest × UnclosedMembers U vs rest
 
--- A value that ends inside a string. The lists that are open stand one in the other, each with its whole members.
+-- A value that ends inside a string. The open lists are nested, each with those of its members that are complete.
 abbrev pub UnclosedValue : List Values → List ℕ → Type 0
 UnclosedValue [] text = IsUnclosedAtom text
 UnclosedValue (vs ∷ inner) text = (inside : List ℕ) × (text ≡ char "(" ∷ inside) × UnclosedMembers (UnclosedValue inner) vs inside

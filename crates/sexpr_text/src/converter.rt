@@ -1,4 +1,4 @@
-//! Texts, written in another form as they are read.
+//! Converts texts to another form while they are read.
 
 ghost use Rattle.std.specs.Prelude.{◌≡◌, ℕ, List, ◌<◌, ◌≤◌, ◌↔◌, [], ◌∷◌, ◌++◌, true, false, length, drop, IfOk, IfErr, OnOk, IsErrOf, IsOkUnless};
 ghost use Rattle.std.specs.Option.{option_to_list};
@@ -34,8 +34,8 @@ pub enum Form {
     Advanced,
 }
 
-/// Reads a text in any of the three forms, with the refusals of `read_any`, and writes its value in another form. It
-/// is written as it is read, without making a tree of it.
+/// Reads a text in any of the three forms and writes its value in another form. It is written while it is read, without a
+/// tree. The refusals are those of `read_any`.
 pub fn convert(alloc: Global, form: Form, text: &[u8]) -> Result<Vec<u8>, FormFault>
     ensures read { IfOk result (λ out. (v : Value) × IsTextWithin text.now v × (out.items ≡ written form v)) }
     ensures only { (v : Value) → IsTextWithin text.now v → IsOkUnless result FormFault.Memory }
@@ -63,7 +63,7 @@ fn convert_braces(alloc: Global, form: Form, text: &[u8]) -> Result<Vec<u8>, For
     }
 }
 
-/// Writes a canonical text in advanced form.
+/// Writes the value of a canonical text in advanced form.
 fn advanced_of(alloc: Global, octets: &[u8]) -> Result<Vec<u8>, FormFault>
     ensures read { (v : Value) → IsWithinLimits v → octets.now ≡ canon v → IfOk result (λ out. out.items ≡ adv v) }
     ensures only { (v : Value) → IsWithinLimits v → octets.now ≡ canon v → IsOkUnless result FormFault.Memory }
@@ -88,7 +88,7 @@ fn convert_advanced(alloc: Global, form: Form, text: &[u8]) -> Result<Vec<u8>, F
     Ok(out)
 }
 
-/// Puts a string without display hint behind what is written.
+/// Appends a string without a display hint to the output.
 fn write_string(
     alloc: Global,
     form: Form,
@@ -103,7 +103,7 @@ fn write_string(
     }
 }
 
-/// What stands between two members.
+/// The octet between two members, if there is one.
 fn gap_between(form: Form) -> Option<u8>
     ensures { option_to_list result ≡ gap_of form 1 }
 {
@@ -113,7 +113,7 @@ fn gap_between(form: Form) -> Option<u8>
     }
 }
 
-/// Puts what stands before a member behind what is written.
+/// Appends the gap before a member to the output.
 fn write_gap(gap: Option<u8>, out: &mut Vec<u8>) -> Result<(), AllocError>
     ensures { OnOk result (out.new.items ≡ out.old.items ++ option_to_list gap) }
 {
@@ -123,7 +123,7 @@ fn write_gap(gap: Option<u8>, out: &mut Vec<u8>) -> Result<(), AllocError>
     Ok(())
 }
 
-/// A string without display hint, from its first octet on.
+/// Converts a string without a display hint, from its first octet on.
 #[inline(always)]
 fn convert_string(
     alloc: Global,
@@ -149,7 +149,7 @@ fn convert_string(
     Ok(string.end)
 }
 
-/// A token, from its first octet on, and where it has ended.
+/// Converts a token, from its first octet on, and returns where it ends.
 #[inline(always)]
 fn convert_token(
     text: &[u8],
@@ -169,7 +169,7 @@ fn convert_token(
     Ok(end)
 }
 
-/// Puts the octets of a token behind what is written. In advanced form they stand as they are.
+/// Appends the octets of a token to the output. In advanced form they are written as they are.
 fn write_token(form: Form, octets: &[u8], out: &mut Vec<u8>) -> Result<(), AllocError>
     requires { IsToken octets.now }
     ensures { OnOk result (out.new.items ≡ out.old.items ++ written_string form octets.now) }
@@ -180,8 +180,8 @@ fn write_token(form: Form, octets: &[u8], out: &mut Vec<u8>) -> Result<(), Alloc
     }
 }
 
-/// A value, from its first octet on. At most `room` lists may open in it. It is inlined, as what it calls for a token
-/// is, so that a member which is a token takes no call but that which writes it.
+/// Converts a value, from its first octet on. At most `room` lists may be open at once in it. This function and those that
+/// it calls for a token are inlined, so that a member that is a token takes one call only, the one that writes it.
 #[cycle(converting)]
 #[inline(always)]
 fn convert_value(
@@ -208,7 +208,7 @@ fn convert_value(
     }
 }
 
-/// A list, from its opening parenthesis on.
+/// Converts a list, from its opening parenthesis on.
 #[cycle(converting)]
 fn convert_list(
     alloc: Global,
@@ -233,7 +233,7 @@ fn convert_list(
     convert_members(alloc, text, at + 1, room - 1, form, out)
 }
 
-/// The members of a list and its closing parenthesis.
+/// Converts the members of a list and its closing parenthesis.
 #[cycle(converting)]
 fn convert_members(
     alloc: Global,
@@ -266,7 +266,7 @@ fn convert_members(
     Err(FormFault::Short)
 }
 
-/// A string with a hint, from its opening bracket on.
+/// Converts a string with a hint, from its opening bracket on.
 fn convert_hinted(
     alloc: Global,
     text: &[u8],

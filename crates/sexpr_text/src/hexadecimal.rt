@@ -1,4 +1,4 @@
-//! Hexadecimal strings, read (RFC 9804, section 4.4).
+//! Reads hexadecimal strings (RFC 9804, section 4.4).
 
 ghost use Rattle.std.specs.Prelude.{◌≡◌, ℕ, ◌+◌, ◌≤◌, true, Ok, List, [], ◌∷◌, ◌++◌, length, drop, IfOk, IfErr, OnOk, IsOkUnless};
 ghost use Rattle.hex.specs.Hex.{decode_of};
@@ -23,7 +23,7 @@ struct Digits {
     end: usize,
 }
 
-/// A hexadecimal string, from its opening mark on. Whitespace may stand anywhere in it.
+/// Reads a hexadecimal string, from its opening mark on. Whitespace is allowed anywhere in it.
 pub(crate) fn read_hexadecimal(
     alloc: Global,
     text: &[u8],
@@ -45,7 +45,7 @@ pub(crate) fn read_hexadecimal(
     }
 }
 
-/// Why a body is refused whose closing mark stands at this offset, by what is wrong with its digits.
+/// Why a body with its closing mark at this offset is refused, by the fault of its digits.
 fn digits_fault(error: FromHexError, at: usize) -> FormFault
     ensures fault { IsDigitsFault error at result }
     ensures there { IsFaultAt at result }
@@ -56,7 +56,7 @@ fn digits_fault(error: FromHexError, at: usize) -> FormFault
     }
 }
 
-/// The digits up to the closing mark.
+/// Returns the digits up to the closing mark.
 fn gather_digits(alloc: Global, text: &[u8], at: usize) -> Result<Digits, FormFault>
     requires { at ≤ length text.now }
     ensures read { IfOk result (λ read. Keeps text.now at read.digits.items read.end × StandsAt text.now read.end 35) }
@@ -76,7 +76,7 @@ fn gather_digits(alloc: Global, text: &[u8], at: usize) -> Result<Digits, FormFa
     Err(FormFault::Short)
 }
 
-/// Takes one octet of a body: a digit is kept, whitespace is not.
+/// Reads one octet of a body: a digit is kept, whitespace is not.
 fn keep_digit(octet: u8, at: usize, digits: &mut Vec<u8>) -> Result<(), FormFault>
     ensures kept { OnOk result
         ((is_hexadecimal_octet octet ≡ true) × (digits.new.items ≡ digits.old.items ++ visible (octet ∷ []))) }

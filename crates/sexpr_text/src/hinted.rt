@@ -1,4 +1,4 @@
-//! Strings with a display hint, read (RFC 9804, section 4.6).
+//! Reads strings with a display hint (RFC 9804, section 4.6).
 
 ghost use Rattle.std.specs.Prelude.{◌≡◌, ℕ, List, Some, ◌≤◌, length, IfOk, IfErr, IsOkUnless};
 ghost use Rattle.std.specs.Cow.{cow_slice_items};
@@ -15,7 +15,7 @@ use sexpr_core::syntax::{octet_at, skip_spaces};
 use std::alloc::Global;
 use std::borrow::CowSlice;
 
-/// The hint and the octets of a string, and where its text has ended.
+/// The hint and the octets of a string, and the offset behind its text.
 #[derive(Drop)]
 pub(crate) struct HintedString<'t> {
     pub(crate) hint: CowSlice<'t, u8, Global>,
@@ -23,7 +23,7 @@ pub(crate) struct HintedString<'t> {
     pub(crate) end: usize,
 }
 
-/// A string with a hint, from its opening bracket on.
+/// Reads a string with a hint, from its opening bracket on.
 pub(crate) fn read_hinted_string<'t>(
     alloc: Global,
     text: &'t [u8],

@@ -21,27 +21,27 @@ pub fn canonical_is_advanced()
     ensures { (v : Value) → Spells (canon v) v }
 {}
 
-/// What is printed for a value spells it (RFC 9804, section 6.4). The value's octets are below 256.
+/// The printed text of a value spells it (RFC 9804, section 6.4), if the value's octets are below 256.
 pub fn printed_is_advanced()
     ensures { (v : Value) → HasOctets v → Spells (adv v) v }
 {}
 
-/// A text has at most one refusal of advanced form that speaks of its form, with its offset, and none if it spells a
-/// value within the limits. So each of TooDeep, Short, Bad and Trailing comes exactly where its meaning holds of a text
-/// that is not too long, if memory is not refused.
+/// A text has at most one refusal of advanced form for its form, with its offset, and none if it spells a value within the
+/// limits. So each of TooDeep, Short, Bad and Trailing is returned exactly if its meaning holds of a text that is not too
+/// long, if memory does not run out.
 pub fn one_refusal()
     ensures none { (text : List ℕ) (e : FormFault) (v : Value) → IsOfForm e → RefusesSpelling text e → ¬ IsSpelledWithin text v }
     ensures one { (text : List ℕ) (e f : FormFault) → IsOfForm e → IsOfForm f → RefusesSpelling text e → RefusesSpelling text f → e ≡ f }
 {}
 
-/// The same of texts in any form, of which each is read in braces or in advanced form.
+/// The same for texts in any form. Each is read as transport form or as advanced form.
 pub fn one_refusal_in_any_form()
     ensures none { (text : List ℕ) (e : FormFault) (v : Value) → IsOfForm e → RefusesText text e → ¬ IsTextWithin text v }
     ensures one { (text : List ℕ) (e f : FormFault) → IsOfForm e → IsOfForm f → RefusesText text e → RefusesText text f → e ≡ f }
 {}
 
-/// At an octet that is refused as Bad, in whichever form, no text of a value goes on: none that spells or braces a value
-/// begins with the octets up to and with it.
+/// At an octet that is refused as Bad, in any form, no text of a value continues: no text that spells or braces a value
+/// begins with the octets up to this one.
 pub fn bad_is_bad()
     ensures { (text : List ℕ) (at : ℕ) → RefusesText text (Bad at) → (at < length text) × ¬ Begins IsSomeText (take (at + 1) text) }
 {}

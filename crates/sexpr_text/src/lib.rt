@@ -1,6 +1,7 @@
-//! S-expressions in advanced form (RFC 9804, section 6.4), read and written, and texts of any form, read and converted.
+//! S-expressions in advanced form (RFC 9804, section 6.4), which are read and printed, and texts of any form, which are read
+//! and converted.
 //!
-//! `laws` has what is proved of the definitions.
+//! `laws` contains what is proved about the definitions.
 #![tactic(auto)]
 
 mod converter;

@@ -1,4 +1,4 @@
-//! Advanced form, written.
+//! Prints advanced form.
 
 ghost use Rattle.std.specs.Prelude.{◌≡◌, [], ◌++◌, ◌∷◌, IfOk, OnOk};
 ghost use Rattle.sexpr_core.specs.Octets.{HasOctets};
@@ -13,9 +13,9 @@ use base64::engine::general_purpose::STANDARD;
 use sexpr_core::{Atom, Sexp};
 use std::alloc::{AllocError, Global};
 
-/// The text of a tree in advanced form: each string as a token where it is one, else quoted where all its octets
-/// are printable, else in base64; display hints in brackets directly before the string, one space between members.
-/// It spells the tree's value (RFC 9804, section 6.4).
+/// Returns the printed text of a tree in advanced form. Each string is a token if it can be one; otherwise quoted, if all
+/// its octets are printable; otherwise base64. Display hints are in brackets directly before the string, and there is one
+/// space between members. The text spells the tree's value (RFC 9804, section 6.4).
 pub fn print_advanced(alloc: Global, tree: &Sexp) -> Result<Vec<u8>, AllocError>
     ensures printed { IfOk result (λ text. text.items ≡ adv (sexp_value tree.now)) }
     ensures spells { IfOk result (λ text. Spells text.items (sexp_value tree.now)) }
@@ -25,8 +25,8 @@ pub fn print_advanced(alloc: Global, tree: &Sexp) -> Result<Vec<u8>, AllocError>
     Ok(out)
 }
 
-/// Whether an octet may stand in a token: a letter, a digit, or one of `- . / _ : * + =`. Letters, of which there are
-/// most, are told by the fewest comparisons.
+/// Whether an octet may occur in a token: a letter, a digit, or one of `- . / _ : * + =`. Letters are the most frequent, so
+/// they take the fewest comparisons.
 pub fn stands_in_token(octet: u8) -> bool
     ensures { result ≡ is_token_octet octet }
 {
@@ -135,7 +135,7 @@ fn print_atom(alloc: Global, atom: &Atom, out: &mut Vec<u8>) -> Result<(), Alloc
     print_string(alloc, &atom.body, out)
 }
 
-/// The space before a member that isn't the first.
+/// Prints the space before a member that is not the first.
 fn print_gap(member: usize, out: &mut Vec<u8>) -> Result<(), AllocError>
     ensures { OnOk result (out.new.items ≡ out.old.items ++ gap member) }
 {

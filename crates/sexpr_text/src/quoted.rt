@@ -1,4 +1,4 @@
-//! Quoted strings, read (RFC 9804, section 4.2).
+//! Reads quoted strings (RFC 9804, section 4.2).
 
 ghost use Rattle.std.specs.Prelude.{◌≡◌, ◌≢◌, ◌≤◌, ◌<◌, ◌+◌, ℕ, List, [], ◌∷◌, ◌++◌, length, drop, Some, IfOk, IfErr, IfSome, IsOkUnless};
 ghost use Rattle.std.specs.Cow.{cow_slice_items};
@@ -17,14 +17,14 @@ use sexpr_core::syntax::octet_at;
 use std::alloc::Global;
 use std::borrow::CowSlice;
 
-/// An octet that an escape stands for, none where a line's end vanishes, and where it has ended.
+/// The octet that an escape means, none for a line end, and the offset behind the escape.
 #[derive(Clone, Copy)]
 struct Escape {
     octet: Option<u8>,
     end: usize,
 }
 
-/// Where the octets have ended that stand for themselves, from an offset on.
+/// Returns the end of the octets from an offset on that mean themselves.
 fn plain_end(text: &[u8], at: usize) -> usize
     requires { at ≤ length text.now }
     ensures { (octets : List ℕ) × ReadsPlain text.now at octets result }
@@ -39,7 +39,8 @@ fn plain_end(text: &[u8], at: usize) -> usize
     i
 }
 
-/// A quoted string of octets that all stand for themselves, from its opening quote on; None for another.
+/// Reads a quoted string without escapes, from its opening quote on, and borrows its octets from the text. None for any
+/// other text.
 pub(crate) fn lend_quoted<'t>(text: &'t [u8], at: usize) -> Option<ReadString<'t>>
     requires { StandsAt text.now at 34 }
     ensures { IfSome result (λ read. Reads IsQuoted text.now at (cow_slice_items read.octets) read.end) }
@@ -55,7 +56,7 @@ pub(crate) fn lend_quoted<'t>(text: &'t [u8], at: usize) -> Option<ReadString<'t
     }
 }
 
-/// A quoted string, from its opening quote on.
+/// Reads a quoted string, from its opening quote on.
 pub(crate) fn read_quoted(alloc: Global, text: &[u8], at: usize) -> Result<MarkedString, FormFault>
     requires { StandsAt text.now at 34 }
     ensures read { IfOk result (λ read. Reads IsQuoted text.now at read.octets.items read.end) }
@@ -74,7 +75,7 @@ pub(crate) fn read_quoted(alloc: Global, text: &[u8], at: usize) -> Result<Marke
     Err(FormFault::Short)
 }
 
-/// An octet for itself, or an escape.
+/// Reads an octet that means itself, or an escape.
 fn read_piece(text: &[u8], at: usize, octet: u8, octets: &mut Vec<u8>) -> Result<usize, FormFault>
     requires begins { StandsAt text.now at octet }
     requires other { octet ≢ 34 }
@@ -97,7 +98,7 @@ fn read_piece(text: &[u8], at: usize, octet: u8, octets: &mut Vec<u8>) -> Result
     }
 }
 
-/// What stands behind a backslash.
+/// Reads the part of an escape behind the backslash.
 fn read_escape(text: &[u8], at: usize) -> Result<Escape, FormFault>
     requires { at ≤ length text.now }
     ensures read { IfOk result (λ read. ReadsEscape (92 ∷ []) text.now at read.octet read.end) }
@@ -117,7 +118,7 @@ fn read_escape(text: &[u8], at: usize) -> Result<Escape, FormFault>
     }
 }
 
-/// A line's end behind a backslash: one octet, or two where the second makes a pair with it.
+/// Reads a line end behind a backslash: one octet, or two if the second forms a pair with the first.
 fn line_end(text: &[u8], at: usize, second: u8) -> Escape
     requires { IsLineEnd text.now at second }
     ensures { ReadsEscape (92 ∷ []) text.now at result.octet result.end }
@@ -136,7 +137,7 @@ fn line_end(text: &[u8], at: usize, second: u8) -> Escape
     }
 }
 
-/// The octet for which an octet behind a backslash stands; none where it stands for no other.
+/// The octet that the octet behind a backslash means. None if that is no escape.
 fn meant_by(octet: u8) -> Option<u8>
     ensures { result ≡ escape_value octet }
 {
@@ -153,7 +154,7 @@ fn meant_by(octet: u8) -> Option<u8>
     }
 }
 
-/// An octet that stands for another.
+/// Reads an escape that is one octet.
 fn read_letter(text: &[u8], at: usize, octet: u8) -> Result<Escape, FormFault>
     requires { StandsAt text.now at octet }
     ensures read { IfOk result (λ read. ReadsEscape (92 ∷ []) text.now at read.octet read.end) }
@@ -170,7 +171,7 @@ fn read_letter(text: &[u8], at: usize, octet: u8) -> Result<Escape, FormFault>
     }
 }
 
-/// A hexadecimal digit's value; none for another octet.
+/// The value of a hexadecimal digit. None for another octet.
 fn hexadecimal_value(octet: u8) -> Option<u8>
     ensures { result ≡ hex_digit_value octet }
 {
@@ -198,7 +199,7 @@ fn read_hexadecimal_digit(text: &[u8], at: usize) -> Result<u8, FormFault>
     }
 }
 
-/// Two hexadecimal digits behind an x.
+/// Reads two hexadecimal digits behind an x.
 fn read_hexadecimal_escape(text: &[u8], at: usize) -> Result<Escape, FormFault>
     requires { at ≤ length text.now }
     ensures read { IfOk result (λ read. ReadsEscape (92 ∷ 120 ∷ []) text.now at read.octet read.end) }
@@ -230,7 +231,7 @@ fn read_octal_digit(text: &[u8], at: usize) -> Result<u8, FormFault>
     Ok(octet - b'0')
 }
 
-/// Three octal digits, of which the first is known and at most 3.
+/// Reads three octal digits. The first is known and at most 3.
 fn read_octal_escape(text: &[u8], at: usize, first: u8) -> Result<Escape, FormFault>
     requires begins { StandsAt text.now at (48 + first) }
     requires low { first < 4 }

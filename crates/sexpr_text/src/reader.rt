@@ -31,13 +31,15 @@ struct ReadMembers {
     end: usize,
 }
 
-/// Reads a text in advanced form, which contains canonical form (RFC 9804, section 6.4), of at most `MOST_OCTETS`
-/// octets and with at most `MOST_LISTS` lists open at once.
+/// Reads a text in advanced form, which includes canonical form (RFC 9804, section 6.4), of at most `MOST_OCTETS` octets and
+/// with at most `MOST_LISTS` lists open at once.
 ///
-/// TooLong: the text has more octets. Then the first fault from the left. TooDeep: a list begins while `MOST_LISTS`
-/// are open. Bad: the octet at this offset can't stand in its place; at a closing mark, the body isn't what the marks
-/// or the length in front say. Short: the text ends before the value is whole. Trailing: a whole value and whitespace
-/// are followed by an octet, at this offset.
+/// # Errors
+///
+/// TooLong: the text has more octets. Otherwise the first fault from the left. TooDeep: a list begins while `MOST_LISTS` are
+/// open. Bad: the octet at this offset is not allowed in its place; or, at a closing mark, the body does not fit the marks
+/// or the length in front. Short: the text ends before the value is complete. Trailing: an octet follows the complete value
+/// and the whitespace behind it, at this offset.
 pub fn read_advanced(alloc: Global, text: &[u8]) -> Result<Sexp, FormFault>
     ensures read { IfOk result (λ tree. IsSpelledWithin text.now (sexp_value tree)) }
     ensures only { (v : Value) → IsSpelledWithin text.now v → IsOkUnless result FormFault.Memory }
@@ -53,8 +55,8 @@ pub fn read_advanced(alloc: Global, text: &[u8]) -> Result<Sexp, FormFault>
     Ok(tree)
 }
 
-/// Reads a text in the transport form if its first octet past whitespace is an opening brace, and else in advanced form,
-/// with the refusals of `unwrap_braces` and of `read_advanced`.
+/// Reads a text as transport form if its first octet past whitespace is an opening brace, and otherwise as advanced form.
+/// The refusals are those of `unwrap_braces` and `read_advanced`.
 pub fn read_any(alloc: Global, text: &[u8]) -> Result<Sexp, FormFault>
     ensures read { IfOk result (λ tree. IsTextWithin text.now (sexp_value tree)) }
     ensures only { (v : Value) → IsTextWithin text.now v → IsOkUnless result FormFault.Memory }
@@ -68,7 +70,7 @@ pub fn read_any(alloc: Global, text: &[u8]) -> Result<Sexp, FormFault>
     read_advanced(alloc, text)
 }
 
-/// A value, from its first octet on. At most `room` lists may open in it.
+/// Reads a value, from its first octet on. At most `room` lists may be open at once in it.
 #[cycle(reading)]
 fn read_tree(alloc: Global, text: &[u8], at: usize, room: usize) -> Result<ReadTree, FormFault>
     requires short { length text.now ≤ 1048576 }
@@ -95,7 +97,7 @@ fn read_tree(alloc: Global, text: &[u8], at: usize, room: usize) -> Result<ReadT
     }
 }
 
-/// A list, from its opening parenthesis on.
+/// Reads a list, from its opening parenthesis on.
 #[cycle(reading)]
 fn read_list(alloc: Global, text: &[u8], at: usize, room: usize) -> Result<ReadTree, FormFault>
     requires short { length text.now ≤ 1048576 }
@@ -115,7 +117,7 @@ fn read_list(alloc: Global, text: &[u8], at: usize, room: usize) -> Result<ReadT
     })
 }
 
-/// The members of a list and its closing parenthesis.
+/// Reads the members of a list and its closing parenthesis.
 #[cycle(reading)]
 fn read_members(
     alloc: Global,
@@ -146,7 +148,7 @@ fn read_members(
     Err(FormFault::Short)
 }
 
-/// A string with a hint, from its opening bracket on.
+/// Reads a string with a hint, from its opening bracket on.
 fn read_hinted(alloc: Global, text: &[u8], at: usize) -> Result<ReadTree, FormFault>
     requires short { length text.now ≤ 1048576 }
     requires begins { StandsAt text.now at 91 }

@@ -1,4 +1,4 @@
-//! Strings without display hint, read (RFC 9804, sections 4.1 to 4.5).
+//! Reads strings without a display hint (RFC 9804, sections 4.1 to 4.5).
 
 ghost use Rattle.std.specs.Prelude.{◌≡◌, ℕ, List, ◌++◌, true, false, ◌+◌, ◌<◌, ◌≤◌, ◌⊎◌, length, drop, IfOk, IfErr, IsOkUnless};
 ghost use Rattle.std.specs.Cow.{cow_slice_items};
@@ -19,28 +19,28 @@ use sexpr_core::{FormFault, MOST_OCTETS};
 use std::alloc::{AllocError, Global};
 use std::borrow::CowSlice;
 
-/// The octets of a string, which the text lends where they stand in it, and where its text has ended.
+/// The octets of a string, borrowed from the text if it contains them as they are, and the offset behind the string's text.
 #[derive(Drop)]
 pub(crate) struct ReadString<'t> {
     pub(crate) octets: CowSlice<'t, u8, Global>,
     pub(crate) end: usize,
 }
 
-/// The octets of a string between marks, and where its text has ended.
+/// The octets of a string between marks, and the offset behind its text.
 #[derive(Drop)]
 pub(crate) struct MarkedString {
     pub(crate) octets: Vec<u8>,
     pub(crate) end: usize,
 }
 
-/// A length in front of a string, at most one past the most octets, and where its digits have ended.
+/// The length in front of a string, at most `MOST_OCTETS` plus one, and the offset behind its digits.
 #[derive(Clone, Copy)]
 struct Count {
     number: usize,
     end: usize,
 }
 
-/// A string, from its first octet on.
+/// Reads a string, from its first octet on.
 pub(crate) fn read_string<'t>(
     alloc: Global,
     text: &'t [u8],
@@ -74,7 +74,7 @@ pub(crate) fn read_string<'t>(
     })
 }
 
-/// The octets of a string, in memory of their own.
+/// Returns the octets of a string as a vector of their own.
 pub(crate) fn own(alloc: Global, octets: CowSlice<'_, u8, Global>) -> Result<Vec<u8>, AllocError>
     ensures { IfOk result (λ own. own.items ≡ cow_slice_items octets.entry) }
 {
@@ -84,7 +84,7 @@ pub(crate) fn own(alloc: Global, octets: CowSlice<'_, u8, Global>) -> Result<Vec
     }
 }
 
-/// A token, which ends where the next octet can't stand in one.
+/// Reads a token. It ends before the next octet that is not allowed in one.
 fn read_token<'t>(text: &'t [u8], at: usize, first: u8) -> ReadString<'t>
     requires begins { StandsAt text.now at first }
     requires other { is_digit first ≡ false }
@@ -98,7 +98,7 @@ fn read_token<'t>(text: &'t [u8], at: usize, first: u8) -> ReadString<'t>
     }
 }
 
-/// Where a token has ended.
+/// Returns the end of a token.
 pub(crate) fn token_end(text: &[u8], at: usize, first: u8) -> usize
     requires begins { StandsAt text.now at first }
     requires other { is_digit first ≡ false }
@@ -115,7 +115,7 @@ pub(crate) fn token_end(text: &[u8], at: usize, first: u8) -> usize
     i
 }
 
-/// A string between marks, from its opening mark on.
+/// Reads a string between marks, from its opening mark on.
 fn read_marked(alloc: Global, text: &[u8], at: usize) -> Result<MarkedString, FormFault>
     requires { at ≤ length text.now }
     ensures read { IfOk result (λ read. Reads IsMarked text.now at read.octets.items read.end) }
@@ -135,7 +135,7 @@ fn read_marked(alloc: Global, text: &[u8], at: usize) -> Result<MarkedString, Fo
     }
 }
 
-/// A length without leading zero, of any size; past the most octets it stays one past them.
+/// Reads a length without leading zeros, of any size. One over `MOST_OCTETS` is returned as `MOST_OCTETS` plus one.
 fn read_count(text: &[u8], at: usize, first: u8) -> Count
     requires begins { StandsAt text.now at first }
     requires digit { (48 ≤ first) × (first < 58) }
@@ -157,7 +157,7 @@ fn read_count(text: &[u8], at: usize, first: u8) -> Count
     Count { number, end: i }
 }
 
-/// A string with its length in front, from the first digit on.
+/// Reads a string with its length in front, from the first digit on.
 fn read_counted<'t>(
     alloc: Global,
     text: &'t [u8],
@@ -189,7 +189,7 @@ fn read_counted<'t>(
     })
 }
 
-/// So many octets as they stand.
+/// Reads so many octets as they are.
 fn read_verbatim<'t>(text: &'t [u8], at: usize, number: usize) -> Result<ReadString<'t>, FormFault>
     requires short { length text.now ≤ 1048576 }
     requires begins { at ≤ length text.now }

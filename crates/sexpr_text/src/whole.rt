@@ -1,10 +1,10 @@
-//! What stands round a value in a whole text.
+//! The octets around a value in a whole text.
 
 ghost use Rattle.std.specs.Prelude.{◌≡◌, ℕ, List, ◌≤◌, ◌↔◌, ◌∷◌, length, drop, IsTrue};
 
 use sexpr_core::syntax::octet_at;
 
-/// Whether an opening brace stands at an offset.
+/// Whether an opening brace is at an offset.
 pub(crate) fn opens_braces(text: &[u8], at: usize) -> bool
     requires { at ≤ length text.now }
     ensures { IsTrue result ↔ ((rest : List ℕ) × (drop at text.now ≡ 123 ∷ rest)) }

@@ -1,5 +1,5 @@
-//! `spki`: reads a text on standard input, and writes the answer of a command on standard output. What it does with the words
-//! of its command line, `run_words` of `spki_guard` says; here are the ends alone.
+//! `spki` reads a text on standard input and writes the answer of a command on standard output. `run_words` of `spki_guard`
+//! does the work; this file only passes it the words of the command line and the streams.
 #![tactic(auto)]
 
 use spki_guard::{Metered, run_words};
@@ -7,7 +7,7 @@ use std::process::ExitCode;
 use std::rt::Env;
 use std::{env, io};
 
-/// The words of the command line, of which the first is the program's name.
+/// Returns the words of the command line. The first is the program's name.
 fn words<R: Env + AllocGlobal>(rt: &R) -> io::Result<Vec<String>> {
     let mut words = Vec::new(rt.alloc());
     for word in env::args(rt)? {

@@ -1,25 +1,26 @@
--- What a caller finds after a call: the status, the buffer, and the length of the answer.
+-- What a caller receives from a call: the status, the buffer, and the length of the answer.
 use Rattle.std.specs.Prelude.{◌≡◌, ℕ, ◌<◌, ◌≤◌, List, ◌++◌, length, drop}
 use Rattle.spki_words.specs.declared.commands.Command.{Command}
 use Rattle.spki_guard.specs.declared.answers.Verdict.{Verdict}
 use Rattle.spki_guard.specs.Answer.{IsAnswer, RefusesAsLong}
 
--- The answer to a text is that of the program. One of more than 1,048,576 octets is too long.
+-- The answer to a text is that of the program. For more than 1,048,576 octets it is that the text is too long.
 pub record AnswersText (command : Command) (text : List ℕ) (verdict : Verdict) (output : List ℕ) : Type 0 where
   pub answer : IsAnswer command text verdict output
   pub too_long : 1048576 < length text → RefusesAsLong verdict output
 
--- The answer stands in front of what was in the buffer, which keeps its length, with its status.
+-- The answer is at the front of the buffer, the rest of the buffer is unchanged, and the status is that of the answer.
 pub record IsWrittenTo (old new : List ℕ) (status answered : ℕ) (output : List ℕ) : Type 0 where
   pub written : new ≡ output ++ drop (length output) old
   pub status_is : status ≡ answered
 
--- The buffer is as it was, and the status says that it is too small.
+-- The buffer is unchanged, and the status is that it is too small.
 pub record IsKeptBack (old new : List ℕ) (status : ℕ) : Type 0 where
   pub unchanged : new ≡ old
   pub status_is : status ≡ 4
 
--- An answer of a status is told by its length, and written exactly where the buffer is large enough.
+-- The length of the answer is returned. The answer is written, and its status returned, exactly if the buffer is large
+-- enough.
 pub record IsHanded (old new : List ℕ) (needed status answered : ℕ) (output : List ℕ) : Type 0 where
   pub needed_is : needed ≡ length output
   pub fits : length output ≤ length old → IsWrittenTo old new status answered output

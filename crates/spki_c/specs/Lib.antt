@@ -1,2 +1,5 @@
-pub mod Numbers
+pub mod Guards
 pub mod Handed
+pub mod Holding
+pub mod Numbers
+pub mod Strings

@@ -1,4 +1,4 @@
--- The number by which a C program names a command, and those of the statuses.
+-- The numbers of commands and of statuses for C programs.
 use Rattle.std.specs.Prelude.{ℕ}
 use Rattle.spki_words.specs.declared.commands.Command.{Command}
 use Rattle.spki_words.specs.declared.commands.Command.TheVariants.{Canonical, Advanced, Transport, Intersect, Reduce, Check, Explain}
@@ -14,19 +14,19 @@ number_of Reduce = 4
 number_of Check = 5
 number_of Explain = 6
 
--- the status of a decision: 0 is a yes
+-- the status of a decision: 0 is yes
 abbrev pub decided : Verdict → ℕ
 decided Done = 0
 decided No = 1
 decided Refused = 2
 
--- The status of what is written and decides nothing: neither a yes nor a no.
+-- The status of output that is no decision: neither yes nor no.
 abbrev pub written : Verdict → ℕ
 written Done = 6
 written No = 6
 written Refused = 2
 
--- the status of the answer to a command: yes and no are those of `check` alone
+-- the status of the answer to a command: only `check` answers yes or no
 abbrev pub status_of : Command → Verdict → ℕ
 status_of Canonical verdict = written verdict
 status_of Advanced verdict = written verdict

@@ -1,13 +1,16 @@
 //! The exported calls.
-ghost use Rattle.std.specs.Prelude.{◌≡◌, ◌≢◌, ℕ, List};
+ghost use Rattle.std.specs.Prelude.{◌≡◌, ◌≢◌, ◌⊎◌, ℕ, List};
 ghost use Rattle.spki_words.specs.declared.commands.Command.{Command};
 ghost use Rattle.spki_guard.specs.declared.answers.Verdict.{Verdict};
 ghost use Rattle.spki_guard.specs.Apart.{IsAnswerApart};
 ghost use Rattle.spki_c.specs.Numbers.{number_of, status_of, decided};
 ghost use Rattle.spki_c.specs.Handed.{IsHanded, IsMisuse, AnswersText};
+ghost use Rattle.spki_c.specs.Strings.{IsFound, IsNotThere};
 
 use crate::buffer::{hand_over, misused};
-use crate::numbers::{command_of, status_number};
+use crate::numbers::{DONE, NONE, REFUSED, command_of, status_number};
+use crate::strings::place_in;
+use sexpr_core::Doc;
 use spki_guard::{Command, answer_text, check_accepted};
 use std::alloc::Global;
 
@@ -64,4 +67,33 @@ pub extern "C" fn spki_c_check_accepted(
         buffer,
         needed,
     )
+}
+
+/// Finds the octets of the string inside a value in canonical form to which a path leads: each number is that of the member to go
+/// into, from 0.
+///
+/// The status is 6 where they are found, and their offset and number are told, 7 where no string is there, and 2 where the text is no
+/// value in canonical form within the limits or memory was refused.
+#[unsafe(no_mangle)]
+pub extern "C" fn spki_c_string(
+    alloc: Global,
+    text: &[u8],
+    path: &[usize],
+    at: &mut usize,
+    length: &mut usize,
+) -> u32
+    ensures found { result ≢ 2 → IsFound text.now path.now at.new length.new result ⊎ IsNotThere text.now path.now result }
+    ensures unchanged { result ≢ 6 → (at.new ≡ at.old) × (length.new ≡ length.old) }
+{
+    let Ok(document) = Doc::open(alloc, text) else {
+        return REFUSED;
+    };
+    match place_in(&document.top(), path) {
+        Some(place) => {
+            *at = place.at;
+            *length = place.length;
+            DONE
+        }
+        None => NONE,
+    }
 }

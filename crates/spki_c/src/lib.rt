@@ -1,9 +1,19 @@
-//! What C programs call: each command from a text to an answer in a buffer, and decisions by signatures that the caller
-//! has verified. `spki.h` declares it, and says what a caller has to keep to.
+//! What C programs call: each command from a text to an answer in a buffer, decisions by signatures that the caller has verified,
+//! and questions to a guard that the caller holds. `spki.h` declares it, and says what a caller has to keep to.
 #![tactic(auto)]
 
 mod buffer;
 mod exports;
+mod guard_exports;
+mod guards;
+mod handle;
+mod loose;
 mod numbers;
+mod questions;
+mod strings;
 
-pub use exports::{spki_c_answer, spki_c_check_accepted};
+pub use exports::{spki_c_answer, spki_c_check_accepted, spki_c_string};
+pub use guard_exports::{
+    spki_c_guard_answer, spki_c_guard_close, spki_c_guard_entries, spki_c_guard_open,
+    spki_c_guard_signed,
+};

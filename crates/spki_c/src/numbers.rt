@@ -1,8 +1,9 @@
 //! The numbers of commands and of statuses.
 ghost use Rattle.std.specs.Prelude.{◌≡◌, ◌≢◌, MatchOption};
+ghost use Rattle.spki_c.specs.Guards.{wish_number, status_for};
 ghost use Rattle.spki_c.specs.Numbers.{number_of, status_of, decided, written};
 
-use spki_guard::{Command, Verdict};
+use spki_guard::{Command, Verdict, Wish};
 
 /// The status of a decision that is a yes.
 pub const YES: u32 = 0;
@@ -21,6 +22,9 @@ pub const MISUSED: u32 = 5;
 
 /// The status of an answer that is written and decides nothing.
 pub const DONE: u32 = 6;
+
+/// The status where a value has no string.
+pub const NONE: u32 = 7;
 
 /// The command of a number.
 pub fn command_of(number: u32) -> Option<Command>
@@ -50,6 +54,29 @@ pub fn status_number(command: Command, verdict: Verdict) -> u32
         Command::Reduce => written_number(verdict),
         Command::Check => decided_number(verdict),
         Command::Explain => written_number(verdict),
+    }
+}
+
+/// The wish of a number, which is that of the command that does the same with a case.
+pub fn wish_of(number: u32) -> Option<Wish>
+    ensures { MatchOption result ((w : Wish) → number ≢ wish_number w) (λ w. number ≡ wish_number w) }
+{
+    match number {
+        4 => Some(Wish::Reduce),
+        5 => Some(Wish::Decide),
+        6 => Some(Wish::Explain),
+        _ => None,
+    }
+}
+
+/// The status of the answer to a question.
+pub fn wish_status(wish: Wish, verdict: Verdict) -> u32
+    ensures { result ≡ status_for wish verdict }
+{
+    match wish {
+        Wish::Decide => decided_number(verdict),
+        Wish::Explain => written_number(verdict),
+        Wish::Reduce => written_number(verdict),
     }
 }
 

@@ -10,4 +10,5 @@ pub mod FirstRows
 pub mod LackingRow
 pub mod Unrefused
 pub mod RowFaultLaws
+pub mod RowFaultNone
 pub mod OneFault

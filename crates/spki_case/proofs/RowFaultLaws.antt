@@ -10,12 +10,13 @@ use Rattle.spki_cert.specs.declared.hash.HashAlg.TheVariants.{Sha1, Sha256, Sha5
 use Rattle.spki_cert.specs.declared.fault.CertFaultKind.{CertFaultKind}
 use Rattle.spki_cert.specs.declared.fault.CertFaultKind.TheVariants.{Shape, HashAlg as OtherAlg}
 use Rattle.spki_cert.specs.Readings.{HashOf, alg_name}
-use Rattle.spki_cert.specs.Fields.{is_headed, behind_head}
+use Rattle.spki_cert.specs.Fields.{behind_head}
 use Rattle.spki_cert.specs.Places.{fault_at, unless_none}
 use Rattle.spki_cert.specs.FixedFaults.{key_fault, hash_fault}
 use Rattle.spki_cert.specs.ItemFaults.{any_value}
 use Rattle.spki_cert.specs.declared.fault.CertFault.{CertFault}
 use Rattle.spki_cert.proofs.EntryFaultLaws.{LeftItems, items-fault}
+use Rattle.spki_cert.proofs.Triples.{IsTriple}
 use Rattle.spki_cert.proofs.Looking.{of-form, of-no_form, end-some}
 use Rattle.spki_case.specs.RowFaults.{begins_sha256, sha256_fault, row_fault, rows_fault}
 
@@ -52,69 +53,9 @@ not-sha256 alg (inr e) f = absurd (let g : Sha512 ≡ Sha256 = sym e ∙ f in cc
 
 -- ---- rows
 
-abbrev IsBy : Value → List Value → Type 0
-IsBy v rest = v ≡ group (plain (codes "by") ∷ rest)
-
-abbrev row_looked : Bool → List Value → Option CertFaultKind
-row_looked headed rest =
-    first_fault (
-    unless headed Shape ∷ fault_at 0 Shape key_fault rest ∷ fault_at 1 Shape sha256_fault rest ∷ fault_at 2 Shape any_value rest
-    ∷ unless_none (drop 3 rest) Shape ∷ []
-    )
-
-pub row-unheaded : (v : Value) → IsNotHeaded v (codes "by") → row_fault v ≡ Some Shape
+pub row-looks : IsTriple (codes "by") row_fault key_fault sha256_fault
 unfolding row_fault
-row-unheaded v other = of-no_form (codes "by") v Shape _ other
-
-row-form : (v : Value) (rest : List Value) → IsBy v rest → row_fault v ≡ row_looked true rest
-unfolding row_fault
-row-form v rest e = of-form row_looked (codes "by") v rest e
-
-pub row-empty : (v : Value) (rest : List Value) → IsBy v rest → rest ≡ [] → row_fault v ≡ Some Shape
-row-empty v rest e f = row-form v rest e ∙ ap (row_looked true) f
-
--- behind the key
-abbrev hash_looked : List Value → List (Option CertFaultKind)
-hash_looked more = fault_at 0 Shape sha256_fault more ∷ fault_at 1 Shape any_value more ∷ unless_none (drop 2 more) Shape ∷ []
-
-pub row-key : (v key : Value) (rest more : List Value) (found : Option CertFaultKind) → IsBy v rest → rest ≡ key ∷ more → key_fault key ≡ found
-    → row_fault v ≡ first_fault (found ∷ hash_looked more)
-row-key v key rest more found e f g =
-    row-form v rest e ∙ ap (row_looked true) f ∙ ap (λ (x : Option CertFaultKind). first_fault (x ∷ hash_looked more)) g
-
-pub row-no_hash : (v key : Value) (rest more : List Value) → IsBy v rest → rest ≡ key ∷ more → key_fault key ≡ None → more ≡ []
-    → row_fault v ≡ Some Shape
-row-no_hash v key rest more e f g h = row-key v key rest more None e f g ∙ ap (λ (vs : List Value). first_fault (hash_looked vs)) h
-
-abbrev value_looked : List Value → List (Option CertFaultKind)
-value_looked others = fault_at 0 Shape any_value others ∷ unless_none (drop 1 others) Shape ∷ []
-
-pub row-hash : (v key hash : Value) (rest more others : List Value) (found : Option CertFaultKind) → IsBy v rest → rest ≡ key ∷ more
-    → key_fault key ≡ None → more ≡ hash ∷ others → sha256_fault hash ≡ found → row_fault v ≡ first_fault (found ∷ value_looked others)
-row-hash v key hash rest more others found e f g h i =
-    row-key v key rest more None e f g ∙ ap (λ (vs : List Value). first_fault (hash_looked vs)) h
-    ∙ ap (λ (x : Option CertFaultKind). first_fault (x ∷ value_looked others)) i
-
-pub row-no_value : (v key hash : Value) (rest more others : List Value) → IsBy v rest → rest ≡ key ∷ more
-    → key_fault key ≡ None → more ≡ hash ∷ others → sha256_fault hash ≡ None → others ≡ [] → row_fault v ≡ Some Shape
-row-no_value v key hash rest more others e f g h i j =
-    row-hash v key hash rest more others None e f g h i ∙ ap (λ (vs : List Value). first_fault (value_looked vs)) j
-
-pub row-value : (v key hash value : Value) (rest more others end : List Value) → IsBy v rest → rest ≡ key ∷ more
-    → key_fault key ≡ None → more ≡ hash ∷ others → sha256_fault hash ≡ None → others ≡ value ∷ end
-    → row_fault v ≡ first_fault (unless_none end Shape ∷ [])
-row-value v key hash value rest more others end e f g h i j =
-    row-hash v key hash rest more others None e f g h i ∙ ap (λ (vs : List Value). first_fault (value_looked vs)) j
-
-pub row-surplus : (v key hash value : Value) (rest more others end : List Value) → IsBy v rest → rest ≡ key ∷ more
-    → key_fault key ≡ None → more ≡ hash ∷ others → sha256_fault hash ≡ None → others ≡ value ∷ end → (end ≡ [] → ⊥) → row_fault v ≡ Some Shape
-row-surplus v key hash value rest more others end e f g h i j some =
-    row-value v key hash value rest more others end e f g h i j ∙ end-some end Shape some
-
-pub row-whole : (v key hash value : Value) (rest more others end : List Value) → IsBy v rest → rest ≡ key ∷ more
-    → key_fault key ≡ None → more ≡ hash ∷ others → sha256_fault hash ≡ None → others ≡ value ∷ end → end ≡ [] → row_fault v ≡ None
-row-whole v key hash value rest more others end e f g h i j k =
-    row-value v key hash value rest more others end e f g h i j ∙ ap (λ (vs : List Value). first_fault (unless_none vs Shape ∷ [])) k
+row-looks = record { looked = λ v. refl }
 
 -- ---- rows one after the other
 

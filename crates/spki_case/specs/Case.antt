@@ -1,4 +1,4 @@
--- Cases: what is to be decided, and by what.
+-- Cases: what is to be decided, and with what.
 use Rattle.std.specs.Prelude.{ℕ, List, Bool, ◌&&◌, bytes_eq, IsTrue}
 use Rattle.std.specs.List.{list_any}
 use Rattle.spki_tag.specs.Request.{Request}
@@ -8,8 +8,8 @@ use Rattle.spki_cert.specs.declared.entry.Entry.{Entry}
 use Rattle.spki_cert.specs.declared.certificate.SeqItem.{SeqItem}
 use Rattle.spki_cert.specs.Naming.{is_digest}
 
--- What a verifier states: that a value, by its canonical octets, is a key's signature of a message. In order:
--- the key, the message, the value.
+-- What a verifier states: that a value, as its canonical octets, is a key's signature of a message. In order: the key, the
+-- message, the value.
 abbrev pub Verified : Type 1
 Verified = List ℕ → List ℕ → List ℕ → Type 0
 
@@ -20,9 +20,9 @@ pub record Row : Type 0 where
   pub digest : List ℕ
   pub value : List ℕ
 
--- The access list's entries, the signatures that are accepted, the items of the sequence that is shown, and what
--- is asked: whether the key may have the request at the moment, under the policy. In one intersection of two tags
--- nodes(a) * nodes(b) is most_nodes at the most.
+-- The access list's entries, the signatures that are accepted, the items of the sequence, and the question: whether the key
+-- may do the request at the moment, under the policy. If two tags are intersected, the product of their nodes is at most
+-- `most_nodes`.
 pub record Case : Type 0 where
   pub entries : List Entry
   pub rows : List Row
@@ -37,10 +37,10 @@ pub record Case : Type 0 where
 abbrev pub is_row_of : List ℕ → List ℕ → List ℕ → Row → Bool
 is_row_of key message value row = bytes_eq row.key key && is_digest Sha256 row.digest message && bytes_eq row.value value
 
--- whether some row is
+-- whether some row is of this key, message and value
 abbrev pub accepts : List Row → List ℕ → List ℕ → List ℕ → Bool
 accepts rows key message value = list_any (is_row_of key message value) rows
 
--- what the case's own rows state
+-- what the rows of the case state
 abbrev pub accepted_by : Case → Verified
 accepted_by c key message value = IsTrue (accepts c.rows key message value)

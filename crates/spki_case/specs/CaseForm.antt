@@ -1,4 +1,4 @@
--- Which case a value is: an access list, what was accepted, what was shown, and what is asked.
+-- The case of a value: an access list, accepted rows, a sequence, and a question.
 use Rattle.std.specs.Prelude.{◌≡◌, ◌≢◌, ◌⊎◌, ℕ, List, [], ◌∷◌, Some, codes}
 use Rattle.std.specs.List.{AllZip}
 use Rattle.sexpr_core.specs.Value.{Value, plain, group}
@@ -26,7 +26,7 @@ use Rattle.spki_case.specs.Texts.{IsTextOf, IsMalformed}
 use Rattle.spki_case.specs.declared.cases.CaseFault.{CaseFault}
 use Rattle.spki_case.specs.declared.cases.CaseFault.TheVariants as faults
 
--- what stands in a case, behind the heads of its parts
+-- the contents of a case, behind the heads of its parts
 pub record Parts : Type 0 where
   pub entries : List Value
   pub rows : List Value
@@ -63,16 +63,16 @@ part_values p =
     ∷ headed (codes "at") (p.at ∷ [])
     ∷ policy_values p.policy
 
--- those behind the head of a case
+-- a case, with its head
 abbrev pub case_value : Parts → Value
 case_value p = headed (codes "case") (part_values p)
 
--- the request that a value is
+-- the request of a value
 pub record RequestOf (v : Value) (g : Request) : Type 0 where
   pub written : request_value g ≡ v
   pub is_request : IsRequest g
 
--- The value is the case, in which an intersection has the limit of all tags.
+-- The value is read as the case. Its limit of nodes is the one of all tags.
 pub record CaseOf (v : Value) (c : Case) : Type 0 where
   pub parts : Parts
   pub written : v ≡ case_value parts
@@ -103,22 +103,22 @@ ReadsKey p = ReadsItems p × (key : List ℕ) × KeyOf p.key key
 abbrev pub ReadsRequest : Parts → Type 0
 ReadsRequest p = ReadsKey p × (g : Request) × RequestOf p.request g
 
--- In each of these the fault that is named is the first one of the part.
+-- In each of these the fault is the first one of the part.
 
--- The access list is none, which the fault says of one of its entries or of the whole.
+-- The access list is refused; the fault names one of its entries, or the whole list.
 pub record AclRefusedIn (p : Parts) (fault : CertFault) : Type 0 where
   pub found : fault.kind ≢ kinds.Memory
   pub refused : AclRefused (acl_value p) fault
   pub named : acl_fault (acl_value p) ≡ Some fault
   pub none : (es : List Entry) → ¬ AclOf (acl_value p) es
 
--- The accepted list is none, which the fault says of one of its rows.
+-- The accepted list is refused; the fault names one of its rows.
 pub record RowsRefusedIn (p : Parts) (fault : CertFault) : Type 0 where
   pub before : ReadsAcl p
   pub refused : RowsRefused p.rows fault
   pub none : (rows : List Row) → ¬ AllZip RowOf p.rows rows
 
--- The sequence is none, which the fault says of one of its items.
+-- The sequence is refused; the fault names one of its items, or the whole sequence.
 pub record SequenceRefusedIn (p : Parts) (fault : CertFault) : Type 0 where
   pub before : ReadsRows p
   pub found : fault.kind ≢ kinds.Memory
@@ -126,7 +126,7 @@ pub record SequenceRefusedIn (p : Parts) (fault : CertFault) : Type 0 where
   pub named : sequence_fault (sequence_value p) ≡ Some fault
   pub none : (is : List SeqItem) → ¬ SeqOf (sequence_value p) is
 
--- The key is none.
+-- The key is refused.
 pub record KeyRefusedIn (p : Parts) (fault : CertFault) : Type 0 where
   pub before : ReadsItems p
   pub outer : fault.item ≡ 0
@@ -135,7 +135,7 @@ pub record KeyRefusedIn (p : Parts) (fault : CertFault) : Type 0 where
   pub named : key_fault p.key ≡ Some fault.kind
   pub none : (key : List ℕ) → ¬ KeyOf p.key key
 
--- The request is none.
+-- The request is refused.
 pub record RequestRefusedIn (p : Parts) (fault : TagFault) : Type 0 where
   pub before : ReadsKey p
   pub found : fault ≢ tag_faults.Memory
@@ -143,13 +143,13 @@ pub record RequestRefusedIn (p : Parts) (fault : TagFault) : Type 0 where
   pub named : request_fault p.request ≡ Some fault
   pub none : (g : Request) → ¬ RequestOf p.request g
 
--- The moment is none, and is no date.
+-- The moment is refused: it is no date.
 pub record MomentRefusedIn (p : Parts) (fault : CertFault) : Type 0 where
   pub before : ReadsRequest p
   pub no_date : fault ≡ record { item = 0; kind = kinds.BadDate }
   pub none : (date : List ℕ) → ¬ DateOf p.at date
 
--- What a fault says of the parts of a case: the part that it names has no reading, and those before it have one.
+-- What a fault means for the parts of a case: the part that it names cannot be read, and those before it can.
 abbrev pub PartRefused : Parts → CaseFault → Type 0
 PartRefused p (faults.Acl fault) = AclRefusedIn p fault
 PartRefused p (faults.Accepted fault) = RowsRefusedIn p fault
@@ -161,18 +161,18 @@ PartRefused p faults.Shape = ⊥
 PartRefused p faults.Memory = ⊥
 PartRefused p (faults.Form fault) = ⊥
 
--- The value isn't built as a case, and the fault says so.
+-- The value does not have the outer structure of a case, and the fault is Shape.
 pub record IsMisbuilt (v : Value) (fault : CaseFault) : Type 0 where
   pub named : fault ≡ faults.Shape
   pub none : (p : Parts) → v ≢ case_value p
 
--- The value is built as a case, and the fault names its first part that has no reading.
+-- The value has the outer structure of a case, and the fault names its first part that cannot be read.
 pub record LacksPart (v : Value) (fault : CaseFault) : Type 0 where
   pub parts : Parts
   pub written : v ≡ case_value parts
   pub refused : PartRefused parts fault
 
--- What a fault other than of memory says of a value.
+-- What a fault means for a value, except for Memory.
 abbrev pub ValueRefused : Value → CaseFault → Type 0
 ValueRefused v fault = IsMisbuilt v fault ⊎ LacksPart v fault
 
@@ -182,6 +182,7 @@ ValueRefused v fault = IsMisbuilt v fault ⊎ LacksPart v fault
 abbrev pub IsCaseText : List ℕ → Case → Type 0
 IsCaseText text c = IsTextOf (λ v. CaseOf v c) text
 
--- What a fault other than of memory says of a text: it is none in canonical form, or the fault is said of its value.
+-- What a fault means for a text, except for Memory: it is no canonical form within the limits, or its value is refused for
+-- the fault.
 abbrev pub TextRefused : List ℕ → CaseFault → Type 0
 TextRefused text fault = IsMalformed faults.Form text fault ⊎ IsTextOf (λ v. ValueRefused v fault) text

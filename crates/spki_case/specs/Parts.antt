@@ -1,4 +1,4 @@
--- What the readers of a case's parts say.
+-- The results of the readers of a case's parts.
 use Rattle.std.specs.Prelude.{◌≡◌, ◌≢◌, ℕ, List, ◌∷◌}
 use Rattle.sexpr_core.specs.Value.{Value}
 use Rattle.spki_case.specs.CaseForm.{headed}
@@ -14,7 +14,7 @@ pub record IsPart (vs : List Value) (word : List ℕ) (p : Part) : Type 0 where
 abbrev pub IsNoPart : List Value → List ℕ → Type 0
 IsNoPart vs word = (inner rest : List Value) → vs ≢ headed word inner ∷ rest
 
--- the parts as values, where the access list and the sequence stand with their heads
+-- the parts as values; the access list and the sequence have their heads
 pub record ArePartsOf (vs : List Value) (p : Parts) (parts : spec.Parts) : Type 0 where
   pub written : vs ≡ spec.part_values parts
   pub acl : p.acl ≡ spec.acl_value parts

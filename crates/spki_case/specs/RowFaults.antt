@@ -1,4 +1,4 @@
--- Which fault of a row of an accepted list, or of its rows, is named: the first from the left.
+-- The fault for which a row of an accepted list, or its rows, are refused: the first from the left.
 use Rattle.std.specs.Prelude.{ℕ, Bool, false, List, [], ◌∷◌, drop, Option, codes}
 use Rattle.std.specs.Str.{bytes_eq}
 use Rattle.sexpr_core.specs.Value.{Value}
@@ -20,7 +20,7 @@ abbrev pub begins_sha256 : List Value → Bool
 begins_sha256 [] = false
 begins_sha256 (v ∷ vs) = is_plain is_sha256 v
 
--- the hash of a row: the faults of a hash, and then another algorithm than SHA-256
+-- the hash of a row: first the faults of a hash, and then an algorithm other than SHA-256
 unfoldable pub sha256_fault : Value → Option CertFaultKind
 sha256_fault v = first_fault (hash_fault v ∷ unless (begins_sha256 (behind_head v)) HashAlg ∷ [])
 

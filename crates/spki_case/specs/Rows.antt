@@ -1,4 +1,4 @@
--- Which signature, verified elsewhere, a row of an accepted list states.
+-- The signature that a row of an accepted list states.
 use Rattle.std.specs.Prelude.{◌≡◌, ◌≢◌, ◌⊎◌, ℕ, List, [], ◌∷◌, Some, codes}
 use Rattle.sexpr_core.specs.Value.{Value, plain, group, canon}
 use Rattle.spki_cert.specs.declared.hash.HashAlg.{HashAlg}
@@ -12,7 +12,7 @@ use Rattle.spki_cert.specs.Faults.{Shows}
 use Rattle.spki_case.specs.Case.{Row}
 use Rattle.spki_case.specs.RowFaults.{rows_fault}
 
--- (by key hash value), where the hash is by SHA-256, and the value is any
+-- (by key hash value); the hash is by SHA-256, and the value is any value
 pub record RowOf (v : Value) (row : Row) : Type 0 where
   pub key : Value
   pub hash : Value
@@ -22,12 +22,12 @@ pub record RowOf (v : Value) (row : Row) : Type 0 where
   pub digest_is : HashOf hash Sha256 row.digest
   pub value_is : row.value ≡ canon value
 
--- What a kind of fault says of the hash of a row: what it says of any value, or that the hash is by another algorithm.
+-- What a kind of fault means for the hash of a row: what it means for any value, or that the hash is by another algorithm.
 abbrev pub HashShows : CertFaultKind → Value → Type 0
 HashShows kind v =
     Shows kind v ⊎ ((kind ≡ kinds.HashAlg) × (alg : HashAlg) × (digest : List ℕ) × HashOf v alg digest × (alg ≢ Sha256))
 
--- a row whose hash is by another algorithm than SHA-256
+-- a row whose hash is by an algorithm other than SHA-256
 pub record HasOtherHash (v : Value) : Type 0 where
   pub key : Value
   pub hash : Value
@@ -38,12 +38,12 @@ pub record HasOtherHash (v : Value) : Type 0 where
   pub hash_is : HashOf hash alg digest
   pub other : alg ≢ Sha256
 
--- What a kind of fault says of a row: what it says of any value, or that the row's hash is by another algorithm.
+-- What a kind of fault means for a row: what it means for any value, or that the row's hash is by another algorithm.
 abbrev pub RowShows : CertFaultKind → Value → Type 0
 RowShows kind v = Shows kind v ⊎ ((kind ≡ kinds.HashAlg) × HasOtherHash v)
 
--- The rows before the item that is named have readings; it has none, and the fault shows on it. It is the first fault of
--- the rows.
+-- The item that is named cannot be read, and the rows before it can. The fault is true of the item, and is the first fault
+-- of the rows.
 pub record RowsRefused (vs : List Value) (fault : CertFault) : Type 0 where
   pub found : fault.kind ≢ kinds.Memory
   pub refused : Value

@@ -1,4 +1,4 @@
--- Which accepted list a value is that stands apart from a case, and what its rows state.
+-- The separate accepted list of a value, and what its rows state.
 use Rattle.std.specs.Prelude.{◌≡◌, ◌≢◌, ◌⊎◌, List, ℕ, codes, IsTrue}
 use Rattle.std.specs.List.{AllZip}
 use Rattle.sexpr_core.specs.Value.{Value}
@@ -20,18 +20,18 @@ pub record RowsOf (v : Value) (rows : List Row) : Type 0 where
   pub written : v ≡ accepted_value members
   pub read : AllZip RowOf members rows
 
--- what rows state: that one of them is of this key, message and value
+-- the statement of rows: one of them is of this key, message and value
 abbrev pub stated_by : List Row → Verified
 stated_by rows key message value = IsTrue (accepts rows key message value)
 
 -- ---- refusals
 
--- The value is no list with this head, and the fault says so.
+-- The value is no list with this head, and the fault is Shape.
 pub record IsNoList (v : Value) (fault : RowsFault) : Type 0 where
   pub named : fault ≡ faults.Shape
   pub none : (members : List Value) → v ≢ accepted_value members
 
--- The value is one whose rows have no reading, and the fault names the first that has none.
+-- The value is one with a row that cannot be read, and the fault names the first such row.
 pub record LacksRow (v : Value) (fault : RowsFault) : Type 0 where
   pub members : List Value
   pub written : v ≡ accepted_value members
@@ -40,7 +40,7 @@ pub record LacksRow (v : Value) (fault : RowsFault) : Type 0 where
   pub refused : RowsRefused members lacking
   pub none : (rows : List Row) → ¬ AllZip RowOf members rows
 
--- What a fault other than of memory says of a value.
+-- What a fault means for a value, except for Memory.
 abbrev pub NoRows : Value → RowsFault → Type 0
 NoRows v fault = IsNoList v fault ⊎ LacksRow v fault
 
@@ -50,6 +50,7 @@ NoRows v fault = IsNoList v fault ⊎ LacksRow v fault
 abbrev pub IsRowsText : List ℕ → List Row → Type 0
 IsRowsText text rows = IsTextOf (λ v. RowsOf v rows) text
 
--- What a fault other than of memory says of a text: it is none in canonical form, or the fault is said of its value.
+-- What a fault means for a text, except for Memory: it is no canonical form within the limits, or its value is refused for
+-- the fault.
 abbrev pub RowsTextRefused : List ℕ → RowsFault → Type 0
 RowsTextRefused text fault = IsMalformed faults.Form text fault ⊎ IsTextOf (λ v. NoRows v fault) text

@@ -1,4 +1,4 @@
--- What a sequence shows: keys, and certificates with their signatures.
+-- The contents of a sequence: keys, and certificates with their signatures.
 use Rattle.std.specs.Prelude.{◌≡◌, ℕ, suc, List, [], ◌∷◌, Option, Some, None, is_some, Bool, true}
 use Rattle.std.specs.List.{list_all}
 use Rattle.spki_cert.specs.declared.principal.Principal.{Principal}
@@ -34,7 +34,7 @@ abbrev pub octets_of : Certificate → List ℕ
 octets_of (auth cert) = cert.octets
 octets_of (name cert) = cert.octets
 
--- a certificate's signature: the next item behind it, past what is to be done
+-- a certificate's signature: the next item behind it, except operations
 abbrev pub signature_in : List SeqItem → Option signature.Signature
 signature_in [] = None
 signature_in (Key octets ∷ items) = None
@@ -43,13 +43,13 @@ signature_in (Auth cert ∷ items) = None
 signature_in (Name cert ∷ items) = None
 signature_in (Signature s ∷ items) = Some s
 
--- a certificate that is shown: the number of its item, and the signature behind it
+-- a certificate of a sequence: the number of its item, and the signature behind it
 pub record Shown : Type 0 where
   pub item : ℕ
   pub certificate : Certificate
   pub signature : Option signature.Signature
 
--- those among the items, in order, where the first item has this number
+-- the certificates among the items, in order; the first item has this number
 abbrev pub certificates_from : ℕ → List SeqItem → List Shown
 certificates_from n [] = []
 certificates_from n (Key octets ∷ items) = certificates_from (suc n) items

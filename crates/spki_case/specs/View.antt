@@ -1,4 +1,4 @@
--- The model's case that a case of the code is, and what its accepted list states.
+-- The model's case for a case of the code, and what its accepted list states.
 use Rattle.std.specs.Prelude.{List, map, IsTrue}
 use Rattle.spki_case.specs.declared.table.Row as code_row
 use Rattle.spki_case.specs.declared.table.AcceptedTable.{AcceptedTable}
@@ -11,7 +11,7 @@ row_of row = record { key = row.key; digest = row.digest; value = row.value }
 abbrev pub rows_of : AcceptedTable → List Row
 rows_of table = map row_of table.rows.items
 
--- what an accepted list states: that some row is of this key, message and value
+-- what an accepted list states: some row is of this key, message and value
 abbrev pub verified_by : AcceptedTable → Verified
 verified_by table key message value = IsTrue (accepts (rows_of table) key message value)
 

@@ -1,4 +1,4 @@
-//! Cases: an access list, what was accepted, what was shown, and what is asked.
+//! Cases: an access list, accepted rows, a sequence, and a question.
 
 ghost use Rattle.std.specs.Prelude.{◌≡◌, ◌≢◌, [], ◌<◌, ◌≤◌, ◌↔◌, length, IfOk, IfErr, IsErrOf};
 ghost use Rattle.spki_case.specs.CaseForm.{CaseOf, ValueRefused, IsCaseText, TextRefused};
@@ -19,35 +19,35 @@ use spki_tag::{Ground, TagFault};
 use std::alloc::{AllocError, Global};
 use thiserror::Error;
 
-/// Why a text is no case. The parts are read in the order of the variants, and the first that has no reading is named.
+/// Why a text is no case. The parts are read in the order of the variants, and the first that cannot be read is named.
 #[derive(Clone, Copy, Debug, PartialEq, Eq, Error)]
 pub enum CaseFault {
     /// The text is no canonical form within the limits.
     #[error("form: {0}")]
     Form(FormFault),
-    /// The value isn't built as a case: the number of its members, their heads, and the one member behind `key`,
-    /// `request` and `at`.
+    /// The value does not have the outer structure of a case: the number of its members, their heads, or the one member
+    /// behind `key`, `request` and `at`.
     #[error("not built as a case")]
     Shape,
-    /// The access list; the fault's item is the entry, from 1.
+    /// The fault of the access list. Its item is the number of the entry, from 1.
     #[error("access list: {0}")]
     Acl(CertFault),
-    /// The accepted list; the fault's item is the row, from 1.
+    /// The fault of the accepted list. Its item is the number of the row, from 1.
     #[error("accepted list: {0}")]
     Accepted(CertFault),
-    /// The sequence; the fault's item is that of the sequence, from 1.
+    /// The fault of the sequence. Its item is counted in the sequence, from 1.
     #[error("sequence: {0}")]
     Sequence(CertFault),
-    /// The key; the fault's item is 0.
+    /// The fault of the key. Its item is 0.
     #[error("key: {0}")]
     Key(CertFault),
-    /// The request.
+    /// The fault of the request.
     #[error("request: {0}")]
     Request(TagFault),
-    /// The moment; the fault's item is 0.
+    /// The fault of the moment. Its item is 0.
     #[error("moment: {0}")]
     At(CertFault),
-    /// Memory was refused.
+    /// Memory ran out.
     #[error("out of memory")]
     Memory,
 }
@@ -55,21 +55,21 @@ pub enum CaseFault {
 /// A case.
 #[derive(Drop)]
 pub struct Case<'a> {
-    /// The access list: what the keeper of the service gives to whom.
+    /// The access list: what the service lets each subject do.
     pub acl: Vec<Entry<'a>>,
-    /// The signatures that another tool has verified.
+    /// The signatures that the service has verified.
     pub accepted: AcceptedTable<'a>,
-    /// The certificates that are shown, with their signatures and the keys that they need.
+    /// The certificates, with their signatures and the keys that they need.
     pub sequence: Vec<SeqItem<'a>>,
-    /// The key that asks.
+    /// The client's key.
     pub key: Key<'a>,
-    /// What it asks for.
+    /// The request.
     pub request: Ground,
-    /// When.
+    /// The moment.
     pub moment: Date,
     /// Which hashes name keys.
     pub policy: Policy,
-    /// The greatest product of the numbers of nodes of two tags that are met.
+    /// The greatest product of the numbers of nodes of two tags that are intersected.
     pub most_nodes: usize,
     /// Each certificate is followed by its signature.
     ghost signed: { AreSigned sequence.items },
@@ -77,7 +77,7 @@ pub struct Case<'a> {
     ghost bounded: { most_nodes ≤ 1000000 },
 }
 
-/// The greatest product of the numbers of nodes of two tags that a case which is read has.
+/// The greatest product of the numbers of nodes of two tags that are intersected, for a case that is read.
 const MOST_NODES: usize = 1_000_000;
 
 impl<'a> Case<'a> {
@@ -87,9 +87,9 @@ impl<'a> Case<'a> {
     ///
     /// # Errors
     ///
-    /// `Form` where the text is no canonical form within the limits, and `Form(TooLong)` exactly where it has more than 1,048,576
-    /// octets; `Shape` where the value isn't built as a case, and else the first part, in the order of `CaseFault`, that has no
-    /// reading. `Memory` where memory was refused.
+    /// `Form` if the text is no canonical form within the limits; `Form(TooLong)` exactly if it has more than 1,048,576
+    /// octets. `Shape` if the value does not have the outer structure of a case. Otherwise the fault of the first part, in
+    /// the order of `CaseFault`, that cannot be read. `Memory` if memory ran out.
     pub fn read(alloc: Global, text: &'a [u8]) -> Result<Case<'a>, CaseFault>
         ensures read { IfOk result (λ c. IsCaseText text.entry.now (model c)) }
         ensures too_long { IsErrOf result (CaseFault.Form FormFault.TooLong) ↔ (1048576 < length text.entry.now) }
@@ -102,7 +102,7 @@ impl<'a> Case<'a> {
         }
     }
 
-    /// The case that a node is.
+    /// Reads the case of a node.
     fn of(alloc: Global, node: &Node<'_, 'a>) -> Result<Case<'a>, CaseFault>
         ensures read { IfOk result (λ c. CaseOf node.now (model c)) }
         ensures refused { IfErr result (λ fault. fault ≢ CaseFault.Memory → ValueRefused node.now fault) }
@@ -149,13 +149,13 @@ impl<'a> Case<'a> {
         })
     }
 
-    /// A case without an access list and without an accepted list: what is shown, and what is asked, with the most nodes of an
-    /// intersection. Its keys carry their digests by these algorithms, those of the hashes in an access list that stands elsewhere,
-    /// and by those of the hashes in the sequence.
+    /// Makes a case without an access list and without an accepted list, with a sequence, a question, and the limit of nodes
+    /// for an intersection. Its keys carry their digests by `algorithms`, those of the hashes in a separate access list, and
+    /// by those of the hashes in the sequence.
     ///
     /// # Errors
     ///
-    /// Where memory was refused.
+    /// `AllocError` if memory ran out.
     pub fn asking(
         alloc: Global,
         sequence: Vec<SeqItem<'a>>,
@@ -192,7 +192,7 @@ impl<'a> Case<'a> {
         })
     }
 
-    /// What another tool has verified, as a verifier.
+    /// The signatures that the service has verified, as a verifier.
     pub fn accepted(&self) -> &AcceptedTable<'a>
         ensures { result.now ≡ self.now.accepted }
     {

@@ -1,12 +1,14 @@
-//! Which keys of a case are digested when it is read, and by which algorithms. A key carries its digests, so that it is digested
-//! once for each algorithm, however often it is compared with hashes. What is left out here costs time and changes no answer.
+//! Which keys of a case are digested when it is read, and by which algorithms. A key carries its digests, so it is digested
+//! once for each algorithm, however often it is compared with hashes. A digest that is missing here costs time and changes
+//! no answer.
 
 ghost use Rattle.std.specs.Prelude.{◌≡◌};
 
 use spki_cert::{Algorithms, Entry, Key, Policy, Principal, SeqItem};
 
-/// The items of a sequence, whose keys carry their digests by the algorithms of the hashes that they may be compared with: those
-/// of the access list, which are given, and those of the sequence (RFC 2693, section 2.5). Takes no memory.
+/// The items of a sequence, with keys that carry their digests by the algorithms of the hashes that they may be compared
+/// with: `algorithms`, which are those of the access list, and those of the sequence (RFC 2693, section 2.5). Takes no
+/// memory.
 pub(crate) fn digested_items<'a>(
     items: Vec<SeqItem<'a>>,
     algorithms: Algorithms,
@@ -22,9 +24,9 @@ pub(crate) fn digested_items<'a>(
     items
 }
 
-/// The key that asks, with its digests by the algorithms of the hashes that it may be compared with: those of the last
-/// certificate's subject, or of the access list's subjects, whose algorithms are given, where there is no certificate. Takes no
-/// memory.
+/// The client's key, with its digests by the algorithms of the hashes that it may be compared with: those of the last
+/// certificate's subject, or, if there is no certificate, `algorithms`, which are those of the access list's subjects. Takes
+/// no memory.
 pub(crate) fn asking_key<'a>(
     key: &Key<'a>,
     algorithms: Algorithms,
@@ -42,7 +44,7 @@ pub(crate) fn asking_key<'a>(
     key.digested(algorithms)
 }
 
-/// Digests the key that an item shows, or that a certificate has as its issuer.
+/// Digests the key of an item, or of the issuer of a certificate.
 fn digest_item(item: &mut SeqItem, algorithms: Algorithms)
     ensures { item.new ≡ item.old }
 {
@@ -55,7 +57,7 @@ fn digest_item(item: &mut SeqItem, algorithms: Algorithms)
     }
 }
 
-/// Digests the key that a principal is.
+/// Digests the key of a principal.
 fn digest_principal(principal: &mut Principal, algorithms: Algorithms)
     ensures { principal.new ≡ principal.old }
 {

@@ -1,13 +1,20 @@
-//! Laws of cases, as they are written.
+//! Laws of cases and accepted lists.
 
-ghost use Rattle.std.specs.Prelude.{◌≡◌, ℕ, List};
+ghost use Rattle.std.specs.Prelude.{◌≡◌, ◌↔◌, ℕ, List, None};
+ghost use Rattle.std.specs.List.{AllZip};
+ghost use Rattle.sexpr_core.specs.Octets.{HasOctets};
 ghost use Rattle.sexpr_core.specs.Value.{Value};
+ghost use Rattle.spki_tag.specs.FaultOf.{request_fault};
+ghost use Rattle.spki_cert.specs.FixedFaults.{key_fault, date_fault};
+ghost use Rattle.spki_cert.specs.EntryFaults.{acl_fault};
+ghost use Rattle.spki_cert.specs.SequenceFaults.{sequence_fault};
 ghost use Rattle.spki_case.specs.Case.{Case, Row};
-ghost use Rattle.spki_case.specs.CaseForm.{CaseOf, ValueRefused, IsCaseText, TextRefused};
+ghost use Rattle.spki_case.specs.CaseForm.{Parts, acl_value, sequence_value, case_value, CaseOf, ValueRefused, IsCaseText, TextRefused};
 ghost use Rattle.spki_case.specs.RowsForm.{NoRows, IsRowsText, RowsTextRefused};
 ghost use Rattle.spki_case.specs.declared.cases.CaseFault.{CaseFault};
 ghost use Rattle.spki_case.specs.declared.rows.RowsFault.{RowsFault};
 ghost use Rattle.spki_case.specs.Rows.{RowOf};
+ghost use Rattle.spki_case.specs.RowFaults.{row_fault, rows_fault};
 
 /// A value has at most one reading as a row of an accepted list.
 pub fn one_row()
@@ -19,7 +26,7 @@ pub fn one_list()
     ensures { (text : List ℕ) (rows others : List Row) → IsRowsText text rows → IsRowsText text others → rows ≡ others }
 {}
 
-/// A text that is a case's, or an accepted list's, is refused by no fault.
+/// The text of a case, or of an accepted list, has no refusal as such.
 pub fn no_refusal()
     ensures case { (text : List ℕ) (c : Case) (fault : CaseFault) → IsCaseText text c → ¬ TextRefused text fault }
     ensures rows { (text : List ℕ) (rows : List Row) (fault : RowsFault) → IsRowsText text rows → ¬ RowsTextRefused text fault }
@@ -31,8 +38,19 @@ pub fn one_case()
     ensures text { (text : List ℕ) (c d : Case) → IsCaseText text c → IsCaseText text d → c ≡ d }
 {}
 
-/// A value that is refused as a case, or as an accepted list, is refused by one fault: the same part, item and kind.
+/// A value that is refused as a case, or as an accepted list, is refused for one fault: the same part, item and kind.
 pub fn one_fault()
     ensures case { (v : Value) (f g : CaseFault) → ValueRefused v f → ValueRefused v g → f ≡ g }
     ensures rows { (v : Value) (f g : RowsFault) → NoRows v f → NoRows v g → f ≡ g }
+{}
+
+/// A value has no fault as a row of an accepted list, values have none as its rows, and the parts of a case have none,
+/// exactly if they have a reading. The octets of the request are below 256, as in every text.
+pub fn no_case_fault()
+    ensures row { (v : Value) → (row_fault v ≡ None) ↔ ((row : Row) × RowOf v row) }
+    ensures rows { (vs : List Value) → (rows_fault vs ≡ None) ↔ ((rows : List Row) × AllZip RowOf vs rows) }
+    ensures parts { (p : Parts) → HasOctets p.request
+        → ((acl_fault (acl_value p) ≡ None) × (rows_fault p.rows ≡ None) × (sequence_fault (sequence_value p) ≡ None)
+        × (key_fault p.key ≡ None) × (request_fault p.request ≡ None) × (date_fault p.at ≡ None))
+        ↔ ((c : Case) × CaseOf (case_value p) c) }
 {}

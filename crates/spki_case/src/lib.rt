@@ -1,4 +1,4 @@
-//! Cases: what is to be decided, and by what.
+//! Cases: what is to be decided, and with what.
 #![tactic(auto)]
 
 mod cases;

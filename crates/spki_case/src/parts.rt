@@ -10,7 +10,7 @@ ghost use Rattle.spki_case.specs.Parts.{IsPart, IsNoPart, ArePartsOf};
 use sexpr_core::syntax::{Members, Node};
 use spki_cert::Policy;
 
-/// The parts of a case, behind their heads; the access list and the sequence stand with theirs.
+/// The parts of a case, behind their heads. The access list and the sequence have their heads.
 #[derive(Drop)]
 pub(crate) struct Parts<'d, 'a> {
     pub acl: Node<'d, 'a>,
@@ -22,7 +22,7 @@ pub(crate) struct Parts<'d, 'a> {
     pub policy: Policy,
 }
 
-/// A member that is a list with this head: the member, what stands behind its head, and the members behind it.
+/// A member that is a list with this head: the member, the members behind its head, and the members behind the list.
 #[derive(Drop)]
 struct Part<'d, 'a> {
     node: Node<'d, 'a>,
@@ -42,7 +42,7 @@ fn take_part<'d, 'a>(members: Members<'d, 'a>, word: &[u8]) -> Option<Part<'d, '
     })
 }
 
-/// The one member.
+/// The only member.
 fn sole<'d, 'a>(members: Members<'d, 'a>) -> Option<Node<'d, 'a>>
     ensures { MatchOption result ((v : Value) → members.entry ≢ v ∷ []) (λ v. members.entry ≡ v ∷ []) }
 {
@@ -50,7 +50,7 @@ fn sole<'d, 'a>(members: Members<'d, 'a>) -> Option<Node<'d, 'a>>
     if rest.is_empty() { Some(only) } else { None }
 }
 
-/// Whether the one member is the word.
+/// Whether the only member is this word.
 fn is_word(members: Members, word: &[u8]) -> bool
     ensures { MatchBool result (members.entry ≡ plain word.now ∷ []) (members.entry ≢ plain word.now ∷ []) }
 {
@@ -63,7 +63,7 @@ fn is_word(members: Members, word: &[u8]) -> bool
     }
 }
 
-/// What stands behind the moment: `(policy strict)`, or nothing for the open policy.
+/// The policy behind the moment: `(policy strict)`, or nothing for the open policy.
 fn policy_in(members: Members) -> Option<Policy>
     ensures { MatchOption result ((policy : Policy) → members.entry ≢ policy_values policy)
         (λ policy. members.entry ≡ policy_values policy) }
@@ -80,7 +80,7 @@ fn policy_in(members: Members) -> Option<Policy>
     }
 }
 
-/// A value's parts, if it is built as a case.
+/// The parts of a value, if it has the outer structure of a case.
 pub(crate) fn parts_of<'d, 'a>(node: &Node<'d, 'a>) -> Option<Parts<'d, 'a>>
     ensures { MatchOption result ((p : spec.Parts) → node.now ≢ case_value p)
         (λ p. (parts : spec.Parts) × (node.now ≡ case_value parts) × ArePartsOf (part_values parts) p parts) }
@@ -88,7 +88,7 @@ pub(crate) fn parts_of<'d, 'a>(node: &Node<'d, 'a>) -> Option<Parts<'d, 'a>>
     parts_in(node.headed(b"case")?)
 }
 
-/// The parts that stand behind the head of a case.
+/// The parts behind the head of a case.
 fn parts_in<'d, 'a>(members: Members<'d, 'a>) -> Option<Parts<'d, 'a>>
     ensures { MatchOption result ((p : spec.Parts) → members.entry ≢ part_values p)
         (λ p. (parts : spec.Parts) × ArePartsOf members.entry p parts) }

@@ -1,4 +1,4 @@
-//! The rows of an accepted list, as they are read.
+//! Reads the rows of an accepted list.
 
 ghost use Rattle.std.specs.Prelude.{◌≡◌, ◌≢◌, ◌<◌, ◌↔◌, ℕ, List, length, map, Some, None, IfOk, IfErr, IsErrOf};
 ghost use Rattle.spki_cert.specs.Readings.{HashOf};
@@ -26,22 +26,22 @@ pub enum RowsFault {
     /// The value is no list with the head `accepted`.
     #[error("not built as an accepted list")]
     Shape,
-    /// A row; the fault's item is its number, from 1.
+    /// The fault of a row. Its item is the number of the row, from 1.
     #[error("row: {0}")]
     Row(CertFault),
-    /// Memory was refused.
+    /// Memory ran out.
     #[error("out of memory")]
     Memory,
 }
 
 impl<'a> AcceptedTable<'a> {
-    /// Reads an accepted list in canonical form, which stands apart from a case: `(accepted row ..)`.
+    /// Reads a separate accepted list in canonical form: `(accepted row ..)`.
     ///
     /// # Errors
     ///
-    /// `Form` where the text is no canonical form within the limits, and `Form(TooLong)` exactly where it has more than 1,048,576
-    /// octets; `Shape` where the value is no list with the head `accepted`, and else `Row` of the first row that has no reading.
-    /// `Memory` where memory was refused.
+    /// `Form` if the text is no canonical form within the limits; `Form(TooLong)` exactly if it has more than 1,048,576
+    /// octets. `Shape` if the value is no list with the head `accepted`. Otherwise `Row` with the fault of the first row
+    /// that cannot be read. `Memory` if memory ran out.
     pub fn read(alloc: Global, text: &'a [u8]) -> Result<AcceptedTable<'a>, RowsFault>
         ensures read { IfOk result (λ table. IsRowsText text.entry.now (rows_of table)) }
         ensures too_long { IsErrOf result (RowsFault.Form FormFault.TooLong) ↔ (1048576 < length text.entry.now) }
@@ -54,7 +54,7 @@ impl<'a> AcceptedTable<'a> {
         }
     }
 
-    /// The accepted list that a node is.
+    /// Reads the accepted list of a node.
     fn of(alloc: Global, node: &Node<'_, 'a>) -> Result<AcceptedTable<'a>, RowsFault>
         ensures read { IfOk result (λ table. RowsOf node.now (rows_of table)) }
         ensures refused { IfErr result (λ fault. fault ≢ RowsFault.Memory → NoRows node.now fault) }
@@ -78,7 +78,7 @@ fn row_fault(fault: CertFault) -> RowsFault
     }
 }
 
-/// The row that a node is: `(by key hash value)`. Takes no memory.
+/// Reads the row of a node: `(by key hash value)`. Takes no memory.
 fn row_at<'a>(node: &Node<'_, 'a>) -> Result<Row<'a>, CertFaultKind>
     ensures row { IfOk result (λ row. RowOf node.now (row_of row)) }
     ensures refused { IfErr result (λ _. (row : model.Row) → ¬ RowOf node.now row) }
@@ -110,7 +110,7 @@ fn row_at<'a>(node: &Node<'_, 'a>) -> Result<Row<'a>, CertFaultKind>
     })
 }
 
-/// The digest of a hash by SHA-256 that a node is.
+/// Reads the digest of a hash by SHA-256.
 fn sha256_of<'a>(node: &Node<'_, 'a>) -> Result<Octets<'a>, CertFaultKind>
     ensures digest { IfOk result (λ digest. HashOf node.now HashAlg.Sha256 digest) }
     ensures refused { IfErr result (λ _. (digest : List ℕ) → ¬ HashOf node.now HashAlg.Sha256 digest) }
@@ -125,7 +125,7 @@ fn sha256_of<'a>(node: &Node<'_, 'a>) -> Result<Octets<'a>, CertFaultKind>
     }
 }
 
-/// The rows of an accepted list, behind its head.
+/// Reads the rows of an accepted list, behind its head.
 fn rows_of<'a>(alloc: Global, members: Members<'_, 'a>) -> Result<Vec<Row<'a>>, CertFault>
     ensures rows { IfOk result (λ rows. AllZip RowOf members.entry (map row_of rows.items)) }
     ensures refused { IfErr result (λ fault. fault.kind ≢ CertFaultKind.Memory → RowsRefused members.entry fault) }
@@ -151,7 +151,7 @@ fn rows_of<'a>(alloc: Global, members: Members<'_, 'a>) -> Result<Vec<Row<'a>>, 
     Ok(rows)
 }
 
-/// The accepted list of these rows.
+/// Reads the accepted list of these rows.
 pub(crate) fn table_of<'a>(
     alloc: Global,
     members: Members<'_, 'a>,

@@ -1,4 +1,4 @@
-//! Signatures that another tool has verified, found by the digests of their messages.
+//! Signatures that the service has verified, which are found by the digests of their messages.
 
 ghost use Rattle.std.specs.Prelude.{◌≡◌, [], ◌∷◌, List, ℕ, IfOk, OnOk, find, bytes_eq};
 ghost use Rattle.std.specs.Option.{option_or};
@@ -8,7 +8,7 @@ use spki_cert::{Key, Octets};
 use std::alloc::{AllocError, Global};
 use std::collections::BTreeMap;
 
-/// A signature that another tool has verified.
+/// A signature that the service has verified.
 #[derive(Drop)]
 pub struct Row<'a> {
     /// The key that signed.
@@ -19,21 +19,21 @@ pub struct Row<'a> {
     pub value: Octets<'a>,
 }
 
-/// Of each digest, the first row that has it.
+/// For each digest the first row that has it.
 pub(crate) type FirstRows<'a> = BTreeMap<Vec<u8>, Row<'a>>;
 
-/// Signatures that another tool has verified. As a verifier it accepts these and no others.
+/// Signatures that the service has verified. As a verifier it accepts these and no others.
 #[derive(Drop)]
 pub struct AcceptedTable<'a> {
     /// The signatures, in any order.
     pub rows: Vec<Row<'a>>,
     pub(crate) first: FirstRows<'a>,
-    /// At each digest stands the first row that has it.
+    /// Each digest has the first row with this digest.
     ghost indexed: { HasFirstRows rows.items first },
 }
 
 impl<'a> Row<'a> {
-    /// The same row once more, which takes no memory.
+    /// Returns the same row again, without taking memory.
     fn share(&self) -> Row<'a>
         ensures { result ≡ self.now }
     {
@@ -46,11 +46,11 @@ impl<'a> Row<'a> {
 }
 
 impl<'a> AcceptedTable<'a> {
-    /// The table of these signatures.
+    /// Makes the table of these signatures.
     ///
     /// # Errors
     ///
-    /// Where memory was refused.
+    /// `AllocError` if memory ran out.
     pub fn new(alloc: Global, rows: Vec<Row<'a>>) -> Result<AcceptedTable<'a>, AllocError>
         ensures { IfOk result (λ table. table.rows.items ≡ rows.entry.items) }
     {

@@ -1,4 +1,4 @@
-//! Who judges signatures.
+//! Verifiers of signatures.
 
 ghost use Rattle.std.specs.Prelude.{◌≡◌, ◌↔◌, ℕ, List, IsTrue, IsOk, IfOk};
 ghost use Rattle.std.specs.List.{list_any};
@@ -11,17 +11,18 @@ use sha2::{Digest, Sha256};
 use spki_cert::Key;
 use std::alloc::{AllocError, Global};
 
-/// Judges signatures: states which values are signatures of a key over a message, and answers that.
+/// A verifier decides, for a key, a message and a signature value, whether the signature is valid. It states which values
+/// are signatures of a key over a message, and answers according to this statement.
 pub trait Verifier {
-    /// Of a key's canonical octets, a message and a value's canonical octets: the value is a signature of the key over
-    /// the message.
+    /// For a key's canonical octets, a message and a value's canonical octets: the value is a signature of the key over the
+    /// message.
     ghost accepted: { Self → List ℕ → List ℕ → List ℕ → Type 0 };
 
     /// Whether the value, in canonical form, is a signature of the key over the message.
     ///
     /// # Errors
     ///
-    /// Where memory was refused.
+    /// `AllocError` if memory ran out.
     fn accepts(
         &self,
         alloc: Global,
@@ -31,12 +32,12 @@ pub trait Verifier {
     ) -> Result<bool, AllocError>
         ensures { IfOk result (λ yes. IsTrue yes ↔ accepted self.now key.now message.now value.now) };
 
-    /// As `accepts`, where the SHA-256 digest of the message is known, so that a verifier that looks for it does not digest
-    /// the message again. A verifier that has no use for the digest keeps this body.
+    /// Like `accepts`, with the SHA-256 digest of the message, so that a verifier that looks for it does not digest the
+    /// message again. A verifier that does not use the digest keeps this body.
     ///
     /// # Errors
     ///
-    /// Where memory was refused.
+    /// `AllocError` if memory ran out.
     fn accepts_digested(
         &self,
         alloc: Global,
@@ -86,7 +87,7 @@ impl<'a> Verifier for AcceptedTable<'a> {
 }
 
 /// Whether some row is of this key, of a message with this SHA-256 digest, and of this value. The first row of the digest is
-/// mostly the one; the others are asked where it isn't.
+/// usually the right one. If it is not, the others are tested.
 fn some_accepts(table: &AcceptedTable, key: &Key, digest: &[u8], value: &[u8]) -> bool
     ensures { (message : List ℕ) → sha256 message ≡ digest.now
         → result ≡ list_any (λ row. is_row_of key.now message value.now (row_of row)) table.now.rows.items }
@@ -112,8 +113,8 @@ fn any_accepts(rows: &[Row], key: &Key, digest: &[u8], value: &[u8]) -> bool
     false
 }
 
-/// Whether the row is of this key, of a message with this SHA-256 digest, and of this value. The digests come first, since
-/// other rows' differ at once, while keys begin alike.
+/// Whether the row is of this key, of a message with this SHA-256 digest, and of this value. The digests are compared first:
+/// those of other rows differ at once, while keys begin alike.
 fn row_accepts(row: &Row, key: &Key, digest: &[u8], value: &[u8]) -> bool
     ensures { (message : List ℕ) → sha256 message ≡ digest.now → result ≡ is_row_of key.now message value.now (row_of row.now) }
 {

@@ -1,10 +1,8 @@
 -- The fault that is named of an entry or of an access list, along the way of its reading.
-use Rattle.std.proofs.Common.{◌≡◌, ◌≢◌, ℕ, ◌+◌, List, [], ◌∷◌, ◌++◌, drop, length, Bool, true, false, Option, Some, None, refl, sym, ap, subst, ◌∙◌, inl, inr, arith, length-append}
-use Rattle.std.specs.Prelude.{codes, not, is_some, if◌then◌else◌, ◌&&◌}
-use Rattle.std.specs.Str.{bytes_eq}
+use Rattle.std.proofs.Common.{◌≡◌, ℕ, ◌+◌, List, [], ◌∷◌, ◌++◌, drop, length, Bool, true, false, Option, Some, None, refl, sym, ap, ◌∙◌, inl, inr, length-append}
+use Rattle.std.specs.Prelude.{codes, not, if◌then◌else◌, ◌&&◌}
 use Rattle.sexpr_core.specs.Value.{Value, plain, group}
-use Rattle.sexpr_core.specs.Value as sexpr
-use Rattle.sexpr_core.specs.Shapes.{IsNoString, IsNotHeaded}
+use Rattle.sexpr_core.specs.Shapes.{IsNotHeaded}
 use Rattle.spki_tag.specs.FirstFault.{first_fault, unless}
 use Rattle.spki_cert.specs.declared.fault.CertFault.{CertFault}
 use Rattle.spki_cert.specs.declared.fault.CertFaultKind.{CertFaultKind}
@@ -18,9 +16,9 @@ use Rattle.spki_cert.specs.Places.{fault_at, sole_fault}
 use Rattle.spki_cert.specs.SubjectFaults.{is_name, subject_fault, entry_subject_fault, is_relative, begins_named}
 use Rattle.spki_cert.specs.FieldFaults.{has, fields_fault, version_fault, entry_field_fault, is_both_ways}
 use Rattle.spki_cert.specs.EntryFaults.{entry_fault, at_item, each_looked, acl_version_fault, outer_fault, entries_fault, acl_fault}
-use Rattle.spki_cert.proofs.Groups.{headed-by, not-headed, behind-group}
-use Rattle.spki_cert.proofs.Looking.{of-form, of-no_form, found-first, found-none}
-use Rattle.spki_cert.proofs.SubjectFaultLaws.{headed-else}
+use Rattle.spki_cert.proofs.Groups.{not-headed, behind-group}
+use Rattle.spki_cert.proofs.SubjectFaultLaws.{principal-else}
+use Rattle.spki_cert.proofs.Looking.{of-form, of-no_form, one-look}
 
 -- ---- subjects of entries
 
@@ -47,12 +45,8 @@ no-name : (v : Value) (p : Principal) → PrincipalOf v p → is_name v ≡ fals
 no-name v (Key octets) read = ap is_name read.written
 no-name v (Hash alg digest) read = ap is_name read.written
 
-not-name : (v : Value) (p : Principal) → PrincipalOf v p → is_headed (codes "name") v ≡ false
-not-name v (Key octets) read = ap (is_headed (codes "name")) read.written
-not-name v (Hash alg digest) read = ap (is_headed (codes "name")) read.written
-
 pub subject-absolute : (v : Value) (p : Principal) (names : List (List ℕ)) → subject_fault v ≡ None → WhoOf v (Some p) names → entry_subject_fault v ≡ None
-subject-absolute v p names e (inl read) = subject-tested v false e (ap (λ (b : Bool). b && begins_named (behind_head v)) (not-name v p read.0))
+subject-absolute v p names e (inl read) = subject-tested v false e (ap (λ (b : Bool). b && begins_named (behind_head v)) (principal-else (codes "name") v p read.0 refl refl))
 subject-absolute v p names e (inr read) = subject-tested v false e (relative-form v (read.owner ∷ plains names) read.written ∙ no-name read.owner p read.owner_is)
 
 -- ---- entries
@@ -64,7 +58,7 @@ entry_looked headed rest =
     ∷ unless (not (is_both_ways (drop 1 rest))) Shape ∷ unless (has (codes "tag") (drop 1 rest)) Shape ∷ []
     )
 
-abbrev IsEntered : Value → List Value → Type 0
+abbrev pub IsEntered : Value → List Value → Type 0
 IsEntered v rest = v ≡ group (plain (codes "entry") ∷ rest)
 
 pub entry-unheaded : (v : Value) → IsNotHeaded v (codes "entry") → entry_fault v ≡ Some Shape
@@ -79,10 +73,10 @@ pub entry-empty : (v : Value) (rest : List Value) → IsEntered v rest → rest 
 entry-empty v rest e f = entry-form v rest e ∙ ap (entry_looked true) f
 
 -- what is found in the parts of an entry
-abbrev parts_looked : Option CertFaultKind → Option CertFaultKind → Bool → Bool → Option CertFaultKind
+abbrev pub parts_looked : Option CertFaultKind → Option CertFaultKind → Bool → Bool → Option CertFaultKind
 parts_looked subject fields both tag = first_fault (subject ∷ fields ∷ unless (not both) Shape ∷ unless tag Shape ∷ [])
 
-entry-parts : (v subject : Value) (rest fields : List Value) → IsEntered v rest → rest ≡ subject ∷ fields
+pub entry-parts : (v subject : Value) (rest fields : List Value) → IsEntered v rest → rest ≡ subject ∷ fields
     → entry_fault v ≡ parts_looked (entry_subject_fault subject) (fields_fault entry_field_fault fields) (is_both_ways fields) (has (codes "tag") fields)
 entry-parts v subject rest fields e f = entry-form v rest e ∙ ap (entry_looked true) f
 
@@ -137,10 +131,6 @@ pub outer-unversioned : (v first : Value) (rest others : List Value) → IsListe
 outer-unversioned v first rest others e f other =
     outer-first v first rest others e f ∙ ap (λ (b : Bool). version_looked b (behind_head first)) (not-headed (codes "version") first other)
 
-one-look : (found : Option CertFaultKind) → first_fault (found ∷ []) ≡ found
-one-look None = refl
-one-look (Some kind) = refl
-
 pub outer-versioned : (v first : Value) (rest others behind : List Value) (found : Option CertFaultKind) → IsListed v rest → rest ≡ first ∷ others
     → first ≡ group (plain (codes "version") ∷ behind) → sole_fault Shape version_fault behind ≡ found → outer_fault v ≡ found
 outer-versioned v first rest others behind found e f g h =
@@ -191,13 +181,9 @@ pub acl-outer : (v : Value) (kind : CertFaultKind) → outer_fault v ≡ Some ki
 unfolding acl_fault
 acl-outer v kind e = ap (λ (x : Option CertFaultKind). first_fault (at_item 0 x ∷ entries_fault (behind_version (behind_head v)) ∷ [])) e
 
-one-fault : (found : Option CertFault) → first_fault (found ∷ []) ≡ found
-one-fault None = refl
-one-fault (Some fault) = refl
-
 pub acl-entries : (v : Value) (rest entries : List Value) (found : Option CertFault) → IsListed v rest → outer_fault v ≡ None → entries ≡ behind_version rest → entries_fault entries ≡ found
     → acl_fault v ≡ found
 acl-entries v rest entries found e f g h =
     acl-parts v rest e
     ∙ (λ i. first_fault (at_item 0 (f i) ∷ entries_fault (sym g i) ∷ []))
-    ∙ one-fault (entries_fault entries) ∙ h
+    ∙ one-look (entries_fault entries) ∙ h

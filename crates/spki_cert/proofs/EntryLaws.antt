@@ -4,25 +4,22 @@ use Rattle.std.specs.Prelude.{codes}
 use Rattle.std.specs.List.{AllZip}
 use Rattle.sexpr_core.specs.Value.{Value, plain, group}
 use Rattle.sexpr_core.specs.Shapes.{IsNotHeaded}
-use Rattle.spki_tag.specs.Read.{ReadsAs}
 use Rattle.spki_cert.specs.declared.entry.Entry.{Entry}
 use Rattle.spki_cert.specs.declared.entry.Subject.{Subject}
-use Rattle.spki_cert.specs.declared.principal.Principal.{Principal}
 use Rattle.spki_cert.specs.declared.window.Window.{Window}
 use Rattle.spki_cert.specs.declared.fields.Known.{Known}
 use Rattle.spki_cert.specs.declared.fault.CertFault.{CertFault}
 use Rattle.spki_cert.specs.declared.fault.CertFaultKind.{CertFaultKind}
 use Rattle.spki_cert.specs.declared.fault.CertFaultKind.TheVariants as kinds
 use Rattle.spki_cert.specs.Readings.{DateOf}
-use Rattle.spki_cert.specs.Subjects.{SubjectOf, WhoOf, RelativeOf, PrincipalOf, plains}
-use Rattle.spki_cert.specs.Fields.{is_headed, Sole, Given, ValidOf, LimitsAre, WindowOf, directly, in_valid, version_field, TagOf, AreFields, IsField}
+use Rattle.spki_cert.specs.Subjects.{SubjectOf, RelativeOf, PrincipalOf, plains}
+use Rattle.spki_cert.specs.Fields.{is_headed, Sole, Given, ValidOf, LimitsAre, WindowOf, directly, in_valid, version_field}
 use Rattle.spki_cert.specs.Refusals.{IsRefusedAt}
 use Rattle.spki_cert.specs.Faults.{Shows, HasRelative, IsUnknownVersion}
 use Rattle.spki_cert.specs.Entries.{EntryOf, AclOf, AclRefused, IsVersion, BeginsMisfit, BeginsWell, behind_version, OuterRefused}
-use Rattle.spki_cert.specs.Inner.Gathering.{KnownOf, IsOneWay, IsBothWays}
-use Rattle.spki_cert.proofs.Groups.{same_others, same_rest, same_second, not-headed}
+use Rattle.spki_cert.specs.Inner.Gathering.{KnownOf, IsOneWay}
+use Rattle.spki_cert.proofs.Groups.{same_others, not-headed}
 use Rattle.spki_cert.proofs.Showing.{shown-here}
-use Rattle.spki_cert.proofs.GivenLaws.{given-some, given-else, given-none}
 use Rattle.spki_cert.proofs.SubjectLaws.{name-is_no_principal, string-is_no_principal}
 
 -- ---- windows
@@ -38,21 +35,7 @@ known-window fields k w known is = by k.valid known.valid_is is
         (subst (λ (o : Option (List ℕ)). Given (codes "not-before") (Sole DateOf) fields o) e.0 known.limits_are.0)
         (subst (λ (o : Option (List ℕ)). Given (codes "not-after") (Sole DateOf) fields o) e.1 known.limits_are.1)
 
--- what is given in a (valid ..) isn't nothing
-both-ways_stop : (fields : List Value) (k : Known) (valid : Option Window) → Given (codes "valid") ValidOf fields valid → LimitsAre fields k.limits
-    → IsBothWays k.limits valid → (w : Window) → WindowOf fields w → ⊥
-both-ways_stop fields k None given limits both w read = both
-both-ways_stop fields k (Some window) given limits both w (directly none are) = given-some (codes "valid") ValidOf fields (Some window) given refl none
-both-ways_stop fields k (Some window) given limits (inl both) w (in_valid is first last) = given-some (codes "not-before") (Sole DateOf) fields k.limits.not_before limits.0 both first
-both-ways_stop fields k (Some window) given limits (inr both) w (in_valid is first last) = given-some (codes "not-after") (Sole DateOf) fields k.limits.not_after limits.1 both last
-
-pub no-window : (fields : List Value) (k : Known) → KnownOf fields k → IsBothWays k.limits k.valid → (w : Window) → WindowOf fields w → ⊥
-no-window fields k known both w read = both-ways_stop fields k k.valid known.valid_is known.limits_are both w read
-
 -- ---- subjects
-
-pub no-subject : (v : Value) → ((p : Option Principal) (names : List (List ℕ)) → WhoOf v p names → ⊥) → (s : Subject) → SubjectOf v s → ⊥
-no-subject v none s read = none (Some s.principal) s.names read
 
 -- a relative name is no name
 pub relative-is_no_subject : (v : Value) (names : List (List ℕ)) → RelativeOf v names → (s : Subject) → SubjectOf v s → ⊥
@@ -88,31 +71,10 @@ no-items R vs item v r es zip =
     let here = item-at R r.front v r.behind es (subst (λ (ws : List Value). AllZip R ws es) r.parts zip) in
     r.none here.0 here.1
 
--- ---- one entry
-
--- what an entry is made of, where these are its subject and its fields
-pub entry-subject : (v subject : Value) (fields : List Value) → v ≡ group (plain (codes "entry") ∷ subject ∷ fields) → (e : Entry) → EntryOf v e → SubjectOf subject e.subject
-entry-subject v subject fields e entry read =
-    subst (λ (w : Value). SubjectOf w entry.subject) (same_second v (codes "entry") read.subject subject read.fields fields read.written e) read.subject_is
-
-entry-rest : (v subject : Value) (fields : List Value) → v ≡ group (plain (codes "entry") ∷ subject ∷ fields) → (e : Entry) (read : EntryOf v e) → read.fields ≡ fields
-entry-rest v subject fields e entry read = same_rest v (codes "entry") read.subject subject read.fields fields read.written e
-
-pub entry-fields : (v subject : Value) (fields : List Value) → v ≡ group (plain (codes "entry") ∷ subject ∷ fields) → (e : Entry) → EntryOf v e → AreFields IsField fields
-entry-fields v subject fields e entry read = subst (AreFields IsField) (entry-rest v subject fields e entry read) read.are_fields
-
-pub entry-window : (v subject : Value) (fields : List Value) → v ≡ group (plain (codes "entry") ∷ subject ∷ fields) → (e : Entry) → EntryOf v e → WindowOf fields e.window
-entry-window v subject fields e entry read = subst (λ (vs : List Value). WindowOf vs entry.window) (entry-rest v subject fields e entry read) read.window_is
-
-pub entry-tag : (v subject : Value) (fields : List Value) → v ≡ group (plain (codes "entry") ∷ subject ∷ fields) → (k : Known) → KnownOf fields k → k.tag ≡ None → (e : Entry) → EntryOf v e → ⊥
-entry-tag v subject fields e k known none entry read =
-    given-else (codes "tag") (Sole ReadsAs) fields entry.tag (subst (λ (vs : List Value). TagOf vs entry.tag) (entry-rest v subject fields e entry read) read.tag_is)
-    (given-none (codes "tag") (Sole ReadsAs) fields k.tag known.tag_is none)
-
 -- ---- access lists
 
 -- an entry isn't headed version
-entry-unversioned : (v : Value) (e : Entry) → EntryOf v e → is_headed (codes "version") v ≡ false
+pub entry-unversioned : (v : Value) (e : Entry) → EntryOf v e → is_headed (codes "version") v ≡ false
 entry-unversioned v e read = ap (is_headed (codes "version")) read.written
 
 pub entries-behind : (version entries : List Value) (es : List Entry) → IsVersion version → AllZip EntryOf entries es → behind_version (version ++ entries) ≡ entries

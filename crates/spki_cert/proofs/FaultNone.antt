@@ -1,5 +1,5 @@
 -- A value has no fault as a key, a hash or a date exactly where it is one.
-use Rattle.std.proofs.Common.{◌≡◌, ℕ, List, [], ◌∷◌, ◌++◌, length, arith, Bool, true, false, Option, Some, None, refl, sym, ap, ◌∙◌}
+use Rattle.std.proofs.Common.{◌≡◌, ℕ, List, [], ◌∷◌, length, arith, Bool, true, false, Option, Some, None, refl, sym, ap, ◌∙◌}
 use Rattle.std.specs.Prelude.{codes, ◌↔◌, ◌==◌, is_some, if◌then◌else◌}
 use Rattle.std.specs.Str.{bytes_eq}
 use Rattle.std.proofs.lemmas.Slice.Eq.{bytes_eq-Decides}
@@ -7,29 +7,16 @@ use Rattle.sexpr_core.specs.Value.{Value, plain, group, members, canon}
 use Rattle.sexpr_core.specs.Value as sexpr
 use Rattle.sexpr_core.specs.Labels.{values-members}
 use Rattle.spki_tag.specs.Time.{is_date}
-use Rattle.spki_tag.specs.FirstFault.{first_fault, unless}
-use Rattle.spki_cert.specs.declared.fault.CertFaultKind.{CertFaultKind}
+use Rattle.spki_tag.specs.FirstFault.{unless}
 use Rattle.spki_cert.specs.declared.fault.CertFaultKind.TheVariants.{Shape, HashAlg as UnknownAlg, DigestLength, BadDate}
 use Rattle.spki_cert.specs.declared.hash.HashAlg.{HashAlg}
 use Rattle.spki_cert.specs.declared.hash.HashAlg.TheVariants.{Sha1, Sha256, Sha512}
 use Rattle.spki_cert.specs.Readings.{KeyOf, HashOf, DateOf, IsAlgorithm, AreUris, alg_name, digest_len}
 use Rattle.spki_cert.specs.Fields.{is_headed}
 use Rattle.spki_cert.specs.FixedFaults.{is_plain, any_octets, begins_plain, behind_key, key_fault, is_alg, alg_fault, is_sized, digest_fits, are_uris, hash_fault, date_fault}
-use Rattle.spki_cert.proofs.FixedLaws.{key_looked, key-form, key-whole, named-alg, digest-sized, hash_looked, hash-form, hash-whole, date-tested}
+use Rattle.spki_cert.proofs.Looking.{unless-none, none-found}
+use Rattle.spki_cert.proofs.FixedLaws.{key_looked, key-form, key-whole, named-alg, digest-sized, hash_looked, hash-form, hash-whole, alg-known, date-tested}
 use Rattle.spki_cert.proofs.FieldFaultLaws.{is-headed}
-
--- ---- what is looked at without a fault
-
-unless-none : {A : Type 0} (b : Bool) (fault : A) → unless b fault ≡ None → b ≡ true
-unless-none true fault e = refl
-unless-none false fault e = absurd (cc)
-
-abbrev AreNone : {A : Type 0} → Option A → List (Option A) → Type 0
-AreNone look looks = (look ≡ None) × (first_fault looks ≡ None)
-
-none-found : {A : Type 0} (look : Option A) (looks : List (Option A)) → first_fault (look ∷ looks) ≡ None → AreNone look looks
-none-found None looks e = (refl, e)
-none-found (Some fault) looks e = absurd (cc)
 
 -- ---- keys
 
@@ -84,7 +71,10 @@ alg-read (sexpr.string None octets) e =
 alg-read (sexpr.string (Some hint) octets) e = absurd (cc)
 alg-read (sexpr.list vs) e = absurd (cc)
 
-plain-read : (v : Value) → is_plain any_octets v ≡ true → (octets : List ℕ) × (v ≡ plain octets)
+pub alg-none : (v : Value) → (alg_fault v ≡ None) ↔ ((alg : HashAlg) × (v ≡ plain (alg_name alg)))
+alg-none v = (alg-read v, λ some. alg-known v some.0 some.1)
+
+pub plain-read : (v : Value) → is_plain any_octets v ≡ true → (octets : List ℕ) × (v ≡ plain octets)
 plain-read (sexpr.string None octets) e = (octets, refl)
 plain-read (sexpr.string (Some hint) octets) e = absurd (cc)
 plain-read (sexpr.list vs) e = absurd (cc)

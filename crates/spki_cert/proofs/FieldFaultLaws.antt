@@ -1,17 +1,17 @@
 -- The fault that is named of a field, and of fields one after the other, along the way of their reading.
-use Rattle.std.proofs.Common.{◌≡◌, ◌≢◌, ℕ, List, [], ◌∷◌, ◌++◌, drop, Bool, true, false, Option, Some, None, refl, sym, ap, ◌∙◌, inl, inr}
+use Rattle.std.proofs.Common.{◌≡◌, ◌≢◌, ℕ, List, [], ◌∷◌, ◌++◌, Bool, true, false, Option, Some, None, refl, sym, ap, ◌∙◌, inl, inr}
 use Rattle.std.specs.Prelude.{codes, not, is_some, if◌then◌else◌, ◌||◌, ◌&&◌}
 use Rattle.std.specs.Str.{bytes_eq}
-use Rattle.std.specs.List.{AllByRecursion, list_any}
+use Rattle.std.specs.List.{AllByRecursion}
 use Rattle.std.proofs.lemmas.Slice.Eq.{bytes_eq-Decides}
 use Rattle.sexpr_core.specs.Value.{Value, plain, group, members}
 use Rattle.sexpr_core.specs.Labels.{values-members}
 use Rattle.sexpr_core.specs.Value as sexpr
-use Rattle.sexpr_core.specs.Shapes.{IsNoString, IsNotHeaded}
+use Rattle.sexpr_core.specs.Shapes.{IsNotHeaded}
 use Rattle.spki_tag.specs.FirstFault.{first_fault, unless}
 use Rattle.spki_cert.specs.declared.window.Window.{Window}
 use Rattle.spki_cert.specs.declared.fault.CertFaultKind.{CertFaultKind}
-use Rattle.spki_cert.specs.declared.fault.CertFaultKind.TheVariants.{Shape, UnknownVersion, Online, Tag, Memory}
+use Rattle.spki_cert.specs.declared.fault.CertFaultKind.TheVariants.{Shape, UnknownVersion, Online, Memory}
 use Rattle.spki_tag.specs.Read.{ReadsAs}
 use Rattle.spki_cert.specs.Readings.{DateOf}
 use Rattle.spki_cert.specs.Fields.{is_headed, behind_head, contents, Given, Sole, IsLimitField, ValidOf, IsUnread, display, issuer_info, subject_info}
@@ -26,9 +26,8 @@ use Rattle.spki_cert.specs.Inner.Gathering.{IsTagKind, is_among, IsNew, AreRead,
 use Rattle.spki_cert.specs.FixedFaults.{is_string, is_plain, date_fault}
 use Rattle.spki_cert.specs.FieldFaults.{head_of, has, has_head, is_again, fields_looked, fields_fault, is_zero, version_fault, limit_fault, time_fault, as_tag, kind_of_tag, entry_field_fault, is_unread, cert_field_fault, is_both_ways}
 use Rattle.spki_cert.proofs.Groups.{headed-by, not-headed, behind-group}
-use Rattle.spki_cert.proofs.Looking.{of-form, no-plain, found-first, found-none}
+use Rattle.spki_cert.proofs.Looking.{of-form, found-first, found-none, one-look}
 use Rattle.spki_cert.proofs.SubjectFaultLaws.{headed-else}
-use Rattle.spki_cert.proofs.ItemFaultLaws.{same-word}
 
 -- ---- versions
 
@@ -128,10 +127,6 @@ field_looked fault_of before v = unless (not (is_again before v)) Shape ∷ faul
 pub field-again : (fault_of : Value → Option CertFaultKind) (before : List Value) (v : Value) → is_again before v ≡ true → first_fault (field_looked fault_of before v) ≡ Some Shape
 field-again fault_of before v e = ap (λ (b : Bool). first_fault (unless (not b) Shape ∷ fault_of v ∷ [])) e
 
-one-look : (found : Option CertFaultKind) → first_fault (found ∷ []) ≡ found
-one-look None = refl
-one-look (Some kind) = refl
-
 pub field-new : (fault_of : Value → Option CertFaultKind) (before : List Value) (v : Value) (found : Option CertFaultKind) → is_again before v ≡ false → fault_of v ≡ found
     → first_fault (field_looked fault_of before v) ≡ found
 field-new fault_of before v found e f = ap (λ (b : Bool). first_fault (unless (not b) Shape ∷ fault_of v ∷ [])) e ∙ one-look (fault_of v) ∙ f
@@ -220,7 +215,7 @@ entry-comment v rest e =
     λ i. entry_looked (headed-else (codes "comment") (codes "tag") v rest e refl i) (headed-else (codes "comment") (codes "propagate") v rest e refl i)
     (headed-by v (codes "comment") rest e i) (behind_head v) (time_fault v)
 
-entry-else : (v : Value) → is_headed (codes "tag") v ≡ false → is_headed (codes "propagate") v ≡ false → is_headed (codes "comment") v ≡ false → entry_field_fault v ≡ time_fault v
+pub entry-else : (v : Value) → is_headed (codes "tag") v ≡ false → is_headed (codes "propagate") v ≡ false → is_headed (codes "comment") v ≡ false → entry_field_fault v ≡ time_fault v
 unfolding entry_field_fault
 entry-else v p q r = λ i. entry_looked (p i) (q i) (r i) (behind_head v) (time_fault v)
 
@@ -274,7 +269,7 @@ cert-unread v (display xs e) = unread-word (codes "display") v xs e (unread-none
 cert-unread v (issuer_info xs e) = unread-word (codes "issuer-info") v xs e (unread-none (codes "issuer-info") xs refl refl refl refl)
 cert-unread v (subject_info xs e) = unread-word (codes "subject-info") v xs e (unread-none (codes "subject-info") xs refl refl refl refl)
 
-cert-else : (v : Value) → is_headed (codes "issuer") v ≡ false → is_headed (codes "subject") v ≡ false → is_headed (codes "version") v ≡ false → is_unread v ≡ false
+pub cert-else : (v : Value) → is_headed (codes "issuer") v ≡ false → is_headed (codes "subject") v ≡ false → is_headed (codes "version") v ≡ false → is_unread v ≡ false
     → cert_field_fault v ≡ entry_field_fault v
 unfolding cert_field_fault
 cert-else v p q r s = λ i. cert_looked (p i) (q i) (r i) (s i) (behind_head v) (entry_field_fault v)

@@ -5,8 +5,8 @@ use Rattle.std.specs.Str.{bytes_eq}
 use Rattle.std.proofs.lemmas.Slice.Eq.{bytes_eq-Decides}
 use Rattle.sexpr_core.specs.Value.{Value, plain, group, members, values}
 use Rattle.sexpr_core.specs.Value as sexpr
-use Rattle.sexpr_core.specs.Labels.{members-values, values-members}
-use Rattle.sexpr_core.specs.Shapes.{IsNoString, IsNoList, IsNotHeaded}
+use Rattle.sexpr_core.specs.Labels.{values-members}
+use Rattle.sexpr_core.specs.Shapes.{IsNoString, IsNotHeaded}
 use Rattle.spki_tag.specs.Time.{is_date}
 use Rattle.spki_tag.specs.FirstFault.{first_fault, unless}
 use Rattle.spki_cert.specs.declared.hash.HashAlg.{HashAlg}
@@ -14,8 +14,8 @@ use Rattle.spki_cert.specs.declared.hash.HashAlg.TheVariants.{Sha1, Sha256, Sha5
 use Rattle.spki_cert.specs.declared.fault.CertFaultKind.{CertFaultKind}
 use Rattle.spki_cert.specs.declared.fault.CertFaultKind.TheVariants.{Shape, HashAlg as UnknownAlg, DigestLength, KeyUris, BadDate}
 use Rattle.spki_cert.specs.Readings.{IsAlgorithm, alg_name, digest_len, AreUris}
-use Rattle.spki_cert.specs.Fields.{is_headed, behind_head}
-use Rattle.spki_cert.specs.Places.{fault_at, of_first}
+use Rattle.spki_cert.specs.Fields.{is_headed}
+use Rattle.spki_cert.specs.Places.{fault_at}
 use Rattle.spki_cert.specs.FixedFaults.{is_plain, any_octets, begins_plain, behind_key, key_fault, date_fault, alg_fault, hash_fault, alg_named, is_alg, is_sized, digest_fits, are_uris, is_string}
 use Rattle.spki_cert.proofs.Groups.{headed-by, not-headed}
 use Rattle.spki_cert.specs.Inner.Gathering.{digest_fault}
@@ -226,7 +226,7 @@ hash-surplus v word digest rest more others alg e f g h i other = hash-sized v w
 pub digest-hinted : (alg : HashAlg) (v : Value) → IsNoString v → digest_fault alg v ≡ Some Shape
 digest-hinted alg v other = ap (λ (b : Bool). first_fault (unless b Shape ∷ unless (is_plain (is_sized (Some alg)) v) DigestLength ∷ [])) (no-plain any_octets v other)
 
-sized-eq : (m n : ℕ) → m ≡ n → (m == n) ≡ true
+pub sized-eq : (m n : ℕ) → m ≡ n → (m == n) ≡ true
 sized-eq m n e = grind (arith, e)
 
 sized-apart : (m n : ℕ) → m ≢ n → (m == n) ≡ false

@@ -1,5 +1,5 @@
 -- The fault that is named of a signature or of an operation, along the way of its reading.
-use Rattle.std.proofs.Common.{◌≡◌, ◌≢◌, ℕ, List, [], ◌∷◌, ◌++◌, drop, Bool, true, false, Option, Some, None, refl, sym, ap, ◌∙◌}
+use Rattle.std.proofs.Common.{◌≡◌, ℕ, List, [], ◌∷◌, drop, Bool, true, false, Option, Some, None, refl, sym, ap, ◌∙◌}
 use Rattle.std.specs.Prelude.{codes, not}
 use Rattle.std.specs.Str.{bytes_eq}
 use Rattle.std.proofs.lemmas.Slice.Eq.{bytes_eq-Decides}
@@ -8,78 +8,18 @@ use Rattle.sexpr_core.specs.Shapes.{IsNoString, IsNotHeaded}
 use Rattle.spki_tag.specs.FirstFault.{first_fault, unless}
 use Rattle.spki_cert.specs.declared.fault.CertFaultKind.{CertFaultKind}
 use Rattle.spki_cert.specs.declared.fault.CertFaultKind.TheVariants.{Shape, UnknownOp}
-use Rattle.spki_cert.specs.Fields.{is_headed, behind_head}
 use Rattle.spki_cert.specs.Places.{fault_at, unless_none}
 use Rattle.spki_cert.specs.FixedFaults.{is_plain, alg_fault, hash_fault}
 use Rattle.spki_cert.specs.SubjectFaults.{principal_fault}
-use Rattle.spki_cert.specs.ItemFaults.{signature_fault, do_fault, any_value, is_hash_word}
+use Rattle.spki_cert.specs.ItemFaults.{signature_fault, do_fault, is_hash_word}
 use Rattle.spki_cert.proofs.Looking.{of-form, of-no_form, no-plain, end-some}
+use Rattle.spki_cert.proofs.Triples.{IsTriple}
 
 -- ---- signatures
 
-abbrev IsSigned : Value → List Value → Type 0
-IsSigned v rest = v ≡ group (plain (codes "signature") ∷ rest)
-
-abbrev signature_looked : Bool → List Value → Option CertFaultKind
-signature_looked headed rest =
-    first_fault (
-    unless headed Shape ∷ fault_at 0 Shape hash_fault rest ∷ fault_at 1 Shape principal_fault rest ∷ fault_at 2 Shape any_value rest
-    ∷ unless_none (drop 3 rest) Shape ∷ []
-    )
-
-pub signature-unheaded : (v : Value) → IsNotHeaded v (codes "signature") → signature_fault v ≡ Some Shape
+pub signature-looks : IsTriple (codes "signature") signature_fault hash_fault principal_fault
 unfolding signature_fault
-signature-unheaded v other = of-no_form (codes "signature") v Shape _ other
-
-signature-form : (v : Value) (rest : List Value) → IsSigned v rest → signature_fault v ≡ signature_looked true rest
-unfolding signature_fault
-signature-form v rest e = of-form signature_looked (codes "signature") v rest e
-
-pub signature-empty : (v : Value) (rest : List Value) → IsSigned v rest → rest ≡ [] → signature_fault v ≡ Some Shape
-signature-empty v rest e f = signature-form v rest e ∙ ap (signature_looked true) f
-
--- behind the digest
-abbrev signer_looked : List Value → List (Option CertFaultKind)
-signer_looked more = fault_at 0 Shape principal_fault more ∷ fault_at 1 Shape any_value more ∷ unless_none (drop 2 more) Shape ∷ []
-
-pub signature-digest : (v digest : Value) (rest more : List Value) (found : Option CertFaultKind) → IsSigned v rest → rest ≡ digest ∷ more → hash_fault digest ≡ found
-    → signature_fault v ≡ first_fault (found ∷ signer_looked more)
-signature-digest v digest rest more found e f g =
-    signature-form v rest e ∙ ap (signature_looked true) f ∙ ap (λ (x : Option CertFaultKind). first_fault (x ∷ signer_looked more)) g
-
-pub signature-no_signer : (v digest : Value) (rest more : List Value) → IsSigned v rest → rest ≡ digest ∷ more → hash_fault digest ≡ None → more ≡ []
-    → signature_fault v ≡ Some Shape
-signature-no_signer v digest rest more e f g h = signature-digest v digest rest more None e f g ∙ ap (λ (vs : List Value). first_fault (signer_looked vs)) h
-
-abbrev value_looked : List Value → List (Option CertFaultKind)
-value_looked others = fault_at 0 Shape any_value others ∷ unless_none (drop 1 others) Shape ∷ []
-
-pub signature-signer : (v digest signer : Value) (rest more others : List Value) (found : Option CertFaultKind) → IsSigned v rest → rest ≡ digest ∷ more
-    → hash_fault digest ≡ None → more ≡ signer ∷ others → principal_fault signer ≡ found → signature_fault v ≡ first_fault (found ∷ value_looked others)
-signature-signer v digest signer rest more others found e f g h i =
-    signature-digest v digest rest more None e f g ∙ ap (λ (vs : List Value). first_fault (signer_looked vs)) h
-    ∙ ap (λ (x : Option CertFaultKind). first_fault (x ∷ value_looked others)) i
-
-pub signature-no_value : (v digest signer : Value) (rest more others : List Value) → IsSigned v rest → rest ≡ digest ∷ more
-    → hash_fault digest ≡ None → more ≡ signer ∷ others → principal_fault signer ≡ None → others ≡ [] → signature_fault v ≡ Some Shape
-signature-no_value v digest signer rest more others e f g h i j =
-    signature-signer v digest signer rest more others None e f g h i ∙ ap (λ (vs : List Value). first_fault (value_looked vs)) j
-
-pub signature-value : (v digest signer value : Value) (rest more others end : List Value) → IsSigned v rest → rest ≡ digest ∷ more
-    → hash_fault digest ≡ None → more ≡ signer ∷ others → principal_fault signer ≡ None → others ≡ value ∷ end
-    → signature_fault v ≡ first_fault (unless_none end Shape ∷ [])
-signature-value v digest signer value rest more others end e f g h i j =
-    signature-signer v digest signer rest more others None e f g h i ∙ ap (λ (vs : List Value). first_fault (value_looked vs)) j
-
-pub signature-surplus : (v digest signer value : Value) (rest more others end : List Value) → IsSigned v rest → rest ≡ digest ∷ more
-    → hash_fault digest ≡ None → more ≡ signer ∷ others → principal_fault signer ≡ None → others ≡ value ∷ end → (end ≡ [] → ⊥) → signature_fault v ≡ Some Shape
-signature-surplus v digest signer value rest more others end e f g h i j some =
-    signature-value v digest signer value rest more others end e f g h i j ∙ end-some end Shape some
-
-pub signature-whole : (v digest signer value : Value) (rest more others end : List Value) → IsSigned v rest → rest ≡ digest ∷ more
-    → hash_fault digest ≡ None → more ≡ signer ∷ others → principal_fault signer ≡ None → others ≡ value ∷ end → end ≡ [] → signature_fault v ≡ None
-signature-whole v digest signer value rest more others end e f g h i j k =
-    signature-value v digest signer value rest more others end e f g h i j ∙ ap (λ (vs : List Value). first_fault (unless_none vs Shape ∷ [])) k
+signature-looks = record { looked = λ v. refl }
 
 -- ---- operations
 
@@ -97,7 +37,7 @@ pub do-unheaded : (v : Value) → IsNotHeaded v (codes "do") → do_fault v ≡ 
 unfolding do_fault
 do-unheaded v other = of-no_form (codes "do") v Shape _ other
 
-do-form : (v : Value) (rest : List Value) → IsDone v rest → do_fault v ≡ do_looked true rest
+pub do-form : (v : Value) (rest : List Value) → IsDone v rest → do_fault v ≡ do_looked true rest
 unfolding do_fault
 do-form v rest e = of-form do_looked (codes "do") v rest e
 

@@ -1,28 +1,24 @@
 -- What is known of fields that were read one after the other.
-use Rattle.std.proofs.Common.{◌≡◌, ℕ, ◌||◌, Bool, true, false, List, [], ◌∷◌, ◌++◌, Some, None, refl, sym, ap, subst, ◌∙◌, arith}
-use Rattle.std.specs.Prelude.{Contains, codes}
+use Rattle.std.proofs.Common.{◌≡◌, ℕ, ◌||◌, Bool, true, false, List, [], ◌∷◌, ◌++◌, Some, None, refl, sym, ap, ◌∙◌, arith}
+use Rattle.std.specs.Prelude.{codes}
 use Rattle.std.specs.Str.{bytes_eq}
 use Rattle.std.specs.List.{list_any}
 use Rattle.std.proofs.lemmas.List.Folds.{list_any-append}
 use Rattle.sexpr_core.specs.Value.{Value, plain, group}
-use Rattle.sexpr_core.specs.PartOf.{IsPartOf}
 use Rattle.spki_tag.specs.Read.{ReadsAs}
 use Rattle.spki_cert.specs.declared.fields.Known.{Known}
 use Rattle.spki_cert.specs.declared.fields.Place.{Place}
-use Rattle.spki_cert.specs.declared.fields.Place.TheVariants as places
 use Rattle.spki_cert.specs.declared.fields.Said.{Said}
 use Rattle.spki_cert.specs.declared.fields.Said.TheVariants as said
 use Rattle.spki_cert.specs.Readings.{DateOf}
-use Rattle.spki_cert.specs.Fields.{is_headed, contents, Sole, Given, ValidOf, AreFields}
-use Rattle.spki_cert.specs.Inner.Gathering.{IssuerAt, WhoAt, Headed, IsSilent, Says, gather, KnownOf, IsFieldOf, is_among, IsNew, AreRead, AreParts}
-use Rattle.spki_cert.proofs.Showing.{contains-middle}
+use Rattle.spki_cert.specs.Fields.{is_headed, contents, Sole, Given, ValidOf}
+use Rattle.spki_cert.specs.Inner.Gathering.{IssuerAt, WhoAt, Headed, IsSilent, Says, gather, KnownOf, IsFieldOf, is_among, IsNew, AreRead}
 use Rattle.spki_cert.proofs.Groups.{head-same, headed-by, behind-group}
-use Rattle.spki_cert.proofs.GivenLaws.{each-push, each-at, contents-headed, contents-other, once-before, once-push, given-kept, given-first}
-use Rattle.spki_cert.proofs.FieldLaws.{field-word, cert-word}
+use Rattle.spki_cert.proofs.GivenLaws.{each-push, contents-headed, contents-other, once-push, given-kept, given-first}
 
 -- ---- whether a head was met
 
-none-headed : (word : List ℕ) (xs : List Value) → list_any (is_headed word) xs ≡ false → contents word xs ≡ []
+pub none-headed : (word : List ℕ) (xs : List Value) → list_any (is_headed word) xs ≡ false → contents word xs ≡ []
 none-headed word [] e = refl
 none-headed word (x ∷ xs) e = by (none-headed word xs) (is_headed word x) refl
   where
@@ -30,7 +26,7 @@ none-headed word (x ∷ xs) e = by (none-headed word xs) (is_headed word x) refl
     by below true h = absurd (let f : (true || list_any (is_headed word) xs) ≡ false = ap (λ (b : Bool). b || list_any (is_headed word) xs) (sym h) ∙ e in cc)
     by below false h = contents-other word x xs h ∙ below (ap (λ (b : Bool). b || list_any (is_headed word) xs) (sym h) ∙ e)
 
-headed-none : (word : List ℕ) (xs : List Value) → contents word xs ≡ [] → list_any (is_headed word) xs ≡ false
+pub headed-none : (word : List ℕ) (xs : List Value) → contents word xs ≡ [] → list_any (is_headed word) xs ≡ false
 headed-none word [] e = refl
 headed-none word (x ∷ xs) e = by (headed-none word xs) (is_headed word x) refl
   where
@@ -45,7 +41,7 @@ new-first place xs heads k v head read new word e =
     let same : head ≡ word = head-same v head word new.rest new.written e in
     none-headed word xs (sym (read.heads_are word) ∙ ap (is_among heads) (sym same) ∙ new.fresh)
 
-or-false : (b : Bool) → (b || false) ≡ b
+pub or-false : (b : Bool) → (b || false) ≡ b
 or-false true = refl
 or-false false = refl
 
@@ -164,22 +160,3 @@ read-more place xs heads k v head s read new field says =
       heads_are = heads-push xs heads v head new.rest new.written read.heads_are;
       known = gather-more xs v k s read.known says fresh;
     }
-
-has-head : (place : Place) (v : Value) → IsFieldOf place v → (word : List ℕ) × (rest : List Value) × (v ≡ group (plain word ∷ rest))
-has-head places.Entry v f = field-word v f
-has-head places.Certificate v f = cert-word v f
-
--- where fields go on, the next one is a field, and a new one
-pub next-field : (place : Place) (xs : List Value) (v : Value) (ys : List Value) → AreFields (IsFieldOf place) (xs ++ v ∷ ys) → IsFieldOf place v
-next-field place xs v ys all = each-at (IsFieldOf place) xs v ys all.each
-
-pub next-new : (place : Place) (xs : List Value) (heads : List (List ℕ)) (k : Known) (v : Value) (ys : List Value) → AreRead place xs heads k
-    → ((head : List ℕ) → IsNew v heads head → ⊥) → AreFields (IsFieldOf place) (xs ++ v ∷ ys) → ⊥
-next-new place xs heads k v ys read none all =
-    let h = has-head place v (next-field place xs v ys all) in
-    let before = once-before h.0 xs v ys all.once (headed-by v h.0 h.1 h.2) in
-    none h.0 (record { rest = h.1; written = h.2; fresh = read.heads_are h.0 ∙ headed-none h.0 xs before })
-
--- a member is part of what all members are parts of
-pub first-part : (all xs : List Value) (v : Value) (ys : List Value) (w : Value) → all ≡ xs ++ v ∷ ys → AreParts all w → IsPartOf v w
-first-part all xs v ys w e parts = parts v (subst (λ (vs : List Value). Contains vs v) (sym e) (contains-middle xs v ys))

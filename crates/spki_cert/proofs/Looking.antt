@@ -1,13 +1,12 @@
 -- What is looked at in a value whose form is known.
-use Rattle.std.proofs.Common.{◌≡◌, ℕ, List, [], ◌∷◌, ◌++◌, Bool, true, false, Option, Some, None, refl, sym, ap, ◌∙◌}
+use Rattle.std.proofs.Common.{◌≡◌, ℕ, List, [], ◌∷◌, ◌++◌, Bool, true, false, Option, Some, None, refl, ap, ◌∙◌}
 use Rattle.sexpr_core.specs.Value.{Value, plain, group, members, values}
 use Rattle.sexpr_core.specs.Value as sexpr
-use Rattle.sexpr_core.specs.Labels.{members-values, values-members}
-use Rattle.sexpr_core.specs.Shapes.{IsNoString, IsNoList, IsNotHeaded}
+use Rattle.sexpr_core.specs.Shapes.{IsNoString, IsNotHeaded}
 use Rattle.spki_tag.specs.FirstFault.{first_fault, unless}
 use Rattle.spki_cert.specs.Fields.{is_headed, behind_head}
-use Rattle.spki_cert.specs.Places.{fault_at, unless_none, sole_fault}
-use Rattle.spki_cert.specs.FixedFaults.{is_plain, any_octets}
+use Rattle.spki_cert.specs.Places.{unless_none, sole_fault}
+use Rattle.spki_cert.specs.FixedFaults.{is_plain}
 use Rattle.spki_cert.proofs.Groups.{headed-by, behind-group, not-headed}
 
 -- what is said of a list's head and of what stands behind it
@@ -27,6 +26,10 @@ no-plain passes (sexpr.list vs) other = refl
 
 -- ---- lists of what is looked at
 
+pub one-look : {A : Type 0} (found : Option A) → first_fault (found ∷ []) ≡ found
+one-look None = refl
+one-look (Some fault) = refl
+
 -- a fault that is found stays the first, whatever is looked at behind it
 pub found-first : {A : Type 0} (looks more : List (Option A)) (fault : A) → first_fault looks ≡ Some fault → first_fault (looks ++ more) ≡ Some fault
 found-first [] more fault e = absurd (cc)
@@ -38,6 +41,15 @@ pub found-none : {A : Type 0} (looks more : List (Option A)) → first_fault loo
 found-none [] more e = refl
 found-none (None ∷ looks) more e = found-none looks more e
 found-none (Some other ∷ looks) more e = absurd (cc)
+
+-- where nothing is found in all, nothing is found in the first, and nothing behind it
+pub none-found : {A : Type 0} (look : Option A) (looks : List (Option A)) → first_fault (look ∷ looks) ≡ None → (look ≡ None) × (first_fault looks ≡ None)
+none-found None looks e = (refl, e)
+none-found (Some fault) looks e = absurd (cc)
+
+pub unless-none : {A : Type 0} (b : Bool) (fault : A) → unless b fault ≡ None → b ≡ true
+unless-none true fault e = refl
+unless-none false fault e = absurd (cc)
 
 -- ---- one value and nothing behind it
 
@@ -59,3 +71,9 @@ sole-more other fault_of vs more v e f some = sole-found other fault_of vs more 
 pub sole-one : {A : Type 0} (other : A) (fault_of : Value → Option A) (vs more : List Value) (v : Value) → vs ≡ v ∷ more → fault_of v ≡ None → more ≡ []
     → sole_fault other fault_of vs ≡ None
 sole-one other fault_of vs more v e f g = sole-found other fault_of vs more v None e f ∙ ap (λ (ws : List Value). first_fault (unless_none ws other ∷ [])) g
+
+pub sole-read : {A : Type 0} (other : A) (fault_of : Value → Option A) (vs : List Value) → sole_fault other fault_of vs ≡ None
+    → (v : Value) × (vs ≡ v ∷ []) × (fault_of v ≡ None)
+sole-read other fault_of [] e = absurd (cc)
+sole-read other fault_of (v ∷ []) e = (v, refl, (none-found (fault_of v) (None ∷ []) e).0)
+sole-read other fault_of (v ∷ w ∷ vs) e = absurd (let f = (none-found (fault_of v) (Some other ∷ []) e).1 in cc)

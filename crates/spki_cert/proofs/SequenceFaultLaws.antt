@@ -1,6 +1,6 @@
 -- The fault that is named of a certificate or of a sequence, along the way of its reading.
-use Rattle.std.proofs.Common.{◌≡◌, ◌≢◌, ℕ, ◌+◌, List, [], ◌∷◌, ◌++◌, length, Bool, true, false, Option, Some, None, refl, sym, ap, subst, ◌∙◌, inl, inr, arith, length-append}
-use Rattle.std.specs.Prelude.{codes, not, is_some, if◌then◌else◌, ◌&&◌, ◌||◌}
+use Rattle.std.proofs.Common.{◌≡◌, ℕ, ◌+◌, List, [], ◌∷◌, ◌++◌, length, Bool, false, Option, Some, None, refl, sym, ap, ◌∙◌, length-append}
+use Rattle.std.specs.Prelude.{codes, not, is_some, if◌then◌else◌, ◌||◌}
 use Rattle.std.specs.List.{list_any}
 use Rattle.sexpr_core.specs.Value.{Value, plain, group}
 use Rattle.sexpr_core.specs.Shapes.{IsNotHeaded}
@@ -8,12 +8,11 @@ use Rattle.spki_tag.specs.FirstFault.{first_fault, unless}
 use Rattle.spki_tag.specs.Read.{ReadsAs}
 use Rattle.spki_cert.specs.declared.fault.CertFault.{CertFault}
 use Rattle.spki_cert.specs.declared.fault.CertFaultKind.{CertFaultKind}
-use Rattle.spki_cert.specs.declared.fault.CertFaultKind.TheVariants.{Shape, UnsignedCert, StraySignature}
+use Rattle.spki_cert.specs.declared.fault.CertFaultKind.TheVariants.{Shape}
 use Rattle.spki_cert.specs.declared.principal.Principal.{Principal}
-use Rattle.spki_cert.specs.declared.principal.Principal.TheVariants.{Key, Hash}
 use Rattle.spki_cert.specs.declared.certificate_reader.CertParts.{CertParts}
-use Rattle.spki_cert.specs.Subjects.{PrincipalOf, IssuerOf}
-use Rattle.spki_cert.specs.Fields.{is_headed, behind_head, contents, Sole, propagates}
+use Rattle.spki_cert.specs.Subjects.{IssuerOf}
+use Rattle.spki_cert.specs.Fields.{is_headed, behind_head, Sole}
 use Rattle.spki_cert.specs.Certificates.{IssuedBy}
 use Rattle.spki_cert.specs.FixedFaults.{key_fault}
 use Rattle.spki_cert.specs.FieldFaults.{has, fields_fault, cert_field_fault, is_both_ways}
@@ -21,11 +20,11 @@ use Rattle.spki_cert.specs.EntryFaults.{at_item}
 use Rattle.spki_cert.specs.ItemFaults.{signature_fault, do_fault, begins_with_name, has_name_issuer, is_tagged_right, cert_fault, item_fault}
 use Rattle.spki_cert.specs.SequenceFaults.{unsigned_fault, place_fault, waiting, items_looked, items_fault, sequence_fault}
 use Rattle.spki_cert.specs.Inner.Gathering.{PartsOf, parts_looked, parts_fault}
-use Rattle.spki_cert.proofs.Groups.{headed-by, not-headed, behind-group}
-use Rattle.spki_cert.proofs.Looking.{of-form, of-no_form, found-first, found-none}
-use Rattle.spki_cert.proofs.SubjectFaultLaws.{headed-else}
+use Rattle.spki_cert.proofs.Groups.{headed-by, not-headed}
+use Rattle.spki_cert.proofs.Looking.{of-form, of-no_form, found-first, found-none, one-look}
+use Rattle.spki_cert.proofs.SubjectFaultLaws.{headed-else, principal-else}
+use Rattle.spki_cert.proofs.KnownLaws.{or-false}
 use Rattle.spki_cert.proofs.FieldFaultLaws.{has-given}
-use Rattle.spki_cert.proofs.EntryFaultLaws.{fault-parts}
 
 -- ---- the fields of certificates
 
@@ -43,7 +42,7 @@ parts-tested fields both issuer subject e f g h = λ i. parts_found (e i) (f i) 
 
 -- ---- certificates
 
-abbrev IsCert : Value → List Value → Type 0
+abbrev pub IsCert : Value → List Value → Type 0
 IsCert v rest = v ≡ group (plain (codes "cert") ∷ rest)
 
 abbrev cert_looked : Bool → List Value → Option CertFaultKind
@@ -53,7 +52,7 @@ pub cert-unheaded : (v : Value) → IsNotHeaded v (codes "cert") → cert_fault 
 unfolding cert_fault
 cert-unheaded v other = of-no_form (codes "cert") v Shape _ other
 
-cert-form : (v : Value) (rest : List Value) → IsCert v rest → cert_fault v ≡ first_fault (parts_looked rest ++ unless (is_tagged_right rest) Shape ∷ [])
+pub cert-form : (v : Value) (rest : List Value) → IsCert v rest → cert_fault v ≡ first_fault (parts_looked rest ++ unless (is_tagged_right rest) Shape ∷ [])
 unfolding cert_fault
 cert-form v rest e = of-form cert_looked (codes "cert") v rest e
 
@@ -68,18 +67,9 @@ cert-tagged v rest b e f g =
     cert-form v rest e ∙ found-none (parts_looked rest) (unless (is_tagged_right rest) Shape ∷ []) f
     ∙ ap (λ (x : Bool). first_fault (unless x Shape ∷ [])) g
 
--- a principal is no name
-not-name : (v : Value) (p : Principal) → PrincipalOf v p → is_headed (codes "name") v ≡ false
-not-name v (Key octets) read = ap (is_headed (codes "name")) read.written
-not-name v (Hash alg digest) read = ap (is_headed (codes "name")) read.written
-
 issuer-named : (v : Value) (p : Principal) (name : Option (List ℕ)) → IssuerOf v p name → is_headed (codes "name") v ≡ is_some name
-issuer-named v p None read = not-name v p read
+issuer-named v p None read = principal-else (codes "name") v p read refl refl
 issuer-named v p (Some name) read = ap (is_headed (codes "name")) read.written
-
-or-false : (b : Bool) → (b || false) ≡ b
-or-false true = refl
-or-false false = refl
 
 name-issuer : (fields : List Value) (p : Principal) (name : Option (List ℕ)) → IssuedBy fields p name → has_name_issuer fields ≡ is_some name
 name-issuer fields p name given =
@@ -88,7 +78,7 @@ name-issuer fields p name given =
     ∙ or-false (is_headed (codes "name") given.2.0)
     ∙ issuer-named given.2.0 p name given.2.2
 
-abbrev right : Bool → Bool → Bool → Bool
+abbrev pub right : Bool → Bool → Bool → Bool
 right named tagged propagate = if named then not (tagged || propagate) else tagged
 
 pub tagged-right : (fields : List Value) (p : CertParts) (named tagged propagate : Bool) → PartsOf fields p → is_some p.issuer.name ≡ named → is_some p.tag ≡ tagged
@@ -169,11 +159,7 @@ pub sequence-unheaded : (v : Value) → IsNotHeaded v (codes "sequence") → seq
 unfolding sequence_fault
 sequence-unheaded v other = ap (λ (b : Bool). first_fault (at_item 0 (unless b Shape) ∷ items_fault (behind_head v) ∷ [])) (not-headed (codes "sequence") v other)
 
-one-fault : (found : Option CertFault) → first_fault (found ∷ []) ≡ found
-one-fault None = refl
-one-fault (Some fault) = refl
-
 pub sequence-items : (v : Value) (rest : List Value) (found : Option CertFault) → v ≡ group (plain (codes "sequence") ∷ rest) → items_fault rest ≡ found → sequence_fault v ≡ found
 unfolding sequence_fault
 sequence-items v rest found e f =
-    of-form (λ b vs. first_fault (at_item 0 (unless b Shape) ∷ items_fault vs ∷ [])) (codes "sequence") v rest e ∙ one-fault (items_fault rest) ∙ f
+    of-form (λ b vs. first_fault (at_item 0 (unless b Shape) ∷ items_fault vs ∷ [])) (codes "sequence") v rest e ∙ one-look (items_fault rest) ∙ f

@@ -10,7 +10,6 @@ use Rattle.spki_cert.specs.declared.fault.CertFaultKind.{CertFaultKind}
 use Rattle.spki_cert.specs.declared.fault.CertFaultKind.TheVariants as kinds
 use Rattle.spki_tag.specs.Faults.{SomeIs}
 use Rattle.spki_cert.specs.Faults.{Shows}
-use Rattle.spki_cert.specs.Inner.Gathering.{AreParts}
 
 pub shown-here : (P : Value → Type 0) (v : Value) → P v → SomeIs P (nodes v)
 shown-here P v p = (v, part_itself v, p)
@@ -57,7 +56,3 @@ shows-in_tail kind head all xs v ys e shown =
 pub carried : {T E : Type 0} (r : Result T E) (e : E) (P : E → Type 0) → IsErrAnd r (λ x. x ≡ e) → P e → IfErr r P
 carried (Ok t) e P h p = tt
 carried (Err x) e P h p = subst P (sym h) p
-
--- members behind others are parts of the list
-pub parts-behind : (v : Value) (front rest : List Value) → v ≡ group (front ++ rest) → AreParts rest v
-parts-behind v front rest e u among = subst (IsPartOf u) (sym e) (member_is_part (front ++ rest) u (Contains-append_right front rest u among))

@@ -1,20 +1,23 @@
 -- The fault that is named of a principal, a subject or an issuer, along the way of its reading.
-use Rattle.std.proofs.Common.{◌≡◌, ◌≢◌, ℕ, List, [], ◌∷◌, ◌++◌, drop, Bool, true, false, ◌&&◌, Option, Some, None, refl, sym, ap, ◌∙◌}
+use Rattle.std.proofs.Common.{◌≡◌, ℕ, List, [], ◌∷◌, drop, Bool, true, false, Option, Some, None, refl, ap, ◌∙◌}
 use Rattle.std.specs.Prelude.{codes, not, if◌then◌else◌}
+use Rattle.std.specs.Str.{bytes_eq}
 use Rattle.std.specs.List.{list_all}
 use Rattle.sexpr_core.specs.Value.{Value, plain, group}
 use Rattle.sexpr_core.specs.Value as sexpr
 use Rattle.sexpr_core.specs.Shapes.{IsNoString, IsNotHeaded}
 use Rattle.spki_tag.specs.FirstFault.{first_fault, unless}
 use Rattle.spki_cert.specs.declared.fault.CertFaultKind.{CertFaultKind}
-use Rattle.spki_cert.specs.declared.fault.CertFaultKind.TheVariants.{Shape, Threshold, Keyholder, RelativeInEntry}
-use Rattle.spki_cert.specs.Subjects.{plains}
+use Rattle.spki_cert.specs.declared.fault.CertFaultKind.TheVariants.{Shape, Threshold, Keyholder}
+use Rattle.spki_cert.specs.declared.principal.Principal.{Principal}
+use Rattle.spki_cert.specs.declared.principal.Principal.TheVariants.{Key, Hash}
+use Rattle.spki_cert.specs.Subjects.{PrincipalOf, plains}
 use Rattle.spki_cert.specs.Fields.{is_headed, behind_head}
 use Rattle.spki_cert.specs.Places.{fault_at, unless_none}
-use Rattle.spki_cert.specs.FixedFaults.{is_plain, any_octets, key_fault, hash_fault}
-use Rattle.spki_cert.specs.SubjectFaults.{principal_fault, is_name, owner_fault, names_in, are_names, names_fault, subject_fault, is_relative, begins_named, entry_subject_fault, issuer_name_fault, issuer_fault}
-use Rattle.spki_cert.proofs.Groups.{headed-by, not-headed, other-head, behind-group}
-use Rattle.spki_cert.proofs.Looking.{of-form, no-plain}
+use Rattle.spki_cert.specs.FixedFaults.{any_octets, key_fault, hash_fault}
+use Rattle.spki_cert.specs.SubjectFaults.{principal_fault, is_name, owner_fault, names_in, are_names, names_fault, subject_fault, issuer_name_fault, issuer_fault}
+use Rattle.spki_cert.proofs.Groups.{headed-by, not-headed, behind-group}
+use Rattle.spki_cert.proofs.Looking.{of-form, no-plain, one-look}
 
 -- a value with one head hasn't another one
 pub headed-else : (word other : List ℕ) (v : Value) (rest : List Value) → v ≡ group (plain word ∷ rest) → is_headed other (group (plain word ∷ rest)) ≡ false
@@ -30,6 +33,12 @@ principal-hash v rest found e f = ap (λ (b : Bool). if b then hash_fault v else
 pub principal-key : (v : Value) (found : Option CertFaultKind) → IsNotHeaded v (codes "hash") → key_fault v ≡ found → principal_fault v ≡ found
 unfolding principal_fault
 principal-key v found other f = ap (λ (b : Bool). if b then hash_fault v else key_fault v) (not-headed (codes "hash") v other) ∙ f
+
+-- a principal has the head of a key or of a hash
+pub principal-else : (word : List ℕ) (v : Value) (p : Principal) → PrincipalOf v p → bytes_eq (codes "public-key") word ≡ false → bytes_eq (codes "hash") word ≡ false
+    → is_headed word v ≡ false
+principal-else word v (Key octets) read e f = ap (is_headed word) read.written ∙ e
+principal-else word v (Hash alg digest) read e f = ap (is_headed word) read.written ∙ f
 
 -- ---- names
 
@@ -114,10 +123,6 @@ pub subject-keyholder : (v : Value) (rest : List Value) → IsNotHeaded v (codes
 unfolding subject_fault
 subject-keyholder v rest other e =
     λ i. subject_looked (not-headed (codes "k-of-n") v other i) (headed-by v (codes "keyholder") rest e i) (if is_headed (codes "name") v then names_fault (behind_head v) else principal_fault v)
-
-one-look : (found : Option CertFaultKind) → first_fault (found ∷ []) ≡ found
-one-look None = refl
-one-look (Some kind) = refl
 
 pub subject-principal : (v : Value) (found : Option CertFaultKind) → IsNotHeaded v (codes "k-of-n") → IsNotHeaded v (codes "keyholder") → IsNotHeaded v (codes "name")
     → principal_fault v ≡ found → subject_fault v ≡ found

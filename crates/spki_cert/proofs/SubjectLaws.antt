@@ -6,7 +6,7 @@ use Rattle.sexpr_core.specs.Shapes.{IsNotHeaded}
 use Rattle.spki_cert.specs.declared.principal.Principal.{Principal}
 use Rattle.spki_cert.specs.declared.principal.Principal.TheVariants.{Key, Hash}
 use Rattle.spki_cert.specs.Readings.{IsNoKey, IsNoHash, alg_name}
-use Rattle.spki_cert.specs.Subjects.{PrincipalOf, WhoOf, IssuerOf, plains}
+use Rattle.spki_cert.specs.Subjects.{PrincipalOf, WhoOf, plains}
 use Rattle.spki_cert.specs.Inner.Gathering.{NamesWho}
 use Rattle.spki_cert.proofs.Groups.{same_others, apart}
 
@@ -34,11 +34,6 @@ string-is_no_principal octets (Hash alg digest) read = let f = read.written in a
 
 -- ---- subjects
 
-pub not_name-is_nobody : (v : Value) → IsNotHeaded v (codes "name") → IsNoPrincipal v → (p : Option Principal) (names : List (List ℕ)) → WhoOf v p names → ⊥
-not_name-is_nobody v other none None names read = other (plains names) read.written
-not_name-is_nobody v other none (Some principal) names (inl read) = none principal read.0
-not_name-is_nobody v other none (Some principal) names (inr read) = other (read.owner ∷ plains names) read.written
-
 pub name-names_who : (v : Value) (rest : List Value) → v ≡ group (plain (codes "name") ∷ rest) → (p : Option Principal) (names : List (List ℕ)) → WhoOf v p names → NamesWho rest p names
 name-names_who v rest e None names read = (read.first, read.others, read.names_are, same_others v (codes "name") rest (plains names) e read.written)
 name-names_who v rest e (Some principal) names (inl read) = absurd (name-is_no_principal v rest e principal read.0)
@@ -50,18 +45,6 @@ name-who v rest e None names read =
     record { first = read.0; others = read.1; names_are = read.2; written = e ∙ ap (λ (vs : List Value). group (plain (codes "name") ∷ vs)) read.3 }
 name-who v rest e (Some principal) names read =
     inr (record { owner = read.0; owner_is = read.3; first = read.1; others = read.2; names_are = read.4; written = e ∙ ap (λ (vs : List Value). group (plain (codes "name") ∷ vs)) read.5 })
-
--- ---- issuers
-
-pub not_name-is_no_issuer : (v : Value) → IsNotHeaded v (codes "name") → IsNoPrincipal v → (p : Principal) (name : Option (List ℕ)) → IssuerOf v p name → ⊥
-not_name-is_no_issuer v other none p None read = none p read
-not_name-is_no_issuer v other none p (Some name) read = other (read.owner ∷ plains (name ∷ [])) read.written
-
--- an issuer that is a name: what stands behind the head
-pub name-issuer : (v : Value) (rest : List Value) → v ≡ group (plain (codes "name") ∷ rest) → (p : Principal) (name : Option (List ℕ)) → IssuerOf v p name
-    → (owner : Value) × (word : List ℕ) × PrincipalOf owner p × (rest ≡ owner ∷ plain word ∷ [])
-name-issuer v rest e p None read = absurd (name-is_no_principal v rest e p read)
-name-issuer v rest e p (Some name) read = (read.owner, name, read.owner_is, same_others v (codes "name") rest (read.owner ∷ plain name ∷ []) e read.written)
 
 -- ---- what was read behind a principal
 
@@ -76,10 +59,3 @@ principal-names vs owner rest p all (first ∷ others) e read some f g =
 pub plains-push : (seen : List (List ℕ)) (octets : List ℕ) → plains (seen ++ octets ∷ []) ≡ plains seen ++ plain octets ∷ []
 plains-push [] octets = refl
 plains-push (name ∷ seen) octets = ap (λ (vs : List Value). plain name ∷ vs) (plains-push seen octets)
-
--- each of them is a string without display hint
-pub plains-at : (seen : List (List ℕ)) (v : Value) (others : List Value) (all : List (List ℕ)) → plains seen ++ v ∷ others ≡ plains all → (octets : List ℕ) × (v ≡ plain octets)
-plains-at [] v others [] e = absurd (cc)
-plains-at [] v others (name ∷ all) e = (name, cc)
-plains-at (x ∷ seen) v others [] e = absurd (cc)
-plains-at (x ∷ seen) v others (name ∷ all) e = plains-at seen v others all (cc)

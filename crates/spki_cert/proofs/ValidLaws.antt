@@ -4,16 +4,13 @@ use Rattle.std.specs.Prelude.{codes, not}
 use Rattle.std.specs.Str.{bytes_eq}
 use Rattle.std.proofs.lemmas.Slice.Eq.{bytes_eq-Decides}
 use Rattle.sexpr_core.specs.Value.{Value, string, plain, group}
-use Rattle.sexpr_core.specs.Shapes.{IsNotHeaded}
 use Rattle.spki_cert.specs.declared.window.Window.{Window}
-use Rattle.spki_cert.specs.declared.fault.CertFaultKind.TheVariants as kinds
-use Rattle.spki_cert.specs.Readings.{DateOf, IsNoDate}
-use Rattle.spki_cert.specs.Fields.{is_headed, contents, Sole, IsLimitWord, IsLimitField, ValidOf}
-use Rattle.spki_cert.specs.Faults.{Shows, IsUnknownVersion, HasBadDate}
-use Rattle.spki_cert.specs.Inner.Gathering.{Headed, AddsLimit, first, last, HasLimit}
+use Rattle.spki_cert.specs.Readings.{DateOf}
+use Rattle.spki_cert.specs.Fields.{is_headed, contents, Sole, IsLimitField, ValidOf}
+use Rattle.spki_cert.specs.Faults.{IsUnknownVersion}
+use Rattle.spki_cert.specs.Inner.Gathering.{Headed, AddsLimit, first, last}
 use Rattle.spki_cert.proofs.Groups.{same_others, apart, head-same, headed-by, behind-group}
-use Rattle.spki_cert.proofs.Showing.{shown-here}
-use Rattle.spki_cert.proofs.GivenLaws.{each-push, each-at, once-before, once-push, given-kept, given-first, given-some, given-none}
+use Rattle.spki_cert.proofs.GivenLaws.{each-push, once-push, given-kept, given-first, given-none}
 
 -- ---- versions
 
@@ -28,9 +25,6 @@ is-unknown_version members number rest hint octets e f other = record {
   written = ap (λ (vs : List Value). group (plain (codes "version") ∷ vs)) (e ∙ ap (λ (v : Value). v ∷ rest) (sym f));
 }
 
-pub unknown-version : (members : List Value) → IsUnknownVersion (group (plain (codes "version") ∷ members)) → Shows kinds.UnknownVersion (group (plain (codes "version") ∷ members))
-unknown-version members unknown = shown-here IsUnknownVersion (group (plain (codes "version") ∷ members)) unknown
-
 pub other-octets : (body zero word : List ℕ) → true ≡ not (bytes_eq body zero) → zero ≡ word → string None body ≢ plain word
 other-octets body zero word e f g =
     let same : body ≡ word = cc in
@@ -38,18 +32,6 @@ other-octets body zero word e f g =
     absurd (let h : true ≡ false = e ∙ ap not test in cc)
 
 -- ---- one limit
-
-pub bad-date : (members : List Value) (value : Value) (rest : List Value) → members ≡ value ∷ rest → IsNoDate value → (word : List ℕ) → IsLimitWord word
-    → Shows kinds.BadDate (group (plain word ∷ members))
-bad-date members value rest e none word is =
-    shown-here HasBadDate (group (plain word ∷ members)) (record {
-      word = word;
-      word_is = is;
-      limit = value;
-      rest = rest;
-      none = none;
-      written = ap (λ (vs : List Value). group (plain word ∷ vs)) e;
-    })
 
 -- what is read behind the head of a limit
 pub first-limit : (v : Value) (rest : List Value) → v ≡ group (plain (codes "not-before") ∷ rest) → IsLimitField v → (date : List ℕ) × Sole DateOf rest date
@@ -63,10 +45,6 @@ last-limit v rest e (word, behind, date, inr is, written, read) =
     (date, subst (λ (vs : List Value). Sole DateOf vs date) (same_others v (codes "not-after") behind rest (written ∙ ap (λ (w : List ℕ). group (plain w ∷ behind)) is) e) read)
 last-limit v rest e (word, behind, date, inl is, written, read) =
     absurd (apart (codes "not-after") v _ _ e (written ∙ ap (λ (w : List ℕ). group (plain w ∷ behind)) is) refl refl)
-
-pub no-limit : (v : Value) → IsNotHeaded v (codes "not-before") → IsNotHeaded v (codes "not-after") → IsLimitField v → ⊥
-no-limit v no-first no-last (word, behind, date, inl is, written, read) = no-first behind (written ∙ ap (λ (w : List ℕ). group (plain w ∷ behind)) is)
-no-limit v no-first no-last (word, behind, date, inr is, written, read) = no-last behind (written ∙ ap (λ (w : List ℕ). group (plain w ∷ behind)) is)
 
 -- ---- several limits
 
@@ -106,11 +84,3 @@ valid-last xs v w date read says none =
 pub valid-more : (xs : List Value) (v : Value) (w after : Window) → ValidOf xs w → AddsLimit v w after → ValidOf (xs ++ v ∷ []) after
 valid-more xs v w after read (first date says none is) = subst (ValidOf (xs ++ v ∷ [])) (sym is) (valid-first xs v w date read says none)
 valid-more xs v w after read (last date says none is) = subst (ValidOf (xs ++ v ∷ [])) (sym is) (valid-last xs v w date read says none)
-
-pub valid-stops : (xs : List Value) (v : Value) (ys : List Value) (w : Window) → ValidOf xs w → (IsLimitField v → HasLimit v w)
-    → (window : Window) → ValidOf (xs ++ v ∷ ys) window → ⊥
-valid-stops xs v ys w read stops window whole = by (stops (each-at IsLimitField xs v ys whole.each))
-  where
-    by : HasLimit v w → ⊥
-    by (inl h) = given-some (codes "not-before") (Sole DateOf) xs w.not_before read.limits_are.0 h.1 (once-before (codes "not-before") xs v ys whole.once h.0)
-    by (inr h) = given-some (codes "not-after") (Sole DateOf) xs w.not_after read.limits_are.1 h.1 (once-before (codes "not-after") xs v ys whole.once h.0)

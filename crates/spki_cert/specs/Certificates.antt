@@ -1,5 +1,5 @@
--- Which certificates and signatures a value is (RFC 2693, sections 3.3 and 6.2; the forms are those of the SPKI
--- working group's structure draft).
+-- The certificates and signatures of values (RFC 2693, sections 3.3 and 6.2; the forms are those of the SPKI working group's
+-- structure draft).
 use Rattle.std.specs.Prelude.{◌≡◌, ℕ, List, [], ◌∷◌, Option, Some, None, codes, false}
 use Rattle.sexpr_core.specs.Value.{Value, plain, group, canon}
 use Rattle.spki_cert.specs.declared.hash.HashAlg.{HashAlg}
@@ -12,15 +12,15 @@ use Rattle.spki_cert.specs.Readings.{HashOf, alg_name}
 use Rattle.spki_cert.specs.Subjects.{PrincipalOf, IssuedTo}
 use Rattle.spki_cert.specs.Fields.{Sole, Given, IsAbsent, IsCertField, AreFields, propagates, TagOf, WindowOf, IssuerIn}
 
--- the issuer that fields give, with the one name of a name certificate
+-- the issuer in the fields, with the one name of a name certificate
 abbrev pub IssuedBy : List Value → Principal → Option (List ℕ) → Type 0
 IssuedBy fields principal name = Given (codes "issuer") IssuerIn fields (Some (principal, name))
 
--- the subject that fields give, where this is the issuer's principal
+-- the subject in the fields, if this is the issuer's principal
 abbrev pub IssuedFor : List Value → Principal → Subject → Type 0
 IssuedFor fields issuer s = Given (codes "subject") (Sole (IssuedTo issuer)) fields (Some s)
 
--- (cert field ..), whose issuer is a principal, with its canonical octets
+-- (cert field ..) with a principal as the issuer; the certificate has its canonical octets
 pub record AuthCertOf (v : Value) (c : AuthCert) : Type 0 where
   pub fields : List Value
   pub written : v ≡ group (plain (codes "cert") ∷ fields)
@@ -32,7 +32,7 @@ pub record AuthCertOf (v : Value) (c : AuthCert) : Type 0 where
   pub window_is : WindowOf fields c.window
   pub octets_are : c.octets ≡ canon v
 
--- (cert field ..), whose issuer is (name principal n): neither propagate nor a tag is among the fields
+-- (cert field ..) with (name principal n) as the issuer; neither propagate nor a tag is among the fields
 pub record NameCertOf (v : Value) (c : NameCert) : Type 0 where
   pub fields : List Value
   pub written : v ≡ group (plain (codes "cert") ∷ fields)
@@ -44,7 +44,7 @@ pub record NameCertOf (v : Value) (c : NameCert) : Type 0 where
   pub window_is : WindowOf fields c.window
   pub octets_are : c.octets ≡ canon v
 
--- (signature hash principal value), whatever the value is
+-- (signature hash principal value); the value is any value
 pub record SignatureOf (v : Value) (s : Signature) : Type 0 where
   pub digest : Value
   pub signer : Value

@@ -1,5 +1,5 @@
--- Which entries and access lists a value is (RFC 2693, section 3.4; the forms are those of the SPKI working group's
--- structure draft).
+-- The entries and access lists of values (RFC 2693, section 3.4; the forms are those of the SPKI working group's structure
+-- draft).
 use Rattle.std.specs.Prelude.{◌≡◌, ◌≢◌, ℕ, ◌⊎◌, true, List, [], ◌∷◌, ◌++◌, codes, if◌then◌else◌}
 use Rattle.std.specs.List.{AllZip}
 use Rattle.sexpr_core.specs.Value.{Value, plain, group}
@@ -40,33 +40,34 @@ pub record AclOf (v : Value) (es : List Entry) : Type 0 where
 
 -- ---- refusals
 
--- a version other than 0 stands first
+-- the first value is a version other than 0
 abbrev pub BeginsUnknown : List Value → Type 0
 BeginsUnknown [] = ⊥
 BeginsUnknown (v ∷ vs) = IsUnknownVersion v
 
--- something headed version that is no version stands first
+-- the first value is headed version and is not (version 0)
 abbrev pub BeginsMisfit : List Value → Type 0
 BeginsMisfit [] = ⊥
 BeginsMisfit (v ∷ vs) = (is_headed (codes "version") v ≡ true) × (v ≢ version_field)
 
--- What is wrong with the outer list: it isn't headed acl, or a version other than (version 0) stands first.
+-- The fault of the outer list: it is not headed acl, or the first value behind its head is headed version and is not
+-- (version 0).
 abbrev pub OuterRefused : Value → CertFaultKind → Type 0
 OuterRefused v kind =
     ((kind ≡ Shape) × IsNotHeaded v (codes "acl"))
     ⊎ ((vs : List Value) × (v ≡ group (plain (codes "acl") ∷ vs)) × BeginsMisfit vs × ((kind ≡ Shape) ⊎ ((kind ≡ UnknownVersion) × BeginsUnknown vs)))
 
--- the entries, behind a version if one stands first
+-- the entries; a version in front of them is skipped
 abbrev pub behind_version : List Value → List Value
 behind_version [] = []
 behind_version (v ∷ vs) = if is_headed (codes "version") v then vs else v ∷ vs
 
--- the first isn't headed version, or it is (version 0)
+-- the first value, if there is one, is not headed version, or it is (version 0)
 abbrev pub BeginsWell : List Value → Type 0
 BeginsWell [] = Unit {0}
 BeginsWell (v ∷ vs) = is_headed (codes "version") v ≡ true → v ≡ version_field
 
--- This item is no entry, where those before it are; the fault shows on it.
+-- This item is no entry, and those before it are; the fault is true of it.
 pub record EntryRefused (v : Value) (item : ℕ) (kind : CertFaultKind) : Type 0 where
   pub all : List Value
   pub written : v ≡ group (plain (codes "acl") ∷ all)
@@ -75,6 +76,6 @@ pub record EntryRefused (v : Value) (item : ℕ) (kind : CertFaultKind) : Type 0
   pub place : IsRefusedAt EntryOf (behind_version all) item refused
   pub shown : Shows kind refused
 
--- What an access list is refused for: at item 0 the outer list, else the entry with this number.
+-- Why an access list is refused: at item 0 for the outer list, otherwise for the entry with this number.
 abbrev pub AclRefused : Value → CertFault → Type 0
 AclRefused v fault = ((fault.item ≡ 0) × OuterRefused v fault.kind) ⊎ EntryRefused v fault.item fault.kind

@@ -1,5 +1,5 @@
--- Which fault of an entry or of an access list is named: the first from the left, missing fields and clashes last (RFC
--- 2693, section 3.4; the forms are those of the SPKI working group's structure draft).
+-- The fault for which an entry or an access list is refused: the first from the left, with missing fields and clashes last
+-- (RFC 2693, section 3.4; the forms are those of the SPKI working group's structure draft).
 use Rattle.std.specs.Prelude.{ℕ, ◌+◌, not, List, [], ◌∷◌, drop, Option, Some, None, codes, if◌then◌else◌}
 use Rattle.sexpr_core.specs.Value.{Value}
 use Rattle.spki_tag.specs.FirstFault.{first_fault, unless}
@@ -31,17 +31,17 @@ abbrev pub at_item : ℕ → Option CertFaultKind → Option CertFault
 at_item item None = None
 at_item item (Some kind) = Some (record { item = item; kind = kind })
 
--- what is looked at in items from this number on
+-- what is tested in items; the first item has this number
 abbrev pub each_looked : (Value → Option CertFaultKind) → ℕ → List Value → List (Option CertFault)
 each_looked fault_of item [] = []
 each_looked fault_of item (v ∷ vs) = at_item item (fault_of v) ∷ each_looked fault_of (item + 1) vs
 
--- the version of an access list, where one stands first
+-- the fault of the version of an access list, if it begins with one
 abbrev pub acl_version_fault : List Value → Option CertFaultKind
 acl_version_fault [] = None
 acl_version_fault (v ∷ vs) = if is_headed (codes "version") v then sole_fault Shape version_fault (behind_head v) else None
 
--- what is wrong with the outer list: its head, and its version
+-- the fault of the outer list: of its head, and of its version
 unfoldable pub outer_fault : Value → Option CertFaultKind
 outer_fault v = first_fault (unless (is_headed (codes "acl") v) Shape ∷ acl_version_fault (behind_head v) ∷ [])
 

@@ -1,4 +1,4 @@
--- What each kind of fault says of the value that is refused.
+-- What each kind of fault means for the value that is refused.
 use Rattle.std.specs.Prelude.{◌≡◌, ◌≢◌, ℕ, ◌⊎◌, List, ◌∷◌, length, Option, codes}
 use Rattle.sexpr_core.specs.Value.{Value, string, plain, group, nodes}
 use Rattle.spki_tag.specs.declared.fault.TagFault.{TagFault}
@@ -23,7 +23,7 @@ pub record IsUnknownVersion (w : Value) : Type 0 where
   pub written : w ≡ group (plain (codes "version") ∷ string hint octets ∷ rest)
   pub unknown : string hint octets ≢ plain (codes "0")
 
--- (hash alg ..) or (do hash alg ..), where alg is a string and no known algorithm
+-- (hash alg ..) or (do hash alg ..), where alg is a string that is no known algorithm
 pub record IsUnknownAlg (w : Value) : Type 0 where
   pub hint : Option (List ℕ)
   pub octets : List ℕ
@@ -33,7 +33,7 @@ pub record IsUnknownAlg (w : Value) : Type 0 where
       ⊎ (w ≡ group (plain (codes "do") ∷ plain (codes "hash") ∷ string hint octets ∷ rest))
   pub unknown : (alg : HashAlg) → string hint octets ≢ plain (alg_name alg)
 
--- (hash alg digest ..), where the digest hasn't the length of its algorithm's digests
+-- (hash alg digest ..), where the digest does not have the length of its algorithm's digests
 pub record IsMissized (w : Value) : Type 0 where
   pub alg : HashAlg
   pub digest : List ℕ
@@ -48,7 +48,7 @@ pub record HasUris (w : Value) : Type 0 where
   pub rest : List Value
   pub written : w ≡ group (plain (codes "public-key") ∷ body ∷ group (plain (codes "uri") ∷ uris) ∷ rest)
 
--- an entry, or the field subject, whose subject is a list with this head
+-- an entry, or the field subject, with a subject that is a list with this head
 pub record HasSubject (head : List ℕ) (w : Value) : Type 0 where
   pub word : List ℕ
   pub word_is : (word ≡ codes "entry") ⊎ (word ≡ codes "subject")
@@ -73,13 +73,13 @@ pub record HasBadDate (w : Value) : Type 0 where
   pub written : w ≡ group (plain word ∷ limit ∷ rest)
   pub none : IsNoDate limit
 
--- (do x ..), where x isn't the word hash, or nothing
+-- (do x ..), where x is missing or is not the word hash
 pub record IsUnknownOp (w : Value) : Type 0 where
   pub rest : List Value
   pub written : w ≡ group (plain (codes "do") ∷ rest)
   pub unknown : (more : List Value) → rest ≢ plain (codes "hash") ∷ more
 
--- (tag x ..), where the fault shows on x
+-- (tag x ..), where the fault is true of x
 pub record HasTagFault (fault : TagFault) (w : Value) : Type 0 where
   pub tag : Value
   pub rest : List Value
@@ -87,8 +87,8 @@ pub record HasTagFault (fault : TagFault) (w : Value) : Type 0 where
   pub known : fault ≢ tag_faults.Memory
   pub shown : TagShows fault tag
 
--- What a kind says of one of these values. Shape and Memory say nothing; which certificate is unsigned and which
--- signature strays is said of a sequence, and of no value alone.
+-- What a kind means for one of these values. Shape and Memory mean nothing. UnsignedCert and StraySignature are about a
+-- sequence, and not about a single value.
 abbrev pub ShowsIn : CertFaultKind → List Value → Type 0
 ShowsIn kinds.Shape parts = Unit {0}
 ShowsIn kinds.UnknownVersion parts = SomeIs IsUnknownVersion parts
@@ -106,6 +106,6 @@ ShowsIn kinds.UnknownOp parts = SomeIs IsUnknownOp parts
 ShowsIn (kinds.Tag fault) parts = SomeIs (HasTagFault fault) parts
 ShowsIn kinds.Memory parts = Unit {0}
 
--- What a kind says of the value that is refused: the value or a part of it is so.
+-- What a kind means for the value that is refused: the value or a part of it is so.
 abbrev pub Shows : CertFaultKind → Value → Type 0
 Shows kind v = ShowsIn kind (nodes v)

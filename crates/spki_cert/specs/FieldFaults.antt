@@ -1,6 +1,6 @@
--- Which fault of a field is named, and which one of several fields: the first from the left (RFC 2693, sections 3.3,
+-- The fault for which a field is refused, and the one of several fields: the first from the left (RFC 2693, sections 3.3,
 -- 3.4 and 5; the forms are those of the SPKI working group's structure draft).
-use Rattle.std.specs.Prelude.{ℕ, Bool, true, false, not, ◌||◌, ◌&&◌, List, [], ◌∷◌, ◌++◌, Option, Some, None, codes, if◌then◌else◌}
+use Rattle.std.specs.Prelude.{ℕ, Bool, false, not, ◌||◌, ◌&&◌, List, [], ◌∷◌, ◌++◌, Option, Some, None, codes, if◌then◌else◌}
 use Rattle.std.specs.Str.{bytes_eq}
 use Rattle.std.specs.List.{list_any}
 use Rattle.sexpr_core.specs.Value.{Value, string, list, none, more}
@@ -16,7 +16,7 @@ use Rattle.spki_cert.specs.SubjectFaults.{subject_fault, issuer_fault}
 
 -- ---- each at most once
 
--- the head of a list, where it is a string without display hint
+-- the head of a list, if it is a string without a display hint
 abbrev pub head_of : Value → Option (List ℕ)
 head_of (string hint octets) = None
 head_of (list none) = None
@@ -32,11 +32,11 @@ abbrev pub has_head : List Value → Option (List ℕ) → Bool
 has_head vs None = false
 has_head vs (Some word) = has word vs
 
--- whether one of the fields before a field has its head
+-- whether one of the fields before a field has the same head
 abbrev pub is_again : List Value → Value → Bool
 is_again before v = has_head before (head_of v)
 
--- What is looked at in fields behind others: of each that its head is new, and then the field itself.
+-- What is tested in fields that follow others: for each that its head is new, and then the field itself.
 abbrev pub fields_looked : (Value → Option CertFaultKind) → List Value → List Value → List (Option CertFaultKind)
 fields_looked fault_of before [] = []
 fields_looked fault_of before (v ∷ vs) = unless (not (is_again before v)) Shape ∷ fault_of v ∷ fields_looked fault_of (before ++ v ∷ []) vs
@@ -56,7 +56,7 @@ version_fault v = first_fault (unless (is_string v) Shape ∷ unless (is_plain i
 
 -- ---- validity (section 5)
 
--- (not-before date) or (not-after date); (online ..) is named
+-- (not-before date) or (not-after date); (online ..) has its own fault
 unfoldable pub limit_fault : Value → Option CertFaultKind
 limit_fault v =
     if is_headed (codes "not-before") v then sole_fault Shape date_fault (behind_head v) else (
@@ -71,7 +71,7 @@ time_fault v = if is_headed (codes "valid") v then fields_fault limit_fault (beh
 
 -- ---- fields of entries
 
--- a tag's fault as one of a structure
+-- a tag's fault as the fault of a structure
 abbrev pub as_tag : Option TagFault → Option CertFaultKind
 as_tag None = None
 as_tag (Some fault) = Some (Tag fault)
@@ -90,11 +90,11 @@ entry_field_fault v =
 
 -- ---- fields of certificates
 
--- one that isn't looked at: (display x ..), (issuer-info x ..) or (subject-info x ..)
+-- a field that is ignored: (display x ..), (issuer-info x ..) or (subject-info x ..)
 abbrev pub is_unread : Value → Bool
 is_unread v = is_headed (codes "display") v || is_headed (codes "issuer-info") v || is_headed (codes "subject-info") v
 
--- (issuer ..), (subject ..), (version 0), one that isn't looked at, or a field of an entry
+-- (issuer ..), (subject ..), (version 0), a field that is ignored, or a field of an entry
 unfoldable pub cert_field_fault : Value → Option CertFaultKind
 cert_field_fault v =
     if is_headed (codes "issuer") v then sole_fault Shape issuer_fault (behind_head v) else (
@@ -107,6 +107,6 @@ cert_field_fault v =
 
 -- ---- clashes between fields
 
--- whether limits stand directly and in (valid ..) at once
+-- whether there are limits both directly and in (valid ..)
 abbrev pub is_both_ways : List Value → Bool
 is_both_ways fields = has (codes "valid") fields && (has (codes "not-before") fields || has (codes "not-after") fields)

@@ -1,4 +1,4 @@
--- What the fields of an entry and of a certificate say, in any order (RFC 2693, sections 3.3, 3.4 and 5; the forms
+-- The contents of the fields of an entry and of a certificate, in any order (RFC 2693, sections 3.3, 3.4 and 5; the forms
 -- are those of the SPKI working group's structure draft).
 use Rattle.std.specs.Prelude.{◌≡◌, ℕ, ◌≤◌, Bool, false, ◌⊎◌, List, [], ◌∷◌, length, Option, Some, None, codes, if◌then◌else◌}
 use Rattle.std.specs.Str.{bytes_eq}
@@ -21,13 +21,13 @@ is_headed word (list (more (list vs) others)) = false
 is_headed word (list (more (string (Some hint) head) others)) = false
 is_headed word (list (more (string None head) others)) = bytes_eq head word
 
--- what stands behind a list's head
+-- the members behind a list's head
 abbrev pub behind_head : Value → List Value
 behind_head (string hint octets) = []
 behind_head (list none) = []
 behind_head (list (more head others)) = members others
 
--- what stands behind the head, of each list with this head, in order
+-- the members behind the head, for each list with this head, in order
 abbrev pub contents : List ℕ → List Value → List (List Value)
 contents word [] = []
 contents word (v ∷ vs) = if is_headed word v then behind_head v ∷ contents word vs else contents word vs
@@ -39,19 +39,19 @@ contents word (v ∷ vs) = if is_headed word v then behind_head v ∷ contents w
 abbrev pub IsAbsent : List ℕ → List Value → Type 0
 IsAbsent word fields = contents word fields ≡ []
 
--- exactly one has, and this is what stands behind it
+-- exactly one field has this head, and these are the members behind it
 abbrev pub IsOnce : List ℕ → List Value → List Value → Type 0
 IsOnce word fields rest = contents word fields ≡ rest ∷ []
 
--- no two have one head
+-- no two fields have the same head
 abbrev pub AreOnce : List Value → Type 0
 AreOnce vs = (word : List ℕ) → length (contents word vs) ≤ 1
 
--- one value stands there, and it is read so
+-- the values are one value, and it is read as this
 abbrev pub Sole : {A : Type 0} → (Value → A → Type 0) → List Value → A → Type 0
 Sole R vs a = (v : Value) × (vs ≡ v ∷ []) × R v a
 
--- what is read behind the one field with this head, where there is one
+-- what is read behind the head of the only field with this head, if there is one
 abbrev pub Given : {A : Type 0} → List ℕ → (List Value → A → Type 0) → List Value → Option A → Type 0
 Given word R fields None = IsAbsent word fields
 Given word R fields (Some a) = (rest : List Value) × IsOnce word fields rest × R rest a
@@ -67,19 +67,19 @@ IsLimitField v =
     (word : List ℕ) × (rest : List Value) × (date : List ℕ)
     × IsLimitWord word × (v ≡ group (plain word ∷ rest)) × Sole DateOf rest date
 
--- the limits that stand among these
+-- the limits among these fields
 abbrev pub LimitsAre : List Value → Window → Type 0
 LimitsAre vs w =
     Given (codes "not-before") (Sole DateOf) vs w.not_before
     × Given (codes "not-after") (Sole DateOf) vs w.not_after
 
--- what stands behind the head valid: limits, each at most once
+-- the members behind the head valid: limits, each at most once
 pub record ValidOf (limits : List Value) (w : Window) : Type 0 where
   pub each : AllByRecursion IsLimitField limits
   pub once : AreOnce limits
   pub limits_are : LimitsAre limits w
 
--- ---- which fields there are
+-- ---- the kinds of fields
 
 -- a limit, or (valid limit ..)
 pub data IsTimeField (v : Value) : Type 0 where
@@ -93,7 +93,7 @@ pub data IsField (v : Value) : Type 0 where
   time : IsTimeField v → IsField v
   comment : (xs : List Value) → v ≡ group (plain (codes "comment") ∷ xs) → IsField v
 
--- what is behind the head issuer, and behind the head subject
+-- the members behind the head issuer, and those behind the head subject
 abbrev pub IssuerIn : List Value → Principal × Option (List ℕ) → Type 0
 IssuerIn rest i = Sole (λ v (j : Principal × Option (List ℕ)). IssuerOf v j.0 j.1) rest i
 
@@ -103,13 +103,13 @@ WhoIn rest s = Sole (λ v (t : Option Principal × List (List ℕ)). WhoOf v t.0
 abbrev pub version_field : Value
 version_field = group (plain (codes "version") ∷ plain (codes "0") ∷ [])
 
--- one that isn't looked at: (display x ..), (issuer-info x ..) or (subject-info x ..)
+-- a field that is ignored: (display x ..), (issuer-info x ..) or (subject-info x ..)
 pub data IsUnread (v : Value) : Type 0 where
   display : (xs : List Value) → v ≡ group (plain (codes "display") ∷ xs) → IsUnread v
   issuer_info : (xs : List Value) → v ≡ group (plain (codes "issuer-info") ∷ xs) → IsUnread v
   subject_info : (xs : List Value) → v ≡ group (plain (codes "subject-info") ∷ xs) → IsUnread v
 
--- a field of an entry, (version 0), (issuer ..), (subject ..), or one that isn't looked at
+-- a field of an entry, (version 0), (issuer ..), (subject ..), or a field that is ignored
 pub data IsCertField (v : Value) : Type 0 where
   common : IsField v → IsCertField v
   version : v ≡ version_field → IsCertField v
@@ -126,7 +126,7 @@ pub record AreFields (IsOne : Value → Type 0) (fields : List Value) : Type 0 w
   pub each : AllByRecursion IsOne fields
   pub once : AreOnce fields
 
--- ---- what they say
+-- ---- their contents
 
 -- whether (propagate) is among the fields
 abbrev pub propagates : List Value → Bool
@@ -136,7 +136,7 @@ propagates fields = list_any (is_headed (codes "propagate")) fields
 abbrev pub TagOf : List Value → tags.Tag → Type 0
 TagOf fields t = Given (codes "tag") (Sole ReadsAs) fields (Some t)
 
--- The window of the fields: each limit stands at most once, directly or in one (valid ..), and not both ways at once.
+-- The window of the fields: each limit occurs at most once, directly or in one (valid ..), and not both ways at once.
 pub data WindowOf (fields : List Value) (w : Window) : Type 0 where
   directly : contents (codes "valid") fields ≡ [] → LimitsAre fields w → WindowOf fields w
   in_valid :

@@ -1,6 +1,6 @@
--- Which fault of a key, a hash or a date is named: the first from the left. The forms are those of the SPKI working
+-- The fault for which a key, a hash or a date is refused: the first from the left. The forms are those of the SPKI working
 -- group's structure draft (RFC 2693, sections 2.5 and 6.3.2).
-use Rattle.std.specs.Prelude.{ℕ, Bool, true, false, ◌&&◌, ◌==◌, List, [], ◌∷◌, length, drop, Option, Some, None, codes, is_some, if◌then◌else◌}
+use Rattle.std.specs.Prelude.{ℕ, Bool, true, false, ◌==◌, List, [], ◌∷◌, length, drop, Option, Some, None, codes, is_some, if◌then◌else◌}
 use Rattle.std.specs.Str.{bytes_eq}
 use Rattle.sexpr_core.specs.Value.{Value, string, list, none, more}
 use Rattle.spki_tag.specs.Time.{is_date}
@@ -11,16 +11,16 @@ use Rattle.spki_cert.specs.declared.fault.CertFaultKind.{CertFaultKind}
 use Rattle.spki_cert.specs.declared.fault.CertFaultKind.TheVariants.{Shape, HashAlg as UnknownAlg, DigestLength, KeyUris, BadDate}
 use Rattle.spki_cert.specs.Readings.{digest_len}
 use Rattle.spki_cert.specs.Fields.{is_headed, behind_head}
-use Rattle.spki_cert.specs.Places.{fault_at, unless_none}
+use Rattle.spki_cert.specs.Places.{fault_at}
 
 -- ---- strings
 
--- whether a value is a string, with a display hint or without
+-- whether a value is a string, with or without a display hint
 abbrev pub is_string : Value → Bool
 is_string (string hint octets) = true
 is_string (list vs) = false
 
--- whether a value is a string without display hint whose octets pass a test
+-- whether a value is a string without a display hint, and its octets pass a test
 abbrev pub is_plain : (List ℕ → Bool) → Value → Bool
 is_plain passes (string None octets) = passes octets
 is_plain passes (string (Some hint) octets) = false
@@ -30,7 +30,7 @@ is_plain passes (list vs) = false
 abbrev pub any_octets : List ℕ → Bool
 any_octets octets = true
 
--- whether a value is a list that begins with a string without display hint
+-- whether a value is a list that begins with a string without a display hint
 abbrev pub begins_plain : Value → Bool
 begins_plain (string hint octets) = false
 begins_plain (list none) = false
@@ -38,7 +38,7 @@ begins_plain (list (more v vs)) = is_plain any_octets v
 
 -- ---- keys
 
--- nothing stands behind a key's algorithm: uris are named, and anything else is no form
+-- nothing may follow a key's algorithm: uris have their own fault, and anything else is Shape
 abbrev pub behind_key : List Value → Option CertFaultKind
 behind_key [] = None
 behind_key (v ∷ vs) = Some (if is_headed (codes "uri") v then KeyUris else Shape)
@@ -55,7 +55,7 @@ key_fault v =
 
 -- ---- hashes
 
--- the algorithm that a word names
+-- the algorithm with this name
 abbrev pub alg_named : List ℕ → Option HashAlg
 alg_named word =
     if bytes_eq word (codes "sha1") then Some Sha1 else (
@@ -76,7 +76,7 @@ abbrev pub is_sized : Option HashAlg → List ℕ → Bool
 is_sized None digest = false
 is_sized (Some alg) digest = length digest == digest_len alg
 
--- whether the second value is a digest of the algorithm that the first names, where both are there
+-- whether the second value is a digest of the algorithm that the first one names, if both exist
 abbrev pub digest_fits : List Value → Bool
 digest_fits [] = true
 digest_fits (word ∷ []) = true
@@ -102,6 +102,6 @@ hash_fault v =
 
 -- ---- dates
 
--- a string without display hint that is a date
+-- a string without a display hint that is a date
 unfoldable pub date_fault : Value → Option CertFaultKind
 date_fault v = unless (is_plain is_date v) BadDate

@@ -1,2 +1,2 @@
--- What only invariants of types and the contracts of private functions cite.
+-- Definitions that only invariants of types and contracts of private functions cite.
 pub mod Gathering

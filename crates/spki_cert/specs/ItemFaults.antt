@@ -1,6 +1,6 @@
--- Which fault of a certificate, a signature or an operation is named: the first from the left, missing fields and
--- clashes last (RFC 2693, sections 3.3 and 6.2; the forms are those of the SPKI working group's structure draft).
-use Rattle.std.specs.Prelude.{ℕ, Bool, false, not, ◌||◌, if◌then◌else◌, List, [], ◌∷◌, drop, Option, Some, None, codes}
+-- The fault for which a certificate, a signature or an operation is refused: the first from the left, with missing fields
+-- and clashes last (RFC 2693, sections 3.3 and 6.2; the forms are those of the SPKI working group's structure draft).
+use Rattle.std.specs.Prelude.{ℕ, Bool, false, not, ◌||◌, if◌then◌else◌, List, [], ◌∷◌, drop, Option, None, codes}
 use Rattle.std.specs.Str.{bytes_eq}
 use Rattle.std.specs.List.{list_any}
 use Rattle.sexpr_core.specs.Value.{Value}
@@ -44,7 +44,7 @@ do_fault v =
 
 -- ---- certificates
 
--- what stands behind the head issuer begins with a name
+-- the members behind the head issuer begin with a name
 abbrev pub begins_with_name : List Value → Bool
 begins_with_name [] = false
 begins_with_name (v ∷ vs) = is_headed (codes "name") v
@@ -53,7 +53,7 @@ begins_with_name (v ∷ vs) = is_headed (codes "name") v
 abbrev pub has_name_issuer : List Value → Bool
 has_name_issuer fields = list_any begins_with_name (contents (codes "issuer") fields)
 
--- A certificate of a name has neither tag nor propagate; one of an authorization has a tag.
+-- A name certificate has neither tag nor propagate. An authorization certificate has a tag.
 abbrev pub is_tagged_right : List Value → Bool
 is_tagged_right fields =
     if has_name_issuer fields then not (has (codes "tag") fields || has (codes "propagate") fields) else has (codes "tag") fields
@@ -73,7 +73,7 @@ cert_fault v =
 
 -- ---- items
 
--- an item by its head; what has none of these heads is looked at as a key
+-- an item by its head; an item without any of these heads is read as a key
 unfoldable pub item_fault : Value → Option CertFaultKind
 item_fault v =
     if is_headed (codes "cert") v then cert_fault v else (

@@ -11,7 +11,7 @@ use Rattle.spki_cert.specs.declared.principal.Policy.TheVariants.{Open, Strict}
 use Rattle.spki_cert.specs.declared.principal.Principal.{Principal}
 use Rattle.spki_cert.specs.declared.principal.Principal.TheVariants.{Key, Hash}
 
--- the digest of octets under an algorithm
+-- the digest of octets by an algorithm
 abbrev pub digest_of : HashAlg → List ℕ → List ℕ
 digest_of Sha1 octets = sha1 octets
 digest_of Sha256 octets = sha256 octets
@@ -21,15 +21,15 @@ digest_of Sha512 octets = sha512 octets
 abbrev pub is_digest : HashAlg → List ℕ → List ℕ → Bool
 is_digest alg digest octets = bytes_eq (digest_of alg octets) digest
 
--- whether a policy lets the hashes of an algorithm name keys: a strict one lets no SHA-1 hash
+-- whether hashes of an algorithm may name keys under a policy; a strict policy admits no SHA-1 hash
 abbrev pub admits : Policy → HashAlg → Bool
 admits Open alg = true
 admits Strict Sha1 = false
 admits Strict Sha256 = true
 admits Strict Sha512 = true
 
--- Whether a principal names the key with these canonical octets: it is that key, or it is a hash that the
--- policy lets name keys, whose digest is that of the octets.
+-- Whether a principal names the key with these canonical octets: it is that key, or it is a hash that the policy admits,
+-- with the digest of the octets.
 abbrev pub names : Policy → Principal → List ℕ → Bool
 names policy (Key octets) key = bytes_eq octets key
 names policy (Hash alg digest) key = admits policy alg && is_digest alg digest key

@@ -1,4 +1,4 @@
--- Which key, hash or date a value is. The forms are those of the SPKI working group's structure draft.
+-- The keys, hashes and dates of values. The forms are those of the SPKI working group's structure draft.
 use Rattle.std.specs.Prelude.{◌≡◌, ℕ, List, [], ◌∷◌, length, true, codes}
 use Rattle.sexpr_core.specs.Value.{Value, plain, group, canon}
 use Rattle.spki_cert.specs.declared.hash.HashAlg.{HashAlg}
@@ -9,7 +9,7 @@ use Rattle.spki_tag.specs.Time.{is_date}
 abbrev pub IsAlgorithm : Value → Type 0
 IsAlgorithm v = (alg : List ℕ) × (parts : List Value) × (v ≡ group (plain alg ∷ parts))
 
--- (public-key (alg part ..)), whose octets are its canonical form (RFC 2693, section 2.5)
+-- (public-key (alg part ..)); the octets are its canonical form (RFC 2693, section 2.5)
 pub record KeyOf (v : Value) (octets : List ℕ) : Type 0 where
   pub body : Value
   pub algorithm : IsAlgorithm body
@@ -21,13 +21,13 @@ alg_name Sha1 = codes "sha1"
 alg_name Sha256 = codes "sha256"
 alg_name Sha512 = codes "sha512"
 
--- how many octets a digest has
+-- the number of octets of a digest
 abbrev pub digest_len : HashAlg → ℕ
 digest_len Sha1 = 20
 digest_len Sha256 = 32
 digest_len Sha512 = 64
 
--- nothing, or (uri x ..), which isn't looked at
+-- nothing, or (uri x ..), which is ignored
 abbrev pub AreUris : List Value → Type 0
 AreUris [] = Unit {0}
 AreUris (v ∷ []) = (uris : List Value) × (v ≡ group (plain (codes "uri") ∷ uris))
@@ -46,12 +46,12 @@ pub record HashOf (v : Value) (alg : HashAlg) (digest : List ℕ) : Type 0 where
   pub digest_is : DigestOf octets alg digest
   pub uris : AreUris further
 
--- a string without display hint that is a date
+-- a string without a display hint that is a date
 pub record DateOf (v : Value) (octets : List ℕ) : Type 0 where
   pub written : v ≡ plain octets
   pub date : is_date octets ≡ true
 
--- ---- what is none of these
+-- ---- values that are none of these
 
 abbrev pub IsNoKey : Value → Type 0
 IsNoKey v = (octets : List ℕ) → KeyOf v octets → ⊥

@@ -3,7 +3,7 @@ use Rattle.std.specs.Prelude.{◌≡◌, ℕ, ◌+◌, List, ◌∷◌, ◌++◌
 use Rattle.std.specs.List.{AllZip}
 use Rattle.sexpr_core.specs.Value.{Value}
 
--- Of these values those before this one, counted from 1, are items, and it is none.
+-- The value is no item, and the values before it are items; its number is counted from 1.
 pub record IsRefusedAt {A : Type 0} (ItemOf : Value → A → Type 0) (vs : List Value) (item : ℕ) (refused : Value) : Type 0 where
   pub front : List Value
   pub behind : List Value

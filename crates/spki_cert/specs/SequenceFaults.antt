@@ -1,4 +1,4 @@
--- Which fault of a sequence is named: the first from the left, an item's place before the item itself (the forms are
+-- The fault for which a sequence is refused: the first from the left, an item's place before the item itself (the forms are
 -- those of the SPKI working group's structure draft).
 use Rattle.std.specs.Prelude.{ℕ, ◌+◌, ◌||◌, List, [], ◌∷◌, Option, Some, None, codes, if◌then◌else◌}
 use Rattle.sexpr_core.specs.Value.{Value}
@@ -9,24 +9,24 @@ use Rattle.spki_cert.specs.Fields.{is_headed, behind_head}
 use Rattle.spki_cert.specs.EntryFaults.{at_item}
 use Rattle.spki_cert.specs.ItemFaults.{item_fault}
 
--- the certificate that waits for its signature, by its number, where one does
+-- the fault of the certificate that is still without its signature, by its number, if there is one
 abbrev pub unsigned_fault : Option ℕ → Option CertFault
 unsigned_fault None = None
 unsigned_fault (Some item) = Some (record { item = item; kind = UnsignedCert })
 
--- what is wrong with an item's place: while a certificate waits, only a do and a signature can follow
+-- the fault of an item's place: only a do or a signature may follow a certificate without its signature
 abbrev pub place_fault : Option ℕ → ℕ → Value → Option CertFault
 place_fault None number v = if is_headed (codes "signature") v then Some (record { item = number; kind = StraySignature }) else None
 place_fault (Some item) number v =
     if is_headed (codes "signature") v || is_headed (codes "do") v then None else Some (record { item = item; kind = UnsignedCert })
 
--- which certificate waits behind an item with this number
+-- the certificate that is still without its signature after an item with this number
 abbrev pub waiting : Value → Option ℕ → ℕ → Option ℕ
 waiting v before number =
     if is_headed (codes "cert") v then Some number else if is_headed (codes "signature") v then None else before
 
--- What is looked at in items from this number on, where this certificate waits: of each its place and then the item
--- itself, and at the end whether a certificate waits still.
+-- What is tested in items, if `waits` is the certificate that is still without its signature: for each its place and then
+-- the item itself, and at the end whether a certificate is without its signature. The first item has this number.
 abbrev pub items_looked : Option ℕ → ℕ → List Value → List (Option CertFault)
 items_looked waits number [] = unsigned_fault waits ∷ []
 items_looked waits number (v ∷ vs) =

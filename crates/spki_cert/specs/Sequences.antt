@@ -1,5 +1,4 @@
--- Which items a sequence has, and in which order they stand (the forms are those of the SPKI working group's
--- structure draft).
+-- The items of a sequence, and their order (the forms are those of the SPKI working group's structure draft).
 use Rattle.std.specs.Prelude.{◌≡◌, ℕ, ◌+◌, Bool, true, false, ◌⊎◌, List, [], ◌∷◌, ◌++◌, length, codes, if◌then◌else◌}
 use Rattle.std.specs.List.{AllZip, AllByRecursion}
 use Rattle.sexpr_core.specs.Value.{Value, plain, group}
@@ -25,7 +24,7 @@ ItemOf v (items.Signature s) = SignatureOf v s
 
 -- ---- order
 
--- whether a certificate waits for its signature behind this item, where one waits before it or none does
+-- whether a certificate is without its signature after this item, if one was before it, or none was
 abbrev pub waits_behind : Bool → Value → Bool
 waits_behind waits v = if is_headed (codes "cert") v then true else if is_headed (codes "signature") v then false else waits
 
@@ -33,7 +32,7 @@ abbrev pub waits_after : Bool → List Value → Bool
 waits_after waits [] = waits
 waits_after waits (v ∷ vs) = waits_after (waits_behind waits v) vs
 
--- While a certificate waits, a do or its signature follows; where none waits, no signature does.
+-- A do or a signature follows a certificate without its signature. No signature follows otherwise.
 abbrev pub IsInPlace : Bool → Value → Type 0
 IsInPlace true v = (is_headed (codes "do") v ≡ true) ⊎ (is_headed (codes "signature") v ≡ true)
 IsInPlace false v = is_headed (codes "signature") v ≡ false
@@ -42,8 +41,8 @@ abbrev pub AreInPlace : Bool → List Value → Type 0
 AreInPlace waits [] = Unit {0}
 AreInPlace waits (v ∷ vs) = IsInPlace waits v × AreInPlace (waits_behind waits v) vs
 
--- (sequence item ..), where each certificate is followed by its signature, and only do items stand between. Item
--- number k, from 1, is the k-th of the items.
+-- (sequence item ..), where each certificate is followed by its signature, with only do items between. Item number k, from
+-- 1, is the k-th of the items.
 pub record SeqOf (v : Value) (is : List SeqItem) : Type 0 where
   pub values : List Value
   pub written : v ≡ group (plain (codes "sequence") ∷ values)
@@ -53,12 +52,12 @@ pub record SeqOf (v : Value) (is : List SeqItem) : Type 0 where
 
 -- ---- refusals
 
--- what can't stand behind a certificate that waits: the end, or what is headed neither do nor signature
+-- what may not follow a certificate without its signature: the end, or a value that is headed neither do nor signature
 abbrev pub BreaksOff : List Value → Type 0
 BreaksOff [] = Unit {0}
 BreaksOff (v ∷ vs) = (is_headed (codes "do") v ≡ false) × (is_headed (codes "signature") v ≡ false)
 
--- Certificate number item is followed by no signature: items that are read stand before it, and do items behind it.
+-- Certificate number item is followed by no signature: items that are read come before it, and do items behind it.
 pub record IsUnsignedAt (vs : List Value) (item : ℕ) : Type 0 where
   pub front : List Value
   pub cert : Value
@@ -74,7 +73,8 @@ pub record IsUnsignedAt (vs : List Value) (item : ℕ) : Type 0 where
   pub only_do : AllByRecursion (λ w. is_headed (codes "do") w ≡ true) between
   pub breaks_off : BreaksOff behind
 
--- At this number a signature stands that no certificate waits for, behind items that are read.
+-- The item with this number is a signature, and no certificate before it is without its signature; the items before it are
+-- read.
 pub record IsStrayAt (vs : List Value) (item : ℕ) : Type 0 where
   pub front : List Value
   pub signature : Value
@@ -87,20 +87,20 @@ pub record IsStrayAt (vs : List Value) (item : ℕ) : Type 0 where
   pub readings : AllZip ItemOf front before
   pub is_signature : is_headed (codes "signature") signature ≡ true
 
--- This item has no reading, where those before it have, and the fault shows on it.
+-- This item cannot be read, those before it can, and the fault is true of it.
 pub record ItemRefused (vs : List Value) (item : ℕ) (kind : CertFaultKind) : Type 0 where
   pub refused : Value
   pub place : IsRefusedAt ItemOf vs item refused
   pub in_place : AreInPlace false (place.front ++ refused ∷ [])
   pub shown : Shows kind refused
 
--- what the items behind the head of a sequence are refused for
+-- why the items behind the head of a sequence are refused
 pub data ItemsRefused (vs : List Value) (fault : CertFault) : Type 0 where
   unsigned : fault.kind ≡ UnsignedCert → IsUnsignedAt vs fault.item → ItemsRefused vs fault
   stray : fault.kind ≡ StraySignature → IsStrayAt vs fault.item → ItemsRefused vs fault
   item : ItemRefused vs fault.item fault.kind → ItemsRefused vs fault
 
--- What a sequence is refused for: at item 0 it isn't headed sequence.
+-- Why a sequence is refused. Item 0: it is not headed sequence.
 pub data SeqRefused (v : Value) (fault : CertFault) : Type 0 where
   outer : fault.item ≡ 0 → fault.kind ≡ Shape → IsNotHeaded v (codes "sequence") → SeqRefused v fault
   inner : (vs : List Value) → v ≡ group (plain (codes "sequence") ∷ vs) → ItemsRefused vs fault → SeqRefused v fault

@@ -1,5 +1,5 @@
--- Who is meant: principals, subjects and issuers (RFC 2693, sections 2.5, 2.6 and 2.8). The forms are those of the
--- SPKI working group's structure draft.
+-- Principals, subjects and issuers of values (RFC 2693, sections 2.5, 2.6 and 2.8). The forms are those of the SPKI working
+-- group's structure draft.
 use Rattle.std.specs.Prelude.{◌≡◌, ℕ, ◌⊎◌, List, [], ◌∷◌, Option, Some, None, codes}
 use Rattle.sexpr_core.specs.Value.{Value, plain, group}
 use Rattle.spki_cert.specs.declared.principal.Principal.{Principal}
@@ -25,7 +25,7 @@ pub record NameOf (v : Value) (principal : Principal) (names : List (List ℕ)) 
   pub names_are : names ≡ first ∷ others
   pub written : v ≡ group (plain (codes "name") ∷ owner ∷ plains names)
 
--- (name n n ..), which is relative to a principal that isn't written
+-- (name n n ..), which is relative to a principal that is not written
 pub record RelativeOf (v : Value) (names : List (List ℕ)) : Type 0 where
   pub first : List ℕ
   pub others : List (List ℕ)
@@ -40,12 +40,12 @@ IsWho v principal names = (PrincipalOf v principal × (names ≡ [])) ⊎ NameOf
 abbrev pub SubjectOf : Value → Subject → Type 0
 SubjectOf v s = IsWho v s.principal s.names
 
--- who is named, with the principal if it is written
+-- a principal or a name; without a principal it is a relative name
 abbrev pub WhoOf : Value → Option Principal → List (List ℕ) → Type 0
 WhoOf v None names = RelativeOf v names
 WhoOf v (Some principal) names = IsWho v principal names
 
--- the subject of a certificate: a relative name is one of the issuer's
+-- the subject of a certificate: a relative name is a name of the issuer
 abbrev pub IssuedTo : Principal → Value → Subject → Type 0
 IssuedTo issuer v s = SubjectOf v s ⊎ ((s.principal ≡ issuer) × RelativeOf v s.names)
 

@@ -5,31 +5,31 @@ use Rattle.std.specs.Ordering.{nat_cmp, is_le}
 use Rattle.spki_cert.specs.declared.window.Window.{Window}
 use Rattle.spki_tag.specs.Time.{is_date}
 
--- whether a moment isn't after another, by octets
+-- whether a moment is not after another, by octets
 abbrev pub upto : List ℕ → List ℕ → Bool
 upto s t = is_le (slice_cmp nat_cmp s t)
 
--- whether a moment isn't before a limit, where there is one
+-- whether a moment is not before a limit, if there is one
 abbrev pub is_from : Option (List ℕ) → List ℕ → Bool
 is_from None t = true
 is_from (Some limit) t = upto limit t
 
--- whether a moment isn't after a limit, where there is one
+-- whether a moment is not after a limit, if there is one
 abbrev pub is_until : Option (List ℕ) → List ℕ → Bool
 is_until None t = true
 is_until (Some limit) t = upto t limit
 
--- whether a moment isn't before a not-before and isn't after a not-after
+-- whether a moment is not before the not-before, and not after the not-after
 abbrev pub within : List ℕ → Window → Bool
 within t w = is_from w.not_before t && is_until w.not_after t
 
--- the later of two first moments, a missing one being no limit
+-- the later of two first moments; if one is missing, the other
 abbrev pub later : Option (List ℕ) → Option (List ℕ) → Option (List ℕ)
 later None q = q
 later (Some s) None = Some s
 later (Some s) (Some t) = Some (if upto s t then t else s)
 
--- the earlier of two last moments
+-- the earlier of two last moments; if one is missing, the other
 abbrev pub earlier : Option (List ℕ) → Option (List ℕ) → Option (List ℕ)
 earlier None q = q
 earlier (Some s) None = Some s
@@ -40,13 +40,13 @@ abbrev pub IsLimit : Option (List ℕ) → Type 0
 IsLimit None = Unit {0}
 IsLimit (Some limit) = is_date limit ≡ true
 
--- whether a last moment doesn't come before a first one
+-- whether a last moment is not before a first moment
 abbrev pub in_order : Option (List ℕ) → Option (List ℕ) → Bool
 in_order None q = true
 in_order (Some s) None = true
 in_order (Some s) (Some t) = upto s t
 
--- the window from a first moment to a last one, if there is a moment between
+-- the window from a first moment to a last one, if it contains a moment
 abbrev pub between : Option (List ℕ) → Option (List ℕ) → Option Window
 between p q = if in_order p q then Some (record { not_before = p; not_after = q }) else None
 

@@ -1,4 +1,4 @@
-//! Entries and access lists, as they are read.
+//! Reads entries and access lists.
 
 ghost use Rattle.std.specs.Prelude.{◌≡◌, ◌≢◌, ◌∷◌, [], Some, None, IsSome, IfSome, IfOk, IfErr, codes, List};
 ghost use Rattle.std.specs.List.{AllZip};
@@ -23,13 +23,11 @@ use sexpr_core::syntax::{Members, Node};
 use sexpr_core::{Doc, NodeId};
 use std::alloc::Global;
 
-/// The subject of an entry: a principal or a whole name.
+/// Reads the subject of an entry: a principal or a whole name.
 fn entry_subject<'a>(alloc: Global, node: &Node<'_, 'a>) -> Result<Subject<'a>, CertFaultKind>
     ensures found { IfOk result (λ subject. SubjectOf node.now subject) }
-    ensures refused { IfErr result (λ kind. kind ≢ CertFaultKind.Memory → (s : subjects.Subject) → SubjectOf node.now s → ⊥) }
     ensures faultless { IfOk result (λ _. entry_subject_fault node.now ≡ None) }
     ensures named { IfErr result (λ kind. kind ≢ CertFaultKind.Memory → entry_subject_fault node.now ≡ Some kind) }
-    ensures shown { IfErr result (λ kind. (rest : List Value) → Shows kind (group (plain (codes "entry") ∷ node.now ∷ rest))) }
 {
     let Who { principal, names } = who_of(alloc, node)?;
     match principal {
@@ -41,11 +39,12 @@ fn entry_subject<'a>(alloc: Global, node: &Node<'_, 'a>) -> Result<Subject<'a>, 
     }
 }
 
-/// The entry that a node is, `(entry subject ..)`, as `read_acl` reads those of an access list (RFC 2693, section 3.4).
+/// Reads the entry of a node, `(entry subject ..)`, like the entries of an access list in `read_acl` (RFC 2693, section
+/// 3.4).
 ///
 /// # Errors
 ///
-/// The first fault from the left. `Memory` where memory ran out.
+/// The first fault from the left. `Memory` if memory ran out.
 pub fn entry_of<'a>(alloc: Global, node: &Node<'_, 'a>) -> Result<Entry<'a>, CertFaultKind>
     ensures entry { IfOk result (λ entry. EntryOf node.now entry) }
     ensures refused { IfErr result (λ kind. kind ≢ CertFaultKind.Memory → (e : spec.Entry) → EntryOf node.now e → ⊥) }
@@ -81,7 +80,7 @@ pub fn entry_of<'a>(alloc: Global, node: &Node<'_, 'a>) -> Result<Entry<'a>, Cer
     })
 }
 
-/// The entries of an access list, behind its head and its version.
+/// Reads the entries of an access list, behind its head and its version.
 fn entries_of<'a>(alloc: Global, members: Members<'_, 'a>) -> Result<Vec<Entry<'a>>, CertFault>
     ensures entries { IfOk result (λ entries. AllZip EntryOf members.entry entries.items) }
     ensures faultless { IfOk result (λ _. entries_fault members.entry ≡ None) }
@@ -110,7 +109,7 @@ fn entries_of<'a>(alloc: Global, members: Members<'_, 'a>) -> Result<Vec<Entry<'
     Ok(entries)
 }
 
-/// What stands behind the head `acl`, and behind a version if one stands first.
+/// Returns the members behind the head `acl`, and behind a version if the first member is one.
 fn behind_version<'d, 'a>(node: &Node<'d, 'a>) -> Result<Members<'d, 'a>, CertFaultKind>
     ensures found { IfOk result (λ entries. (all : List Value) × (node.now ≡ group (plain (codes "acl") ∷ all))
         × BeginsWell all × (entries ≡ behind_version all)) }
@@ -121,7 +120,7 @@ fn behind_version<'d, 'a>(node: &Node<'d, 'a>) -> Result<Members<'d, 'a>, CertFa
     let Some(all) = node.headed(b"acl") else {
         return Err(CertFaultKind::Shape);
     };
-    // Taken twice, since a walk over members uses them up.
+    // Taken twice, since iterating over members consumes them.
     let Some(members) = node.headed(b"acl") else {
         return Err(CertFaultKind::Shape);
     };
@@ -135,13 +134,13 @@ fn behind_version<'d, 'a>(node: &Node<'d, 'a>) -> Result<Members<'d, 'a>, CertFa
     Ok(others)
 }
 
-/// The access list that a node is, as `read_acl` reads it, with the same errors.
+/// Reads the access list of a node, like `read_acl`, with the same errors.
 pub fn acl_of<'a>(alloc: Global, node: &Node<'_, 'a>) -> Result<Vec<Entry<'a>>, CertFault>
     ensures acl { IfOk result (λ entries. AclOf node.now entries.items) }
-    // The fault that is named is the first from the left; what is read has none.
+    // The fault is the first from the left, and what is read has none.
     ensures named { IfErr result (λ fault. fault.kind ≢ CertFaultKind.Memory → acl_fault node.now ≡ Some fault) }
     ensures faultless { IfOk result (λ _. acl_fault node.now ≡ None) }
-    // What is refused is named, and the fault shows on it.
+    // The item of the fault is the one that is refused, and the fault is true of it.
     ensures refused { IfErr result (λ fault. fault.kind ≢ CertFaultKind.Memory → AclRefused node.now fault) }
 {
     match behind_version(node) {
@@ -150,13 +149,13 @@ pub fn acl_of<'a>(alloc: Global, node: &Node<'_, 'a>) -> Result<Vec<Entry<'a>>, 
     }
 }
 
-/// Reads node n of a document as an access list (RFC 2693, section 3.4): `(acl entry ..)`, with `(version 0)` in
-/// front of the entries or without.
+/// Reads node n of a document as an access list (RFC 2693, section 3.4): `(acl entry ..)`, with or without `(version 0)` in
+/// front of the entries.
 ///
 /// # Errors
 ///
-/// The first fault from the left, with the number of the entry, from 1 and behind the version, or 0 where the outer
-/// list isn't headed `acl` (`Shape`) and for its version. `Memory` where memory ran out.
+/// The first fault from the left, with the number of the entry, counted from 1 behind the version. The number is 0 if the
+/// outer list is not headed `acl` (`Shape`), and for its version. `Memory` if memory ran out.
 pub fn read_acl<'a>(
     alloc: Global,
     document: &Doc<'a>,
@@ -165,15 +164,15 @@ pub fn read_acl<'a>(
     requires { IsSome (node document.now n.0) }
     ensures acl { IfSome (node document.now n.0) (λ value.
         IfOk result (λ entries. AclOf value entries.items)) }
-    // Refused, other than by Memory, is only what is no access list,
+    // Only a value that is no access list is refused, except for Memory.
     ensures none { IfSome (node document.now n.0) (λ value.
         IfErr result (λ fault. fault.kind ≢ CertFaultKind.Memory →
         (entries : List spec.Entry) → AclOf value entries → ⊥)) }
-    // The fault that is named is the first from the left; what is read has none.
+    // The fault is the first from the left, and what is read has none.
     ensures named { IfSome (node document.now n.0) (λ value.
         IfErr result (λ fault. fault.kind ≢ CertFaultKind.Memory → acl_fault value ≡ Some fault)) }
     ensures faultless { IfSome (node document.now n.0) (λ value. IfOk result (λ _. acl_fault value ≡ None)) }
-    // and what is refused is named, where the entries before it have readings and the fault shows on it.
+    // The item of the fault is refused, the entries before it can be read, and the fault is true of it.
     ensures refused { IfSome (node document.now n.0) (λ value.
         IfErr result (λ fault. fault.kind ≢ CertFaultKind.Memory → AclRefused value fault)) }
 {

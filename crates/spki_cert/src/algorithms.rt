@@ -31,7 +31,7 @@ impl Algorithms {
         }
     }
 
-    /// These algorithms, and that of the principal if it is a hash that may name keys under the policy (RFC 2693,
+    /// These algorithms, and the algorithm of the principal if it is a hash that may name keys under the policy (RFC 2693,
     /// section 2.5).
     pub fn with(self, principal: &Principal, policy: Policy) -> Algorithms
         ensures { (alg : HashAlg) → is_among result alg

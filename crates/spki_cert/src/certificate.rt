@@ -11,30 +11,30 @@ use spki_tag::Tag;
 /// An authorization certificate (RFC 2693, sections 3.3 and 6.1).
 #[derive(Drop)]
 pub struct AuthCert<'a> {
-    /// Who gives.
+    /// The issuer.
     pub issuer: Principal<'a>,
-    /// Who is given it.
+    /// The subject.
     pub subject: Subject<'a>,
-    /// Whether the subject may pass it on.
+    /// Whether the subject may delegate the authorization.
     pub propagate: bool,
-    /// What is given.
+    /// The requests that are authorized.
     pub tag: Tag,
-    /// When.
+    /// The moments at which they are authorized.
     pub window: Window,
     /// The certificate's canonical octets.
     pub octets: Octets<'a>,
 }
 
-/// A name certificate: what a principal means by a name (RFC 2693, section 6.2).
+/// A name certificate: it defines a name in the name space of a principal (RFC 2693, section 6.2).
 #[derive(Drop)]
 pub struct NameCert<'a> {
-    /// Whose name it is.
+    /// The principal in whose name space the name is defined.
     pub issuer: Principal<'a>,
     /// The name.
     pub name: Octets<'a>,
-    /// What it means.
+    /// The subject that the name means.
     pub subject: Subject<'a>,
-    /// When.
+    /// The moments at which the definition applies.
     pub window: Window,
     /// The certificate's canonical octets.
     pub octets: Octets<'a>,
@@ -47,7 +47,7 @@ pub struct Signature<'a> {
     pub alg: HashAlg,
     /// The digest of what is signed.
     pub digest: Octets<'a>,
-    /// Who signed.
+    /// The principal that signed.
     pub signer: Principal<'a>,
     /// The canonical octets of the signature's value.
     pub value: Octets<'a>,
@@ -56,7 +56,7 @@ pub struct Signature<'a> {
 /// An item of a sequence.
 #[derive(Drop)]
 pub enum SeqItem<'a> {
-    /// A key that is shown.
+    /// A key.
     Key(Key<'a>),
     /// `(do hash alg)`, which has no effect.
     DoHash(HashAlg),

@@ -1,10 +1,10 @@
-//! Certificates, as they are read.
+//! Reads certificates.
 
 ghost use Rattle.std.specs.Prelude.{◌≡◌, ◌≢◌, Some, None, IfOk, IfErr};
 ghost use Rattle.sexpr_core.specs.Value.{Value};
 ghost use Rattle.spki_cert.specs.Faults.{Shows};
 ghost use Rattle.spki_cert.specs.ItemFaults.{cert_fault};
-ghost use Rattle.spki_cert.specs.Inner.Gathering.{parts_fault, AreParts, PartsOf, AreNoParts, CertOf, IsNoCert, IsSubjectOf};
+ghost use Rattle.spki_cert.specs.Inner.Gathering.{parts_fault, PartsOf, CertOf, IsSubjectOf};
 
 use crate::certificate::{AuthCert, NameCert, SeqItem};
 use crate::entry::Subject;
@@ -20,7 +20,7 @@ use sexpr_core::syntax::{Members, Node};
 use spki_tag::Tag;
 use std::alloc::Global;
 
-/// What the fields of a certificate say.
+/// The contents of the fields of a certificate.
 #[derive(Drop)]
 pub(crate) struct CertParts<'a> {
     pub issuer: Issuer<'a>,
@@ -30,7 +30,7 @@ pub(crate) struct CertParts<'a> {
     pub window: Window,
 }
 
-/// The subject of a certificate: a relative name is one of the issuer's.
+/// The subject of a certificate. A relative name is a name of the issuer.
 fn issued_to<'a>(who: Who<'a>, issuer: &Principal<'a>) -> Subject<'a>
     ensures { IsSubjectOf issuer.now who.entry.principal who.entry.names.items result }
 {
@@ -45,13 +45,11 @@ fn issued_to<'a>(who: Who<'a>, issuer: &Principal<'a>) -> Subject<'a>
     }
 }
 
-/// The parts of a certificate with these fields.
+/// Reads the parts of a certificate with these fields.
 fn parts_of<'a>(alloc: Global, members: Members<'_, 'a>) -> Result<CertParts<'a>, CertFaultKind>
     ensures found { IfOk result (λ parts. PartsOf members.entry parts) }
-    ensures refused { IfErr result (λ kind. kind ≢ CertFaultKind.Memory → AreNoParts members.entry) }
     ensures faultless { IfOk result (λ _. parts_fault members.entry ≡ None) }
     ensures named { IfErr result (λ kind. kind ≢ CertFaultKind.Memory → parts_fault members.entry ≡ Some kind) }
-    ensures shown { IfErr result (λ kind. (v : Value) → AreParts members.entry v → Shows kind v) }
 {
     let Fields { propagate, known } = fields_of(alloc, Place::Certificate, members)?;
     let Known {
@@ -80,13 +78,11 @@ fn parts_of<'a>(alloc: Global, members: Members<'_, 'a>) -> Result<CertParts<'a>
     })
 }
 
-/// The certificate that a node is: of an authorization where the issuer is a principal, and else of a name.
+/// Reads the certificate of a node: an authorization certificate if the issuer is a principal, otherwise a name certificate.
 pub(crate) fn cert_of<'a>(alloc: Global, node: &Node<'_, 'a>) -> Result<SeqItem<'a>, CertFaultKind>
     ensures found { IfOk result (λ item. CertOf node.now item) }
-    ensures refused { IfErr result (λ kind. kind ≢ CertFaultKind.Memory → IsNoCert node.now) }
     ensures faultless { IfOk result (λ _. cert_fault node.now ≡ None) }
     ensures named { IfErr result (λ kind. kind ≢ CertFaultKind.Memory → cert_fault node.now ≡ Some kind) }
-    ensures shown { IfErr result (λ kind. Shows kind node.now) }
 {
     let Some(members) = node.headed(b"cert") else {
         return Err(CertFaultKind::Shape);

@@ -8,12 +8,12 @@ use crate::window::Window;
 use spki_tag::Tag;
 use std::alloc::AllocError;
 
-/// Who is given an authorization (RFC 2693, section 6.1): a principal, or a name that is defined by one.
+/// The subject of an authorization (RFC 2693, section 6.1): a principal, or a name in the name space of one.
 #[derive(Drop)]
 pub struct Subject<'a> {
-    /// The principal itself, or the one that defines the first name.
+    /// The principal itself, or the one in whose name space the first name is defined.
     pub principal: Principal<'a>,
-    /// The names behind it; none where the principal itself is the subject.
+    /// The names behind the principal. There are none if the principal itself is the subject.
     pub names: Names<'a>,
 }
 
@@ -29,15 +29,15 @@ impl<'a> Clone for Subject<'a> {
     }
 }
 
-/// An entry of an access list (RFC 2693, section 3.4): what its owner gives to a subject.
+/// An entry of an access list (RFC 2693, section 3.4): what the owner of the list lets a subject do.
 #[derive(Drop)]
 pub struct Entry<'a> {
-    /// Who is given it.
+    /// The subject.
     pub subject: Subject<'a>,
-    /// Whether the subject may pass it on.
+    /// Whether the subject may delegate the authorization.
     pub propagate: bool,
-    /// What is given.
+    /// The requests that are authorized.
     pub tag: Tag,
-    /// When.
+    /// The moments at which they are authorized.
     pub window: Window,
 }

@@ -7,7 +7,7 @@ use spki_tag::TagFault;
 use std::alloc::{AllocError, AllocFailed};
 use thiserror::Error;
 
-/// What is wrong with a structure. It is read from the left, and the first fault met is answered.
+/// Why a structure is refused. It is read from the left, and the first fault is returned.
 #[derive(Clone, Copy, Debug, PartialEq, Eq, Error)]
 pub enum CertFaultKind {
     /// The value has none of the forms that are read.
@@ -16,10 +16,10 @@ pub enum CertFaultKind {
     /// A version other than 0.
     #[error("unknown version")]
     UnknownVersion,
-    /// A hash algorithm that isn't read, md5 among them.
+    /// A hash algorithm that is not supported, such as md5.
     #[error("unknown hash algorithm")]
     HashAlg,
-    /// A digest whose length isn't that of its algorithm's digests.
+    /// A digest that does not have the length of its algorithm's digests.
     #[error("digest of a wrong length")]
     DigestLength,
     /// A key with `(uri ..)` behind it.
@@ -37,7 +37,7 @@ pub enum CertFaultKind {
     /// A relative name as an entry's subject.
     #[error("a relative name in an entry")]
     RelativeInEntry,
-    /// A limit that isn't a date.
+    /// A limit that is not a date.
     #[error("not a date")]
     BadDate,
     /// A certificate that no signature follows.
@@ -49,10 +49,10 @@ pub enum CertFaultKind {
     /// An operation other than `hash`.
     #[error("unknown operation")]
     UnknownOp,
-    /// A tag that isn't read.
+    /// A tag that is refused.
     #[error("tag: {0}")]
     Tag(TagFault),
-    /// Memory was refused.
+    /// Memory ran out.
     #[error("out of memory")]
     Memory,
 }
@@ -77,8 +77,8 @@ impl<T: Drop> From<AllocFailed<T>> for CertFaultKind {
 #[derive(Clone, Copy, Debug, PartialEq, Eq, Error)]
 #[error("item {item}: {kind}")]
 pub struct CertFault {
-    /// The number of the entry or item, from 1; 0 for the outer list and where there are no items.
+    /// The number of the entry or item, from 1. It is 0 for the outer list, and if there are no items.
     pub item: usize,
-    /// What is wrong.
+    /// The fault.
     pub kind: CertFaultKind,
 }

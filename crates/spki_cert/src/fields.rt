@@ -10,7 +10,7 @@ ghost use Rattle.spki_cert.specs.Faults.{Shows};
 ghost use Rattle.spki_cert.specs.Places.{sole_fault};
 ghost use Rattle.spki_cert.specs.SubjectFaults.{subject_fault, issuer_fault};
 ghost use Rattle.spki_cert.specs.FieldFaults.{kind_of_tag, fields_fault, time_fault, entry_field_fault, cert_field_fault};
-ghost use Rattle.spki_cert.specs.Inner.Gathering.{fault_in, IsTagKind, IssuerAt, WhoAt, Says, gather, KnownOf, IsFieldOf, is_among, IsNew, AreParts};
+ghost use Rattle.spki_cert.specs.Inner.Gathering.{fault_in, IsTagKind, IssuerAt, WhoAt, Says, gather, KnownOf, IsFieldOf, is_among, IsNew};
 
 use crate::date::Date;
 use crate::fault::CertFaultKind;
@@ -23,14 +23,14 @@ use sexpr_core::syntax::{Members, Node};
 use spki_tag::{Tag, TagFault};
 use std::alloc::Global;
 
-/// What the fields are those of.
+/// Whether the fields are those of an entry or of a certificate.
 #[derive(Clone, Copy, Debug)]
 pub(crate) enum Place {
     Entry,
     Certificate,
 }
 
-/// What one field says.
+/// The content of one field.
 #[derive(Drop)]
 pub(crate) enum Said<'a> {
     Nothing,
@@ -42,27 +42,27 @@ pub(crate) enum Said<'a> {
     Valid(Window),
 }
 
-/// What some fields say.
+/// The contents of some fields.
 #[derive(Drop)]
 pub(crate) struct Known<'a> {
     pub issuer: Option<Issuer<'a>>,
     pub subject: Option<Who<'a>>,
     pub tag: Option<Tag>,
-    /// The limits that stand directly.
+    /// The limits that are given directly.
     pub limits: Window,
-    /// Those that stand in `(valid ..)`.
+    /// The limits in `(valid ..)`.
     pub valid: Option<Window>,
 }
 
-/// What all fields say.
+/// The contents of all fields.
 #[derive(Drop)]
 pub(crate) struct Fields<'a> {
     pub propagate: bool,
     pub known: Known<'a>,
 }
 
-/// A tag's fault as one of a structure.
-fn tag_kind(fault: TagFault) -> CertFaultKind
+/// A tag's fault as the fault of a structure.
+fn from_tag_fault(fault: TagFault) -> CertFaultKind
     ensures { IsTagKind fault result }
 {
     match fault {
@@ -71,20 +71,17 @@ fn tag_kind(fault: TagFault) -> CertFaultKind
     }
 }
 
-/// The one tag that stands behind the head `tag`.
+/// Reads the only tag behind the head `tag`.
 fn tag_in(alloc: Global, members: Members) -> Result<Tag, CertFaultKind>
     ensures found { IfOk result (λ tag. Sole ReadsAs members.entry tag) }
-    ensures refused { IfErr result (λ kind. kind ≢ CertFaultKind.Memory →
-        (t : tags.Tag) → Sole ReadsAs members.entry t → ⊥) }
     ensures faultless { IfOk result (λ _. sole_fault CertFaultKind.Shape kind_of_tag members.entry ≡ None) }
     ensures named { IfErr result (λ kind. kind ≢ CertFaultKind.Memory → sole_fault CertFaultKind.Shape kind_of_tag members.entry ≡ Some kind) }
-    ensures shown { IfErr result (λ kind. Shows kind (group (plain (codes "tag") ∷ members.entry))) }
 {
     let Some((value, more)) = members.split_first() else {
         return Err(CertFaultKind::Shape);
     };
     match Tag::of(alloc, &value) {
-        Err(fault) => Err(tag_kind(fault)),
+        Err(fault) => Err(from_tag_fault(fault)),
         Ok(tag) => {
             if more.is_empty() {
                 Ok(tag)
@@ -95,13 +92,11 @@ fn tag_in(alloc: Global, members: Members) -> Result<Tag, CertFaultKind>
     }
 }
 
-/// The one issuer that stands behind the head `issuer`.
+/// Reads the only issuer behind the head `issuer`.
 fn issuer_in<'a>(members: Members<'_, 'a>) -> Result<Issuer<'a>, CertFaultKind>
     ensures found { IfOk result (λ issuer. IssuerAt members.entry issuer) }
-    ensures refused { IfErr result (λ _. (issuer : Principal × Option (List ℕ)) → IssuerIn members.entry issuer → ⊥) }
     ensures faultless { IfOk result (λ _. sole_fault CertFaultKind.Shape issuer_fault members.entry ≡ None) }
     ensures named { IfErr result (λ kind. sole_fault CertFaultKind.Shape issuer_fault members.entry ≡ Some kind) }
-    ensures shown { IfErr result (λ kind. Shows kind (group (plain (codes "issuer") ∷ members.entry))) }
     ensures fault { IfErr result (λ kind. kind ≢ CertFaultKind.Memory) }
 {
     let Some((value, more)) = members.split_first() else {
@@ -115,14 +110,11 @@ fn issuer_in<'a>(members: Members<'_, 'a>) -> Result<Issuer<'a>, CertFaultKind>
     }
 }
 
-/// The one subject that stands behind the head `subject`.
+/// Reads the only subject behind the head `subject`.
 fn subject_in<'a>(alloc: Global, members: Members<'_, 'a>) -> Result<Who<'a>, CertFaultKind>
     ensures found { IfOk result (λ who. WhoAt members.entry who) }
-    ensures refused { IfErr result (λ kind. kind ≢ CertFaultKind.Memory →
-        (who : Option Principal × List (List ℕ)) → WhoIn members.entry who → ⊥) }
     ensures faultless { IfOk result (λ _. sole_fault CertFaultKind.Shape subject_fault members.entry ≡ None) }
     ensures named { IfErr result (λ kind. kind ≢ CertFaultKind.Memory → sole_fault CertFaultKind.Shape subject_fault members.entry ≡ Some kind) }
-    ensures shown { IfErr result (λ kind. Shows kind (group (plain (codes "subject") ∷ members.entry))) }
 {
     let Some((value, more)) = members.split_first() else {
         return Err(CertFaultKind::Shape);
@@ -135,14 +127,12 @@ fn subject_in<'a>(alloc: Global, members: Members<'_, 'a>) -> Result<Who<'a>, Ce
     }
 }
 
-/// What a field says that an entry may have and a certificate too.
+/// Reads a field that an entry and a certificate may have.
 fn said_in_both<'a>(alloc: Global, field: &Node) -> Result<Said<'a>, CertFaultKind>
     ensures says { IfOk result (λ said. Says field.now said) }
     ensures found { IfOk result (λ _. IsField field.now) }
-    ensures refused { IfErr result (λ kind. kind ≢ CertFaultKind.Memory → IsField field.now → ⊥) }
     ensures faultless { IfOk result (λ _. entry_field_fault field.now ≡ None) }
     ensures named { IfErr result (λ kind. kind ≢ CertFaultKind.Memory → entry_field_fault field.now ≡ Some kind) }
-    ensures shown { IfErr result (λ kind. Shows kind field.now) }
 {
     if let Some(members) = field.headed(b"tag") {
         return Ok(Said::Tag(tag_in(alloc, members)?));
@@ -160,14 +150,12 @@ fn said_in_both<'a>(alloc: Global, field: &Node) -> Result<Said<'a>, CertFaultKi
     said_of_time(field)
 }
 
-/// What a field says of validity.
+/// Reads a field of validity.
 fn said_of_time<'a>(field: &Node) -> Result<Said<'a>, CertFaultKind>
     ensures says { IfOk result (λ said. Says field.now said) }
     ensures found { IfOk result (λ _. IsTimeField field.now) }
-    ensures refused { IfErr result (λ _. IsTimeField field.now → ⊥) }
     ensures faultless { IfOk result (λ _. time_fault field.now ≡ None) }
     ensures named { IfErr result (λ kind. time_fault field.now ≡ Some kind) }
-    ensures shown { IfErr result (λ kind. Shows kind field.now) }
     ensures fault { IfErr result (λ kind. kind ≢ CertFaultKind.Memory) }
 {
     if let Some(members) = field.headed(b"not-before") {
@@ -185,14 +173,12 @@ fn said_of_time<'a>(field: &Node) -> Result<Said<'a>, CertFaultKind>
     }
 }
 
-/// What a field of a certificate says.
+/// Reads a field of a certificate.
 fn said_in_certificate<'a>(alloc: Global, field: &Node<'_, 'a>) -> Result<Said<'a>, CertFaultKind>
     ensures says { IfOk result (λ said. Says field.now said) }
     ensures found { IfOk result (λ _. IsCertField field.now) }
-    ensures refused { IfErr result (λ kind. kind ≢ CertFaultKind.Memory → IsCertField field.now → ⊥) }
     ensures faultless { IfOk result (λ _. cert_field_fault field.now ≡ None) }
     ensures named { IfErr result (λ kind. kind ≢ CertFaultKind.Memory → cert_field_fault field.now ≡ Some kind) }
-    ensures shown { IfErr result (λ kind. Shows kind field.now) }
 {
     if let Some(members) = field.headed(b"issuer") {
         return Ok(Said::Issuer(issuer_in(members)?));
@@ -210,7 +196,7 @@ fn said_in_certificate<'a>(alloc: Global, field: &Node<'_, 'a>) -> Result<Said<'
     said_in_both(alloc, field)
 }
 
-/// Whether the field isn't looked at, whatever it holds.
+/// Whether the field is ignored, whatever it contains.
 fn is_unread(field: &Node) -> bool
     ensures { MatchBool result (IsUnread field.now) (IsUnread field.now → ⊥) }
 {
@@ -226,14 +212,12 @@ fn is_unread(field: &Node) -> bool
     }
 }
 
-/// What one more field says.
+/// Reads one more field.
 fn said_by<'a>(alloc: Global, place: Place, field: &Node<'_, 'a>) -> Result<Said<'a>, CertFaultKind>
     ensures says { IfOk result (λ said. Says field.now said) }
     ensures found { IfOk result (λ _. IsFieldOf place field.now) }
-    ensures refused { IfErr result (λ kind. kind ≢ CertFaultKind.Memory → IsFieldOf place field.now → ⊥) }
     ensures faultless { IfOk result (λ _. fault_in place field.now ≡ None) }
     ensures named { IfErr result (λ kind. kind ≢ CertFaultKind.Memory → fault_in place field.now ≡ Some kind) }
-    ensures shown { IfErr result (λ kind. Shows kind field.now) }
 {
     match place {
         Place::Entry => said_in_both(alloc, field),
@@ -241,7 +225,7 @@ fn said_by<'a>(alloc: Global, place: Place, field: &Node<'_, 'a>) -> Result<Said
     }
 }
 
-/// What is known behind one more field.
+/// What is known after one more field.
 fn gathered<'a>(known: Known<'a>, said: Said<'a>) -> Known<'a>
     ensures { result ≡ gather known.entry said.entry }
 {
@@ -280,14 +264,14 @@ fn gathered<'a>(known: Known<'a>, said: Said<'a>) -> Known<'a>
     }
 }
 
-/// Whether one of the words is this one.
+/// Whether some word is this one.
 fn is_among(words: &[Octets], word: &[u8]) -> bool
     ensures { result ≡ is_among words.now word.now }
 {
     words.iter().any(|w| w.as_slice() == word)
 }
 
-/// The head of a field whose head none of these is.
+/// The head of a field. None if it is one of `heads`.
 fn new_head<'a>(field: &Node<'_, 'a>, heads: &[Octets]) -> Option<&'a [u8]>
     ensures { MatchOption result ((head : List ℕ) → IsNew field.now heads.now head → ⊥) (λ head. IsNew field.now heads.now head.now) }
 {
@@ -303,7 +287,7 @@ fn new_head<'a>(field: &Node<'_, 'a>, heads: &[Octets]) -> Option<&'a [u8]>
     }
 }
 
-/// What the fields say, each at most once.
+/// Reads the fields, each at most once.
 pub(crate) fn fields_of<'a>(
     alloc: Global,
     place: Place,
@@ -311,10 +295,8 @@ pub(crate) fn fields_of<'a>(
 ) -> Result<Fields<'a>, CertFaultKind>
     ensures found { IfOk result (λ fields. AreFields (IsFieldOf place) members.entry
         × (fields.propagate ≡ propagates members.entry) × KnownOf members.entry fields.known) }
-    ensures refused { IfErr result (λ kind. kind ≢ CertFaultKind.Memory → AreFields (IsFieldOf place) members.entry → ⊥) }
     ensures faultless { IfOk result (λ _. fields_fault (fault_in place) members.entry ≡ None) }
     ensures named { IfErr result (λ kind. kind ≢ CertFaultKind.Memory → fields_fault (fault_in place) members.entry ≡ Some kind) }
-    ensures shown { IfErr result (λ kind. (v : Value) → AreParts members.entry v → Shows kind v) }
 {
     let mut rest = members;
     let mut heads = Vec::new(alloc);

@@ -8,7 +8,7 @@ ghost use Rattle.spki_cert.specs.Naming.{digest_of, is_digest};
 use sha1::Sha1 as Sha1Hasher;
 use sha2::{Digest, Sha256 as Sha256Hasher, Sha512 as Sha512Hasher};
 
-/// An algorithm whose digests are read.
+/// A hash algorithm that is supported.
 #[derive(Clone, Copy, Debug, PartialEq, Eq)]
 pub enum HashAlg {
     /// SHA-1, with digests of 20 octets.
@@ -47,7 +47,7 @@ impl HashAlg {
         }
     }
 
-    /// How many octets its digests have.
+    /// The number of octets of its digests.
     pub fn digest_len(&self) -> usize
         ensures { result ≡ digest_len self.now }
     {

@@ -17,8 +17,8 @@ struct Digests {
     sha512: Option<[u8; 64]>,
 }
 
-/// A public key, known by its canonical octets (RFC 2693, section 2.5). Two keys are the same if these are. A key
-/// carries the digests that `digested` has made of it.
+/// A public key, as its canonical octets (RFC 2693, section 2.5). Two keys are the same if these octets are. A key carries
+/// the digests that `digested` has made of it.
 #[derive(Debug, Drop)]
 pub struct Key<'a> {
     canonical: Octets<'a>,
@@ -68,7 +68,7 @@ impl<'a> Key<'a> {
         self.canonical.as_slice()
     }
 
-    /// The same key once more, which takes no memory.
+    /// Returns the same key again, without taking memory.
     pub fn share(&self) -> Key<'a>
         ensures { result ≡ self.now }
     {
@@ -78,8 +78,8 @@ impl<'a> Key<'a> {
         }
     }
 
-    /// The same key, which carries its digests by these algorithms besides those that it has. Takes no memory. A digest that
-    /// the key carries is never made again, by this call or by `Principal::names`.
+    /// Returns the same key with its digests by these algorithms, in addition to those that it carries. Takes no memory. A
+    /// digest that the key carries is not made again, by this call or by `Principal::names`.
     pub fn digested(&self, algorithms: Algorithms) -> Key<'a>
         ensures { result ≡ self.now }
     {
@@ -105,8 +105,8 @@ impl<'a> Key<'a> {
         }
     }
 
-    /// Whether its canonical octets have this digest under the algorithm. Takes no memory. A digest that the key carries is
-    /// compared; else the key is digested.
+    /// Whether its canonical octets have this digest of the algorithm. Takes no memory. A digest that the key carries is
+    /// compared. Otherwise the key is digested.
     pub fn has_digest(&self, alg: HashAlg, digest: &[u8]) -> bool
         ensures { result ≡ is_digest alg digest.now self.now }
     {

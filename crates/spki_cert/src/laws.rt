@@ -1,14 +1,29 @@
-//! Laws of keys, certificates and access lists, as they are written.
+//! Laws of keys, hashes, dates, access lists and sequences.
 
-ghost use Rattle.std.specs.Prelude.{◌≡◌, ◌↔◌, ℕ, List, None};
+ghost use Rattle.std.specs.Prelude.{◌≡◌, ◌↔◌, ◌⊎◌, ℕ, List, Option, Some, None};
 ghost use Rattle.sexpr_core.specs.Value.{Value};
 ghost use Rattle.spki_cert.specs.declared.hash.HashAlg.{HashAlg};
+ghost use Rattle.spki_cert.specs.declared.fault.CertFaultKind.{CertFaultKind};
+ghost use Rattle.spki_cert.specs.declared.principal.Principal.{Principal};
 ghost use Rattle.spki_cert.specs.declared.entry.Entry.{Entry};
+ghost use Rattle.spki_cert.specs.declared.entry.Subject.{Subject};
+ghost use Rattle.spki_cert.specs.declared.certificate.AuthCert.{AuthCert};
+ghost use Rattle.spki_cert.specs.declared.certificate.NameCert.{NameCert};
 ghost use Rattle.spki_cert.specs.declared.certificate.SeqItem.{SeqItem};
+ghost use Rattle.spki_cert.specs.declared.certificate.Signature.{Signature};
 ghost use Rattle.spki_cert.specs.Readings.{KeyOf, HashOf, DateOf};
+ghost use Rattle.spki_cert.specs.Subjects.{PrincipalOf, WhoOf, SubjectOf, IssuerOf};
+ghost use Rattle.spki_cert.specs.Faults.{Shows};
 ghost use Rattle.spki_cert.specs.FixedFaults.{key_fault, hash_fault, date_fault};
-ghost use Rattle.spki_cert.specs.Entries.{AclOf};
-ghost use Rattle.spki_cert.specs.Sequences.{SeqOf};
+ghost use Rattle.spki_cert.specs.SubjectFaults.{principal_fault, subject_fault, entry_subject_fault, issuer_fault};
+ghost use Rattle.spki_cert.specs.Fields.{AreFields, IsLimitField, IsField, IsCertField};
+ghost use Rattle.spki_cert.specs.FieldFaults.{fields_fault, limit_fault, entry_field_fault, cert_field_fault};
+ghost use Rattle.spki_cert.specs.EntryFaults.{entry_fault, acl_fault};
+ghost use Rattle.spki_cert.specs.Entries.{EntryOf, AclOf};
+ghost use Rattle.spki_cert.specs.Certificates.{AuthCertOf, NameCertOf, SignatureOf, DoHashOf};
+ghost use Rattle.spki_cert.specs.ItemFaults.{signature_fault, do_fault, cert_fault, item_fault};
+ghost use Rattle.spki_cert.specs.Sequences.{ItemOf, SeqOf};
+ghost use Rattle.spki_cert.specs.SequenceFaults.{sequence_fault};
 
 /// A value has at most one reading as a key.
 pub fn one_key()
@@ -40,4 +55,44 @@ pub fn no_fault()
     ensures key { (v : Value) → (key_fault v ≡ None) ↔ ((octets : List ℕ) × KeyOf v octets) }
     ensures hash { (v : Value) → (hash_fault v ≡ None) ↔ ((alg : HashAlg) × (digest : List ℕ) × HashOf v alg digest) }
     ensures date { (v : Value) → (date_fault v ≡ None) ↔ ((octets : List ℕ) × DateOf v octets) }
+{}
+
+/// A value has no fault as a principal, a subject or an issuer exactly if it is one.
+pub fn no_subject_fault()
+    ensures principal { (v : Value) → (principal_fault v ≡ None) ↔ ((p : Principal) × PrincipalOf v p) }
+    ensures subject { (v : Value) → (subject_fault v ≡ None) ↔ ((p : Option Principal) × (names : List (List ℕ)) × WhoOf v p names) }
+    ensures of_entry { (v : Value) → (entry_subject_fault v ≡ None) ↔ ((s : Subject) × SubjectOf v s) }
+    ensures issuer { (v : Value) → (issuer_fault v ≡ None) ↔ ((p : Principal) × (name : Option (List ℕ)) × IssuerOf v p name) }
+{}
+
+/// Values have no fault as limits, as the fields of an entry or as those of a certificate exactly if they are these, each
+/// at most once.
+pub fn no_field_fault()
+    ensures limits { (vs : List Value) → (fields_fault limit_fault vs ≡ None) ↔ AreFields IsLimitField vs }
+    ensures of_entry { (vs : List Value) → (fields_fault entry_field_fault vs ≡ None) ↔ AreFields IsField vs }
+    ensures of_certificate { (vs : List Value) → (fields_fault cert_field_fault vs ≡ None) ↔ AreFields IsCertField vs }
+{}
+
+/// A value has no fault as an entry or as an access list exactly if it is one.
+pub fn no_entry_fault()
+    ensures entry { (v : Value) → (entry_fault v ≡ None) ↔ ((e : Entry) × EntryOf v e) }
+    ensures acl { (v : Value) → (acl_fault v ≡ None) ↔ ((es : List Entry) × AclOf v es) }
+{}
+
+/// A value has no fault as a signature, an operation, a certificate, an item or a sequence exactly if it is one.
+pub fn no_sequence_fault()
+    ensures signature { (v : Value) → (signature_fault v ≡ None) ↔ ((s : Signature) × SignatureOf v s) }
+    ensures operation { (v : Value) → (do_fault v ≡ None) ↔ ((alg : HashAlg) × DoHashOf v alg) }
+    ensures certificate { (v : Value) → (cert_fault v ≡ None) ↔ (((c : AuthCert) × AuthCertOf v c) ⊎ ((c : NameCert) × NameCertOf v c)) }
+    ensures item { (v : Value) → (item_fault v ≡ None) ↔ ((item : SeqItem) × ItemOf v item) }
+    ensures sequence { (v : Value) → (sequence_fault v ≡ None) ↔ ((is : List SeqItem) × SeqOf v is) }
+{}
+
+/// The fault of a value as a key, a hash, a principal, an entry or an item of a sequence shows on it.
+pub fn fault_shows()
+    ensures key { (v : Value) (kind : CertFaultKind) → key_fault v ≡ Some kind → Shows kind v }
+    ensures hash { (v : Value) (kind : CertFaultKind) → hash_fault v ≡ Some kind → Shows kind v }
+    ensures principal { (v : Value) (kind : CertFaultKind) → principal_fault v ≡ Some kind → Shows kind v }
+    ensures entry { (v : Value) (kind : CertFaultKind) → entry_fault v ≡ Some kind → Shows kind v }
+    ensures item { (v : Value) (kind : CertFaultKind) → item_fault v ≡ Some kind → Shows kind v }
 {}

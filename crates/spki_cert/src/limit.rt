@@ -5,6 +5,15 @@ ghost use Rattle.spki_cert.specs.Time.{is_from, is_until, later, earlier, in_ord
 
 use crate::date::Date;
 
+/// A limit is a date, where there is one.
+pub fn known_limit(limit: Option<Date>)
+    ensures { IsLimit limit }
+{
+    if let Some(date) = limit {
+        let _ = date;
+    }
+}
+
 pub fn is_from(limit: Option<Date>, moment: &Date) -> bool
     ensures { result ≡ is_from limit moment.now }
 {

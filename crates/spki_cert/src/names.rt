@@ -1,4 +1,4 @@
-//! The names that lead on from a principal.
+//! The names behind a principal.
 
 ghost use Rattle.std.specs.Prelude.{◌≡◌, ◌↔◌, ◌++◌, ◌∷◌, ◌<◌, ℕ, List, [], length, drop, slice_get, Some, IsTrue, IfOk, MatchOption};
 
@@ -6,8 +6,8 @@ use crate::octets::Octets;
 use std::alloc::AllocError;
 use std::marker::Model;
 
-/// The names behind a principal, in order (RFC 2693, section 2.8). To take the first away, and to put others in front, takes no
-/// time for those that stay.
+/// The names behind a principal, in order (RFC 2693, section 2.8). Removing the first name, and putting others in front,
+/// takes no time for the names that are kept.
 #[derive(Drop)]
 pub struct Names<'a> {
     from_last: Vec<Octets<'a>>,
@@ -32,7 +32,7 @@ impl<'a> Names<'a> {
         Names { from_last }
     }
 
-    /// How many names there are.
+    /// The number of names.
     pub fn len(&self) -> usize
         ensures { result ≡ length self.now }
     {
@@ -74,7 +74,7 @@ impl<'a> Names<'a> {
     ///
     /// # Errors
     ///
-    /// Where memory was refused.
+    /// `AllocError` if memory ran out.
     pub fn behind(self, others: &Names<'a>) -> Result<Names<'a>, AllocError>
         ensures { IfOk result (λ names. names ≡ others.now ++ self.entry) }
     {

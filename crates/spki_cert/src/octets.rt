@@ -1,4 +1,4 @@
-//! Octets as they stand in a text.
+//! Octets of a text.
 
 ghost use Rattle.std.specs.Prelude.{◌≡◌, ◌↔◌, ℕ, List, IsTrue};
 
@@ -33,7 +33,7 @@ impl<'a> Octets<'a> {
         self.octets
     }
 
-    /// The same octets once more, which takes no memory.
+    /// Returns the same octets again, without taking memory.
     pub fn share(&self) -> Octets<'a>
         ensures { result ≡ self.now }
     {

@@ -6,7 +6,7 @@ use crate::hash::HashAlg;
 use crate::key::Key;
 use crate::octets::Octets;
 
-/// What is asked of a hash that is to name a key.
+/// Which hashes may name keys.
 #[derive(Clone, Copy, Debug, PartialEq, Eq)]
 pub enum Policy {
     /// The hashes of all three algorithms name keys.
@@ -32,7 +32,7 @@ pub enum Principal<'a> {
 impl<'a> Principal<'a> {
     ghost use Rattle.spki_cert.specs.Naming.{names};
 
-    /// The same principal once more, which takes no memory.
+    /// Returns the same principal again, without taking memory.
     pub fn share(&self) -> Principal<'a>
         ensures { result ≡ self.now }
     {
@@ -45,8 +45,8 @@ impl<'a> Principal<'a> {
         }
     }
 
-    /// Whether the principal names the key: a key names the key with the same octets, and a hash each key
-    /// whose canonical octets have its digest, but a SHA-1 hash none under the strict policy. Takes no memory.
+    /// Whether the principal names the key. A key names the key with the same octets. A hash names each key whose canonical
+    /// octets have its digest, but under the strict policy a SHA-1 hash names none. Takes no memory.
     pub fn names(&self, key: &Key, policy: Policy) -> bool
         ensures { result ≡ names policy self.now key.now }
     {
@@ -62,7 +62,7 @@ impl<'a> Principal<'a> {
 impl Policy {
     ghost use Rattle.spki_cert.specs.Naming.{admits};
 
-    /// Whether hashes of the algorithm may name keys.
+    /// Whether hashes of the algorithm may name keys under this policy.
     pub fn admits(self, alg: HashAlg) -> bool
         ensures { result ≡ admits self alg }
     {

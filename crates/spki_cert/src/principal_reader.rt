@@ -1,4 +1,4 @@
-//! Principals, names, subjects and issuers, as they are read.
+//! Reads principals, names, subjects and issuers.
 
 ghost use Rattle.std.specs.Prelude.{◌≡◌, ◌≢◌, false, ◌∷◌, ◌++◌, [], ℕ, List, Option, Some, None, codes, IfOk, IfErr};
 ghost use Rattle.sexpr_core.specs.Value.{Value, plain, group};
@@ -17,25 +17,26 @@ use crate::value_readers::{hash_of, key_of};
 use sexpr_core::syntax::{Members, Node};
 use std::alloc::Global;
 
-/// Who is named; without a principal the name is relative to one that isn't written.
+/// A subject as it is written. Without a principal the name is relative to one that is not written.
 #[derive(Drop)]
 pub(crate) struct Who<'a> {
     pub principal: Option<Principal<'a>>,
     pub names: Vec<Octets<'a>>,
 }
 
-/// Who issues a certificate, and the name that a name certificate defines.
+/// The issuer of a certificate, and the name that a name certificate defines.
 #[derive(Drop)]
 pub(crate) struct Issuer<'a> {
     pub principal: Principal<'a>,
     pub name: Option<Octets<'a>>,
 }
 
-/// The principal that a node is: a key or a hash (RFC 2693, section 2.5). Takes no memory.
+/// Reads the principal of a node: a key or a hash (RFC 2693, section 2.5). Takes no memory.
 ///
 /// # Errors
 ///
-/// The fault of the hash where the node is headed `hash`, and else that of the key, which is `Shape` for what is neither.
+/// The fault of the hash if the node is headed `hash`. Otherwise the fault of the key, which is `Shape` for a value that is
+/// neither.
 pub fn principal_of<'a>(node: &Node<'_, 'a>) -> Result<Principal<'a>, CertFaultKind>
     ensures found { IfOk result (λ principal. PrincipalOf node.now principal) }
     ensures refused { IfErr result (λ _. (principal : Principal) → PrincipalOf node.now principal → ⊥) }
@@ -56,18 +57,15 @@ pub fn principal_of<'a>(node: &Node<'_, 'a>) -> Result<Principal<'a>, CertFaultK
     }
 }
 
-/// These names and those that stand behind them.
+/// These names, and those behind them.
 fn names_behind<'a>(
     names: Vec<Octets<'a>>,
     members: Members<'_, 'a>,
 ) -> Result<Vec<Octets<'a>>, CertFaultKind>
     ensures found { IfOk result (λ all. (behind : List (List ℕ)) × (all.items ≡ names.entry.items ++ behind)
         × (members.entry ≡ plains behind)) }
-    ensures refused { IfErr result (λ kind. kind ≢ CertFaultKind.Memory →
-        (behind : List (List ℕ)) → members.entry ≢ plains behind) }
     ensures named { IfErr result (λ kind. kind ≢ CertFaultKind.Memory →
         (list_all is_name members.entry ≡ false) × (kind ≡ CertFaultKind.Shape)) }
-    ensures shown { IfErr result (λ kind. (v : Value) → Shows kind v) }
 {
     let mut rest = members;
     let mut all = names;
@@ -81,14 +79,11 @@ fn names_behind<'a>(
     Ok(all)
 }
 
-/// Who is named behind the head `name`.
+/// Reads the name behind the head `name`.
 fn named_by<'a>(alloc: Global, members: Members<'_, 'a>) -> Result<Who<'a>, CertFaultKind>
     ensures found { IfOk result (λ who. NamesWho members.entry who.principal who.names.items) }
-    ensures refused { IfErr result (λ kind. kind ≢ CertFaultKind.Memory →
-        (principal : Option Principal) (names : List (List ℕ)) → NamesWho members.entry principal names → ⊥) }
     ensures faultless { IfOk result (λ _. names_fault members.entry ≡ None) }
     ensures named { IfErr result (λ kind. kind ≢ CertFaultKind.Memory → names_fault members.entry ≡ Some kind) }
-    ensures shown { IfErr result (λ kind. Shows kind (group (plain (codes "name") ∷ members.entry))) }
 {
     let Some((first, others)) = members.split_first() else {
         return Err(CertFaultKind::Shape);
@@ -113,14 +108,11 @@ fn named_by<'a>(alloc: Global, members: Members<'_, 'a>) -> Result<Who<'a>, Cert
     })
 }
 
-/// The subject that a node is: a principal, a name, or a relative name.
+/// Reads the subject of a node: a principal, a name, or a relative name.
 pub(crate) fn who_of<'a>(alloc: Global, node: &Node<'_, 'a>) -> Result<Who<'a>, CertFaultKind>
     ensures found { IfOk result (λ who. WhoOf node.now who.principal who.names.items) }
-    ensures refused { IfErr result (λ kind. kind ≢ CertFaultKind.Memory →
-        (principal : Option Principal) (names : List (List ℕ)) → WhoOf node.now principal names → ⊥) }
     ensures faultless { IfOk result (λ _. subject_fault node.now ≡ None) }
     ensures named { IfErr result (λ kind. kind ≢ CertFaultKind.Memory → subject_fault node.now ≡ Some kind) }
-    ensures shown { IfErr result (λ kind. SubjectShows kind node.now) }
 {
     if let Some(_) = node.headed(b"k-of-n") {
         return Err(CertFaultKind::Threshold);
@@ -138,14 +130,11 @@ pub(crate) fn who_of<'a>(alloc: Global, node: &Node<'_, 'a>) -> Result<Who<'a>, 
     named_by(alloc, members)
 }
 
-/// The issuer that a node is: a principal, or a name of one word.
+/// Reads the issuer of a node: a principal, or a name of one word.
 pub(crate) fn issuer_of<'a>(node: &Node<'_, 'a>) -> Result<Issuer<'a>, CertFaultKind>
     ensures found { IfOk result (λ issuer. IssuerOf node.now issuer.principal issuer.name) }
-    ensures refused { IfErr result (λ _.
-        (principal : Principal) (name : Option (List ℕ)) → IssuerOf node.now principal name → ⊥) }
     ensures faultless { IfOk result (λ _. issuer_fault node.now ≡ None) }
     ensures named { IfErr result (λ kind. issuer_fault node.now ≡ Some kind) }
-    ensures shown { IfErr result (λ kind. Shows kind node.now) }
     ensures fault { IfErr result (λ kind. kind ≢ CertFaultKind.Memory) }
 {
     let Some(members) = node.headed(b"name") else {

@@ -1,4 +1,4 @@
-//! Sequences, as they are read.
+//! Reads sequences.
 
 ghost use Rattle.std.specs.Prelude.{◌≡◌, ◌≢◌, ◌∷◌, ◌+◌, IsSome, IfSome, IfOk, IfErr, List, Some, None, is_some, false};
 ghost use Rattle.std.specs.List.{AllZip};
@@ -30,13 +30,11 @@ fn is_headed(node: &Node, word: &[u8]) -> bool
     }
 }
 
-/// The item that a node is: a certificate, a signature, an operation, or else a key.
+/// Reads the item of a node: a certificate, a signature, an operation, or otherwise a key.
 fn item_of<'a>(alloc: Global, node: &Node<'_, 'a>) -> Result<SeqItem<'a>, CertFaultKind>
     ensures found { IfOk result (λ item. ItemOf node.now item) }
-    ensures refused { IfErr result (λ kind. kind ≢ CertFaultKind.Memory → (item : spec.SeqItem) → ItemOf node.now item → ⊥) }
     ensures faultless { IfOk result (λ _. item_fault node.now ≡ None) }
     ensures named { IfErr result (λ kind. kind ≢ CertFaultKind.Memory → item_fault node.now ≡ Some kind) }
-    ensures shown { IfErr result (λ kind. Shows kind node.now) }
 {
     if let Some(_) = node.headed(b"cert") {
         return cert_of(alloc, node);
@@ -50,7 +48,7 @@ fn item_of<'a>(alloc: Global, node: &Node<'_, 'a>) -> Result<SeqItem<'a>, CertFa
     Ok(SeqItem::Key(key_of(node)?))
 }
 
-/// Whether an item may stand behind the others, of which this certificate waits for its signature.
+/// Checks that an item may follow the others, if `waits` is the certificate that is still without its signature.
 fn check_place(node: &Node, waits: Option<usize>, number: usize) -> Result<(), CertFault>
     ensures found { IfOk result (λ _. IsInPlace (is_some waits) node.now) }
     ensures refused { IfErr result (λ fault. IsMisplaced waits number node.now fault) }
@@ -78,7 +76,7 @@ fn check_place(node: &Node, waits: Option<usize>, number: usize) -> Result<(), C
     }
 }
 
-/// The certificate that waits for its signature behind an item with this number.
+/// The certificate that is still without its signature after an item with this number.
 fn waiting(node: &Node, before: Option<usize>, number: usize) -> Option<usize>
     ensures { result ≡ waiting node.now before number }
 {
@@ -92,7 +90,7 @@ fn waiting(node: &Node, before: Option<usize>, number: usize) -> Option<usize>
     }
 }
 
-/// The items of a sequence, behind its head.
+/// Reads the items of a sequence, behind its head.
 fn items_of<'a>(alloc: Global, members: Members<'_, 'a>) -> Result<Vec<SeqItem<'a>>, CertFault>
     ensures items { IfOk result (λ items. AllZip ItemOf members.entry items.items) }
     ensures in_place { IfOk result (λ _. AreInPlace false members.entry × (waits_after false members.entry ≡ false)) }
@@ -130,13 +128,13 @@ fn items_of<'a>(alloc: Global, members: Members<'_, 'a>) -> Result<Vec<SeqItem<'
     }
 }
 
-/// The items of the sequence that a node is, as `read_sequence` reads it, with the same errors.
+/// Reads the items of the sequence of a node, like `read_sequence`, with the same errors.
 pub fn sequence_of<'a>(alloc: Global, node: &Node<'_, 'a>) -> Result<Vec<SeqItem<'a>>, CertFault>
     ensures sequence { IfOk result (λ items. SeqOf node.now items.items) }
-    // The fault that is named is the first from the left; what is read has none.
+    // The fault is the first from the left, and what is read has none.
     ensures named { IfErr result (λ fault. fault.kind ≢ CertFaultKind.Memory → sequence_fault node.now ≡ Some fault) }
     ensures faultless { IfOk result (λ _. sequence_fault node.now ≡ None) }
-    // What is refused is named, and the fault shows on it.
+    // The item of the fault is the one that is refused, and the fault is true of it.
     ensures refused { IfErr result (λ fault. fault.kind ≢ CertFaultKind.Memory → SeqRefused node.now fault) }
 {
     match node.headed(b"sequence") {
@@ -148,15 +146,15 @@ pub fn sequence_of<'a>(alloc: Global, node: &Node<'_, 'a>) -> Result<Vec<SeqItem
     }
 }
 
-/// Reads node n of a document as a sequence: `(sequence item ..)`. An item is a key, `(do hash alg)`, a certificate or
-/// a signature. Each certificate is followed by its signature, and only `do` items may stand between.
+/// Reads node n of a document as a sequence: `(sequence item ..)`. An item is a key, `(do hash alg)`, a certificate or a
+/// signature. Each certificate is followed by its signature, with only `do` items between.
 ///
 /// # Errors
 ///
-/// The first fault from the left, with the number of the item, from 1, or 0 where the outer list isn't headed
-/// `sequence` (`Shape`). `UnsignedCert` has the number of the certificate; it goes before the faults of the item that
-/// stands in the signature's place. `StraySignature` where a signature stands and no certificate waits, whatever its
-/// members. `Memory` where memory ran out.
+/// The first fault from the left, with the number of the item, from 1, or 0 if the outer list is not headed `sequence`
+/// (`Shape`). `UnsignedCert` has the number of the certificate, and comes before the faults of the item in the signature's
+/// place. `StraySignature`: a signature, although each certificate before it has its own, whatever the members of the
+/// signature are. `Memory` if memory ran out.
 pub fn read_sequence<'a>(
     alloc: Global,
     document: &Doc<'a>,
@@ -165,15 +163,15 @@ pub fn read_sequence<'a>(
     requires { IsSome (node document.now n.0) }
     ensures sequence { IfSome (node document.now n.0) (λ value.
         IfOk result (λ items. SeqOf value items.items)) }
-    // Refused, other than by Memory, is only what is no sequence,
+    // Only a value that is no sequence is refused, except for Memory.
     ensures none { IfSome (node document.now n.0) (λ value.
         IfErr result (λ fault. fault.kind ≢ CertFaultKind.Memory →
         (items : List spec.SeqItem) → SeqOf value items → ⊥)) }
-    // The fault that is named is the first from the left; what is read has none.
+    // The fault is the first from the left, and what is read has none.
     ensures named { IfSome (node document.now n.0) (λ value.
         IfErr result (λ fault. fault.kind ≢ CertFaultKind.Memory → sequence_fault value ≡ Some fault)) }
     ensures faultless { IfSome (node document.now n.0) (λ value. IfOk result (λ _. sequence_fault value ≡ None)) }
-    // and what is refused is named, where the items before it have readings and the fault shows on it.
+    // The item of the fault is refused, the items before it can be read, and the fault is true of it.
     ensures refused { IfSome (node document.now n.0) (λ value.
         IfErr result (λ fault. fault.kind ≢ CertFaultKind.Memory → SeqRefused value fault)) }
 {

@@ -1,4 +1,4 @@
-//! Signatures and operations, as they are read.
+//! Reads signatures and operations.
 
 ghost use Rattle.std.specs.Prelude.{◌≡◌, ◌≢◌, Some, None, IfOk, IfErr};
 ghost use Rattle.spki_cert.specs.declared.certificate.Signature as spec;
@@ -15,13 +15,11 @@ use crate::principal_reader::principal_of;
 use crate::value_readers::{algorithm_of, hash_of};
 use sexpr_core::syntax::Node;
 
-/// The signature that a node is.
+/// Reads the signature of a node.
 pub(crate) fn signature_of<'a>(node: &Node<'_, 'a>) -> Result<Signature<'a>, CertFaultKind>
     ensures found { IfOk result (λ signature. SignatureOf node.now signature) }
-    ensures refused { IfErr result (λ _. (s : spec.Signature) → SignatureOf node.now s → ⊥) }
     ensures faultless { IfOk result (λ _. signature_fault node.now ≡ None) }
     ensures named { IfErr result (λ kind. signature_fault node.now ≡ Some kind) }
-    ensures shown { IfErr result (λ kind. Shows kind node.now) }
     ensures fault { IfErr result (λ kind. kind ≢ CertFaultKind.Memory) }
 {
     let Some(members) = node.headed(b"signature") else {
@@ -49,13 +47,11 @@ pub(crate) fn signature_of<'a>(node: &Node<'_, 'a>) -> Result<Signature<'a>, Cer
     })
 }
 
-/// The algorithm of the operation that a node is: `(do hash alg)`.
+/// Reads the algorithm of an operation: `(do hash alg)`.
 pub(crate) fn do_hash_of(node: &Node) -> Result<HashAlg, CertFaultKind>
     ensures found { IfOk result (λ alg. DoHashOf node.now alg) }
-    ensures refused { IfErr result (λ _. (alg : HashAlg) → DoHashOf node.now alg → ⊥) }
     ensures faultless { IfOk result (λ _. do_fault node.now ≡ None) }
     ensures named { IfErr result (λ kind. do_fault node.now ≡ Some kind) }
-    ensures shown { IfErr result (λ kind. Shows kind node.now) }
     ensures fault { IfErr result (λ kind. kind ≢ CertFaultKind.Memory) }
 {
     let Some(members) = node.headed(b"do") else {

@@ -1,4 +1,4 @@
-//! Validity, as it is read (RFC 2693, section 5).
+//! Reads validity (RFC 2693, section 5).
 
 ghost use Rattle.std.specs.Prelude.{◌≡◌, ◌≢◌, ◌∷◌, [], ℕ, List, Some, None, codes, IfOk, IfErr, MatchOption};
 ghost use Rattle.sexpr_core.specs.Value.{Value, plain, group};
@@ -9,7 +9,7 @@ ghost use Rattle.spki_cert.specs.Faults.{Shows};
 ghost use Rattle.spki_cert.specs.Places.{sole_fault};
 ghost use Rattle.spki_cert.specs.FixedFaults.{date_fault};
 ghost use Rattle.spki_cert.specs.FieldFaults.{fields_fault, limit_fault};
-ghost use Rattle.spki_cert.specs.Inner.Gathering.{LimitLook, AddsLimit, HasLimit, IsOneWay, IsBothWays};
+ghost use Rattle.spki_cert.specs.Inner.Gathering.{LimitLook, AddsLimit, IsOneWay, IsBothWays};
 
 use crate::date::Date;
 use crate::fault::CertFaultKind;
@@ -17,14 +17,11 @@ use crate::value_readers::date_of;
 use crate::window::Window;
 use sexpr_core::syntax::{Members, Node};
 
-/// The one date that stands behind the head of a limit.
+/// Reads the only date behind the head of a limit.
 pub(crate) fn date_in(members: Members) -> Result<Date, CertFaultKind>
     ensures found { IfOk result (λ date. Sole DateOf members.entry date) }
-    ensures refused { IfErr result (λ _. (date : List ℕ) → Sole DateOf members.entry date → ⊥) }
     ensures faultless { IfOk result (λ _. sole_fault CertFaultKind.Shape date_fault members.entry ≡ None) }
     ensures named { IfErr result (λ kind. sole_fault CertFaultKind.Shape date_fault members.entry ≡ Some kind) }
-    ensures shown { IfErr result (λ kind. (word : List ℕ) → IsLimitWord word →
-        Shows kind (group (plain word ∷ members.entry))) }
     ensures fault { IfErr result (λ kind. kind ≢ CertFaultKind.Memory) }
 {
     let Some((value, more)) = members.split_first() else {
@@ -38,13 +35,11 @@ pub(crate) fn date_in(members: Members) -> Result<Date, CertFaultKind>
     }
 }
 
-/// The window with one more limit.
+/// Adds one more limit to the window.
 fn with_limit(field: &Node, window: Window) -> Result<Window, CertFaultKind>
     ensures found { IfOk result (λ after. AddsLimit field.now window after) }
-    ensures refused { IfErr result (λ _. IsLimitField field.now → HasLimit field.now window) }
     ensures faultless { IfOk result (λ _. LimitLook window field.now None) }
     ensures named { IfErr result (λ kind. LimitLook window field.now (Some kind)) }
-    ensures shown { IfErr result (λ kind. Shows kind field.now) }
     ensures fault { IfErr result (λ kind. kind ≢ CertFaultKind.Memory) }
 {
     if let Some(members) = field.headed(b"not-before") {
@@ -73,13 +68,11 @@ fn with_limit(field: &Node, window: Window) -> Result<Window, CertFaultKind>
     }
 }
 
-/// The window of the limits that stand behind the head `valid`, each at most once.
+/// Reads the window of the limits behind the head `valid`, each at most once.
 pub(crate) fn valid_in(members: Members) -> Result<Window, CertFaultKind>
     ensures found { IfOk result (λ window. ValidOf members.entry window) }
-    ensures refused { IfErr result (λ _. (window : Window) → ValidOf members.entry window → ⊥) }
     ensures faultless { IfOk result (λ _. fields_fault limit_fault members.entry ≡ None) }
     ensures named { IfErr result (λ kind. fields_fault limit_fault members.entry ≡ Some kind) }
-    ensures shown { IfErr result (λ kind. Shows kind (group (plain (codes "valid") ∷ members.entry))) }
     ensures fault { IfErr result (λ kind. kind ≢ CertFaultKind.Memory) }
 {
     let mut rest = members;
@@ -94,7 +87,7 @@ pub(crate) fn valid_in(members: Members) -> Result<Window, CertFaultKind>
     Ok(window)
 }
 
-/// The window that limits and a `(valid ..)` give; None where both ways stand at once.
+/// The window of direct limits and a `(valid ..)`. None if there are limits both ways.
 pub(crate) fn one_way(limits: Window, valid: Option<Window>) -> Option<Window>
     ensures { MatchOption result (IsBothWays limits valid) (IsOneWay limits valid) }
 {

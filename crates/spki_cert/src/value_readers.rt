@@ -1,4 +1,4 @@
-//! Keys, hashes and dates, as they are read.
+//! Reads keys, hashes and dates.
 
 ghost use Rattle.std.specs.Prelude.{◌≡◌, ◌≢◌, IfOk, IfErr, codes, ◌∷◌, ℕ, List, Some, None, IsSome, MatchOption, MatchResult, IfSome, MatchBool};
 ghost use Rattle.spki_cert.specs.declared.hash.HashAlg.{HashAlg};
@@ -16,7 +16,7 @@ use crate::octets::Octets;
 use sexpr_core::syntax::{Members, Node, NodeKind};
 use sexpr_core::{Doc, NodeId};
 
-/// The key that a node is.
+/// Reads the key of a node.
 pub fn key_of<'a>(node: &Node<'_, 'a>) -> Result<Key<'a>, CertFaultKind>
     ensures key { IfOk result (λ key. KeyOf node.now key) }
     ensures refused { IfErr result (λ _. IsNoKey node.now) }
@@ -43,7 +43,7 @@ pub fn key_of<'a>(node: &Node<'_, 'a>) -> Result<Key<'a>, CertFaultKind>
     }
 }
 
-/// Whether the node is a list headed by a string without display hint.
+/// Whether the node is a list headed by a string without a display hint.
 fn is_algorithm(node: &Node) -> bool
     ensures { MatchBool result (IsAlgorithm node.now) (IsAlgorithm node.now → ⊥) }
 {
@@ -56,7 +56,7 @@ fn is_algorithm(node: &Node) -> bool
     }
 }
 
-/// The date that a node is.
+/// Reads the date of a node.
 pub fn date_of(node: &Node) -> Result<Date, CertFaultKind>
     ensures date { IfOk result (λ date. DateOf node.now date) }
     ensures refused { IfErr result (λ _. IsNoDate node.now) }
@@ -73,7 +73,7 @@ pub fn date_of(node: &Node) -> Result<Date, CertFaultKind>
     }
 }
 
-/// The algorithm that a node names.
+/// Reads the algorithm of a node.
 pub(crate) fn algorithm_of(node: &Node) -> Result<HashAlg, CertFaultKind>
     ensures named { IfOk result (λ alg. node.now ≡ plain (alg_name alg)) }
     ensures refused { IfErr result (λ _. (alg : HashAlg) → node.now ≢ plain (alg_name alg)) }
@@ -92,8 +92,8 @@ pub(crate) fn algorithm_of(node: &Node) -> Result<HashAlg, CertFaultKind>
     }
 }
 
-/// The digest that a node is.
-fn digest_of<'a>(alg: HashAlg, node: &Node<'_, 'a>) -> Result<Octets<'a>, CertFaultKind>
+/// Reads the digest of a node.
+fn digest_member<'a>(alg: HashAlg, node: &Node<'_, 'a>) -> Result<Octets<'a>, CertFaultKind>
     ensures digest { IfOk result (λ digest. DigestOf node.now alg digest) }
     ensures refused { IfErr result (λ _. (digest : List ℕ) → DigestOf node.now alg digest → ⊥) }
     ensures faultless { IfOk result (λ _. digest_fault alg node.now ≡ None) }
@@ -112,7 +112,7 @@ fn digest_of<'a>(alg: HashAlg, node: &Node<'_, 'a>) -> Result<Octets<'a>, CertFa
     }
 }
 
-/// Whether nothing is left behind a digest, or uris alone.
+/// Whether nothing, or only uris, follow a digest.
 fn ends_in_uris(rest: Members) -> bool
     ensures { MatchBool result (AreUris rest.entry) (AreUris rest.entry → ⊥) }
 {
@@ -122,7 +122,7 @@ fn ends_in_uris(rest: Members) -> bool
     }
 }
 
-/// The hash that a node is.
+/// Reads the hash of a node.
 pub fn hash_of<'a>(node: &Node<'_, 'a>) -> Result<(HashAlg, Octets<'a>), CertFaultKind>
     ensures hash { IfOk result (λ h. HashOf node.now h.0 h.1) }
     ensures refused { IfErr result (λ _. IsNoHash node.now) }
@@ -141,7 +141,7 @@ pub fn hash_of<'a>(node: &Node<'_, 'a>) -> Result<(HashAlg, Octets<'a>), CertFau
     let Some((octets, rest)) = rest.split_first() else {
         return Err(CertFaultKind::Shape);
     };
-    let digest = digest_of(alg, &octets)?;
+    let digest = digest_member(alg, &octets)?;
     if ends_in_uris(rest) {
         Ok((alg, digest))
     } else {
@@ -153,16 +153,16 @@ pub fn hash_of<'a>(node: &Node<'_, 'a>) -> Result<(HashAlg, Octets<'a>), CertFau
 ///
 /// # Errors
 ///
-/// The first fault from the left: `KeyUris` where a list headed `uri` stands behind the algorithm's list, and
-/// `Shape` else. The item is 0.
+/// The first fault from the left: `KeyUris` if a list headed `uri` follows the algorithm's list, otherwise `Shape`. The item
+/// is 0.
 pub fn read_key<'a>(document: &Doc<'a>, n: NodeId) -> Result<Key<'a>, CertFault>
     requires { IsSome (node document.now n.0) }
     ensures key { IfSome (node document.now n.0) (λ value. IfOk result (λ key. KeyOf value key)) }
     ensures refused { IfSome (node document.now n.0) (λ value. IfErr result (λ _. IsNoKey value)) }
-    // The fault that is named is the first from the left; what is read has none.
+    // The fault is the first from the left, and what is read has none.
     ensures named { IfSome (node document.now n.0) (λ value. IfErr result (λ fault. key_fault value ≡ Some fault.kind)) }
     ensures faultless { IfSome (node document.now n.0) (λ value. IfOk result (λ _. key_fault value ≡ None)) }
-    // A kind other than Shape shows on the value.
+    // A kind other than Shape is true of the value.
     ensures shown { IfSome (node document.now n.0) (λ value. IfErr result (λ fault. Shows fault.kind value)) }
     ensures fault { IfErr result (λ fault. (fault.item ≡ 0) × (fault.kind ≢ CertFaultKind.Memory)) }
 {
@@ -179,16 +179,16 @@ pub fn read_key<'a>(document: &Doc<'a>, n: NodeId) -> Result<Key<'a>, CertFault>
 ///
 /// # Errors
 ///
-/// The first fault from the left: `HashAlg` where the algorithm is a string other than `sha1`, `sha256` and
-/// `sha512`, `DigestLength` where the digest hasn't its 20, 32 or 64 octets, and `Shape` else. The item is 0.
+/// The first fault from the left: `HashAlg` if the algorithm is a string other than `sha1`, `sha256` and `sha512`;
+/// `DigestLength` if the digest does not have its 20, 32 or 64 octets; otherwise `Shape`. The item is 0.
 pub fn read_hash<'a>(document: &Doc<'a>, n: NodeId) -> Result<(HashAlg, Octets<'a>), CertFault>
     requires { IsSome (node document.now n.0) }
     ensures hash { IfSome (node document.now n.0) (λ value. IfOk result (λ hash. HashOf value hash.0 hash.1)) }
     ensures refused { IfSome (node document.now n.0) (λ value. IfErr result (λ _. IsNoHash value)) }
-    // The fault that is named is the first from the left; what is read has none.
+    // The fault is the first from the left, and what is read has none.
     ensures named { IfSome (node document.now n.0) (λ value. IfErr result (λ fault. hash_fault value ≡ Some fault.kind)) }
     ensures faultless { IfSome (node document.now n.0) (λ value. IfOk result (λ _. hash_fault value ≡ None)) }
-    // A kind other than Shape shows on the value.
+    // A kind other than Shape is true of the value.
     ensures shown { IfSome (node document.now n.0) (λ value. IfErr result (λ fault. Shows fault.kind value)) }
     ensures fault { IfErr result (λ fault. (fault.item ≡ 0) × (fault.kind ≢ CertFaultKind.Memory)) }
 {
@@ -201,17 +201,17 @@ pub fn read_hash<'a>(document: &Doc<'a>, n: NodeId) -> Result<(HashAlg, Octets<'
     }
 }
 
-/// Reads node n of a document as a date: a string without display hint of the form `YYYY-MM-DD_HH:MM:SS`. Takes
-/// no memory.
+/// Reads node n of a document as a date: a string without a display hint, of the form `YYYY-MM-DD_HH:MM:SS`. Takes no
+/// memory.
 ///
 /// # Errors
 ///
-/// `BadDate` alone; the item is 0.
+/// Only `BadDate`. The item is 0.
 pub fn read_date(document: &Doc, n: NodeId) -> Result<Date, CertFault>
     requires { IsSome (node document.now n.0) }
     ensures date { IfSome (node document.now n.0) (λ value. IfOk result (λ date. DateOf value date)) }
     ensures refused { IfSome (node document.now n.0) (λ value. IfErr result (λ _. IsNoDate value)) }
-    // The fault that is named is the first from the left; what is read has none.
+    // The fault is the first from the left, and what is read has none.
     ensures named { IfSome (node document.now n.0) (λ value. IfErr result (λ fault. date_fault value ≡ Some fault.kind)) }
     ensures faultless { IfSome (node document.now n.0) (λ value. IfOk result (λ _. date_fault value ≡ None)) }
     ensures fault { IfErr result (λ fault. (fault.item ≡ 0) × (fault.kind ≡ CertFaultKind.BadDate)) }

@@ -1,4 +1,4 @@
-//! Versions, as they are read.
+//! Reads versions.
 
 ghost use Rattle.std.specs.Prelude.{◌≡◌, ◌≢◌, ◌∷◌, [], Some, None, codes, IfOk, IfErr};
 ghost use Rattle.sexpr_core.specs.Value.{plain, group};
@@ -10,13 +10,12 @@ ghost use Rattle.spki_cert.specs.Inner.Gathering.{IsVersionFault};
 use crate::fault::CertFaultKind;
 use sexpr_core::syntax::{Members, NodeKind};
 
-/// Reads what stands behind the head `version`: the string 0 alone.
+/// Checks that the string 0, and nothing else, is behind the head `version`.
 pub(crate) fn check_version(members: Members) -> Result<(), CertFaultKind>
     ensures found { IfOk result (λ _. members.entry ≡ plain (codes "0") ∷ []) }
     ensures refused { IfErr result (λ _. members.entry ≢ plain (codes "0") ∷ []) }
     ensures faultless { IfOk result (λ _. sole_fault CertFaultKind.Shape version_fault members.entry ≡ None) }
     ensures named { IfErr result (λ kind. sole_fault CertFaultKind.Shape version_fault members.entry ≡ Some kind) }
-    ensures shown { IfErr result (λ kind. Shows kind (group (plain (codes "version") ∷ members.entry))) }
     ensures fault { IfErr result (λ kind. IsVersionFault kind (group (plain (codes "version") ∷ members.entry))) }
 {
     let Some((number, more)) = members.split_first() else {

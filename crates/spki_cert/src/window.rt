@@ -1,9 +1,9 @@
 //! Windows of validity (RFC 2693, section 6.3.2).
 
 use crate::date::Date;
-use crate::limit::{earlier, is_from, is_in_order, is_until, later};
+use crate::limit::{earlier, is_from, is_in_order, is_until, known_limit, later};
 
-/// The moments from a first to a last, both within it. A missing limit is no limit.
+/// The moments from a first to a last one, both included. A missing limit does not limit.
 #[derive(Clone, Copy, Debug)]
 pub struct Window {
     /// The first moment.
@@ -14,7 +14,16 @@ pub struct Window {
 
 impl Window {
     ghost use Rattle.std.specs.Prelude.{◌≡◌, IfSome, IfNone};
-    ghost use Rattle.spki_cert.specs.Time.{within, meet_of, IsMeet, Overlap, AreApart};
+    ghost use Rattle.spki_cert.specs.Time.{IsLimit, within, meet_of, IsMeet, Overlap, AreApart};
+
+    /// The limits of a window are dates, however it was made. Takes no memory.
+    pub fn known(&self)
+        ensures begins { IsLimit self.now.not_before }
+        ensures ends { IsLimit self.now.not_after }
+    {
+        known_limit(self.not_before);
+        known_limit(self.not_after);
+    }
 
     /// Whether the moment is within the window. Takes no memory.
     pub fn holds(&self, moment: &Date) -> bool
@@ -23,14 +32,14 @@ impl Window {
         is_from(self.not_before, moment) && is_until(self.not_after, moment)
     }
 
-    /// The window of the moments within both, or None if there are none: the later not-before and the
-    /// earlier not-after. Takes no memory.
+    /// The window of the moments within both: from the later not-before to the earlier not-after. None if there is no such
+    /// moment. Takes no memory.
     pub fn meet(&self, other: &Window) -> Option<Window>
         // Which window it is.
         ensures limits { result ≡ meet_of self.now other.now }
         // It has exactly the moments of both.
         ensures moments { IfSome result (λ met. IsMeet self.now other.now met) }
-        // None comes exactly if there are none.
+        // None is returned exactly if there is no such moment.
         ensures some { IfSome result (λ _. Overlap self.now other.now) }
         ensures none { IfNone result (AreApart self.now other.now) }
     {

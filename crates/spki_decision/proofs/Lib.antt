@@ -6,6 +6,8 @@ pub mod Evident
 pub mod Policies
 pub mod Entries
 pub mod Granting
+pub mod Widening
+pub mod PassedOver
 pub mod Stopping
 pub mod Reasons
 pub mod OneExplanation

@@ -1,4 +1,4 @@
--- What is answered of a case, memory apart: what decide, explain and reduce_case promise of each answer but Memory.
+-- The answer to a case, apart from Memory: what decide, explain and reduce_case promise of each answer except Memory.
 use Rattle.std.specs.Prelude.{◌≡◌, Result, Ok, Err}
 use Rattle.spki_case.specs.Case.{Case, Verified}
 use Rattle.spki_decision.specs.declared.decision.Decision.{Decision}
@@ -21,13 +21,13 @@ IsExplained c verified (Ok explanation) = IsExplanation c verified explanation
 IsExplained c verified (Err TooLarge) = SomeTooLarge c verified
 IsExplained c verified (Err Memory) = ⊥
 
--- a reduction, whose windows begin at dates
+-- a reduction whose windows begin at dates
 abbrev pub IsReduced : Case → Verified → Result Reduction GuardFault → Type 0
 IsReduced c verified (Ok reduction) = IsReduction c verified reduction × AreDated reduction
 IsReduced c verified (Err TooLarge) = SomeTooLarge c verified
 IsReduced c verified (Err Memory) = ⊥
 
--- two answers that are the same, or the same fault
+-- two answers are the same, or they are the same fault
 abbrev pub AreSame : {A : Type 0} → (A → A → Type 0) → Result A GuardFault → Result A GuardFault → Type 0
 AreSame IsSame (Ok a) (Ok b) = IsSame a b
 AreSame IsSame (Ok a) (Err fault) = ⊥

@@ -1,5 +1,5 @@
--- What a verifier is asked of a sequence: the signatures of the certificates that pass the other three tests, up to the first
--- certificate that fails one of them (RFC 2693, section 6).
+-- The signatures that a verifier is asked about for a sequence: those of the certificates that pass the other three tests,
+-- up to the first certificate that fails one of them (RFC 2693, section 6).
 use Rattle.std.specs.Prelude.{◌≡◌, ℕ, List, [], ◌∷◌, ◌++◌, length, Option, Some, None, ◌&&◌, if◌then◌else◌, option_and_then}
 use Rattle.std.specs.List.{AllByRecursion}
 use Rattle.spki_cert.specs.declared.principal.Policy.{Policy}
@@ -9,16 +9,15 @@ use Rattle.spki_case.specs.Case.{Case, Verified}
 use Rattle.spki_case.specs.Sequence.{Shown, issuer_of, octets_of, keys_of, certificates}
 use Rattle.spki_decision.specs.Standing.{issuer_key}
 
--- A signature that a verifier is asked of: the number of the certificate's item, its issuer's key, the certificate's canonical
--- octets, and those of the signature's value.
+-- A signature that a verifier is asked about: the number of the certificate's item, its issuer's key, the certificate's
+-- canonical octets, and the canonical octets of the signature's value.
 pub record Signed : Type 0 where
   pub item : ℕ
   pub key : List ℕ
   pub message : List ℕ
   pub value : List ℕ
 
--- what is asked of a certificate with this issuer's key and this signature: the digest is that of its octets, and the signer
--- names the key
+-- the signature of a certificate with this issuer's key, if the digest is that of its octets and the signer names the key
 abbrev pub asked_with : Policy → Shown → List ℕ → signature.Signature → Option Signed
 asked_with policy shown holder s =
     if is_digest s.alg s.digest (octets_of shown.certificate) && names policy s.signer holder
@@ -29,7 +28,7 @@ abbrev pub asked_of : Policy → List (List ℕ) → Shown → Option Signed
 asked_of policy keys shown =
     option_and_then (λ holder. option_and_then (asked_with policy shown holder) shown.signature) (issuer_key policy keys (issuer_of shown.certificate))
 
--- one before others, if there is one; else none at all
+-- one element before others, if it exists; otherwise no elements at all
 abbrev pub before_all : {A : Type 0} → Option A → List A → List A
 before_all None others = []
 before_all (Some a) others = a ∷ others
@@ -38,7 +37,7 @@ abbrev pub asked_in : Policy → List (List ℕ) → List Shown → List Signed
 asked_in policy keys [] = []
 asked_in policy keys (shown ∷ others) = before_all (asked_of policy keys shown) (asked_in policy keys others)
 
--- the signatures that a verifier is asked of in a case, in order
+-- the signatures that a verifier is asked about in a case, in order
 abbrev pub asked : Case → List Signed
 asked c = asked_in c.policy (keys_of c.items) (certificates c.items)
 
@@ -50,11 +49,11 @@ IsAccepted verified s = verified s.key s.message s.value
 abbrev pub AgreeOn : Verified → Verified → List Signed → Type 0
 AgreeOn one other signatures = AllByRecursion (λ s. (IsAccepted one s → IsAccepted other s) × (IsAccepted other s → IsAccepted one s)) signatures
 
--- what is accepted by a verifier that accepts everything
+-- the statement of a verifier that accepts everything
 abbrev pub every : Verified
 every key message value = Unit {0}
 
--- Of some signatures this is the first that isn't accepted, if there is one; its place is counted from 0.
+-- This is the first of some signatures that is not accepted, if there is one; its place is counted from 0.
 pub record RefusedAt (verified : Verified) (signatures : List Signed) (place : ℕ) : Type 0 where
   pub before : List Signed
   pub refused : Signed

@@ -1,4 +1,4 @@
--- The model's answer that a decision is.
+-- What a decision means in the model.
 use Rattle.std.specs.Prelude.{List}
 use Rattle.spki_decision.specs.declared.decision.Decision.{Decision}
 use Rattle.spki_decision.specs.declared.decision.Decision.TheVariants.{Yes, No}
@@ -8,12 +8,12 @@ use Rattle.spki_decision.specs.Standing.{AreShown}
 use Rattle.spki_decision.specs.Supported.{SmallUpTo}
 use Rattle.spki_reduce.specs.Tuples.{Tuple}
 
--- the entry that is named is the first that is granted, or none is
+-- the entry with this number is the first that is granted, or no entry is granted
 abbrev pub IsDecision : Case → Verified → Decision → Type 0
 IsDecision c verified (Yes n) = IsFirstGranted n c verified
 IsDecision c verified No = IsNoneGranted c verified
 
--- No refusal was passed over: where every certificate stands no entry up to the one that is named, or no entry at all, has
--- a chain that is too large at a step.
+-- No refusal was skipped: if every certificate stands, no entry up to the one with this number, or no entry at all, has a
+-- chain that is too large at a step.
 abbrev pub IsUnrefused : Case → Verified → Decision → Type 0
 IsUnrefused c verified d = (tuples : List Tuple) → AreShown c.policy verified c.items tuples → SmallUpTo c tuples d

@@ -1,4 +1,4 @@
--- Why each entry of a case grants what is asked, or doesn't (RFC 2693, section 6.3).
+-- Why each entry of a case grants the request or does not (RFC 2693, section 6.3).
 use Rattle.std.specs.Prelude.{◌≡◌, ◌≢◌, ◌↔◌, ℕ, suc, ◌<◌, List, [], ◌∷◌, Option, Some, None, slice_get}
 use Rattle.std.specs.List.{AllZip}
 use Rattle.spki_tag.specs.Tag.{set, none}
@@ -23,9 +23,9 @@ use Rattle.spki_decision.specs.Supported.{Supported, AllSmall}
 use Rattle.spki_decision.specs.Granted.{Granted}
 use Rattle.spki_decision.specs.Reduced.{IsFailure, StopsAtItem}
 
--- An entry's tuple and the certificates' have a derivation, whose windows leave some moment, if there is a certificate.
--- What their tags leave, met in turn, isn't (* set), but where no certificate has a tag. Of its root this is the first of
--- the last tests that is not passed.
+-- The tuples of an entry and of the certificates have a derivation. If there is a certificate, some moment is within all its
+-- windows. The intersection of their tags, one after another, is not (* set), unless no certificate has a tag. `lack` is the
+-- first of the three tests that the root does not pass.
 pub record LacksFirst (c : Case) (tuples : List Tuple) (e : Entry) (lack : Lack) : Type 0 where
   pub root : FiveTuple
   pub derived : Derives c.policy (from_left (five (entry_tuple e)) tuples) (five root)
@@ -33,7 +33,7 @@ pub record LacksFirst (c : Case) (tuples : List Tuple) (e : Entry) (lack : Lack)
   pub tagged : met (all_tags (five (entry_tuple e) ∷ tuples)) ≡ set none → all_tags tuples ≡ []
   pub first : IsFirstLack c.policy root c.key c.request c.moment (Some lack)
 
--- why an entry and the certificates grant what is asked, or don't
+-- why an entry and the certificates grant the request or do not
 abbrev pub IsReason : Case → List Tuple → Entry → Reason → Type 0
 IsReason c tuples e Grants = Supported c tuples e
 IsReason c tuples e NotTheKey = LacksFirst c tuples e lack.NotTheKey
@@ -41,15 +41,15 @@ IsReason c tuples e TagLacks = LacksFirst c tuples e lack.TagLacks
 IsReason c tuples e WindowLacks = LacksFirst c tuples e lack.WindowLacks
 IsReason c tuples e (Stopped item cause) = StopsAtItem c tuples e item cause
 
--- the reason where the last tests end so
+-- the reason for this result of the three tests
 abbrev pub reason_of : Option Lack → Reason
 reason_of None = Grants
 reason_of (Some lack.NotTheKey) = NotTheKey
 reason_of (Some lack.TagLacks) = TagLacks
 reason_of (Some lack.WindowLacks) = WindowLacks
 
--- Every certificate stands, each entry, in order, has its reason, and the reason is Grants exactly where the entry is
--- granted. No chain is too large at a step.
+-- Every certificate stands, and each entry, in order, has its reason. The reason is Grants exactly if the entry is granted.
+-- No chain is too large at a step.
 pub record AreReasons (c : Case) (verified : Verified) (reasons : List Reason) : Type 0 where
   pub tuples : List Tuple
   pub shown : AreShown c.policy verified c.items tuples
@@ -57,7 +57,7 @@ pub record AreReasons (c : Case) (verified : Verified) (reasons : List Reason) :
   pub small : AllSmall c tuples
   pub grants : (place : ℕ) → (slice_get reasons place ≡ Some Grants) ↔ Granted (suc place) c verified
 
--- the first certificate that fails, or the entries' reasons
+-- the first certificate that does not stand, or the reasons of the entries
 abbrev pub IsExplanation : Case → Verified → Explanation → Type 0
 IsExplanation c verified (Evidence item stop) = IsFailure c verified item stop
 IsExplanation c verified (Entries reasons) = AreReasons c verified reasons.items
@@ -78,7 +78,7 @@ pub record IsFirstGrant (reasons : List Reason) (n : ℕ) : Type 0 where
   pub here : slice_get reasons place ≡ Some Grants
   pub none_before : (k : ℕ) → k < place → slice_get reasons k ≢ Some Grants
 
--- a decision names the first entry whose reason is Grants, and is no where there is none or a certificate fails
+-- a decision names the first entry whose reason is Grants; it is no if there is none, or if a certificate does not stand
 abbrev pub Agrees : Explanation → Decision → Type 0
 Agrees (Evidence item stop) d = d ≡ No
 Agrees (Entries reasons) d = (n : ℕ) → (d ≡ Yes n) ↔ IsFirstGrant reasons.items n

@@ -1,4 +1,4 @@
--- What the evidence of a sequence is.
+-- The evidence of a sequence.
 use Rattle.std.specs.Prelude.{◌≡◌, List, map}
 use Rattle.spki_cert.specs.declared.principal.Policy.{Policy}
 use Rattle.spki_cert.specs.declared.certificate.SeqItem.{SeqItem}
@@ -9,8 +9,8 @@ use Rattle.spki_case.specs.Case.{Verified}
 use Rattle.spki_case.specs.Sequence.{certificates}
 use Rattle.spki_decision.specs.Standing.{AreShown, FailsAt}
 
--- Either each certificate stands, and these are their items and their tuples in order, or this is the first that
--- doesn't, with the first test that it doesn't pass.
+-- Either each certificate stands, and these are their items and tuples in order; or this is the first that does not stand,
+-- with the first test that it does not pass.
 abbrev pub IsEvidence : Policy → Verified → List SeqItem → Evidence → Type 0
 IsEvidence policy verified items (Stands numbers steps) =
     (numbers.items ≡ map (λ shown. shown.item) (certificates items))

@@ -9,6 +9,7 @@ pub mod Granted
 pub mod Decision
 pub mod Refusal
 pub mod Supported
+pub mod Shared
 pub mod Reduced
 pub mod Explained
 pub mod Answered

@@ -1,4 +1,4 @@
--- What a case's entries become, each with all certificates (RFC 2693, section 6.3).
+-- What the entries of a case become, each with all certificates (RFC 2693, section 6.3).
 use Rattle.std.specs.Prelude.{◌≡◌, ℕ, ◌<◌, List, [], ◌∷◌, Some, slice_get}
 use Rattle.std.specs.List.{AllZip, AllByRecursion}
 use Rattle.spki_cert.specs.declared.entry.Entry.{Entry}
@@ -18,13 +18,14 @@ use Rattle.spki_decision.specs.declared.reduction.Reduction.TheVariants.{Evidenc
 use Rattle.spki_decision.specs.Standing.{AreShown, FailsAt}
 use Rattle.spki_decision.specs.Supported.{AllSmall}
 
--- No tuples are shown, and this item is the first certificate that fails, by this test, the first of the four.
+-- Not all certificates stand. This item is the first certificate that does not, and this is the first of the four tests that
+-- it does not pass.
 pub record IsFailure (c : Case) (verified : Verified) (item : ℕ) (stop : Stop) : Type 0 where
   pub fails : FailsAt c.policy verified c.items item stop
   pub none_shown : (tuples : List Tuple) → ¬ AreShown c.policy verified c.items tuples
 
--- The chain of an entry's tuple and the certificates' stops at the step that is this item, for a cause that excludes
--- its other bracketings too.
+-- The chain of an entry and the certificates stops at the step of this item, for a cause that excludes its other bracketings
+-- too.
 pub record StopsAtItem (c : Case) (tuples : List Tuple) (e : Entry) (item : ℕ) (cause : Cause) : Type 0 where
   pub step : ℕ
   pub stops : StopsAt c.policy (five (entry_tuple e)) tuples step cause
@@ -33,41 +34,42 @@ pub record StopsAtItem (c : Case) (tuples : List Tuple) (e : Entry) (item : ℕ)
   pub there : slice_get (certificates c.items) stops.place ≡ Some certificate
   pub item_is : item ≡ certificate.item
 
--- an entry and the certificates become this authorization, which is the entry's where there are none, or stop at this
--- item, for this cause
+-- an entry and the certificates become this authorization, which is the entry's own if there are no certificates; or they
+-- stop at this item, for this cause
 abbrev pub IsEntryFold : Case → List Tuple → Entry → EntryFold → Type 0
 IsEntryFold c tuples e (Done f) =
     FoldsTo c.policy (five (entry_tuple e)) tuples f × HasMet (five (entry_tuple e)) tuples f
     × (tuples ≡ [] → five_tuple f ≡ entry_tuple e)
 IsEntryFold c tuples e (Stopped item cause) = StopsAtItem c tuples e item cause
 
--- what an entry becomes is issued by the keeper of the access list
+-- the result of an entry is issued by the owner of the access list
 abbrev pub IsOwn : EntryFold → Type 0
 IsOwn (Done f) = issuer_of f.issuer ≡ own
 IsOwn (Stopped item cause) = Unit {0}
 
--- Every certificate stands, and of each entry, in order, this is what it and they become. No chain is too large at a step.
+-- Every certificate stands, and for each entry, in order, this is what it becomes with them. No chain is too large at a
+-- step.
 pub record AreFolds (c : Case) (verified : Verified) (folds : List EntryFold) : Type 0 where
   pub tuples : List Tuple
   pub shown : AreShown c.policy verified c.items tuples
   pub each : AllZip (IsEntryFold c tuples) c.entries folds
   pub small : AllSmall c tuples
 
--- the first certificate that fails, or what the entries become
+-- the first certificate that does not stand, or what the entries become
 abbrev pub IsReduction : Case → Verified → Reduction → Type 0
 IsReduction c verified (Evidence item stop) = IsFailure c verified item stop
 IsReduction c verified (Entries folds) = AreFolds c verified folds.items
 
 -- ---- reductions of one case
 
--- the same certificate and test, or the same of each entry
+-- the same certificate and test, or the same results of all entries
 abbrev pub IsSameReduction : Reduction → Reduction → Type 0
 IsSameReduction (Evidence item stop) (Evidence other last) = (item ≡ other) × (stop ≡ last)
 IsSameReduction (Evidence item stop) (Entries folds) = ⊥
 IsSameReduction (Entries folds) (Evidence item stop) = ⊥
 IsSameReduction (Entries folds) (Entries others) = folds.items ≡ others.items
 
--- the limit that a window begins with is a date, as that of each value is
+-- the limit at which a window begins is a date, like that of every value
 abbrev pub IsDated : EntryFold → Type 0
 IsDated (Done f) = IsLimit f.window.not_before
 IsDated (Stopped item cause) = Unit {0}
@@ -76,7 +78,7 @@ abbrev pub AreDated : Reduction → Type 0
 AreDated (Evidence item stop) = Unit {0}
 AreDated (Entries folds) = AllByRecursion IsDated folds.items
 
--- the limit that it ends with is a date too
+-- the limit at which it ends is a date too
 abbrev pub EndsAtDate : EntryFold → Type 0
 EndsAtDate (Done f) = IsLimit f.window.not_after
 EndsAtDate (Stopped item cause) = Unit {0}
@@ -87,7 +89,7 @@ EndAtDates (Entries folds) = AllByRecursion EndsAtDate folds.items
 
 -- ---- limits
 
--- the chain of some entry's tuple and these is too large at a step
+-- the chain of some entry and these tuples is too large at a step
 pub record HasLargeTags (c : Case) (tuples : List Tuple) : Type 0 where
   pub place : ℕ
   pub entry : Entry
@@ -95,8 +97,8 @@ pub record HasLargeTags (c : Case) (tuples : List Tuple) : Type 0 where
   pub at : TooLargeAt c.most_nodes c.policy (five (entry_tuple entry)) tuples
   pub large : c.most_nodes < nodes_product (all_tags (five (entry_tuple entry) ∷ tuples))
 
--- Every certificate stands, and the chain of some entry is too large at a step. So the product of the nodes of its tag
--- and of all the certificates' tags is over the case's limit.
+-- Every certificate stands, and the chain of some entry is too large at a step. So the product of the nodes of its tag and
+-- of the tags of all certificates is over the case's limit.
 pub record SomeTooLarge (c : Case) (verified : Verified) : Type 0 where
   pub tuples : List Tuple
   pub shown : AreShown c.policy verified c.items tuples

@@ -1,4 +1,4 @@
--- Why a case isn't decided, where a reduction is refused.
+-- Why a case is not decided if a reduction is refused.
 use Rattle.spki_reduce.specs.declared.fault.ReduceFault.{ReduceFault}
 use Rattle.spki_reduce.specs.declared.fault.ReduceFault.TheVariants as reduce
 use Rattle.spki_decision.specs.declared.fault.GuardFault.{GuardFault}

@@ -1,4 +1,4 @@
--- Which certificates of a sequence stand, and the tuples that they are (RFC 2693, section 6).
+-- Which certificates of a sequence stand, and their tuples (RFC 2693, section 6).
 use Rattle.std.specs.Prelude.{◌≡◌, ℕ, List, ◌∷◌, ◌++◌, Option, Some, None, false, IsTrue, find}
 use Rattle.std.specs.List.{AllZip, AllByRecursion}
 use Rattle.spki_cert.specs.declared.principal.Policy.{Policy}
@@ -14,18 +14,18 @@ use Rattle.spki_decision.specs.declared.evidence.Stop.TheVariants.{KeyNotShown, 
 use Rattle.spki_case.specs.Case.{Verified}
 use Rattle.spki_case.specs.Sequence.{Certificate, auth, name, Shown, issuer_of, octets_of, keys_of, certificates}
 
--- The key of an issuer: the key as written, or the first key shown that the hash names, if there is one.
+-- The key of an issuer: the key as written, or for a hash the first key of the sequence that it names, if there is one.
 abbrev pub issuer_key : Policy → List (List ℕ) → Principal → Option (List ℕ)
 issuer_key policy keys (principal.Key octets) = Some octets
 issuer_key policy keys (principal.Hash alg digest) = find (λ octets. names policy (principal.Hash alg digest) octets) keys
 
--- the tuple that it is where this key is its issuer's
+-- the tuple of a certificate, if this is its issuer's key
 abbrev pub tuple_of : List ℕ → Certificate → Tuple
 tuple_of holder (auth cert) = five (auth_tuple holder cert)
 tuple_of holder (name cert) = four (name_tuple holder cert)
 
--- A certificate stands, among these keys: its issuer has a key, the digest in its signature is that of its octets,
--- the signature's principal names the issuer's key, and the verifier relates that key, the octets and the
+-- A certificate stands, with these keys of the sequence: its issuer has a key; the digest in its signature is that of its
+-- octets; the signature's principal names the issuer's key; and the verifier accepts this key, the octets and the
 -- signature's value.
 pub record Stands
     (policy : Policy) (keys : List (List ℕ)) (verified : Verified) (shown : Shown) (holder : List ℕ) : Type 0 where
@@ -50,7 +50,7 @@ AreShown policy verified items tuples =
 
 -- ---- which test fails
 
--- Of the four tests this is the first that the certificate doesn't pass.
+-- This is the first of the four tests that the certificate does not pass.
 abbrev pub FailsBy : Policy → List (List ℕ) → Verified → Shown → Stop → Type 0
 FailsBy policy keys verified shown KeyNotShown = issuer_key policy keys (issuer_of shown.certificate) ≡ None
 FailsBy policy keys verified shown DigestDiffers =
@@ -67,7 +67,7 @@ FailsBy policy keys verified shown NotAccepted =
     × IsTrue (is_digest s.alg s.digest (octets_of shown.certificate)) × IsTrue (names policy s.signer holder)
     × ¬ verified holder (octets_of shown.certificate) s.value
 
--- The certificates before an item stand, and the one that is this item fails by this test.
+-- The certificates before an item stand, and the certificate of this item fails by this test.
 pub record FailsAt (policy : Policy) (verified : Verified) (items : List SeqItem) (item : ℕ) (stop : Stop) : Type 0 where
   pub before : List Shown
   pub failing : Shown

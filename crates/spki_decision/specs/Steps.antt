@@ -1,4 +1,4 @@
--- What the steps of the judge find.
+-- The results of the steps of `judge`.
 use Rattle.std.specs.Prelude.{◌≡◌, ℕ, List, [], ◌∷◌, Option, Some, None, Bool, true, false}
 use Rattle.spki_cert.specs.declared.principal.Policy.{Policy}
 use Rattle.spki_cert.specs.declared.certificate.SeqItem.{SeqItem}
@@ -33,7 +33,7 @@ is_operation (Auth cert) = false
 is_operation (Name cert) = false
 is_operation (Signature s) = false
 
--- the signature that an item is
+-- the signature of an item
 abbrev pub signature_of : SeqItem → Option signature.Signature
 signature_of (Key octets) = None
 signature_of (DoHash alg) = None
@@ -41,7 +41,7 @@ signature_of (Auth cert) = None
 signature_of (Name cert) = None
 signature_of (Signature s) = Some s
 
--- the certificate that an item is, if it is one
+-- the certificate of an item, if it is one
 abbrev pub certificate_at : ℕ → SeqItem → List SeqItem → List Shown
 certificate_at n (Key octets) behind = []
 certificate_at n (DoHash alg) behind = []
@@ -49,13 +49,13 @@ certificate_at n (Auth cert) behind = record { item = n; certificate = auth cert
 certificate_at n (Name cert) behind = record { item = n; certificate = name cert; signature = signature_in behind } ∷ []
 certificate_at n (Signature s) behind = []
 
--- The first three tests of a certificate are passed, and this is its signature.
+-- The certificate passes the first three tests, and this is its signature.
 pub record PassesAs (policy : Policy) (keys : List (List ℕ)) (shown : Shown) (signed : examined.Signed) : Type 0 where
   pub stands : Stands policy keys every shown signed.key
   pub signed_is : signed_of signed
       ≡ record { item = shown.item; key = signed.key; message = octets_of shown.certificate; value = stands.signature.value }
 
--- what the first three tests of a certificate say
+-- the result of the first three tests of a certificate
 abbrev pub IsTested : Policy → List (List ℕ) → Shown → Tested → Type 0
 IsTested policy keys shown (Passes signed) = PassesAs policy keys shown signed
 IsTested policy keys shown (Fails stop) = FailsBy policy keys every shown stop

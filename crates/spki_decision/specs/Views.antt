@@ -1,4 +1,4 @@
--- What the code keeps of certificates.
+-- How the code represents certificates.
 use Rattle.std.specs.Option.{option_copied}
 use Rattle.spki_decision.specs.declared.certificates.Certificate as code
 use Rattle.spki_decision.specs.declared.certificates.Certificate.TheVariants.{Auth, Name}
@@ -17,7 +17,7 @@ certificate_of (Name cert) = name cert.now
 abbrev pub shown_of : ShownCert → Shown
 shown_of s = record { item = s.item; certificate = certificate_of s.certificate; signature = option_copied s.signature }
 
--- a case with these entries in place of its own
+-- a case with these entries instead of its own
 abbrev pub with_entries : Case → List Entry → Case
 with_entries c es = record c { entries = es }
 

@@ -1,4 +1,4 @@
-//! The certificates that a sequence shows, with their signatures.
+//! The certificates of a sequence, with their signatures.
 
 ghost use Rattle.std.specs.Prelude.{◌≡◌, ◌++◌, map, IfOk, OnOk, MatchOption};
 ghost use Rattle.std.specs.Option.{option_copied};
@@ -21,19 +21,19 @@ pub enum Certificate<'s, 'a> {
     Name(&'s NameCert<'a>),
 }
 
-/// A certificate that a sequence shows.
+/// A certificate of a sequence.
 #[derive(Drop)]
 pub struct ShownCert<'s, 'a> {
     /// The number of its item, from 1.
     pub item: usize,
     /// The certificate.
     pub certificate: Certificate<'s, 'a>,
-    /// Its signature: the next item behind it, past what is to be done; none where another item stands there.
+    /// Its signature: the next item behind it, except operations. None if that item is no signature.
     pub signature: Option<&'s Signature<'a>>,
 }
 
 impl<'s, 'a> Certificate<'s, 'a> {
-    /// Who issued it.
+    /// Its issuer.
     pub fn issuer(&self) -> Principal<'a>
         ensures { result ≡ issuer_of (certificate_of self.now) }
     {
@@ -53,7 +53,7 @@ impl<'s, 'a> Certificate<'s, 'a> {
         }
     }
 
-    /// The tuple that it is where this key is its issuer's (RFC 2693, sections 6.1 and 6.2).
+    /// Its tuple, if this is its issuer's key (RFC 2693, sections 6.1 and 6.2).
     pub fn step(&self, holder: &Key<'a>) -> Result<Step<'a>, AllocError>
         ensures { IfOk result (λ step. step_tuple step ≡ tuple_of holder.now (certificate_of self.now)) }
     {
@@ -102,7 +102,7 @@ fn is_operation(item: &SeqItem) -> bool
     }
 }
 
-/// The signature that an item is.
+/// The signature of an item.
 fn signature_of<'s, 'a>(item: &'s SeqItem<'a>) -> Option<&'s Signature<'a>>
     ensures { option_copied result ≡ signature_of item.entry.now }
 {
@@ -115,7 +115,7 @@ fn signature_of<'s, 'a>(item: &'s SeqItem<'a>) -> Option<&'s Signature<'a>>
     }
 }
 
-/// The signature of a certificate that stands before these items.
+/// The signature of a certificate that comes before these items.
 fn signature_in<'s, 'a>(items: &'s [SeqItem<'a>]) -> Option<&'s Signature<'a>>
     ensures { option_copied result ≡ signature_in items.entry.now }
 {
@@ -127,7 +127,7 @@ fn signature_in<'s, 'a>(items: &'s [SeqItem<'a>]) -> Option<&'s Signature<'a>>
     None
 }
 
-/// The certificate that an item is.
+/// The certificate of an item.
 fn certificate_in<'s, 'a>(item: &'s SeqItem<'a>) -> Option<Certificate<'s, 'a>>
     ensures { MatchOption result (IsOther item.entry.now) (λ cert. IsItem item.entry.now (certificate_of cert)) }
 {
@@ -140,7 +140,7 @@ fn certificate_in<'s, 'a>(item: &'s SeqItem<'a>) -> Option<Certificate<'s, 'a>>
     }
 }
 
-/// Puts an item with this number behind the certificates, if it is one. These items stand behind it.
+/// Appends an item with this number to the certificates, if it is one. The items of `behind` follow it.
 fn push_certificate<'s, 'a>(
     shown: &mut Vec<ShownCert<'s, 'a>>,
     number: usize,
@@ -161,7 +161,7 @@ fn push_certificate<'s, 'a>(
     Ok(())
 }
 
-/// The certificates that a sequence shows, in order.
+/// Returns the certificates of a sequence, in order.
 pub fn certificates_of<'s, 'a>(
     alloc: Global,
     sequence: &'s [SeqItem<'a>],

@@ -1,4 +1,4 @@
-//! What an entry and the steps behind it become (RFC 2693, section 6.3).
+//! Joins an entry and the steps behind it (RFC 2693, section 6.3).
 
 ghost use Rattle.std.specs.Prelude.{◌≡◌, ◌≤◌, [], ◌∷◌, IfOk, IsErrOf};
 ghost use Rattle.spki_reduce.specs.Tuples.{five, own};
@@ -9,7 +9,7 @@ use spki_cert::{Entry, Policy};
 use spki_reduce::{Five, Fold, Issuer, ReduceFault, Step, fold_owned};
 use std::alloc::{AllocError, Global};
 
-/// What an entry's own 5-tuple and the steps behind it become, joined in turn, with this limit of an intersection.
+/// Joins an entry's 5-tuple and the steps behind it, one after another, with `most` as the limit of an intersection.
 pub(crate) fn fold_entry<'a>(
     alloc: Global,
     entry: &Entry<'a>,
@@ -39,7 +39,7 @@ pub(crate) fn fold_entry<'a>(
     fold_owned(alloc, own, steps, policy, most)
 }
 
-/// An entry's 5-tuple, whose issuer is the keeper of the access list (RFC 2693, section 6.1).
+/// An entry's 5-tuple, whose issuer is the owner of the access list (RFC 2693, section 6.1).
 fn own_five<'a>(entry: &Entry<'a>) -> Result<Five<'a>, AllocError>
     ensures { IfOk result (λ f. five_tuple f ≡ entry_tuple entry.now) }
 {

@@ -13,44 +13,44 @@ use spki_cert::{HashAlg, Policy, SeqItem};
 use spki_reduce::Step;
 use std::alloc::{AllocError, Global};
 
-/// Why a certificate doesn't stand: the first of four tests that it doesn't pass.
+/// Why a certificate does not stand: the first of four tests that it does not pass.
 #[derive(Clone, Copy, Debug, PartialEq, Eq)]
 pub enum Stop {
     /// The issuer is a hash that names no key of the sequence.
     KeyNotShown,
-    /// The digest in its signature isn't that of its canonical form.
+    /// The digest in its signature is not that of its canonical form.
     DigestDiffers,
-    /// The principal of its signature doesn't name the issuer's key.
+    /// The principal of its signature does not name the issuer's key.
     SignerDiffers,
-    /// The verifier doesn't accept the signature.
+    /// The verifier does not accept the signature.
     NotAccepted,
 }
 
-/// What the certificates of a sequence come to.
+/// The evidence of a sequence.
 #[derive(Drop)]
 pub enum Evidence<'a> {
     /// Each of them stands.
     Stands {
         /// The numbers of their items, from 1.
         items: Vec<usize>,
-        /// The tuples that they are, in the same order.
+        /// Their tuples, in the same order.
         steps: Vec<Step<'a>>,
     },
-    /// The first that doesn't stand.
+    /// The first that does not stand.
     Fails {
         /// The number of its item, from 1.
         item: usize,
-        /// The first test that it doesn't pass.
+        /// The first test that it does not pass.
         stop: Stop,
     },
 }
 
-/// The evidence of a sequence, in which each certificate is followed by its signature: whether each certificate stands,
-/// in order (RFC 2693, section 6). The verifier is asked with a certificate's canonical form as the message.
+/// Returns the evidence of a sequence in which each certificate is followed by its signature: whether each certificate
+/// stands, in order (RFC 2693, section 6). The message for the verifier is a certificate's canonical form.
 ///
 /// # Errors
 ///
-/// Where memory was refused, to this or to the verifier.
+/// `AllocError` if memory ran out, here or in the verifier.
 pub fn judge<'a, V: Verifier>(
     alloc: Global,
     sequence: &[SeqItem<'a>],
@@ -70,11 +70,12 @@ pub fn judge<'a, V: Verifier>(
     }
 }
 
-/// The place, from 0, of the first of these signatures that the verifier doesn't accept; None where it accepts each.
+/// Returns the place, from 0, of the first of these signatures that the verifier does not accept. None if it accepts all of
+/// them.
 ///
 /// # Errors
 ///
-/// Where memory was refused, to the verifier.
+/// `AllocError` if memory ran out in the verifier.
 pub fn first_refused<V: Verifier>(
     alloc: Global,
     signed: &[Signed],
@@ -90,7 +91,7 @@ pub fn first_refused<V: Verifier>(
     Ok(None)
 }
 
-/// Whether the verifier accepts a signature. A digest by SHA-256 is handed on to the verifier, so that a certificate is
+/// Whether the verifier accepts a signature. A digest by SHA-256 is passed to the verifier, so that a certificate is
 /// digested once.
 fn is_accepted<V: Verifier>(
     alloc: Global,

@@ -1,4 +1,5 @@
-//! The examination of a sequence: the tests of its certificates that need no verifier, and what a verifier is asked of.
+//! The examination of a sequence: the tests of its certificates that need no verifier, and the signatures that a verifier is
+//! asked about.
 
 ghost use Rattle.std.specs.Prelude.{◌≡◌, map, IfOk, OnOk, IsSome};
 ghost use Rattle.spki_case.specs.Sequence.{AreSigned, certificates, keys_of};
@@ -15,30 +16,30 @@ use crate::signed::Signed;
 use spki_cert::{Octets, Policy, SeqItem};
 use std::alloc::{AllocError, Global};
 
-/// A sequence whose certificates have passed the tests that need no verifier, up to the first that fails one.
+/// A sequence whose certificates passed the tests that need no verifier, up to the first that fails one.
 #[derive(Drop)]
 pub struct Examined<'a> {
-    /// The signatures of those that pass, in order: what a verifier is asked of.
+    /// The signatures of those that pass, in order: what a verifier is asked about.
     pub signed: Vec<Signed<'a>>,
-    /// The evidence where the verifier accepts each of them.
+    /// The evidence if the verifier accepts all of them.
     pub evidence: Evidence<'a>,
 }
 
-/// What the first three of the four tests of one certificate say.
+/// The result of the first three of the four tests of one certificate.
 #[derive(Drop)]
 pub(crate) enum Tested<'a> {
     /// It passes them, and this is its signature.
     Passes(Signed<'a>),
-    /// This is the first test that it doesn't pass.
+    /// The first test that it does not pass.
     Fails(Stop),
 }
 
-/// Examines a sequence, in which each certificate is followed by its signature: the tests of each certificate, in order,
-/// that need no verifier, up to the first that fails (RFC 2693, section 6).
+/// Examines a sequence in which each certificate is followed by its signature: the tests of each certificate, in order, that
+/// need no verifier, up to the first that fails (RFC 2693, section 6).
 ///
 /// # Errors
 ///
-/// Where memory was refused.
+/// `AllocError` if memory ran out.
 pub fn examine<'a>(
     alloc: Global,
     sequence: &[SeqItem<'a>],
@@ -72,7 +73,7 @@ pub fn examine<'a>(
     Ok(Examined { signed, evidence })
 }
 
-/// The first three tests of a certificate, one after the other.
+/// The first three tests of a certificate, one after another.
 fn test<'a>(
     alloc: Global,
     shown: &ShownCert<'_, 'a>,

@@ -1,4 +1,4 @@
-//! Why the entries of a case grant what is asked, or don't (RFC 2693, section 6.3).
+//! Why the entries of a case grant the request or do not (RFC 2693, section 6.3).
 
 ghost use Rattle.std.specs.Prelude.{◌≡◌, List, map, length, IfOk, OnOk, IsErrOf};
 ghost use Rattle.std.specs.List.{AllZip};
@@ -21,51 +21,51 @@ use spki_cert::Entry;
 use spki_reduce::{Cause, Lack, Step};
 use std::alloc::Global;
 
-/// Why an entry and all certificates grant what is asked, or don't.
+/// Why an entry and all certificates grant the request or do not.
 #[derive(Clone, Copy, Debug, PartialEq, Eq)]
 pub enum Reason {
-    /// What they become grants it.
+    /// The authorization that they become grants it.
     Grants,
-    /// The subject of what they become has names left, or doesn't name the key.
+    /// The subject of the result has names left, or does not name the key.
     NotTheKey,
-    /// It does, and the tag of what they become doesn't contain the request.
+    /// The subject names the key, and the tag of the result does not contain the request.
     TagLacks,
-    /// It does, and the moment isn't within the window of what they become.
+    /// The tag contains the request too, and the moment is not within the window of the result.
     WindowLacks,
-    /// A certificate doesn't join what the entry and those before it became.
+    /// A certificate does not join what the entry and the certificates before it became.
     Stopped {
         /// The number of its item, from 1.
         item: usize,
-        /// Why it doesn't.
+        /// Why it does not join.
         cause: Cause,
     },
 }
 
-/// Why a case's entries grant what is asked, or don't.
+/// Why the entries of a case grant the request or do not.
 #[derive(Drop)]
 pub enum Explanation {
-    /// A certificate doesn't stand, the first that doesn't, and so no entry grants anything.
+    /// The first certificate that does not stand. So no entry grants anything.
     Evidence {
         /// The number of its item, from 1.
         item: usize,
-        /// The first test that it doesn't pass.
+        /// The first test that it does not pass.
         stop: Stop,
     },
-    /// Each of them stands, and these are the entries' reasons, in their order.
+    /// All certificates stand, and these are the entries' reasons, in their order.
     Entries(Vec<Reason>),
 }
 
-/// Explains a case (RFC 2693, section 6): where every certificate of its sequence stands, with the verifier's word for the
-/// signatures, why each entry and all of them, in their order, grant what is asked or don't; else the first that doesn't
-/// stand.
+/// Explains a case (RFC 2693, section 6). If every certificate of its sequence stands, with signatures that the verifier
+/// accepts, the answer is for each entry why it and all certificates, in their order, grant the request or do not. Otherwise
+/// it is the first certificate that does not stand.
 ///
-/// The reason is `Grants` of exactly those entries that are granted. `decide` names the first of them.
+/// The reason is `Grants` for exactly the entries that are granted. `decide` names the first of them.
 ///
 /// # Errors
 ///
-/// `TooLarge` only where the certificates stand, and for some entry the tag of one of them is too large for what the
-/// entry and those before it became: the product of their nodes is over `most_nodes`. `Memory` where memory was refused,
-/// to this or to the verifier.
+/// `TooLarge` only if the certificates stand, and for some entry the tag of a certificate is too large for what the entry
+/// and the certificates before it became: the product of their nodes is over `most_nodes`. `Memory` if memory ran out, here
+/// or in the verifier.
 pub fn explain<V: Verifier>(
     alloc: Global,
     case: &Case,
@@ -84,8 +84,8 @@ pub fn explain<V: Verifier>(
     }
 }
 
-/// The reason of each entry of an access list with the steps behind it. The items are those of the steps. The case's own list
-/// isn't looked at.
+/// Returns the reason of each entry of an access list with the steps behind it. The items are those of the steps. The case's
+/// own list is not examined.
 ///
 /// # Errors
 ///
@@ -111,7 +111,7 @@ pub fn entry_reasons<'a>(
     Ok(reasons)
 }
 
-/// The reason of an entry with the steps behind it. The items are those of the steps.
+/// Returns the reason of an entry with the steps behind it. The items are those of the steps.
 fn entry_reason<'a>(
     alloc: Global,
     case: &Case<'a>,
@@ -136,7 +136,7 @@ fn entry_reason<'a>(
     }
 }
 
-/// The reason where the last tests end so.
+/// The reason for this result of the three tests.
 fn reason_of(lack: Option<Lack>) -> Reason
     ensures { result ≡ reason_of lack }
 {

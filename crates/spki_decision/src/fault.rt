@@ -9,10 +9,11 @@ use thiserror::Error;
 /// Why a case was not decided.
 #[derive(Clone, Copy, Debug, PartialEq, Eq, Error)]
 pub enum GuardFault {
-    /// The product of the nodes of a certificate's tag and of what stands before it is over the case's `most_nodes`.
+    /// The product of the nodes of a certificate's tag and of what the entry and the certificates before it became is over
+    /// the case's `most_nodes`.
     #[error("the tags are too large")]
     TooLarge,
-    /// Memory was refused, to the guard or to the verifier.
+    /// Memory ran out, in the guard or in the verifier.
     #[error("out of memory")]
     Memory,
 }

@@ -23,23 +23,23 @@ ghost use Rattle.spki_decision.specs.LeftOut.{IsLeftOut, IsKept, kept_case, AreR
 
 use spki_case::Verifier;
 
-/// What a case grants under the strict policy it grants under the open one, whatever the verifier: an entry that is
-/// granted where a hash by SHA-1 names no key is granted where it does.
+/// For every verifier: what a case grants under the strict policy it grants under the open one. An entry that is granted if
+/// a hash by SHA-1 names no key is also granted if it names keys.
 pub fn strict_implies_open<V: Verifier>()
     ensures { (verifier : V) (c : Case) (n : ℕ) → Granted n (strict c) (V.accepted verifier)
         → Granted n (opened c) (V.accepted verifier) }
 {}
 
-/// An explanation and a decision of one case agree, whatever the verifier: the decision names the first entry whose reason
-/// is `Grants`, and is no where no entry's is or a certificate doesn't stand.
+/// For every verifier: an explanation and a decision of one case agree. The decision names the first entry whose reason is
+/// `Grants`. It is no if there is none, or if a certificate does not stand.
 pub fn decided_as_explained<V: Verifier>()
     ensures { (verifier : V) (c : Case) (explanation : Explanation) (decision : Decision)
         → IsExplanation c (V.accepted verifier) explanation → IsDecision c (V.accepted verifier) decision
         → Agrees explanation decision }
 {}
 
-/// A text, and a case, has at most one decision, or is refused as `TooLarge`, by one verifier; a text also by the accepted
-/// list that it has itself.
+/// By one verifier, a text or a case has at most one answer of `decide`: a decision, or the refusal `TooLarge`. The same
+/// holds for a text by its own accepted list.
 pub fn one_decision<V: Verifier>()
     ensures verified { (verifier : V) (text : List ℕ) (c d : Case) (x y : Result Decision GuardFault)
         → IsCaseText text c → IsCaseText text d
@@ -50,8 +50,9 @@ pub fn one_decision<V: Verifier>()
         → IsDecided c (accepted_by c) x → IsDecided d (accepted_by d) y → x ≡ y }
 {}
 
-/// A text, and a case, has at most one explanation, or is refused as `TooLarge`: the first certificate that fails and the
-/// test that it fails by, or each entry's reason.
+/// By one verifier, a text or a case has at most one answer of `explain`: the first certificate that does not stand, with
+/// the test that it fails; or the reason of each entry; or the refusal `TooLarge`. The same holds for a text by its own
+/// accepted list.
 pub fn one_explanation<V: Verifier>()
     ensures verified { (verifier : V) (text : List ℕ) (c d : Case) (x y : Result Explanation GuardFault)
         → IsCaseText text c → IsCaseText text d
@@ -62,8 +63,9 @@ pub fn one_explanation<V: Verifier>()
         → IsExplained c (accepted_by c) x → IsExplained d (accepted_by d) y → AreSame IsSameExplanation x y }
 {}
 
-/// A text, and a case, has at most one reduction, or is refused as `TooLarge`: the first certificate that fails and the test
-/// that it fails by, or what each entry becomes.
+/// By one verifier, a text or a case has at most one answer of `reduce_case`: the first certificate that does not stand,
+/// with the test that it fails; or what each entry becomes; or the refusal `TooLarge`. The same holds for a text by its own
+/// accepted list.
 pub fn one_reduction<V: Verifier>()
     ensures verified { (verifier : V) (text : List ℕ) (c d : Case) (x y : Result Reduction GuardFault)
         → IsCaseText text c → IsCaseText text d
@@ -74,14 +76,14 @@ pub fn one_reduction<V: Verifier>()
         → IsReduced c (accepted_by c) x → IsReduced d (accepted_by d) y → AreSame IsSameReduction x y }
 {}
 
-/// A case that has a decision with no refusal passed over isn't refused as too large, whatever the verifier. So the clauses of
-/// `decide` leave one answer, but for want of memory.
+/// For every verifier: a case with a decision that skipped no refusal is not refused as `TooLarge`. So the clauses of
+/// `decide` allow one answer, unless memory ran out.
 pub fn no_refusal<V: Verifier>()
     ensures { (verifier : V) (c : Case) (decision : Decision) → IsDecision c (V.accepted verifier) decision
         → IsUnrefused c (V.accepted verifier) decision → ¬ IsTooLarge c (V.accepted verifier) }
 {}
 
-/// An entry whose subject's principal doesn't name the key of the first issuer, or the asker's key where no certificate is
+/// An entry whose subject's principal does not name the key of the first issuer, or the client's key if no certificate is
 /// shown, supports nothing, and no step of its chain is too large.
 pub fn left_out()
     ensures nothing { (c : Case) (tuples : List Tuple) (e : Entry) → IsLeftOut c tuples e → ¬ Supported c tuples e }
@@ -89,16 +91,16 @@ pub fn left_out()
         → ¬ TooLargeAt c.most_nodes c.policy (five (entry_tuple e)) tuples }
 {}
 
-/// So the decision of a list is that of its other entries, with their numbers in the list: entries may be kept anywhere and
-/// looked up by the principal that their subject begins with.
+/// So the decision of a list is that of its other entries, with their numbers in the list. Entries may be stored in any way
+/// and found by the principal of their subject.
 pub fn decided_by_kept<V: Verifier>()
     ensures { (verifier : V) (c : Case) (kept : List (ℕ × Entry)) (x y : Result Decision GuardFault)
         → IsKept c (V.accepted verifier) kept → IsDecided (kept_case c kept) (V.accepted verifier) x
         → AreRenumbered kept x y → IsDecided c (V.accepted verifier) y }
 {}
 
-/// Two verifiers that agree on the signatures that they are asked of give the same answers: nothing else that a verifier
-/// accepts counts. The decision is no where one of these signatures isn't accepted.
+/// Two verifiers that agree on the signatures that they are asked about give the same answers, whatever else they accept.
+/// The decision is no if one of these signatures is not accepted.
 pub fn asks_whole<V: Verifier>()
     ensures refused { (verifier : V) (c : Case) (place : ℕ) (s : Signed) (x : Result Decision GuardFault)
         → slice_get (asked c) place ≡ Some s → ¬ IsAccepted (V.accepted verifier) s → IsDecided c (V.accepted verifier) x

@@ -1,5 +1,5 @@
-//! What a case comes to: the evidence of its certificates, its decision, what its entries become and why they grant what is
-//! asked or don't (RFC 2693, section 6).
+//! The answers to a case: the evidence of its certificates, its decision, what its entries become, and why they grant the
+//! request or do not (RFC 2693, section 6).
 #![tactic(auto)]
 
 mod certificates;
@@ -12,6 +12,7 @@ mod fault;
 pub mod laws;
 mod named_key;
 mod reduction;
+mod shared_tests;
 mod shown_keys;
 mod signed;
 

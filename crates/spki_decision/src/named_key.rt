@@ -1,4 +1,4 @@
-//! The keys that a sequence shows, and which of them is the first that a principal names.
+//! The keys of a sequence, and the first of them that a principal names.
 
 ghost use Rattle.std.specs.Prelude.{◌≡◌, [], ◌∷◌, ◌++◌, IfOk, OnOk, Contains, MatchOption};
 ghost use Rattle.spki_case.specs.Sequence.{keys_of};
@@ -7,7 +7,7 @@ ghost use Rattle.spki_decision.specs.FirstNamed.{NamesNone, IsFirstNamed};
 use spki_cert::{Key, Principal, SeqItem};
 use std::alloc::{AllocError, Global};
 
-/// Puts the key that an item is, if it is one, behind others.
+/// Appends the key of an item to others, if it is one.
 fn push_key<'a>(keys: &mut Vec<Key<'a>>, item: &SeqItem<'a>) -> Result<(), AllocError>
     ensures { OnOk result (keys.new.items ≡ keys.old.items ++ keys_of (item.now ∷ [])) }
 {
@@ -23,7 +23,7 @@ fn push_key<'a>(keys: &mut Vec<Key<'a>>, item: &SeqItem<'a>) -> Result<(), Alloc
     }
 }
 
-/// The keys that a sequence shows, in order.
+/// Returns the keys of a sequence, in order.
 pub fn keys_of<'a>(alloc: Global, sequence: &[SeqItem<'a>]) -> Result<Vec<Key<'a>>, AllocError>
     ensures { IfOk result (λ keys. keys.items ≡ keys_of sequence.now) }
 {
@@ -34,14 +34,14 @@ pub fn keys_of<'a>(alloc: Global, sequence: &[SeqItem<'a>]) -> Result<Vec<Key<'a
     Ok(keys)
 }
 
-/// The place, from 0, of the first key that the closure says the principal names; None where it says so of none. Takes
-/// no memory.
+/// Returns the place, from 0, of the first key for which the closure returns true: the principal names it. None if there is
+/// none. Takes no memory.
 pub fn first_named<F: Fn(&Principal, &Key) -> bool>(
     principal: &Principal,
     keys: &[Key],
     names: F,
 ) -> Option<usize>
-    // The closure may be called on the principal and on each of the keys.
+    // The closure may be called with the principal and each of the keys.
     requires { (p : _) (k : _) → p.now ≡ principal.now → Contains keys.now k.now → F.pre names p k }
     ensures { MatchOption result (NamesNone F.Fn names principal.now keys.now)
         (λ place. IsFirstNamed F.Fn names principal.now keys.now place) }

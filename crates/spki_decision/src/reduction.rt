@@ -11,26 +11,25 @@ ghost use Rattle.spki_reduce.specs.Chain.{tuples_of, TooLargeAt};
 ghost use Rattle.spki_reduce.specs.Views.{entry_tuple};
 ghost use Rattle.spki_decision.specs.Supported.{AllSmall};
 ghost use Rattle.spki_decision.specs.Reduced.{IsEntryFold, IsOwn, IsReduction, IsDated, EndsAtDate, AreDated, EndAtDates, HasLargeTags, SomeTooLarge};
-ghost use Rattle.spki_cert.specs.Time.{IsLimit};
 
 use crate::entry_chain::fold_entry;
 use crate::evidence::{Evidence, Stop, judge};
 use crate::fault::GuardFault;
 use spki_case::{Case, Verifier};
-use spki_cert::{Date, Entry, Window};
+use spki_cert::Entry;
 use spki_reduce::{Cause, Five, Fold, Step};
 use std::alloc::Global;
 
-/// What an entry and all certificates become, joined in turn.
+/// What an entry and all certificates become when they are joined, one after another.
 #[derive(Drop)]
 pub enum EntryFold<'a> {
     /// The authorization that they become.
     Done(Five<'a>),
-    /// A certificate doesn't join what the entry and those before it became.
+    /// A certificate does not join what the entry and the certificates before it became.
     Stopped {
         /// The number of its item, from 1.
         item: usize,
-        /// Why it doesn't.
+        /// Why it does not join.
         cause: Cause,
     },
 }
@@ -38,25 +37,26 @@ pub enum EntryFold<'a> {
 /// What a case's entries become.
 #[derive(Drop)]
 pub enum Reduction<'a> {
-    /// A certificate doesn't stand, the first that doesn't.
+    /// The first certificate that does not stand.
     Evidence {
         /// The number of its item, from 1.
         item: usize,
-        /// The first test that it doesn't pass.
+        /// The first test that it does not pass.
         stop: Stop,
     },
-    /// Each of them stands, and this is what the entries become, in their order.
+    /// All certificates stand, and this is what the entries become, in their order.
     Entries(Vec<EntryFold<'a>>),
 }
 
-/// Reduces a case (RFC 2693, section 6.3): where every certificate of its sequence stands, with the verifier's word for
-/// the signatures, what each entry and all of them, in their order, become; else the first that doesn't stand.
+/// Reduces a case (RFC 2693, section 6.3). If every certificate of its sequence stands, with signatures that the verifier
+/// accepts, the answer is for each entry what it and all certificates, in their order, become. Otherwise it is the first
+/// certificate that does not stand.
 ///
 /// # Errors
 ///
-/// `TooLarge` only where the certificates stand, and for some entry the tag of one of them is too large for what the
-/// entry and those before it became: the product of their nodes is over `most_nodes`. `Memory` where memory was refused,
-/// to this or to the verifier.
+/// `TooLarge` only if the certificates stand, and for some entry the tag of a certificate is too large for what the entry
+/// and the certificates before it became: the product of their nodes is over `most_nodes`. `Memory` if memory ran out, here
+/// or in the verifier.
 pub fn reduce_case<'a, V: Verifier>(
     alloc: Global,
     case: &Case<'a>,
@@ -77,8 +77,8 @@ pub fn reduce_case<'a, V: Verifier>(
     }
 }
 
-/// What each entry of an access list and the steps behind it become. The items are those of the steps. The case's own list isn't
-/// looked at.
+/// Returns what each entry of an access list becomes with the steps behind it. The items are those of the steps. The case's
+/// own list is not examined.
 ///
 /// # Errors
 ///
@@ -106,7 +106,7 @@ pub fn entry_folds<'a>(
     Ok(folds)
 }
 
-/// What an entry and the steps behind it become. The items are those of the steps.
+/// Returns what an entry becomes with the steps behind it. The items are those of the steps.
 pub(crate) fn entry_fold<'a>(
     alloc: Global,
     case: &Case<'a>,
@@ -127,30 +127,12 @@ pub(crate) fn entry_fold<'a>(
 {
     match fold_entry(alloc, entry, steps, case.policy, case.most_nodes)? {
         Fold::Done(five) => {
-            known(&five.window);
+            five.window.known();
             Ok(EntryFold::Done(five))
         }
         Fold::Stopped { step, cause } => Ok(EntryFold::Stopped {
             item: items[step - 1],
             cause,
         }),
-    }
-}
-
-/// The limits of a window are dates, however it was made.
-fn known(window: &Window)
-    ensures begins { IsLimit window.now.not_before }
-    ensures ends { IsLimit window.now.not_after }
-{
-    known_limit(window.not_before);
-    known_limit(window.not_after);
-}
-
-/// A limit is a date, where there is one.
-fn known_limit(limit: Option<Date>)
-    ensures { IsLimit limit }
-{
-    if let Some(date) = limit {
-        let _ = date;
     }
 }

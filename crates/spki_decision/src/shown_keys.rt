@@ -1,4 +1,4 @@
-//! The keys that a sequence shows, found by their digests.
+//! The keys of a sequence, which are found by their digests.
 
 ghost use Rattle.std.specs.Prelude.{◌≡◌, ◌∷◌, [], ℕ, List, IfOk, OnOk, IfSome, find};
 ghost use Rattle.std.specs.Option.{option_or};
@@ -13,11 +13,11 @@ use std::alloc::{AllocError, Global};
 use std::collections::BTreeMap;
 use std::marker::Model;
 
-/// Of each digest, the first key that has it.
+/// For each digest the first key that has it.
 type FirstKeys<'a> = BTreeMap<Vec<u8>, Key<'a>>;
 
-/// The keys that a sequence shows, in order, with an index of their digests for each algorithm of which a hash was looked
-/// for. In a contract they are the list of the keys.
+/// The keys of a sequence, in order, with an index of their digests for each algorithm of a hash that was looked for. In a
+/// contract they are the list of the keys.
 #[derive(Drop)]
 pub(crate) struct ShownKeys<'a> {
     keys: Vec<Key<'a>>,
@@ -50,7 +50,7 @@ impl<'a> ShownKeys<'a> {
         }
     }
 
-    /// The key of an issuer: the key as written, or the first key shown that the hash names, if there is one.
+    /// The key of an issuer: the key as written, or for a hash the first key of the sequence that it names, if there is one.
     pub(crate) fn holder(
         &mut self,
         alloc: Global,
@@ -72,7 +72,7 @@ impl<'a> ShownKeys<'a> {
         }
     }
 
-    /// The first key with this digest under the algorithm.
+    /// The first key with this digest of the algorithm.
     fn first_with(
         &mut self,
         alloc: Global,
@@ -90,7 +90,7 @@ impl<'a> ShownKeys<'a> {
     }
 }
 
-/// The first of the keys with this digest under the algorithm, by their index, which is made if there is none.
+/// The first of the keys with this digest of the algorithm, found by their index. The index is made if there is none.
 fn first_in<'a>(
     index: &mut Option<FirstKeys<'a>>,
     alloc: Global,
@@ -114,7 +114,7 @@ fn first_in<'a>(
     Ok(found)
 }
 
-/// The index of the keys by their digests under an algorithm.
+/// The index of the keys by their digests of an algorithm.
 fn first_keys<'a>(
     alloc: Global,
     alg: HashAlg,

@@ -1,11 +1,11 @@
-//! Signatures that a verifier is asked of.
+//! Signatures that a verifier is asked about.
 
 ghost use Rattle.std.specs.Prelude.{◌≡◌};
 ghost use Rattle.spki_cert.specs.Naming.{digest_of};
 
 use spki_cert::{HashAlg, Key, Octets};
 
-/// A signature that a verifier is asked of: whether the value is the key's signature over the message.
+/// A signature that a verifier is asked about: whether the value is the key's signature over the message.
 #[derive(Drop)]
 pub struct Signed<'a> {
     /// The number of the certificate's item, from 1.
@@ -20,6 +20,6 @@ pub struct Signed<'a> {
     pub alg: HashAlg,
     /// The digest of the message.
     pub digest: Octets<'a>,
-    /// It is that of the message.
+    /// The digest is that of the message.
     ghost fits: { digest_of alg message ≡ digest },
 }

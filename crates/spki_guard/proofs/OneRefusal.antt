@@ -23,10 +23,11 @@ use Rattle.spki_words.specs.declared.commands.Command.{Command}
 use Rattle.spki_words.specs.declared.commands.Command.TheVariants.{Canonical, Advanced, Transport, Intersect, Reduce, Check, Explain}
 use Rattle.spki_guard.specs.declared.answers.Refusal.{Refusal}
 use Rattle.spki_guard.specs.declared.answers.Refusal.TheVariants as refusals
+use Rattle.spki_service.specs.Form.{RefusesForm}
 use Rattle.spki_guard.specs.declared.intersection.IntersectFault.{IntersectFault}
 use Rattle.spki_guard.specs.declared.intersection.IntersectFault.TheVariants as intersect
 use Rattle.spki_guard.specs.Intersect.{ValueNotMet, TextNotMet}
-use Rattle.spki_guard.specs.Answer.{IsOnCase, HasTooLarge, RefusesValue, RefusesForm, RefusesRead, RefusesAnswer}
+use Rattle.spki_guard.specs.Answer.{IsOnCase, HasTooLarge, RefusesValue, RefusesRead, RefusesAnswer}
 use Rattle.spki_guard.proofs.OneLine.{large_one, operands, read_value}
 
 -- ---- the form of a text

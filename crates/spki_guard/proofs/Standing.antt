@@ -11,10 +11,12 @@ use Rattle.spki_case.specs.Texts.{IsOuter, IsTextOf}
 use Rattle.spki_case.specs.declared.cases.CaseFault.{CaseFault}
 use Rattle.spki_case.specs.declared.cases.CaseFault.TheVariants as faults
 use Rattle.spki_words.specs.declared.commands.Command.{Command}
+use Rattle.spki_words.specs.declared.commands.Command.TheVariants.{Check}
 use Rattle.spki_guard.specs.declared.answers.Answer.{Answer}
 use Rattle.spki_guard.specs.declared.answers.Refusal.{Refusal}
 use Rattle.spki_guard.specs.declared.answers.Refusal.TheVariants as refusals
-use Rattle.spki_guard.specs.Answer.{IsOnCase, AnswersValue, RefusesValue, AnswersRead, RefusesAnswer, octets_of}
+use Rattle.spki_guard.specs.Answer.{IsOnCase, AnswersValue, RefusesValue, AnswersRead, RefusesAnswer, octets_of, written_by}
+use Rattle.spki_guard.specs.Apart.{ReadsCase, DecidesApart, DecidesBy, RefusesApart, RefusesBy}
 
 canonical_text : (text : List ℕ) (v : Value) → IsWithinLimits v → text ≡ canon v → IsTextWithin text v
 canonical_text text v within e =
@@ -78,4 +80,46 @@ no_case command text fault outer f (inr h) =
       value = t.value;
       read = canonical_text text t.value t.within t.written;
       refused = (on, inr (subst (λ s. IsTextOf (λ v. ValueRefused v fault) s) t.written t));
+    })
+
+-- ---- with an accepted list that stands apart
+
+reads_case : (text : List ℕ) (c : Case) → IsCaseText text c → ReadsCase text c
+reads_case text c t = record {
+  value = t.value;
+  read = canonical_text text t.value t.within t.written;
+  is_case = subst (λ s. IsCaseText s c) t.written t;
+}
+
+pub apart_answered : (text rows : List ℕ) (c : Case) (r : Result Answer Refusal) → IsCaseText text c
+    → IfOk r (λ a. DecidesBy c rows a.verdict (written_by a)) → IfOk r (λ a. DecidesApart text rows a.verdict (written_by a))
+apart_answered text rows c (Ok a) t h = record { case_read = c; text_is = reads_case text c t; is = h }
+apart_answered text rows c (Err refusal) t h = tt
+
+apart_refusal : (text rows : List ℕ) (c : Case) (refusal : Refusal) → IsCaseText text c → RefusesBy c rows refusal
+    → RefusesApart text rows refusal
+apart_refusal text rows c (refusals.Form fault) t h = absurd h
+apart_refusal text rows c (refusals.Intersect fault) t h = absurd h
+apart_refusal text rows c (refusals.Case fault) t h = absurd h
+apart_refusal text rows c (refusals.Decision fault) t h = record { case_read = c; text_is = reads_case text c t; is = h }
+apart_refusal text rows c (refusals.Rows fault) t h = record { case_read = c; text_is = reads_case text c t; is = h }
+apart_refusal text rows c refusals.Memory t h = tt
+
+pub apart_refused : (text rows : List ℕ) (c : Case) (r : Result Answer Refusal) → IsCaseText text c
+    → IfErr r (λ refusal. RefusesBy c rows refusal) → IfErr r (λ refusal. RefusesApart text rows refusal)
+apart_refused text rows c (Ok a) t h = tt
+apart_refused text rows c (Err refusal) t h = apart_refusal text rows c refusal t h
+
+pub no_case_apart : (text rows : List ℕ) (fault : CaseFault) (outer : Refusal)
+    → (fault ≢ faults.Memory → IsOnCase Check × IsTextOf (λ v. ValueRefused v fault) text)
+    → IsOuter (fault ≡ faults.Memory) refusals.Memory (refusals.Case fault) outer → RefusesApart text rows outer
+no_case_apart text rows fault outer f (inl h) = let is = h.1 in rw is tt
+no_case_apart text rows fault outer f (inr h) =
+    let is = h.1 in
+    let (on, t) = f h.0 in
+    rw is
+    (record {
+      value = t.value;
+      read = canonical_text text t.value t.within t.written;
+      refused = inr (subst (λ s. IsTextOf (λ v. ValueRefused v fault) s) t.written t);
     })

@@ -1,13 +1,11 @@
--- What is answered to a text that was read to its end.
-use Rattle.std.specs.Prelude.{◌≡◌, ◌≢◌, ◌⊎◌, ◌↔◌, ℕ, ◌<◌, List, [], ◌∷◌, ◌++◌, length}
-use Rattle.sexpr_core.specs.declared.fault.FormFault.{FormFault}
+-- The answer to a text that was read to its end.
+use Rattle.std.specs.Prelude.{◌≡◌, ◌⊎◌, ℕ, List, [], ◌∷◌, ◌++◌}
 use Rattle.sexpr_core.specs.declared.fault.FormFault.TheVariants as form
 use Rattle.sexpr_core.specs.Value.{Value, canon}
 use Rattle.sexpr_core.specs.Braces.{transport}
 use Rattle.sexpr_text.specs.Printed.{adv}
 use Rattle.sexpr_text.specs.declared.converter.Form.{Form}
 use Rattle.sexpr_text.specs.declared.converter.Form.TheVariants as forms
-use Rattle.sexpr_text.specs.Refusal.{RefusesText}
 use Rattle.sexpr_text.specs.Spelling.{IsTextWithin}
 use Rattle.spki_tag.specs.Tag.{Tag, tag_value}
 use Rattle.spki_case.specs.Case.{Case, Verified, accepted_by}
@@ -31,6 +29,7 @@ use Rattle.spki_decision.specs.Decision.{IsDecision, IsUnrefused}
 use Rattle.spki_decision.specs.Granted.{IsTooLarge}
 use Rattle.spki_decision.specs.Reduced.{IsReduction, AreDated, EndAtDates, SomeTooLarge}
 use Rattle.spki_decision.specs.Explained.{IsExplanation}
+use Rattle.spki_service.specs.Form.{RefusesForm}
 use Rattle.spki_guard.specs.Reports.{IsReductionReport, IsExplanationReport}
 use Rattle.spki_guard.specs.Intersect.{IsMetText, TextNotMet}
 use Rattle.spki_guard.specs.Lines.{yes_entry, no_line, refused_form, refused_intersect, refused_case, refused_rows, refused_decision, refused_memory}
@@ -42,8 +41,8 @@ abbrev pub IsLineOf : Decision → Verdict → List ℕ → Type 0
 IsLineOf (decision.Yes n) verdict output = (verdict ≡ Done) × (output ≡ yes_entry n)
 IsLineOf decision.No verdict output = (verdict ≡ No) × (output ≡ no_line)
 
--- The canonical text is that of a case, and the line is that of its decision, with the case's own accepted list as the
--- verifier. No entry before it has a chain that is too large.
+-- The canonical text is that of a case, and the line is that of its decision with the case's own accepted list as the
+-- verifier. No entry up to the one that is named, or no entry at all, has a chain that is too large.
 pub record Decides (text : List ℕ) (verdict : Verdict) (output : List ℕ) : Type 0 where
   pub case_read : Case
   pub text_is : IsCaseText text case_read
@@ -52,8 +51,8 @@ pub record Decides (text : List ℕ) (verdict : Verdict) (output : List ℕ) : T
   pub unrefused : IsUnrefused case_read (accepted_by case_read) decided
   pub line : IsLineOf decided verdict output
 
--- The canonical text is that of a case, and these are the lines of its reduction, and of its explanation, with the
--- case's own accepted list as the verifier. The windows that a reduction writes begin and end at dates.
+-- The canonical text is that of a case, and these are the lines of its reduction, or of its explanation, with the case's own
+-- accepted list as the verifier. The windows in a reduction begin and end at dates.
 pub record Reduces (text : List ℕ) (verdict : Verdict) (output : List ℕ) : Type 0 where
   pub case_read : Case
   pub text_is : IsCaseText text case_read
@@ -70,8 +69,8 @@ pub record Explains (text : List ℕ) (verdict : Verdict) (output : List ℕ) : 
   pub explanation_is : IsExplanation case_read (accepted_by case_read) explanation
   pub lines : IsExplanationReport explanation verdict output
 
--- For which cases a command answers that tags are too large: one that decides, those of entries with none before them
--- granted; one that treats every entry, those of any entry.
+-- The cases for which a command answers TooLarge. A decision answers it for an entry with no granted entry before it, and a
+-- command that treats every entry for any entry.
 abbrev pub HasTooLarge : Command → Case → Verified → Type 0
 HasTooLarge Canonical c verified = ⊥
 HasTooLarge Advanced c verified = ⊥
@@ -81,8 +80,8 @@ HasTooLarge Reduce c verified = SomeTooLarge c verified
 HasTooLarge Check c verified = IsTooLarge c verified
 HasTooLarge Explain c verified = SomeTooLarge c verified
 
--- The canonical text is that of a case that has no answer but a refusal, with the case's own accepted list as the
--- verifier, since tags are too large.
+-- The canonical text is that of a case whose only answer, with the case's own accepted list as the verifier, is the refusal
+-- TooLarge.
 pub record IsUndecided (command : Command) (text : List ℕ) (fault : GuardFault) : Type 0 where
   pub case_read : Case
   pub text_is : IsCaseText text case_read
@@ -91,7 +90,7 @@ pub record IsUndecided (command : Command) (text : List ℕ) (fault : GuardFault
 
 -- ---- intersections
 
--- The canonical text is that of two tags, and the line is that of what they leave together.
+-- The canonical text is that of two tags, and the line is that of their intersection.
 pub record WritesMeet (text : List ℕ) (verdict : Verdict) (output : List ℕ) : Type 0 where
   pub tag : Tag
   pub met : IsMetText text tag
@@ -100,7 +99,7 @@ pub record WritesMeet (text : List ℕ) (verdict : Verdict) (output : List ℕ) 
 
 -- ---- all commands
 
--- the form that a command wants a value in
+-- the form in which a command needs a value
 abbrev pub form_of : Command → Form
 form_of Canonical = forms.Canonical
 form_of Advanced = forms.Advanced
@@ -110,7 +109,7 @@ form_of Reduce = forms.Canonical
 form_of Check = forms.Canonical
 form_of Explain = forms.Canonical
 
--- the command is one on a case
+-- the command is for a case
 abbrev pub IsOnCase : Command → Type 0
 IsOnCase Canonical = ⊥
 IsOnCase Advanced = ⊥
@@ -120,8 +119,8 @@ IsOnCase Reduce = Unit {0}
 IsOnCase Check = Unit {0}
 IsOnCase Explain = Unit {0}
 
--- What is answered to the value that was read: it is written in the form that is asked for, or its canonical
--- form is met, reduced, decided or explained.
+-- The answer to the value that was read: the value is written in the form of the command, or its canonical form is
+-- intersected, reduced, decided or explained.
 abbrev pub AnswersValue : Command → Value → Verdict → List ℕ → Type 0
 AnswersValue Canonical v verdict output = (verdict ≡ Done) × (output ≡ canon v)
 AnswersValue Advanced v verdict output = (verdict ≡ Done) × (output ≡ adv v ++ 10 ∷ [])
@@ -131,7 +130,7 @@ AnswersValue Reduce v verdict output = Reduces (canon v) verdict output
 AnswersValue Check v verdict output = Decides (canon v) verdict output
 AnswersValue Explain v verdict output = Explains (canon v) verdict output
 
--- What a refusal says of the value that was read, or rather of its canonical form. Of memory nothing is said.
+-- What a refusal means for the value that was read, or rather for its canonical form. Memory means nothing.
 abbrev pub RefusesValue : Command → Value → Refusal → Type 0
 RefusesValue command v (refusals.Form fault) = ⊥
 RefusesValue command v (refusals.Intersect fault) = (command ≡ Intersect) × TextNotMet (canon v) fault
@@ -148,21 +147,13 @@ pub record AnswersRead (command : Command) (text : List ℕ) (verdict : Verdict)
   pub read : IsTextWithin text value
   pub answer : AnswersValue command value verdict output
 
--- The text spells or braces a value within the limits, of which the refusal is said.
+-- The text spells or braces a value within the limits, and the value is refused for this.
 pub record RefusesRead (command : Command) (text : List ℕ) (refusal : Refusal) : Type 0 where
   pub value : Value
   pub read : IsTextWithin text value
   pub refused : RefusesValue command value refusal
 
--- The text spells and braces no value within the limits, and the fault says why: TooLong exactly where the text has more than
--- 1,048,576 octets.
-pub record RefusesForm (text : List ℕ) (fault : FormFault) : Type 0 where
-  pub found : fault ≢ form.Memory
-  pub none : (v : Value) → ¬ IsTextWithin text v
-  pub long : (fault ≡ form.TooLong) ↔ (1048576 < length text)
-  pub refused : RefusesText text fault
-
--- What a refusal says of a text. Of memory nothing is said.
+-- What a refusal means for a text. Memory means nothing.
 abbrev pub RefusesAnswer : Command → List ℕ → Refusal → Type 0
 RefusesAnswer command text (refusals.Form fault) = RefusesForm text fault
 RefusesAnswer command text (refusals.Intersect fault) = RefusesRead command text (refusals.Intersect fault)
@@ -190,17 +181,17 @@ pub record Refuses (command : Command) (text : List ℕ) (verdict : Verdict) (ou
 abbrev pub IsAnswer : Command → List ℕ → Verdict → List ℕ → Type 0
 IsAnswer command text verdict output = AnswersRead command text verdict output ⊎ Refuses command text verdict output
 
--- The text has too many octets, which is what the line says, unless memory ran out.
+-- The text has too many octets, and the line says so, unless memory ran out.
 pub record RefusesAsLong (verdict : Verdict) (output : List ℕ) : Type 0 where
   pub verdict_is : verdict ≡ Refused
   pub line : (output ≡ refused_form form.TooLong) ⊎ (output ≡ refused_memory)
 
--- ---- as it is kept
+-- ---- answers of the code
 
 abbrev pub octets_of : output.Output → List ℕ
 octets_of (Made octets) = octets.items
 octets_of (Fixed octets) = octets.now
 
--- the octets that an answer writes
+-- the octets of an answer
 abbrev pub written_by : Answer → List ℕ
 written_by answer = octets_of answer.output

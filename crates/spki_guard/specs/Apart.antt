@@ -1,4 +1,4 @@
--- What is answered to a case by an accepted list that stands apart from it: the case's own list is not asked.
+-- The answer to a case by a separate accepted list. The case's own list is not used.
 use Rattle.std.specs.Prelude.{◌≡◌, ◌⊎◌, ℕ, List}
 use Rattle.sexpr_core.specs.declared.fault.FormFault.{FormFault}
 use Rattle.sexpr_core.specs.Value.{Value, canon}
@@ -14,27 +14,28 @@ use Rattle.spki_decision.specs.declared.fault.GuardFault.{GuardFault}
 use Rattle.spki_decision.specs.declared.fault.GuardFault.TheVariants as guard
 use Rattle.spki_decision.specs.Decision.{IsDecision, IsUnrefused}
 use Rattle.spki_decision.specs.Granted.{IsTooLarge}
+use Rattle.spki_service.specs.Form.{RefusesForm}
 use Rattle.spki_guard.specs.declared.answers.Refusal.{Refusal}
 use Rattle.spki_guard.specs.declared.answers.Refusal.TheVariants as refusals
 use Rattle.spki_guard.specs.declared.answers.Verdict.{Verdict}
 use Rattle.spki_guard.specs.declared.answers.Verdict.TheVariants.{Refused}
-use Rattle.spki_guard.specs.Answer.{IsLineOf, RefusesForm, refused_line}
+use Rattle.spki_guard.specs.Answer.{IsLineOf, refused_line}
 
 -- ---- what is read
 
--- The text spells or braces a value within the limits, whose canonical form is the text of the case.
+-- The text spells or braces a value within the limits, and its canonical form is the text of the case.
 pub record ReadsCase (text : List ℕ) (c : Case) : Type 0 where
   pub value : Value
   pub read : IsTextWithin text value
   pub is_case : IsCaseText (canon value) c
 
--- It does, and the canonical form is the text of an accepted list of these rows.
+-- The text spells or braces a value within the limits, and its canonical form is the text of an accepted list of these rows.
 pub record ReadsRows (rows_text : List ℕ) (rows : List Row) : Type 0 where
   pub value : Value
   pub read : IsTextWithin rows_text value
   pub are_rows : IsRowsText (canon value) rows
 
--- The text is that of a case, of which this is said.
+-- The text is that of a case for which the statement is true.
 pub record BehindCase (text : List ℕ) (said : Case → Type 0) : Type 0 where
   pub case_read : Case
   pub text_is : ReadsCase text case_read
@@ -42,8 +43,8 @@ pub record BehindCase (text : List ℕ) (said : Case → Type 0) : Type 0 where
 
 -- ---- decisions
 
--- The text is that of an accepted list, and the line is that of the case's decision with this list as the verifier. No
--- entry before it has a chain that is too large.
+-- The text is that of an accepted list, and the line is that of the case's decision with this list as the verifier. No entry
+-- up to the one that is named, or no entry at all, has a chain that is too large.
 pub record DecidesBy (c : Case) (rows_text : List ℕ) (verdict : Verdict) (output : List ℕ) : Type 0 where
   pub rows : List Row
   pub rows_are : ReadsRows rows_text rows
@@ -52,32 +53,33 @@ pub record DecidesBy (c : Case) (rows_text : List ℕ) (verdict : Verdict) (outp
   pub unrefused : IsUnrefused c (stated_by rows) decided
   pub line : IsLineOf decided verdict output
 
--- It is, and tags are too large to decide the case.
+-- The text is that of an accepted list, and tags are too large to decide the case.
 pub record IsUndecidedBy (c : Case) (rows_text : List ℕ) (fault : GuardFault) : Type 0 where
   pub rows : List Row
   pub rows_are : ReadsRows rows_text rows
   pub named : fault ≡ guard.TooLarge
   pub large : IsTooLarge c (stated_by rows)
 
--- The first text is that of a case, and this is its decision by the second.
+-- The first text is that of a case, and this is its decision by the second text.
 abbrev pub DecidesApart : List ℕ → List ℕ → Verdict → List ℕ → Type 0
 DecidesApart text rows_text verdict output = BehindCase text (λ c. DecidesBy c rows_text verdict output)
 
 -- ---- refusals
 
--- The text spells or braces a value within the limits, whose canonical form is the text of no case, and the fault says why.
+-- The text spells or braces a value within the limits, its canonical form is the text of no case, and the fault tells why.
 pub record LacksCase (text : List ℕ) (fault : CaseFault) : Type 0 where
   pub value : Value
   pub read : IsTextWithin text value
   pub refused : TextRefused (canon value) fault
 
--- The text spells and braces no value within the limits, and the fault says why.
+-- The text spells and braces no value within the limits, and the fault tells why.
 pub record RefusesRowsForm (rows_text : List ℕ) (fault : RowsFault) : Type 0 where
   pub form : FormFault
   pub named : fault ≡ rows_faults.Form form
   pub refused : RefusesForm rows_text form
 
--- It does, and the canonical form is the text of no accepted list, as the fault says.
+-- The text spells or braces a value within the limits, its canonical form is the text of no accepted list, and the fault
+-- tells why.
 pub record LacksRows (rows_text : List ℕ) (fault : RowsFault) : Type 0 where
   pub value : Value
   pub read : IsTextWithin rows_text value
@@ -86,7 +88,7 @@ pub record LacksRows (rows_text : List ℕ) (fault : RowsFault) : Type 0 where
 abbrev pub RefusesRows : List ℕ → RowsFault → Type 0
 RefusesRows rows_text fault = RefusesRowsForm rows_text fault ⊎ LacksRows rows_text fault
 
--- What a refusal says of a case and of the text of the rows. Of memory nothing is said.
+-- What a refusal means for a case and for the text of the rows. Memory means nothing.
 abbrev pub RefusesBy : Case → List ℕ → Refusal → Type 0
 RefusesBy c rows_text (refusals.Form fault) = ⊥
 RefusesBy c rows_text (refusals.Intersect fault) = ⊥
@@ -95,8 +97,8 @@ RefusesBy c rows_text (refusals.Rows fault) = RefusesRows rows_text fault
 RefusesBy c rows_text (refusals.Decision fault) = IsUndecidedBy c rows_text fault
 RefusesBy c rows_text refusals.Memory = Unit {0}
 
--- What a refusal says of the two texts: the first is that of no value, or of no case, whatever the second is; or it is that
--- of a case, and the second that of no value, or of no accepted list; or tags are too large. Of memory nothing is said.
+-- What a refusal means for the two texts: the first is that of no value, or of no case, whatever the second is; or the first
+-- is that of a case, and the second that of no value, or of no accepted list; or tags are too large. Memory means nothing.
 abbrev pub RefusesApart : List ℕ → List ℕ → Refusal → Type 0
 RefusesApart text rows_text (refusals.Form fault) = RefusesForm text fault
 RefusesApart text rows_text (refusals.Intersect fault) = ⊥

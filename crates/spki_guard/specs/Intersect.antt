@@ -20,9 +20,9 @@ use Rattle.spki_guard.specs.declared.intersection.IntersectFault.TheVariants as 
 abbrev pub intersect_value : Value → Value → Value
 intersect_value a b = headed (codes "intersect") (a ∷ b ∷ [])
 
--- The value is (intersect A B), and the tag is the meet of A and B: it is in normal form, and contains exactly the
--- requests that both contain. The product of the nodes of A and B is at most 1,000,000. The tag has at most as many nodes
--- as that, and its lists are no deeper.
+-- The value is (intersect A B), and the tag is the intersection of A and B: it is in normal form, and contains exactly the
+-- requests that both contain. The product of the nodes of A and B is at most 1,000,000. The tag has at most as many nodes,
+-- and its lists are nested no deeper.
 pub record Intersects (v : Value) (c : Tag) : Type 0 where
   pub first : Value
   pub second : Value
@@ -73,12 +73,12 @@ pub record AreTooLarge (v : Value) : Type 0 where
   pub second_read : ReadsAs second b
   pub large : 1000000 < nodes a * nodes b
 
--- a refusal of the intersection itself
+-- the fault for a refusal of the intersection itself
 abbrev pub outer_fault : MeetFault → IntersectFault
 outer_fault meet_faults.TooLarge = faults.TooLarge
 outer_fault meet_faults.Memory = faults.Memory
 
--- What a fault other than of memory says of a value, in the order of what is looked at.
+-- What a fault means for a value, except for Memory, in the order of the tests.
 abbrev pub ValueNotMet : Value → IntersectFault → Type 0
 ValueNotMet v (faults.Form fault) = ⊥
 ValueNotMet v faults.Shape = (a b : Value) → v ≢ intersect_value a b
@@ -89,10 +89,11 @@ ValueNotMet v faults.Memory = ⊥
 
 -- ---- texts
 
--- the text is the canonical form, within the limits, of a value whose two tags leave this one
+-- the text is the canonical form, within the limits, of a value, and this is the intersection of its two tags
 abbrev pub IsMetText : List ℕ → Tag → Type 0
 IsMetText text c = IsTextOf (λ v. Intersects v c) text
 
--- What a fault other than of memory says of a text: it is none in canonical form, or the fault is said of its value.
+-- What a fault means for a text, except for Memory: it is no canonical form within the limits, or its value is refused for
+-- the fault.
 abbrev pub TextNotMet : List ℕ → IntersectFault → Type 0
 TextNotMet text fault = IsMalformed faults.Form text fault ⊎ IsTextOf (λ v. ValueNotMet v fault) text

@@ -6,3 +6,5 @@ pub mod Answer
 pub mod Run
 pub mod Program
 pub mod Apart
+pub mod HeldLines
+pub mod Held

@@ -1,4 +1,4 @@
--- The lines that are written: words with one space between each two, and a line feed. Numbers are decimal.
+-- The lines that are written: words with one space between two of them, and a line feed. Numbers are decimal.
 use Rattle.std.specs.Prelude.{ℕ, List, [], ◌∷◌, ◌++◌, codes}
 use Rattle.sexpr_core.specs.declared.fault.FormFault.{FormFault}
 use Rattle.sexpr_core.specs.declared.fault.FormFault.TheVariants.{TooLong, TooDeep, Short, Bad, Trailing, Memory}
@@ -33,7 +33,7 @@ line (word ∷ next ∷ words) = word ++ 32 ∷ line (next ∷ words)
 abbrev pub yes_entry : ℕ → List ℕ
 yes_entry n = line (codes "yes" ∷ codes "entry" ∷ decimal n ∷ [])
 
--- none does
+-- no entry grants it
 abbrev pub no_line : List ℕ
 no_line = line (codes "no" ∷ [])
 
@@ -54,7 +54,7 @@ stop_name stop.DigestDiffers = codes "DigestDiffers"
 stop_name stop.SignerDiffers = codes "SignerDiffers"
 stop_name stop.NotAccepted = codes "NotAccepted"
 
--- the certificate that is this item fails
+-- the certificate of this item does not stand
 abbrev pub item_line : ℕ → Stop → List ℕ
 item_line item stop = line (codes "item" ∷ decimal item ∷ stop_name stop ∷ [])
 
@@ -62,15 +62,15 @@ item_line item stop = line (codes "item" ∷ decimal item ∷ stop_name stop ∷
 abbrev pub no_entries : List ℕ
 no_entries = line (codes "no" ∷ codes "entries" ∷ [])
 
--- what is said of entry n, counted from 1
+-- the line for entry n, counted from 1
 abbrev pub entry_line : ℕ → List (List ℕ) → List ℕ
 entry_line n words = line (codes "entry" ∷ decimal n ∷ words)
 
--- its chain stops at the certificate that is this item
+-- its chain stops at the certificate of this item
 abbrev pub stopped_line : ℕ → ℕ → Cause → List ℕ
 stopped_line n item cause = entry_line n (codes "item" ∷ decimal item ∷ cause_name cause ∷ [])
 
--- why it grants what is asked, or doesn't
+-- why it grants the request or does not
 abbrev pub reason_line : ℕ → Reason → List ℕ
 reason_line n reason.Grants = entry_line n (codes "grants" ∷ [])
 reason_line n reason.NotTheKey = entry_line n (codes "NotTheKey" ∷ [])
@@ -99,7 +99,7 @@ refused_part part kind = refused (part ∷ kind ∷ [])
 abbrev pub refused_item : List ℕ → ℕ → List ℕ → List ℕ
 refused_item part n kind = refused (part ∷ decimal n ∷ kind ∷ [])
 
--- and in the tag that stands there
+-- and in the tag of that entry or item
 abbrev pub refused_tag : List ℕ → ℕ → List ℕ → List ℕ
 refused_tag part n kind = refused (part ∷ decimal n ∷ codes "Tag" ∷ kind ∷ [])
 
@@ -116,7 +116,7 @@ refused_text text (Bad at) = refused_at text (codes "Bad") at
 refused_text text (Trailing at) = refused_at text (codes "Trailing") at
 refused_text text Memory = refused_memory
 
--- a fault of the text that is handed in
+-- a fault of the text on standard input
 abbrev pub refused_form : FormFault → List ℕ
 refused_form fault = refused_text (codes "form") fault
 
@@ -180,14 +180,14 @@ refused_case (faults.Request fault) = refused_part (codes "request") (tag_kind f
 refused_case (faults.At fault) = refused_part (codes "at") (kind_name fault.kind)
 refused_case faults.Memory = refused_memory
 
--- a fault of an accepted list that stands apart from a case; rows are counted from 1
+-- a fault of a separate accepted list; rows are counted from 1
 abbrev pub refused_rows : RowsFault → List ℕ
 refused_rows (rows.Form fault) = refused_text (codes "rows") fault
 refused_rows rows.Shape = refused_part (codes "rows") (codes "Shape")
 refused_rows (rows.Row fault) = refused_in (codes "rows") fault.item fault.kind
 refused_rows rows.Memory = refused_memory
 
--- why a case isn't decided
+-- why a case is not decided
 abbrev pub refused_decision : GuardFault → List ℕ
 refused_decision guard.TooLarge = refused_large
 refused_decision guard.Memory = refused_memory

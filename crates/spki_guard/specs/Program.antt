@@ -1,4 +1,4 @@
--- The program: what comes of the words of a command line, of what is read and of what is written.
+-- The program: the result for the words of a command line, for what is read and for what is written.
 use Rattle.std.specs.Prelude.{◌≡◌, ◌≢◌, ◌⊎◌, ℕ, ◌≤◌, List, [], ◌∷◌, ◌++◌, length, codes, string_bytes, Option, Some, Result, Ok, Err, IfOk, MatchResult, IsTrue}
 use Rattle.std.specs.declared.io.ErrorKind.{ErrorKind}
 use Rattle.std.specs.declared.io.ErrorKind.TheVariants.{InvalidData}
@@ -17,47 +17,47 @@ use Rattle.spki_guard.specs.Status.{status_of, code_of}
 use Rattle.spki_guard.specs.Lines.{refused_memory}
 use Rattle.spki_guard.specs.Run.{IsReply, IsFaulty, IsWritten, IsCutOff}
 
--- ---- what is asked for
+-- ---- the command
 
--- What words ask for: the subcommand that `clap` reads in them, or a fault that it finds; the program's name and a
--- command's word are that command, unless memory ran out.
+-- The result for the words: the subcommand that `clap` finds in them, or a fault that it finds. The program's name and the
+-- word of a command give that command, unless memory ran out.
 pub record IsAsked (list : List (List ℕ)) (asked : Result Command WordsFault) : Type 0 where
   pub named : IfOk asked (λ c. subcommand_in list ≡ Some (word_of c))
   pub taken : (program : List ℕ) (c : Command) → list ≡ program ∷ word_of c ∷ [] → (asked ≡ Ok c) ⊎ (asked ≡ Err words.Memory)
   pub faults : MatchResult asked (λ _. faults_of list ≡ []) (IsFaultOf list)
 
--- the fault says that words aren't UTF-8, or that memory ran out
+-- the fault is that the words are not UTF-8, or that memory ran out
 abbrev pub IsNoText : WordsFault → Type 0
 IsNoText (words.Refused text) = string_bytes text ≡ codes "error: the words aren't UTF-8" ++ 10 ∷ []
 IsNoText (words.Help text) = ⊥
 IsNoText words.Memory = Unit {0}
 
--- Where the words can't be read there is no command: they aren't UTF-8, or memory ran out.
+-- If the words cannot be read there is no command: they are not UTF-8, or memory ran out.
 pub record IsUnread (kind : ErrorKind) (fault : WordsFault) : Type 0 where
   pub no_text : kind ≡ InvalidData → IsNoText fault
   pub other : kind ≢ InvalidData → fault ≡ words.Memory
 
--- what comes of an error in their place
+-- the result if an error takes the place of the words
 abbrev pub IsUnasked : ErrorKind → Result Command WordsFault → Type 0
 IsUnasked kind asked = MatchResult asked (λ _. ⊥) (IsUnread kind)
 
--- ---- what is said
+-- ---- messages
 
--- the writer took all the octets, or it failed behind a front of them
+-- the writer accepted all the octets, or failed after a beginning of them
 abbrev pub IsSaid : {W : Type 0} → (W → Option (List ℕ)) → Metered W → Metered W → List ℕ → Type 0
 IsSaid contents old new octets = IsWritten contents old new octets ⊎ IsCutOff contents old new octets
 
--- the writer was asked for nothing, and took nothing
+-- the writer was not called, and accepted nothing
 pub record IsSilent {W : Type 0} (contents : W → Option (List ℕ)) (old new : Metered W) : Type 0 where
   pub unasked : new.asks ≡ 0
   pub nothing : TakesNone contents old new
 
--- the reader was asked for nothing, and gave nothing
+-- the reader was not called, and returned nothing
 pub record IsUntouched {R : Type 0} (remaining : R → Option (List ℕ)) (old new : Metered R) : Type 0 where
   pub unasked : new.asks ≡ 0
   pub nothing : GivesNone remaining old new
 
--- what stands on standard error behind a run: why it was cut off, else nothing
+-- what a run writes to standard error: why it was cut off, otherwise nothing
 abbrev pub IsReported : {E : Type 0} → (E → Option (List ℕ)) → Metered E → Metered E → Status → Type 0
 IsReported contents old new Done = IsSilent contents old new
 IsReported contents old new No = IsSilent contents old new
@@ -65,17 +65,17 @@ IsReported contents old new Refused = IsSilent contents old new
 IsReported contents old new ReadFault = IsSaid contents old new (codes "spki: read fault" ++ 10 ∷ [])
 IsReported contents old new WriteFault = IsSaid contents old new (codes "spki: write fault" ++ 10 ∷ [])
 
--- What stands on standard output and on standard error where there is no command: the text goes to standard error, and the
--- line that memory ran out to standard output.
+-- What is written if there is no command: the text goes to standard error, and the line for lack of memory to standard
+-- output.
 abbrev pub IsRefused : {W E : Type 0} → (W → Option (List ℕ)) → (E → Option (List ℕ)) → Metered W → Metered W → Metered E → Metered E
     → WordsFault → Type 0
 IsRefused contents lines old new before after (words.Refused text) = IsSilent contents old new × IsSaid lines before after (string_bytes text)
 IsRefused contents lines old new before after (words.Help text) = IsSilent contents old new × IsSaid lines before after (string_bytes text)
 IsRefused contents lines old new before after words.Memory = IsSaid contents old new refused_memory × IsSilent lines before after
 
--- ---- what is done
+-- ---- runs
 
--- A command was run, from what was read to what is written, and ended so: what `run` says.
+-- A command was run, from what was read to what was written, with this status. These are the promises of `run`.
 pub record IsRun {R W : Type 0} (remaining : R → Option (List ℕ)) (contents : W → Option (List ℕ)) (command : Command)
     (reader read : Metered R) (writer written_to : Metered W) (status : Status) : Type 0 where
   pub reader_asks : read.asks ≤ 2097152
@@ -93,7 +93,7 @@ pub record IsRun {R W : Type 0} (remaining : R → Option (List ℕ)) (contents 
       × IsReply command (remaining (inner_of reader)) (remaining (inner_of read)) read.ended verdict output
       × IsCutOff contents writer written_to output
 
--- The command was run, the exit status is that of its end, and standard error says why it was cut off.
+-- The command was run, the exit status is the one of its end, and standard error says why it was cut off.
 pub record DoesCommand {R W E : Type 0} (remaining : R → Option (List ℕ)) (contents : W → Option (List ℕ)) (lines : E → Option (List ℕ))
     (reader read : Metered R) (writer written_to : Metered W) (errors said : Metered E) (exit : ℕ) (command : Command) : Type 0 where
   pub status : Status
@@ -101,7 +101,7 @@ pub record DoesCommand {R W E : Type 0} (remaining : R → Option (List ℕ)) (c
   pub reported : IsReported lines errors said status
   pub exit_is : exit ≡ code_of status
 
--- There is no command: nothing was read, the fault is said, and the exit status is the fault's.
+-- There is no command: nothing was read, the fault was written, and the exit status is that of the fault.
 pub record SaysFault {R W E : Type 0} (remaining : R → Option (List ℕ)) (contents : W → Option (List ℕ)) (lines : E → Option (List ℕ))
     (reader read : Metered R) (writer written_to : Metered W) (errors said : Metered E) (exit : ℕ) (fault : WordsFault) : Type 0 where
   pub unread : IsUntouched remaining reader read

@@ -1,4 +1,4 @@
--- What is written of a case's reduction and of its explanation.
+-- What is written for a case's reduction and explanation.
 use Rattle.std.specs.Prelude.{◌≡◌, ℕ, suc, Bool, true, false, ◌||◌, List, [], ◌∷◌, ◌++◌}
 use Rattle.sexpr_core.specs.Value.{Value}
 use Rattle.sexpr_text.specs.Printed.{adv}
@@ -15,19 +15,19 @@ use Rattle.spki_guard.specs.declared.answers.Verdict.{Verdict}
 use Rattle.spki_guard.specs.declared.answers.Verdict.TheVariants.{Done, No}
 use Rattle.spki_guard.specs.Lines.{entry_line, stopped_line, reason_line, item_line, no_entries}
 
--- yes if some entry does, else no
+-- yes if some entry does, otherwise no
 abbrev pub verdict_of : Bool → Verdict
 verdict_of true = Done
 verdict_of false = No
 
 -- ---- reductions
 
--- what is written of entry n: the tuple that its chain comes to, in advanced form, or where the chain stops
+-- the line for entry n: the tuple that its chain becomes, in advanced form, or where the chain stops
 abbrev pub IsFoldLine : ℕ → EntryFold → List ℕ → Type 0
 IsFoldLine n (folded.Done f) output = (v : Value) × IsWrittenFive f v × (output ≡ entry_line n (adv v ∷ []))
 IsFoldLine n (folded.Stopped item cause) output = output ≡ stopped_line n item cause
 
--- of all entries, the first of which has this number
+-- the lines of all entries; the first entry has this number
 abbrev pub AreFoldLines : ℕ → List EntryFold → List ℕ → Type 0
 AreFoldLines n [] output = output ≡ []
 AreFoldLines n (fold ∷ folds) output = (first : List ℕ) × (rest : List ℕ)
@@ -52,7 +52,7 @@ IsReductionReport (reduction.Entries folds) verdict output = AreFolds folds.item
 
 -- ---- explanations
 
--- of all entries, the first of which has this number
+-- the lines of all entries; the first entry has this number
 abbrev pub reason_lines : ℕ → List Reason → List ℕ
 reason_lines n [] = []
 reason_lines n (why ∷ reasons) = reason_line n why ++ reason_lines (suc n) reasons

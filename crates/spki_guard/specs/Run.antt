@@ -1,4 +1,4 @@
--- How a run ends, and what it writes.
+-- How a run ends, and its output.
 use Rattle.std.specs.Prelude.{◌≡◌, ℕ, ◌+◌, ◌<◌, ◌≤◌, ◌⊎◌, List, length, Option, IfSome, Bool, IsTrue}
 use Rattle.std.specs.Io.KnownBytes.{Consumes}
 use Rattle.metered_io.specs.declared.meters.Metered.{Metered}
@@ -11,9 +11,9 @@ use Rattle.spki_guard.specs.declared.answers.Verdict.TheVariants.{Refused}
 use Rattle.spki_guard.specs.Lines.{refused_form, refused_memory}
 use Rattle.spki_guard.specs.Answer.{IsAnswer}
 
--- ---- what is replied
+-- ---- replies
 
--- The text came to its end, and this is the answer to it. Known is what the reader had, where it tells that.
+-- The text was read to its end, and this is the answer to it. `known` is what the reader had, if it exposes that.
 pub record AnswersText (command : Command) (known : Option (List ℕ)) (ended : Bool) (verdict : Verdict) (output : List ℕ) : Type 0 where
   pub text : List ℕ
   pub at_end : IsTrue ended
@@ -21,7 +21,7 @@ pub record AnswersText (command : Command) (known : Option (List ℕ)) (ended : 
   pub short : length text ≤ 1048576
   pub answer : IsAnswer command text verdict output
 
--- The text has too many octets. Of what the reader had, where it tells that, one octet too many was taken.
+-- The text has too many octets: 1,048,577 of them were taken from the reader, if it exposes its octets.
 pub record RefusesLong (known left : Option (List ℕ)) (verdict : Verdict) (output : List ℕ) : Type 0 where
   pub octets : List ℕ
   pub long : length octets ≡ 1048577
@@ -34,24 +34,24 @@ pub record RefusesForMemory (verdict : Verdict) (output : List ℕ) : Type 0 whe
   pub verdict_is : verdict ≡ Refused
   pub line : output ≡ refused_memory
 
--- what is replied to what a reader had, and what of it is left
+-- the reply to what a reader had, and what is left of it
 abbrev pub IsReply : Command → Option (List ℕ) → Option (List ℕ) → Bool → Verdict → List ℕ → Type 0
 IsReply command known left ended verdict output =
     AnswersText command known ended verdict output ⊎ (RefusesLong known left verdict output ⊎ RefusesForMemory verdict output)
 
--- ---- how it is written
+-- ---- writing
 
--- Some call failed, or the end was as many asks as this.
+-- Some call failed, or the number of calls reached this limit.
 abbrev pub IsFaulty : {T : Type 0} → Metered T → ℕ → Type 0
 IsFaulty meter most = (0 < meter.faults) ⊎ (meter.asks ≡ most)
 
--- the writer took the whole output and a flush
+-- the writer accepted the whole output and a flush
 pub record IsWritten {W : Type 0} (contents : W → Option (List ℕ)) (old new : Metered W) (output : List ℕ) : Type 0 where
   pub whole : Takes contents old new output
   pub flushed : IsTrue new.flushed
   pub asks : new.asks ≤ length output + 2097152
 
--- the writer failed behind a front of the output
+-- the writer failed after a beginning of the output
 pub record IsCutOff {W : Type 0} (contents : W → Option (List ℕ)) (old new : Metered W) (output : List ℕ) : Type 0 where
   pub rest : List ℕ
   pub front : SendsFront contents old new output rest

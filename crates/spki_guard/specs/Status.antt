@@ -5,7 +5,7 @@ use Rattle.spki_guard.specs.declared.answers.Verdict.TheVariants as verdict
 use Rattle.spki_guard.specs.declared.statuses.Status.{Status}
 use Rattle.spki_guard.specs.declared.statuses.Status.TheVariants.{Done, No, Refused, ReadFault, WriteFault}
 
--- how a run ends that isn't cut off
+-- the status of a run that was not cut off
 abbrev pub status_of : Verdict → Status
 status_of verdict.Done = Done
 status_of verdict.No = No

@@ -1,4 +1,4 @@
-//! The answer to a text: what is found out of it, and what is written.
+//! The answer to a text: its verdict and its output.
 ghost use Rattle.std.specs.Prelude.{◌≡◌, ◌≢◌, ℕ, List, [], ◌∷◌, ◌++◌, ◌⊎◌, ◌↔◌, ◌<◌, length, IsTrue, IfOk, IfErr, IfSome, IsNone, IsOkAnd, IsErrOf};
 ghost use Rattle.sexpr_core.specs.Value.{Value, canon};
 ghost use Rattle.sexpr_text.specs.Printed.{adv};
@@ -26,10 +26,10 @@ use spki_tag::Tag;
 use spki_words::Command;
 use std::alloc::{AllocError, Global};
 
-/// The octets that are written.
+/// The octets of an answer.
 #[derive(Drop)]
 pub(crate) enum Output {
-    /// What was made of a text.
+    /// Octets that were made for a text.
     Made(Vec<u8>),
     /// A line that takes no memory.
     Fixed(&'static [u8]),
@@ -46,27 +46,27 @@ impl Output {
     }
 }
 
-/// What was found out.
+/// The verdict of an answer.
 #[derive(Clone, Copy, Debug, PartialEq, Eq)]
 pub enum Verdict {
-    /// The answer is yes, or what was asked for is written.
+    /// Yes, or the output is what the command is for.
     Done,
-    /// The answer is no.
+    /// No.
     No,
-    /// The text is no input, or its answer is a refusal.
+    /// The text or its contents are refused.
     Refused,
 }
 
-/// What was found out of a text, and what is written of it.
+/// The answer to a text: the verdict and the output.
 #[derive(Drop)]
 pub struct Answer {
-    /// What was found out.
+    /// The verdict of an answer.
     pub verdict: Verdict,
     pub(crate) output: Output,
 }
 
 impl Answer {
-    /// The octets that are written.
+    /// The octets of an answer.
     pub fn octets(&self) -> &[u8]
         ensures { result.now ≡ written_by self.now }
     {
@@ -74,20 +74,20 @@ impl Answer {
     }
 }
 
-/// Why a text has no answer but a refusal.
+/// Why a text is refused.
 #[derive(Clone, Copy)]
 pub(crate) enum Refusal {
-    /// It is no text of a value.
+    /// It has no value within the limits.
     Form(FormFault),
     /// It has no intersection.
     Intersect(IntersectFault),
     /// It is no case.
     Case(CaseFault),
-    /// Its case isn't decided.
+    /// Its case is not decided.
     Decision(GuardFault),
-    /// The accepted list that stands apart from it is none.
+    /// The separate accepted list is refused.
     Rows(RowsFault),
-    /// Memory was refused.
+    /// Memory ran out.
     Memory,
 }
 
@@ -176,7 +176,7 @@ impl From<AllocError> for Refusal {
     }
 }
 
-/// The answer to a whole text, in any of the three forms. To one of more than 1,048,576 octets it is `refused form TooLong`.
+/// Answers a whole text, in any of the three forms. For more than 1,048,576 octets the answer is `refused form TooLong`.
 pub fn answer_text(alloc: Global, command: Command, text: &[u8]) -> Answer
     ensures answer { IsAnswer command text.now result.verdict (written_by result) }
     ensures too_long { 1048576 < length text.now → RefusesAsLong result.verdict (written_by result) }
@@ -187,7 +187,7 @@ pub fn answer_text(alloc: Global, command: Command, text: &[u8]) -> Answer
     }
 }
 
-/// The answer to a text that isn't refused. A case is read where it stands, if its text is canonical.
+/// The answer to a text, unless it is refused. If the text is canonical, a case is read from it directly.
 fn answered(alloc: Global, command: Command, text: &[u8]) -> Result<Answer, Refusal>
     ensures answered { IfOk result (λ a. AnswersRead command text.now a.verdict (octets_of a.output)) }
     ensures refused { IfErr result (λ refusal. RefusesAnswer command text.now refusal) }
@@ -199,7 +199,7 @@ fn answered(alloc: Global, command: Command, text: &[u8]) -> Result<Answer, Refu
     }
 }
 
-/// The answer to a text, by its value in the form that the command wants.
+/// The answer to a text, by its value in the form that the command needs.
 fn answer_converted(alloc: Global, command: Command, text: &[u8]) -> Result<Answer, Refusal>
     ensures answered { IfOk result (λ a. AnswersRead command text.now a.verdict (octets_of a.output)) }
     ensures refused { IfErr result (λ refusal. RefusesAnswer command text.now refusal) }
@@ -209,7 +209,7 @@ fn answer_converted(alloc: Global, command: Command, text: &[u8]) -> Result<Answ
     answer_octets(alloc, command, octets)
 }
 
-/// Whether the command is one on a case.
+/// Whether the command is for a case.
 fn is_on_case(command: Command) -> bool
     ensures { IsTrue result ↔ IsOnCase command }
 {
@@ -224,7 +224,7 @@ fn is_on_case(command: Command) -> bool
     }
 }
 
-/// Whether a fault says that a text isn't in canonical form.
+/// Whether a fault says that a text is not in canonical form.
 fn is_of_form(fault: CaseFault) -> bool
     ensures { IsTrue result ↔ ((form : FormFault) × (fault ≡ CaseFault.Form form)) }
 {
@@ -241,8 +241,8 @@ fn is_of_form(fault: CaseFault) -> bool
     }
 }
 
-/// The case that a text is as it stands, for a command on a case; none for another command, and none if the text isn't canonical.
-fn standing_case<'a>(
+/// Reads a case directly from a canonical text. None if the command is not for a case, or if the text is not canonical.
+pub(crate) fn standing_case<'a>(
     alloc: Global,
     command: Command,
     text: &'a [u8],
@@ -266,7 +266,7 @@ fn standing_case<'a>(
     }
 }
 
-/// The form that a command wants a value in.
+/// The form in which a command needs a value.
 fn form_of(command: Command) -> Form
     ensures { result ≡ form_of command }
 {
@@ -281,7 +281,7 @@ fn form_of(command: Command) -> Form
     }
 }
 
-/// The answer to the value of which these octets are the text, in the form that the command wants.
+/// The answer to the value with this text, in the form that the command needs.
 fn answer_octets(alloc: Global, command: Command, octets: Vec<u8>) -> Result<Answer, Refusal>
     ensures answered { (v : Value) → octets.items ≡ written (form_of command) v
         → IfOk result (λ a. AnswersValue command v a.verdict (octets_of a.output)) }
@@ -299,7 +299,7 @@ fn answer_octets(alloc: Global, command: Command, octets: Vec<u8>) -> Result<Ans
     }
 }
 
-/// The answer of a command on a case to a canonical text.
+/// The answer of a command for a case to a canonical text.
 fn answer_canonical(alloc: Global, command: Command, text: &[u8]) -> Result<Answer, Refusal>
     requires { IsOnCase command }
     ensures answered { (v : Value) → text.now ≡ canon v → IfOk result (λ a. AnswersValue command v a.verdict (octets_of a.output)) }
@@ -309,7 +309,7 @@ fn answer_canonical(alloc: Global, command: Command, text: &[u8]) -> Result<Answ
     answer_case(alloc, command, &case)
 }
 
-/// The answer of a command on a case to the case that a canonical text is.
+/// The answer of a command for a case to the case of a canonical text.
 fn answer_case(alloc: Global, command: Command, case: &Case) -> Result<Answer, Refusal>
     requires { IsOnCase command }
     ensures answered { (v : Value) → IsCaseText (canon v) (model case.now) →
@@ -364,7 +364,7 @@ fn explain_case(alloc: Global, case: &Case) -> Result<Answer, Refusal>
     })
 }
 
-/// What was asked for is written.
+/// An answer with this output.
 fn done(output: Vec<u8>) -> Answer
     ensures verdict { result.verdict ≡ Verdict.Done }
     ensures output { octets_of result.output ≡ output.items }
@@ -375,7 +375,7 @@ fn done(output: Vec<u8>) -> Answer
     }
 }
 
-/// What was asked for is written, on a line of its own.
+/// An answer with this output and a line feed.
 fn done_line(output: Vec<u8>) -> Result<Answer, AllocError>
     ensures verdict { IfOk result (λ a. a.verdict ≡ Verdict.Done) }
     ensures output { IfOk result (λ a. octets_of a.output ≡ output.items ++ 10 ∷ []) }
@@ -385,7 +385,7 @@ fn done_line(output: Vec<u8>) -> Result<Answer, AllocError>
     Ok(done(line))
 }
 
-/// A tag as it is written, in advanced form, on a line of its own.
+/// An answer with a tag in advanced form and a line feed.
 fn tag_line(alloc: Global, tag: &Tag) -> Result<Answer, AllocError>
     ensures verdict { IfOk result (λ a. a.verdict ≡ Verdict.Done) }
     ensures output { IfOk result (λ a. octets_of a.output ≡ adv (tag_value tag.now) ++ 10 ∷ []) }
@@ -416,7 +416,7 @@ pub(crate) fn decision_line(alloc: Global, decision: Decision) -> Result<Answer,
     })
 }
 
-/// The line of a refusal, or that of want of memory where there is none for the line.
+/// An answer with the line of a refusal. If there is no memory for the line, it is `refused Memory`.
 pub(crate) fn refuse(alloc: Global, refusal: Refusal) -> Answer
     ensures verdict { result.verdict ≡ Verdict.Refused }
     ensures line { (octets_of result.output ≡ refused_line refusal) ⊎ (octets_of result.output ≡ refused_memory) }
@@ -430,7 +430,7 @@ pub(crate) fn refuse(alloc: Global, refusal: Refusal) -> Answer
     }
 }
 
-/// The answer where memory ran out, which takes none.
+/// The answer if memory ran out, which takes no memory.
 pub(crate) fn out_of_memory() -> Answer
     ensures verdict { result.verdict ≡ Verdict.Refused }
     ensures line { octets_of result.output ≡ refused_memory }

@@ -1,4 +1,4 @@
-//! Decisions on cases by signatures that stand apart from them.
+//! Decisions on cases by separate accepted lists.
 ghost use Rattle.std.specs.Prelude.{◌≡◌, ◌≢◌, ◌<◌, ℕ, List, length, IfOk, IfErr, IsErrOf};
 ghost use Rattle.sexpr_core.specs.Value.{Value, canon};
 ghost use Rattle.sexpr_text.specs.Spelling.{IsTextWithin};
@@ -8,19 +8,20 @@ ghost use Rattle.spki_guard.specs.Apart.{IsAnswerApart, DecidesApart, DecidesBy,
 ghost use Rattle.spki_guard.specs.declared.answers.Refusal.{Refusal};
 ghost use Rattle.spki_guard.specs.declared.answers.Verdict.{Verdict};
 
-use crate::answers::{Answer, Refusal, decision_line, refuse};
+use crate::answers::{Answer, Refusal, decision_line, refuse, standing_case};
 use sexpr_core::FormFault;
 use sexpr_text::{Form, convert};
 use spki_case::{AcceptedTable, Case, RowsFault};
 use spki_decision::decide;
+use spki_words::Command;
 use std::alloc::Global;
 
-/// Decides a case by an accepted list that stands apart from it, `(accepted row ..)`, each text in any of the three forms. The
-/// rows of the case's own accepted list are read, and none of them is asked.
+/// Decides a case by a separate accepted list, `(accepted row ..)`, each text in any of the three forms. The rows of the
+/// case's own accepted list are read, and none of them is used.
 ///
-/// The case's text is read first, its form and then the case in it, and where it is refused the rows are not looked at; then the
-/// text of the rows, its form and then the rows in it. What is said of the rows begins with `refused rows`. Of each text
-/// TooLong is said exactly where it, or its canonical form, has more than 1,048,576 octets.
+/// The case's text is read first: its form, and then the case. If it is refused, the rows are not examined. Then the text of
+/// the rows is read: its form, and then the rows. A refusal of the rows begins with `refused rows`. A text is TooLong
+/// exactly if it, or its canonical form, has more than 1,048,576 octets.
 pub fn check_accepted(alloc: Global, text: &[u8], rows: &[u8]) -> Answer
     ensures answer { IsAnswerApart text.now rows.now result.verdict (written_by result) }
     ensures too_long { 1048576 < length text.now → RefusesAsLong result.verdict (written_by result) }
@@ -31,8 +32,20 @@ pub fn check_accepted(alloc: Global, text: &[u8], rows: &[u8]) -> Answer
     }
 }
 
-/// The answer where neither text is refused.
+/// The answer, unless one of the texts is refused. A case is read directly from its text, if the text is canonical.
 fn checked(alloc: Global, text: &[u8], rows: &[u8]) -> Result<Answer, Refusal>
+    ensures answered { IfOk result (λ a. DecidesApart text.now rows.now a.verdict (written_by a)) }
+    ensures refused { IfErr result (λ refusal. RefusesApart text.now rows.now refusal) }
+    ensures too_long { 1048576 < length text.now → IsErrOf result (Refusal.Form FormFault.TooLong) }
+{
+    match standing_case(alloc, Command::Check, text)? {
+        Some(case) => decide_by(alloc, &case, rows),
+        None => checked_converted(alloc, text, rows),
+    }
+}
+
+/// The same, by the canonical form of the case's text, which is made anew.
+fn checked_converted(alloc: Global, text: &[u8], rows: &[u8]) -> Result<Answer, Refusal>
     ensures answered { IfOk result (λ a. DecidesApart text.now rows.now a.verdict (written_by a)) }
     ensures refused { IfErr result (λ refusal. RefusesApart text.now rows.now refusal) }
     ensures too_long { 1048576 < length text.now → IsErrOf result (Refusal.Form FormFault.TooLong) }
@@ -42,7 +55,7 @@ fn checked(alloc: Global, text: &[u8], rows: &[u8]) -> Result<Answer, Refusal>
     decide_by(alloc, &case, rows)
 }
 
-/// Decides a case by the accepted list that a text in any form is.
+/// Decides a case by the accepted list of a text in any form.
 fn decide_by(alloc: Global, case: &Case, rows: &[u8]) -> Result<Answer, Refusal>
     ensures answered { IfOk result (λ a. DecidesBy (model case.now) rows.now a.verdict (written_by a)) }
     ensures refused { IfErr result (λ refusal. RefusesBy (model case.now) rows.now refusal) }
@@ -53,7 +66,7 @@ fn decide_by(alloc: Global, case: &Case, rows: &[u8]) -> Result<Answer, Refusal>
     Ok(decision_line(alloc, decision)?)
 }
 
-/// The canonical form of the text of an accepted list.
+/// Returns the canonical form of the text of an accepted list.
 fn canonical_rows(alloc: Global, rows: &[u8]) -> Result<Vec<u8>, RowsFault>
     ensures read { IfOk result (λ octets. (w : Value) × IsTextWithin rows.now w × (octets.items ≡ canon w)) }
     ensures refused { IfErr result (λ fault. fault ≢ RowsFault.Memory → RefusesRowsForm rows.now fault) }
@@ -65,7 +78,7 @@ fn canonical_rows(alloc: Global, rows: &[u8]) -> Result<Vec<u8>, RowsFault>
     }
 }
 
-/// Two texts have one answer of `check_accepted`, memory apart: at most one decision, and no refusal beside it; else one
+/// Two texts have one answer of `check_accepted`, unless memory ran out: at most one decision and no refusal, or one
 /// refusal, and so one line.
 pub fn one_answer_apart()
     ensures decided { (text rows : List ℕ) (verdict other : Verdict) (output line : List ℕ)

@@ -1,4 +1,4 @@
-//! The lines that are written of entries and of failing evidence, put behind what is there.
+//! Appends the lines for entries, and for a certificate that does not stand, to the output.
 ghost use Rattle.std.specs.Prelude.{◌≡◌, [], ◌∷◌, ◌++◌, OnOk, codes};
 ghost use Rattle.sexpr_core.specs.Value.{decimal};
 ghost use Rattle.spki_guard.specs.Lines.{cause_name, stop_name, item_line, no_entries, entry_line, stopped_line, reason_line};
@@ -33,7 +33,7 @@ fn stop_name(stop: Stop) -> &'static str
     }
 }
 
-/// Puts `item J STOP` behind what is written; `item` is counted from 1.
+/// Appends `item J STOP` to the output; `item` is counted from 1.
 #[tactic(auto, using(crate::proofs::Decimals::decimal_written))]
 pub fn push_item(
     alloc: Global,
@@ -47,14 +47,14 @@ pub fn push_item(
     push(out, format!(in alloc; "item {item} {stop}\n")?.as_bytes())
 }
 
-/// Puts `no entries` behind what is written.
+/// Appends `no entries` to the output.
 pub fn push_no_entries(out: &mut Vec<u8>) -> Result<(), AllocError>
     ensures { OnOk result (out.new.items ≡ out.old.items ++ no_entries) }
 {
     push(out, b"no entries\n")
 }
 
-/// Puts `entry N item J CAUSE` behind what is written; both are counted from 1.
+/// Appends `entry N item J CAUSE` to the output; both are counted from 1.
 #[tactic(auto, using(crate::proofs::Decimals::decimal_written))]
 pub fn push_stopped(
     alloc: Global,
@@ -72,7 +72,7 @@ pub fn push_stopped(
     )
 }
 
-/// Puts `entry N WORD` behind what is written; `entry` is counted from 1.
+/// Appends `entry N WORD` to the output; `entry` is counted from 1.
 #[tactic(auto, using(crate::proofs::Decimals::decimal_written))]
 fn push_word(alloc: Global, out: &mut Vec<u8>, entry: usize, word: &str) -> Result<(), AllocError>
     ensures { OnOk result (out.new.items ≡ out.old.items ++ entry_line entry (word.now ∷ [])) }
@@ -80,7 +80,7 @@ fn push_word(alloc: Global, out: &mut Vec<u8>, entry: usize, word: &str) -> Resu
     push(out, format!(in alloc; "entry {entry} {word}\n")?.as_bytes())
 }
 
-/// Puts the line of an entry's explanation behind what is written; `entry` is counted from 1.
+/// Appends the line of an entry's explanation to the output; `entry` is counted from 1.
 pub fn push_reason(
     alloc: Global,
     out: &mut Vec<u8>,
@@ -98,7 +98,7 @@ pub fn push_reason(
     }
 }
 
-/// Puts `entry N` and a space behind what is written; `entry` is counted from 1.
+/// Appends `entry N` and a space to the output; `entry` is counted from 1.
 #[tactic(auto, using(crate::proofs::Decimals::decimal_written))]
 pub fn push_entry(alloc: Global, out: &mut Vec<u8>, entry: usize) -> Result<(), AllocError>
     ensures { OnOk result (out.new.items ≡ out.old.items ++ (codes "entry " ++ (decimal entry ++ 32 ∷ []))) }

@@ -17,19 +17,19 @@ pub enum IntersectFault {
     /// The text is no canonical form within the limits.
     #[error("form: {0}")]
     Form(FormFault),
-    /// The value isn't `(intersect A B)`.
+    /// The value is not `(intersect A B)`.
     #[error("not built as an intersection")]
     Shape,
     /// A is no tag.
     #[error("first tag: {0}")]
     First(TagFault),
-    /// A is a tag, and B is none.
+    /// A is a tag, and B is no tag.
     #[error("second tag: {0}")]
     Second(TagFault),
     /// The product of the nodes of the two tags is over 1,000,000.
     #[error("the tags are too large")]
     TooLarge,
-    /// Memory was refused.
+    /// Memory ran out.
     #[error("out of memory")]
     Memory,
 }
@@ -45,14 +45,14 @@ impl From<MeetFault> for IntersectFault {
     }
 }
 
-/// The two values that are to be met.
+/// The two values that are to be intersected.
 #[derive(Drop)]
 struct Operands<'d, 'a> {
     first: Node<'d, 'a>,
     second: Node<'d, 'a>,
 }
 
-/// The two members, where there are two.
+/// The two members, if there are exactly two.
 fn two<'d, 'a>(members: Members<'d, 'a>) -> Option<Operands<'d, 'a>>
     ensures { MatchOption result ((a b : Value) → members.entry ≢ a ∷ b ∷ [])
         (λ p. members.entry ≡ p.first ∷ p.second ∷ []) }
@@ -92,7 +92,7 @@ fn second_fault(fault: TagFault) -> IntersectFault
     }
 }
 
-/// What the two tags of a value leave together.
+/// Returns the intersection of the two tags of a value.
 fn meet_in(alloc: Global, node: &Node) -> Result<Tag, IntersectFault>
     ensures read { IfOk result (λ tag. Intersects node.now tag) }
     ensures refused { IfErr result (λ fault. fault ≢ IntersectFault.Memory → ValueNotMet node.now fault) }
@@ -111,14 +111,14 @@ fn meet_in(alloc: Global, node: &Node) -> Result<Tag, IntersectFault>
     Ok(first.meet(alloc, &second)?)
 }
 
-/// Reads `(intersect A B)` in canonical form, A and B being written tags, and gives what the two leave together
-/// (RFC 2693, section 6.3.1).
+/// Reads `(intersect A B)` in canonical form, where A and B are written tags, and returns their intersection (RFC 2693,
+/// section 6.3.1).
 ///
 /// # Errors
 ///
-/// `Form` where the text is no canonical form within the limits, and `Form(TooLong)` exactly where it has more than 1,048,576
-/// octets; `Shape` where the value isn't `(intersect A B)`, then the fault of the first of the two that is no tag, then
-/// `TooLarge` where the product of their nodes is over 1,000,000. `Memory` where memory was refused.
+/// `Form` if the text is no canonical form within the limits; `Form(TooLong)` exactly if it has more than 1,048,576 octets.
+/// `Shape` if the value is not `(intersect A B)`. Otherwise the fault of the first of the two that is no tag, and then
+/// `TooLarge` if the product of their nodes is over 1,000,000. `Memory` if memory ran out.
 pub fn intersect(alloc: Global, text: &[u8]) -> Result<Tag, IntersectFault>
     ensures read { IfOk result (λ tag. IsMetText text.now tag) }
     ensures too_long { IsErrOf result (IntersectFault.Form FormFault.TooLong) ↔ (1048576 < length text.now) }

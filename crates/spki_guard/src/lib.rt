@@ -1,9 +1,11 @@
-//! The guard: what `spki` does with the octets that it reads.
+//! The guard: the commands of `spki`, from the octets that are read to those that are written.
 #![tactic(auto)]
 
 mod answers;
 mod apart;
 mod entry_lines;
+mod held;
+mod held_lines;
 mod intersection;
 pub mod line_laws;
 mod lines;
@@ -15,6 +17,7 @@ mod statuses;
 
 pub use answers::{Answer, Verdict, answer_text};
 pub use apart::{check_accepted, one_answer_apart};
+pub use held::{SignedOctets, Wish, answer_question, refused_list, signed_octets};
 pub use intersection::{IntersectFault, intersect};
 pub use metered_io::Metered;
 pub use program::run_words;

@@ -1,4 +1,4 @@
-//! Laws of what is answered to a text.
+//! Laws of the answers to a text.
 
 ghost use Rattle.std.specs.Prelude.{◌≡◌, ◌≢◌, ℕ, List};
 ghost use Rattle.spki_decision.specs.declared.fault.GuardFault.TheVariants as guard;
@@ -9,8 +9,8 @@ ghost use Rattle.spki_guard.specs.declared.intersection.IntersectFault.TheVarian
 ghost use Rattle.spki_guard.specs.Answer.{AnswersRead, RefusesAnswer};
 ghost use Rattle.spki_words.specs.declared.commands.Command.{Command};
 
-/// A text has one answer of a command, memory apart: at most one output and verdict, and no refusal beside it but want of
-/// memory; else one refusal, and so one line.
+/// A text has one answer of a command, unless memory ran out: at most one output and verdict and no refusal, or one refusal,
+/// and so one line.
 pub fn one_line()
     ensures same { (command : Command) (text : List ℕ) (x y : Verdict) (output line : List ℕ)
         → AnswersRead command text x output → AnswersRead command text y line → (x ≡ y) × (output ≡ line) }
@@ -21,7 +21,7 @@ pub fn one_line()
         → refusal ≢ refusals.Memory → other ≢ refusals.Memory → refusal ≡ other }
 {}
 
-/// A text that is refused since tags are too large is refused for nothing else but want of memory.
+/// A text that is refused as `TooLarge` is refused for nothing else, unless memory ran out.
 pub fn one_too_large()
     ensures chain { (command : Command) (text : List ℕ) (refusal : Refusal)
         → RefusesAnswer command text (refusals.Decision guard.TooLarge)

@@ -1,4 +1,4 @@
-//! The lines that are written, put behind what is there.
+//! Appends the lines of answers to the output.
 ghost use Rattle.std.specs.Prelude.{◌≡◌, ◌++◌, OnOk, OnErr};
 ghost use Rattle.spki_guard.specs.Lines.{yes_entry, no_line, refused_part, refused_item, refused_tag, refused_at, refused_text, refused_form, refused_in, refused_case, refused_rows, refused_decision, refused_intersect, refused_memory, tag_kind, kind_name};
 
@@ -10,11 +10,11 @@ use spki_decision::GuardFault;
 use spki_tag::TagFault;
 use std::alloc::{AllocError, Global};
 
-/// Puts `yes entry N` behind what is written; `entry` is counted from 1.
+/// Appends `yes entry N` to the output; `entry` is counted from 1.
 ///
 /// # Errors
 ///
-/// Out of memory; nothing is put behind then, here and in the functions below.
+/// `AllocError` if memory ran out. Then the output does not change, here and in the functions below.
 #[tactic(auto, using(crate::proofs::Decimals::decimal_written))]
 pub fn push_yes_entry(alloc: Global, out: &mut Vec<u8>, entry: usize) -> Result<(), AllocError>
     ensures ok { OnOk result (out.new.items ≡ out.old.items ++ yes_entry entry) }
@@ -23,7 +23,7 @@ pub fn push_yes_entry(alloc: Global, out: &mut Vec<u8>, entry: usize) -> Result<
     push(out, format!(in alloc; "yes entry {entry}\n")?.as_bytes())
 }
 
-/// Puts `no` behind what is written.
+/// Appends `no` to the output.
 pub fn push_no(out: &mut Vec<u8>) -> Result<(), AllocError>
     ensures ok { OnOk result (out.new.items ≡ out.old.items ++ no_line) }
     ensures err { OnErr result (out.new.items ≡ out.old.items) }
@@ -31,7 +31,7 @@ pub fn push_no(out: &mut Vec<u8>) -> Result<(), AllocError>
     push(out, b"no\n")
 }
 
-/// Puts the line of a fault of the text behind what is written; of want of memory it is `refused Memory`.
+/// Appends the line of a fault of the text to the output. For lack of memory it is `refused Memory`.
 pub fn push_refused_form(
     alloc: Global,
     out: &mut Vec<u8>,
@@ -43,8 +43,8 @@ pub fn push_refused_form(
     push_refused_text(alloc, out, "form", fault)
 }
 
-/// Puts the line of a fault of a text behind what is written, with this word for the text.
-fn push_refused_text(
+/// Appends the line of a fault of a text to the output, with this word for the text.
+pub(crate) fn push_refused_text(
     alloc: Global,
     out: &mut Vec<u8>,
     text: &str,
@@ -63,7 +63,7 @@ fn push_refused_text(
     }
 }
 
-/// Puts `refused PART KIND` behind what is written.
+/// Appends `refused PART KIND` to the output.
 pub fn push_refused_part(
     alloc: Global,
     out: &mut Vec<u8>,
@@ -79,7 +79,7 @@ pub fn push_refused_part(
     )
 }
 
-/// Puts `refused PART N KIND` behind what is written; `item` is counted from 1.
+/// Appends `refused PART N KIND` to the output; `item` is counted from 1.
 #[tactic(auto, using(crate::proofs::Decimals::decimal_written))]
 pub fn push_refused_item(
     alloc: Global,
@@ -97,7 +97,7 @@ pub fn push_refused_item(
     )
 }
 
-/// Puts `refused PART N Tag KIND` behind what is written, of a tag in item N; `item` is counted from 1.
+/// Appends `refused PART N Tag KIND` to the output, for a tag in item N; `item` is counted from 1.
 #[tactic(auto, using(crate::proofs::Decimals::decimal_written))]
 pub fn push_refused_tag(
     alloc: Global,
@@ -155,8 +155,8 @@ pub fn kind_name(kind: CertFaultKind) -> &'static str
     }
 }
 
-/// Puts the line of a fault in a part that has entries, rows or items behind what is written.
-fn push_refused_in(
+/// Appends the line of a fault in a part that has entries, rows or items to the output.
+pub(crate) fn push_refused_in(
     alloc: Global,
     out: &mut Vec<u8>,
     part: &str,
@@ -172,7 +172,7 @@ fn push_refused_in(
     }
 }
 
-/// Puts the line of a case's fault behind what is written; of want of memory it is `refused Memory`.
+/// Appends the line of a case's fault to the output. For lack of memory it is `refused Memory`.
 pub fn push_refused_case(
     alloc: Global,
     out: &mut Vec<u8>,
@@ -194,8 +194,8 @@ pub fn push_refused_case(
     }
 }
 
-/// Puts the line of a fault of an accepted list that stands apart from a case behind what is written, with the word
-/// `rows`; of want of memory it is `refused Memory`.
+/// Appends the line of a fault of a separate accepted list to the output, with the word `rows`. For lack of memory it is
+/// `refused Memory`.
 pub fn push_refused_rows(
     alloc: Global,
     out: &mut Vec<u8>,
@@ -212,7 +212,7 @@ pub fn push_refused_rows(
     }
 }
 
-/// Puts the line of a case that isn't decided behind what is written; of want of memory it is `refused Memory`.
+/// Appends the line of a case that is not decided to the output. For lack of memory it is `refused Memory`.
 pub fn push_refused_decision(out: &mut Vec<u8>, fault: GuardFault) -> Result<(), AllocError>
     ensures ok { OnOk result (out.new.items ≡ out.old.items ++ refused_decision fault) }
     ensures err { OnErr result (out.new.items ≡ out.old.items) }
@@ -223,7 +223,7 @@ pub fn push_refused_decision(out: &mut Vec<u8>, fault: GuardFault) -> Result<(),
     }
 }
 
-/// Puts the line of want of memory behind what is written.
+/// Appends the line for lack of memory to the output.
 pub fn push_refused_memory(out: &mut Vec<u8>) -> Result<(), AllocError>
     ensures ok { OnOk result (out.new.items ≡ out.old.items ++ refused_memory) }
     ensures err { OnErr result (out.new.items ≡ out.old.items) }
@@ -231,7 +231,7 @@ pub fn push_refused_memory(out: &mut Vec<u8>) -> Result<(), AllocError>
     push(out, b"refused Memory\n")
 }
 
-/// Puts the line of a fault of an intersection behind what is written; of want of memory it is `refused Memory`.
+/// Appends the line of a fault of an intersection to the output. For lack of memory it is `refused Memory`.
 pub fn push_refused_intersect(
     alloc: Global,
     out: &mut Vec<u8>,
@@ -250,7 +250,7 @@ pub fn push_refused_intersect(
     }
 }
 
-/// Puts `refused TEXT KIND AT` behind what is written; `at` is an offset.
+/// Appends `refused TEXT KIND AT` to the output; `at` is an offset.
 #[tactic(auto, using(crate::proofs::Decimals::decimal_written))]
 fn push_refused_at(
     alloc: Global,
@@ -268,7 +268,7 @@ fn push_refused_at(
     )
 }
 
-/// Puts octets behind what is written.
+/// Appends octets to the output.
 pub(crate) fn push(out: &mut Vec<u8>, octets: &[u8]) -> Result<(), AllocError>
     ensures ok { OnOk result (out.new.items ≡ out.old.items ++ octets.now) }
     ensures err { OnErr result (out.new.items ≡ out.old.items) }

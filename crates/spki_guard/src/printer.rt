@@ -1,4 +1,4 @@
-//! Tags and authorizations, written in advanced form member by member, so that no tree is made of a large tag.
+//! Prints tags and authorizations in advanced form, member by member, so that no tree is made of a large tag.
 
 ghost use Rattle.std.specs.Prelude.{◌≡◌, ◌++◌, OnOk, map};
 ghost use Rattle.sexpr_core.specs.Value.{Value, values};
@@ -13,7 +13,7 @@ use spki_reduce::Five;
 use spki_tag::{Tag, TagForm};
 use std::alloc::{AllocError, Global};
 
-/// Puts a tree in advanced form behind what is written.
+/// Appends a tree in advanced form to the output.
 fn push_tree(alloc: Global, out: &mut Vec<u8>, tree: &Sexp) -> Result<(), AllocError>
     ensures { OnOk result (out.new.items ≡ out.old.items ++ adv (sexp_value tree.now)) }
 {
@@ -21,7 +21,7 @@ fn push_tree(alloc: Global, out: &mut Vec<u8>, tree: &Sexp) -> Result<(), AllocE
     out.extend_from_slice(&text)
 }
 
-/// Puts a tag, as it is written, in advanced form behind what is written.
+/// Appends a tag in advanced form to the output.
 #[cycle(print)]
 pub fn push_tag(alloc: Global, out: &mut Vec<u8>, tag: &Tag) -> Result<(), AllocError>
     ensures { OnOk result (out.new.items ≡ out.old.items ++ adv (tag_value tag.now)) }
@@ -48,7 +48,7 @@ pub fn push_tag(alloc: Global, out: &mut Vec<u8>, tag: &Tag) -> Result<(), Alloc
     }
 }
 
-/// Puts each tag, with a space before it, behind what is written.
+/// Appends each tag, with a space before it, to the output.
 #[cycle(print)]
 fn push_each(alloc: Global, out: &mut Vec<u8>, members: &[Tag]) -> Result<(), AllocError>
     ensures { OnOk result (out.new.items ≡ out.old.items ++ adv_all 1 (tag_values (tags members.now))) }
@@ -60,7 +60,7 @@ fn push_each(alloc: Global, out: &mut Vec<u8>, members: &[Tag]) -> Result<(), Al
     Ok(())
 }
 
-/// Puts trees, each with a space before it, behind what is written.
+/// Appends trees, each with a space before it, to the output.
 fn push_trees(alloc: Global, out: &mut Vec<u8>, trees: &[Sexp]) -> Result<(), AllocError>
     ensures { OnOk result (out.new.items ≡ out.old.items ++ adv_all 1 (values (map sexp_value trees.now))) }
 {
@@ -71,7 +71,7 @@ fn push_trees(alloc: Global, out: &mut Vec<u8>, trees: &[Sexp]) -> Result<(), Al
     Ok(())
 }
 
-/// Puts an authorization, as it is written, in advanced form behind what is written.
+/// Appends an authorization in advanced form to the output.
 pub fn push_five(alloc: Global, out: &mut Vec<u8>, five: &Five) -> Result<(), AllocError>
     ensures { OnOk result ((v : Value) × IsWrittenFive five.now v × (out.new.items ≡ out.old.items ++ adv v)) }
 {

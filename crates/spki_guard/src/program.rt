@@ -13,12 +13,12 @@ use std::alloc::Global;
 use std::io;
 use std::io::{ErrorKind, Read, Write};
 
-/// Does what the words of a command line ask for, and gives the exit status. The words are as reading them gave them, of which
-/// the first is the program's name.
+/// Does what the words of a command line ask for, and returns the exit status. `words` is the result of reading them. The
+/// first word is the program's name.
 ///
-/// A command is run: it reads the reader, and its answer goes to the writer. Why a run was cut off goes to `errors`. Words that
-/// ask for no command are refused by clap's text, which goes to `errors`, as the text of help does; nothing is read then. All
-/// meters begin at 0.
+/// If the words ask for a command, it is run: it reads from the reader, and its answer goes to the writer. If the run is cut
+/// off, the reason goes to `errors`. If the words ask for help or for no command, the text of `clap` goes to `errors`, and
+/// nothing is read. The call resets all meters first.
 pub fn run_words<R: Read, W: Write, E: Write>(
     alloc: Global,
     words: &io::Result<Vec<String>>,
@@ -38,7 +38,7 @@ pub fn run_words<R: Read, W: Write, E: Write>(
     }
 }
 
-/// The command that the words ask for, or why there is none.
+/// Returns the command that the words ask for, or why there is none.
 fn asked_by(alloc: Global, words: &io::Result<Vec<String>>) -> Result<Command, WordsFault>
     ensures { MatchResult words.now (λ list. IsAsked (map string_bytes list.items) result)
         (λ error. IsUnasked (error_kind error) result) }
@@ -49,7 +49,7 @@ fn asked_by(alloc: Global, words: &io::Result<Vec<String>>) -> Result<Command, W
     }
 }
 
-/// Why words that can't be read name no command.
+/// The fault if the words cannot be read.
 fn unread(alloc: Global, error: &io::Error) -> WordsFault
     ensures { IsUnread (error_kind error.now) result }
 {
@@ -60,7 +60,7 @@ fn unread(alloc: Global, error: &io::Error) -> WordsFault
     }
 }
 
-/// The fault of words that aren't UTF-8.
+/// The fault if the words are not UTF-8.
 fn no_text(alloc: Global) -> WordsFault
     ensures { IsNoText result }
 {
@@ -70,7 +70,7 @@ fn no_text(alloc: Global) -> WordsFault
     }
 }
 
-/// Runs a command, and gives the exit status.
+/// Runs a command, and returns the exit status.
 fn run_command<R: Read, W: Write, E: Write>(
     alloc: Global,
     command: Command,
@@ -86,7 +86,7 @@ fn run_command<R: Read, W: Write, E: Write>(
     status.code()
 }
 
-/// Says why a run was cut off.
+/// Writes why a run was cut off.
 fn report<E: Write>(errors: &mut Metered<E>, status: Status)
     ensures { IsReported E.contents errors.old errors.new status }
 {
@@ -97,7 +97,7 @@ fn report<E: Write>(errors: &mut Metered<E>, status: Status)
     }
 }
 
-/// Says why there is no command, and gives the exit status.
+/// Writes why there is no command, and returns the exit status.
 fn say_fault<R: Read, W: Write, E: Write>(
     fault: &WordsFault,
     reader: &mut Metered<R>,
@@ -112,7 +112,7 @@ fn say_fault<R: Read, W: Write, E: Write>(
     fault.code()
 }
 
-/// Says why there is no command.
+/// Writes why there is no command.
 fn refuse_words<W: Write, E: Write>(
     fault: &WordsFault,
     writer: &mut Metered<W>,
@@ -132,7 +132,7 @@ fn refuse_words<W: Write, E: Write>(
     }
 }
 
-/// Writes octets. Whether the writer fails is in its meter, which begins at 0.
+/// Writes octets. The writer's meter, which is reset first, counts whether it failed.
 fn say<W: Write>(writer: &mut Metered<W>, octets: &[u8])
     ensures { IsSaid W.contents writer.old writer.new octets.now }
 {

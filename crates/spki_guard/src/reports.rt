@@ -1,4 +1,4 @@
-//! What is written of a case's reduction and of its explanation: a line for each entry.
+//! Writes a case's reduction and explanation: a line for each entry.
 ghost use Rattle.std.specs.Prelude.{◌≡◌, ℕ, List, ◌++◌, OnOk, IfOk};
 ghost use Rattle.spki_guard.specs.Lines.{reason_line};
 ghost use Rattle.spki_guard.specs.Reports.{verdict_of, IsFoldLine, AreFoldLines, AreFolds, is_done, some_done, IsReductionReport, reason_lines, is_grant, some_grant, AreReasons, IsExplanationReport};
@@ -9,14 +9,14 @@ use crate::printer::push_five;
 use spki_decision::{EntryFold, Explanation, Reason, Reduction};
 use std::alloc::{AllocError, Global};
 
-/// Yes if some entry does, else no.
+/// Yes if some entry does, otherwise no.
 fn verdict_of(yes: bool) -> Verdict
     ensures { result ≡ verdict_of yes }
 {
     if yes { Verdict::Done } else { Verdict::No }
 }
 
-/// Puts what is written of a reduction behind what is there.
+/// Appends the lines of a reduction to the output.
 pub fn push_reduction(
     alloc: Global,
     out: &mut Vec<u8>,
@@ -34,7 +34,7 @@ pub fn push_reduction(
     }
 }
 
-/// Puts what is written of each entry's chain behind what is there.
+/// Appends the lines of the entries' chains, or `no entries`, to the output.
 fn push_folds(alloc: Global, out: &mut Vec<u8>, folds: &[EntryFold]) -> Result<Verdict, AllocError>
     ensures { IfOk result (λ verdict. (lines : List ℕ) × AreFolds folds.now verdict lines
         × (out.new.items ≡ out.old.items ++ lines)) }
@@ -47,7 +47,7 @@ fn push_folds(alloc: Global, out: &mut Vec<u8>, folds: &[EntryFold]) -> Result<V
     Ok(verdict_of(some_done(folds)))
 }
 
-/// Puts a line for each entry's chain behind what is there.
+/// Appends a line for each entry's chain to the output.
 fn push_fold_lines(alloc: Global, out: &mut Vec<u8>, folds: &[EntryFold]) -> Result<(), AllocError>
     ensures { OnOk result ((lines : List ℕ) × AreFoldLines 1 folds.now lines
         × (out.new.items ≡ out.old.items ++ lines)) }
@@ -58,7 +58,7 @@ fn push_fold_lines(alloc: Global, out: &mut Vec<u8>, folds: &[EntryFold]) -> Res
     Ok(())
 }
 
-/// Whether some chain comes to a tuple.
+/// Whether some chain becomes a tuple.
 fn some_done(folds: &[EntryFold]) -> bool
     ensures { result ≡ some_done folds.now }
 {
@@ -70,7 +70,7 @@ fn some_done(folds: &[EntryFold]) -> bool
     false
 }
 
-/// Whether a chain comes to a tuple.
+/// Whether a chain becomes a tuple.
 fn is_done(fold: &EntryFold) -> bool
     ensures { result ≡ is_done fold.now }
 {
@@ -80,7 +80,7 @@ fn is_done(fold: &EntryFold) -> bool
     }
 }
 
-/// Puts the line of an entry's chain behind what is there; `entry` is counted from 1.
+/// Appends the line of an entry's chain to the output; `entry` is counted from 1.
 fn push_fold(
     alloc: Global,
     out: &mut Vec<u8>,
@@ -101,7 +101,7 @@ fn push_fold(
     }
 }
 
-/// Puts what is written of an explanation behind what is there.
+/// Appends the lines of an explanation to the output.
 pub fn push_explanation(
     alloc: Global,
     out: &mut Vec<u8>,
@@ -119,7 +119,7 @@ pub fn push_explanation(
     }
 }
 
-/// Puts what is written of each entry's reason behind what is there.
+/// Appends the lines of the entries' reasons, or `no entries`, to the output.
 fn push_reasons(alloc: Global, out: &mut Vec<u8>, reasons: &[Reason]) -> Result<Verdict, AllocError>
     ensures { IfOk result (λ verdict. (lines : List ℕ) × AreReasons reasons.now verdict lines
         × (out.new.items ≡ out.old.items ++ lines)) }
@@ -132,7 +132,7 @@ fn push_reasons(alloc: Global, out: &mut Vec<u8>, reasons: &[Reason]) -> Result<
     Ok(verdict_of(some_grant(reasons)))
 }
 
-/// Puts a line for each entry's reason behind what is there.
+/// Appends a line for each entry's reason to the output.
 fn push_reason_lines(alloc: Global, out: &mut Vec<u8>, reasons: &[Reason]) -> Result<(), AllocError>
     ensures { OnOk result (out.new.items ≡ out.old.items ++ reason_lines 1 reasons.now) }
 {
@@ -142,7 +142,7 @@ fn push_reason_lines(alloc: Global, out: &mut Vec<u8>, reasons: &[Reason]) -> Re
     Ok(())
 }
 
-/// Whether some entry grants what is asked.
+/// Whether some entry grants the request.
 fn some_grant(reasons: &[Reason]) -> bool
     ensures { result ≡ some_grant reasons.now }
 {
@@ -154,7 +154,7 @@ fn some_grant(reasons: &[Reason]) -> bool
     false
 }
 
-/// Whether an entry grants what is asked.
+/// Whether an entry grants the request.
 fn is_grant(reason: Reason) -> bool
     ensures { result ≡ is_grant reason }
 {

@@ -1,4 +1,4 @@
-//! A command from the octets that are read to those that are written.
+//! Runs a command, from the octets that are read to those that are written.
 ghost use Rattle.std.specs.Prelude.{◌≡◌, ℕ, ◌<◌, ◌≤◌, ◌⊎◌, List, length, max, IsTrue, IfNone, IfSome, OnSome};
 ghost use Rattle.metered_io.specs.Metered.{inner_of, Gives, TakesNone};
 ghost use Rattle.spki_guard.specs.Answer.{octets_of};
@@ -13,8 +13,8 @@ use spki_words::Command;
 use std::alloc::Global;
 use std::io::{Read, Write};
 
-/// Reads a text, does the command with it and writes the answer, which is made before its first octet goes out.
-/// Both meters begin at 0.
+/// Reads a text, does the command with it, and writes the answer. The whole answer is made before its first octet is
+/// written. The call resets both meters first.
 pub fn run<R: Read, W: Write>(
     alloc: Global,
     command: Command,
@@ -31,7 +31,7 @@ pub fn run<R: Read, W: Write>(
     ensures unwritten { result ≡ Status.ReadFault → (writer.new.asks ≡ 0)
         × TakesNone W.contents writer.old writer.new }
 
-    // With any other status there is a reply, and all or a front of it was written.
+    // With any other status there is a reply, and all of it or a beginning of it was written.
     ensures written { (verdict : Verdict) → result ≡ status_of verdict → (output : List ℕ)
         × IsReply command (R.remaining (inner_of reader.old)) (R.remaining (inner_of reader.new)) reader.new.ended verdict output
         × IsWritten W.contents writer.old writer.new output }
@@ -47,7 +47,7 @@ pub fn run<R: Read, W: Write>(
     }
 }
 
-/// Reads a text and makes the reply to it; none where the reader failed.
+/// Reads a text and makes the reply to it. None if the reader failed.
 fn reply_to<R: Read>(alloc: Global, command: Command, reader: &mut Metered<R>) -> Option<Answer>
     ensures asks { reader.new.asks ≤ max reader.old.asks 2097152 }
     ensures no_more { (octets : List ℕ) × (length octets ≤ 1048577) × Gives R.remaining reader.old reader.new octets }

@@ -8,11 +8,11 @@ use crate::answers::Verdict;
 /// How a run ended.
 #[derive(Clone, Copy, Debug, PartialEq, Eq)]
 pub enum Status {
-    /// The answer is yes, or what was asked for is written.
+    /// Yes, or the output is what the command is for.
     Done,
-    /// The answer is no.
+    /// No.
     No,
-    /// The text is no input, or its answer is a refusal.
+    /// The text or its contents are refused.
     Refused,
     /// The reader failed.
     ReadFault,

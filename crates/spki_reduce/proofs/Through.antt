@@ -37,7 +37,7 @@ still_nothing (range ordering low up) = refl
 still_nothing (list head further) = refl
 still_nothing (set members) = refl
 
-nothing_met : (tags : List Tag) → fold meet (set none) tags ≡ set none
+pub nothing_met : (tags : List Tag) → fold meet (set none) tags ≡ set none
 nothing_met [] = refl
 nothing_met (t ∷ ts) = ap (λ u. fold meet u ts) (still_nothing t) ∙ nothing_met ts
 
@@ -55,11 +55,11 @@ untagged : (policy : Policy) (root : FiveTuple) (tuple : Tuple) → HasTag tuple
 untagged policy root (five right) has h = has
 untagged policy root (four right) has h = absurd h
 
-first_empty : {A : Type 0} (xs ys : List A) → xs ++ ys ≡ [] → xs ≡ []
+pub first_empty : {A : Type 0} (xs ys : List A) → xs ++ ys ≡ [] → xs ≡ []
 first_empty [] ys e = refl
 first_empty (x ∷ xs) ys e = absurd cc
 
-last_empty : {A : Type 0} (xs ys : List A) → xs ++ ys ≡ [] → ys ≡ []
+pub last_empty : {A : Type 0} (xs ys : List A) → xs ++ ys ≡ [] → ys ≡ []
 last_empty [] ys e = e
 last_empty (x ∷ xs) ys e = absurd cc
 

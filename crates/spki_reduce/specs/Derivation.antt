@@ -8,7 +8,7 @@ pub data Tree : Type 0 where
   leaf : Tuple → Tree
   join : Tree → Tree → Tree
 
--- from left to right
+-- the leaves of a tree, from left to right
 abbrev pub leaves : Tree → List Tuple
 leaves (leaf tuple) = tuple ∷ []
 leaves (join left right) = leaves left ++ leaves right
@@ -18,11 +18,11 @@ abbrev pub Derives : Policy → Tree → Tuple → Type 0
 Derives policy (leaf tuple) root = root ≡ tuple
 Derives policy (join left right) root = (a b : Tuple) × Derives policy left a × Derives policy right b × Joins policy a b root
 
--- the tree, joined with each of the tuples in turn
+-- the tree, joined with each of the tuples, one after another
 abbrev pub extended : Tree → List Tuple → Tree
 extended tree [] = tree
 extended tree (tuple ∷ tuples) = extended (join tree (leaf tuple)) tuples
 
--- the tree that is bracketed from the left
+-- the tree that joins the tuples from the left
 abbrev pub from_left : Tuple → List Tuple → Tree
 from_left first tuples = extended (leaf first) tuples

@@ -1,4 +1,4 @@
--- What an authorization lacks to grant what is asked (RFC 2693, section 6.3).
+-- What an authorization lacks to grant a key a request at a moment (RFC 2693, section 6.3).
 use Rattle.std.specs.Prelude.{◌≡◌, ℕ, true, false, List, ◌∷◌, Option, Some, None}
 use Rattle.spki_cert.specs.declared.principal.Policy.{Policy}
 use Rattle.spki_tag.specs.Request.{Request}
@@ -10,8 +10,8 @@ use Rattle.spki_reduce.specs.Derivation.{Tree, leaves}
 use Rattle.spki_reduce.specs.Supports.{Supports}
 use Rattle.spki_reduce.specs.Restrictions.{in_each, within_each}
 
--- The first that is true: the subject has names left or doesn't name the key; the request isn't in every tag; the
--- moment isn't within every window. None where none of these is.
+-- The first test that fails: the subject has names left or does not name the key; some tag does not contain the request; the
+-- moment is not within some window. None if all three pass.
 abbrev pub IsFirstLack : Policy → FiveTuple → List ℕ → Request → List ℕ → Option Lack → Type 0
 IsFirstLack policy root holder request moment (Some NotTheKey) = ¬ IsFor policy root holder
 IsFirstLack policy root holder request moment (Some TagLacks) =
@@ -21,7 +21,7 @@ IsFirstLack policy root holder request moment (Some WindowLacks) =
 IsFirstLack policy root holder request moment None =
     IsFor policy root holder × (in_each request root.tags ≡ true) × (within_each moment root.windows ≡ true)
 
--- some derivation with these leaves, however it is bracketed, supports what is asked
+-- some derivation with these leaves, in any bracketing, supports the key, the request and the moment
 pub record IsSupported
     (policy : Policy) (first : Tuple) (others : List Tuple) (holder : List ℕ) (request : Request) (moment : List ℕ)
     : Type 0 where

@@ -1,5 +1,5 @@
--- Roots of derivations as the code keeps them: one tag and one window in place of the lists of what is intersected
--- (RFC 2693, sections 6.3.1 and 6.3.2).
+-- Roots of derivations as the code stores them: with one tag and one window instead of the lists of what is intersected (RFC
+-- 2693, sections 6.3.1 and 6.3.2).
 use Rattle.std.specs.Prelude.{◌≡◌, ℕ, ◌≤◌, List}
 use Rattle.spki_cert.specs.declared.principal.Policy.{Policy}
 use Rattle.spki_cert.specs.declared.window.Window.{Window}
@@ -17,9 +17,10 @@ use Rattle.spki_reduce.specs.Views.{issuer_of}
 use Rattle.spki_reduce.specs.Rules.{Joins}
 use Rattle.spki_reduce.specs.Restrictions.{in_each, within_each, SomeMoment, nodes_product, deepest}
 
--- An authorization of the code is a root reduced: who is given what by whom is the same, its tag contains exactly the
--- requests that are in every tag of the root, its window has exactly the moments within every window of the root, and
--- the tag is no larger than those tags can make it.
+-- An authorization of the code is a root in reduced form. Issuer, subject and delegation are the same. Its tag contains
+-- exactly the requests that every tag of the root contains, and its window exactly the moments within every window of the
+-- root. The tag has at most as many nodes as the product of those of the root's tags, and its lists are nested no deeper
+-- than theirs.
 pub record ReducesToFive (root : FiveTuple) (f : Five) : Type 0 where
   pub issuer : issuer_of f.issuer ≡ root.issuer
   pub principal : f.subject.principal ≡ root.principal
@@ -30,7 +31,7 @@ pub record ReducesToFive (root : FiveTuple) (f : Five) : Type 0 where
   pub nodes : nodes f.tag ≤ nodes_product root.tags
   pub depth : ldepth f.tag ≤ deepest root.tags
 
--- the same of a name's definition
+-- the same for a name's definition
 pub record ReducesToFour (root : FourTuple) (f : Four) : Type 0 where
   pub key : f.key ≡ root.key
   pub name : f.name ≡ root.name
@@ -38,7 +39,7 @@ pub record ReducesToFour (root : FourTuple) (f : Four) : Type 0 where
   pub names : f.subject.names ≡ root.names
   pub moments : (moment : List ℕ) → within moment f.window ≡ within_each moment root.windows
 
--- An authorization of an issuer for the subject of another, with a tag and a window.
+-- An authorization with this issuer, tag and window, and with the subject and delegation of another.
 pub record IsHandedOn (issuer : Issuer) (tag : Tag) (right : Five) (window : Window) (f : Five) : Type 0 where
   pub issuer_is : f.issuer ≡ issuer
   pub principal : f.subject.principal ≡ right.subject.principal
@@ -47,21 +48,21 @@ pub record IsHandedOn (issuer : Issuer) (tag : Tag) (right : Five) (window : Win
   pub tag_is : f.tag ≡ tag
   pub window_is : f.window ≡ window
 
--- Two tuples become an authorization by a rule: some moment is left.
+-- Two tuples become an authorization by a rule, and some moment is within all its windows.
 pub record BecomesFive (policy : Policy) (left right : Tuple) (f : Five) : Type 0 where
   pub root : FiveTuple
   pub joined : Joins policy left right (five root)
   pub reduced : ReducesToFive root f
   pub timely : SomeMoment root.windows
 
--- the same of a name's definition
+-- the same for a name's definition
 pub record BecomesFour (policy : Policy) (left right : Tuple) (f : Four) : Type 0 where
   pub root : FourTuple
   pub joined : Joins policy left right (four root)
   pub reduced : ReducesToFour root f
   pub timely : SomeMoment root.windows
 
--- a fact of what two tuples become, or of why they don't join
+-- a statement about what two tuples become, or about why they do not join
 abbrev pub MatchJoined : {T : Type 0} → Joined T → (T → Type 0) → (Cause → Type 0) → Type 0
 MatchJoined (Done f) P Q = P f
 MatchJoined (Stopped cause) P Q = Q cause

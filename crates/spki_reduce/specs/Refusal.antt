@@ -1,4 +1,4 @@
--- Why a reduction is refused, where two tags don't meet.
+-- Why a reduction is refused if the intersection of two tags is refused.
 use Rattle.spki_tag.specs.declared.fault.MeetFault.{MeetFault}
 use Rattle.spki_tag.specs.declared.fault.MeetFault.TheVariants as meet
 use Rattle.spki_reduce.specs.declared.fault.ReduceFault.{ReduceFault}

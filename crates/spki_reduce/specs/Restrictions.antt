@@ -1,4 +1,4 @@
--- What several tags and windows leave together (RFC 2693, sections 6.3.1 and 6.3.2).
+-- The intersection of several tags, and of several windows (RFC 2693, sections 6.3.1 and 6.3.2).
 use Rattle.std.specs.Prelude.{◌≡◌, ℕ, ◌*◌, Bool, true, false, List, [], ◌∷◌, fold, max}
 use Rattle.std.specs.List.{list_all}
 use Rattle.spki_tag.specs.Request.{Request, IsRequest}
@@ -28,16 +28,16 @@ SomeMoment windows = (moment : List ℕ) × (is_date moment ≡ true) × (within
 abbrev pub NoMoment : List Window → Type 0
 NoMoment windows = (moment : List ℕ) → within_each moment windows ≡ false
 
--- the tag that tags leave together, met in turn from the left
+-- the intersection of several tags, one after another from the left
 abbrev pub met : List Tag → Tag
 met tags = fold meet star tags
 
--- the product of the numbers of nodes
+-- the product of the numbers of nodes of the tags
 abbrev pub nodes_product : List Tag → ℕ
 nodes_product [] = 1
 nodes_product (tag ∷ tags) = nodes tag * nodes_product tags
 
--- the greatest depth of lists
+-- the greatest depth of nested lists
 abbrev pub deepest : List Tag → ℕ
 deepest [] = 0
 deepest (tag ∷ tags) = max (ldepth tag) (deepest tags)

@@ -11,19 +11,19 @@ pub record IsFor (policy : Policy) (given : FiveTuple) (holder : List ℕ) : Typ
   pub whole : given.names ≡ []
   pub named : IsTrue (names policy given.principal holder)
 
--- The left subject is the right issuer (section 6.3): the left one is for the key of the right one's issuer.
+-- The left subject is the right issuer (section 6.3): the left authorization is for the key that issued the right one.
 pub record Issues (policy : Policy) (left right : FiveTuple) : Type 0 where
   pub holder : List ℕ
   pub issued : right.issuer ≡ key holder
   pub is_for : IsFor policy left holder
 
--- A subject, a principal and the names behind it, begins with the name that a definition is of (section 6.4).
+-- A subject, which is a principal and the names behind it, begins with the name that a definition defines (section 6.4).
 pub record Begins (policy : Policy) (principal : Principal) (path : List (List ℕ)) (definition : FourTuple) : Type 0 where
   pub rest : List (List ℕ)
   pub named : IsTrue (names policy principal definition.key)
   pub name : path ≡ definition.name ∷ rest
 
--- what a delegated authorization says: from the left issuer to the right subject
+-- the result of delegation: from the left issuer to the right subject
 abbrev pub delegated : FiveTuple → FiveTuple → FiveTuple
 delegated left right = record {
   issuer = left.issuer;
@@ -34,13 +34,13 @@ delegated left right = record {
   windows = left.windows ++ right.windows;
 }
 
--- Two authorizations (section 6.3): the left subject is the right issuer, and the left one may delegate.
+-- Two authorizations (section 6.3): the left subject is the right issuer, and the left one may be delegated.
 pub record Delegate (policy : Policy) (left right result : FiveTuple) : Type 0 where
   pub issues : Issues policy left right
   pub allowed : IsTrue left.delegation
   pub result_is : result ≡ delegated left right
 
--- an authorization whose subject's first name was resolved, with the names that are left
+-- an authorization whose subject's first name was resolved; the other names are kept
 abbrev pub resolved : FiveTuple → FourTuple → List (List ℕ) → FiveTuple
 resolved left right rest = record left {
   principal = right.principal;
@@ -48,8 +48,8 @@ resolved left right rest = record left {
   windows = left.windows ++ right.windows;
 }
 
--- An authorization and a name's definition (section 6.4): the left subject begins with the name that the
--- right one defines. The names behind it come behind those of the definition's subject.
+-- An authorization and a name's definition (section 6.4): the left subject begins with the name that the right one defines.
+-- The other names of the left subject come behind those of the definition's subject.
 pub record Resolve (policy : Policy) (left : FiveTuple) (right : FourTuple) (result : FiveTuple) : Type 0 where
   pub begins : Begins policy left.principal left.names right
   pub result_is : result ≡ resolved left right begins.rest
@@ -62,12 +62,12 @@ linked left right rest = record left {
   windows = left.windows ++ right.windows;
 }
 
--- Two definitions of names (section 6.4): as an authorization and a definition, and the left name is kept.
+-- Two definitions of names (section 6.4): like an authorization and a definition, and the name of the left one is kept.
 pub record Link (policy : Policy) (left right result : FourTuple) : Type 0 where
   pub begins : Begins policy left.principal left.names right
   pub result_is : result ≡ linked left right begins.rest
 
--- Two tuples become a third by one of the rules. A definition never takes an authorization behind it.
+-- Two tuples become a third by one of the rules. No rule joins a definition with an authorization behind it.
 abbrev pub Joins : Policy → Tuple → Tuple → Tuple → Type 0
 Joins policy (five left) (five right) (five result) = Delegate policy left right result
 Joins policy (five left) (four right) (five result) = Resolve policy left right result

@@ -1,4 +1,4 @@
--- Why two tuples don't become one (RFC 2693, sections 6.3 and 6.4).
+-- Why two tuples do not become one (RFC 2693, sections 6.3 and 6.4).
 use Rattle.std.specs.Prelude.{◌≡◌, ℕ, ◌<◌, true, false, List, ◌++◌}
 use Rattle.spki_cert.specs.declared.principal.Policy.{Policy}
 use Rattle.spki_cert.specs.declared.principal.Principal.{Principal}
@@ -9,21 +9,21 @@ use Rattle.spki_reduce.specs.Tuples.{FiveTuple, FourTuple, Tuple, five, four}
 use Rattle.spki_reduce.specs.Rules.{Issues, Begins}
 use Rattle.spki_reduce.specs.Restrictions.{SomeMoment, NoMoment, NoRequest, nodes_product}
 
--- Two authorizations join but for their tags: the left subject issued the right one, the left one may be
--- delegated, and some moment is within all their windows.
+-- Two authorizations join except for their tags: the left subject issued the right one, the left one may be delegated, and
+-- some moment is within all their windows.
 pub record JoinButForTags (policy : Policy) (left right : FiveTuple) : Type 0 where
   pub issues : Issues policy left right
   pub allowed : left.delegation ≡ true
   pub timely : SomeMoment (left.windows ++ right.windows)
 
--- A tuple joins an authorization but for their tags, the product of whose nodes is over the most that is met. A definition
--- has none.
+-- A tuple joins an authorization except for their tags, and the product of the nodes of the tags is over `most`. A
+-- definition has no tags.
 abbrev pub TooLargeFor : ℕ → Policy → FiveTuple → Tuple → Type 0
 TooLargeFor most policy left (five right) =
     JoinButForTags policy left right × (most < nodes_product (left.tags ++ right.tags))
 TooLargeFor most policy left (four right) = ⊥
 
--- Why two authorizations don't join: the first cause, in their order, whose condition holds.
+-- Why two authorizations do not join: the first cause, in their order, whose condition holds.
 abbrev pub Undelegated : Policy → FiveTuple → FiveTuple → Cause → Type 0
 Undelegated policy left right NotIssuer = ¬ Issues policy left right
 Undelegated policy left right NotTheName = ⊥
@@ -32,7 +32,7 @@ Undelegated policy left right NoValidity =
     Issues policy left right × (left.delegation ≡ true) × NoMoment (left.windows ++ right.windows)
 Undelegated policy left right NoTag = JoinButForTags policy left right × NoRequest (left.tags ++ right.tags)
 
--- Why a subject, for which these windows hold, isn't resolved by a definition.
+-- Why a definition does not resolve a subject of a tuple with these windows.
 abbrev pub Unresolved : Policy → Principal → List (List ℕ) → List Window → FourTuple → Cause → Type 0
 Unresolved policy principal path windows right NotIssuer = ⊥
 Unresolved policy principal path windows right NotTheName = ¬ Begins policy principal path right
@@ -41,7 +41,7 @@ Unresolved policy principal path windows right NoValidity =
     Begins policy principal path right × NoMoment (windows ++ right.windows)
 Unresolved policy principal path windows right NoTag = ⊥
 
--- Why two tuples don't become one. A definition with an authorization behind it isn't looked at.
+-- Why two tuples do not become one. There is no cause for a definition with an authorization behind it.
 abbrev pub Stops : Policy → Tuple → Tuple → Cause → Type 0
 Stops policy (five left) (five right) cause = Undelegated policy left right cause
 Stops policy (five left) (four right) cause = Unresolved policy left.principal left.names left.windows right cause

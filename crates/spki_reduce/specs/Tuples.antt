@@ -4,15 +4,13 @@ use Rattle.spki_cert.specs.declared.principal.Principal.{Principal}
 use Rattle.spki_tag.specs.Tag.{Tag}
 use Rattle.spki_cert.specs.declared.window.Window.{Window}
 
--- Who speaks: the keeper of an access list, whom the standard calls Self, or a key, by its canonical octets
--- (section 6.1).
+-- The issuer: the owner of an access list, whom the standard calls Self, or a key, as its canonical octets (section 6.1).
 pub data Issuer : Type 0 where
   own : Issuer
   key : List ℕ → Issuer
 
--- An authorization (section 6.1). The subject is a principal and the names that lead on from it; without
--- names it is the principal itself. Authorization and validity are lists, of which each part is to hold: an
--- intersection is the list of what was intersected.
+-- An authorization (section 6.1). The subject is a principal and the names behind it; without names it is the principal
+-- itself. Tags and windows are lists, and all of their members apply: an intersection is the list of what was intersected.
 pub record FiveTuple : Type 0 where
   pub issuer : Issuer
   pub principal : Principal
@@ -33,7 +31,7 @@ pub data Tuple : Type 0 where
   five : FiveTuple → Tuple
   four : FourTuple → Tuple
 
--- what a tuple restricts: a definition has no tag
+-- what a tuple restricts; a definition has no tag
 abbrev pub tags_of : Tuple → List Tag
 tags_of (five t) = t.tags
 tags_of (four t) = []

@@ -34,20 +34,20 @@ definition holder name subject window = record {
   windows = window ∷ [];
 }
 
--- ---- what is written
+-- ---- tuples of what is written
 
--- an entry, whose issuer is the keeper of the list (RFC 2693, section 6.1)
+-- an entry, whose issuer is the owner of the list (RFC 2693, section 6.1)
 abbrev pub entry_tuple : Entry → FiveTuple
 entry_tuple e = authorization own e.subject e.propagate e.tag e.window
 
--- an authorization certificate and a name certificate, whose issuers have this key (section 6.2)
+-- an authorization certificate and a name certificate, whose issuers are this key (section 6.2)
 abbrev pub auth_tuple : List ℕ → AuthCert → FiveTuple
 auth_tuple holder cert = authorization (key holder) cert.subject cert.propagate cert.tag cert.window
 
 abbrev pub name_tuple : List ℕ → NameCert → FourTuple
 name_tuple holder cert = definition holder cert.name cert.subject cert.window
 
--- ---- what the code keeps
+-- ---- tuples of the code
 
 abbrev pub issuer_of : code.Issuer → Issuer
 issuer_of Own = own

@@ -1,5 +1,5 @@
--- How an authorization is written. The forms are those of the SPKI working group's structure draft; a list of its own,
--- headed `five`, has the five parts of the tuple (RFC 2693, section 6.1).
+-- How an authorization is written. The forms are those of the SPKI working group's structure draft. A list headed `five` has
+-- the five parts of the tuple (RFC 2693, section 6.1).
 use Rattle.std.specs.Prelude.{◌≡◌, ℕ, Bool, true, false, List, [], ◌∷◌, ◌++◌, Option, Some, None, codes}
 use Rattle.sexpr_core.specs.Value.{Value, plain, group, canon}
 use Rattle.spki_tag.specs.Tag.{Tag, tag_value}
@@ -16,33 +16,33 @@ use Rattle.spki_reduce.specs.declared.tuple.Five.{Five}
 abbrev pub headed : List ℕ → List Value → Value
 headed head members = group (plain head ∷ members)
 
--- a key, by its canonical form, or (hash alg digest) without places to find it at
+-- a key, as its canonical form, or (hash alg digest), without the `uri` where the key can be found
 abbrev pub IsWrittenPrincipal : Principal → Value → Type 0
 IsWrittenPrincipal (principal.Key octets) v = octets ≡ canon v
 IsWrittenPrincipal (principal.Hash alg digest) v = v ≡ headed (codes "hash") (plain (alg_name alg) ∷ plain digest ∷ [])
 
--- the principal, or (name principal n n ..) where names lead on from it
+-- the principal, or (name principal n n ..) if there are names behind it
 abbrev pub IsWrittenSubject : Principal → List (List ℕ) → Value → Type 0
 IsWrittenSubject p [] v = IsWrittenPrincipal p v
 IsWrittenSubject p (n ∷ ns) v =
     (owner : Value) × IsWrittenPrincipal p owner × (v ≡ headed (codes "name") (owner ∷ plains (n ∷ ns)))
 
--- (issuer K); of the keeper of the access list nothing is written
+-- (issuer K); nothing is written for the owner of the access list
 abbrev pub IsWrittenIssuer : Issuer → List Value → Type 0
 IsWrittenIssuer issuer.Own vs = vs ≡ []
 IsWrittenIssuer (issuer.Key octets) vs = (key : Value) × (octets ≡ canon key) × (vs ≡ headed (codes "issuer") (key ∷ []) ∷ [])
 
--- (propagate), where the subject may authorize others
+-- (propagate), if the subject may delegate
 abbrev pub delegation_values : Bool → List Value
 delegation_values true = headed (codes "propagate") [] ∷ []
 delegation_values false = []
 
--- a limit under its word, where there is one
+-- a list of the word and the limit, if there is a limit
 abbrev pub limit_values : List ℕ → Option (List ℕ) → List Value
 limit_values word None = []
 limit_values word (Some date) = headed word (plain date ∷ []) ∷ []
 
--- the limits of a window, in (valid ..), where there is one
+-- (valid ..) with the limits of a window, if there are any
 abbrev pub in_valid : List Value → List Value
 in_valid [] = []
 in_valid (limit ∷ limits) = headed (codes "valid") (limit ∷ limits) ∷ []

@@ -1,4 +1,4 @@
-//! Chains of tuples, taken from the left (RFC 2693, section 6.3).
+//! Joins chains of tuples from the left (RFC 2693, section 6.3).
 
 ghost use Rattle.std.specs.Prelude.{◌≡◌, ◌∷◌, [], ◌<◌, ◌≤◌, IfOk, IsErrOf};
 ghost use Rattle.spki_tag.specs.Tag.{set, none};
@@ -16,19 +16,19 @@ use crate::tuple::{Five, Step};
 use spki_cert::Policy;
 use std::alloc::{AllocError, Global};
 
-/// The greatest product of the numbers of nodes of two tags that `fold_chain` meets.
+/// The greatest product of the numbers of nodes of two tags that `fold_chain` intersects.
 const MOST_NODES: usize = 1_000_000;
 
-/// What an authorization and the steps behind it become, joined in turn from the left (RFC 2693, sections 6.3 and 6.4):
-/// each authorization by `Five::then` and each definition by `Five::resolve`. Without steps it is a copy of the first.
+/// Joins an authorization with the steps behind it, one after another from the left (RFC 2693, sections 6.3 and 6.4): each
+/// authorization by `Five::then`, and each definition by `Five::resolve`. Without steps the result is a copy of the first.
 ///
-/// The first step that doesn't join what those before it became ends the chain, with its place and cause. No other
-/// bracketing of the same tuples grants anything then.
+/// If a step does not join the result of the steps before it, the chain stops there, and the answer is its place and cause.
+/// Then no derivation over the same tuples grants anything, in any bracketing.
 ///
 /// # Errors
 ///
-/// `TooLarge` where a step's tag is too large for what those before it became: the product of the numbers of their
-/// nodes is over 1,000,000. `Memory` where memory ran out.
+/// `TooLarge` if a step's tag is too large for the result of the steps before it: the product of the numbers of their nodes
+/// is over 1,000,000. `Memory` if memory ran out.
 pub fn fold_chain<'a>(
     alloc: Global,
     first: &Five<'a>,
@@ -43,15 +43,16 @@ pub fn fold_chain<'a>(
         (λ f. five_tuple f ≡ five_tuple first.now) (λ step cause. ⊥)) }
     ensures issuer { IfOk result (λ fold. MatchFold fold
         (λ f. issuer_of f.issuer ≡ issuer_of first.now.issuer) (λ step cause. Unit {0})) }
-    // Which tag it has: each is met in turn.
+    // The tag of the result: the intersection of all tags, one after another.
     ensures which { IfOk result (λ fold. MatchFold fold
         (HasMet (five (five_tuple first.now)) (tuples_of steps.now)) (λ step cause. Unit {0})) }
-    // What a stop says of the same tuples in any bracketing.
+    // What a stop means for the same tuples in any bracketing.
     ensures excluded { IfOk result (λ fold. MatchFold fold (λ f. Unit {0})
         (Excludes policy (five (five_tuple first.now)) (tuples_of steps.now))) }
     ensures unsupported { IfOk result (λ fold. MatchFold fold (λ f. Unit {0})
         (λ step cause. SupportsNothing policy (five (five_tuple first.now) ∷ tuples_of steps.now))) }
-    // When it is refused: the chain joins up to a step that is too large for what it became, so the product of all nodes is.
+    // When it is refused: the chain joins up to a step that is too large for the result so far, so the product of all nodes
+    // is over the limit.
     ensures too_large_at { IsErrOf result ReduceFault.TooLarge →
         TooLargeAt 1000000 policy (five (five_tuple first.now)) (tuples_of steps.now) }
     ensures small { IfOk result (λ fold. ¬ TooLargeAt 1000000 policy (five (five_tuple first.now)) (tuples_of steps.now)) }
@@ -62,12 +63,12 @@ pub fn fold_chain<'a>(
     fold_owned(alloc, own, steps, policy, MOST_NODES)
 }
 
-/// As `fold_chain`, for which the first is used up, and its tag is not copied, and with a limit that the caller sets.
+/// Like `fold_chain`, but consumes `first`, so its tag is not copied, and with `most` as the limit instead of 1,000,000.
 ///
 /// # Errors
 ///
-/// `TooLarge` where a step's tag is too large for what those before it became: the product of the numbers of their
-/// nodes is over `most`. `Memory` where memory ran out.
+/// `TooLarge` if a step's tag is too large for the result of the steps before it: the product of the numbers of their nodes
+/// is over `most`. `Memory` if memory ran out.
 pub fn fold_owned<'a>(
     alloc: Global,
     first: Five<'a>,
@@ -83,15 +84,16 @@ pub fn fold_owned<'a>(
         (λ f. five_tuple f ≡ five_tuple first.entry) (λ step cause. ⊥)) }
     ensures issuer { IfOk result (λ fold. MatchFold fold
         (λ f. issuer_of f.issuer ≡ issuer_of first.entry.issuer) (λ step cause. Unit {0})) }
-    // Which tag it has: each is met in turn.
+    // The tag of the result: the intersection of all tags, one after another.
     ensures which { IfOk result (λ fold. MatchFold fold
         (HasMet (five (five_tuple first.entry)) (tuples_of steps.now)) (λ step cause. Unit {0})) }
-    // What a stop says of the same tuples in any bracketing.
+    // What a stop means for the same tuples in any bracketing.
     ensures excluded { IfOk result (λ fold. MatchFold fold (λ f. Unit {0})
         (Excludes policy (five (five_tuple first.entry)) (tuples_of steps.now))) }
     ensures unsupported { IfOk result (λ fold. MatchFold fold (λ f. Unit {0})
         (λ step cause. SupportsNothing policy (five (five_tuple first.entry) ∷ tuples_of steps.now))) }
-    // When it is refused: the chain joins up to a step that is too large for what it became, so the product of all nodes is.
+    // When it is refused: the chain joins up to a step that is too large for the result so far, so the product of all nodes
+    // is over the limit.
     ensures too_large_at { IsErrOf result ReduceFault.TooLarge →
         TooLargeAt most policy (five (five_tuple first.entry)) (tuples_of steps.now) }
     ensures small { IfOk result (λ fold. ¬ TooLargeAt most policy (five (five_tuple first.entry)) (tuples_of steps.now)) }
@@ -126,7 +128,7 @@ impl<'a> Five<'a> {
         })
     }
 
-    /// What this authorization, which is used up, and a step become.
+    /// Joins this authorization with a step, and consumes it.
     fn joined(
         self,
         alloc: Global,

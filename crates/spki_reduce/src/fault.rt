@@ -8,13 +8,13 @@ use spki_tag::MeetFault;
 use std::alloc::{AllocError, AllocFailed};
 use thiserror::Error;
 
-/// Why tuples were not reduced, though they may join.
+/// Why tuples were not reduced, although they may join.
 #[derive(Clone, Copy, Debug, PartialEq, Eq, Error)]
 pub enum ReduceFault {
-    /// The product of the nodes of two tags is over the limit, which is 1,000,000 or what the caller set.
+    /// The product of the nodes of two tags is over the limit: 1,000,000, or what the caller set.
     #[error("the tags are too large")]
     TooLarge,
-    /// Memory was refused.
+    /// Memory ran out.
     #[error("out of memory")]
     Memory,
 }

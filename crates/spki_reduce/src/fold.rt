@@ -1,13 +1,13 @@
-//! What the reduction of tuples gives (RFC 2693, sections 6.3 and 6.4).
+//! The results of joining tuples (RFC 2693, sections 6.3 and 6.4).
 
 use crate::tuple::Five;
 
-/// Why two tuples don't join, where several reasons hold the first of them.
+/// Why two tuples do not join. If there are several reasons, the first of them.
 #[derive(Clone, Copy, Debug, PartialEq, Eq)]
 pub enum Cause {
-    /// The left subject isn't the issuer of the right authorization.
+    /// The left subject is not the issuer of the right authorization.
     NotIssuer,
-    /// The left subject doesn't begin with the name that the right tuple defines.
+    /// The left subject does not begin with the name that the right tuple defines.
     NotTheName,
     /// The left authorization may not be delegated.
     NoDelegation,
@@ -17,25 +17,25 @@ pub enum Cause {
     NoTag,
 }
 
-/// What a rule makes of two tuples.
+/// The result of a rule for two tuples.
 #[derive(Drop)]
 pub enum Joined<T> {
     /// The tuple that they become.
     Done(T),
-    /// They don't join.
+    /// They do not join.
     Stopped(Cause),
 }
 
-/// What a chain of tuples becomes, taken from the left.
+/// The result of joining a chain of tuples from the left.
 #[derive(Drop)]
 pub enum Fold<'a> {
     /// The one authorization that they become.
     Done(Five<'a>),
-    /// A step of the chain doesn't join what those before it became.
+    /// A step of the chain does not join the result of those before it.
     Stopped {
-        /// The step, from 1.
+        /// The number of the step, from 1.
         step: usize,
-        /// Why it doesn't.
+        /// Why it does not join.
         cause: Cause,
     },
 }

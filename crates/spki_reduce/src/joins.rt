@@ -19,17 +19,17 @@ use spki_tag::Tag;
 use std::alloc::{AllocError, Global};
 
 impl<'a> Five<'a> {
-    /// What the rule for two authorizations makes of this one and the next (RFC 2693, section 6.3): an authorization
-    /// from this one's issuer to the next one's subject, for what and when both are. The next one says whether it may
-    /// be delegated further.
+    /// Joins this authorization with the next one (RFC 2693, section 6.3). The result is an authorization from this one's
+    /// issuer to the next one's subject, with the intersection of both tags and of both windows. It may be delegated if the
+    /// next one may be.
     ///
-    /// They don't join where this one's subject isn't the next one's issuer, this one may not be delegated, no moment
-    /// is within both windows, or what their tags leave together is `(* set)`: the first of these is the cause.
+    /// They do not join if this one's subject is not the next one's issuer, if this one may not be delegated, if no moment
+    /// is within both windows, or if the intersection of their tags is `(* set)`. The first of these is the cause.
     ///
     /// # Errors
     ///
-    /// `TooLarge` where they join but for their tags, and the product of the numbers of the tags' nodes is over
-    /// 1,000,000, and `Memory` where memory ran out.
+    /// `TooLarge` if they join except for their tags, and the product of the numbers of the tags' nodes is over 1,000,000.
+    /// `Memory` if memory ran out.
     pub fn then(
         &self,
         alloc: Global,
@@ -39,7 +39,7 @@ impl<'a> Five<'a> {
         ensures joined { IfOk result (λ joined. MatchJoined joined
             (λ f. BecomesFive policy (five (five_tuple self.now)) (five (five_tuple next.now)) f × (f.tag ≢ set none))
             (λ cause. Stops policy (five (five_tuple self.now)) (five (five_tuple next.now)) cause)) }
-        // Which tag it has, and which tags leave nothing.
+        // The tag of the result, and for which tags they do not join.
         ensures which { IfOk result (λ joined. MatchJoined joined
             (λ f. f.tag ≡ meet self.now.tag next.now.tag)
             (λ cause. cause ≡ Cause.NoTag → meet self.now.tag next.now.tag ≡ set none)) }
@@ -56,8 +56,8 @@ impl<'a> Five<'a> {
         }
     }
 
-    /// As `then`, for which this authorization is used up: what stays of its tag is not copied. `TooLarge` is for a product
-    /// over `most`.
+    /// Like `then`, but consumes `self`, so the unchanged part of its tag is not copied. `TooLarge` is for a product over
+    /// `most`.
     pub(crate) fn into_then(
         self,
         alloc: Global,
@@ -85,15 +85,16 @@ impl<'a> Five<'a> {
         }
     }
 
-    /// What a name's definition makes of this authorization (RFC 2693, section 6.4): the definition's subject, the names
-    /// behind this one's first name coming behind its own, when both are; all else stays.
+    /// Resolves the first name of this authorization's subject by a name's definition (RFC 2693, section 6.4). The result
+    /// has the definition's subject, and behind its names the names of this one's subject, except the first. Its window is
+    /// the intersection of both windows. Everything else is kept.
     ///
-    /// They don't join where this one's subject doesn't begin with the name that is defined, or no moment is within
-    /// both windows: the first of these is the cause.
+    /// They do not join if this one's subject does not begin with the name that is defined, or if no moment is within both
+    /// windows. The first of these is the cause.
     ///
     /// # Errors
     ///
-    /// `Memory` where memory ran out, and no other.
+    /// Only `Memory`, if memory ran out.
     pub fn resolve(
         &self,
         _alloc: Global,
@@ -109,7 +110,7 @@ impl<'a> Five<'a> {
         self.copy()?.into_resolve(definition, policy)
     }
 
-    /// As `resolve`, for which this authorization is used up.
+    /// Like `resolve`, but consumes `self`.
     pub(crate) fn into_resolve(
         self,
         definition: &Four<'a>,
@@ -137,8 +138,8 @@ impl<'a> Five<'a> {
         }))
     }
 
-    /// The moments when both this authorization and the next hold, or the first cause why they don't join, whatever their
-    /// tags are.
+    /// The intersection of the windows of this authorization and the next, or the first cause why they do not join, whatever
+    /// their tags are.
     fn window_with(&self, next: &Five, policy: Policy) -> Result<Window, Cause>
         ensures joins { IfOk result (λ window. Issues policy (five_tuple self.now) (five_tuple next.now)
             × (self.now.propagate ≡ true) × IsMeet self.now.window next.now.window window
@@ -155,7 +156,7 @@ impl<'a> Five<'a> {
         self.window.meet(&next.window).ok_or(Cause::NoValidity)
     }
 
-    /// Whether its subject issued another authorization: it is for the issuer's key.
+    /// Whether the subject issued another authorization: this one is for the issuer's key.
     fn issues(&self, next: &Five, policy: Policy) -> bool
         ensures { IsTrue result ↔ Issues policy (five_tuple self.now) (five_tuple next.now) }
     {
@@ -165,7 +166,7 @@ impl<'a> Five<'a> {
         }
     }
 
-    /// Whether its subject is a principal without names, which names the key.
+    /// Whether the subject is a principal without names that names the key.
     pub(crate) fn is_for(&self, key: &Key, policy: Policy) -> bool
         ensures { IsTrue result ↔ IsFor policy (five_tuple self.now) key.now }
     {
@@ -173,7 +174,8 @@ impl<'a> Five<'a> {
     }
 }
 
-/// The authorization of an issuer for the subject of another, with a tag and a window, unless the tag contains nothing.
+/// The authorization with this issuer, tag and window, and with the subject and delegation of another, unless the tag is
+/// `(* set)`.
 fn narrowed<'a>(
     issuer: Issuer<'a>,
     tag: Tag,
@@ -197,15 +199,16 @@ fn narrowed<'a>(
 }
 
 impl<'a> Four<'a> {
-    /// What a name's definition makes of this definition (RFC 2693, section 6.4): the next one's subject, the names
-    /// behind this one's first name coming behind its own, when both are; the name that is defined stays.
+    /// Resolves the first name of this definition's subject by another definition (RFC 2693, section 6.4). The result has
+    /// the next one's subject, and behind its names the names of this one's subject, except the first. Its window is the
+    /// intersection of both windows. The name that this one defines is kept.
     ///
-    /// They don't join where this one's subject doesn't begin with the name that is defined, or no moment is within
-    /// both windows: the first of these is the cause.
+    /// They do not join if this one's subject does not begin with the name that the next one defines, or if no moment is
+    /// within both windows. The first of these is the cause.
     ///
     /// # Errors
     ///
-    /// `Memory` where memory ran out, and no other.
+    /// Only `Memory`, if memory ran out.
     pub fn then(
         &self,
         _alloc: Global,
@@ -232,7 +235,7 @@ impl<'a> Four<'a> {
     }
 }
 
-/// Whether a subject begins with the name that the definition is of.
+/// Whether a subject begins with the name that the definition defines.
 fn begins(subject: &Subject, definition: &Four, policy: Policy) -> bool
     ensures begins { IsTrue result → IsTrue (names policy subject.now.principal definition.now.key)
         × (subject.now.names ≡ definition.now.name ∷ drop 1 subject.now.names) }
@@ -248,7 +251,7 @@ fn begins(subject: &Subject, definition: &Four, policy: Policy) -> bool
     }
 }
 
-/// The definition's subject, with the names behind the first of these behind its own.
+/// The definition's subject, with `names`, except the first, behind its own names.
 fn followed<'a>(subject: &Subject<'a>, names: Names<'a>) -> Result<Subject<'a>, AllocError>
     ensures { IfOk result (λ made. (made.principal ≡ subject.now.principal)
         × (made.names ≡ subject.now.names ++ drop 1 names.entry)) }

@@ -12,20 +12,20 @@ use crate::tuple::Five;
 use spki_cert::{Date, Key, Policy};
 use spki_tag::Ground;
 
-/// What an authorization lacks to grant a key a request at a moment: the first of the tests that it doesn't pass.
+/// What an authorization lacks to grant a key a request at a moment: the first of three tests that it does not pass.
 #[derive(Clone, Copy, Debug, PartialEq, Eq)]
 pub enum Lack {
-    /// Its subject has names left, or doesn't name the key.
+    /// Its subject has names left, or does not name the key.
     NotTheKey,
-    /// Its tag doesn't contain the request.
+    /// Its tag does not contain the request.
     TagLacks,
-    /// The moment isn't within its window.
+    /// The moment is not within its window.
     WindowLacks,
 }
 
 impl<'a> Five<'a> {
-    /// What the authorization lacks to grant the key the request at the moment: the first, in the order of `Lack`, of
-    /// the tests that it doesn't pass, or None where it passes all three. Who issued it isn't looked at. Takes no memory.
+    /// What the authorization lacks to grant the key the request at the moment: the first, in the order of `Lack`, of the
+    /// tests that it does not pass. None if it passes all three. Its issuer is not tested. Takes no memory.
     pub fn first_lack(
         &self,
         key: &Key,
@@ -33,12 +33,12 @@ impl<'a> Five<'a> {
         moment: &Date,
         policy: Policy,
     ) -> Option<Lack>
-        // Of every root that it is the reduction of.
+        // For every root that it is the reduced form of.
         ensures lack { (root : FiveTuple) → ReducesToFive root self.now →
             IsFirstLack policy root key.now request.now moment.now result }
         ensures grants { (root : FiveTuple) → ReducesToFive root self.now → root.issuer ≡ own →
             (IsNone result ↔ Grants policy root key.now request.now moment.now) }
-        // Of every chain that folds to it, in any bracketing.
+        // For every chain that folds to it, in any bracketing.
         ensures supported { (first : Tuple) (others : List Tuple) → FoldsTo policy first others self.now →
             issuer_of self.now.issuer ≡ own →
             (IsNone result ↔ IsSupported policy first others key.now request.now moment.now) }

@@ -15,8 +15,8 @@ ghost use Rattle.spki_reduce.specs.declared.tuple.Step.{Step};
 ghost use Rattle.spki_reduce.specs.Chain.{tuples_of, FoldsTo, HasMet, StopsAt};
 ghost use Rattle.spki_reduce.specs.Written.{IsWrittenFive};
 
-/// What is derived in any bracketing is derived when the same tuples are taken in turn, from the left
-/// (RFC 2693, sections 6.3 and 6.4). So a derivation may be looked for in that bracketing alone.
+/// What is derived in any bracketing is derived when the same tuples are joined from the left, one after another (RFC 2693,
+/// sections 6.3 and 6.4). So it is enough to look for a derivation in that bracketing.
 ///
 /// The converse does not hold: see `other_bracketings`.
 pub fn any_bracketing()
@@ -30,14 +30,14 @@ pub fn any_bracketing()
         Supports policy (from_left first rest) holder request moment }
 {}
 
-/// Two derivations from the same tuples, in whatever bracketing, have the same root.
+/// Two derivations from the same tuples, in any bracketings, have the same root.
 pub fn one_root()
     ensures { (policy : Policy) (tree other : Tree) (root another : Tuple) →
         leaves tree ≡ leaves other → Derives policy tree root → Derives policy other another →
         root ≡ another }
 {}
 
-/// A chain stops at one step at most, for one cause, and it becomes nothing then.
+/// A chain stops at most at one step, for one cause, and then becomes no authorization.
 pub fn one_stop()
     ensures stop { (policy : Policy) (first : Tuple) (steps : List Step) (s t : ℕ) (a b : Cause) →
         StopsAt policy first (tuples_of steps) s a → StopsAt policy first (tuples_of steps) t b → (s ≡ t) × (a ≡ b) }
@@ -46,8 +46,8 @@ pub fn one_stop()
         (f : Five) → FoldsTo policy first (tuples_of steps) f → HasMet first (tuples_of steps) f → ⊥ }
 {}
 
-/// A chain of two tuples or more becomes one authorization at most: its tag and its window are pinned too. The limits of
-/// windows are dates, as every value's are.
+/// A chain of at least two tuples becomes at most one authorization: its tag and its window are determined too. The limits
+/// of windows are dates, as those of every value are.
 pub fn one_fold()
     ensures { (policy : Policy) (first : Tuple) (others : List Tuple) (f g : Five) → others ≢ [] →
         IsLimit f.window.not_before → IsLimit g.window.not_before →
@@ -60,8 +60,8 @@ pub fn one_writing()
     ensures { (f : Five) (v w : Value) → IsWrittenFive f v → IsWrittenFive f w → v ≡ w }
 {}
 
-/// Some derivation has the leaves of no derivation in another bracketing: a name's definition that stands between
-/// two authorizations is for the left one, and never takes the right one.
+/// Some tuples have a derivation in one bracketing and none in another: a name's definition between two authorizations joins
+/// the left one, and never the right one.
 pub fn other_bracketings()
     ensures { (policy : Policy) → (tree other : Tree) × (root : Tuple) ×
         (leaves other ≡ leaves tree) × Derives policy tree root ×
@@ -77,15 +77,15 @@ pub fn every_restriction()
         windows_of root ≡ flat_map windows_of (leaves tree) }
 {}
 
-/// What is derived or supported under the strict policy is so under the open one.
+/// What is derived or supported under the strict policy is derived or supported under the open one.
 pub fn strict_implies_open()
     ensures derives { (tree : Tree) (root : Tuple) → Derives Strict tree root → Derives Open tree root }
     ensures supports { (tree : Tree) (holder : List ℕ) (request : Request) (moment : List ℕ) →
         Supports Strict tree holder request moment → Supports Open tree holder request moment }
 {}
 
-/// Where tuples in their order have a derivation, so have the first of them. So what doesn't join what stands before
-/// it ends every chain that it is in.
+/// If tuples in their order have a derivation, the first of them, up to any place, have one too. So a tuple that does not
+/// join the root of those before it stops every chain that begins so.
 pub fn fronts()
     ensures { (policy : Policy) (tree : Tree) (root first : Tuple) (before after : List Tuple) →
         Derives policy tree root → leaves tree ≡ first ∷ (before ++ after) →

@@ -5,10 +5,10 @@ ghost use Rattle.std.specs.Prelude.{◌≡◌};
 use spki_cert::{Key, Octets, Subject, Window};
 use spki_tag::Tag;
 
-/// Who speaks in an authorization.
+/// The issuer of an authorization.
 #[derive(Drop)]
 pub enum Issuer<'a> {
-    /// The keeper of the access list, whom RFC 2693 calls Self.
+    /// The owner of the access list, whom RFC 2693 calls Self.
     Own,
     /// The holder of a key.
     Key(Key<'a>),
@@ -17,28 +17,28 @@ pub enum Issuer<'a> {
 /// An authorization, from its issuer to its subject: a 5-tuple (section 6.1).
 #[derive(Drop)]
 pub struct Five<'a> {
-    /// Who authorizes.
+    /// The issuer.
     pub issuer: Issuer<'a>,
-    /// Who is authorized.
+    /// The subject.
     pub subject: Subject<'a>,
-    /// Whether the subject may authorize others in turn: RFC 2693's delegation.
+    /// Whether the subject may delegate the authorization: RFC 2693's delegation.
     pub propagate: bool,
-    /// The requests that it is for.
+    /// The requests that are authorized.
     pub tag: Tag,
-    /// The moments that it is for.
+    /// The moments at which they are authorized.
     pub window: Window,
 }
 
 /// A definition of a name, in the name space of a key: a 4-tuple (section 6.2).
 #[derive(Drop)]
 pub struct Four<'a> {
-    /// The key whose name it is.
+    /// The key in whose name space the name is defined.
     pub key: Key<'a>,
     /// The name.
     pub name: Octets<'a>,
-    /// Whom it names.
+    /// The subject that the name means.
     pub subject: Subject<'a>,
-    /// The moments that it is for.
+    /// The moments at which the definition applies.
     pub window: Window,
 }
 
@@ -52,7 +52,7 @@ pub enum Step<'a> {
 }
 
 impl<'a> Issuer<'a> {
-    /// The same issuer once more, which takes no memory.
+    /// Returns the same issuer again, without taking memory.
     pub fn share(&self) -> Issuer<'a>
         ensures { result ≡ self.now }
     {

@@ -1,4 +1,4 @@
-//! Authorizations, written as S-expressions.
+//! Writes authorizations as S-expressions.
 
 ghost use Rattle.std.specs.Prelude.{◌≡◌, List, [], ◌∷◌, ◌++◌, IfOk, OnOk, map};
 ghost use Rattle.sexpr_core.specs.Value.{Value, canon, plain};
@@ -12,7 +12,7 @@ use sexpr_core::{Sexp, decode};
 use spki_cert::{Date, HashAlg, Key, Names, Principal, Subject, Window};
 use std::alloc::{AllocError, Global};
 
-/// The members of a written authorization, but for its head and its tag.
+/// The members of a written authorization, except its head and its tag.
 #[derive(Drop)]
 pub struct WrittenParts {
     /// Those before the tag: the issuer, the subject, the delegation.
@@ -22,13 +22,13 @@ pub struct WrittenParts {
 }
 
 impl<'a> Five<'a> {
-    /// The authorization as it is written: `(five (issuer K) (subject S) (propagate) (tag T) (valid ..))`. The issuer is
-    /// left out where it is the keeper of the access list, `(propagate)` where it may not be delegated, and `(valid ..)`
-    /// where the window has no limit. A hash stands without `uri`.
+    /// Writes the authorization: `(five (issuer K) (subject S) (propagate) (tag T) (valid ..))`. The issuer is omitted if it
+    /// is the owner of the access list, `(propagate)` if the authorization may not be delegated, and `(valid ..)` if the
+    /// window has no limits. A hash is written without `uri`.
     ///
     /// # Errors
     ///
-    /// `AllocError` where memory ran out.
+    /// `AllocError` if memory ran out.
     pub fn write(&self, alloc: Global) -> Result<Sexp, AllocError>
         ensures { IfOk result (λ s. IsWrittenFive self.now (sexp_value s)) }
     {
@@ -40,11 +40,11 @@ impl<'a> Five<'a> {
         Ok(Sexp::list(members))
     }
 
-    /// What `write` writes beside the tag, which alone may be large.
+    /// Writes what `write` writes, except the tag. Only the tag may be large.
     ///
     /// # Errors
     ///
-    /// `AllocError` where memory ran out.
+    /// `AllocError` if memory ran out.
     pub fn write_parts(&self, alloc: Global) -> Result<WrittenParts, AllocError>
         ensures { IfOk result (λ parts. IsWrittenFive self.now
             (five_value (map sexp_value parts.before_tag.items) self.now.tag (map sexp_value parts.behind_tag.items))) }
@@ -67,7 +67,7 @@ impl<'a> Five<'a> {
     }
 }
 
-/// The members of a list that is begun, with its head alone.
+/// Begins the members of a list with its head.
 fn begun(alloc: Global, head: &[u8]) -> Result<Vec<Sexp>, AllocError>
     ensures { IfOk result (λ members. map sexp_value members.items ≡ plain head.now ∷ []) }
 {
@@ -92,15 +92,15 @@ fn push_headed(
     Ok(())
 }
 
-/// The tree of a key. A key is a canonical form within the limits of what is read, since only the readers make one; the
-/// reader of that form finds no other fault in it than want of memory.
+/// Returns the tree of a key. Only the readers make keys, so a key is a canonical form within the limits, and reading it
+/// fails only if memory runs out.
 fn write_key(alloc: Global, key: &Key) -> Result<Sexp, AllocError>
     ensures { IfOk result (λ s. key.now ≡ canon (sexp_value s)) }
 {
     decode(alloc, key.as_slice()).map_err(|_| AllocError)
 }
 
-/// A hash, without places to find its key at.
+/// Writes a hash, without the `uri` where its key can be found.
 fn write_hash(alloc: Global, alg: HashAlg, digest: &[u8]) -> Result<Sexp, AllocError>
     ensures { IfOk result (λ s. IsWrittenPrincipal (Principal.Hash alg digest.now) (sexp_value s)) }
 {
@@ -142,7 +142,7 @@ fn write_subject(alloc: Global, subject: &Subject) -> Result<Sexp, AllocError>
     Ok(Sexp::list(members))
 }
 
-/// Adds `(issuer K)`, but for the keeper of the access list.
+/// Adds `(issuer K)`, or nothing for the owner of the access list.
 fn push_issuer(alloc: Global, members: &mut Vec<Sexp>, issuer: &Issuer) -> Result<(), AllocError>
     ensures { OnOk result ((written : List Value) × IsWrittenIssuer issuer.now written
         × (map sexp_value members.new.items ≡ map sexp_value members.old.items ++ written)) }
@@ -153,7 +153,7 @@ fn push_issuer(alloc: Global, members: &mut Vec<Sexp>, issuer: &Issuer) -> Resul
     }
 }
 
-/// Adds `(propagate)` where the subject may authorize others.
+/// Adds `(propagate)` if the subject may delegate.
 fn push_delegation(
     alloc: Global,
     members: &mut Vec<Sexp>,
@@ -168,7 +168,7 @@ fn push_delegation(
     Ok(())
 }
 
-/// Adds a limit under its word, where there is one.
+/// Adds a list of a word and a limit, if there is a limit.
 fn push_limit(
     alloc: Global,
     members: &mut Vec<Sexp>,
@@ -187,7 +187,7 @@ fn push_limit(
     }
 }
 
-/// Adds the limits of a window in one `(valid ..)`, where it has one.
+/// Adds the limits of a window in one `(valid ..)`, if there are any.
 fn push_window(alloc: Global, members: &mut Vec<Sexp>, window: &Window) -> Result<(), AllocError>
     ensures { OnOk result (map sexp_value members.new.items
         ≡ map sexp_value members.old.items ++ in_valid (window_limits window.now)) }

@@ -11,7 +11,7 @@ use Rattle.spki_cert.specs.Naming.{names, admits, digest_of}
 use Rattle.spki_service.specs.declared.index.Index.{Index}
 use Rattle.spki_service.specs.Kept.{numbers_from}
 use Rattle.spki_service.specs.Merged.{merge}
-use Rattle.spki_service.specs.Indexed.{is_key, is_hash, numbers_at, by_algorithm, IsIndexOf}
+use Rattle.spki_service.specs.Indexed.{is_key, is_hash, numbers_at, numbers_of_key, by_algorithm, IsIndexOf}
 use Rattle.spki_service.proofs.Numbering.{numbers_same, numbers_none, numbers_merged}
 
 -- whether a principal is the key's hash by an algorithm, and the policy admits it
@@ -80,7 +80,7 @@ module _ (policy : Policy) (key : List ℕ) where
       by false = sym (numbers_none 1 es)
 
   pub found_all : (es : List Entry) (index : Index) → IsIndexOf es index
-      → merge (merge (merge (numbers_at index.by_key key) (admitted_at index Sha1)) (admitted_at index Sha256)) (admitted_at index Sha512)
+      → merge (merge (merge (numbers_of_key index key) (admitted_at index Sha1)) (admitted_at index Sha256)) (admitted_at index Sha512)
       ≡ numbers_from 1 (λ e. names policy e.subject.principal key) es
   found_all es index i =
       ap (λ l. merge (merge (merge l (admitted_at index Sha1)) (admitted_at index Sha256)) (admitted_at index Sha512)) (i.keys key)

@@ -1,9 +1,10 @@
 -- How an access list is made ready.
-use Rattle.std.proofs.Common.{◌≡◌, ◌≢◌, ◌⊎◌, inl, inr, ℕ, ◌<◌, ◌≤◌, List, Vec, Some, map, length, refl, sym, ap, ◌∙◌, subst, Result, Ok, Err, IfErr}
+use Rattle.std.proofs.Common.{◌≡◌, ◌≢◌, ◌⊎◌, inl, inr, ℕ, ◌<◌, ◌≤◌, List, Vec, Some, map, length, refl, sym, ap, ◌∙◌, subst, Result, Ok, Err, IfOk, IfErr}
 use Rattle.std.specs.declared.alloc.Global.{Global}
 use Rattle.std.specs.List.{AllZip}
 use Rattle.std.proofs.lemmas.Slice.Zip.{AllZip-long}
 use Rattle.sexpr_core.specs.Value.{Value, canon}
+use Rattle.sexpr_text.specs.Spelling.{IsTextWithin}
 use Rattle.spki_cert.specs.declared.entry.Entry.{Entry}
 use Rattle.spki_cert.specs.declared.fault.CertFault.{CertFault}
 use Rattle.spki_cert.specs.declared.fault.CertFaultKind.TheVariants as kinds
@@ -12,8 +13,8 @@ use Rattle.spki_cert.specs.EntryFaults.{acl_fault}
 use Rattle.spki_case.specs.Texts.{IsOuter}
 use Rattle.spki_service.specs.declared.list_fault.AclFault.{AclFault}
 use Rattle.spki_service.specs.declared.list_fault.AclFault.TheVariants as faults
-use Rattle.spki_service.specs.Held.{AreEntries, octets_of}
-use Rattle.spki_service.specs.Lists.{IsNoAcl, ListRefused}
+use Rattle.spki_service.specs.Held.{Held, AreEntries, HoldsList, octets_of}
+use Rattle.spki_service.specs.Lists.{IsNoAcl, IsNoList, ListRefused}
 use Rattle.spki_service.proofs.Picking.{held}
 
 -- a fault other than of memory is named
@@ -40,3 +41,21 @@ list_refused v w (Err fault) same short h =
     λ found.
     let x = h found in
     subst (λ (f : AclFault). ListRefused v f) (sym x.1) (short, subst (λ (u : Value). IsNoAcl x.0 u) same x.2)
+
+-- ---- a text of which the value is known
+
+module _ (text : List ℕ) (v w : Value) (same : w ≡ v) (meant : IsTextWithin text v) where
+  pub list_held : (r : Result Held AclFault) → IfOk r (λ g. (es : List Entry) × AclOf w es × AreEntries g.texts es)
+      → IfOk r (λ g. HoldsList text g.texts)
+  list_held (Ok g) (es, is, texts) = record { value = v; spelled = meant; entries = es; is = subst (λ u. AclOf u es) same is; held = texts }
+  list_held (Err fault) h = tt
+
+  pub list_refused_text : (r : Result Held AclFault) → length (canon v) ≤ 1048576
+      → IfErr r (λ fault. fault ≢ faults.Memory → (inner : CertFault) × (fault ≡ faults.Acl inner) × IsNoAcl inner w)
+      → IfErr r (λ fault. fault ≢ faults.Memory → IsNoList text fault)
+  list_refused_text (Ok g) short h = tt
+  list_refused_text (Err fault) short h =
+      λ found.
+      let x = h found in
+      subst (λ (f : AclFault). IsNoList text f) (sym x.1)
+      (record { value = v; meant = meant; short = short; is = subst (λ (u : Value). IsNoAcl x.0 u) same x.2 })

@@ -1,4 +1,5 @@
--- What is asked of a guard, and what its answers say: what is answered of the case of the guard's entries (RFC 2693, section 6).
+-- Questions that are put to a guard, and its answers: those for the case of the guard's entries and the question's parts
+-- (RFC 2693, section 6).
 use Rattle.std.specs.Prelude.{◌≡◌, ℕ, List, Some, true, slice_get, Result, Ok, Err, Bool}
 use Rattle.spki_cert.specs.declared.entry.Entry.{Entry}
 use Rattle.spki_case.specs.Case.{Case, Verified}
@@ -8,23 +9,23 @@ use Rattle.spki_decision.specs.Views.{with_entries}
 use Rattle.spki_decision.specs.Asked.{Signed}
 use Rattle.spki_service.specs.Held.{AreEntries}
 
--- A question that was read: the canonical texts of the guard's entries, and the case of the question's parts, which has no entries
--- of its own.
+-- A question that was read: the canonical texts of the guard's entries, and the case of the question's parts, which has no
+-- entries of its own.
 pub record AskedOf : Type 0 where
   pub texts : List (List ℕ)
   pub case : Case
 
--- this is said of the question's case with the guard's entries
+-- a statement is true of the question's case with the guard's entries
 abbrev pub OfCase : AskedOf → (Case → Type 0) → Type 0
 OfCase a said = (es : List Entry) → AreEntries a.texts es → said (with_entries a.case es)
 
--- An answer is what the case with the guard's entries is answered; of want of memory nothing is said.
+-- An answer is an answer for the case with the guard's entries. Nothing is claimed if memory ran out.
 abbrev pub Answers : {A : Type 0} → (Case → Result A GuardFault → Type 0) → AskedOf → Result A GuardFault → Type 0
 Answers IsAnswer a (Ok answer) = OfCase a (λ c. IsAnswer c (Ok answer))
 Answers IsAnswer a (Err TooLarge) = OfCase a (λ c. IsAnswer c (Err TooLarge))
 Answers IsAnswer a (Err Memory) = Unit {0}
 
--- What marks accept: the signatures that are listed at a place whose mark is true.
+-- What marks accept: the signatures that are listed at a place with a true mark.
 abbrev pub IsMarked : List Signed → List Bool → Verified
 IsMarked signed marks key message value =
     (place : ℕ) × (item : ℕ) × (slice_get marks place ≡ Some true)

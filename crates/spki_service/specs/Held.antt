@@ -1,4 +1,5 @@
--- What a guard holds: the entries of an access list, each by its canonical text (RFC 2693, section 3.4; RFC 9804, section 6.2).
+-- What a guard contains: the entries of an access list, each as its canonical text (RFC 2693, section 3.4; RFC 9804, section
+-- 6.2).
 use Rattle.std.specs.Prelude.{◌≡◌, ℕ, List, Vec, map}
 use Rattle.std.specs.declared.alloc.Global.{Global}
 use Rattle.std.specs.List.{AllZip}
@@ -8,7 +9,7 @@ use Rattle.spki_cert.specs.declared.entry.Entry.{Entry}
 use Rattle.spki_cert.specs.declared.principal.Policy.{Policy}
 use Rattle.spki_cert.specs.Entries.{EntryOf, AclOf}
 
--- The text is the canonical text of a value that is the entry.
+-- The text is the canonical text of a value that is read as the entry.
 pub record IsEntryText (text : List ℕ) (e : Entry) : Type 0 where
   pub value : Value
   pub written : text ≡ canon value
@@ -18,8 +19,8 @@ pub record IsEntryText (text : List ℕ) (e : Entry) : Type 0 where
 abbrev pub AreEntries : List (List ℕ) → List Entry → Type 0
 AreEntries texts es = AllZip IsEntryText texts es
 
--- What a guard is to its users: the canonical texts of its entries, the policy, and the most octets of a question and nodes of an
--- intersection.
+-- What a guard is in a contract: the canonical texts of its entries, the policy, and the limits on the octets of a question
+-- and on the nodes of an intersection.
 pub record Held : Type 0 where
   pub texts : List (List ℕ)
   pub policy : Policy

@@ -1,5 +1,5 @@
 -- An index of an access list by the principals of its entries' subjects (RFC 2693, section 2.5).
-use Rattle.std.specs.Prelude.{◌≡◌, ℕ, Bool, false, ◌&&◌, List, [], Vec, bytes_eq}
+use Rattle.std.specs.Prelude.{◌≡◌, ℕ, Bool, false, ◌&&◌, List, [], Vec, bytes_eq, reverse}
 use Rattle.std.specs.Option.{option_map_or}
 use Rattle.std.specs.BTreeMap.{BTreeMap}
 use Rattle.std.specs.declared.alloc.Global.{Global}
@@ -27,19 +27,23 @@ is_hash alg digest (Hash by own) = is_same by alg && bytes_eq digest own
 abbrev pub NumberMap : Type 0
 NumberMap = BTreeMap (Vec ℕ Global) (Vec ℕ Global)
 
--- the numbers at these octets, or none
+-- the numbers at these octets, if there are any
 abbrev pub numbers_at : NumberMap → List ℕ → List ℕ
 numbers_at m octets = option_map_or (λ v. v.items) (at_digest m octets) []
 
--- the numbers by digests under an algorithm
+-- the numbers of a key with these octets, which are at its octets from the last to the first
+abbrev pub numbers_of_key : Index → List ℕ → List ℕ
+numbers_of_key index octets = numbers_at index.by_key (reverse octets)
+
+-- the numbers by the digests of an algorithm
 abbrev pub by_algorithm : Index → HashAlg → NumberMap
 by_algorithm index Sha1 = index.by_sha1
 by_algorithm index Sha256 = index.by_sha256
 by_algorithm index Sha512 = index.by_sha512
 
--- An index of these entries: it has at a key's octets the numbers of the entries whose principal is this key, and at a digest
--- under an algorithm the numbers of the entries whose principal is this hash.
+-- An index of these entries. For a key's octets it has the numbers of the entries whose principal is this key. At a digest of
+-- an algorithm it has the numbers of the entries whose principal is this hash.
 pub record IsIndexOf (es : List Entry) (index : Index) : Type 0 where
-  pub keys : (octets : List ℕ) → numbers_at index.by_key octets ≡ numbers_from 1 (λ e. is_key octets e.subject.principal) es
+  pub keys : (octets : List ℕ) → numbers_of_key index octets ≡ numbers_from 1 (λ e. is_key octets e.subject.principal) es
   pub hashes : (alg : HashAlg) (digest : List ℕ)
       → numbers_at (by_algorithm index alg) digest ≡ numbers_from 1 (λ e. is_hash alg digest e.subject.principal) es

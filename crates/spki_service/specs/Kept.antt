@@ -2,7 +2,7 @@
 use Rattle.std.specs.Prelude.{ℕ, suc, Bool, List, [], ◌∷◌, map, if◌then◌else◌}
 use Rattle.spki_cert.specs.declared.entry.Entry.{Entry}
 
--- the entries of which a test is true, in their order, each with its number, where the first of the list has number n
+-- the entries that pass a test, in their order, each with its number; the first entry of the list has number n
 abbrev pub kept_from : ℕ → (Entry → Bool) → List Entry → List (ℕ × Entry)
 kept_from n test [] = []
 kept_from n test (e ∷ es) = if test e then (n, e) ∷ kept_from (suc n) test es else kept_from (suc n) test es

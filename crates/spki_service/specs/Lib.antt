@@ -1,4 +1,4 @@
--- What a service holds, and what it is asked.
+-- The access list that a service has, and the questions that are put to it.
 pub mod Kept
 pub mod Merged
 pub mod Indexed

@@ -1,4 +1,4 @@
--- What a text is refused for as an access list (RFC 2693, section 3.4).
+-- Why a text is refused as an access list (RFC 2693, section 3.4).
 use Rattle.std.specs.Prelude.{◌≡◌, ◌≢◌, ℕ, ◌<◌, ◌≤◌, List, Some, length}
 use Rattle.sexpr_core.specs.declared.fault.FormFault.TheVariants as form
 use Rattle.sexpr_core.specs.Value.{Value, canon}
@@ -12,20 +12,20 @@ use Rattle.spki_service.specs.declared.list_fault.AclFault.{AclFault}
 use Rattle.spki_service.specs.declared.list_fault.AclFault.TheVariants as faults
 use Rattle.spki_service.specs.Form.{RefusesForm, Reads, LacksForm}
 
--- The value is no access list, which the fault says of one of its entries or of the whole; it is the first one from the left.
+-- The value is no access list. The fault names one of its entries, or the whole list, and is the first one from the left.
 pub record IsNoAcl (fault : CertFault) (v : Value) : Type 0 where
   pub found : fault.kind ≢ kinds.Memory
   pub refused : AclRefused v fault
   pub named : acl_fault v ≡ Some fault
   pub none : (es : List Entry) → ¬ AclOf v es
 
--- What a fault other than of memory says of a value: its canonical form is too long, or it is no access list.
+-- What a fault means for a value, except for Memory: its canonical form is too long, or it is no access list.
 abbrev pub ListRefused : Value → AclFault → Type 0
 ListRefused v (faults.Form fault) = (1048576 < length (canon v)) × (fault ≡ form.TooLong)
 ListRefused v (faults.Acl fault) = (length (canon v) ≤ 1048576) × IsNoAcl fault v
 ListRefused v faults.Memory = ⊥
 
--- What a fault other than of memory says of a text in any of the three forms.
+-- What a fault means for a text in any of the three forms, except for Memory.
 abbrev pub IsNoList : List ℕ → AclFault → Type 0
 IsNoList list (faults.Form fault) = LacksForm (IsTextWithin list) (RefusesForm list) fault
 IsNoList list (faults.Acl fault) = Reads (IsTextWithin list) (IsNoAcl fault)

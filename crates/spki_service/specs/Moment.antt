@@ -1,4 +1,4 @@
--- Which date a number of seconds since 1970-01-01 00:00:00 UTC is.
+-- The date of a number of seconds since 1970-01-01 00:00:00 UTC.
 use Rattle.std.specs.Prelude.{◌≡◌, ℕ, ◌+◌, ◌*◌, ◌/◌, ◌%◌, ◌<◌, List, [], ◌∷◌, ◌++◌, ◌⊎◌, ℤ, pos, neg_ℤ, ◌+ℤ◌, ◌*ℤ◌, ◌<ℤ◌}
 use Rattle.jiff_core.specs.Calendar.{IsCivilDate, days_from_civil}
 use Rattle.sexpr_core.specs.Characters.{char}
@@ -18,8 +18,8 @@ date_octets year month day hour minute second =
     ++ char ":" ∷ (two_digits minute
     ++ char ":" ∷ two_digits second)))))
 
--- The seconds are those of this date, of a year from 0 to 9999 of the Gregorian calendar, on a clock at UTC whose days have 86,400
--- seconds each.
+-- The seconds are those of this date, with a year from 0 to 9999 of the Gregorian calendar, on a clock in UTC whose days
+-- have 86,400 seconds each.
 pub record IsDateAt (seconds : ℤ) (octets : List ℕ) : Type 0 where
   pub year : ℕ
   pub month : ℕ
@@ -34,6 +34,6 @@ pub record IsDateAt (seconds : ℤ) (octets : List ℕ) : Type 0 where
   pub counted : seconds ≡ days_from_civil (pos year) month day *ℤ pos 86400 +ℤ pos (hour * 3600 + minute * 60 + second)
   pub written : octets ≡ date_octets year month day hour minute second
 
--- They are before 0000-01-01 00:00:00, or after 9999-12-31 23:59:59: those of no such date.
+-- They are before 0000-01-01 00:00:00 or after 9999-12-31 23:59:59, so no such date has them.
 abbrev pub IsAtNoDate : ℤ → Type 0
 IsAtNoDate seconds = (seconds <ℤ neg_ℤ (pos 62_167_219_200)) ⊎ (pos 253_402_300_799 <ℤ seconds)

@@ -1,4 +1,4 @@
--- What the entries that a question finds decide.
+-- The decision by the entries that are found for a question.
 use Rattle.std.specs.Prelude.{ℕ, List, Bool, false, Option, Some, None, Result, Ok, Err}
 use Rattle.spki_cert.specs.declared.entry.Entry.{Entry}
 use Rattle.spki_cert.specs.declared.principal.Policy.{Policy}
@@ -11,19 +11,19 @@ use Rattle.spki_decision.specs.declared.fault.GuardFault.TheVariants.{TooLarge, 
 use Rattle.spki_decision.specs.Supported.{Names, SmallUpTo, HasLarge}
 use Rattle.spki_decision.specs.LeftOut.{AreKept, IsLeftOut, kept_case, IsRenumbered}
 
--- whether an entry's principal names a key, if there is one
+-- whether an entry's principal names a key; false if there is no key
 abbrev pub is_of : Policy → Option (List ℕ) → Entry → Bool
 is_of policy None e = false
 is_of policy (Some key) e = names policy e.subject.principal key
 
--- what the entries that are kept decide, where the tuples that are shown are these; a decision names an entry by its number in the
--- list
+-- the decision by the entries that are kept, if these are the tuples of the certificates; a decision names an entry by its
+-- number in the whole list
 abbrev pub DecidesKept : Case → List Tuple → List (ℕ × Entry) → Result Decision GuardFault → Type 0
 DecidesKept c tuples kept (Ok d) =
     (part : Decision) × Names (kept_case c kept) tuples part × SmallUpTo (kept_case c kept) tuples part × IsRenumbered kept part d
 DecidesKept c tuples kept (Err TooLarge) = HasLarge (kept_case c kept) tuples
 DecidesKept c tuples kept (Err Memory) = Unit {0}
 
--- some of the list's entries decide, of which only those may be missing that are left out
+-- the decision by some of the list's entries; only entries that may be left out are missing
 abbrev pub DecidesPartly : Case → List Tuple → Result Decision GuardFault → Type 0
 DecidesPartly c tuples result = (kept : List (ℕ × Entry)) × AreKept (IsLeftOut c tuples) 1 c.entries kept × DecidesKept c tuples kept result

@@ -1,4 +1,4 @@
--- What a question asks, and what it is refused for.
+-- The parts of a question, and why a question is refused.
 use Rattle.std.specs.Prelude.{◌≡◌, ◌≢◌, ℕ, ◌+◌, List, [], ◌∷◌, map, length, Some}
 use Rattle.sexpr_core.specs.declared.fault.FormFault.{FormFault}
 use Rattle.sexpr_core.specs.Value.{Value, plain, group, canon}
@@ -39,27 +39,27 @@ words_value [] = group []
 words_value (w ∷ []) = plain w
 words_value (w ∷ x ∷ ws) = group (plain w ∷ plain x ∷ map plain ws)
 
--- ---- which values are meant
+-- ---- the values of the parts
 
--- the values that a request means: that of its text, or its strings
+-- the values of a request: the value of its text, or of its strings
 abbrev pub IsWanted : wanted.Wanted → Value → Type 0
 IsWanted (requests.Text text) v = IsTextWithin text.now v
 IsWanted (requests.Words words) v = v ≡ words_value (map (λ w. w.now) words.now)
 
--- why the text of a request means none
+-- why the text of a request has no value
 abbrev pub RefusesWanted : wanted.Wanted → FormFault → Type 0
 RefusesWanted (requests.Text text) fault = RefusesForm text.now fault
 RefusesWanted (requests.Words words) fault = ⊥
 
--- ---- what is asked
+-- ---- the case of a question
 
 -- the moment is this date
 abbrev pub IsAskedAt : instant.Instant → List ℕ → Type 0
 IsAskedAt (moments.Text text) date = Reads (IsTextWithin text.now) (λ v. DateOf v date)
 IsAskedAt (moments.Seconds seconds) date = IsDateAt seconds date
 
--- The case asks what the question asks: each of its parts is read from the question's part of that name. It has no entries, and no
--- rows of its own.
+-- The case of a question: each of its parts is read from the part of the question with that name. It has no entries and no
+-- rows.
 pub record IsAsked (q : Question) (c : Case) : Type 0 where
   pub entries : c.entries ≡ []
   pub rows : c.rows ≡ []
@@ -70,21 +70,21 @@ pub record IsAsked (q : Question) (c : Case) : Type 0 where
 
 -- ---- refusals of a value
 
--- The value is no sequence, which the fault says of one of its items or of the whole; it is the first one from the left.
+-- The value is no sequence. The fault names one of its items, or the whole sequence, and is the first one from the left.
 pub record IsNoSequence (fault : CertFault) (v : Value) : Type 0 where
   pub found : fault.kind ≢ kinds.Memory
   pub refused : SeqRefused v fault
   pub named : sequence_fault v ≡ Some fault
   pub none : (items : List SeqItem) → ¬ SeqOf v items
 
--- The value is no key, and the fault is the first one of it.
+-- The value is no key, and the fault is its first fault.
 pub record IsNoKey (kind : CertFaultKind) (v : Value) : Type 0 where
   pub found : kind ≢ kinds.Memory
   pub shows : Shows kind v
   pub named : key_fault v ≡ Some kind
   pub none : (key : List ℕ) → ¬ KeyOf v key
 
--- The value is no request, and the fault is the first one of it.
+-- The value is no request, and the fault is its first fault.
 pub record IsNoRequest (fault : TagFault) (v : Value) : Type 0 where
   pub found : fault ≢ tag_faults.Memory
   pub shows : RequestShows fault v
@@ -98,7 +98,7 @@ pub record IsNoDate (kind : CertFaultKind) (v : Value) : Type 0 where
 
 -- ---- refusals of a question
 
--- the parts that are read
+-- the parts that can be read
 abbrev pub ReadsSequence : Question → Type 0
 ReadsSequence q = (items : List SeqItem) × Reads (IsTextWithin q.sequence.now) (λ v. SeqOf v items)
 
@@ -108,19 +108,19 @@ ReadsKey q = (key : List ℕ) × Reads (IsTextWithin q.key.now) (λ v. KeyOf v k
 abbrev pub ReadsRequest : Question → Type 0
 ReadsRequest q = (g : Request) × Reads (IsWanted q.request) (λ v. RequestOf v g)
 
--- those before a part are
+-- those before a part can be read
 abbrev pub ReadsBefore : Question → Part → Type 0
 ReadsBefore q parts.Sequence = Unit {0}
 ReadsBefore q parts.Key = ReadsSequence q
 ReadsBefore q parts.Request = ReadsSequence q × ReadsKey q
 ReadsBefore q parts.Moment = ReadsSequence q × (ReadsKey q × ReadsRequest q)
 
--- a moment means no value that is read, as the fault of its form says
+-- a moment has no value that is read, and the fault of its form tells why
 abbrev pub LacksFormOfMoment : instant.Instant → FormFault → Type 0
 LacksFormOfMoment (moments.Text text) fault = LacksForm (IsTextWithin text.now) (RefusesForm text.now) fault
 LacksFormOfMoment (moments.Seconds seconds) fault = ⊥
 
--- the same of a part
+-- the same for any part
 abbrev pub LacksFormAt : Question → Part → FormFault → Type 0
 LacksFormAt q parts.Sequence fault = LacksForm (IsTextWithin q.sequence.now) (RefusesForm q.sequence.now) fault
 LacksFormAt q parts.Key fault = LacksForm (IsTextWithin q.key.now) (RefusesForm q.key.now) fault
@@ -132,8 +132,8 @@ abbrev pub IsAskedAtNone : instant.Instant → CertFaultKind → Type 0
 IsAskedAtNone (moments.Text text) kind = Reads (IsTextWithin text.now) (IsNoDate kind)
 IsAskedAtNone (moments.Seconds seconds) kind = (kind ≡ kinds.BadDate) × IsAtNoDate seconds
 
--- What a fault other than of memory and of length says of a question: the part that it names has no reading, and those before
--- it have one.
+-- What a fault means for a question, except for Memory and TooLong: the part that it names cannot be read, and those before
+-- it can.
 abbrev pub IsNotAsked : Question → AskFault → Type 0
 IsNotAsked q faults.TooLong = ⊥
 IsNotAsked q (faults.Form part fault) = ReadsBefore q part × LacksFormAt q part fault
@@ -143,7 +143,7 @@ IsNotAsked q (faults.Request fault) = ReadsBefore q parts.Request × Reads (IsWa
 IsNotAsked q (faults.Moment kind) = ReadsBefore q parts.Moment × IsAskedAtNone q.moment kind
 IsNotAsked q faults.Memory = ⊥
 
--- ---- how long it is
+-- ---- length
 
 -- strings count as the canonical form of their value
 abbrev pub wanted_octets : wanted.Wanted → ℕ

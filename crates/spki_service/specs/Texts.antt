@@ -1,4 +1,4 @@
--- What the texts of a question's parts are.
+-- The texts of a question's parts.
 use Rattle.std.specs.Prelude.{◌≡◌, ◌⊎◌, ℕ, List}
 use Rattle.sexpr_core.specs.declared.fault.FormFault.{FormFault}
 use Rattle.sexpr_core.specs.Value.{Value, canon, IsShallow, IsWithinLimits}
@@ -24,13 +24,13 @@ use Rattle.spki_service.specs.Form.{RefusesForm, LacksForm}
 use Rattle.spki_service.specs.Moment.{IsDateAt, IsAtNoDate}
 use Rattle.spki_service.specs.Questions.{IsWanted, RefusesWanted, IsNoSequence, IsNoKey, IsNoRequest, IsNoDate}
 
--- the text is that of a value that is meant, or the fault says why there is none
+-- the text is the canonical text of a value of the part, or the fault tells why there is none
 abbrev pub IsReadAs : (means : Value → Type 0) → (refuses : FormFault → Type 0) → PartText → Type 0
 IsReadAs means refuses (Standing document) = means document × IsWithinLimits document
 IsReadAs means refuses (Made octets) = (v : Value) × means v × IsWithinLimits v × (octets.items ≡ canon v)
 IsReadAs means refuses (Malformed fault) = LacksForm means refuses fault
 
--- the same of a moment
+-- the same for a moment
 abbrev pub IsMomentText : instant.Instant → MomentText → Type 0
 IsMomentText (moments.Text text) (of_moment.Text part) = IsReadAs (IsTextWithin text.now) (RefusesForm text.now) part
 IsMomentText (moments.Text text) (of_moment.At date) = ⊥
@@ -46,13 +46,13 @@ pub record IsTextsOf (q : Question) (texts : Texts) : Type 0 where
   pub request : IsReadAs (IsWanted q.request) (RefusesWanted q.request) texts.request
   pub moment : IsMomentText q.moment texts.moment
 
--- ---- what a text is, as it is held
+-- ---- the value of a part's text
 
 -- a canonical text that was made, unless it is too long
 abbrev pub IsMade : List ℕ → PartText → Type 0
 IsMade octets text = (v : Value) → octets ≡ canon v → IsShallow v → IsReadAs (λ w. w ≡ v) (λ fault. ⊥) text
 
--- this is said of the value that the text has
+-- a statement is true of the value of the text
 abbrev pub OfText : PartText → (Value → Type 0) → Type 0
 OfText (Standing document) said = said document
 OfText (Made octets) said = (v : Value) → IsWithinLimits v → octets.items ≡ canon v → said v
@@ -66,13 +66,13 @@ HasNone (Malformed form) fault = fault ≡ form
 
 -- ---- faults of a part's text
 
--- The fault names the part, whose text has no value.
+-- The fault names a part whose text has no value.
 pub record NamesForm (part : Part) (text : PartText) (fault : AskFault) : Type 0 where
   pub form : FormFault
   pub named : fault ≡ faults.Form part form
   pub none : HasNone text form
 
--- The fault names a part that the value is refused as.
+-- The fault names the part, and its value is refused.
 pub record NamesSequence (fault : AskFault) (v : Value) : Type 0 where
   pub inner : CertFault
   pub named : fault ≡ faults.Sequence inner
@@ -93,17 +93,17 @@ pub record NamesMoment (fault : AskFault) (v : Value) : Type 0 where
   pub named : fault ≡ faults.Moment inner
   pub refused : IsNoDate inner v
 
--- What a fault other than of memory says of a part's text: it has no value, or its value is refused.
+-- What a fault means for the text of a part, except for Memory: it has no value, or its value is refused.
 abbrev pub NamesPart : Part → (AskFault → Value → Type 0) → PartText → AskFault → Type 0
 NamesPart part names text fault = NamesForm part text fault ⊎ OfText text (names fault)
 
--- the same of the text of a moment, or of its seconds
+-- the same for the text of a moment, or for its seconds
 abbrev pub NamesInstant : MomentText → AskFault → Type 0
 NamesInstant (of_moment.Text text) fault = NamesPart parts.Moment NamesMoment text fault
 NamesInstant (of_moment.At date) fault = ⊥
 NamesInstant of_moment.Dateless fault = fault ≡ faults.Moment kinds.BadDate
 
--- the date of a moment's text, or that of its seconds
+-- the date of a moment's text, or of its seconds
 abbrev pub IsInstant : MomentText → List ℕ → Type 0
 IsInstant (of_moment.Text text) date = OfText text (λ v. DateOf v date)
 IsInstant (of_moment.At octets) date = date ≡ octets

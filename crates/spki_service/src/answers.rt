@@ -1,4 +1,4 @@
-//! The answers to a question that was asked of a guard.
+//! The answers to a question.
 
 ghost use Rattle.std.specs.Prelude.{◌≡◌, List, map, IfOk};
 ghost use Rattle.std.specs.Option.{option_copied};
@@ -27,23 +27,23 @@ use spki_reduce::{Issuer, Step};
 use std::alloc::Global;
 
 impl<'a> Asked<'a> {
-    /// The signatures that a verifier is asked of, in order: those of the certificates that pass the first three of the four tests of
-    /// evidence, up to the first that doesn't (RFC 2693, section 6). Nothing is copied.
+    /// The signatures that a verifier is asked about, in order: those of the certificates that pass the first three of the
+    /// four tests of evidence, up to the first that does not (RFC 2693, section 6). Nothing is copied.
     pub fn signed(&self) -> &[Signed<'a>]
         ensures { map signed_of result.now ≡ asked self.now.case }
     {
         &self.examined.signed
     }
 
-    /// Decides the question, as `spki_decision::decide` decides the case of its parts and the guard's list: yes exactly if every
-    /// certificate stands, with the verifier's word for the signatures, and an entry and all of them, in their order, reduce to an
-    /// authorization that grants what is asked. Only entries whose principal names the first issuer's key, or the asker's where no
-    /// certificate is shown, are looked at.
+    /// Decides the question, as `spki_decision::decide` decides the case of the question's parts and the guard's list. The
+    /// answer is yes exactly if every certificate stands, with signatures that the verifier accepts, and an entry and all
+    /// certificates, in their order, reduce to an authorization that grants the request. Only entries whose principal names
+    /// the first issuer's key are examined, or the client's key if no certificate is shown.
     ///
     /// # Errors
     ///
-    /// `TooLarge` where an intersection on the way is over the guard's limit of nodes. `Memory` where memory was refused, to this
-    /// or to the verifier.
+    /// `TooLarge` if an intersection exceeds the guard's limit of nodes. `Memory` if memory ran out, here or in the
+    /// verifier.
     pub fn decide<V: Verifier>(&self, alloc: Global, verifier: &V) -> Result<Decision, GuardFault>
         ensures { Answers (λ c answer. IsDecided c (V.accepted verifier.now) answer) self.now result }
     {
@@ -53,8 +53,8 @@ impl<'a> Asked<'a> {
         }
     }
 
-    /// Decides the question, where exactly the signatures that `signed` lists at the places that are true here are accepted. A place
-    /// behind the last is false.
+    /// Decides the question, if exactly the signatures are accepted that `signed` lists at the places where `verified` is
+    /// true. Missing places count as false.
     ///
     /// # Errors
     ///
@@ -68,7 +68,7 @@ impl<'a> Asked<'a> {
         }
     }
 
-    /// The decision where every signature is accepted.
+    /// The decision if every signature is accepted.
     fn decided(&self, alloc: Global) -> Result<Decision, GuardFault>
         ensures { Answers (λ c answer. IsDecided c every answer) self.now result }
     {
@@ -78,7 +78,7 @@ impl<'a> Asked<'a> {
         }
     }
 
-    /// The decision where the certificates that are shown are these steps, by the entries that are found.
+    /// The decision if the certificates give these steps, by the entries that are found.
     fn granted<'s>(&'s self, alloc: Global, steps: &'s [Step<'a>]) -> Result<Decision, GuardFault>
         ensures { (es : List Entry) → AreEntries self.now.texts es
             → DecidesPartly (with_entries self.now.case es) (tuples_of steps.now) result }
@@ -92,14 +92,14 @@ impl<'a> Asked<'a> {
         }
     }
 
-    /// Explains the question, as `spki_decision::explain` explains the case of its parts and the guard's list: where every certificate
-    /// stands, with the verifier's word for the signatures, why each entry grants what is asked or doesn't; else the first
-    /// certificate that doesn't stand. All entries are read.
+    /// Explains the question, as `spki_decision::explain` explains the case of the question's parts and the guard's list. If
+    /// every certificate stands, with signatures that the verifier accepts, the answer is for each entry why it grants the
+    /// request or does not. Otherwise it is the first certificate that does not stand. All entries are read.
     ///
     /// # Errors
     ///
-    /// `TooLarge` where an intersection on the way is over the guard's limit of nodes. `Memory` where memory was refused, to this
-    /// or to the verifier.
+    /// `TooLarge` if an intersection exceeds the guard's limit of nodes. `Memory` if memory ran out, here or in the
+    /// verifier.
     pub fn explain<V: Verifier>(
         &self,
         alloc: Global,
@@ -116,7 +116,8 @@ impl<'a> Asked<'a> {
         }
     }
 
-    /// Explains the question, where exactly the signatures that `signed` lists at the places that are true here are accepted.
+    /// Explains the question, if exactly the signatures are accepted that `signed` lists at the places where `verified` is
+    /// true.
     ///
     /// # Errors
     ///
@@ -133,9 +134,9 @@ impl<'a> Asked<'a> {
         }
     }
 
-    /// Reduces the question, as `spki_decision::reduce_case` reduces the case of its parts and the guard's list: where every certificate
-    /// stands, with the verifier's word for the signatures, what each entry and all of them become; else the first certificate that
-    /// doesn't stand. All entries are read.
+    /// Reduces the question, as `spki_decision::reduce_case` reduces the case of the question's parts and the guard's list.
+    /// If every certificate stands, with signatures that the verifier accepts, the answer is for each entry what it becomes
+    /// with all certificates. Otherwise it is the first certificate that does not stand. All entries are read.
     ///
     /// # Errors
     ///
@@ -157,7 +158,8 @@ impl<'a> Asked<'a> {
         }
     }
 
-    /// Reduces the question, where exactly the signatures that `signed` lists at the places that are true here are accepted.
+    /// Reduces the question, if exactly the signatures are accepted that `signed` lists at the places where `verified` is
+    /// true.
     ///
     /// # Errors
     ///
@@ -175,7 +177,7 @@ impl<'a> Asked<'a> {
         }
     }
 
-    /// The explanation where every signature is accepted.
+    /// The explanation if every signature is accepted.
     fn explained(&self, alloc: Global) -> Result<Explanation, GuardFault>
         ensures { Answers (λ c answer. IsExplained c every answer) self.now result }
     {
@@ -194,7 +196,7 @@ impl<'a> Asked<'a> {
         }
     }
 
-    /// The reduction where every signature is accepted.
+    /// The reduction if every signature is accepted.
     fn reduced(&self, alloc: Global) -> Result<Reduction<'a>, GuardFault>
         ensures reduced { Answers (λ c answer. IsReduced c every answer) self.now result }
         ensures end { IfOk result EndAtDates }
@@ -214,7 +216,7 @@ impl<'a> Asked<'a> {
     }
 }
 
-/// The key that the first of the steps is issued by; the asker's where there is none.
+/// The key that issued the first step, or the client's key if there is no step.
 fn first_key<'s, 'a>(asker: &'s Key<'a>, steps: &'s [Step<'a>]) -> Option<&'s Key<'a>>
     ensures { option_copied result ≡ first_key asker.entry.now (tuples_of steps.entry.now) }
 {

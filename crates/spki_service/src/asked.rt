@@ -1,12 +1,12 @@
-//! Questions that were asked of a guard and read.
+//! Questions that were read for a guard.
 
 use crate::guard::Guard;
 use spki_case::Case;
 use spki_decision::Examined;
 use std::marker::Model;
 
-/// A question that was asked of a guard: its parts, which were read, and what a verifier is asked. In a contract it is the guard's
-/// entries, and the case of the parts.
+/// A question that was read for a guard: its parts, and what a verifier is asked. In a contract it is the guard's entries
+/// and the case of the parts.
 #[derive(Drop)]
 pub struct Asked<'a> {
     pub(crate) guard: &'a Guard,

@@ -1,4 +1,4 @@
-//! The canonical texts of an access list's entries, and the entries that they are.
+//! The canonical texts of an access list's entries, and reading the entries from them.
 
 ghost use Rattle.std.specs.Prelude.{◌≡◌, ◌<◌, ◌∷◌, ◌++◌, [], ℕ, List, codes, length, map, drop, ◌+◌, slice_get, Some, IfOk, IfErr};
 ghost use Rattle.sexpr_core.specs.Value.{Value, canon, group, plain};
@@ -14,7 +14,7 @@ use spki_cert::{Entry, entry_of};
 use spki_decision::GuardFault;
 use std::alloc::{AllocError, Global};
 
-/// The canonical texts of the entries of an access list, of which there are this many.
+/// Returns the canonical texts of the entries of an access list. It has `count` entries.
 pub(crate) fn entry_texts(
     alloc: Global,
     list: &Node,
@@ -30,7 +30,7 @@ pub(crate) fn entry_texts(
     Ok(last(member_texts(alloc, members)?, count))
 }
 
-/// The last of some texts, so many, where there is at most one more.
+/// Returns the last `count` texts, if there is at most one more.
 fn last(texts: Vec<Vec<u8>>, count: usize) -> Vec<Vec<u8>>
     ensures all { length texts.items ≡ count → result.items ≡ texts.items }
     ensures behind { length texts.items ≡ 1 + count → result.items ≡ drop 1 texts.items }
@@ -42,7 +42,7 @@ fn last(texts: Vec<Vec<u8>>, count: usize) -> Vec<Vec<u8>>
     texts
 }
 
-/// The canonical texts of the members of a list.
+/// Returns the canonical texts of the members of a list.
 fn member_texts(alloc: Global, members: Members<'_, '_>) -> Result<Vec<Vec<u8>>, AllocError>
     ensures { IfOk result (λ texts. octets_of texts.items ≡ map canon members.entry) }
 {
@@ -55,16 +55,16 @@ fn member_texts(alloc: Global, members: Members<'_, '_>) -> Result<Vec<Vec<u8>>,
     Ok(texts)
 }
 
-/// The entry that a canonical text is.
+/// Reads the entry of a canonical text.
 ///
 /// # Errors
 ///
-/// `Memory` where memory was refused, and no other.
+/// Only `Memory`, if memory ran out.
 pub(crate) fn entry_in<'a>(alloc: Global, text: &'a [u8]) -> Result<Entry<'a>, GuardFault>
     ensures entry { (e : Entry) → IsEntryText text.entry.now e → IfOk result (λ found. found ≡ e) }
     ensures refused { IfErr result (λ fault. fault ≡ GuardFault.Memory) }
 {
-    // The text is that of an entry, so what is refused is memory.
+    // The text is that of an entry, so the only fault is Memory.
     let Ok(document) = Doc::open(alloc, text) else {
         return Err(GuardFault::Memory);
     };
@@ -74,11 +74,11 @@ pub(crate) fn entry_in<'a>(alloc: Global, text: &'a [u8]) -> Result<Entry<'a>, G
     }
 }
 
-/// The entries that have these numbers, counted from 1.
+/// Reads the entries with these numbers, counted from 1.
 ///
 /// # Errors
 ///
-/// `Memory` where memory was refused, and no other.
+/// Only `Memory`, if memory ran out.
 pub(crate) fn entries_at<'a>(
     alloc: Global,
     texts: &'a [Vec<u8>],
@@ -96,11 +96,11 @@ pub(crate) fn entries_at<'a>(
     Ok(picked)
 }
 
-/// All entries.
+/// Reads all entries.
 ///
 /// # Errors
 ///
-/// `Memory` where memory was refused, and no other.
+/// Only `Memory`, if memory ran out.
 pub(crate) fn all_entries<'a>(
     alloc: Global,
     texts: &'a [Vec<u8>],

@@ -1,4 +1,4 @@
-//! Access lists that are made ready once.
+//! Access lists that are read once.
 
 ghost use Rattle.std.specs.Prelude.{◌≡◌, ◌≢◌, ◌↔◌, ◌⊎◌, ◌<◌, ℕ, List, length, IfOk, IfErr, IsErrOf};
 ghost use Rattle.std.specs.Option.{option_copied};
@@ -30,8 +30,8 @@ use spki_decision::examine;
 use std::alloc::{AllocError, Global};
 use std::marker::Model;
 
-/// An access list that was made ready once, and is asked often, by several threads at the same time if need be. It owns the
-/// canonical texts of its entries, and an index of them by the principals of their subjects.
+/// An access list that is read once and asked often, by several threads at the same time if needed. It owns the canonical
+/// texts of its entries, and an index of them by the principals of their subjects.
 ///
 /// In a contract it is these texts, the policy and the limits of its questions.
 #[derive(Drop)]
@@ -61,14 +61,14 @@ impl Model for Guard {
 }
 
 impl Guard {
-    /// Reads an access list, `(acl entry ..)`, in any of the three forms (RFC 2693, section 3.4; RFC 9804), and makes it ready to be
-    /// asked, under a policy and with limits of what a question may take.
+    /// Reads an access list, `(acl entry ..)`, in any of the three forms (RFC 2693, section 3.4; RFC 9804), for a policy and
+    /// with limits on questions.
     ///
     /// # Errors
     ///
-    /// `Form` where the text spells and braces no value within the limits, and `Form(TooLong)` exactly where it has more than
-    /// 1,048,576 octets or its canonical form has; else `Acl` where the value is no access list, with the first fault from the
-    /// left. `Memory` where memory was refused.
+    /// `Form` if the text spells and braces no value within the limits; `Form(TooLong)` exactly if the text or its canonical
+    /// form has more than 1,048,576 octets. Otherwise `Acl` if the value is no access list, with the first fault from the
+    /// left. `Memory` if memory ran out.
     pub fn read(
         alloc: Global,
         list: &[u8],
@@ -81,26 +81,26 @@ impl Guard {
         ensures nodes { IfOk result (λ g. g.nodes ≡ limits.nodes) }
         ensures refused { IfErr result (λ fault. fault ≢ AclFault.Memory → IsNoList list.now fault) }
     {
-        match convert(alloc, Form::Canonical, list) {
-            Ok(octets) => Guard::of_text(alloc, &octets, policy, limits),
+        match Doc::open(alloc, list) {
+            Ok(document) => Guard::of(alloc, &document.top(), policy, limits),
             Err(FormFault::Memory) => Err(AclFault::Memory),
-            Err(fault) => Err(AclFault::Form(fault)),
+            Err(_) => Guard::of_converted(alloc, list, policy, limits),
         }
     }
 
-    /// How many entries the list has.
+    /// The number of entries of the list.
     pub fn entries(&self) -> usize
         ensures { result ≡ length self.now.texts }
     {
         self.texts.len()
     }
 
-    /// The canonical texts of a question's parts, which `ask` reads. What is in canonical form already isn't copied.
+    /// Returns the canonical texts of a question's parts, for `ask`. A text that is already canonical is not copied.
     ///
     /// # Errors
     ///
-    /// `TooLong` exactly where the question's texts together have more octets than the guard's limit, before any of them is read.
-    /// `Memory` where memory was refused.
+    /// `TooLong` exactly if the question's texts together have more octets than the guard's limit, before any of them is
+    /// read. `Memory` if memory ran out.
     pub fn texts<'q>(&self, alloc: Global, question: &Question<'q>) -> Result<Texts<'q>, AskFault>
         ensures texts { IfOk result (IsTextsOf question.now) }
         ensures too_long { IsErrOf result AskFault.TooLong ↔ (self.now.octets < asked_octets question.now) }
@@ -109,13 +109,13 @@ impl Guard {
         texts_of(alloc, question, self.limits.octets)
     }
 
-    /// Reads the parts of a question, each by itself, in the order sequence, key, request, moment, and examines the certificates that
-    /// are shown.
+    /// Reads the parts of a question, each by itself, in the order sequence, key, request, moment, and examines the
+    /// certificates.
     ///
     /// # Errors
     ///
-    /// The first part that has no reading is named: `Form` where it is no text of a value within the limits, and else what the value
-    /// is refused for. `Memory` where memory was refused.
+    /// The first part that cannot be read is named: `Form` if its text has no value within the limits, otherwise the fault
+    /// of its value. `Memory` if memory ran out.
     pub fn ask<'a>(&'a self, alloc: Global, texts: &'a Texts<'_>) -> Result<Asked<'a>, AskFault>
         ensures asked { (q : Question) → IsTextsOf q texts.entry.now → IfOk result (λ a. IsAsked q a.case) }
         ensures entries { IfOk result (λ a. a.texts ≡ self.entry.now.texts) }
@@ -134,7 +134,7 @@ impl Guard {
         })
     }
 
-    /// The numbers, ascending, of the entries whose principal names the key; none where there is no key.
+    /// The numbers, ascending, of the entries whose principal names the key. None are returned if there is no key.
     pub(crate) fn numbers_of(
         &self,
         alloc: Global,
@@ -146,6 +146,24 @@ impl Guard {
         match key {
             None => Ok(Vec::new(alloc)),
             Some(key) => self.index.found(alloc, key, self.policy),
+        }
+    }
+
+    /// Reads an access list in any of the three forms by its canonical form, which is made anew.
+    fn of_converted(
+        alloc: Global,
+        list: &[u8],
+        policy: Policy,
+        limits: Limits,
+    ) -> Result<Guard, AclFault>
+        ensures list { IfOk result (λ g. HoldsList list.now g.texts) }
+        ensures given { IfOk result (λ g. (g.policy ≡ policy) × (g.octets ≡ limits.octets) × (g.nodes ≡ limits.nodes)) }
+        ensures refused { IfErr result (λ fault. fault ≢ AclFault.Memory → IsNoList list.now fault) }
+    {
+        match convert(alloc, Form::Canonical, list) {
+            Ok(octets) => Guard::of_text(alloc, &octets, policy, limits),
+            Err(FormFault::Memory) => Err(AclFault::Memory),
+            Err(fault) => Err(AclFault::Form(fault)),
         }
     }
 
@@ -169,7 +187,7 @@ impl Guard {
         }
     }
 
-    /// The access list that a node is.
+    /// Reads the access list of a node.
     fn of(alloc: Global, list: &Node, policy: Policy, limits: Limits) -> Result<Guard, AclFault>
         ensures list { IfOk result (λ g. (es : List Entry) × AclOf list.now es × AreEntries g.texts es) }
         ensures given { IfOk result (λ g. (g.policy ≡ policy) × (g.octets ≡ limits.octets) × (g.nodes ≡ limits.nodes)) }

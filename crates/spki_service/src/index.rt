@@ -1,22 +1,23 @@
 //! An index of an access list's entries by the principals of their subjects.
 
-ghost use Rattle.std.specs.Prelude.{◌≡◌, ◌+◌, ◌∷◌, ◌++◌, [], ℕ, List, length, bytes_eq, IfOk, OnOk, if◌then◌else◌};
+ghost use Rattle.std.specs.Prelude.{◌≡◌, ◌+◌, ◌∷◌, ◌++◌, [], ℕ, List, length, reverse, bytes_eq, IfOk, OnOk, if◌then◌else◌};
 ghost use Rattle.spki_cert.specs.declared.entry.Entry.{Entry};
 ghost use Rattle.spki_cert.specs.declared.hash.HashAlg.{HashAlg};
 ghost use Rattle.spki_cert.specs.Naming.{names, admits, digest_of};
 ghost use Rattle.spki_service.specs.Kept.{numbers_from};
 ghost use Rattle.spki_service.specs.Merged.{merge};
-ghost use Rattle.spki_service.specs.Indexed.{is_key, is_hash, numbers_at, by_algorithm, IsIndexOf};
+ghost use Rattle.spki_service.specs.Indexed.{is_key, is_hash, numbers_at, numbers_of_key, by_algorithm, IsIndexOf};
 
 use spki_cert::{Algorithms, Entry, HashAlg, Key, Policy, Principal};
 use std::alloc::{AllocError, Global};
 use std::collections::BTreeMap;
 
-/// For each octet string, the numbers of entries, ascending.
+/// For each octet string the numbers of entries, ascending.
 type Numbers = BTreeMap<Vec<u8>, Vec<usize>>;
 
 /// An index of an access list: for each principal, the numbers of the entries whose subject has it. Numbers are ascending and count
-/// from 1. A key is found by its canonical octets, and a hash by its digest, in a map for each algorithm.
+/// from 1. A key is found by its canonical octets from the last to the first, since keys of one algorithm begin alike, and a hash by
+/// its digest, in a map for each algorithm.
 #[derive(Drop)]
 pub(crate) struct Index {
     by_key: Numbers,
@@ -26,11 +27,11 @@ pub(crate) struct Index {
 }
 
 impl Index {
-    /// The index of these entries. For n entries this takes n look-ups in maps of at most n keys.
+    /// Makes the index of these entries. For n entries this takes n look-ups in maps of at most n keys.
     ///
     /// # Errors
     ///
-    /// If memory is refused.
+    /// `AllocError` if memory ran out.
     pub(crate) fn of(alloc: Global, entries: &[Entry]) -> Result<Index, AllocError>
         ensures { IfOk result (IsIndexOf entries.now) }
     {
@@ -46,8 +47,8 @@ impl Index {
         Ok(index)
     }
 
-    /// The algorithms by which `found` may digest a key: those of the hashes in the index that the policy lets name keys. `found`
-    /// digests no key that carries these digests.
+    /// The algorithms by which `found` may digest a key: those of the hashes in the index that may name keys under the
+    /// policy. `found` does not digest a key that carries these digests.
     pub(crate) fn algorithms(&self, policy: Policy) -> Algorithms {
         Algorithms {
             sha1: !self.by_sha1.is_empty() && policy.admits(HashAlg::Sha1),
@@ -56,12 +57,12 @@ impl Index {
         }
     }
 
-    /// The numbers of the entries whose subject's principal names the key under the policy (RFC 2693, section 2.5), ascending.
-    /// This takes at most four look-ups in maps, three digests, and steps in proportion to the numbers found.
+    /// The numbers of the entries whose subject's principal names the key under the policy (RFC 2693, section 2.5),
+    /// ascending. This takes at most four look-ups in maps, three digests, and steps in proportion to the numbers found.
     ///
     /// # Errors
     ///
-    /// If memory is refused.
+    /// `AllocError` if memory ran out.
     pub(crate) fn found(
         &self,
         alloc: Global,
@@ -71,7 +72,8 @@ impl Index {
         ensures { (es : List Entry) → IsIndexOf es self.now
             → IfOk result (λ numbers. numbers.items ≡ numbers_from 1 (λ e. names policy e.subject.principal key.now) es) }
     {
-        let own = Vec::from_slice(alloc, numbers_at(&self.by_key, key.as_slice()))?;
+        let octets = reversed(alloc, key.as_slice())?;
+        let own = Vec::from_slice(alloc, numbers_at(&self.by_key, &octets))?;
         let first = merged(alloc, own, self.admitted(HashAlg::Sha1, key, policy))?;
         let second = merged(alloc, first, self.admitted(HashAlg::Sha256, key, policy))?;
         merged(alloc, second, self.admitted(HashAlg::Sha512, key, policy))
@@ -79,15 +81,18 @@ impl Index {
 
     /// Adds the number of one more entry, whose subject has this principal.
     fn add(&mut self, alloc: Global, principal: &Principal, number: usize) -> Result<(), AllocError>
-        ensures keys { OnOk result ((octets : List ℕ) → numbers_at self.new.by_key octets
-            ≡ (if is_key octets principal.now then numbers_at self.old.by_key octets ++ number ∷ []
-            else numbers_at self.old.by_key octets)) }
+        ensures keys { OnOk result ((octets : List ℕ) → numbers_of_key self.new octets
+            ≡ (if is_key octets principal.now then numbers_of_key self.old octets ++ number ∷ []
+            else numbers_of_key self.old octets)) }
         ensures hashes { OnOk result ((alg : HashAlg) (digest : List ℕ) → numbers_at (by_algorithm self.new alg) digest
             ≡ (if is_hash alg digest principal.now then numbers_at (by_algorithm self.old alg) digest ++ number ∷ []
             else numbers_at (by_algorithm self.old alg) digest)) }
     {
         match principal {
-            Principal::Key(key) => add_number(&mut self.by_key, alloc, key.as_slice(), number),
+            Principal::Key(key) => {
+                let octets = reversed(alloc, key.as_slice())?;
+                add_number(&mut self.by_key, alloc, &octets, number)
+            }
             Principal::Hash { alg, digest } => match alg {
                 HashAlg::Sha1 => add_number(&mut self.by_sha1, alloc, digest.as_slice(), number),
                 HashAlg::Sha256 => {
@@ -100,8 +105,8 @@ impl Index {
         }
     }
 
-    /// The numbers of the entries whose principal is the key's hash by the algorithm, or none if the policy lets no such hash name
-    /// a key.
+    /// The numbers of the entries whose principal is the key's hash by the algorithm. None are returned if such a hash names
+    /// no key under the policy.
     fn admitted(&self, alg: HashAlg, key: &Key, policy: Policy) -> &[usize]
         ensures { result.now ≡ (if admits policy alg then numbers_at (by_algorithm self.now alg) (digest_of alg key.now) else []) }
     {
@@ -112,8 +117,8 @@ impl Index {
         }
     }
 
-    /// The numbers of the entries whose principal is the key's hash by the algorithm. If the index has no hash by the algorithm, the
-    /// key is not digested.
+    /// The numbers of the entries whose principal is the key's hash by the algorithm. If the index has no hash by the
+    /// algorithm, the key is not digested.
     fn hashed(&self, alg: HashAlg, key: &Key) -> &[usize]
         ensures { result.now ≡ numbers_at (by_algorithm self.now alg) (digest_of alg key.now) }
     {
@@ -143,6 +148,15 @@ impl Index {
     }
 }
 
+/// The octets from the last to the first.
+fn reversed(alloc: Global, octets: &[u8]) -> Result<Vec<u8>, AllocError>
+    ensures { IfOk result (λ turned. turned.items ≡ reverse octets.now) }
+{
+    let mut turned = Vec::from_slice(alloc, octets)?;
+    turned.reverse();
+    Ok(turned)
+}
+
 /// Appends a number to those at the octets.
 fn add_number(
     numbers: &mut Numbers,
@@ -164,7 +178,7 @@ fn add_number(
     Ok(())
 }
 
-/// The numbers at the octets, or none.
+/// The numbers at the octets, if there are any.
 fn numbers_at<'i>(numbers: &'i Numbers, octets: &[u8]) -> &'i [usize]
     ensures { result.now ≡ numbers_at numbers.now octets.now }
 {

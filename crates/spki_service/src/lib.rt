@@ -1,4 +1,4 @@
-//! What a service holds: an access list made ready once, and the questions that are asked about it.
+//! An access list that is read once, and the questions that are put to it.
 #![tactic(auto)]
 
 mod answers;

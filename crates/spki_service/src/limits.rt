@@ -2,12 +2,12 @@
 
 ghost use Rattle.std.specs.Prelude.{◌≡◌, ◌≤◌, ◌↔◌, IsSome, IfSome};
 
-/// Limits on each question that is asked of a guard.
+/// Limits on each question that is put to a guard.
 #[derive(Clone, Copy, Debug, PartialEq, Eq)]
 pub struct Limits {
-    /// The most octets of a part of a question. At most 1,048,576.
+    /// The most octets of the four parts of a question together. At most 1,048,576.
     pub octets: usize,
-    /// The most nodes of one tag times nodes of another for which their intersection is computed. At most 1,000,000.
+    /// The most nodes of two tags whose intersection is formed, as the product of their numbers. At most 1,000,000.
     pub nodes: usize,
     ghost octets_within: { octets ≤ 1048576 },
     ghost nodes_within: { nodes ≤ 1000000 },

@@ -1,4 +1,4 @@
-//! What an access list that isn't held is refused for.
+//! Why a text is refused as an access list.
 
 ghost use Rattle.std.specs.Prelude.{◌≡◌};
 
@@ -10,13 +10,13 @@ use thiserror::Error;
 /// Why a text is no access list.
 #[derive(Clone, Copy, Debug, PartialEq, Eq, Error)]
 pub enum AclFault {
-    /// It is no text of a value within the limits.
+    /// The text has no value within the limits.
     #[error("form: {0}")]
     Form(FormFault),
-    /// Its value is no access list; the fault's item is the entry, from 1, or 0 for the whole.
+    /// Its value is no access list. The fault's item is the number of the entry, from 1, or 0 for the whole list.
     #[error("access list: {0}")]
     Acl(CertFault),
-    /// Memory was refused.
+    /// Memory ran out.
     #[error("out of memory")]
     Memory,
 }

@@ -1,4 +1,4 @@
-//! A service's word for signatures, given as marks: which of those that are listed are right.
+//! Marks by which a service says which of the listed signatures are valid.
 
 ghost use Rattle.std.specs.Prelude.{◌≡◌, ◌↔◌, List, map, true, slice_get, Some, IsTrue};
 ghost use Rattle.spki_decision.specs.Asked.{IsAccepted, IsFirstRefused};
@@ -8,8 +8,8 @@ ghost use Rattle.spki_service.specs.Marks.{AskSame};
 
 use spki_decision::Signed;
 
-/// The place, from 0, of the first signature that no true mark is for; None where there is none. A mark is for the signature at its
-/// place, and for each that asks for the same.
+/// The place, from 0, of the first signature without a true mark. None if there is none. A mark is for the signature at its
+/// place, and for each signature with the same key, message and value.
 pub(crate) fn first_unmarked(signed: &[Signed], marks: &[bool]) -> Option<usize>
     ensures { IsFirstRefused (IsMarked (map signed_of signed.now) marks.now) (map signed_of signed.now) result }
 {
@@ -21,7 +21,7 @@ pub(crate) fn first_unmarked(signed: &[Signed], marks: &[bool]) -> Option<usize>
     None
 }
 
-/// Whether the mark at a place is true; behind the last none is.
+/// Whether the mark at a place is true. Missing marks count as false.
 fn is_set(marks: &[bool], place: usize) -> bool
     ensures { IsTrue result ↔ (slice_get marks.now place ≡ Some true) }
 {
@@ -31,7 +31,7 @@ fn is_set(marks: &[bool], place: usize) -> bool
     }
 }
 
-/// Whether a true mark is for a signature that asks for the same as this one.
+/// Whether a true mark is for a signature with the same key, message and value as this one.
 fn is_marked(signed: &[Signed], marks: &[bool], one: &Signed) -> bool
     ensures { IsTrue result ↔ IsAccepted (IsMarked (map signed_of signed.now) marks.now) (signed_of one.now) }
 {
@@ -43,7 +43,7 @@ fn is_marked(signed: &[Signed], marks: &[bool], one: &Signed) -> bool
     false
 }
 
-/// Whether two signatures ask for the same: by the same key, over the same message, with the same value.
+/// Whether two signatures are by the same key, over the same message, with the same value.
 fn asks_same(one: &Signed, other: &Signed) -> bool
     ensures { IsTrue result ↔ AskSame (signed_of one.now) (signed_of other.now) }
 {

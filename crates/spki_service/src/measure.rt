@@ -1,4 +1,4 @@
-//! How many octets a question's texts have.
+//! The number of octets of a question's texts.
 
 ghost use Rattle.std.specs.Prelude.{◌≡◌, ◌<◌, ◌≤◌, ◌+◌, ◌↔◌, map, length, IsTrue, MatchOption};
 ghost use Rattle.sexpr_core.specs.Value.{canon, decimal, verbatim};
@@ -6,7 +6,7 @@ ghost use Rattle.spki_service.specs.Questions.{words_value, wanted_octets, asked
 
 use crate::question::{Instant, Question, Wanted};
 
-/// Whether a question's texts together have at most this many octets. None of them is looked at.
+/// Whether a question's texts together have at most `most_octets` octets. None of them is read.
 pub(crate) fn is_within(question: &Question, most_octets: usize) -> bool
     ensures { IsTrue result ↔ (asked_octets question.now ≤ most_octets) }
 {
@@ -25,14 +25,14 @@ pub(crate) fn is_within(question: &Question, most_octets: usize) -> bool
     }
 }
 
-/// What is left of a room behind these octets.
+/// The room that is left behind these octets. None if there is too little.
 fn left_of(room: usize, octets: usize) -> Option<usize>
     ensures { MatchOption result (room < octets) (λ left. left + octets ≡ room) }
 {
     room.checked_sub(octets)
 }
 
-/// What is left of a room behind a request.
+/// The room that is left behind a request. None if there is too little.
 fn left_of_wanted(room: usize, wanted: &Wanted) -> Option<usize>
     ensures { MatchOption result (room < wanted_octets wanted.now) (λ left. left + wanted_octets wanted.now ≡ room) }
 {
@@ -42,7 +42,7 @@ fn left_of_wanted(room: usize, wanted: &Wanted) -> Option<usize>
     }
 }
 
-/// What is left of a room behind the canonical text of strings.
+/// The room that is left behind the canonical text of strings. None if there is too little.
 fn left_of_words(room: usize, words: &[&[u8]]) -> Option<usize>
     ensures { MatchOption result (room < length (canon (words_value (map (λ w. w.now) words.now))))
         (λ left. left + length (canon (words_value (map (λ w. w.now) words.now))) ≡ room) }
@@ -57,7 +57,7 @@ fn left_of_words(room: usize, words: &[&[u8]]) -> Option<usize>
     Some(left)
 }
 
-/// What is left of a room behind the verbatim form of a string.
+/// The room that is left behind the verbatim form of a string. None if there is too little.
 fn left_of_string(room: usize, octets: &[u8]) -> Option<usize>
     ensures { MatchOption result (room < length (verbatim octets.now)) (λ left. left + length (verbatim octets.now) ≡ room) }
 {
@@ -66,7 +66,7 @@ fn left_of_string(room: usize, octets: &[u8]) -> Option<usize>
     left_of(left, 1)
 }
 
-/// How many digits a number has in decimal.
+/// The number of digits of a number in decimal.
 fn decimal_length(number: usize) -> usize
     ensures digits { result ≡ length (decimal number) }
     ensures bound { result ≤ number + 1 }

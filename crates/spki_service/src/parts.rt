@@ -1,4 +1,4 @@
-//! The parts of a question, read from their texts.
+//! Reads the parts of a question from their texts.
 
 ghost use Rattle.std.specs.Prelude.{◌≡◌, ◌≢◌, IfOk, IfErr};
 ghost use Rattle.sexpr_core.specs.Value.{Value, canon, IsWithinLimits};
@@ -24,13 +24,14 @@ use spki_cert::{
 use spki_tag::{Ground, TagFault};
 use std::alloc::Global;
 
-/// The case that a question asks, with no entries and with a guard's policy and limit of nodes: its parts are read in the order sequence, key, request, moment. Its keys carry
-/// their digests by these algorithms, those of the hashes that an access list has, and by those of the hashes in the sequence.
+/// Reads the case of a question, without entries, with a guard's policy and limit of nodes. The parts are read in the order
+/// sequence, key, request, moment. Its keys carry their digests by `algorithms`, those of the hashes in the access list, and
+/// by those of the hashes in the sequence.
 ///
 /// # Errors
 ///
-/// The first part that has no reading is named: `Form` where it is no text of a value within the limits, and else what the value
-/// is refused for. `Memory` where memory was refused.
+/// The first part that cannot be read is named: `Form` if its text has no value within the limits, otherwise the fault of
+/// its value. `Memory` if memory ran out.
 pub(crate) fn case_of<'a>(
     alloc: Global,
     texts: &'a Texts<'_>,
@@ -60,7 +61,7 @@ pub(crate) fn case_of<'a>(
     )?)
 }
 
-/// The document of a canonical text that was made.
+/// Opens the document of a canonical text that was made.
 fn made_document<'a>(alloc: Global, part: Part, octets: &'a [u8]) -> Result<Doc<'a>, AskFault>
     ensures read { IfOk result (λ document. octets.entry.now ≡ canon document) }
     ensures refused { IfErr result (λ fault. fault ≢ AskFault.Memory → (form : FormFault) × (fault ≡ AskFault.Form part form)
@@ -73,7 +74,7 @@ fn made_document<'a>(alloc: Global, part: Part, octets: &'a [u8]) -> Result<Doc<
     }
 }
 
-/// The sequence that a text is.
+/// Reads the sequence of a text.
 fn sequence_in<'a>(alloc: Global, text: &'a PartText<'_>) -> Result<Vec<SeqItem<'a>>, AskFault>
     ensures read { IfOk result (λ items. OfText text.entry.now (λ v. SeqOf v items.items)) }
     ensures signed { IfOk result (λ items. AreSigned items.items) }
@@ -92,7 +93,7 @@ fn sequence_in<'a>(alloc: Global, text: &'a PartText<'_>) -> Result<Vec<SeqItem<
     }
 }
 
-/// The key that a text is.
+/// Reads the key of a text.
 fn key_in<'a>(alloc: Global, text: &'a PartText<'_>) -> Result<Key<'a>, AskFault>
     ensures read { IfOk result (λ key. OfText text.entry.now (λ v. KeyOf v key)) }
     ensures refused { IfErr result (λ fault. fault ≢ AskFault.Memory → NamesPart Part.Key NamesKey text.entry.now fault) }
@@ -110,7 +111,7 @@ fn key_in<'a>(alloc: Global, text: &'a PartText<'_>) -> Result<Key<'a>, AskFault
     }
 }
 
-/// The request that a text is.
+/// Reads the request of a text.
 fn request_in(alloc: Global, text: &PartText) -> Result<Ground, AskFault>
     ensures read { IfOk result (λ request. OfText text.now (λ v. RequestOf v request)) }
     ensures refused { IfErr result (λ fault. fault ≢ AskFault.Memory → NamesPart Part.Request NamesRequest text.now fault) }
@@ -128,7 +129,7 @@ fn request_in(alloc: Global, text: &PartText) -> Result<Ground, AskFault>
     }
 }
 
-/// The date that the text of a moment is.
+/// Reads the date of a moment's text.
 fn date_in(alloc: Global, text: &PartText) -> Result<Date, AskFault>
     ensures read { IfOk result (λ date. OfText text.now (λ v. DateOf v date)) }
     ensures refused { IfErr result (λ fault. fault ≢ AskFault.Memory → NamesPart Part.Moment NamesMoment text.now fault) }
@@ -146,7 +147,7 @@ fn date_in(alloc: Global, text: &PartText) -> Result<Date, AskFault>
     }
 }
 
-/// The date of a moment.
+/// Reads the date of a moment.
 fn moment_in(alloc: Global, text: &MomentText) -> Result<Date, AskFault>
     ensures read { IfOk result (λ date. IsInstant text.now date) }
     ensures refused { IfErr result (λ fault. fault ≢ AskFault.Memory → NamesInstant text.now fault) }
@@ -158,7 +159,7 @@ fn moment_in(alloc: Global, text: &MomentText) -> Result<Date, AskFault>
     }
 }
 
-/// The sequence that a node is.
+/// Reads the sequence of a node.
 fn sequence_at<'a>(alloc: Global, node: &Node<'_, 'a>) -> Result<Vec<SeqItem<'a>>, AskFault>
     ensures read { IfOk result (λ items. SeqOf node.now items.items) }
     ensures signed { IfOk result (λ items. AreSigned items.items) }
@@ -179,7 +180,7 @@ fn sequence_fault(fault: CertFault) -> AskFault
     }
 }
 
-/// The key that a node is.
+/// Reads the key of a node.
 fn key_at<'a>(node: &Node<'_, 'a>) -> Result<Key<'a>, AskFault>
     ensures read { IfOk result (λ key. KeyOf node.now key) }
     ensures refused { IfErr result (λ fault. fault ≢ AskFault.Memory → NamesKey fault node.now) }
@@ -190,7 +191,7 @@ fn key_at<'a>(node: &Node<'_, 'a>) -> Result<Key<'a>, AskFault>
     }
 }
 
-/// The request that a node is.
+/// Reads the request of a node.
 fn request_at(alloc: Global, node: &Node) -> Result<Ground, AskFault>
     ensures read { IfOk result (λ request. RequestOf node.now request) }
     ensures refused { IfErr result (λ fault. fault ≢ AskFault.Memory → NamesRequest fault node.now) }
@@ -210,7 +211,7 @@ fn request_fault(fault: TagFault) -> AskFault
     }
 }
 
-/// The date that a node is.
+/// Reads the date of a node.
 fn date_of_node(node: &Node) -> Result<Date, AskFault>
     ensures read { IfOk result (λ date. DateOf node.now date) }
     ensures refused { IfErr result (λ fault. fault ≢ AskFault.Memory → NamesMoment fault node.now) }

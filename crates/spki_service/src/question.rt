@@ -1,4 +1,4 @@
-//! What is asked of a guard: four parts, each a text of its own.
+//! The questions that are put to a guard: four parts, each a separate text.
 
 ghost use Rattle.std.specs.Prelude.{◌≡◌};
 ghost use Rattle.spki_service.specs.declared.question.AskFault.TheVariants.{Memory};
@@ -9,17 +9,17 @@ use spki_tag::TagFault;
 use std::alloc::{AllocError, AllocFailed};
 use thiserror::Error;
 
-/// What is asked of a guard: each part is a text of its own, in any of the three forms. No octets of one part can become another
-/// part, since each text has to be one value.
+/// A question that is put to a guard. Each part is a separate text, in any of the three forms. Each text must be one value,
+/// so no octets of one part can become part of another.
 #[derive(Clone, Copy)]
 pub struct Question<'q> {
     /// The sequence that is shown: `(sequence ..)`.
     pub sequence: &'q [u8],
-    /// The key that asks: `(public-key ..)`.
+    /// The client's key: `(public-key ..)`.
     pub key: &'q [u8],
-    /// What it asks for.
+    /// The request.
     pub request: Wanted<'q>,
-    /// When.
+    /// The moment.
     pub moment: Instant<'q>,
 }
 
@@ -28,7 +28,8 @@ pub struct Question<'q> {
 pub enum Wanted<'q> {
     /// As a text.
     Text(&'q [u8]),
-    /// As its strings, each as octets that may come from anywhere: the list of them, or the string where there is one.
+    /// As its strings, each as octets that may come from the client. The request is the list of them, or the string if there
+    /// is only one.
     Words(&'q [&'q [u8]]),
 }
 
@@ -37,7 +38,7 @@ pub enum Wanted<'q> {
 pub enum Instant<'q> {
     /// As the text of a date.
     Text(&'q [u8]),
-    /// As seconds since 1970-01-01 00:00:00 UTC, leap seconds not counted.
+    /// As seconds since 1970-01-01 00:00:00 UTC, without leap seconds.
     Seconds(i64),
 }
 
@@ -58,22 +59,22 @@ pub enum Part {
     Moment,
 }
 
-/// Why a question is refused. The parts are read in the order sequence, key, request, moment, and the first that has no reading
-/// is named, with a fault of its own text.
+/// Why a question is refused. The parts are read in the order sequence, key, request, moment, and the first that cannot be
+/// read is named, with the fault of its own text.
 #[derive(Clone, Copy, Debug, PartialEq, Eq, Error)]
 pub enum AskFault {
     /// The four texts together have too many octets.
     #[error("the texts are too long")]
     TooLong,
-    /// The part is no text of a value within the limits.
+    /// The text of the part has no value within the limits.
     #[error("{part}: form: {fault}")]
     Form {
-        /// Which part.
+        /// The part.
         part: Part,
-        /// What is wrong with its text.
+        /// The fault of its text.
         fault: FormFault,
     },
-    /// The sequence; the fault's item is that of the sequence, from 1.
+    /// The fault of the sequence. Its item is counted in the sequence, from 1.
     #[error("sequence: {0}")]
     Sequence(CertFault),
     /// The key.
@@ -82,10 +83,11 @@ pub enum AskFault {
     /// The request.
     #[error("request: {0}")]
     Request(TagFault),
-    /// The moment. Seconds below -62,167,219,200 or above 253,402,300,799 are `BadDate`: those of no date of the years 0 to 9999.
+    /// The fault of the moment. Seconds below -62,167,219,200 or above 253,402,300,799 are `BadDate`: they have no date in
+    /// the years 0 to 9999.
     #[error("moment: {0}")]
     Moment(CertFaultKind),
-    /// Memory was refused.
+    /// Memory ran out.
     #[error("out of memory")]
     Memory,
 }

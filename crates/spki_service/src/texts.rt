@@ -19,11 +19,11 @@ use std::alloc::Global;
 /// The text of a part, in canonical form.
 #[derive(Drop)]
 pub(crate) enum PartText<'q> {
-    /// It is canonical as it stands: its document.
+    /// The text is canonical itself: its document.
     Standing(Doc<'q>),
     /// The canonical form of its value.
     Made(Vec<u8>),
-    /// It has none.
+    /// There is no such text, for this fault.
     Malformed(FormFault),
 }
 
@@ -32,13 +32,13 @@ pub(crate) enum PartText<'q> {
 pub(crate) enum MomentText<'q> {
     /// The moment was given as a text.
     Text(PartText<'q>),
-    /// It was given as seconds, and this is their date.
+    /// The moment was given as seconds, with this date.
     At(Date),
-    /// It was given as seconds that have none.
+    /// The moment was given as seconds without a date.
     Dateless,
 }
 
-/// The texts of a question's parts, in canonical form; of a part that has none, the fault of its form.
+/// The texts of a question's parts, in canonical form. If a part has no canonical text, the fault of its form.
 #[derive(Drop)]
 pub struct Texts<'q> {
     pub(crate) sequence: PartText<'q>,
@@ -47,13 +47,13 @@ pub struct Texts<'q> {
     pub(crate) moment: MomentText<'q>,
 }
 
-/// The canonical texts of a question's parts. What stands in canonical form already isn't copied. A part that has no canonical text
-/// is no error here: `case_of` names the first part that is wrong.
+/// Returns the canonical texts of a question's parts. A text that is already canonical is not copied. A part without a
+/// canonical text is no error here: `case_of` names the first part that is refused.
 ///
 /// # Errors
 ///
-/// `TooLong` exactly where the four texts together have more than `most_octets` octets, before any of them is read. Strings count
-/// as the canonical form of their value, seconds as that of a date. `Memory` where memory was refused.
+/// `TooLong` exactly if the four texts together have more than `most_octets` octets, before any of them is read. Strings
+/// count as the canonical form of their value, and seconds as that of a date. `Memory` if memory ran out.
 pub(crate) fn texts_of<'q>(
     alloc: Global,
     question: &Question<'q>,
@@ -74,7 +74,7 @@ pub(crate) fn texts_of<'q>(
     })
 }
 
-/// The canonical text of a part's text.
+/// Returns the canonical text of a part's text.
 fn part_text<'q>(alloc: Global, text: &'q [u8]) -> Result<PartText<'q>, AskFault>
     ensures read { IfOk result (IsReadAs (IsTextWithin text.entry.now) (RefusesForm text.entry.now)) }
     ensures only { IfErr result (λ fault. fault ≡ AskFault.Memory) }
@@ -86,7 +86,7 @@ fn part_text<'q>(alloc: Global, text: &'q [u8]) -> Result<PartText<'q>, AskFault
     }
 }
 
-/// The canonical text of a text in any of the three forms, which is made anew.
+/// Returns the canonical text of a text in any of the three forms, in new memory.
 fn converted_text(alloc: Global, text: &[u8]) -> Result<PartText<'static>, AskFault>
     ensures read { IfOk result (IsReadAs (IsTextWithin text.now) (RefusesForm text.now)) }
     ensures only { IfErr result (λ fault. fault ≡ AskFault.Memory) }
@@ -98,7 +98,7 @@ fn converted_text(alloc: Global, text: &[u8]) -> Result<PartText<'static>, AskFa
     }
 }
 
-/// A canonical text that was made, unless it is too long.
+/// Returns a canonical text that was made, unless it is too long.
 fn made_text(octets: Vec<u8>) -> PartText<'static>
     ensures { IsMade octets.items result }
 {
@@ -109,7 +109,7 @@ fn made_text(octets: Vec<u8>) -> PartText<'static>
     }
 }
 
-/// The canonical text of a request.
+/// Returns the canonical text of a request.
 fn wanted_text<'q>(alloc: Global, wanted: &Wanted<'q>) -> Result<PartText<'q>, AskFault>
     ensures read { IfOk result (IsReadAs (IsWanted wanted.now) (RefusesWanted wanted.now)) }
     ensures only { IfErr result (λ fault. fault ≡ AskFault.Memory) }
@@ -120,7 +120,7 @@ fn wanted_text<'q>(alloc: Global, wanted: &Wanted<'q>) -> Result<PartText<'q>, A
     }
 }
 
-/// The text of a moment, or its date.
+/// Returns the text of a moment, or its date.
 fn moment_text<'q>(alloc: Global, moment: &Instant<'q>) -> Result<MomentText<'q>, AskFault>
     ensures read { IfOk result (IsMomentText moment.now) }
     ensures only { IfErr result (λ fault. fault ≡ AskFault.Memory) }
@@ -131,7 +131,7 @@ fn moment_text<'q>(alloc: Global, moment: &Instant<'q>) -> Result<MomentText<'q>
     }
 }
 
-/// The date of seconds.
+/// Returns the date of seconds.
 fn seconds_text(seconds: &i64) -> MomentText<'static>
     ensures { IsMomentText (Instant.Seconds seconds.now) result }
 {

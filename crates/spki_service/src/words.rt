@@ -1,4 +1,4 @@
-//! Requests that are given as strings.
+//! Requests as strings.
 
 ghost use Rattle.std.specs.Prelude.{◌≡◌, map, IfOk};
 ghost use Rattle.sexpr_core.specs.Value.{canon};
@@ -7,7 +7,7 @@ ghost use Rattle.spki_service.specs.Questions.{words_value};
 use sexpr_core::syntax::append_verbatim;
 use std::alloc::{AllocError, Global};
 
-/// The canonical text of strings: that of the list of them, or of the string where there is one.
+/// Returns the canonical text of strings: that of the list of them, or of the string if there is only one.
 pub(crate) fn words_text(alloc: Global, words: &[&[u8]]) -> Result<Vec<u8>, AllocError>
     ensures { IfOk result (λ out. out.items ≡ canon (words_value (map (λ w. w.now) words.now))) }
 {

@@ -1,5 +1,5 @@
--- Which fault a value is refused for as a tag or as a request: the first of what is looked at, depth first from the
--- left (RFC 2693, section 6.3.1).
+-- The fault for which a value is refused as a tag or as a request: the first one, depth first from the left (RFC 2693,
+-- section 6.3.1).
 use Rattle.std.specs.Prelude.{◌≡◌, ◌⊎◌, ℕ, ◌+◌, Bool, true, false, not, ◌&&◌, ◌||◌, if◌then◌else◌, nat_lt, List, [], ◌∷◌, ◌++◌, map, Option, Some, None, codes}
 use Rattle.std.specs.List.{list_any}
 use Rattle.std.specs.Str.{bytes_eq}
@@ -12,8 +12,8 @@ use Rattle.spki_tag.specs.Faults.{is_word}
 -- ---- the tags in a written tag
 
 abbrev mutual
-  -- The tags in a written tag, itself first, depth first from the left. Those in a list are its members, the head
-  -- among them, and those in a set what is behind `set`. In another list that begins with the star there are none.
+  -- The tags in a written tag, itself first, depth first from the left. The tags in a list are its members, with the head,
+  -- and the tags in a set are the members behind `set`. Any other list that begins with the star contains none.
   pub tags_in : Value → List Value
   tags_in (string hint octets) = string hint octets ∷ []
   tags_in (list vs) = list vs ∷ tags_in_list vs
@@ -30,7 +30,7 @@ abbrev mutual
   tags_in_all none = []
   tags_in_all (more v vs) = tags_in v ++ tags_in_all vs
 
--- ---- what is wrong with one tag, apart from the tags in it
+-- ---- the fault of one tag, apart from the tags in it
 
 -- a string with a display hint
 abbrev pub is_hinted : Value → Bool
@@ -38,7 +38,7 @@ is_hinted (string None octets) = false
 is_hinted (string (Some hint) octets) = true
 is_hinted (list vs) = false
 
--- a string without display hint
+-- a string without a display hint
 abbrev pub is_plain : Value → Bool
 is_plain (string None octets) = true
 is_plain (string (Some hint) octets) = false
@@ -48,7 +48,7 @@ is_plain (list vs) = false
 abbrev pub is_limit : List ℕ → List ℕ → Value → Value → Bool
 is_limit above from word limit = is_plain limit && (is_word above word || is_word from word)
 
--- at most a lower limit, and then at most an upper one
+-- at most one lower limit, and then at most one upper limit
 abbrev pub are_limits : List Value → Bool
 are_limits [] = true
 are_limits (v ∷ []) = false
@@ -60,18 +60,18 @@ are_limits (v ∷ w ∷ x ∷ y ∷ z ∷ vs) = false
 abbrev pub is_ordering : List ℕ → Bool
 is_ordering name = bytes_eq name (codes "alpha") || bytes_eq name (codes "time") || bytes_eq name (codes "date")
 
--- with what is behind the ordering of a range: a hint is looked for first
+-- the fault of the members behind the ordering of a range; a hint is looked for first
 abbrev pub limits_fault : List Value → Option TagFault
 limits_fault vs = first_fault (unless (not (list_any is_hinted vs)) Hint ∷ unless (are_limits vs) RangeLimit ∷ [])
 
--- with what is behind `*` and `range`
+-- the fault of the members behind `*` and `range`
 abbrev pub range_fault : List Value → Option TagFault
 range_fault [] = Some RangeOrdering
 range_fault (list us ∷ vs) = Some RangeOrdering
 range_fault (string (Some hint) octets ∷ vs) = Some Hint
 range_fault (string None name ∷ vs) = if is_ordering name then limits_fault vs else Some RangeOrdering
 
--- with what is behind `*` and `prefix`
+-- the fault of the members behind `*` and `prefix`
 abbrev pub prefix_fault : List Value → Option TagFault
 prefix_fault [] = Some UnknownStar
 prefix_fault (list us ∷ []) = Some UnknownStar
@@ -79,7 +79,7 @@ prefix_fault (string (Some hint) octets ∷ []) = Some Hint
 prefix_fault (string None octets ∷ []) = None
 prefix_fault (v ∷ w ∷ vs) = Some UnknownStar
 
--- with what is behind `*` and this word
+-- the fault of the members behind `*` and this word
 abbrev pub form_fault : List ℕ → List Value → Option TagFault
 form_fault word vs =
     if bytes_eq word (codes "set") then None
@@ -87,21 +87,21 @@ form_fault word vs =
     else if bytes_eq word (codes "range") then range_fault vs
     else Some UnknownStar
 
--- with what is behind `*`
+-- the fault of the members behind `*`
 abbrev pub star_fault : List Value → Option TagFault
 star_fault [] = None
 star_fault (list us ∷ vs) = Some UnknownStar
 star_fault (string (Some hint) octets ∷ vs) = Some Hint
 star_fault (string None word ∷ vs) = form_fault word vs
 
--- with a list of these members
+-- the fault of a list of these members
 abbrev pub list_fault : List Value → Option TagFault
 list_fault [] = Some EmptyList
 list_fault (list us ∷ vs) = Some ListHead
 list_fault (string (Some hint) octets ∷ vs) = Some Hint
 list_fault (string None head ∷ vs) = if bytes_eq head (codes "*") then star_fault vs else None
 
--- with a tag
+-- the fault of a tag
 abbrev pub own_fault : Value → Option TagFault
 own_fault (string None octets) = None
 own_fault (string (Some hint) octets) = Some Hint
@@ -109,8 +109,8 @@ own_fault (list vs) = list_fault (members vs)
 
 -- ---- the fault of a tag
 
--- What is looked at in some tags, before which so many nodes were counted: each is counted, the 1,025th being one too
--- many, and then looked at by itself.
+-- What is tested in some tags, if so many nodes were counted before them. Each tag is counted, and the 1,025th is one too
+-- many; then the tag itself is tested.
 abbrev pub looks : ℕ → List Value → List (Option TagFault)
 looks n [] = []
 looks n (v ∷ vs) = unless (nat_lt n 1024) TooManyNodes ∷ own_fault v ∷ looks (n + 1) vs
@@ -121,24 +121,24 @@ tag_fault v = first_fault (looks 0 (tags_in v))
 
 -- ---- the fault of a request
 
--- what is wrong with a list of these members, apart from its members
+-- the fault of a list of these members, apart from the faults of the members
 abbrev pub group_fault : List Value → Option TagFault
 group_fault [] = Some EmptyList
 group_fault (list us ∷ vs) = Some ListHead
 group_fault (string (Some hint) octets ∷ vs) = Some Hint
 group_fault (string None head ∷ vs) = unless (not (bytes_eq head (codes "*"))) StarInRequest
 
--- the same of a string or a list
+-- the same for a string or a list
 abbrev pub part_fault : Value → Option TagFault
 part_fault (string None octets) = None
 part_fault (string (Some hint) octets) = Some Hint
 part_fault (list vs) = group_fault (members vs)
 
--- The first fault of the value as a request, or None: each of its parts is looked at, and none is counted.
+-- The first fault of the value as a request, or None. Each of its parts is tested, and none is counted.
 unfoldable pub request_fault : Value → Option TagFault
 request_fault v = first_fault (map part_fault (nodes v))
 
--- ---- the fault that a reader names
+-- ---- the fault that a reader returns
 
 -- The fault is the one that was found, or memory ran out.
 unfoldable pub IsNamed : TagFault → Option TagFault → Type 0

@@ -1,4 +1,4 @@
--- What each fault says of the value that is refused as a tag or as a request (RFC 2693, section 6.3.1).
+-- What each fault means for the value that is refused as a tag or as a request (RFC 2693, section 6.3.1).
 use Rattle.std.specs.Prelude.{◌≡◌, ◌≢◌, ℕ, ◌+◌, ◌<◌, Bool, false, if◌then◌else◌, List, [], ◌∷◌, ◌++◌, Option, Some, None, Contains, codes}
 use Rattle.std.specs.Str.{bytes_eq}
 use Rattle.sexpr_core.specs.Value.{Value, Values, string, list, none, more, plain, values, group, nodes}
@@ -6,7 +6,7 @@ use Rattle.spki_tag.specs.declared.fault.TagFault.{TagFault}
 use Rattle.spki_tag.specs.declared.fault.TagFault.TheVariants as faults
 use Rattle.spki_tag.specs.Tag.{Ordering, Limit, ordering_name, low_values, up_values, starred}
 
--- ---- what a part of the value is
+-- ---- parts of the value
 
 abbrev pub IsEmptyList : Value → Type 0
 IsEmptyList w = w ≡ group []
@@ -29,7 +29,7 @@ pub data IsUnknownStar (w : Value) : Type 0 where
   other_word :
       (word : List ℕ) (vs : List Value) → word ≢ codes "set" → word ≢ codes "prefix" → word ≢ codes "range"
       → w ≡ starred word (values vs) → IsUnknownStar w
-  -- what is behind the word isn't just one string
+  -- the members behind the word are not exactly one string
   no_prefix :
       (vs : List Value) → ((hint : Option (List ℕ)) (octets : List ℕ) → vs ≢ string hint octets ∷ [])
       → w ≡ starred (codes "prefix") (values vs) → IsUnknownStar w
@@ -42,11 +42,11 @@ pub data IsUnordered (w : Value) : Type 0 where
       (name : List ℕ) (vs : List Value) → ((ordering : Ordering) → name ≢ ordering_name ordering)
       → w ≡ starred (codes "range") (values (plain name ∷ vs)) → IsUnordered w
 
--- not at most a lower limit and then at most an upper one
+-- the values are not at most one lower limit and then at most one upper limit
 abbrev pub AreNoLimits : List Value → Type 0
 AreNoLimits vs = (low up : Option Limit) → low_values low ++ up_values up ≢ vs
 
--- a range with an ordering, but with other limits
+-- a range with an ordering, but with malformed limits
 abbrev pub IsUnlimited : Value → Type 0
 IsUnlimited w =
     (ordering : Ordering) × (vs : List Value) × AreNoLimits vs
@@ -54,15 +54,15 @@ IsUnlimited w =
 
 -- ---- nodes
 
--- a word without display hint
+-- a word without a display hint
 abbrev pub is_word : List ℕ → Value → Bool
 is_word word (string None octets) = bytes_eq octets word
 is_word word (string (Some hint) octets) = false
 is_word word (list vs) = false
 
 abbrev mutual
-  -- How many nodes of tags stand in a value: a string and a list are one, and so are the members of a list in all,
-  -- its head among them, and those of a set. Of another list that begins with the star no member counts.
+  -- The number of nodes of tags in a value. A string is one. A list is one plus the nodes of its members, with the head, and
+  -- a set one plus the nodes of its members. Any other list that begins with the star counts as one, without its members.
   pub tag_nodes : Value → ℕ
   tag_nodes (string hint octets) = 1
   tag_nodes (list vs) = 1 + list_nodes vs
@@ -81,11 +81,11 @@ abbrev mutual
 
 -- ---- faults
 
--- one of some values is so
+-- some of the values is so
 abbrev pub SomeIs : (Value → Type 0) → List Value → Type 0
 SomeIs P vs = (w : Value) × Contains vs w × P w
 
--- What a fault says of a tag, or of several, with these parts and so many nodes.
+-- What a fault means for a tag, or for several, with these parts and so many nodes.
 abbrev pub TagShowsIn : TagFault → List Value → ℕ → Type 0
 TagShowsIn faults.EmptyList parts count = SomeIs IsEmptyList parts
 TagShowsIn faults.ListHead parts count = SomeIs BeginsWithList parts
@@ -97,12 +97,12 @@ TagShowsIn faults.TooManyNodes parts count = 1024 < count
 TagShowsIn faults.StarInRequest parts count = ⊥
 TagShowsIn faults.Memory parts count = Unit {0}
 
--- What a fault says of the value that is refused as a tag: the value or a part of it is so, or there are more than
--- 1,024 nodes. Memory says nothing of it.
+-- What a fault means for the value that is refused as a tag: the value or a part of it is so, or there are more than 1,024
+-- nodes. Memory means nothing for the value.
 abbrev pub TagShows : TagFault → Value → Type 0
 TagShows fault v = TagShowsIn fault (nodes v) (tag_nodes v)
 
--- what a fault says of a request, or of several, with these parts
+-- what a fault means for a request, or for several, with these parts
 abbrev pub RequestShowsIn : TagFault → List Value → Type 0
 RequestShowsIn faults.EmptyList parts = SomeIs IsEmptyList parts
 RequestShowsIn faults.ListHead parts = SomeIs BeginsWithList parts
@@ -114,6 +114,6 @@ RequestShowsIn faults.RangeLimit parts = ⊥
 RequestShowsIn faults.TooManyNodes parts = ⊥
 RequestShowsIn faults.Memory parts = Unit {0}
 
--- What a fault says of the value that is refused as a request: the value or a part of it is so.
+-- What a fault means for the value that is refused as a request: the value or a part of it is so.
 abbrev pub RequestShows : TagFault → Value → Type 0
 RequestShows fault v = RequestShowsIn fault (nodes v)

@@ -1,4 +1,4 @@
--- What the parts of a request are seen as.
+-- How the parts of a request are represented.
 use Rattle.spki_tag.specs.declared.request.GroundNode.{GroundNode}
 use Rattle.spki_tag.specs.declared.request.GroundNode.TheVariants.{String, List}
 use Rattle.spki_tag.specs.Request.{Request, requests, string, list}

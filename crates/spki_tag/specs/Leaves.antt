@@ -1,4 +1,4 @@
--- What a tag without members is seen as.
+-- How a tag without members is represented.
 use Rattle.std.specs.Prelude.{Option, Some, None}
 use Rattle.std.specs.Arc.{arc_slice_items}
 use Rattle.spki_tag.specs.declared.leaf.RangeOrdering.{RangeOrdering}

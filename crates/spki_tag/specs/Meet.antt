@@ -1,13 +1,14 @@
--- The intersection of two tags (RFC 2693, section 6.3.1): the tag that contains what both contain. The standard leaves
--- the forms open that have no simple intersection; here they are settled so that every two tags have one:
---   a star leaves the other; sets meet member by member, and a member that contains nothing is dropped;
---   two strings are equal, or leave nothing; a string is in a prefix or a range, or leaves nothing;
---   of two prefixes one starts with the other, or they leave nothing;
---   of two ranges the greater lower limit and the lesser upper limit are kept, unless they exclude each other; strings
---   of any ordering meet times in times and dates in dates, and no string is both a time and a date;
---   a prefix is the range of the strings from itself to below the least string above all that start with it;
---   two lists with one head meet place by place, what is missing at an end not being restricted;
---   all else leaves nothing.
+-- The intersection of two tags (RFC 2693, section 6.3.1): the tag that contains the requests that both contain. The standard
+-- leaves open the forms without a simple intersection. Here every two tags have one:
+-- - A star and a tag: the tag. Sets: member by member, and a result that contains nothing is dropped.
+-- - Two strings: the string, if they are equal. A string and a prefix or range: the string, if it is contained.
+-- - Two prefixes: the longer, if it starts with the shorter.
+-- - Two ranges: the greater lower limit and the lesser upper limit, unless they exclude each other. A range of any strings
+--   and a range of times or dates: a range of the latter. No string is both a time and a date.
+-- - A prefix and a range: the prefix is the range from itself to below the least string above all strings that start with
+--   it.
+-- - Two lists with the same head: place by place. A missing place at the end of one list does not restrict the other.
+-- - Any other two tags have no request in common.
 use Rattle.std.specs.Prelude.{ℕ, ◌+◌, Bool, true, false, ◌||◌, not, nat_eq, nat_lt, if◌then◌else◌, List, [], ◌∷◌, ◌++◌, Option, Some, None}
 use Rattle.std.specs.List.{starts_with}
 use Rattle.std.specs.Str.{bytes_eq}
@@ -16,19 +17,19 @@ use Rattle.spki_tag.specs.Tag.{Tag, Tags, tags, Limit, Ordering, alpha, time, da
 
 -- ---- limits
 
--- the greater of two lower limits; at equal strings the strict one; a missing one gives way
+-- the greater of two lower limits; for equal strings the strict one; if one is missing, the other
 abbrev pub greater_low : Option Limit → Option Limit → Option Limit
 greater_low None m = m
 greater_low (Some l) None = Some l
 greater_low (Some l) (Some m) = if is_within (not l.strict) m.octets l.octets then Some l else Some m
 
--- the lesser of two upper limits; at equal strings the strict one; a missing one gives way
+-- the lesser of two upper limits; for equal strings the strict one; if one is missing, the other
 abbrev pub lesser_up : Option Limit → Option Limit → Option Limit
 lesser_up None m = m
 lesser_up (Some l) None = Some l
 lesser_up (Some l) (Some m) = if is_within (not l.strict) l.octets m.octets then Some l else Some m
 
--- the lower string is greater, or they are equal and one limit is strict
+-- the lower string is greater than the upper one, or they are equal and one limit is strict
 abbrev pub exclude : Option Limit → Option Limit → Bool
 exclude None up = false
 exclude (Some l) None = false
@@ -36,7 +37,7 @@ exclude (Some l) (Some u) = not (is_within (l.strict || u.strict) l.octets u.oct
 
 -- ---- ranges
 
--- the ordering of the strings that two orderings are of; times and dates have none in common
+-- the ordering of the strings that are in both orderings; no string is both a time and a date
 abbrev pub ordering_meet : Ordering → Ordering → Option Ordering
 ordering_meet alpha p = Some p
 ordering_meet time alpha = Some time
@@ -60,8 +61,8 @@ abbrev pub above_from : ℕ → Option (List ℕ) → Option (List ℕ)
 above_from octet None = if nat_lt octet 255 then Some ((octet + 1) ∷ []) else None
 above_from octet (Some q) = Some (octet ∷ q)
 
--- the least string of octets above all that start with a string: the string without its last octets FF, the last
--- octet then one greater; none if there are no others
+-- the least string above all that start with a string: the string without its last octets FF, with the last octet then
+-- increased by one; None if no octet is left
 abbrev pub least_above : List ℕ → Option (List ℕ)
 least_above [] = None
 least_above (octet ∷ octets) = above_from octet (least_above octets)
@@ -70,13 +71,13 @@ abbrev pub strict_limit : Option (List ℕ) → Option Limit
 strict_limit None = None
 strict_limit (Some octets) = Some (record { strict = true; octets = octets })
 
--- at least a string
+-- the lower limit at a string, which it includes
 abbrev pub from : List ℕ → Option Limit
 from octets = Some (record { strict = false; octets = octets })
 
 -- ---- tags without members
 
--- a string, if a tag contains it
+-- the string, if the tag contains it
 abbrev pub string_meet : List ℕ → Tag → Tag
 string_meet octets t = if contains t (request.string octets) then string octets else nothing
 
@@ -109,7 +110,7 @@ abbrev pub items : Tags → List Tag
 items none = []
 items (more t ts) = t ∷ items ts
 
--- what a set's result is made of: all but (* set)
+-- the results that are kept in a set: all except (* set)
 abbrev pub kept : Tag → List Tag → List Tag
 kept t ts = if is_nothing t then ts else t ∷ ts
 
@@ -117,7 +118,7 @@ abbrev pub row : (Tag → Tag) → Tags → List Tag
 row f none = []
 row f (more b bs) = kept (f b) (row f bs)
 
--- none is (* set), one is itself, more are a set
+-- no result is (* set), one result is itself, more are a set
 abbrev pub gather : List Tag → Tag
 gather [] = nothing
 gather (t ∷ []) = t
@@ -127,7 +128,7 @@ abbrev pub has_nothing : List Tag → Bool
 has_nothing [] = false
 has_nothing (t ∷ ts) = is_nothing t || has_nothing ts
 
--- a list, unless a member contains nothing
+-- a list, unless a member is (* set)
 abbrev pub listed : List ℕ → List Tag → Tag
 listed head ts = if has_nothing ts then nothing else list head (tags ts)
 
@@ -139,7 +140,7 @@ list_meet head f (prefix octets) = nothing
 list_meet head f (range ordering low up) = nothing
 list_meet head f (set members) = nothing
 
--- what a tag that is no set leaves of another, given what it leaves of those that are neither a set nor a star
+-- the intersection of a tag that is no set with another tag; f is its intersection with tags that are no set and no star
 abbrev pub across : Tag → (Tag → Tag) → Tag → Tag
 across a f star = a
 across a f (string octets) = f (string octets)
@@ -148,7 +149,7 @@ across a f (range ordering low up) = f (range ordering low up)
 across a f (list head further) = f (list head further)
 across a f (set members) = gather (row f members)
 
--- what a set leaves of another tag, given the results of its pairs
+-- the intersection of a set with another tag, given the results of its pairs
 abbrev pub set_across : Tags → (Tags → List Tag) → Tag → Tag
 set_across ms f star = set ms
 set_across ms f (string octets) = gather (f (more (string octets) none))
@@ -158,7 +159,7 @@ set_across ms f (list head further) = gather (f (more (list head further) none))
 set_across ms f (set bs) = gather (f bs)
 
 abbrev mutual
-  -- what two tags leave together
+  -- the intersection of two tags
   pub meet : Tag → Tag → Tag
   meet star b = b
   meet (string octets) b = across (string octets) (string_meet octets) b
@@ -167,13 +168,13 @@ abbrev mutual
   meet (list head ts) b = across (list head ts) (list_meet head (each_meet ts)) b
   meet (set ms) b = set_across ms (pairs ms) b
 
-  -- member by member; the longer one's further members stay
+  -- member by member; the further members of the longer list are kept
   pub each_meet : Tags → Tags → List Tag
   each_meet none us = items us
   each_meet (more t ts) none = t ∷ items ts
   each_meet (more t ts) (more u us) = meet t u ∷ each_meet ts us
 
-  -- each member of the one with each of the other
+  -- each member of the first with each of the second
   pub pairs : Tags → Tags → List Tag
   pairs none bs = []
   pairs (more a ms) bs = row (meet a) bs ++ pairs ms bs

@@ -1,4 +1,4 @@
--- Each member has fewer nodes than what it is in.
+-- Each member has fewer nodes than the tag that contains it.
 use Rattle.std.specs.Prelude.{◌+◌, ◌≤◌, max, List, [], ◌∷◌}
 use Rattle.std.proofs.Common.{arith}
 use denote.Param.Weighed.{most}

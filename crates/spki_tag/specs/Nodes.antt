@@ -1,4 +1,4 @@
--- What a node of a tag is seen as.
+-- How a node of a tag is represented.
 use Rattle.std.specs.Prelude.{◌≡◌}
 use Rattle.std.specs.Arc.{arc_slice_items}
 use Rattle.spki_tag.specs.declared.tag.Node.{Node}
@@ -11,7 +11,7 @@ node_tag (Leaf leaf) = leaf_tag leaf
 node_tag (List head further count) = list (arc_slice_items head) (tags further.items)
 node_tag (Set members count) = set (tags members.items)
 
--- the number beside members is that of the node's own nodes
+-- the number beside the members is the number of nodes of this node
 abbrev pub IsCounted : Node → Type 0
 IsCounted (Leaf leaf) = Unit {0}
 IsCounted (List head further count) = count ≡ nodes (list (arc_slice_items head) (tags further.items))

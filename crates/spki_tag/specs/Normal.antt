@@ -1,14 +1,14 @@
--- The normal form that a tag is read in (RFC 2693, section 6.3.1, has sets of tags at any place). It is made from the
--- inside out: the members of a set in a set are put in its place; a set with a member (*) is (*); a set with one member
--- is that member; a list with a member (* set) is (* set). The order stays, and so do repeated members, and ranges as
--- they are written, also without members.
+-- The normal form of a tag that is read (RFC 2693, section 6.3.1, has sets of tags at any place). It is made from the inside
+-- out. The members of a set in a set replace it. A set with a member (*) is (*). A set with one member is that member. A
+-- list with a member (* set) is (* set). The order does not change, repeated members are kept, and ranges are kept as
+-- written, also if they contain nothing.
 use Rattle.std.specs.Prelude.{List, [], ◌∷◌, ◌++◌, if◌then◌else◌}
 use Rattle.std.specs.List.{list_any}
 use Rattle.spki_tag.specs.Tag.{Tag, Tags, star, string, prefix, range, list, set, none, more, is_star}
 use Rattle.spki_tag.specs.Meet.{gather, listed}
 use Rattle.spki_tag.specs.Index.{members}
 
--- the members of each set in its place, and each tag that is no set in its own
+-- the members of each set in its place, and each tag that is no set in its own place
 abbrev pub spread : List Tag → List Tag
 spread [] = []
 spread (t ∷ ts) = members t ++ spread ts
@@ -26,7 +26,7 @@ abbrev mutual
   normal (list head further) = listed head (normals further)
   normal (set members) = set_of (spread (normals members))
 
-  -- of each, in order
+  -- the normal form of each, in order
   pub normals : Tags → List Tag
   normals none = []
   normals (more t ts) = normal t ∷ normals ts

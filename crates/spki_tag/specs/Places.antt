@@ -1,4 +1,4 @@
--- What an index of the members of a tag keeps.
+-- What an index of the members of a tag contains.
 use Rattle.std.specs.Prelude.{◌≡◌, ℕ, ◌++◌, nat_lt, Bool, true, false, if◌then◌else◌, List, [], ◌∷◌, Vec}
 use Rattle.std.specs.Borrow.{Bor}
 use Rattle.std.specs.BTreeMap.{BTreeMap, get_by}
@@ -13,58 +13,58 @@ use Rattle.spki_tag.specs.declared.index.PlacesByKind.{PlacesByKind}
 use Rattle.spki_tag.specs.Tag.{Tag}
 use Rattle.spki_tag.specs.Index.{Kind, any, strings, one, lists, kind, kinds_share, places_where}
 
--- the kind that is seen
+-- the kind that is represented
 abbrev pub kind_of : KindSeen → Kind
 kind_of Any = any
 kind_of Strings = strings
 kind_of (One octets) = one octets.now
 kind_of (Lists head) = lists head.now
 
--- ---- kinds with places of their own
+-- ---- kinds with a list of places
 
--- it may have any request
+-- the tag may contain any request
 abbrev pub is_any : Kind → Bool
 is_any any = true
 is_any strings = false
 is_any (one octets) = false
 is_any (lists head) = false
 
--- it may have more strings than one
+-- the tag may contain more than one string
 abbrev pub has_many_strings : Kind → Bool
 has_many_strings any = true
 has_many_strings strings = true
 has_many_strings (one octets) = false
 has_many_strings (lists head) = false
 
--- it has this string
+-- the tag contains this string
 abbrev pub is_one : List ℕ → Kind → Bool
 is_one octets any = false
 is_one octets strings = false
 is_one octets (one other) = bytes_eq octets other
 is_one octets (lists head) = false
 
--- it has lists with this head
+-- the tag contains lists with this head
 abbrev pub is_lists : List ℕ → Kind → Bool
 is_lists head any = false
 is_lists head strings = false
 is_lists head (one octets) = false
 is_lists head (lists other) = bytes_eq head other
 
--- it may have a string
+-- the tag may contain a string
 abbrev pub has_strings : Kind → Bool
 has_strings k = kinds_share strings k
 
 -- ---- places
 
--- the places at a string
+-- the places of a string
 abbrev pub found_at : BTreeMap (Bor (List ℕ)) (Vec ℕ Global) → List ℕ → List ℕ
 found_at m q = option_map_or (λ places. places.items) (get_by (λ k. slice_cmp nat_cmp q k.now) m) []
 
--- the place, where a test is true
+-- the place, if a test is true
 abbrev pub place_if : Bool → ℕ → List ℕ
 place_if b n = if b then n ∷ [] else []
 
--- The places are those of some tags, the first place being 1.
+-- The places are those of these tags; the first place is 1.
 pub record ArePlacesOf (s : PlacesByKind) (ts : List Tag) : Type 0 where
   pub strings : (q : List ℕ) → found_at s.strings q ≡ places_where (λ t. is_one q (kind t)) 1 ts
   pub lists : (q : List ℕ) → found_at s.lists q ≡ places_where (λ t. is_lists q (kind t)) 1 ts
@@ -73,7 +73,7 @@ pub record ArePlacesOf (s : PlacesByKind) (ts : List Tag) : Type 0 where
   pub any : s.any.items ≡ places_where (λ t. is_any (kind t)) 1 ts
   pub all : s.all.items ≡ places_where (λ t. true) 1 ts
 
--- The place of a tag of some kind came behind the others.
+-- The place of a tag of this kind was added behind the others.
 pub record IsAdded (old new : PlacesByKind) (k : Kind) (place : ℕ) : Type 0 where
   pub strings : (q : List ℕ) → found_at new.strings q ≡ found_at old.strings q ++ place_if (is_one q k) place
   pub lists : (q : List ℕ) → found_at new.lists q ≡ found_at old.lists q ++ place_if (is_lists q k) place
@@ -82,14 +82,14 @@ pub record IsAdded (old new : PlacesByKind) (k : Kind) (place : ℕ) : Type 0 wh
   pub any : new.any.items ≡ old.any.items ++ place_if (is_any k) place
   pub all : new.all.items ≡ old.all.items ++ place ∷ []
 
--- ---- joining
+-- ---- merging
 
--- x before what is behind it and ys, joined
+-- x before the lists behind it, merged with ys
 abbrev weave : ℕ → (List ℕ → List ℕ) → List ℕ → List ℕ
 weave x f [] = x ∷ f []
 weave x f (y ∷ ys) = if nat_lt x y then x ∷ f (y ∷ ys) else y ∷ weave x f ys
 
--- two lists in increasing order, joined in that order
+-- two increasing lists, merged in increasing order
 abbrev pub merge : List ℕ → List ℕ → List ℕ
 merge [] ys = ys
 merge (x ∷ xs) ys = weave x (merge xs) ys

@@ -1,4 +1,4 @@
--- What a reading of a tag means.
+-- What reading a tag returns.
 use Rattle.std.specs.Prelude.{◌≡◌, ℕ, ◌≤◌}
 use Rattle.spki_tag.specs.declared.fault.TagFault.{TagFault}
 use Rattle.spki_tag.specs.declared.fault.TagFault.TheVariants as faults
@@ -8,12 +8,12 @@ use Rattle.spki_tag.specs.Normal.{normal}
 use Rattle.spki_tag.specs.NormalForm.{IsNormalOf}
 use Rattle.spki_tag.specs.Tag.{Tag, IsTag, tag_value, nodes}
 
--- the most nodes that a tag has where it is read
+-- the most nodes that a tag may have when it is read
 abbrev pub most_read : ℕ
 most_read = 1024
 
--- The value is a written tag w of at most 1,024 nodes, and t is its normal form (RFC 2693, section 6.3.1): a tag in
--- normal form, with the same requests and no more nodes.
+-- The value is a written tag w of at most 1,024 nodes, and t is its normal form (RFC 2693, section 6.3.1): a tag in normal
+-- form with the same requests and no more nodes.
 pub record ReadsAs (v : Value) (t : Tag) : Type 0 where
   pub w : Tag
   pub written : IsTag w

@@ -1,4 +1,4 @@
--- Requests: what is requested for, and what a tag contains or does not (RFC 2693, section 6.3.1).
+-- Requests, and which requests a tag contains (RFC 2693, section 6.3.1).
 use Rattle.std.specs.Prelude.{◌≢◌, ℕ, ◌+◌, ◌<◌, List, [], ◌∷◌, All, codes}
 use Rattle.sexpr_core.specs.Value as value
 use Rattle.sexpr_core.specs.Value.{Value, Values, plain}
@@ -22,7 +22,7 @@ requests (g ∷ gs) = more g (requests gs)
 abbrev pub AreOctets : List ℕ → Type 0
 AreOctets octets = All (λ octet. octet < 256) octets
 
--- What a plain list begins with: any string but the star, which begins the other tags.
+-- What a plain list begins with: any string except the star, which begins the other tags.
 abbrev pub IsHead : List ℕ → Type 0
 IsHead head = head ≢ codes "*"
 
@@ -36,7 +36,7 @@ abbrev mutual
   AreRequests (more g gs) = IsRequest g × AreRequests gs
 
 abbrev mutual
-  -- the S-expression that a request is
+  -- the S-expression of a request
   pub request_value : Request → Value
   request_value (string octets) = plain octets
   request_value (list head further) = value.list (value.more (plain head) (request_values further))
@@ -46,7 +46,7 @@ abbrev mutual
   request_values (more g gs) = value.more (request_value g) (request_values gs)
 
 abbrev mutual
-  -- how many strings and lists a request has
+  -- the number of strings and lists in a request
   pub request_size : Request → ℕ
   request_size (string octets) = 1
   request_size (list head further) = 2 + requests_size further

@@ -1,4 +1,4 @@
--- What the steps of the readers find.
+-- The results of the readers' steps.
 use Rattle.std.specs.Prelude.{◌≡◌, ◌≢◌, ℕ, ◌+◌, ◌≤◌, List, ◌∷◌, ◌++◌, map, Option, Some, codes}
 use Rattle.spki_tag.specs.declared.fault.TagFault.{TagFault}
 use Rattle.sexpr_core.specs.Value.{Value, values, plain}
@@ -13,24 +13,24 @@ use Rattle.spki_tag.specs.Normal.{normal, normals}
 
 -- ---- tags
 
--- what a fault says of a tag before which so many nodes were counted
+-- what a fault means for a tag, if so many nodes were counted before it
 abbrev pub TagShowsAfter : ℕ → TagFault → Value → Type 0
 TagShowsAfter used fault v = TagShowsIn fault (value.nodes v) (used + tag_nodes v)
 
--- the same of the members of a list
+-- the same for the members of a list
 abbrev pub TagsShowAfter : ℕ → TagFault → List Value → Type 0
 TagsShowAfter used fault vs =
     TagShowsIn fault (value.nodes_all (values vs)) (used + tag_nodes_all (values vs))
 
--- the first fault of a tag before which so many nodes were counted
+-- the first fault of a tag, if so many nodes were counted before it
 unfoldable pub fault_after : ℕ → Value → Option TagFault
 fault_after used v = first_fault (looks used (tags_in v))
 
--- the same of the members of a list
+-- the same for the members of a list
 unfoldable pub fault_after_all : ℕ → List Value → Option TagFault
 fault_after_all used vs = first_fault (looks used (tags_in_all (values vs)))
 
--- A value was read as a tag w, whose normal form is t, with so many nodes counted before and after it.
+-- A value was read as a tag w with the normal form t; so many nodes were counted before it and after it.
 pub record IsRead (used : ℕ) (v : Value) (t : Tag) (after : ℕ) : Type 0 where
   pub w : Tag
   pub written : IsTag w
@@ -39,7 +39,7 @@ pub record IsRead (used : ℕ) (v : Value) (t : Tag) (after : ℕ) : Type 0 wher
   pub counted : after ≡ used + nodes w
   pub few : after ≤ most_read
 
--- the same of the members of a list
+-- the same for the members of a list
 pub record AreRead (used : ℕ) (vs : List Value) (ts : List Tag) (after : ℕ) : Type 0 where
   pub ws : List Tag
   pub written : AreTags (tags ws)
@@ -50,7 +50,7 @@ pub record AreRead (used : ℕ) (vs : List Value) (ts : List Tag) (after : ℕ) 
 
 -- ---- ranges
 
--- what a fault says of a range whose ordering this is
+-- what a fault means for a range with this ordering
 abbrev pub OrderingShows : TagFault → Value → Type 0
 OrderingShows fault v = (vs : List Value) → TagShows fault (starred (codes "range") (values (v ∷ vs)))
 
@@ -62,14 +62,14 @@ IsNoLimit strict inclusive vs = (limit : Limit) → limit_values strict inclusiv
 abbrev pub AreLimits : Option Limit → Option Limit → List Value → Type 0
 AreLimits low up vs = low_values low ++ up_values up ≡ vs
 
--- what a fault says of a range with these limits
+-- what a fault means for a range with these limits
 abbrev pub LimitsShow : TagFault → List Value → Type 0
 LimitsShow fault vs =
     (ordering : Ordering) → TagShows fault (starred (codes "range") (values (plain (ordering_name ordering) ∷ vs)))
 
 -- ---- requests
 
--- what a fault says of the members of a list
+-- what a fault means for the members of a list
 abbrev pub RequestsShow : TagFault → List Value → Type 0
 RequestsShow fault vs = RequestShowsIn fault (value.nodes_all (values vs))
 

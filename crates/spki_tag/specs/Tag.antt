@@ -12,13 +12,13 @@ use Rattle.spki_tag.specs.Request.{Request, Requests, IsHead}
 
 -- ---- what tags are
 
--- which strings a range holds at all
+-- which strings a range may contain at all
 pub data Ordering : Type 0 where
   alpha : Ordering
   time : Ordering
   date : Ordering
 
--- a limit of a range: the string itself is out of it (strict), or in it
+-- a limit of a range: the range excludes the string itself (strict) or includes it
 pub record Limit : Type 0 where
   pub strict : Bool
   pub octets : List ℕ
@@ -48,7 +48,7 @@ tags [] = none
 tags (t ∷ ts) = more t (tags ts)
 
 abbrev mutual
-  -- A plain list doesn't begin with the star.
+  -- A plain list does not begin with the star.
   pub IsTag : Tag → Type 0
   IsTag star = Unit {0}
   IsTag (string octets) = Unit {0}
@@ -68,16 +68,16 @@ ordering_name alpha = codes "alpha"
 ordering_name time = codes "time"
 ordering_name date = codes "date"
 
--- a limit behind its word, of which there is one for a strict limit and one for another
+-- a limit behind its word; a strict limit has one word, and any other limit has another
 abbrev pub limit_values : List ℕ → List ℕ → Option Limit → List Value
 limit_values above from None = []
 limit_values above from (Some limit) = plain (if limit.strict then above else from) ∷ plain limit.octets ∷ []
 
--- g s, above s; ge s, at least s
+-- g s: above s; ge s: at least s
 abbrev pub low_values : Option Limit → List Value
 low_values limit = limit_values (codes "g") (codes "ge") limit
 
--- l s, below s; le s, at most s
+-- l s: below s; le s: at most s
 abbrev pub up_values : Option Limit → List Value
 up_values limit = limit_values (codes "l") (codes "le") limit
 
@@ -86,7 +86,7 @@ abbrev pub starred : List ℕ → Values → Value
 starred word further = value.list (value.more (plain (codes "*")) (value.more (plain word) further))
 
 abbrev mutual
-  -- the S-expression that a tag is written as
+  -- the S-expression of a tag
   pub tag_value : Tag → Value
   tag_value star = group (plain (codes "*") ∷ [])
   tag_value (string octets) = plain octets
@@ -102,8 +102,8 @@ abbrev mutual
 
 -- ---- what tags contain
 
--- Strings are compared octet by octet, a proper prefix being the lesser: below, or where the limit isn't strict
--- equal to it.
+-- Strings are compared octet by octet, and a proper prefix is less than the longer string: x is below y, or, if the limit is
+-- not strict, equal to y.
 abbrev pub is_within : Bool → List ℕ → List ℕ → Bool
 is_within strict x y = if strict then is_lt (slice_cmp nat_cmp x y) else is_le (slice_cmp nat_cmp x y)
 
@@ -115,15 +115,15 @@ abbrev pub is_below : Option Limit → List ℕ → Bool
 is_below None octets = true
 is_below (Some limit) octets = is_within limit.strict octets limit.octets
 
--- the strings that an ordering is of
+-- the strings of an ordering
 abbrev pub is_ordered : Ordering → List ℕ → Bool
 is_ordered alpha octets = true
 is_ordered time octets = is_time octets
 is_ordered date octets = is_date octets
 
 abbrev mutual
-  -- Whether a request is in a tag. A list of a tag has requests that are at least as long: each member of the
-  -- tag holds its place, and what is missing at the end of the tag is not restricted.
+  -- Whether a tag contains a request. A list contains lists that are at least as long: each member of the tag contains the
+  -- request at its place, and further members of the request are not restricted.
   pub contains : Tag → Request → Bool
   contains star g = true
   contains (string octets) (request.string requested) = bytes_eq octets requested
@@ -151,7 +151,7 @@ abbrev mutual
 -- ---- measures
 
 abbrev mutual
-  -- how many nodes a tag has: a list counts one for itself and one for its head
+  -- the number of nodes of a tag: a list counts one for itself and one for its head
   pub nodes : Tag → ℕ
   nodes star = 1
   nodes (string octets) = 1
@@ -165,7 +165,7 @@ abbrev mutual
   nodes_all (more t ts) = nodes t + nodes_all ts
 
 abbrev mutual
-  -- plain lists one inside another at the deepest place
+  -- how many plain lists are nested, at the deepest place
   pub ldepth : Tag → ℕ
   ldepth star = 0
   ldepth (string octets) = 0
@@ -212,15 +212,15 @@ is_nothing (list head further) = false
 
 -- ---- normal form
 
--- there isn't just one
+-- the number of tags is not one
 abbrev pub is_none_or_many : Tags → Bool
 is_none_or_many none = true
 is_none_or_many (more t none) = false
 is_none_or_many (more t (more u us)) = true
 
 abbrev mutual
-  -- Normal form: a set has no members or two at least, none of them a set or a star; a list has no member
-  -- (* set); and so at each level.
+  -- Normal form: a set has no members or at least two, and none of them is a set or a star; a list has no member (* set);
+  -- and the same holds at each level.
   pub is_normal : Tag → Bool
   is_normal star = true
   is_normal (string octets) = true
@@ -229,12 +229,12 @@ abbrev mutual
   is_normal (list head further) = each_normal is_nothing further
   is_normal (set members) = is_none_or_many members && each_normal is_set_or_star members
 
-  -- each is normal, and of none is it true
+  -- each is in normal form, and none passes the test
   pub each_normal : (Tag → Bool) → Tags → Bool
   each_normal is_barred none = true
   each_normal is_barred (more t ts) = not (is_barred t) && is_normal t && each_normal is_barred ts
 
--- the most nodes that a tag has
+-- the most nodes of a tag
 abbrev pub most_nodes : ℕ
 most_nodes = 1000000
 

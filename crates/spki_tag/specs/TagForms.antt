@@ -1,4 +1,4 @@
--- How a tag is built.
+-- How the form of a tag is shown.
 use Rattle.std.specs.Prelude.{◌≡◌, Option, Some, None}
 use Rattle.spki_tag.specs.Tag.{Tag, Limit, tags, star, string, prefix, range, list, set}
 use Rattle.spki_tag.specs.Leaves.{ordering_of}

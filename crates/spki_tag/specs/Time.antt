@@ -1,11 +1,11 @@
--- The strings that ranges of times and of dates hold (RFC 2693, section 6.3.1, on "* range").
+-- The strings in ranges of times and of dates (RFC 2693, section 6.3.1, on "* range").
 use Rattle.std.specs.Prelude.{ℕ, ◌+◌, ◌-◌, ◌*◌, Bool, ◌&&◌, ◌==◌, nat_le, List, length, drop, slice_index}
 
 -- a decimal digit, 0 to 9
 abbrev pub is_digit : ℕ → Bool
 is_digit octet = nat_le 48 octet && nat_le octet 57
 
--- the digits at places i and i + 1 are a number from low to high
+-- the digits at i and i + 1 are a number from low to high
 abbrev pub is_number_at : List ℕ → ℕ → ℕ → ℕ → Bool
 is_number_at text i low high =
     let tens = slice_index text i in
@@ -23,7 +23,7 @@ is_time text =
     && (slice_index text 5 == 58)
     && is_number_at text 6 0 60
 
--- YYYY-MM-DD_HH:MM:SS, any year of four digits, the month 01 to 12, the day 01 to 31; no calendar
+-- YYYY-MM-DD_HH:MM:SS, any year of four digits, the month 01 to 12, the day 01 to 31, without a calendar check
 unfoldable pub is_date : List ℕ → Bool
 is_date text =
     (length text == 19)

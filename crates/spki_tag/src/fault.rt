@@ -1,4 +1,4 @@
-//! Why a tag or a request could not be read, and why two tags could not be met.
+//! Why a tag or a request could not be read, and why an intersection was refused.
 
 ghost use Rattle.std.specs.Prelude.{◌≡◌};
 ghost use Rattle.spki_tag.specs.declared.fault.TagFault.TheVariants.{Memory};
@@ -7,7 +7,7 @@ ghost use Rattle.spki_tag.specs.declared.fault.MeetFault.TheVariants as meet;
 use std::alloc::{AllocError, AllocFailed};
 use thiserror::Error;
 
-/// What is wrong with a written tag or request: the first fault, depth first from the left.
+/// Why a value is no tag or no request: the first fault, depth first from the left.
 #[derive(Clone, Copy, Debug, PartialEq, Eq, Error)]
 pub enum TagFault {
     /// A list without members.
@@ -22,16 +22,16 @@ pub enum TagFault {
     /// A list that begins with `*` and is no form of a tag.
     #[error("an unknown form behind a star")]
     UnknownStar,
-    /// A range of another ordering than `alpha`, `time` and `date`.
+    /// A range of an ordering other than `alpha`, `time` and `date`.
     #[error("an unknown ordering of a range")]
     RangeOrdering,
-    /// Limits of a range other than at most a lower one and then at most an upper one.
+    /// Limits of a range that are not at most one lower limit and then at most one upper limit.
     #[error("malformed limits of a range")]
     RangeLimit,
     /// More than 1,024 nodes as written.
     #[error("too many nodes")]
     TooManyNodes,
-    /// A list in a request that begins with `*`.
+    /// A list that begins with `*`, in a request.
     #[error("a star in a request")]
     StarInRequest,
     /// Memory ran out.
@@ -55,10 +55,10 @@ impl<T: Drop> From<AllocFailed<T>> for TagFault {
     }
 }
 
-/// Why there is no intersection of two tags.
+/// Why no intersection of two tags is returned.
 #[derive(Clone, Copy, Debug, PartialEq, Eq, Error)]
 pub enum MeetFault {
-    /// The product of the numbers of their nodes is over the limit, which is 1,000,000 or what the caller set.
+    /// The product of the numbers of their nodes is over the limit: 1,000,000, or what the caller set.
     #[error("too many nodes to meet")]
     TooLarge,
     /// Memory ran out.

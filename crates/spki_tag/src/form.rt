@@ -1,4 +1,4 @@
-//! How a tag is built, for those who go down into it, and what it is.
+//! The form of a tag, for callers that examine its members.
 
 ghost use Rattle.std.specs.Prelude.{◌≡◌, ◌↔◌, ◌||◌, IsTrue};
 ghost use Rattle.std.specs.List.{list_any};
@@ -12,13 +12,13 @@ use crate::tag::{Node, Tag};
 /// A limit of a range.
 #[derive(Clone, Copy, Debug)]
 pub struct TagLimit<'a> {
-    /// Whether the string itself is left out.
+    /// Whether the range excludes the string itself.
     pub strict: bool,
     /// The string.
     pub octets: &'a [u8],
 }
 
-/// A tag without members, or its members (RFC 2693, section 6.3.1).
+/// A tag without members, or the members of a tag (RFC 2693, section 6.3.1).
 #[derive(Clone, Copy, Debug)]
 pub enum TagForm<'a> {
     /// `(*)`.
@@ -29,7 +29,7 @@ pub enum TagForm<'a> {
     Prefix(&'a [u8]),
     /// `(* range ordering low? up?)`.
     Range {
-        /// Which strings the range holds at all.
+        /// Which strings the range may contain at all.
         ordering: RangeOrdering,
         /// The lower limit.
         low: Option<TagLimit<'a>>,
@@ -38,7 +38,7 @@ pub enum TagForm<'a> {
     },
     /// `(head t ..)`.
     List {
-        /// The string that the list begins with.
+        /// The first member of the list, a string.
         head: &'a [u8],
         /// The tags behind it, in order.
         further: &'a [Tag],
@@ -63,7 +63,7 @@ fn limit_shown(limit: &Option<Limit>) -> Option<TagLimit<'_>>
     }
 }
 
-/// How a tag without members is built.
+/// The form of a tag without members.
 fn leaf_form(leaf: &Leaf) -> TagForm<'_>
     ensures { IsFormOf (leaf_tag leaf.now) result }
 {
@@ -80,7 +80,7 @@ fn leaf_form(leaf: &Leaf) -> TagForm<'_>
 }
 
 impl Tag {
-    /// How the tag is built: its string, its limits or its members.
+    /// The form of the tag, with its string, its limits or its members.
     pub fn form(&self) -> TagForm<'_>
         ensures { IsFormOf self.now result }
     {
@@ -109,7 +109,7 @@ impl Tag {
         }
     }
 
-    /// Whether this is `(* set)`, the tag that contains no request. Another tag may contain none too, as a range
+    /// Whether this is `(* set)`, the tag that contains no request. Other tags may contain no request too, such as a range
     /// whose limits exclude each other.
     pub fn is_nothing(&self) -> bool
         ensures { IsTrue result ↔ (self.now ≡ spec.set spec.none) }

@@ -1,5 +1,5 @@
-//! The members of a tag by kind and string, so that a tag is met only with those that it can have a request in
-//! common with.
+//! An index of the members of a tag by kind and string, so that a tag is intersected only with those that can have a request
+//! in common with it.
 
 ghost use Rattle.std.specs.Prelude.{◌≡◌, ◌++◌, [], ℕ, List, IfOk, OnOk};
 ghost use Rattle.std.specs.Str.{bytes_eq};
@@ -14,7 +14,7 @@ use std::marker::Model;
 use std::slice;
 
 impl Tag {
-    /// The members of a set, in order. A tag that is no set counts as its only member.
+    /// The members of a set, in order. A tag that is no set is its own only member.
     pub(crate) fn members(&self) -> &[Tag]
         ensures { result.now ≡ members self.now }
     {
@@ -26,7 +26,7 @@ impl Tag {
     }
 }
 
-/// Which requests a tag can have, as far as its kind and its string tell.
+/// Which requests a tag can contain, by its kind and its string.
 #[derive(Clone, Copy, Debug)]
 enum Kind<'a> {
     /// Any: a set or `(*)`.
@@ -57,7 +57,7 @@ impl<'a> Kind<'a> {
     }
 }
 
-/// The places of each of some strings, in increasing order.
+/// The places of tags by string, in increasing order.
 type PlacesByString<'a> = BTreeMap<&'a [u8], Vec<usize>>;
 
 /// Adds a place behind those of a string.
@@ -78,7 +78,7 @@ fn places_at<'m>(map: &'m PlacesByString<'_>, string: &[u8]) -> &'m [usize]
     }
 }
 
-/// Two lists in increasing order, joined in that order.
+/// Two increasing lists, merged in increasing order.
 fn merged(alloc: Global, xs: &[usize], ys: &[usize]) -> Result<Vec<usize>, AllocError>
     ensures { IfOk result (λ joined. joined.items ≡ merge xs.now ys.now) }
 {
@@ -99,16 +99,16 @@ fn merged(alloc: Global, xs: &[usize], ys: &[usize]) -> Result<Vec<usize>, Alloc
     Ok(joined)
 }
 
-/// The places of tags, counted from 1, in increasing order, by what the tags can have.
+/// The places of tags, counted from 1, in increasing order, by what the tags can contain.
 #[derive(Debug, Drop)]
 struct PlacesByKind<'a> {
-    /// Those of each string by itself.
+    /// Those of strings, by string.
     strings: PlacesByString<'a>,
     /// Those of lists, by head.
     lists: PlacesByString<'a>,
     /// Those of prefixes, ranges, sets and `(*)`.
     with_many_strings: Vec<usize>,
-    /// Those of all that have strings.
+    /// Those of all tags that may contain strings.
     with_strings: Vec<usize>,
     /// Those of sets and `(*)`.
     any: Vec<usize>,
@@ -117,7 +117,7 @@ struct PlacesByKind<'a> {
 }
 
 impl<'a> PlacesByKind<'a> {
-    /// Those of no tags.
+    /// The places of no tags.
     fn new(alloc: Global) -> PlacesByKind<'a>
         ensures { ArePlacesOf result [] }
     {
@@ -131,7 +131,7 @@ impl<'a> PlacesByKind<'a> {
         }
     }
 
-    /// Adds the place of a tag of this kind, which stands behind all others.
+    /// Adds the place of a tag of this kind, behind all others.
     fn add(&mut self, kind: Kind<'a>, place: usize) -> Result<(), AllocError>
         ensures { OnOk result (IsAdded self.old self.new (kind_of kind.entry) place) }
     {
@@ -167,8 +167,8 @@ impl<'a> PlacesByKind<'a> {
     }
 }
 
-/// An index of the members of a set by kind and string (RFC 2693, section 6.3.1). Each member has a place, counted
-/// from 1. In a contract the index is the list of the members.
+/// An index of the members of a set by kind and string (RFC 2693, section 6.3.1). Each member has a place, counted from 1.
+/// In a contract an index is the list of the members.
 #[derive(Debug, Drop)]
 pub struct Index<'a> {
     members: &'a [Tag],
@@ -193,18 +193,18 @@ impl<'a> Model for Index<'a> {
 }
 
 impl<'a> Index<'a> {
-    /// The index of the members of a set. A tag that is no set counts as its only member.
+    /// Makes the index of the members of a set. A tag that is no set is its own only member.
     ///
     /// # Errors
     ///
-    /// `AllocError` where memory ran out.
+    /// `AllocError` if memory ran out.
     pub fn of(alloc: Global, tag: &'a Tag) -> Result<Index<'a>, AllocError>
         ensures { IfOk result (λ index. index ≡ members tag.now) }
     {
         Index::over(alloc, tag.members())
     }
 
-    /// The index of these members.
+    /// Makes the index of these members.
     pub(crate) fn over(alloc: Global, members: &'a [Tag]) -> Result<Index<'a>, AllocError>
         ensures { IfOk result (λ index. index ≡ members.now) }
     {
@@ -219,14 +219,14 @@ impl<'a> Index<'a> {
         self.members
     }
 
-    /// The places of the members that can have a request in common with a tag, as far as kinds and strings tell, in
-    /// increasing order: to a string those of the same string, of prefixes and of ranges; to a list those of the
-    /// lists with the same head; to a prefix or a range those of all strings, prefixes and ranges; to a set or
-    /// `(*)` all. If the index is that of `(*)`, its place is among them.
+    /// The places of the members that can have a request in common with a tag, by their kinds and strings, in increasing
+    /// order. For a string these are the members of the same string, prefixes and ranges; for a list the lists with the same
+    /// head; for a prefix or a range all strings, prefixes and ranges; for a set or `(*)` all members. If the index is that of
+    /// `(*)`, its place is always included.
     ///
     /// # Errors
     ///
-    /// `AllocError` where memory ran out.
+    /// `AllocError` if memory ran out.
     pub fn places(&self, alloc: Global, tag: &Tag) -> Result<Vec<usize>, AllocError>
         ensures { IfOk result (λ places. places.items ≡ places_where (may_share tag.now) 1 self.now) }
     {

@@ -15,10 +15,10 @@ use crate::parts::{leaf_or_nothing, push_copies, push_kept};
 use crate::tag::{Node, Tag};
 use std::alloc::{AllocError, Global};
 
-/// The greatest product of the numbers of nodes of two tags that are met.
+/// The greatest product of the numbers of nodes of two tags that are intersected.
 pub(crate) const MOST_NODES: usize = 1_000_000;
 
-/// What two tags leave together.
+/// Returns the intersection of two tags.
 #[cycle(meet)]
 pub(crate) fn meet_tags(alloc: Global, one: &Tag, other: &Tag) -> Result<Tag, AllocError>
     requires { nodes one.now * nodes other.now ≤ most_nodes }
@@ -35,7 +35,7 @@ pub(crate) fn meet_tags(alloc: Global, one: &Tag, other: &Tag) -> Result<Tag, Al
     }
 }
 
-/// What two tags leave together that are neither sets nor `(*)`.
+/// Returns the intersection of two tags that are neither sets nor `(*)`.
 #[cycle(meet)]
 fn meet_single(alloc: Global, one: &Tag, other: &Tag) -> Result<Tag, AllocError>
     requires bound { nodes one.now * nodes other.now ≤ most_nodes }
@@ -58,7 +58,7 @@ fn meet_single(alloc: Global, one: &Tag, other: &Tag) -> Result<Tag, AllocError>
     }
 }
 
-/// What two lists with these heads and further members leave together.
+/// Returns the intersection of two lists with these heads and further members.
 #[cycle(meet)]
 fn meet_lists(
     alloc: Global,
@@ -82,8 +82,8 @@ fn meet_lists(
     }
 }
 
-/// What the members of two lists leave together in each place, the longer one's further members as they are; nothing
-/// where that of some place is `(* set)`.
+/// Returns the intersections of the members of two lists, place by place, with the further members of the longer list as
+/// they are. None if some intersection is `(* set)`.
 #[cycle(meet)]
 fn meet_each(alloc: Global, ones: &[Tag], others: &[Tag]) -> Result<Option<Vec<Tag>>, AllocError>
     requires bound { nodes_all (tags ones.now) * nodes_all (tags others.now) ≤ most_nodes }
@@ -106,7 +106,8 @@ fn meet_each(alloc: Global, ones: &[Tag], others: &[Tag]) -> Result<Option<Vec<T
     Ok(Some(met))
 }
 
-/// What each of some tags leaves with each of others: ordered by the one's place, then the other's.
+/// Returns the set of the intersections of each tag with each of the others, in the order of the first and then of the
+/// second.
 #[cycle(meet)]
 fn meet_members(alloc: Global, ones: &[Tag], others: &[Tag]) -> Result<Tag, AllocError>
     requires bound { nodes_all (tags ones.now) * nodes_all (tags others.now) ≤ most_nodes }
@@ -122,7 +123,7 @@ fn meet_members(alloc: Global, ones: &[Tag], others: &[Tag]) -> Result<Tag, Allo
     Ok(Tag::gathered(met))
 }
 
-/// Adds what a tag leaves of the members at these places, but for `(* set)`.
+/// Adds the intersections of a tag with the members at these places, except `(* set)`.
 #[cycle(meet)]
 fn push_row(
     alloc: Global,
@@ -143,13 +144,12 @@ fn push_row(
 }
 
 impl Tag {
-    /// The intersection: the tag that contains a request exactly if both do (RFC 2693, section 6.3.1). What two sets
-    /// leave is ordered by this tag's members, then by the other's, and a member that repeats stays.
+    /// The intersection: the tag that contains a request exactly if both do (RFC 2693, section 6.3.1). The intersection of
+    /// two sets is in the order of this tag's members and then of the other's, and repeated members are kept.
     ///
     /// # Errors
     ///
-    /// `TooLarge` where the product of the numbers of their nodes is over 1,000,000, and `Memory` where memory ran
-    /// out.
+    /// `TooLarge` if the product of the numbers of their nodes is over 1,000,000, and `Memory` if memory ran out.
     pub fn meet(&self, alloc: Global, other: &Tag) -> Result<Tag, MeetFault>
         ensures which { IfOk result (λ c. c ≡ meet self.now other.now) }
         ensures exact { IfOk result (λ c. (g : Request) → IsRequest g

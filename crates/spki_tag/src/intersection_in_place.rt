@@ -1,4 +1,4 @@
-//! The intersection in the place of one of its tags.
+//! The intersection in place of one of its tags.
 
 ghost use Rattle.std.specs.Prelude.{◌≡◌, ℕ, ◌+◌, ◌*◌, ◌<◌, ◌≤◌, ◌↔◌, ◌++◌, ◌∷◌, ◌&&◌, [], true, false, max, length, take, drop, slice_index_or, IsTrue, IfOk, OnOk, IsErrOf, MatchOption};
 ghost use Rattle.std.specs.Arc.{arc_slice_items};
@@ -15,21 +15,21 @@ use crate::tag::{Node, Tag, nodes_of};
 use std::alloc::{AllocError, Global};
 use std::mem;
 
-/// Tags, and how many nodes they have together.
+/// Tags, and the number of their nodes together.
 #[derive(Drop)]
 struct Counted {
     tags: Vec<Tag>,
     nodes: usize,
 }
 
-/// How many of some tags are met and kept, and how many nodes these have together with the tags that are still to be met.
+/// How many tags have been intersected and kept, and how many nodes these and the tags that are left have together.
 #[derive(Clone, Copy)]
 struct Kept {
     tags: usize,
     nodes: usize,
 }
 
-/// Whether a tag stays as it is where it is met with another, as far as strings and limits tell.
+/// Whether the intersection of a tag with another is known to be the tag itself, from strings and limits alone.
 fn stays(one: &Tag, other: &Tag) -> bool
     ensures same { IsTrue result → meet one.now other.now ≡ one.now }
     ensures some { IsTrue result → is_nothing one.now ≡ false }
@@ -45,7 +45,7 @@ fn stays(one: &Tag, other: &Tag) -> bool
     }
 }
 
-/// Takes the tag out of a place, in which `(*)` is left.
+/// Takes the tag out of a place, and leaves `(*)` there.
 fn taken(members: &mut Vec<Tag>, place: usize) -> Tag
     requires { place < length members.old.items }
     ensures taken { result ≡ slice_index_or members.old.items place star }
@@ -56,7 +56,7 @@ fn taken(members: &mut Vec<Tag>, place: usize) -> Tag
     mem::replace(&mut members[place], Tag::everything())
 }
 
-/// Puts the tag from a place into an earlier one, unless they are the same.
+/// Moves the tag from a place to an earlier one, unless they are the same.
 fn keep(members: &mut Vec<Tag>, to: usize, place: usize)
     requires inside { place < length members.old.items }
     requires earlier { to ≤ place }
@@ -70,7 +70,7 @@ fn keep(members: &mut Vec<Tag>, to: usize, place: usize)
     }
 }
 
-/// Meets the tag in a place with another, and puts what that leaves, but for `(* set)`, behind the tags that are kept.
+/// Intersects the tag in a place with another, and puts the result, except `(* set)`, behind the tags that are kept.
 #[cycle(narrowing)]
 fn meet_place(
     alloc: Global,
@@ -116,7 +116,8 @@ fn meet_place(
     })
 }
 
-/// What each of some tags leaves of another, in their places, but for `(* set)`. They have this many nodes together.
+/// Returns the intersections of each of the tags with another tag, in their places, except `(* set)`. The tags have `count`
+/// nodes together.
 #[cycle(narrowing)]
 fn met_in_place(
     alloc: Global,
@@ -144,7 +145,8 @@ fn met_in_place(
     })
 }
 
-/// What a set of these tags leaves of another that is neither a set nor `(*)`. The set has this many nodes.
+/// Returns the intersection of a set of these tags with another tag that is neither a set nor `(*)`. The set has `count`
+/// nodes.
 #[cycle(narrowing)]
 fn meet_set(alloc: Global, members: Vec<Tag>, count: usize, other: &Tag) -> Result<Tag, AllocError>
     requires set { IsNormalTag (set (tags members.items)) }
@@ -159,8 +161,8 @@ fn meet_set(alloc: Global, members: Vec<Tag>, count: usize, other: &Tag) -> Resu
     Ok(Tag::gathered_counted(met.tags, met.nodes))
 }
 
-/// What some tags leave of others in each place, in their places, the longer one's further members as they are; nothing where
-/// that of some place is `(* set)`. They have this many nodes together.
+/// Returns the intersections of tags with others, place by place, with the further members of the longer list as they are.
+/// None if some intersection is `(* set)`. The tags have `count` nodes together.
 #[cycle(narrowing)]
 fn each_in_place(
     alloc: Global,
@@ -199,8 +201,8 @@ fn each_in_place(
     }))
 }
 
-/// What lists with these heads and further members leave together, where the first is used up. The first one's further members
-/// have this many nodes together.
+/// Returns the intersection of lists with these heads and further members, and consumes the first list. Its further members
+/// have `count` nodes together.
 #[cycle(narrowing)]
 fn lists_in_place(
     alloc: Global,
@@ -228,8 +230,8 @@ fn lists_in_place(
     }
 }
 
-/// What a list of this head and these further members leaves of another tag that is neither a set nor `(*)`. The list has
-/// this many nodes.
+/// Returns the intersection of a list of this head and these further members with another tag that is neither a set nor
+/// `(*)`. The list has `count` nodes.
 #[cycle(narrowing)]
 fn meet_list(
     alloc: Global,
@@ -254,7 +256,7 @@ fn meet_list(
     }
 }
 
-/// What a tag and another leave together, where the first is used up.
+/// Returns the intersection of two tags, and consumes the first.
 #[cycle(narrowing)]
 fn meet_owned(alloc: Global, one: Tag, other: &Tag) -> Result<Tag, AllocError>
     requires { nodes one * nodes other.now ≤ most_nodes }
@@ -274,13 +276,12 @@ fn meet_owned(alloc: Global, one: Tag, other: &Tag) -> Result<Tag, AllocError>
 }
 
 impl Tag {
-    /// The intersection, as `meet` has it, for which this tag is used up: where the other is `(*)` it takes no memory, and
-    /// where the other is no set, that of one member at a time.
+    /// Like `meet`, but consumes `self`. If the other tag is `(*)`, the call takes no memory. If the other is no set, it
+    /// takes the memory for one member at a time.
     ///
     /// # Errors
     ///
-    /// `TooLarge` where the product of the numbers of their nodes is over 1,000,000, and `Memory` where memory ran
-    /// out.
+    /// `TooLarge` if the product of the numbers of their nodes is over 1,000,000, and `Memory` if memory ran out.
     pub fn into_meet(self, alloc: Global, other: &Tag) -> Result<Tag, MeetFault>
         ensures which { IfOk result (λ c. c ≡ meet self other.now) }
         ensures exact { IfOk result (λ c. (g : Request) → IsRequest g
@@ -292,11 +293,11 @@ impl Tag {
         self.into_meet_within(alloc, other, MOST_NODES)
     }
 
-    /// As `into_meet`, for a caller that sets a smaller limit: `most` instead of 1,000,000.
+    /// Like `into_meet`, with `most` as the limit instead of 1,000,000.
     ///
     /// # Errors
     ///
-    /// `TooLarge` where the product of the numbers of their nodes is over `most`, and `Memory` where memory ran out.
+    /// `TooLarge` if the product of the numbers of their nodes is over `most`, and `Memory` if memory ran out.
     pub fn into_meet_within(self, alloc: Global, other: &Tag, most: usize) -> Result<Tag, MeetFault>
         requires { most ≤ 1000000 }
         ensures which { IfOk result (λ c. c ≡ meet self other.now) }

@@ -1,4 +1,4 @@
-//! Laws of tags and requests: as they are written, of their intersection, and of what tags can share.
+//! Laws of tags and requests: how they are written, their intersection, and what tags can have in common.
 
 ghost use Rattle.std.specs.Prelude.{◌≡◌, ◌*◌, ◌≤◌, ◌↔◌, ◌&&◌, ℕ, List, None, Some, true, false, length, nat_eq};
 ghost use Rattle.std.specs.List.{starts_with};
@@ -42,12 +42,12 @@ pub fn request_fault_none()
         → (request_fault v ≡ None) ↔ ((g : Request) × IsRequest g × (request_value g ≡ v)) }
 {}
 
-/// The fault of a value as a tag shows in it.
+/// What the fault of a value as a tag means is true of the value.
 pub fn tag_fault_shows()
     ensures { (v : Value) (fault : TagFault) → tag_fault v ≡ Some fault → TagShows fault v }
 {}
 
-/// There are as many tags in a value as it has nodes of tags.
+/// A value contains as many tags as it has nodes of tags.
 pub fn tags_counted()
     ensures { (v : Value) → length (tags_in v) ≡ tag_nodes v }
 {}
@@ -57,18 +57,18 @@ pub fn normal_form()
     ensures { (t : Tag) → IsTag t → IsNormalOf t (normal t) }
 {}
 
-/// The value that a tag is written as has as many nodes of tags as the tag.
+/// The value of a written tag has as many nodes of tags as the tag has nodes.
 pub fn nodes_as_written()
     ensures { (t : Tag) → IsTag t → tag_nodes (tag_value t) ≡ nodes t }
 {}
 
-/// A prefix holds the strings from itself to below the least string above all that start with it.
+/// A prefix contains the strings from itself to below the least string above all strings that start with it.
 pub fn prefix_is_range()
     ensures { (p x : List ℕ) → AreOctets x
         → starts_with nat_eq x p ≡ (is_above (from p) x && is_below (strict_limit (least_above p)) x) }
 {}
 
-/// The rules of the intersection, as equations of the tags that two tags leave together.
+/// The rules of the intersection, as equations.
 pub fn meet_rules()
     ensures star { StarRule }
     ensures sets { SetRule }
@@ -84,24 +84,24 @@ pub fn meet_rules()
     ensures lists_and_strings { ListsAndStrings }
 {}
 
-/// What two tags leave together contains a request exactly if both do.
+/// The intersection of two tags contains a request exactly if both tags do.
 pub fn meet_exact()
     ensures { (a b : Tag) (g : Request) → IsRequest g → is_normal a ≡ true → is_normal b ≡ true
         → contains (meet a b) g ≡ (contains a g && contains b g) }
 {}
 
-/// What two tags leave together has at most as many nodes as the product of theirs.
+/// The number of nodes of an intersection is at most the product of those of the two tags.
 pub fn meet_bounded()
     ensures { (a b : Tag) → nodes (meet a b) ≤ nodes a * nodes b }
 {}
 
-/// Two tags that can have no request in common, as far as their kinds and strings tell, leave nothing together.
+/// If two tags can have no request in common by their kinds and strings, their intersection is `(* set)`.
 pub fn meet_apart()
     ensures { (t u : Tag) → may_share t u ≡ false → meet t u ≡ nothing }
 {}
 
-/// A tag leaves of some tags, one after the other, what it leaves of those at the places where they may share a
-/// request with it.
+/// The intersections of a tag with some tags, one after another, are those with the tags at the places where the two may
+/// have a request in common.
 pub fn row_at_places()
     ensures { (t : Tag) (us : List Tag)
         → row (meet t) (tags us) ≡ row (meet t) (tags (tags_at us (places_where (may_share t) 1 us))) }

@@ -10,10 +10,10 @@ use crate::prefix::Prefix;
 use std::alloc::AllocError;
 use std::sync::ArcSlice;
 
-/// Octets of a tag. The tags that an intersection leaves share those of the tags that it was made of.
+/// Octets of a tag. An intersection shares them with the tags that it was made of.
 pub(crate) type SharedOctets = ArcSlice<u8>;
 
-/// Which strings a range holds at all (RFC 2693, section 6.3.1).
+/// Which strings a range may contain at all (RFC 2693, section 6.3.1).
 #[derive(Clone, Copy, Debug, PartialEq, Eq)]
 pub enum RangeOrdering {
     /// Any strings.
@@ -24,7 +24,7 @@ pub enum RangeOrdering {
     Date,
 }
 
-/// A limit of a range, which the range leaves out where it is strict.
+/// A limit of a range. The range excludes its string if the limit is strict.
 #[derive(Debug, Drop)]
 pub(crate) struct Limit {
     pub(crate) strict: bool,
@@ -44,7 +44,7 @@ pub(crate) enum Leaf {
     Range(RangeOrdering, Option<Limit>, Option<Limit>),
 }
 
-/// Whether a string is one of those that an ordering is of.
+/// Whether a string is in an ordering.
 fn is_ordered(ordering: RangeOrdering, octets: &[u8]) -> bool
     ensures { result ≡ is_ordered (ordering_of ordering) octets.now }
 {
@@ -55,7 +55,7 @@ fn is_ordered(ordering: RangeOrdering, octets: &[u8]) -> bool
     }
 }
 
-/// Whether `x` is below `y`, or equal to it where that isn't ruled out.
+/// Whether `x` is below `y`, or, if `strict` is false, equal to it.
 pub(crate) fn is_within(strict: bool, x: &[u8], y: &[u8]) -> bool
     ensures { result ≡ is_within strict x.now y.now }
 {
@@ -83,7 +83,7 @@ fn is_below(up: &Option<Limit>, octets: &[u8]) -> bool
     }
 }
 
-/// A copy of a limit, which shares its octets.
+/// A copy of a limit that shares its octets.
 pub(crate) fn copied_limit(limit: &Option<Limit>) -> Result<Option<Limit>, AllocError>
     ensures { IfOk result (λ copy. limit_of copy ≡ limit_of limit.now) }
 {
@@ -97,7 +97,7 @@ pub(crate) fn copied_limit(limit: &Option<Limit>) -> Result<Option<Limit>, Alloc
 }
 
 impl Leaf {
-    /// Whether a request that is a string is in the tag.
+    /// Whether the tag contains a string.
     pub(crate) fn holds(&self, octets: &[u8]) -> bool
         ensures { result ≡ contains (leaf_tag self.now) (string octets.now) }
     {
@@ -111,7 +111,7 @@ impl Leaf {
         }
     }
 
-    /// Whether a request that is a list is in the tag.
+    /// Whether the tag contains lists.
     pub(crate) fn holds_lists(&self) -> bool
         ensures { (head : List ℕ) (further : Requests) → result ≡ contains (leaf_tag self.now) (list head further) }
     {
@@ -123,7 +123,7 @@ impl Leaf {
         }
     }
 
-    /// A copy, which shares the octets.
+    /// A copy that shares the octets.
     pub(crate) fn copy(&self) -> Result<Leaf, AllocError>
         ensures { IfOk result (λ copy. leaf_tag copy ≡ leaf_tag self.now) }
     {

@@ -11,7 +11,7 @@ use crate::limit_intersection::{exclude, greater_low, lesser_up, low_stays, up_s
 use crate::prefix::Prefix;
 use std::alloc::AllocError;
 
-/// The ordering of the strings that two orderings are of. Times and dates have none in common.
+/// The ordering of the strings that are in both orderings. No string is both a time and a date.
 fn common_ordering(one: RangeOrdering, other: RangeOrdering) -> Option<RangeOrdering>
     ensures { option_map ordering_of result ≡ ordering_meet (ordering_of one) (ordering_of other) }
 {
@@ -51,7 +51,7 @@ fn limited(
     }
 }
 
-/// What two ranges leave together: the greater lower limit and the lesser upper limit.
+/// Returns the intersection of two ranges: the greater lower limit and the lesser upper limit.
 fn meet_ranges(
     ordering: RangeOrdering,
     low: &Option<Limit>,
@@ -71,7 +71,7 @@ fn meet_ranges(
     )
 }
 
-/// Whether the strings of one ordering are all of another.
+/// Whether all strings of one ordering are in another.
 fn ordering_stays(one: RangeOrdering, other: RangeOrdering) -> bool
     ensures { IsTrue result → ordering_meet (ordering_of one) (ordering_of other) ≡ Some (ordering_of one) }
 {
@@ -90,7 +90,7 @@ fn ordering_stays(one: RangeOrdering, other: RangeOrdering) -> bool
     }
 }
 
-/// Whether a range stays as it is where it is met with another.
+/// Whether the intersection of a range with another is the range itself.
 fn range_stays(
     ordering: RangeOrdering,
     low: &Option<Limit>,
@@ -115,7 +115,7 @@ fn range_stays(
     !exclude(low, up)
 }
 
-/// A string, if a tag contains it.
+/// Returns the string if the tag contains it.
 fn meet_string(octets: &SharedOctets, other: &Leaf) -> Result<Option<Leaf>, AllocError>
     ensures { IfOk result (λ r. leaf_or_nothing r ≡ string_meet (arc_slice_items octets.now) (leaf_tag other.now)) }
 {
@@ -126,7 +126,7 @@ fn meet_string(octets: &SharedOctets, other: &Leaf) -> Result<Option<Leaf>, Allo
     }
 }
 
-/// The longer of two prefixes, if it starts with the shorter.
+/// Returns the longer of two prefixes if it starts with the shorter.
 fn meet_prefixes(one: &Prefix, other: &Prefix) -> Result<Option<Leaf>, AllocError>
     ensures { IfOk result (λ r. leaf_or_nothing r ≡ prefixes_meet one.now other.now) }
 {
@@ -140,7 +140,7 @@ fn meet_prefixes(one: &Prefix, other: &Prefix) -> Result<Option<Leaf>, AllocErro
 }
 
 impl Leaf {
-    /// Whether a tag without members stays as it is where it is met with another, as far as is told without making
+    /// Whether the intersection of a tag without members with another is known to be the tag itself, without making
     /// anything.
     pub(crate) fn stays(&self, other: &Leaf) -> bool
         ensures { IsTrue result → meet (leaf_tag self.now) (leaf_tag other.now) ≡ leaf_tag self.now }
@@ -165,8 +165,8 @@ impl Leaf {
         }
     }
 
-    /// What two tags without members leave together, and nothing where that is `(* set)`. A prefix counts as the
-    /// range of any strings from itself to below the least string above all that start with it.
+    /// Returns the intersection of two tags without members. None if it is `(* set)`. A prefix is treated as the range of
+    /// any strings from itself to below the least string above all that start with it.
     pub(crate) fn meet(&self, other: &Leaf) -> Result<Option<Leaf>, AllocError>
         ensures { IfOk result (λ r. leaf_or_nothing r ≡ meet (leaf_tag self.now) (leaf_tag other.now)) }
     {

@@ -1,4 +1,4 @@
-//! What limits of ranges leave together.
+//! The intersection of limits of ranges.
 
 ghost use Rattle.std.specs.Prelude.{◌≡◌, IsTrue};
 ghost use Rattle.spki_tag.specs.Leaves.{limit_of};
@@ -6,7 +6,7 @@ ghost use Rattle.spki_tag.specs.Meet.{greater_low, lesser_up, exclude};
 
 use crate::leaf::{Limit, is_within};
 
-/// The greater of two lower limits. At equal strings it is the strict one, and a missing one gives way.
+/// The greater of two lower limits. For equal strings it is the strict one. If one is missing, it is the other.
 pub(crate) fn greater_low<'a>(one: &'a Option<Limit>, other: &'a Option<Limit>) -> &'a Option<Limit>
     ensures { limit_of result.now ≡ greater_low (limit_of one.entry.now) (limit_of other.entry.now) }
 {
@@ -25,7 +25,7 @@ pub(crate) fn greater_low<'a>(one: &'a Option<Limit>, other: &'a Option<Limit>) 
     }
 }
 
-/// The lesser of two upper limits. At equal strings it is the strict one, and a missing one gives way.
+/// The lesser of two upper limits. For equal strings it is the strict one. If one is missing, it is the other.
 pub(crate) fn lesser_up<'a>(one: &'a Option<Limit>, other: &'a Option<Limit>) -> &'a Option<Limit>
     ensures { limit_of result.now ≡ lesser_up (limit_of one.entry.now) (limit_of other.entry.now) }
 {
@@ -44,7 +44,7 @@ pub(crate) fn lesser_up<'a>(one: &'a Option<Limit>, other: &'a Option<Limit>) ->
     }
 }
 
-/// Whether a lower limit stays where it is met with another, so that it is the greater.
+/// Whether a lower limit is known to be the greater of two.
 pub(crate) fn low_stays(one: &Option<Limit>, other: &Option<Limit>) -> bool
     ensures { IsTrue result → greater_low (limit_of one.now) (limit_of other.now) ≡ limit_of one.now }
 {
@@ -62,7 +62,7 @@ pub(crate) fn low_stays(one: &Option<Limit>, other: &Option<Limit>) -> bool
     }
 }
 
-/// Whether an upper limit stays where it is met with another, so that it is the lesser.
+/// Whether an upper limit is known to be the lesser of two.
 pub(crate) fn up_stays(one: &Option<Limit>, other: &Option<Limit>) -> bool
     ensures { IsTrue result → lesser_up (limit_of one.now) (limit_of other.now) ≡ limit_of one.now }
 {

@@ -1,4 +1,4 @@
-//! Whether a request is in a tag.
+//! Whether a tag contains a request.
 
 ghost use Rattle.std.specs.Prelude.{◌≡◌};
 ghost use Rattle.spki_tag.specs.Request as spec;

@@ -1,4 +1,4 @@
-//! Tags in normal form, which are made from the inside out.
+//! Makes tags in normal form, from the inside out.
 
 ghost use Rattle.std.specs.Prelude.{◌≡◌, ◌≤◌, ◌++◌, IfOk, OnOk};
 ghost use Rattle.std.specs.Arc.{arc_slice_items};
@@ -14,7 +14,7 @@ use crate::leaf::SharedOctets;
 use crate::tag::{Node, Tag};
 use std::alloc::{AllocError, Global};
 
-/// Adds a tag to the members of a set; those of a set are added in its place.
+/// Adds a tag to the members of a set. If the tag is a set, its members are added instead.
 fn push_member(members: &mut Vec<Tag>, tag: Tag) -> Result<(), AllocError>
     ensures { OnOk result (members.new.items ≡ members.old.items ++ in_place tag) }
 {
@@ -32,8 +32,8 @@ fn push_member(members: &mut Vec<Tag>, tag: Tag) -> Result<(), AllocError>
 }
 
 impl Tag {
-    /// The set of these tags in normal form: the members of a set in it are put in its place, one with a member
-    /// `(*)` is `(*)`, and one with one member is that member.
+    /// The set of these tags in normal form. The members of a set in it replace that set. A set with a member `(*)` is
+    /// `(*)`, and a set with one member is that member.
     pub(crate) fn set_of(alloc: Global, members: Vec<Tag>) -> Result<Tag, AllocError>
         requires room { nodes (set (tags members.items)) ≤ most_nodes }
         requires normal { AreNormal members.items }
@@ -49,7 +49,7 @@ impl Tag {
         Ok(Tag::gathered(spread))
     }
 
-    /// The list of a head and these tags in normal form: one with a member `(* set)` is `(* set)`.
+    /// The list of a head and these tags in normal form. A list with a member `(* set)` is `(* set)`.
     pub(crate) fn list_of(head: SharedOctets, further: Vec<Tag>) -> Tag
         requires head { IsHead (arc_slice_items head) }
         requires room { nodes (list (arc_slice_items head) (tags further.items)) ≤ most_nodes }

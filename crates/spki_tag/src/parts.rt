@@ -1,4 +1,4 @@
-//! What the intersection makes of results.
+//! The parts of an intersection.
 
 ghost use Rattle.std.specs.Prelude.{◌≡◌, ◌++◌, [], OnOk};
 ghost use Rattle.spki_tag.specs.Leaves.{leaf_or_nothing};
@@ -18,7 +18,7 @@ pub(crate) fn leaf_or_nothing(alloc: Global, leaf: Option<Leaf>) -> Tag
     }
 }
 
-/// Adds a tag, but for `(* set)`.
+/// Adds a tag, unless it is `(* set)`.
 pub(crate) fn push_kept(met: &mut Vec<Tag>, tag: Tag) -> Result<(), AllocError>
     ensures { OnOk result (met.new.items ≡ met.old.items ++ kept tag []) }
 {

@@ -1,4 +1,4 @@
-//! Prefixes, and the limits between which the strings are that start with one.
+//! Prefixes, and the limits of the strings that start with one.
 
 ghost use Rattle.std.specs.Prelude.{◌≡◌, IfOk, option_map};
 ghost use Rattle.std.specs.Arc.{arc_slice_items};
@@ -10,7 +10,7 @@ use std::alloc::{AllocError, Global};
 use std::marker::Model;
 use std::sync::ArcSlice;
 
-/// A prefix, with the least string above all that start with it, so that the ranges which it leaves share that too.
+/// A prefix, with the least string above all that start with it. Ranges that are made of the prefix share that string.
 #[derive(Debug, Drop)]
 pub(crate) struct Prefix {
     octets: SharedOctets,
@@ -47,7 +47,7 @@ impl Prefix {
         self.octets.as_slice()
     }
 
-    /// The limit that the strings which start with it are at least.
+    /// The limit that includes the least string that starts with the prefix.
     pub(crate) fn lower_limit(&self) -> Result<Option<Limit>, AllocError>
         ensures { IfOk result (λ low. limit_of low ≡ from self.now) }
     {
@@ -57,8 +57,7 @@ impl Prefix {
         }))
     }
 
-    /// The limit that the strings which start with it are below, none being lesser. There is none if the prefix has no
-    /// other octets than `FF`.
+    /// The strict limit above all strings that start with the prefix. None if the prefix has no octets other than `FF`.
     pub(crate) fn upper_limit(&self) -> Result<Option<Limit>, AllocError>
         ensures { IfOk result (λ up. limit_of up ≡ strict_limit (least_above self.now)) }
     {
@@ -72,7 +71,7 @@ impl Prefix {
     }
 }
 
-/// A copy, which shares the octets.
+/// A copy that shares the octets.
 impl Clone for Prefix {
     ghost is_clone = { λ p q. q ≡ p };
 
@@ -88,8 +87,8 @@ impl Clone for Prefix {
     }
 }
 
-/// The least string above all that start with a string: the string without its last octets `FF`, the last octet then
-/// one greater. There is none if the string has no other octets.
+/// The least string above all that start with a string: the string without its last octets `FF`, with the last octet then
+/// increased by one. None if no octet is left.
 fn above_all(alloc: Global, octets: &[u8]) -> Result<Option<SharedOctets>, AllocError>
     ensures { IfOk result (λ above. option_map arc_slice_items above ≡ least_above octets.now) }
 {

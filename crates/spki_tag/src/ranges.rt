@@ -1,4 +1,4 @@
-//! Reading ranges (RFC 2693, section 6.3.1).
+//! Reads ranges (RFC 2693, section 6.3.1).
 
 ghost use Rattle.std.specs.Prelude.{◌≡◌, ◌≢◌, ◌∷◌, [], Some, List, ℕ, IfOk, IfErr, MatchOption, codes};
 ghost use Rattle.std.specs.List.{list_any};
@@ -26,14 +26,14 @@ fn is_hinted(value: &Node<'_, '_>) -> bool
     }
 }
 
-/// Whether a string with a display hint is among some values.
+/// Whether some of the values is a string with a display hint.
 fn has_hint(values: &[Node<'_, '_>]) -> bool
     ensures { result ≡ list_any is_hinted values.now }
 {
     values.iter().any(|value| is_hinted(value))
 }
 
-/// The ordering with this name.
+/// The ordering with this name, if there is one.
 fn ordering_named(name: &[u8]) -> Option<RangeOrdering>
     ensures { MatchOption result ((ordering : Ordering) → name.now ≢ ordering_name ordering)
         (λ ordering. name.now ≡ ordering_name (ordering_of ordering)) }
@@ -65,8 +65,8 @@ fn read_ordering(name: &Node<'_, '_>) -> Result<RangeOrdering, TagFault>
     }
 }
 
-/// Reads two values as a limit behind its word, of which there is one for a strict limit and one for another. None
-/// where they are none.
+/// Reads two values as a limit behind its word: one word for a strict limit, and another for any other limit. None if they
+/// are no limit.
 fn read_limit(
     alloc: Global,
     word: &Node<'_, '_>,
@@ -101,7 +101,7 @@ fn read_limit(
 /// The limits of a range.
 type Limits = (Option<Limit>, Option<Limit>);
 
-/// Reads two values as the one limit of a range. None where they are none.
+/// Reads two values as the only limit of a range. None if they are no limit.
 fn read_one_limit(
     alloc: Global,
     word: &Node<'_, '_>,
@@ -121,7 +121,7 @@ fn read_one_limit(
     Ok(Some((None, up)))
 }
 
-/// Reads four values as the limits of a range. None where they are none.
+/// Reads four values as the limits of a range. None if they are no limits.
 fn read_two_limits(
     alloc: Global,
     low_word: &Node<'_, '_>,
@@ -144,8 +144,8 @@ fn read_two_limits(
     Ok(Some((low, up)))
 }
 
-/// Reads some values as the limits of a range: at most a lower limit, and then at most an upper one. None where they
-/// are none.
+/// Reads values as the limits of a range: at most one lower limit, and then at most one upper limit. None if they are no
+/// limits.
 fn limits_of(alloc: Global, values: &[Node<'_, '_>]) -> Result<Option<Limits>, AllocError>
     ensures { IfOk result (λ found. MatchOption found (AreNoLimits values.now)
         (λ p. AreLimits (limit_of p.0) (limit_of p.1) values.now)) }
@@ -160,7 +160,7 @@ fn limits_of(alloc: Global, values: &[Node<'_, '_>]) -> Result<Option<Limits>, A
     }
 }
 
-/// The members of a list that are left, as a vector.
+/// Returns the members of a list that are left, as a vector.
 fn values_of<'d, 'a>(
     alloc: Global,
     members: Members<'d, 'a>,
@@ -174,7 +174,7 @@ fn values_of<'d, 'a>(
     Ok(values)
 }
 
-/// Reads what is behind a range's ordering.
+/// Reads the members behind a range's ordering.
 fn read_limits(alloc: Global, rest: Members<'_, '_>) -> Result<Limits, TagFault>
     ensures read { IfOk result (λ p. AreLimits (limit_of p.0) (limit_of p.1) rest.entry) }
     ensures shows { IfErr result (λ fault. LimitsShow fault rest.entry) }
@@ -190,7 +190,7 @@ fn read_limits(alloc: Global, rest: Members<'_, '_>) -> Result<Limits, TagFault>
     }
 }
 
-/// Reads what is behind `*` and `range`.
+/// Reads the members behind `*` and `range`.
 pub(crate) fn read_range(alloc: Global, further: Members<'_, '_>) -> Result<Leaf, TagFault>
     ensures read { IfOk result (λ leaf. tag_value (leaf_tag leaf) ≡ starred (codes "range") (values further.entry)) }
     ensures shows { IfErr result (λ fault. TagShows fault (starred (codes "range") (values further.entry))) }

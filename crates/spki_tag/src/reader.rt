@@ -1,4 +1,4 @@
-//! Reading tags.
+//! Reads tags.
 
 ghost use Rattle.std.specs.Prelude.{◌≡◌, ◌+◌, ◌≤◌, ◌<◌, ◌∷◌, List, Some, None, IfOk, IfErr, IfSome, IsSome, IsOkUnless, codes};
 ghost use Rattle.sexpr_core.specs.Value.{Value, plain, group, values, node};
@@ -20,10 +20,10 @@ use sexpr_core::{Doc, NodeId};
 use std::alloc::Global;
 use std::sync::ArcSlice;
 
-/// The most nodes that a tag has where it is read.
+/// The most nodes that a tag may have when it is read.
 const MOST_READ: usize = 1024;
 
-/// The octets of a list's first member, a string without display hint.
+/// The octets of the first member of a list, which must be a string without a display hint.
 pub(crate) fn head_of<'a>(first: &Node<'_, 'a>) -> Result<&'a [u8], TagFault>
     ensures string { IfOk result (λ head. first.now ≡ plain head.now) }
     ensures shows { IfErr result (λ fault. (vs : List Value)
@@ -38,7 +38,7 @@ pub(crate) fn head_of<'a>(first: &Node<'_, 'a>) -> Result<&'a [u8], TagFault>
     }
 }
 
-/// Reads what is behind `*` and `prefix`.
+/// Reads the members behind `*` and `prefix`.
 fn read_prefix(alloc: Global, further: Members<'_, '_>) -> Result<Leaf, TagFault>
     ensures read { IfOk result (λ leaf. tag_value (leaf_tag leaf) ≡ starred (codes "prefix") (values further.entry)) }
     ensures shows { IfErr result (λ fault. TagShows fault (starred (codes "prefix") (values further.entry))) }
@@ -61,7 +61,7 @@ fn read_prefix(alloc: Global, further: Members<'_, '_>) -> Result<Leaf, TagFault
     }
 }
 
-/// Reads a value as a tag, of which so many nodes were counted before, and answers how many are counted then.
+/// Reads a value as a tag, if `used` nodes were counted before it. Also returns how many are counted after it.
 #[cycle(read)]
 fn read_tag(alloc: Global, value: &Node<'_, '_>, used: usize) -> Result<(Tag, usize), TagFault>
     ensures read { IfOk result (λ p. IsRead used value.now p.0 p.1) }
@@ -102,7 +102,7 @@ fn read_list(alloc: Global, members: Members<'_, '_>, used: usize) -> Result<(Ta
     }
 }
 
-/// Reads what stands behind the head `*` of a list.
+/// Reads the members behind the head `*` of a list.
 #[cycle(read)]
 fn read_starred(
     alloc: Global,
@@ -124,7 +124,7 @@ fn read_starred(
     }
 }
 
-/// Reads what stands behind `*` and this word.
+/// Reads the members behind `*` and this word.
 #[cycle(read)]
 fn read_form(
     alloc: Global,
@@ -148,7 +148,7 @@ fn read_form(
     }
 }
 
-/// Reads what stands behind `*` and `set`.
+/// Reads the members behind `*` and `set`.
 #[cycle(read)]
 fn read_set(alloc: Global, further: Members<'_, '_>, used: usize) -> Result<(Tag, usize), TagFault>
     requires { used < most_read }
@@ -160,7 +160,7 @@ fn read_set(alloc: Global, further: Members<'_, '_>, used: usize) -> Result<(Tag
     Ok((Tag::set_of(alloc, members)?, after))
 }
 
-/// Reads a list with this head, which isn't `*`, and these members behind it as a tag.
+/// Reads a list with this head, which is not `*`, and these members behind it as a tag.
 #[cycle(read)]
 fn read_plain_list(
     alloc: Global,
@@ -207,15 +207,15 @@ fn read_members(
 }
 
 impl Tag {
-    /// Reads a node of a document as a tag, and brings it into normal form.
+    /// Reads a node of a document as a tag in normal form.
     ///
     /// # Errors
     ///
-    /// The first fault, depth first from the left: more than 1,024 nodes as written are `TooManyNodes`, a string with
-    /// a display hint is `Hint`, a list without members `EmptyList`, one that begins with a list `ListHead`, and one
-    /// that begins with `*` and is no form of a tag `UnknownStar`. A range of another ordering than `alpha`, `time`
-    /// and `date` is `RangeOrdering`, and one with other limits than at most a lower one and then at most an upper
-    /// one `RangeLimit`. `Memory` where memory ran out.
+    /// The first fault, depth first from the left. `TooManyNodes`: more than 1,024 nodes as written. `Hint`: a string with a
+    /// display hint. `EmptyList`: a list without members. `ListHead`: a list that begins with a list. `UnknownStar`: a list
+    /// that begins with `*` and is no form of a tag. `RangeOrdering`: a range of an ordering other than `alpha`, `time` and
+    /// `date`. `RangeLimit`: limits that are not at most one lower limit and then at most one upper limit. `Memory`: memory
+    /// ran out.
     pub fn of(alloc: Global, value: &Node<'_, '_>) -> Result<Tag, TagFault>
         ensures read { IfOk result (λ tag. ReadsAs value.now tag) }
         ensures only { (t : Tag) → IsTag t → nodes t ≤ most_read → tag_value t ≡ value.now
@@ -229,7 +229,7 @@ impl Tag {
         Ok(tag)
     }
 
-    /// Reads node n of a document as a tag, as `of` does.
+    /// Reads node n of a document as a tag. Like `of` otherwise.
     ///
     /// # Errors
     ///

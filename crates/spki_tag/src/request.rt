@@ -1,4 +1,4 @@
-//! Requests, and how they are read.
+//! Requests and their reader.
 
 ghost use Rattle.std.specs.Prelude.{◌≡◌, ◌∷◌, None, IfOk, IfErr, IfSome, IsSome};
 ghost use Rattle.sexpr_core.specs.Value.{plain, group, node};
@@ -16,8 +16,8 @@ use sexpr_core::{Doc, NodeId};
 use std::alloc::Global;
 use std::marker::Model;
 
-/// A request: what is requested for. It is a string, or a list of a head that isn't `*` and further requests, without
-/// display hints (RFC 2693, section 6.3.1).
+/// A request: one thing that somebody asks to do. It is a string, or a list of a head that is not `*` and further requests,
+/// without display hints (RFC 2693, section 6.3.1).
 #[cycle(ground)]
 #[derive(Debug, Drop)]
 pub struct Ground {
@@ -110,7 +110,7 @@ fn read_list(alloc: Global, members: Members<'_, '_>) -> Result<Ground, TagFault
     }
 }
 
-/// Reads a list with this head, which isn't `*`, and these members behind it as a request.
+/// Reads a list with this head, which is not `*`, and these members behind it as a request.
 #[cycle(read_request)]
 fn read_headed(alloc: Global, head: &[u8], further: Members<'_, '_>) -> Result<Ground, TagFault>
     requires { IsHead head.now }
@@ -141,13 +141,13 @@ fn read_members(alloc: Global, members: Members<'_, '_>) -> Result<Vec<Ground>, 
 }
 
 impl Ground {
-    /// Reads a node of a document as a request.
+    /// Reads a node of a document as a request. The number of nodes is not limited.
     ///
     /// # Errors
     ///
-    /// The first fault, depth first from the left: a string with a display hint is `Hint`, a list without members
-    /// `EmptyList`, one that begins with a list `ListHead`, and one that begins with `*` `StarInRequest`. `Memory`
-    /// where memory ran out. There is no limit of nodes.
+    /// The first fault, depth first from the left. `Hint`: a string with a display hint. `EmptyList`: a list without
+    /// members. `ListHead`: a list that begins with a list. `StarInRequest`: a list that begins with `*`. `Memory`: memory
+    /// ran out.
     pub fn of(alloc: Global, value: &Node<'_, '_>) -> Result<Ground, TagFault>
         ensures request { IfOk result (λ g. IsRequest g) }
         ensures read { IfOk result (λ g. request_value g ≡ value.now) }
@@ -159,7 +159,7 @@ impl Ground {
         read_request(alloc, value)
     }
 
-    /// Reads node n of a document as a request, as `of` does.
+    /// Reads node n of a document as a request. Like `of` otherwise.
     ///
     /// # Errors
     ///
@@ -179,7 +179,7 @@ impl Ground {
         }
     }
 
-    /// A request is always well-formed, however it was made.
+    /// States that a request is always well-formed, however it was made.
     pub fn known(&self)
         ensures { spec.IsRequest self.now }
     {

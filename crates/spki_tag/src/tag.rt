@@ -22,9 +22,9 @@ pub struct Tag {
 pub(crate) enum Node {
     /// A tag without members.
     Leaf(Leaf),
-    /// A head and further members, and how many nodes the list has.
+    /// A head and further members, and the number of nodes of the list.
     List(SharedOctets, Vec<Tag>, usize),
-    /// Members, and how many nodes the set has.
+    /// Members, and the number of nodes of the set.
     Set(Vec<Tag>, usize),
 }
 
@@ -95,7 +95,7 @@ impl Tag {
         Tag::list_counted(head, further, nodes)
     }
 
-    /// The same of further tags that have this many nodes together.
+    /// The same, if the further tags have `nodes` nodes together.
     pub(crate) fn list_counted(head: SharedOctets, further: Vec<Tag>, nodes: usize) -> Tag
         requires normal { spec.IsNormalTag (spec.list (arc_slice_items head) (spec.tags further.items)) }
         requires counted { nodes ≡ spec.nodes_all (spec.tags further.items) }
@@ -106,7 +106,7 @@ impl Tag {
         }
     }
 
-    /// A set of these tags, none of which is a set or `(*)`: one alone is the tag itself.
+    /// A set of these tags, none of which is a set or `(*)`. One tag alone is the tag itself.
     pub(crate) fn gathered(members: Vec<Tag>) -> Tag
         requires { spec.IsNormalTag (gather members.items) }
         ensures { result ≡ gather members.items }
@@ -115,7 +115,7 @@ impl Tag {
         Tag::gathered_counted(members, nodes)
     }
 
-    /// The same of tags that have this many nodes together.
+    /// The same, if the tags have `nodes` nodes together.
     pub(crate) fn gathered_counted(members: Vec<Tag>, nodes: usize) -> Tag
         requires normal { spec.IsNormalTag (gather members.items) }
         requires counted { nodes ≡ spec.nodes_all (spec.tags members.items) }
@@ -131,8 +131,8 @@ impl Tag {
         }
     }
 
-    /// How many nodes the tag has: a string, a prefix, a range and `(*)` are one, a list and a set are one and the
-    /// nodes of their members, among which a list's head is.
+    /// The number of nodes of the tag. A string, a prefix, a range and `(*)` are one. A list or a set is one plus the nodes
+    /// of its members; the head of a list is a member.
     pub fn nodes(&self) -> usize
         ensures count { result ≡ spec.nodes self.now }
         ensures normal { spec.IsNormalTag self.now }
@@ -145,7 +145,7 @@ impl Tag {
     }
 }
 
-/// How many nodes some tags have together.
+/// The number of nodes of some tags together.
 pub(crate) fn nodes_of(members: &[Tag]) -> usize
     requires { spec.nodes_all (spec.tags members.now) ≤ spec.most_nodes }
     ensures count { result ≡ spec.nodes_all (spec.tags members.now) }

@@ -1,4 +1,4 @@
-//! Writing tags as S-expressions.
+//! Writes tags as S-expressions.
 
 ghost use Rattle.std.specs.Prelude.{◌≡◌, ◌++◌, ◌∷◌, [], IfOk, OnOk, map, codes};
 ghost use Rattle.sexpr_core.specs.Value.{plain};
@@ -11,7 +11,7 @@ use crate::tag::{Node, Tag};
 use sexpr_core::Sexp;
 use std::alloc::{AllocError, Global};
 
-/// The members `*` and a word, with which a list begins that is no plain list.
+/// The members `*` and a word: the beginning of each list that is not a plain list.
 fn starred(alloc: Global, word: &[u8]) -> Result<Vec<Sexp>, AllocError>
     ensures { IfOk result (λ out. map sexp_value out.items ≡ plain (codes "*") ∷ plain word.now ∷ []) }
 {
@@ -21,7 +21,7 @@ fn starred(alloc: Global, word: &[u8]) -> Result<Vec<Sexp>, AllocError>
     Ok(out)
 }
 
-/// The word for an ordering.
+/// The name of an ordering.
 fn ordering_name(ordering: RangeOrdering) -> &'static [u8]
     ensures { result.now ≡ ordering_name (ordering_of ordering) }
 {
@@ -32,7 +32,7 @@ fn ordering_name(ordering: RangeOrdering) -> &'static [u8]
     }
 }
 
-/// Adds a limit behind its word, of which there is one for a strict limit and one for another.
+/// Adds a limit behind its word: one word for a strict limit, and another for any other limit.
 fn push_limit(
     alloc: Global,
     out: &mut Vec<Sexp>,
@@ -54,7 +54,7 @@ fn push_limit(
     }
 }
 
-/// A range as it is written.
+/// Writes a range.
 fn write_range(
     alloc: Global,
     ordering: RangeOrdering,
@@ -70,7 +70,7 @@ fn write_range(
     Ok(Sexp::list(out))
 }
 
-/// A tag without members as it is written.
+/// Writes a tag without members.
 fn write_leaf(alloc: Global, leaf: &Leaf) -> Result<Sexp, AllocError>
     ensures { IfOk result (λ s. sexp_value s ≡ tag_value (leaf_tag leaf.now)) }
 {
@@ -91,11 +91,11 @@ fn write_leaf(alloc: Global, leaf: &Leaf) -> Result<Sexp, AllocError>
 }
 
 impl Tag {
-    /// The tag as it is written, in normal form (RFC 2693, section 6.3.1).
+    /// Writes the tag in normal form (RFC 2693, section 6.3.1).
     ///
     /// # Errors
     ///
-    /// `AllocError` where memory ran out.
+    /// `AllocError` if memory ran out.
     #[cycle(write)]
     pub fn write(&self, alloc: Global) -> Result<Sexp, AllocError>
         ensures { IfOk result (λ s. sexp_value s ≡ tag_value self.now) }
@@ -117,7 +117,7 @@ impl Tag {
     }
 }
 
-/// Adds each tag as it is written.
+/// Writes each tag and adds it.
 #[cycle(write)]
 fn push_each(alloc: Global, out: &mut Vec<Sexp>, members: &[Tag]) -> Result<(), AllocError>
     ensures { OnOk result (map sexp_value out.new.items

@@ -3,7 +3,7 @@ use Rattle.std.specs.Prelude.{ℕ, List, [], ◌∷◌, codes}
 use Rattle.spki_words.specs.declared.commands.Command.{Command}
 use Rattle.spki_words.specs.declared.commands.Command.TheVariants.{Canonical, Advanced, Transport, Intersect, Reduce, Check, Explain}
 
--- the word that a command goes by
+-- the word of a command
 abbrev pub word_of : Command → List ℕ
 word_of Canonical = codes "canonical"
 word_of Advanced = codes "advanced"

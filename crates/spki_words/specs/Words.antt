@@ -1,4 +1,4 @@
--- What `clap` reads in the words of a command line, of which the first is the program's name.
+-- How `clap` parses the words of a command line. The first word is the program's name.
 use Rattle.std.specs.Prelude.{◌≡◌, ◌≢◌, ℕ, ⊤, List, true, false, Option, codes, fold, option_map}
 use Rattle.clap.specs.Words.{App, Kinds, IsAmong, Text, new_app, with_subcommand, subcommand_of, fault_of, app_of}
 use Rattle.clap.specs.Simple.{on_top}
@@ -11,11 +11,11 @@ use Rattle.spki_words.specs.declared.commands.Command.{Command}
 use Rattle.spki_words.specs.declared.words.WordsFault.{WordsFault}
 use Rattle.spki_words.specs.declared.words.WordsFault.TheVariants.{Refused, Help, Memory}
 
--- `spki` without a subcommand, of which one has to be named; `help` is a flag alone
+-- `spki` without its subcommands, one of which must be given; help is a flag and no subcommand
 abbrev pub bare : App
 bare = on_top (λ s. record s { subcommand_required = true; disable_help_subcommand = true }) (new_app (codes "spki"))
 
--- the subcommand that a command is: it takes no arguments
+-- a command as a subcommand: it takes no arguments
 abbrev pub leaf : Command → App
 leaf command = new_app (word_of command)
 
@@ -27,15 +27,15 @@ with_command program command = with_subcommand program (leaf command).top
 abbrev pub spki : App
 spki = fold with_command bare commands
 
--- the subcommand that `clap` reads in the words
+-- the subcommand that `clap` finds in the words
 abbrev pub subcommand_in : List Text → Option Text
 subcommand_in words = option_map (λ s. s.0) (subcommand_of spki words)
 
--- the kinds of error of the first word that `clap` refuses, or of what is missing; none where it takes the words
+-- the kinds of error of the first word that `clap` refuses, or of what is missing; none if it accepts the words
 abbrev pub faults_of : List Text → Kinds
 faults_of words = fault_of spki words
 
--- the fault is one that `clap` finds: a call for help, or another
+-- the fault is one that `clap` finds: a request for help, or another
 abbrev pub IsFaultOf : List Text → WordsFault → Type 0
 IsFaultOf words (Refused text) = (kind : ErrorKind) × (kind ≢ DisplayHelp) × IsAmong kind (faults_of words)
 IsFaultOf words (Help text) = IsAmong DisplayHelp (faults_of words)
@@ -47,12 +47,12 @@ code_of (Refused text) = 2
 code_of (Help text) = 0
 code_of Memory = 2
 
--- what `clap` says where an error has this kind
+-- the fault that an error of this kind becomes
 abbrev pub IsFault : ErrorKind → WordsFault → Type 0
 IsFault kind (Refused text) = (kind ≢ DisplayHelp) × (kind ≢ OutOfMemory)
 IsFault kind (Help text) = kind ≡ DisplayHelp
 IsFault kind Memory = ⊤
 
--- a parse by this command reads words as the program does, and copies nothing between its levels
+-- a command of `clap` parses words as this program does, and has no global arguments
 abbrev pub IsProgram : App → clap.Command → Type 0
 IsProgram app program = (app_of program ≡ app) × ((fields_of program).has_globals ≡ false)

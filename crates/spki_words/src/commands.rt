@@ -1,4 +1,4 @@
-//! What is asked of a text.
+//! The commands.
 
 ghost use Rattle.std.specs.Prelude.{◌≡◌, ◌≢◌, MatchOption};
 ghost use Rattle.spki_words.specs.Command.{word_of};
@@ -8,21 +8,21 @@ ghost use Rattle.spki_words.specs.Command.{word_of};
 pub enum Command {
     /// Writes its canonical form.
     Canonical,
-    /// Writes it in advanced form, on a line.
+    /// Writes it in advanced form, on one line.
     Advanced,
-    /// Writes it in the transport form, on a line.
+    /// Writes it in the transport form, on one line.
     Transport,
-    /// Writes what two tags leave together, in advanced form, on a line.
+    /// Writes the intersection of two tags, in advanced form, on one line.
     Intersect,
-    /// Writes what each entry of a case comes to with the certificates, on a line.
+    /// Writes for each entry of a case what it becomes with the certificates, on one line each.
     Reduce,
     /// Decides the request of a case.
     Check,
-    /// Says of each entry of a case why it grants the request or doesn't, on a line.
+    /// Writes for each entry of a case why it grants the request or does not, on one line each.
     Explain,
 }
 
-/// All commands, in the order of the help.
+/// All commands, in the order in which the help lists them.
 pub(crate) const COMMANDS: [Command; 7] = [
     Command::Canonical,
     Command::Advanced,
@@ -34,7 +34,7 @@ pub(crate) const COMMANDS: [Command; 7] = [
 ];
 
 impl Command {
-    /// The word that asks for the command.
+    /// The word of the command.
     pub fn word(self) -> &'static str
         ensures { result.now ≡ word_of self }
     {
@@ -49,7 +49,7 @@ impl Command {
         }
     }
 
-    /// The command that a word asks for.
+    /// The command with this word, if there is one.
     pub(crate) fn named(word: &str) -> Option<Command>
         ensures { MatchOption result ((c : Command) → word.now ≢ word_of c) (λ c. word.now ≡ word_of c) }
     {

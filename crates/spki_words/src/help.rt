@@ -1,11 +1,11 @@
-//! What the help says.
+//! The texts of the help.
 
 use crate::commands::Command;
 
-/// What the program does, in a line.
+/// What the program does, in one line.
 pub(crate) const ABOUT: &str = "Decides who may do what by SPKI certificates (RFC 2693)";
 
-/// What the help of the program says under the list of its commands.
+/// The text of the help behind the list of commands.
 pub(crate) const DETAILS: &str = "\
 Each command reads one text on standard input, to its end, in the canonical, advanced or transport form of RFC 9804,
 and writes its answer on standard output. The help of a command says more: spki check --help
@@ -123,7 +123,7 @@ Example, which writes entry 1 grants:
     (key (public-key (test a))) (request (ftp)) (at \"2024-01-01_00:00:00\"))' | spki explain
 ";
 
-/// What a command does, in a line.
+/// What a command does, in one line.
 pub(crate) fn about(command: Command) -> &'static str {
     match command {
         Command::Canonical => "Writes a value in canonical form",
@@ -136,7 +136,7 @@ pub(crate) fn about(command: Command) -> &'static str {
     }
 }
 
-/// What the help of a command says under its usage: what is read and written, the exit statuses and an example.
+/// The text of the help of a command behind its usage: what is read and written, the exit statuses, an example.
 pub(crate) fn details(command: Command) -> &'static str {
     match command {
         Command::Canonical => CANONICAL,

@@ -1,4 +1,4 @@
-//! The words of a command line, and the command of `spki` that they ask for.
+//! Parses the words of a command line: which command of `spki` they ask for.
 #![tactic(auto)]
 
 mod commands;

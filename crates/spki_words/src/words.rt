@@ -1,4 +1,4 @@
-//! The command that the words of a command line ask for.
+//! Parses the words of a command line.
 
 ghost use Rattle.std.specs.Prelude.{◌≡◌, ◌∷◌, [], ◌⊎◌, List, IfOk, IfErr, Ok, Err, Some, MatchResult, map, string_bytes};
 ghost use Rattle.clap.specs.Words.{Text, app_of, kind_of, subcommand_name_of};
@@ -11,22 +11,22 @@ use clap::error::ErrorKind;
 use std::alloc::{AllocError, Global};
 use thiserror::Error;
 
-/// Why words name no command.
+/// Why the words ask for no command.
 #[derive(Debug, Drop, Error)]
 pub enum WordsFault {
-    /// They aren't the program's name and one command, as the text says.
+    /// They are not the program's name and one command. The text says why.
     #[error("{0}")]
     Refused(String),
-    /// They ask for the text.
+    /// They ask for help. The text is the help.
     #[error("{0}")]
     Help(String),
-    /// Memory was refused.
+    /// Memory ran out.
     #[error("memory was refused")]
     Memory,
 }
 
 impl WordsFault {
-    /// The exit status: 0 where help was asked for, else 2.
+    /// The exit status: 0 if help was asked for, otherwise 2.
     pub fn code(&self) -> u8
         ensures { result ≡ code_of self.now }
     {
@@ -47,12 +47,12 @@ impl From<AllocError> for WordsFault {
     }
 }
 
-/// The command that these words ask for, of which the first is the program's name.
+/// Returns the command that the words of a command line ask for. The first word is the program's name.
 ///
 /// # Errors
 ///
-/// `Help` where the words ask for help, `Refused` where `clap` refuses them, both with its text; `Memory` where memory
-/// is refused.
+/// `Help` if the words ask for help, `Refused` if `clap` refuses them for another reason, both with the text of `clap`;
+/// `Memory` if memory ran out.
 pub fn command_of(alloc: Global, words: &[String]) -> Result<Command, WordsFault>
     ensures named { IfOk result (λ c. subcommand_in (map string_bytes words.now) ≡ Some (word_of c)) }
     ensures taken { (program : Text) (c : Command) → map string_bytes words.now ≡ program ∷ word_of c ∷ []
@@ -65,7 +65,7 @@ pub fn command_of(alloc: Global, words: &[String]) -> Result<Command, WordsFault
     }
 }
 
-/// `spki` as `clap` knows it: the commands are its subcommands, and one has to be named.
+/// `spki` as a command of `clap`: the commands are its subcommands, and one must be given.
 fn program<'a>(alloc: Global) -> Result<clap::Command<'a>, AllocError>
     ensures { IfOk result (λ program. IsProgram spki program) }
 {
@@ -87,7 +87,7 @@ fn bare<'a>(alloc: Global) -> clap::Command<'a>
         .disable_help_subcommand(true)
 }
 
-/// The subcommand that a command is.
+/// A command as a subcommand of `clap`.
 fn subcommand<'a>(alloc: Global, command: Command) -> clap::Command<'a>
     ensures { IsProgram (leaf command) result }
 {
@@ -99,7 +99,7 @@ fn subcommand<'a>(alloc: Global, command: Command) -> clap::Command<'a>
         .after_help(details)
 }
 
-/// The command that was met, which is one of the program's.
+/// The command in these matches, which is one of the program's.
 fn met(matches: &clap::ArgMatches<'_>) -> Command
     requires { (c : Command) × (subcommand_name_of matches.now ≡ Some (word_of c)) }
     ensures { subcommand_name_of matches.now ≡ Some (word_of result) }
@@ -113,7 +113,7 @@ fn met(matches: &clap::ArgMatches<'_>) -> Command
     command
 }
 
-/// What `clap` says against words.
+/// The fault that an error of `clap` becomes.
 fn fault(alloc: Global, error: &clap::Error) -> WordsFault
     ensures { IsFault (kind_of error.now) result }
 {

@@ -1,4 +1,4 @@
--- What a service answers to those who ask.
+-- The answer of a service to a question.
 use Rattle.std.specs.Prelude.{◌≡◌, ℕ, List, Ok}
 use Rattle.spki_cert.specs.declared.entry.Entry.{Entry}
 use Rattle.spki_cert.specs.declared.principal.Policy.{Policy}
@@ -10,7 +10,7 @@ use Rattle.spki_service.specs.declared.question.Question.{Question}
 use Rattle.spki_service.specs.Held.{AreEntries}
 use Rattle.spki_service.specs.Questions.{IsAsked}
 
--- The answer is the decision of the case that has the entries of these texts, and asks what the question asks, under this policy.
+-- The answer is the decision of the case with the entries of these texts and the parts of the question, under this policy.
 pub record IsAnswered (texts : List (List ℕ)) (policy : Policy) (q : Question) (verified : Verified) (d : Decision) : Type 0 where
   pub case : Case
   pub asked : IsAsked q case

@@ -1,4 +1,4 @@
-//! A caller of `spki_guard`, which makes a case of parts.
+//! A caller of `spki_guard` that makes a case of its parts.
 
 ghost use Rattle.std.specs.Prelude.{◌≡◌, ◌≢◌, List, IfOk, IfErr};
 ghost use Rattle.spki_cert.specs.declared.certificate.SeqItem.{SeqItem};
@@ -12,19 +12,19 @@ use spki_guard::{AcceptedTable, Case};
 use spki_tag::Ground;
 use std::alloc::Global;
 
-/// Who asks a service for what, and when.
+/// A question to a service: who requests what, and when.
 #[derive(Drop)]
 pub struct Question<'a> {
-    /// The key that asks.
+    /// The client's key.
     pub key: Key<'a>,
-    /// What it asks for.
+    /// The request.
     pub request: Ground,
-    /// When.
+    /// The moment.
     pub moment: Date,
 }
 
-/// The case of a service's own access list, a sequence that is shown to it and what is asked, under the strict policy. Its
-/// accepted list is empty: it is for a verifier of the service's own.
+/// Makes the case of a service's own access list, a sequence and a question, under the strict policy. Its accepted list is
+/// empty, so the service needs a verifier of its own.
 ///
 /// # Errors
 ///

@@ -9,7 +9,7 @@ ghost use Rattle.spki_cert.specs.Faults.{Shows};
 use sexpr_core::Doc;
 use spki_cert::{CertFaultKind, HashAlg, Key, key_of};
 
-/// The key that a document is, if its SHA-256 digest is one that a service keeps for it.
+/// Reads the key of a document, if its SHA-256 digest is one that a service has stored for it.
 ///
 /// # Errors
 ///

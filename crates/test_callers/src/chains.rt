@@ -12,19 +12,19 @@ use spki_reduce::{Five, Fold, ReduceFault, Step, fold_chain};
 use spki_tag::Ground;
 use std::alloc::Global;
 
-/// What is asked: whether a key may have a request at a moment.
+/// A question: whether a key may do a request at a moment.
 #[derive(Drop)]
 pub struct Asked<'r, 'k> {
-    /// Who asks.
+    /// The client's key.
     pub key: &'r Key<'k>,
-    /// What for.
+    /// The request.
     pub request: &'r Ground,
-    /// When.
+    /// The moment.
     pub moment: &'r Date,
 }
 
-/// Whether an authorization of the keeper's own and the steps behind it, in their order, grant what is asked: some
-/// derivation from them does, however it is bracketed (RFC 2693, section 6.3).
+/// Whether an authorization by the owner of the access list and the steps behind it, in their order, grant the request: some
+/// derivation from them does, in any bracketing (RFC 2693, section 6.3).
 ///
 /// # Errors
 ///

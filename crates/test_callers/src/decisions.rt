@@ -10,7 +10,7 @@ use spki_cert::Key;
 use spki_guard::{Case, Decision, GuardFault, Verifier, decide};
 use std::alloc::{AllocError, Global};
 
-/// Accepts what another verifier accepts, but no signature of a revoked key.
+/// Accepts what another verifier accepts, except the signatures of revoked keys.
 #[derive(Drop)]
 pub struct Unrevoked<'v, 'k, V> {
     /// The other verifier.
@@ -19,7 +19,7 @@ pub struct Unrevoked<'v, 'k, V> {
     pub revoked: &'v [Key<'k>],
 }
 
-/// Whether a key is among some.
+/// Whether a key is among the keys.
 fn is_among(keys: &[Key], key: &Key) -> bool
     ensures { IsTrue result ↔ Contains keys.now key.now }
 {
@@ -46,7 +46,7 @@ impl<'v, 'k, V: Verifier> Verifier for Unrevoked<'v, 'k, V> {
     }
 }
 
-/// Decides a case as `decide` does, but lets no signature of a revoked key count.
+/// Decides a case like `decide`, but accepts no signature of a revoked key.
 ///
 /// # Errors
 ///
@@ -57,7 +57,7 @@ pub fn decide_unrevoked<V: Verifier>(
     verifier: &V,
     revoked: &[Key],
 ) -> Result<Decision, GuardFault>
-    // Yes says that this entry is granted by certificates that the verifier accepts and no revoked key has signed.
+    // Yes: this entry is granted by certificates that the verifier accepts and no revoked key has signed.
     ensures granted { (n : ℕ) → result ≡ Ok (Decision.Yes n)
         → Granted n (model case.now) (unrevoked revoked.now (V.accepted verifier.now)) }
     ensures exact { IfOk result (IsDecision (model case.now) (unrevoked revoked.now (V.accepted verifier.now))) }

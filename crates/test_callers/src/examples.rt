@@ -1,4 +1,4 @@
-//! Each caller on its happy path.
+//! Tests of each caller with an example that succeeds.
 
 ghost use Rattle.std.specs.Prelude.{◌≡◌};
 ghost use Rattle.spki_reduce.specs.Tuples.{own};
@@ -30,10 +30,10 @@ const ADVANCED: &str = "(a \"b c\" #6 4# |ZQ==| |ZQ| [x]3:fgh)";
 
 const CANONICAL: &[u8] = b"(1:a3:b c1:d1:e1:e[1:x]3:fgh)";
 
-/// KA may do everything and pass it on.
+/// KA may do everything, and may delegate it.
 const ACL: &str = "(acl (entry (public-key (test a)) (propagate) (tag (*))))";
 
-/// A certificate by KA gives all of it to KB.
+/// A certificate by which KA lets KB do everything.
 const SHOWN: &str =
     "(sequence (cert (issuer (public-key (test a))) (subject (public-key (test b))) (tag (*)))
  (signature (hash sha256 #d71ecfb335b8e4b04cb035426566a94e817a12cfcfa4dbf5b704b6cd670c7ad2#) (public-key (test a)) sig))";
@@ -63,7 +63,7 @@ fn tag_of(alloc: Global, text: &[u8]) -> Result<Tag, Fail> {
     Ok(Tag::of(alloc, &document.top())?)
 }
 
-/// The text of what a service answers by its own tag, and someone was given.
+/// The text of a service's own tag, narrowed by a given tag.
 fn narrowed_text(alloc: Global, own: &[u8], given: &[u8]) -> Result<Vec<u8>, Fail> {
     let own = tag_of(alloc, own)?;
     let given = Doc::open(alloc, given)?;
@@ -78,7 +78,7 @@ fn meet_lists(rt: HostRuntime) -> Result<(), Fail> {
     Ok(())
 }
 
-/// Whether KA's text is taken for the key with this digest.
+/// Whether KA's text is read as the key with this digest.
 fn is_pinned(alloc: Global, pin: &[u8]) -> Result<bool, Fail> {
     let document = Doc::open(alloc, KA)?;
     let found = pinned_key(&document, pin)?;
@@ -99,7 +99,7 @@ fn key(alloc: Global, text: &'static [u8]) -> Result<Key<'static>, Fail> {
     Ok(key_of(&document.top())?)
 }
 
-/// Everything, for a key, which may pass it on.
+/// Everything, for a key that may delegate it.
 fn everything(alloc: Global, key: Key<'static>) -> Five<'static>
     ensures { issuer_of result.issuer ≡ own }
 {
@@ -118,7 +118,7 @@ fn everything(alloc: Global, key: Key<'static>) -> Five<'static>
     }
 }
 
-/// Whether a key is granted `ftp` by an entry that gives KA everything.
+/// Whether a key is granted `ftp` by an entry that lets KA do everything.
 fn is_granted(alloc: Global, asking: &'static [u8]) -> Result<bool, Fail> {
     let first = everything(alloc, key(alloc, KA)?);
     let asked = Asked {
@@ -141,7 +141,7 @@ fn moment(alloc: Global, text: &[u8]) -> Result<Date, Fail> {
     Ok(date_of(&document.top())?)
 }
 
-/// The canonical text of the case in which KB asks.
+/// The canonical text of the case in which KB requests `(ftp)`.
 fn written(alloc: Global) -> Result<Vec<u8>, Fail> {
     let text = format!(in alloc;
         "(case {ACL} {ACCEPTED} {SHOWN} (key (public-key (test b))) (request (ftp)) (at \"2024-01-01_00:00:00\"))"
@@ -155,7 +155,7 @@ fn entries<'a>(alloc: Global, text: &'a [u8]) -> Result<Vec<Entry<'a>>, Fail> {
     Ok(acl_of(alloc, &document.top())?)
 }
 
-/// The case of these parts, in canonical form, where KB asks.
+/// The case of these parts, in canonical form, with KB as the client.
 fn made<'a>(alloc: Global, acl: &'a [u8], shown: &'a [u8]) -> Result<Case<'a>, Fail> {
     let document = Doc::open(alloc, shown)?;
     let question = Question {
@@ -166,8 +166,7 @@ fn made<'a>(alloc: Global, acl: &'a [u8], shown: &'a [u8]) -> Result<Case<'a>, F
     Ok(case_of(alloc, entries(alloc, acl)?, &document.top(), question)?)
 }
 
-/// What is decided of the case that is made of its parts, by the accepted list of the written one, where these keys are
-/// revoked.
+/// The decision of the case that is made of its parts, by the accepted list of the written one, if these keys are revoked.
 fn decided(alloc: Global, revoked: &[Key]) -> Result<Decision, Fail> {
     let acl = convert(alloc, Form::Canonical, ACL.as_bytes())?;
     let shown = convert(alloc, Form::Canonical, SHOWN.as_bytes())?;
@@ -196,7 +195,7 @@ fn second_entry(rt: HostRuntime) -> Result<(), Fail> {
     Ok(())
 }
 
-/// The question whether a key may do `(ftp)` by the certificate.
+/// The question whether a key may do `(ftp)` with the certificate.
 fn posed(key: &[u8]) -> Posed<'_> {
     Posed {
         sequence: SHOWN.as_bytes(),
@@ -206,7 +205,7 @@ fn posed(key: &[u8]) -> Posed<'_> {
     }
 }
 
-/// What a service answers to KB and to KA, where KA's signature is accepted and some keys are revoked.
+/// The answers of a service to KB and to KA, if KA's signature is accepted and some keys are revoked.
 fn both_answers(alloc: Global, revoked: &[Key]) -> Result<(Decision, Decision), Fail> {
     let rows = convert(alloc, Form::Canonical, ACCEPTED.as_bytes())?;
     let table = AcceptedTable::read(alloc, &rows)?;

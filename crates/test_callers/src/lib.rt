@@ -1,4 +1,4 @@
-//! Callers of the libraries, one file for each, which the pages `CALLING.md` in their folders quote.
+//! Callers of the libraries, one file for each. The pages `CALLING.md` of the libraries quote them.
 #![tactic(auto)]
 
 pub mod cases;

@@ -1,4 +1,4 @@
-//! A caller of `spki_guard`, which holds an access list and asks two questions.
+//! A caller of `spki_guard` that holds an access list and decides two questions.
 
 ghost use Rattle.std.specs.Prelude.{◌≡◌, ℕ, List, IfOk};
 ghost use Rattle.spki_service.specs.Held.{HoldsList};
@@ -11,7 +11,7 @@ use spki_guard::{AclFault, AskFault, Decision, Guard, GuardFault, Limits, Questi
 use std::alloc::Global;
 use thiserror::Error;
 
-/// Why a service doesn't answer.
+/// Why a service does not answer.
 #[derive(Clone, Copy, Debug, PartialEq, Eq, Error)]
 pub enum ServiceFault {
     /// Its list is no access list.
@@ -20,12 +20,12 @@ pub enum ServiceFault {
     /// The question is refused.
     #[error("{0}")]
     Question(AskFault),
-    /// The question isn't decided.
+    /// The question is not decided.
     #[error("{0}")]
     Decision(GuardFault),
 }
 
-/// What a guard answers to a question, where no signature of a revoked key counts.
+/// The answer of a guard to a question, without signatures of revoked keys.
 fn answer<V: Verifier>(
     alloc: Global,
     guard: &Guard,
@@ -49,11 +49,12 @@ fn answer<V: Verifier>(
     }
 }
 
-/// Reads an access list once and answers two questions by it, under the strict policy. No signature of a revoked key counts.
+/// Reads an access list once and answers two questions with it, under the strict policy. No signature of a revoked key is
+/// accepted.
 ///
 /// # Errors
 ///
-/// `List` where the list is no access list, `Question` where a question is refused, `Decision` where one isn't decided.
+/// `List` if the list is no access list, `Question` if a question is refused, `Decision` if a question is not decided.
 pub fn answer_both<V: Verifier>(
     alloc: Global,
     list: &[u8],

@@ -8,13 +8,13 @@ use std::alloc::Global;
 use std::io::Read;
 use thiserror::Error;
 
-/// Why a client gives no text.
+/// Why a client's text is not read.
 #[derive(Clone, Copy, Debug, PartialEq, Eq, Error)]
 pub enum TextFault {
     /// Its reader failed.
     #[error("the reader failed")]
     Broken,
-    /// It came to no end within the asks that a reader has.
+    /// It did not end within the calls that a reader may have.
     #[error("too slow")]
     Slow,
     /// The text has more octets than the limit.
@@ -25,7 +25,11 @@ pub enum TextFault {
     Memory,
 }
 
-/// The whole text that a client sends, of at most `most` octets; where there is none, `TextFault` says whose fault it is.
+/// Reads the whole text that a client sends, of at most `most` octets.
+///
+/// # Errors
+///
+/// `TextFault` says why there is no text: `Broken`, `Slow` and `TooLong` are faults of the client, and `Memory` is not.
 pub fn text_from<R: Read>(
     alloc: Global,
     client: &mut Metered<R>,

@@ -11,22 +11,22 @@ use spki_tag::{MeetFault, Tag, TagFault};
 use std::alloc::Global;
 use thiserror::Error;
 
-/// Why a service's tag isn't narrowed.
+/// Why a service's tag is not narrowed.
 #[derive(Clone, Copy, Debug, PartialEq, Eq, Error)]
 pub enum NarrowFault {
-    /// What was given is no tag.
+    /// The given value is no tag.
     #[error("tag: {0}")]
     Tag(TagFault),
-    /// The two tags aren't met.
+    /// The two tags are not intersected.
     #[error("meet: {0}")]
     Meet(MeetFault),
 }
 
-/// The tag of the requests that are in a service's own tag and in the one that someone was given, as it is written.
+/// The intersection of a service's own tag and a given tag: the tag of the requests that both contain.
 ///
 /// # Errors
 ///
-/// `Tag` with the fault of `Tag::of`, and else `Meet` with that of `Tag::meet`.
+/// `Tag` with the fault of `Tag::of`, otherwise `Meet` with the fault of `Tag::meet`.
 pub fn narrowed(alloc: Global, own: &Tag, given: &Node) -> Result<Tag, NarrowFault>
     ensures both { IfOk result (λ both. (t : Tag) × ReadsAs given.now t
         × ((g : Request) → IsRequest g → contains both g ≡ (contains own.now g && contains t g))) }

@@ -9,17 +9,17 @@ use sexpr_core::FormFault;
 use sexpr_text::{laws, read_any};
 use std::alloc::Global;
 
-/// Whether two texts are of one value, in whichever form each of them is written.
+/// Whether two texts have the same value, each in any form.
 ///
 /// # Errors
 ///
-/// That of the first text, or else of the second, by `read_any`.
+/// That of the first text, otherwise that of the second, by `read_any`.
 pub fn same_value(alloc: Global, text: &[u8], other: &[u8]) -> Result<bool, FormFault>
     ensures same { IfOk result (λ same. (v : Value) (w : Value) → IsText text.now v → IsText other.now w
         → IsTrue same ↔ (v ≡ w)) }
     ensures refused { IfErr result (λ fault. RefusesText text.now fault ⊎ RefusesText other.now fault) }
 {
-    // A text has one value, so that those which are read are the ones that the contract speaks of.
+    // A text has only one value, so the values that are read are those of the contract.
     laws::one_value();
     let tree = read_any(alloc, text)?;
     let second = read_any(alloc, other)?;

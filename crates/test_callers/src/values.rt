@@ -10,8 +10,8 @@ use sexpr_core::syntax::NodeKind;
 use sexpr_core::{Doc, FormFault};
 use std::alloc::Global;
 
-/// The canonical octets of the first member of the list that a canonical text is, as they stand in the text: what is
-/// hashed, signed or compared. None where the text is a string or the empty list.
+/// The canonical octets of the first member of a list in canonical form, as they are in its text: what is hashed, signed or
+/// compared. None if the text is a string or the empty list.
 ///
 /// # Errors
 ///

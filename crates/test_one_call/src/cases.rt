@@ -1,4 +1,4 @@
-//! The calls on cases.
+//! The calls for cases.
 
 use crate::missed::Missed;
 use sha2::{Digest, Sha256};
@@ -16,7 +16,8 @@ const FIRST_RUN: &[u8] =
 const SHORTER: &[u8] =
     b"(4:case(3:acl(5:entry(10:public-key(4:test1:a))(3:tag(3:ftp4:host))))(8:accepted)(8:sequence)(3:key(10:public-key(4:test1:a)))(7:request(3:ftp))(2:at19:2024-01-01_00:00:00))";
 
-/// `reduced-sets`, up to the accepted row's digest, from there to the signature's, and what is behind it.
+/// `reduced-sets`: the text before the digest in the accepted row, the text between this digest and the one in the
+/// signature, and the text behind it.
 const ENTRY: &[u8] =
     b"(4:case(3:acl(5:entry(10:public-key(4:test1:a))(9:propagate)(3:tag(1:*3:set4:read5:write))))(8:accepted(2:by(10:public-key(4:test1:a))(4:hash6:sha25632:";
 
@@ -97,7 +98,7 @@ fn one_tag(alloc: Global, folds: &[EntryFold]) -> Result<bool, Missed> {
     Ok(octets.as_slice() == b"(1:*3:set4:read5:write)".as_slice())
 }
 
-/// Whether the first item stops the first entry, for want of a common tag.
+/// Whether the first item stops the first entry, since the two tags have no intersection.
 fn is_stopped(folds: &[EntryFold]) -> bool {
     match folds.first() {
         Some(EntryFold::Stopped { item, cause }) => *item == 1 && *cause == Cause::NoTag,

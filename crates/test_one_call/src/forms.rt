@@ -1,4 +1,4 @@
-//! The calls on forms of S-expressions.
+//! The calls for forms of S-expressions.
 
 use crate::missed::Missed;
 use sexpr_core::{Doc, FormFault};
@@ -25,7 +25,7 @@ pub(crate) fn decode(alloc: Global) -> Result<bool, Missed> {
     )
 }
 
-/// Whether a text is refused as no canonical form for this reason.
+/// Whether a text is refused as canonical form for this fault.
 fn refuses(alloc: Global, text: &[u8], fault: FormFault) -> Result<bool, Missed> {
     match sexpr_core::decode(alloc, text) {
         Ok(_) => Ok(false),

@@ -1,18 +1,18 @@
-//! The calls on guards.
+//! The calls for guards.
 
 ghost use Rattle.std.specs.Prelude.{◌↔◌, IsTrue, IfOk};
 
 use crate::missed::Missed;
-use crate::structures::sequence;
+use crate::structures::{KA, sequence};
 use spki_cert::{Key, Policy};
 use spki_guard::{
-    Asked, Decision, EntryFold, Explanation, Guard, Instant, Limits, Question, Reason, Reduction,
-    Verifier, Wanted,
+    Answer, Asked, Decision, EntryFold, Explanation, Guard, Instant, Limits, Question, Reason,
+    Reduction, Verdict, Verifier, Wanted, Wish,
 };
 use spki_reduce::Cause;
 use std::alloc::{AllocError, Global};
 
-/// The access list: KA, which may pass nothing on; the hash of KA, which nobody shows to have; KA, which may pass all on.
+/// The access list: KA without delegation; a hash that names no key that is shown; KA with delegation.
 const LIST: &[u8] =
     b"(acl (entry (public-key (test a)) (tag (*))) (entry (hash sha1 \"01234567890123456789\") (propagate) (tag (*))) (entry (public-key (test a)) (propagate) (tag (*))))";
 
@@ -41,7 +41,7 @@ fn guard(alloc: Global) -> Result<Guard, Missed> {
     Ok(Guard::read(alloc, LIST, Policy::Open, Limits::default())?)
 }
 
-/// KB shows KA's certificate and asks for `(ftp host)`.
+/// KB shows KA's certificate and requests `(ftp host)`.
 fn question(sequence: &[u8]) -> Question<'_> {
     Question {
         sequence,
@@ -61,7 +61,7 @@ pub(crate) fn guard_texts(alloc: Global) -> Result<bool, Missed> {
     Ok(true)
 }
 
-/// What is answered of the question.
+/// The kinds of answers to the question.
 #[derive(Clone, Copy)]
 enum Answered {
     Signed,
@@ -150,4 +150,41 @@ pub(crate) fn asked_reduce(alloc: Global) -> Result<bool, Missed> {
 
 pub(crate) fn asked_reduce_by(alloc: Global) -> Result<bool, Missed> {
     asked(alloc, Answered::ReducedBy)
+}
+
+/// Why there is no answer, where the answer is a refusal.
+fn missed(answer: &Answer) -> Missed {
+    if answer.octets() == b"refused Memory\n".as_slice() {
+        Missed::Memory
+    } else {
+        Missed::Fault
+    }
+}
+
+/// Whether the lines that are written for the question are the example's.
+fn is_answered(alloc: Global, wish: Wish, verdict: Verdict, lines: &[u8]) -> Result<bool, Missed> {
+    let shown = sequence(alloc, 1)?;
+    let guard = guard(alloc)?;
+    match spki_guard::answer_question(alloc, wish, &guard, &question(&shown), &[true]) {
+        Some(answer) if answer.verdict == Verdict::Refused => Err(missed(&answer)),
+        Some(answer) => Ok(answer.verdict == verdict && answer.octets() == lines),
+        None => Ok(false),
+    }
+}
+
+pub(crate) fn answer_question(alloc: Global) -> Result<bool, Missed> {
+    let reasons = b"entry 1 item 1 NoDelegation\nentry 2 item 1 NotIssuer\nentry 3 grants\n";
+    Ok(
+        is_answered(alloc, Wish::Decide, Verdict::Done, b"yes entry 3\n")?
+            && is_answered(alloc, Wish::Explain, Verdict::Done, reasons)?,
+    )
+}
+
+pub(crate) fn signed_octets(alloc: Global) -> Result<bool, Missed> {
+    let shown = sequence(alloc, 1)?;
+    let guard = guard(alloc)?;
+    match spki_guard::signed_octets(alloc, &guard, &question(&shown)) {
+        Ok(signed) => Ok(signed.lengths.len() == 3 && signed.octets.starts_with(KA)),
+        Err(refusal) => Err(missed(&refusal)),
+    }
 }

@@ -1,7 +1,7 @@
-//! `test_one_call`: runs the worked example of the call that its word names, and says how the call ended.
+//! `test_one_call` runs the worked example of the call with the given name, and writes how the call ended.
 //!
-//! tests/hostile.py starts it with each request for memory refused in turn: every run but the last has to say that memory
-//! ran out, and the last that the example has its answer.
+//! tests/hostile.py starts it again and again, each time with another allocation refused. Every run except the last must
+//! write that memory ran out, and the last that the example has its answer.
 #![tactic(auto)]
 
 mod cases;
@@ -18,7 +18,7 @@ use std::process::ExitCode;
 use std::rt::Env;
 use std::{env, io};
 
-/// Whether the call on forms of this name gives its example's answer; none if none is called so.
+/// Whether the call for forms with this name gives its example's answer. None if there is no such call.
 fn of_forms(alloc: Global, name: &str) -> Option<Result<bool, Missed>> {
     match name {
         "decode" => Some(forms::decode(alloc)),
@@ -33,7 +33,7 @@ fn of_forms(alloc: Global, name: &str) -> Option<Result<bool, Missed>> {
     }
 }
 
-/// Whether the call on tags or structures of this name gives its example's answer; none if none is called so.
+/// Whether the call for tags or structures with this name gives its example's answer. None if there is no such call.
 fn of_structures(alloc: Global, name: &str) -> Option<Result<bool, Missed>> {
     match name {
         "Tag::read" => Some(tags::tag_read(alloc)),
@@ -48,7 +48,7 @@ fn of_structures(alloc: Global, name: &str) -> Option<Result<bool, Missed>> {
     }
 }
 
-/// Whether the call on tuples or cases of this name gives its example's answer; none if none is called so.
+/// Whether the call for tuples or cases with this name gives its example's answer. None if there is no such call.
 fn of_cases(alloc: Global, name: &str) -> Option<Result<bool, Missed>> {
     match name {
         "Five::then" => Some(tuples::five_then(alloc)),
@@ -65,7 +65,7 @@ fn of_cases(alloc: Global, name: &str) -> Option<Result<bool, Missed>> {
     }
 }
 
-/// Whether the call on guards of this name gives its example's answer; none if none is called so.
+/// Whether the call for guards with this name gives its example's answer. None if there is no such call.
 fn of_guards(alloc: Global, name: &str) -> Option<Result<bool, Missed>> {
     match name {
         "Guard::read" => Some(guards::guard_read(alloc)),
@@ -77,11 +77,13 @@ fn of_guards(alloc: Global, name: &str) -> Option<Result<bool, Missed>> {
         "Asked::explain_by" => Some(guards::asked_explain_by(alloc)),
         "Asked::reduce" => Some(guards::asked_reduce(alloc)),
         "Asked::reduce_by" => Some(guards::asked_reduce_by(alloc)),
+        "answer_question" => Some(guards::answer_question(alloc)),
+        "signed_octets" => Some(guards::signed_octets(alloc)),
         _ => None,
     }
 }
 
-/// Whether the call of this name gives its example's answer; none if none is called so.
+/// Whether the call with this name gives its example's answer. None if there is no such call.
 fn ended(alloc: Global, name: &str) -> Option<Result<bool, Missed>> {
     of_forms(alloc, name)
         .or_else(|| of_structures(alloc, name))
@@ -100,7 +102,7 @@ fn word<R: Env + AllocGlobal>(rt: &R) -> Result<Option<String>, Missed> {
     }
 }
 
-/// How a call ended, in a line, and the status that goes with it.
+/// How a call ended, as a line, and its exit status.
 fn report(ended: Option<Result<bool, Missed>>) -> (&'static str, u8) {
     match ended {
         Some(Ok(true)) => ("as promised", 0),

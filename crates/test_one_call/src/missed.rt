@@ -17,7 +17,7 @@ pub enum Missed {
 }
 
 impl Missed {
-    /// Memory where that is the fault.
+    /// The reason, which is Memory if that is the fault.
     fn by(is_memory: bool) -> Missed {
         if is_memory {
             Missed::Memory

@@ -1,4 +1,4 @@
-//! The calls on keys, hashes, access lists and sequences.
+//! The calls for keys, hashes, access lists and sequences.
 
 use crate::missed::Missed;
 use sexpr_core::Doc;
@@ -20,7 +20,7 @@ pub(crate) fn read_acl(alloc: Global) -> Result<bool, Missed> {
     )
 }
 
-/// Whether the value with this text is refused as an access list for this reason at this entry.
+/// Whether the value with this text is refused as an access list for this fault at this entry.
 fn refuses_acl(
     alloc: Global,
     text: &[u8],
@@ -52,7 +52,7 @@ pub(crate) fn read_sequence(alloc: Global) -> Result<bool, Missed> {
     )
 }
 
-/// The sequence of the certificate and so many times its signature by KA.
+/// The sequence of the certificate and `signatures` copies of its signature by KA.
 pub(crate) fn sequence(alloc: Global, signatures: usize) -> Result<Vec<u8>, Missed> {
     let digest = Sha256::digest(CERTIFICATE);
     let mut text = Vec::from_slice(alloc, b"(8:sequence")?;
@@ -80,7 +80,7 @@ fn is_read(alloc: Global) -> Result<bool, Missed> {
     Ok(read.len() == 2)
 }
 
-/// Whether the sequence with so many signatures is refused for this reason at this item.
+/// Whether the sequence with so many signatures is refused for this fault at this item.
 fn refuses_sequence(
     alloc: Global,
     signatures: usize,

@@ -1,4 +1,4 @@
-//! The calls on tags and requests.
+//! The calls for tags and requests.
 
 use crate::missed::Missed;
 use sexpr_core::Doc;
@@ -11,7 +11,7 @@ fn tag(alloc: Global, text: &[u8]) -> Result<Tag, Missed> {
     Ok(Tag::of(alloc, &document.top())?)
 }
 
-/// Whether the value with this text is refused as a tag for this reason.
+/// Whether the value with this text is refused as a tag for this fault.
 fn refuses(alloc: Global, text: &[u8], fault: TagFault) -> Result<bool, Missed> {
     let document = Doc::open(alloc, text)?;
     let root = document.root();

@@ -1,4 +1,4 @@
-//! The calls on tuples.
+//! The calls for tuples.
 
 use crate::missed::Missed;
 use crate::structures::KA;
@@ -12,7 +12,7 @@ const KB: &[u8] = b"(10:public-key(4:test1:b))";
 
 const KC: &[u8] = b"(10:public-key(4:test1:c))";
 
-/// No limits of time.
+/// No limits.
 const ALWAYS: Window = Window {
     not_before: None,
     not_after: None,
@@ -38,7 +38,7 @@ fn subject(
     })
 }
 
-/// The authorization of an access list's keeper for a subject, which may be passed on.
+/// The authorization of a subject by the owner of an access list, with delegation.
 fn entry(
     alloc: Global,
     key_text: &'static [u8],
@@ -55,7 +55,7 @@ fn entry(
     })
 }
 
-/// The authorization of a certificate between two keys, which may not be passed on.
+/// The authorization of a certificate between two keys, without delegation.
 fn certificate(
     alloc: Global,
     issuer: &'static [u8],
@@ -70,7 +70,7 @@ fn certificate(
     })
 }
 
-/// What a key calls by a name.
+/// The definition of a name of a key.
 fn definition(
     alloc: Global,
     issuer: &'static [u8],
@@ -102,7 +102,7 @@ pub(crate) fn five_then(alloc: Global) -> Result<bool, Missed> {
     }
 }
 
-/// `delegation`: the second certificate doesn't join, since the first doesn't delegate.
+/// `delegation`: the second certificate does not join, since the first does not delegate.
 pub(crate) fn fold_chain(alloc: Global) -> Result<bool, Missed> {
     let first = entry(alloc, KA, &[], b"(1:*)")?;
     let mut steps = Vec::new(alloc);
@@ -114,7 +114,7 @@ pub(crate) fn fold_chain(alloc: Global) -> Result<bool, Missed> {
     }
 }
 
-/// `linked-names`: the entry for KA's friends' bob and what KA calls friends become one for KB's bob.
+/// `linked-names`: the entry for KA's friends' bob and KA's definition of friends become one for KB's bob.
 pub(crate) fn five_resolve(alloc: Global) -> Result<bool, Missed> {
     let first = entry(alloc, KA, &[b"friends", b"bob"], b"(1:*)")?;
     let friends = definition(alloc, KA, b"friends", subject(alloc, KB, &[])?)?;
@@ -124,7 +124,7 @@ pub(crate) fn five_resolve(alloc: Global) -> Result<bool, Missed> {
     }
 }
 
-/// `linked-names`: what KA calls friends, KB's bob, and what KB calls bob become one tuple for KC.
+/// `linked-names`: KA's definition of friends as KB's bob, and KB's definition of bob, become one tuple for KC.
 pub(crate) fn four_then(alloc: Global) -> Result<bool, Missed> {
     let friends = definition(alloc, KA, b"friends", subject(alloc, KB, &[b"bob"])?)?;
     let bob = definition(alloc, KB, b"bob", subject(alloc, KC, &[])?)?;
@@ -134,7 +134,7 @@ pub(crate) fn four_then(alloc: Global) -> Result<bool, Missed> {
     }
 }
 
-/// `reduced-sets`, as its answer is written.
+/// `reduced-sets`: how its answer is written.
 pub(crate) fn five_write(alloc: Global) -> Result<bool, Missed> {
     let five = entry(alloc, KB, &[], b"(1:*3:set4:read5:write)")?;
     let octets = sexpr_core::encode(alloc, &five.write(alloc)?)?;

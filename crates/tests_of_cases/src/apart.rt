@@ -1,4 +1,4 @@
-//! Answers to texts in memory, and decisions by rows that stand apart from a case.
+//! Answers to texts in memory, and decisions by separate rows.
 
 use crate::chains::{ALL, C1, KA, KB, accepted, case_of, signed};
 use crate::texts::{FIRST_RUN, joined};

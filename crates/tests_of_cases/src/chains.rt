@@ -11,11 +11,11 @@ pub(crate) const KA: &str = "(public-key (test a))";
 
 pub(crate) const KB: &str = "(public-key (test b))";
 
-/// From KA to KB.
+/// A certificate by KA for KB.
 pub(crate) const C1: &str =
     "(cert (issuer (public-key (test a))) (subject (public-key (test b))) (tag (*)))";
 
-/// An entry for KA, which may pass everything on.
+/// An entry by which KA may do everything and may delegate it.
 pub(crate) const ALL: &str = "(entry (public-key (test a)) (propagate) (tag (*)))";
 
 /// The SHA-256 digest of the canonical form of a text, in hexadecimal digits.
@@ -38,14 +38,14 @@ pub(crate) fn signed(alloc: Global, cert: &str, key: &str) -> Result<String, Fai
     Ok(joined(alloc, &parts)?)
 }
 
-/// The row of the accepted list that this signature needs.
+/// The row of the accepted list for this signature.
 pub(crate) fn accepted(alloc: Global, cert: &str, key: &str) -> Result<String, Fail> {
     let digest = digest_of(alloc, cert)?;
     let parts = ["(by ", key, "(hash sha256 #", &digest, "#) sig)"];
     Ok(joined(alloc, &parts)?)
 }
 
-/// A case in which a key asks for `(ftp)` at the beginning of 2024.
+/// A case in which a key requests `(ftp)` at the beginning of 2024.
 pub(crate) fn case_of(
     alloc: Global,
     entries: &str,
@@ -67,7 +67,7 @@ pub(crate) fn case_of(
     Ok(joined(alloc, &parts)?)
 }
 
-/// A certificate that is issued by the hash of KA.
+/// A certificate whose issuer is the hash of KA.
 pub(crate) fn issued_by_hash(alloc: Global) -> Result<String, Fail> {
     let digest = digest_of(alloc, KA)?;
     let parts = [
@@ -80,7 +80,7 @@ pub(crate) fn issued_by_hash(alloc: Global) -> Result<String, Fail> {
     Ok(joined(alloc, &parts)?)
 }
 
-/// A case whose certificate is issued by the hash of KA, which these items behind it may show.
+/// A case with a certificate whose issuer is the hash of KA. The items behind it may show KA.
 pub(crate) fn hash_as_issuer(alloc: Global, behind: &str) -> Result<String, Fail> {
     let cert = issued_by_hash(alloc)?;
     let items = joined(alloc, &[&signed(alloc, &cert, KA)?, behind])?;

@@ -34,7 +34,7 @@ fn case_faults(rt: HostRuntime) {
     assert!(rt; is_no_case(rt.alloc(), b"(4:case)", CaseFault::Shape));
 }
 
-/// The canonical text of what the tags in a text leave together.
+/// The canonical text of the intersection of the tags in a text.
 fn text_of_both(alloc: Global, text: &[u8]) -> Result<Vec<u8>, Fail> {
     let tag = intersect(alloc, text)?;
     let written = tag.write(alloc)?;

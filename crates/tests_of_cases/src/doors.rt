@@ -1,12 +1,13 @@
-//! A case, and its parts asked of a guard of its access list: both have to give the same answers.
+//! A case, and its parts as a question to a guard of its access list: both ways must give the same answers.
 
 use sexpr_core::syntax::{Members, Node, wrap_octets};
 use sexpr_core::{Doc, encode};
 use sexpr_text::{Form, convert};
 use spki_cert::Policy;
 use spki_guard::{
-    Asked, Case, EntryFold, Explanation, Guard, GuardFault, Instant, Limits, Question, Reduction,
-    Signed, Verifier, Wanted, decide, explain, reduce_case,
+    Asked, Case, Command, EntryFold, Explanation, Guard, GuardFault, Instant, Limits, Question,
+    Reduction, Signed, Verifier, Wanted, Wish, answer_question, answer_text, decide, explain,
+    reduce_case, signed_octets,
 };
 use std::alloc::Global;
 use std::test::Fail;
@@ -19,7 +20,7 @@ pub(crate) enum Spelling {
     Transport,
 }
 
-/// A canonical text in another form.
+/// A canonical text, in another form.
 fn spelled(alloc: Global, text: &[u8], spelling: Spelling) -> Result<Vec<u8>, Fail> {
     match spelling {
         Spelling::Canonical => Ok(Vec::from_slice(alloc, text)?),
@@ -50,7 +51,8 @@ fn slices_of<'a>(alloc: Global, members: Members<'_, 'a>) -> Result<Vec<&'a [u8]
     Ok(slices)
 }
 
-/// The canonical text of the only value behind the head of a key, a request or a moment; else that of the member.
+/// The canonical text of the only value behind the head of a key, a request or a moment. Otherwise that of the member
+/// itself.
 fn inner_of<'a>(member: &Node<'_, 'a>) -> &'a [u8] {
     match only_of(member) {
         Some(only) => only.slice(),
@@ -68,7 +70,7 @@ fn only_of<'d, 'a>(member: &Node<'d, 'a>) -> Option<Node<'d, 'a>> {
     Some(only)
 }
 
-/// The texts of the parts of the case in a canonical text, written in this form.
+/// The texts of the parts of the case with this canonical text, in this form.
 pub(crate) fn parts_of(alloc: Global, text: &[u8], spelling: Spelling) -> Result<Parts, Fail> {
     let document = Doc::open(alloc, text)?;
     let members = document.top().headed(b"case").ok_or("no case")?;
@@ -141,7 +143,7 @@ fn same_reasons(one: &Explanation, other: &Explanation) -> bool {
     }
 }
 
-/// What is written of an entry's fold: an authorization in canonical form, or the item and the cause.
+/// An entry's fold as a text: an authorization in canonical form, or the item and the cause.
 fn fold_text(alloc: Global, fold: &EntryFold) -> Result<Vec<u8>, Fail> {
     match fold {
         EntryFold::Done(five) => Ok(encode(alloc, &five.write(alloc)?)?),
@@ -152,7 +154,7 @@ fn fold_text(alloc: Global, fold: &EntryFold) -> Result<Vec<u8>, Fail> {
     }
 }
 
-/// What is written of a reduction, a part behind the other.
+/// A reduction as a text, one part after another.
 fn reduction_text(
     alloc: Global,
     reduction: &Result<Reduction, GuardFault>,
@@ -173,7 +175,7 @@ fn reduction_text(
     Ok(text)
 }
 
-/// Whether two reductions are written alike.
+/// Whether two reductions have the same text.
 fn same_reduction(
     alloc: Global,
     one: &Result<Reduction, GuardFault>,
@@ -214,16 +216,73 @@ fn alike_by_marks(alloc: Global, case: &Case, asked: &Asked) -> Result<bool, Fai
     Ok(decision && explanation && reduction)
 }
 
-/// Whether a guard of the case's list gives the case's answers, with the texts of the parts in this form.
+/// What a question may be asked for, and the command that answers that of a case.
+const WISHES: &[(Wish, Command)] = &[
+    (Wish::Decide, Command::Check),
+    (Wish::Explain, Command::Explain),
+    (Wish::Reduce, Command::Reduce),
+];
+
+/// Whether the lines of the question are those of the case in a text, where the marks are as many as the signatures, and there are
+/// none with another mark.
+fn alike_in_lines(
+    alloc: Global,
+    text: &[u8],
+    guard: &Guard,
+    question: &Question,
+    marks: &mut Vec<bool>,
+) -> Result<bool, Fail> {
+    let mut alike = true;
+    for (wish, command) in WISHES {
+        let of_case = answer_text(alloc, *command, text);
+        let answer = answer_question(alloc, *wish, guard, question, marks).ok_or("marks")?;
+        alike = alike && answer.verdict == of_case.verdict && answer.octets() == of_case.octets();
+    }
+    marks.push(true)?;
+    Ok(alike && answer_question(alloc, Wish::Decide, guard, question, marks).is_none())
+}
+
+/// Whether the octets that a verifier is asked are those of the signatures.
+fn lists_signed(
+    alloc: Global,
+    signed: &[Signed],
+    guard: &Guard,
+    question: &Question,
+) -> Result<bool, Fail> {
+    let Ok(listed) = signed_octets(alloc, guard, question) else {
+        return Ok(false);
+    };
+    let (mut octets, mut lengths) = (Vec::new(alloc), Vec::new(alloc));
+    for one in signed {
+        for text in [
+            one.key.as_slice(),
+            one.message.as_slice(),
+            one.value.as_slice(),
+        ] {
+            octets.extend_from_slice(text)?;
+            lengths.push(text.len())?;
+        }
+    }
+    let octets_are = listed.octets.as_slice() == octets.as_slice();
+    Ok(octets_are && listed.lengths.as_slice() == lengths.as_slice())
+}
+
+/// Whether a guard of the case's list gives the case's answers, if the texts of the parts are in this form.
 fn alike_in(alloc: Global, case: &Case, text: &[u8], spelling: Spelling) -> Result<bool, Fail> {
     let parts = parts_of(alloc, text, spelling)?;
     let guard = Guard::read(alloc, &parts.list, parts.policy, Limits::default())?;
     let texts = guard.texts(alloc, &question_of(&parts))?;
     let asked = guard.ask(alloc, &texts)?;
-    Ok(alike_by_verifier(alloc, case, &asked)? && alike_by_marks(alloc, case, &asked)?)
+    let mut marks = marks_of(alloc, asked.signed(), case.accepted())?;
+    Ok(
+        alike_by_verifier(alloc, case, &asked)?
+            && alike_by_marks(alloc, case, &asked)?
+            && lists_signed(alloc, asked.signed(), &guard, &question_of(&parts))?
+            && alike_in_lines(alloc, text, &guard, &question_of(&parts), &mut marks)?,
+    )
 }
 
-/// Whether both doors give the same answers to the case in a text, in whichever form the parts are.
+/// Whether both ways give the same answers to the case of a text, in each form of the parts.
 pub(crate) fn both_doors(alloc: Global, text: &str) -> Result<bool, Fail> {
     let octets = convert(alloc, Form::Canonical, text.as_bytes())?;
     let case = Case::read(alloc, &octets)?;

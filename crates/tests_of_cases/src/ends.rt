@@ -1,4 +1,4 @@
-//! Runs whose readers and writers fail, or give and take one octet an ask.
+//! Runs with readers and writers that fail, or that pass on one octet in each call.
 
 use crate::inner_ends::{Dripping, Endless, Narrow, Past};
 use crate::texts::FIRST_RUN;
@@ -7,7 +7,7 @@ use std::alloc::Global;
 use std::process::Abort;
 use std::test::Fail;
 
-/// More octets than an end is asked to give or take.
+/// More octets than a reader or a writer is asked for.
 const ALL: usize = 2_097_152;
 
 const COMMANDS: [Command; 7] = [
@@ -33,7 +33,7 @@ fn narrow(alloc: Global, room: usize, past: Past) -> Narrow {
     }
 }
 
-/// Runs a command, and looks at the status and at all that was written. Gives the reader's asks and faults.
+/// Runs a command, and compares the status and all that was written. Returns the reader's calls and faults.
 fn reads(
     rt: &impl Abort,
     alloc: Global,
@@ -50,7 +50,7 @@ fn reads(
     (reader.asks, reader.faults)
 }
 
-/// Runs a command before a writer that fails, and looks at all that was written. Gives the writer's asks.
+/// Runs a command with a writer that fails, and compares all that was written. Returns the writer's calls.
 fn writes(
     rt: &impl Abort,
     alloc: Global,

@@ -13,8 +13,8 @@ use spki_guard::{Case, Stop, Verifier};
 use std::alloc::Global;
 use std::test::Fail;
 
-/// What the certificates of a sequence come to: the numbers of their items where all stand, or the number of the first
-/// that doesn't, and why.
+/// The expected evidence: the numbers of the items if all certificates stand, or the number of the first that does not, and
+/// why.
 #[derive(Clone, Copy)]
 enum Wanted {
     Stands(&'static [usize]),
@@ -44,7 +44,7 @@ fn judged<V: Verifier>(
     Ok(is_wanted(&evidence, wanted))
 }
 
-/// Whether it is that of the case in a text by a verifier.
+/// Whether this is the evidence of the case in a text by a verifier.
 fn judged_by<V: Verifier>(
     alloc: Global,
     text: &str,
@@ -55,7 +55,7 @@ fn judged_by<V: Verifier>(
     judged(alloc, &Case::read(alloc, &octets)?, verifier, wanted)
 }
 
-/// Whether it is that by the accepted list in the text.
+/// Whether this is the evidence by the accepted list in the text.
 fn judged_by_list(alloc: Global, text: &str, wanted: Wanted) -> Result<bool, Fail> {
     let octets = convert(alloc, Form::Canonical, text.as_bytes())?;
     let case = Case::read(alloc, &octets)?;
@@ -70,7 +70,7 @@ fn changed_digest(alloc: Global, text: &str) -> Result<String, Fail> {
     Ok(hex_of(alloc, digest.as_slice())?)
 }
 
-/// A case whose certificate is issued by the hash of KA, which is shown, and whose signature has a changed digest.
+/// A case with a certificate whose issuer is the hash of KA. KA is shown, and the signature has a changed digest.
 fn with_changed_digest(alloc: Global) -> Result<String, Fail> {
     let cert = issued_by_hash(alloc)?;
     let digest = changed_digest(alloc, &cert)?;
@@ -100,7 +100,7 @@ fn hash_issuer(rt: HostRuntime) -> Result<(), Fail> {
     Ok(())
 }
 
-/// The first case of `delegation`, signed by a key, where KA's signature is accepted, or none.
+/// The first case of `delegation`, signed by this key, with these accepted rows.
 fn delegation(alloc: Global, rows: &str, signer: &str) -> Result<String, Fail> {
     case_of(alloc, ALL, rows, &signed(alloc, C1, signer)?, KB)
 }
@@ -118,7 +118,7 @@ fn not_accepted(rt: HostRuntime) -> Result<(), Fail> {
     Ok(())
 }
 
-/// A digest that two keys have, which no real one does.
+/// A digest that two keys share. No real digest does this.
 const SHARED: &[u8] = b"0123456789abcdef0123456789abcdef";
 
 const A: &[u8] = b"(10:public-key(4:test1:a))";
@@ -127,10 +127,10 @@ const B: &[u8] = b"(10:public-key(4:test1:b))";
 
 const C: &[u8] = b"(10:public-key(4:test1:c))";
 
-/// Digests, and the keys that they belong to.
+/// Digests and their keys.
 const OWNERS: &[(&[u8], &[u8])] = &[(SHARED, B), (SHARED, A)];
 
-/// Whether the table says that a principal names a key.
+/// Whether the table has the key for this principal.
 fn is_listed(principal: &Principal, key: &Key) -> bool {
     match principal {
         Principal::Key(own) => own.same(key),
@@ -140,7 +140,7 @@ fn is_listed(principal: &Principal, key: &Key) -> bool {
     }
 }
 
-/// The place of the first of these keys that has the shared digest by the table.
+/// The place of the first of these keys that has the shared digest according to the table.
 fn place_among(alloc: Global, texts: &[&'static [u8]]) -> Result<Option<usize>, Fail> {
     let mut keys = Vec::new(alloc);
     for text in texts {

@@ -12,7 +12,7 @@ use spki_reduce::Cause;
 use std::alloc::Global;
 use std::test::Fail;
 
-/// An entry for KA, for what is asked and less.
+/// An entry for KA with a tag for the request and less.
 const HOST: &str = "(entry (public-key (test a)) (tag (ftp host)))";
 
 /// Whether these are the reasons of a case's entries.

@@ -1,4 +1,4 @@
-//! Guards of lists with several entries for a key, their limits, and what they answer after a refusal.
+//! Guards of lists with several entries for a key, their limits, and their answers after a refusal.
 
 use crate::chains::{KB, case_of};
 use crate::doors::{Spelling, parts_of, question_of};
@@ -17,7 +17,7 @@ use spki_tag::TagFault;
 use std::alloc::Global;
 use std::test::Fail;
 
-/// The question of KA, which shows nothing and asks for a string.
+/// A question in which KA shows nothing and requests these strings.
 fn question_by<'q>(words: &'q [&'q [u8]]) -> Question<'q> {
     Question {
         sequence: b"(8:sequence)",
@@ -27,7 +27,7 @@ fn question_by<'q>(words: &'q [&'q [u8]]) -> Question<'q> {
     }
 }
 
-/// What a guard answers to a question, without certificates.
+/// The answer of a guard to a question, without certificates.
 fn answered(alloc: Global, guard: &Guard, question: &Question) -> Result<Decision, AskFault> {
     let texts = guard.texts(alloc, question)?;
     let asked = guard.ask(alloc, &texts)?;
@@ -37,7 +37,7 @@ fn answered(alloc: Global, guard: &Guard, question: &Question) -> Result<Decisio
     }
 }
 
-/// The texts of a question's parts, of which one has something behind it, and that part.
+/// The texts of a question's parts, one of which has something behind its value, and the name of that part.
 const RUN_ON: &[(&[u8], &[u8], &[u8], &[u8], Part, usize)] = &[
     (
         b"(8:sequence)1:x",
@@ -106,7 +106,7 @@ const RUN_ON: &[(&[u8], &[u8], &[u8], &[u8], Part, usize)] = &[
     (b"(8:sequence)", KA, b"1:x1:y", b"1:x1:y", Part::Request, 3),
 ];
 
-/// An access list of an entry for KA, for all.
+/// An access list with an entry by which KA may do everything.
 const ALL_LIST: &[u8] = b"(3:acl(5:entry(10:public-key(4:test1:a))(3:tag(1:*))))";
 
 /// A guard of that list with these limits.
@@ -131,7 +131,7 @@ fn parts_that_run_on(rt: HostRuntime) -> Result<(), Fail> {
             fault: FormFault::Trailing(*offset),
         };
         assert!(rt; answered(alloc, &guard, &question) == Err(fault), "{part}");
-        // The refusal changes nothing.
+        // A refusal changes nothing.
         assert!(rt; answered(alloc, &guard, &question_by(&[b"a"])) == Ok(Decision::Yes(1)));
     }
     Ok(())
@@ -153,7 +153,7 @@ fn list_that_runs_on(rt: HostRuntime) -> Result<(), Fail> {
     Ok(())
 }
 
-/// Questions, and what each is refused for.
+/// Questions, and why each of them is refused.
 const REFUSALS: &[(&[u8], &[u8], &[u8], i64, AskFault)] = &[
     (b"(3:acl)", KA, b"1:a", 0, AskFault::Sequence(SHAPE)),
     (
@@ -224,7 +224,7 @@ fn asked_after_refusals(rt: HostRuntime) -> Result<(), Fail> {
     Ok(())
 }
 
-/// What a guard with this limit of octets answers to KA, which asks for strings at a moment in seconds.
+/// The answer of a guard with this limit of octets to KA, which requests strings at a moment in seconds.
 fn within(
     alloc: Global,
     octets: usize,
@@ -234,7 +234,7 @@ fn within(
     Ok(answered(alloc, &guard, &question_by(words)))
 }
 
-/// Requests as strings, and how many octets they have in canonical form.
+/// Requests as strings, and the number of octets of their canonical form.
 const LENGTHS: &[(&[&[u8]], usize)] = &[
     (&[b"a"], 3),
     (&[b"a", b"bc"], 9),
@@ -271,7 +271,7 @@ fn limits_of_limits(rt: HostRuntime) {
     assert!(rt; Limits::new(0, 1_000_001).is_none());
 }
 
-/// The case of a set of three strings passed on as one of two, which KB asks for: 4 nodes and 3 to be met.
+/// A case for KB, in which a set of three members is delegated as a set of two: tags of 5 and of 4 nodes are intersected.
 fn sets_case(alloc: Global) -> Result<Vec<u8>, Fail> {
     let cert =
         "(cert (issuer (public-key (test a))) (subject (public-key (test b))) (tag (* set (ftp) x)))";
@@ -282,7 +282,7 @@ fn sets_case(alloc: Global) -> Result<Vec<u8>, Fail> {
     Ok(convert(alloc, Form::Canonical, text.as_bytes())?)
 }
 
-/// What a guard of a case's list decides with this limit of nodes, where every signature is right.
+/// The decision of a guard of a case's list with this limit of nodes, if every signature is accepted.
 fn decided_within(
     alloc: Global,
     text: &[u8],
@@ -296,7 +296,7 @@ fn decided_within(
     Ok(asked.decide_by(alloc, &[true]))
 }
 
-/// What the case itself is decided.
+/// The decision of the case itself.
 fn decided_alone(alloc: Global, text: &[u8]) -> Result<Decision, Fail> {
     let case = Case::read(alloc, text)?;
     Ok(decide(alloc, &case, case.accepted())?)
@@ -320,10 +320,10 @@ fn most_nodes(rt: HostRuntime) -> Result<(), Fail> {
     Ok(())
 }
 
-/// The product of the nodes: a set of a list of one string and of two strings has 5, and one of a list and a string 4.
+/// The product of the nodes: a set of a list of one string and of two strings has 5, and a set of a list and a string 4.
 const NODES: usize = 20;
 
-/// Entries for KA by its hash, by itself, and for others; each one's tag is another string.
+/// Entries for KA by its hashes, for KA itself, and for others. The tag of each is another string.
 fn hashed_list(alloc: Global) -> Result<String, Fail> {
     let sha1: [u8; 20] = Sha1::digest(KA);
     let sha256: [u8; 32] = Sha256::digest(KA);
@@ -353,7 +353,7 @@ fn hashed_list(alloc: Global) -> Result<String, Fail> {
     Ok(joined(alloc, &parts)?)
 }
 
-/// Strings that KA asks for, and the first entry that grants each under the open and under the strict policy.
+/// Strings that KA requests, and the first entry that grants each of them under the open and under the strict policy.
 const FIRST: &[(&[u8], Decision, Decision)] = &[
     (b"a", Decision::Yes(6), Decision::Yes(6)),
     (b"b", Decision::Yes(3), Decision::Yes(4)),
@@ -386,7 +386,7 @@ fn first_of_several(rt: HostRuntime) -> Result<(), Fail> {
     Ok(())
 }
 
-/// Takes only what may be sent to another thread and shared with one.
+/// Accepts only a value that may be sent to another thread and shared with it.
 fn entries_of_shared<T: Send + Sync>(_shared: &T, entries: usize) -> usize {
     entries
 }

@@ -1,4 +1,4 @@
-//! Requests that are given to a guard as strings, and moments as seconds.
+//! Requests for a guard as strings, and moments as seconds.
 
 use crate::texts::KA;
 use sexpr_core::syntax::append_verbatim;
@@ -19,7 +19,7 @@ fn list_of(alloc: Global, fields: &[&[u8]]) -> Result<Vec<u8>, AllocError> {
     Ok(list)
 }
 
-/// What a guard of a list decides for KA, without certificates.
+/// The decision of a guard of a list for KA, without certificates.
 fn decided(
     alloc: Global,
     list: &[u8],
@@ -40,14 +40,14 @@ fn decided(
     }
 }
 
-/// Whether strings are granted by a tag, in canonical form.
+/// Whether a tag in canonical form grants the request of these strings.
 fn grants(alloc: Global, tag: &[u8], words: &[&[u8]]) -> Result<bool, Fail> {
     let list = list_of(alloc, &[b"(3:tag", tag, b")"])?;
     let decision = decided(alloc, &list, Wanted::Words(words), Instant::Seconds(0))?;
     Ok(decision == Ok(Decision::Yes(1)))
 }
 
-/// The list of strings, in canonical form, with what is put behind them.
+/// The list of strings, in canonical form, with `behind` after them.
 fn list_text(alloc: Global, words: &[&[u8]], behind: &[u8]) -> Result<Vec<u8>, AllocError> {
     let mut text = Vec::from_slice(alloc, b"(")?;
     for word in words {
@@ -58,7 +58,7 @@ fn list_text(alloc: Global, words: &[&[u8]], behind: &[u8]) -> Result<Vec<u8>, A
     Ok(text)
 }
 
-/// Strings with octets that end a list, a string, a text or a line elsewhere.
+/// Strings with octets that would end a list, a string, a text or a line elsewhere.
 const STRINGS: &[&[&[u8]]] = &[
     &[b"ftp", b"x) (at \"2030-01-01_00:00:00\") (a"],
     &[b"ftp", b")"],
@@ -79,7 +79,7 @@ const STRINGS: &[&[&[u8]]] = &[
 fn strings_of_a_request(rt: HostRuntime) -> Result<(), Fail> {
     let alloc = rt.alloc();
     for words in STRINGS {
-        // They are granted by their own list, and by none that has one more member, whatever it is.
+        // They are granted by their own list, and by no list with one more member, whatever that is.
         let own = list_text(alloc, words, b"")?;
         assert!(rt; grants(alloc, &own, words)?, "{words:?}");
         let longer = list_text(alloc, words, b"(1:*)")?;
@@ -144,7 +144,7 @@ const DATES: &[(i64, &[u8])] = &[
     (-62_167_219_200, b"0000-01-01_00:00:00"),
 ];
 
-/// Whether a window that holds one moment alone holds these seconds, and the same moment as a text.
+/// Whether a window with a single moment contains these seconds, and the same moment as a text.
 fn is_at(alloc: Global, seconds: i64, date: &[u8]) -> Result<bool, Fail> {
     let before: [&[u8]; 3] = [b"(3:tag(1:*))(10:not-before19:", date, b")(9:not-after19:"];
     let mut fields = Vec::new(alloc);
@@ -172,7 +172,7 @@ fn seconds_of_a_moment(rt: HostRuntime) -> Result<(), Fail> {
     Ok(())
 }
 
-/// Seconds of no date from year 0 to year 9999.
+/// Seconds without a date from year 0 to year 9999.
 const NO_DATES: &[i64] = &[
     253_402_300_800,
     -62_167_219_201,

@@ -1,4 +1,4 @@
-//! The worked examples of cases, asked of guards of their access lists.
+//! The worked examples of cases, as questions to guards of their access lists.
 
 use crate::chains::{ALL, C1, KA, KB, accepted, case_of, hash_as_issuer, signed};
 use crate::doors::{Spelling, both_doors, parts_of, question_of};
@@ -7,13 +7,14 @@ use sexpr_core::FormFault;
 use sexpr_text::{Form, convert};
 use spki_cert::{CertFault, CertFaultKind, Policy};
 use spki_guard::{
-    AclFault, AskFault, Case, CaseFault, Decision, Guard, Instant, Limits, Part, Question, Wanted,
+    AclFault, Answer, AskFault, Case, CaseFault, Command, Decision, Guard, Instant, Limits, Part,
+    Question, Verdict, Wanted, Wish, answer_question, answer_text, refused_list,
 };
 use spki_tag::TagFault;
 use std::alloc::Global;
 use std::test::Fail;
 
-/// An entry for KA, for what is asked and less.
+/// An entry for KA with a tag for the request and less.
 const HOST: &str = "(entry (public-key (test a)) (tag (ftp host)))";
 
 #[test]
@@ -24,7 +25,7 @@ fn first_run(rt: HostRuntime) -> Result<(), Fail> {
     Ok(())
 }
 
-/// Requests of `shorter-request` and beside them.
+/// The requests of `shorter-request` and others.
 const REQUESTS: &[&str] = &[
     "(ftp)",
     "(ftp host dir)",
@@ -42,7 +43,7 @@ fn shorter_request(rt: HostRuntime) -> Result<(), Fail> {
     Ok(())
 }
 
-/// Access lists with one entry for KA behind others, before others, and none.
+/// Access lists: an entry for KA behind others, before others, and none.
 const LISTS: &[&str] = &[
     "",
     "(entry (public-key (test c)) (tag (*)))(entry (public-key (test a)) (propagate) (tag (*)))",
@@ -154,7 +155,7 @@ const REFUSED: &[[&str; 5]] = &[
     [MANY, "(sequence)", KA, "a", "\"2024-13-01_00:00:00\""],
 ];
 
-/// What a guard's refusal of a list or a question says of the case.
+/// The refusal of the case that corresponds to a guard's refusal of a list or a question.
 fn case_fault(fault: AskFault) -> CaseFault {
     match fault {
         AskFault::TooLong => CaseFault::Form(FormFault::TooLong),
@@ -167,7 +168,7 @@ fn case_fault(fault: AskFault) -> CaseFault {
     }
 }
 
-/// What a guard refuses of a case's parts, if anything.
+/// Why a guard refuses a case's parts, if it does.
 fn guard_refuses(
     alloc: Global,
     text: &[u8],
@@ -187,7 +188,7 @@ fn guard_refuses(
     }
 }
 
-/// What the case's own reader refuses it for.
+/// Why the case's own reader refuses it, if it does.
 fn case_refuses(alloc: Global, text: &[u8]) -> Option<CaseFault> {
     match Case::read(alloc, text) {
         Ok(_) => None,
@@ -195,13 +196,34 @@ fn case_refuses(alloc: Global, text: &[u8]) -> Option<CaseFault> {
     }
 }
 
-/// Whether both doors refuse the case in a text, for the same.
+/// The line of what a guard refuses of a case's parts.
+fn guard_line(alloc: Global, text: &[u8], spelling: Spelling) -> Result<Answer, Fail> {
+    let parts = parts_of(alloc, text, spelling)?;
+    match Guard::read(alloc, &parts.list, parts.policy, Limits::default()) {
+        Ok(guard) => {
+            let question = question_of(&parts);
+            Ok(answer_question(alloc, Wish::Decide, &guard, &question, &[]).ok_or("marks")?)
+        }
+        Err(fault) => Ok(refused_list(alloc, fault)),
+    }
+}
+
+/// Whether both ways write the same line of refusal.
+fn same_line(alloc: Global, text: &[u8], spelling: Spelling) -> Result<bool, Fail> {
+    let of_case = answer_text(alloc, Command::Check, text);
+    let answer = guard_line(alloc, text, spelling)?;
+    Ok(answer.verdict == Verdict::Refused && answer.octets() == of_case.octets())
+}
+
+/// Whether both ways refuse the case of a text, for the same fault.
 fn both_refuse(alloc: Global, text: &str) -> Result<bool, Fail> {
     let octets = convert(alloc, Form::Canonical, text.as_bytes())?;
     let fault = case_refuses(alloc, &octets);
     let canonical = guard_refuses(alloc, &octets, Spelling::Canonical)?;
     let advanced = guard_refuses(alloc, &octets, Spelling::Advanced)?;
-    Ok(fault.is_some() && canonical == fault && advanced == fault)
+    let lines = same_line(alloc, &octets, Spelling::Canonical)?
+        && same_line(alloc, &octets, Spelling::Advanced)?;
+    Ok(lines && fault.is_some() && canonical == fault && advanced == fault)
 }
 
 #[test]
@@ -209,6 +231,48 @@ fn case_faults(rt: HostRuntime) -> Result<(), Fail> {
     for [list, sequence, key, request, at] in REFUSED {
         let text = case_with(rt.alloc(), list, sequence, key, request, at)?;
         assert!(rt; both_refuse(rt.alloc(), &text)?, "{text}");
+    }
+    Ok(())
+}
+
+/// Parts of questions that are no values, or too long for a guard that takes 90 octets; and the line of each.
+const MALFORMED: &[([&str; 4], &str)] = &[
+    (["(sequence", KA, "a", NOW], "refused sequence Short\n"),
+    (
+        ["(sequence))", "(", "(", ""],
+        "refused sequence Trailing 10\n",
+    ),
+    (
+        ["(sequence)", "(public-key", "(", ""],
+        "refused key Short\n",
+    ),
+    (["(sequence)", KA, ")", ""], "refused request Bad 0\n"),
+    (["(sequence)", KA, "a", ""], "refused at Short\n"),
+    (
+        [
+            "(sequence)",
+            KA,
+            "(ftp host directory file name of many octets)",
+            NOW,
+        ],
+        "refused question TooLong\n",
+    ),
+];
+
+#[test]
+fn malformed_parts(rt: HostRuntime) -> Result<(), Fail> {
+    let alloc = rt.alloc();
+    let limits = Limits::new(90, 1_000_000).ok_or("limits")?;
+    let guard = Guard::read(alloc, MANY.as_bytes(), Policy::Open, limits)?;
+    for ([sequence, key, request, moment], line) in MALFORMED {
+        let question = Question {
+            sequence: sequence.as_bytes(),
+            key: key.as_bytes(),
+            request: Wanted::Text(request.as_bytes()),
+            moment: Instant::Text(moment.as_bytes()),
+        };
+        let answer = answer_question(alloc, Wish::Decide, &guard, &question, &[]).ok_or("marks")?;
+        assert!(rt; answer.octets() == line.as_bytes(), "{line}");
     }
     Ok(())
 }

@@ -1,18 +1,18 @@
-//! Readers and writers that tell what was asked of them, and that fail.
+//! Readers and writers that count their calls, and that fail.
 
 ghost use Rattle.std.specs.Prelude.{◌≡◌, IfOk};
 
 use std::io;
 use std::io::{Error, ErrorKind, Read, Write};
 
-/// What an end answers once it has given or taken what it can.
+/// What a reader or a writer answers when it has no octets or no room left.
 #[derive(Clone, Copy)]
 pub enum Past {
     /// An error.
     Fails,
     /// That it was interrupted.
     IsInterrupted,
-    /// That no octet was given or taken.
+    /// That it passed on 0 octets.
     Stops,
 }
 
@@ -28,12 +28,12 @@ impl Past {
     }
 }
 
-/// Gives a text, one octet an ask, as far as there is room.
+/// A reader that returns one octet in each call, as long as there is room.
 #[derive(Drop)]
 pub struct Dripping<'a> {
-    /// What is left of the text.
+    /// The rest of the text.
     pub text: &'a [u8],
-    /// How many octets it may still give.
+    /// How many octets it may still return.
     pub room: usize,
     /// What it answers then.
     pub past: Past,
@@ -56,12 +56,12 @@ impl Read for Dripping<'_> {
     }
 }
 
-/// Takes one octet an ask, as far as there is room.
+/// A writer that accepts one octet in each call, as long as there is room.
 #[derive(Drop)]
 pub struct Narrow {
-    /// What it has taken.
+    /// The octets that it has accepted.
     pub taken: Vec<u8>,
-    /// How many octets it may still take.
+    /// How many octets it may still accept.
     pub room: usize,
     /// What it answers then.
     pub past: Past,
@@ -93,10 +93,10 @@ impl Write for Narrow {
     }
 }
 
-/// Gives octets for ever, as many as are asked for, and counts them.
+/// A reader that never ends, returns as many octets as are asked for, and counts them.
 #[derive(Drop)]
 pub struct Endless {
-    /// How many octets it has given.
+    /// The number of octets that it has returned.
     pub given: usize,
 }
 
@@ -108,18 +108,18 @@ impl Read for Endless {
     }
 }
 
-/// Counts what is asked of it.
+/// Counts its calls.
 #[derive(Drop)]
 pub struct Counting {
-    /// How many reads there were.
+    /// The number of reads.
     pub reads: usize,
-    /// How long the last read's buffer was.
+    /// The length of the last read's buffer.
     pub room: usize,
-    /// How many writes there were.
+    /// The number of writes.
     pub writes: usize,
     /// What was written.
     pub taken: Vec<u8>,
-    /// How many flushes there were.
+    /// The number of flushes.
     pub flushes: usize,
 }
 

@@ -1,4 +1,4 @@
-//! The program over memory: from the words of a command line to the exit status.
+//! The program in memory: from the words of a command line to the exit status.
 
 use crate::inner_ends::{Dripping, Narrow, Past};
 use crate::texts::{FIRST_RUN, case};
@@ -8,7 +8,7 @@ use std::io;
 use std::io::{Error, ErrorKind};
 use std::test::Fail;
 
-/// The exit status, and what stands on standard output and on standard error.
+/// The exit status, standard output and standard error.
 type Ended = (u8, Vec<u8>, Vec<u8>);
 
 /// The program's name and these words, as the words of a command line.
@@ -34,7 +34,8 @@ fn is(ended: &Ended, exit: u8, output: &[u8], said: &[u8]) -> bool {
     ended.0 == exit && ended.1.as_slice() == output && ended.2.as_slice() == said
 }
 
-/// Whether the words were refused, or help was given: a text that begins so is all that was written, on standard error.
+/// Whether the words were refused, or help was printed: standard error has a text that begins with `begins`, and nothing
+/// else was written.
 fn says(ended: &Ended, exit: u8, begins: &[u8]) -> bool {
     ended.0 == exit && ended.1.is_empty() && ended.2.starts_with(begins)
 }

@@ -1,13 +1,13 @@
-//! Runs of the program's commands over memory.
+//! Runs of the program's commands in memory.
 
 use spki_guard::{Command, Metered, Status, run};
 use std::alloc::Global;
 use std::process::Abort;
 
-/// A command, its text, how the run ends, and all that is written.
+/// A command, its text, how the run ends, and the whole output.
 pub type Row<'a> = (Command, &'a str, Status, &'a str);
 
-/// Runs a command on a text in memory, and looks at the status and at all that was written.
+/// Runs a command on a text in memory, and compares the status and the whole output.
 pub(crate) fn replies(
     rt: &impl Abort,
     alloc: Global,

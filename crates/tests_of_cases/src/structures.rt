@@ -42,7 +42,7 @@ const NO_HASHES: &[(&[u8], CertFaultKind)] = &[
     (b"(4:hash[1:x]4:sha1)", CertFaultKind::HashAlg),
 ];
 
-/// Texts of values that are no access lists, and the item that has the fault.
+/// Texts of values that are no access lists, and the item with the fault.
 const NO_LISTS: &[(&[u8], usize, CertFaultKind)] = &[
     (b"(3:cap)", 0, CertFaultKind::Shape),
     (b"(3:acl(7:version1:1))", 0, CertFaultKind::UnknownVersion),
@@ -73,7 +73,7 @@ const NO_LISTS: &[(&[u8], usize, CertFaultKind)] = &[
     ),
 ];
 
-/// Texts of values that are no sequences, and the item that has the fault.
+/// Texts of values that are no sequences, and the item with the fault.
 const NO_SEQUENCES: &[(&[u8], usize, CertFaultKind)] = &[
     (b"(3:acl)", 0, CertFaultKind::Shape),
     (
@@ -110,13 +110,13 @@ fn is_no_date(rt: &impl Abort, document: &Doc) -> bool {
     }
 }
 
-/// How many entries the access list has that a document is.
+/// The number of entries of the access list of a document.
 fn entries_of(rt: &impl Abort, alloc: Global, document: &Doc) -> Result<usize, CertFault> {
     let entries = read_acl(alloc, document, root_of(rt, document))?;
     Ok(entries.len())
 }
 
-/// How many items the sequence has that a document is.
+/// The number of items of the sequence of a document.
 fn items_of(rt: &impl Abort, alloc: Global, document: &Doc) -> Result<usize, CertFault> {
     let items = read_sequence(alloc, document, root_of(rt, document))?;
     Ok(items.len())
@@ -219,7 +219,7 @@ fn without_last(octets: &[u8]) -> &[u8] {
     }
 }
 
-/// Whether a document is the SHA-256 digest of these octets.
+/// Whether the hash of a document is the SHA-256 digest of these octets.
 fn is_hash_of(rt: &impl Abort, document: &Doc, octets: &[u8]) -> Result<bool, CertFault> {
     let (alg, digest) = read_hash(document, root_of(rt, document))?;
     let fits = alg.fits(digest.as_slice(), octets) && !alg.fits(digest.as_slice(), b"x");

@@ -21,7 +21,7 @@ pub const FIRST_RUN_ADVANCED: &str =
 pub const FIRST_RUN_IN_BRACES: &str =
     "{KDQ6Y2FzZSgzOmFjbCg1OmVudHJ5KDEwOnB1YmxpYy1rZXkoNDp0ZXN0MTphKSkoMzp0YWcoMzpmdHA0Omhvc3QpKSkpKDg6YWNjZXB0ZWQpKDg6c2VxdWVuY2Up\nKDM6a2V5KDEwOnB1YmxpYy1rZXkoNDp0ZXN0MTphKSkpKDc6cmVxdWVzdCgzOmZ0cDQ6aG9zdDM6ZGlyKSkoMjphdDE5OjIwMjQtMDEtMDFfMDA6MDA6MDApKQ==}";
 
-/// These texts one behind the other.
+/// These texts, one after another.
 pub(crate) fn joined(alloc: Global, parts: &[&str]) -> Result<String, AllocError> {
     let mut text = String::new(alloc);
     for part in parts {
@@ -42,7 +42,7 @@ pub(crate) fn case(alloc: Global, entry: &str, request: &str) -> Result<String, 
     joined(alloc, &parts)
 }
 
-/// The number of a document's value, which the document has.
+/// The number of a document's value. The document has it.
 pub(crate) fn root_of(rt: &impl Abort, document: &Doc) -> NodeId
     ensures { IsSome (node document.now result.0) }
 {

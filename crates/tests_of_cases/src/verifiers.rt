@@ -67,13 +67,13 @@ impl Verifier for OutOfMemory {
     }
 }
 
-/// The canonical text of a case in which KA passes its right on to KB, by these items, with no row in the accepted list.
+/// The canonical text of a case in which KA delegates its right to KB, with these items, and no row in the accepted list.
 fn delegation(alloc: Global, items: &str) -> Result<Vec<u8>, Fail> {
     let text = case_of(alloc, ALL, "", items, KB)?;
     Ok(convert(alloc, Form::Canonical, text.as_bytes())?)
 }
 
-/// What is decided by a verifier of a canonical text, if it is a case's.
+/// The decision by a verifier of a canonical text, if it is that of a case.
 fn decided<V: Verifier>(
     alloc: Global,
     text: &[u8],

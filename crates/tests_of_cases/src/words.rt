@@ -15,7 +15,7 @@ const COMMANDS: &[(&str, Command)] = &[
     ("explain", Command::Explain),
 ];
 
-/// What is asked by the program's name and these words.
+/// What the program's name and these words ask for.
 fn asked(alloc: Global, words: &[&str]) -> Result<Result<Command, WordsFault>, Fail> {
     let mut line = Vec::new(alloc);
     line.push("spki".to_string(alloc)?)?;

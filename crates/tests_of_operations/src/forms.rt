@@ -1,4 +1,4 @@
-//! Worked examples of the forms of S-expressions, as calls: small texts with the answers that the formats give them.
+//! Worked examples of the forms of S-expressions, as calls: small texts with the answers that docs/FORMATS.md gives.
 
 mod conversions;
 mod documents;

@@ -1,4 +1,4 @@
-//! Worked examples of tags and requests, as calls: small tags with the answers that the formats give them.
+//! Worked examples of tags and requests, as calls: small tags with the answers that docs/FORMATS.md gives.
 
 mod fault_texts;
 mod look_up;

@@ -1,15 +1,14 @@
--- What a fault says while a part of a text is read.
+-- What a fault means while a part of a text is read.
 use Rattle.std.specs.Prelude.{◌≡◌, ℕ, suc, ◌+◌, ◌<◌, List, ◌++◌, length, take}
 use Rattle.sexpr_core.specs.declared.fault.FormFault.{FormFault}
 use Rattle.sexpr_core.specs.declared.fault.FormFault.TheVariants.{TooLong, TooDeep, Short, Bad, Trailing, Memory}
 use Rattle.sexpr_core.specs.Prefix.{Front, StopsAt}
 
--- no text of T agrees with them as far as both go
+-- no text of T agrees with the octets up to the end of the shorter of both
 pub record Barred (T : List ℕ → Type 0) (xs : List ℕ) : Type 0 where
   pub bars : (t rest after : List ℕ) → T t → xs ++ rest ≡ t ++ after → ⊥
 
--- The octets xs stand from offset `at` on. Those before offset k begin a text of S, and no text of T goes on
--- with the octet there.
+-- The octets xs are at offset `at`. Those before offset k begin a text of S, and no text of T continues with the octet at k.
 pub record IsBad (T S : List ℕ → Type 0) (at : ℕ) (xs : List ℕ) (k : ℕ) : Type 0 where
   pub place : ℕ
   pub offset : k ≡ at + place
@@ -17,15 +16,15 @@ pub record IsBad (T S : List ℕ → Type 0) (at : ℕ) (xs : List ℕ) (k : ℕ
   pub before : Front S (take place xs)
   pub stops : Barred T (take (suc place) xs)
 
--- Some texts of T go on with the octet at a place, and none of S.
+-- Some text of T continues with the octet at this place, and no text of S does.
 pub record IsDeep (T S : List ℕ → Type 0) (xs : List ℕ) : Type 0 where
   pub place : ℕ
   pub within : place < length xs
   pub before : Front T (take (suc place) xs)
   pub stops : Barred S (take (suc place) xs)
 
--- What a fault says of the octets xs that stand from offset `at` on, where texts of a sort were looked for: T
--- are the texts of that sort, and S those among them that are within the limit on depth.
+-- What a fault means for the octets xs at offset `at`, if a text of some set is read there. T is that set, and S the part of
+-- it within the limit on depth.
 abbrev pub FaultAt : (T S : List ℕ → Type 0) → ℕ → List ℕ → FormFault → Type 0
 FaultAt T S at xs TooLong = ⊥
 FaultAt T S at xs TooDeep = IsDeep T S xs
@@ -34,7 +33,7 @@ FaultAt T S at xs (Bad k) = IsBad T S at xs k
 FaultAt T S at xs (Trailing k) = ⊥
 FaultAt T S at xs Memory = Unit {0}
 
--- What a fault says of a text of which a part was looked for, from an offset on: T are the texts that have it there.
+-- What a fault means for a text, if a part is read from an offset on. T is the set of texts that have such a part there.
 abbrev pub RefusesPart : (T : List ℕ → Type 0) → List ℕ → ℕ → FormFault → Type 0
 RefusesPart T text at TooLong = ⊥
 RefusesPart T text at TooDeep = ⊥

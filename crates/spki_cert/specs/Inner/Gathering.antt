@@ -1,9 +1,8 @@
 -- What is known while subjects and fields are read.
-use Rattle.std.specs.Prelude.{◌≡◌, ◌≢◌, ℕ, ◌⊎◌, Bool, true, false, List, [], ◌∷◌, ◌++◌, ◌+◌, length, Option, Some, None, Contains, codes, is_some, not, if◌then◌else◌}
+use Rattle.std.specs.Prelude.{◌≡◌, ◌≢◌, ℕ, ◌⊎◌, Bool, true, false, List, [], ◌∷◌, ◌++◌, ◌+◌, length, Option, Some, None, codes, is_some, not}
 use Rattle.std.specs.Str.{bytes_eq}
 use Rattle.std.specs.List.{AllByRecursion, list_any}
 use Rattle.sexpr_core.specs.Value.{Value, plain, group}
-use Rattle.sexpr_core.specs.PartOf.{IsPartOf}
 use Rattle.spki_tag.specs.Read.{ReadsAs}
 use Rattle.spki_cert.specs.declared.principal.Principal.{Principal}
 use Rattle.spki_cert.specs.declared.window.Window.{Window}
@@ -44,30 +43,30 @@ NamesWho vs (Some principal) names =
     (owner : Value) × (first : List ℕ) × (others : List (List ℕ))
     × PrincipalOf owner principal × (names ≡ first ∷ others) × (vs ≡ owner ∷ plains names)
 
--- a fault of a subject shows where the subject stands: in an entry, or in the field subject
+-- a fault of a subject is true of the list that contains it: of the entry, or of the field subject
 abbrev pub SubjectShows : CertFaultKind → Value → Type 0
 SubjectShows kind v =
     (word : List ℕ) (rest : List Value) → (word ≡ codes "entry") ⊎ (word ≡ codes "subject") → Shows kind (group (plain word ∷ v ∷ rest))
 
--- a fault of an algorithm shows where it stands: behind hash, or behind do and hash
+-- a fault of an algorithm is true of the list that contains it: behind hash, or behind do and hash
 abbrev pub AlgShows : CertFaultKind → Value → Type 0
 AlgShows kind v =
     (w : Value) (rest : List Value)
     → (w ≡ group (plain (codes "hash") ∷ v ∷ rest)) ⊎ (w ≡ group (plain (codes "do") ∷ plain (codes "hash") ∷ v ∷ rest))
     → Shows kind w
 
--- what is wrong with the digest of an algorithm
+-- the fault of the digest of an algorithm
 abbrev pub digest_fault : HashAlg → Value → Option CertFaultKind
 digest_fault alg v = first_fault (unless (is_plain any_octets v) kinds.Shape ∷ unless (is_plain (is_sized (Some alg)) v) kinds.DigestLength ∷ [])
 
 -- ---- fields
 
--- a tag's fault as one of a structure: want of memory is one thing
+-- a tag's fault as the fault of a structure; both have one Memory
 abbrev pub IsTagKind : TagFault → CertFaultKind → Type 0
 IsTagKind fault kind =
     ((fault ≡ tag_faults.Memory) × (kind ≡ kinds.Memory)) ⊎ ((fault ≢ tag_faults.Memory) × (kind ≡ kinds.Tag fault))
 
--- a list with this head, behind which something is read so
+-- a list with this head, with this reading of the members behind it
 abbrev pub Headed : {A : Type 0} → List ℕ → (List Value → A → Type 0) → Value → A → Type 0
 Headed word R v a = (rest : List Value) × (v ≡ group (plain word ∷ rest)) × R rest a
 
@@ -80,26 +79,20 @@ pub data AddsLimit (v : Value) (before after : Window) : Type 0 where
       (date : List ℕ) → Headed (codes "not-after") (Sole DateOf) v date → before.not_after ≡ None
       → after ≡ record { not_before = before.not_before; not_after = Some date } → AddsLimit v before after
 
--- what is found in one limit behind those of a window
+-- the fault of one more limit behind those of a window
 abbrev pub LimitLook : Window → Value → Option CertFaultKind → Type 0
 LimitLook w v found =
     (before : List Value) → ValidOf before w
     → first_fault (unless (not (is_again before v)) kinds.Shape ∷ limit_fault v ∷ []) ≡ found
 
--- the window has the limit with this head
-abbrev pub HasLimit : Value → Window → Type 0
-HasLimit v w =
-    ((is_headed (codes "not-before") v ≡ true) × (is_some w.not_before ≡ true))
-    ⊎ ((is_headed (codes "not-after") v ≡ true) × (is_some w.not_after ≡ true))
-
--- what one field says
+-- the content of one field
 abbrev pub IssuerAt : List Value → Issuer → Type 0
 IssuerAt rest i = IssuerIn rest (i.principal, i.name)
 
 abbrev pub WhoAt : List Value → Who → Type 0
 WhoAt rest s = WhoIn rest (s.principal, s.names.items)
 
--- a field that says none of what is gathered
+-- a field whose content is not used
 pub record IsSilent (v : Value) : Type 0 where
   pub issuer : is_headed (codes "issuer") v ≡ false
   pub subject : is_headed (codes "subject") v ≡ false
@@ -117,7 +110,7 @@ Says v (said.NotBefore date) = Headed (codes "not-before") (Sole DateOf) v date
 Says v (said.NotAfter date) = Headed (codes "not-after") (Sole DateOf) v date
 Says v (said.Valid window) = Headed (codes "valid") ValidOf v window
 
--- what is known when one more field has said this
+-- what is known after one more field with this content
 abbrev pub gather : Known → Said → Known
 gather k said.Nothing = k
 gather k (said.Issuer i) = record { issuer = Some i; subject = k.subject; tag = k.tag; limits = k.limits; valid = k.valid }
@@ -142,7 +135,7 @@ gather k (said.NotAfter date) =
 gather k (said.Valid window) =
     record { issuer = k.issuer; subject = k.subject; tag = k.tag; limits = k.limits; valid = Some window }
 
--- what fields say
+-- the contents of fields
 pub record KnownOf (fields : List Value) (k : Known) : Type 0 where
   pub issuer_is : Given (codes "issuer") IssuerAt fields k.issuer
   pub subject_is : Given (codes "subject") WhoAt fields k.subject
@@ -160,19 +153,15 @@ abbrev pub fault_in : Place → Value → Option CertFaultKind
 fault_in places.Entry = entry_field_fault
 fault_in places.Certificate = cert_field_fault
 
--- whether this is one of the words
+-- whether some word is this one
 abbrev pub is_among : List (List ℕ) → List ℕ → Bool
 is_among words word = list_any (λ w. bytes_eq w word) words
 
--- the field with this head, where none of these heads is it
+-- the field has this head, and none of the heads is the same
 pub record IsNew (v : Value) (heads : List (List ℕ)) (head : List ℕ) : Type 0 where
   pub rest : List Value
   pub written : v ≡ group (plain head ∷ rest)
   pub fresh : is_among heads head ≡ false
-
--- values that stand in another one
-abbrev pub AreParts : List Value → Value → Type 0
-AreParts vs v = (u : Value) → Contains vs u → IsPartOf u v
 
 -- fields that were read, with these heads
 pub record AreRead (place : Place) (fields : List Value) (heads : List (List ℕ)) (k : Known) : Type 0 where
@@ -182,7 +171,7 @@ pub record AreRead (place : Place) (fields : List Value) (heads : List (List ℕ
 
 -- ---- validity, directly or in one (valid ..)
 
--- the window, where limits don't stand both ways
+-- the window, if there are no limits both ways
 abbrev pub IsOneWay : Window → Option Window → Window → Type 0
 IsOneWay limits None w = w ≡ limits
 IsOneWay limits (Some window) w = (limits.not_before ≡ None) × (limits.not_after ≡ None) × (w ≡ window)
@@ -193,18 +182,18 @@ IsBothWays limits (Some window) = (is_some limits.not_before ≡ true) ⊎ (is_s
 
 -- ---- versions
 
--- what a version is refused for
+-- why a version is refused
 abbrev pub IsVersionFault : CertFaultKind → Value → Type 0
 IsVersionFault kind v = (kind ≡ kinds.Shape) ⊎ ((kind ≡ kinds.UnknownVersion) × IsUnknownVersion v)
 
 -- ---- certificates
 
--- who a certificate's subject is, where the issuer's principal stands for one that isn't written
+-- the subject of a certificate; if no principal is written, it is the issuer's
 abbrev pub IsSubjectOf : Principal → Option Principal → List (List ℕ) → Subject → Type 0
 IsSubjectOf issuer None names s = (s.principal ≡ issuer) × (s.names ≡ names)
 IsSubjectOf issuer (Some principal) names s = (s.principal ≡ principal) × (s.names ≡ names)
 
--- what the fields of a certificate say, whichever certificate it is
+-- the contents of the fields of a certificate of either kind
 pub record PartsOf (fields : List Value) (p : CertParts) : Type 0 where
   pub are_fields : AreFields IsCertField fields
   pub issuer_is : IssuedBy fields p.issuer.principal p.issuer.name
@@ -213,7 +202,7 @@ pub record PartsOf (fields : List Value) (p : CertParts) : Type 0 where
   pub tag_is : Given (codes "tag") (Sole ReadsAs) fields p.tag
   pub window_is : WindowOf fields p.window
 
--- what is wrong with the fields of a certificate, whichever certificate it is
+-- what is tested in the fields of a certificate of either kind
 abbrev pub parts_looked : List Value → List (Option CertFaultKind)
 parts_looked fields =
     fields_fault cert_field_fault fields
@@ -225,12 +214,6 @@ parts_looked fields =
 unfoldable pub parts_fault : List Value → Option CertFaultKind
 parts_fault fields = first_fault (parts_looked fields)
 
--- these are the fields of no certificate
-abbrev pub AreNoParts : List Value → Type 0
-AreNoParts fields =
-    (principal : Principal) (name : Option (List ℕ)) (subject : Subject) (window : Window)
-    → AreFields IsCertField fields → IssuedBy fields principal name → IssuedFor fields principal subject → WindowOf fields window → ⊥
-
 -- a certificate of either kind
 abbrev pub CertOf : Value → SeqItem → Type 0
 CertOf v (items.Key octets) = ⊥
@@ -239,12 +222,9 @@ CertOf v (items.Auth c) = AuthCertOf v c
 CertOf v (items.Name c) = NameCertOf v c
 CertOf v (items.Signature s) = ⊥
 
-abbrev pub IsNoCert : Value → Type 0
-IsNoCert v = (item : SeqItem) → CertOf v item → ⊥
-
 -- ---- sequences
 
--- The certificate that waits for its signature behind these items, by its number.
+-- The certificate among these items that is still without its signature, by its number.
 pub record WaitsAt (vs : List Value) (item : ℕ) : Type 0 where
   pub front : List Value
   pub cert : Value
@@ -260,7 +240,7 @@ abbrev pub Waits : List Value → Option ℕ → Type 0
 Waits vs None = waits_after false vs ≡ false
 Waits vs (Some item) = WaitsAt vs item
 
--- what is wrong with an item's place
+-- the fault of an item's place
 abbrev pub IsMisplaced : Option ℕ → ℕ → Value → CertFault → Type 0
 IsMisplaced None number v fault =
     (fault.item ≡ number) × (fault.kind ≡ kinds.StraySignature) × (is_headed (codes "signature") v ≡ true)

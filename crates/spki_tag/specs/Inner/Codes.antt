@@ -1,5 +1,5 @@
--- Tags and requests as lists of labels, by which they are told apart: a value and its members, the members
--- before it and from the last to the first.
+-- Tags and requests as lists of labels, by which proofs distinguish them: the label of a value comes after those of its
+-- members, and the members are in order from the last to the first.
 use Rattle.std.specs.Prelude.{◌≡◌, ℕ, zero, suc, List, [], ◌∷◌, Option, None, Bool, refl}
 use Rattle.std.proofs.Common.{ap, ◌∙◌}
 use Rattle.std.specs.Coded.{Coded, code_by, coded×, coded_ℕ, coded_bool, coded_list, coded_option}
@@ -14,7 +14,7 @@ limit_code =
     code_by (Bool × List ℕ) (coded× coded_bool (coded_list coded_ℕ)) (λ l. (l.strict, l.octets))
     (λ p. record { strict = p.0; octets = p.1 }) (λ _. refl)
 
--- what a label stands for, the octets, and the limits of a range
+-- what a label means, its octets, and the limits of a range
 pub record Label : Type 0 where
   pub kind : ℕ
   pub octets : List ℕ
@@ -53,17 +53,17 @@ abbrev mutual
   tags_labels none rest = rest
   tags_labels (more t ts) rest = tags_labels ts (tag_labels t rest)
 
--- the tag goes before those on top
+-- a tag is put before those on top of the stack
 abbrev put : Tag → List Tags → List Tags
 put t [] = []
 put t (top ∷ below) = more t top ∷ below
 
--- the tags on top become a tag of those below
+-- the tags on top become one tag of the level below
 abbrev fold_top : (Tags → Tag) → List Tags → List Tags
 fold_top f [] = []
 fold_top f (top ∷ below) = put (f top) below
 
--- what a label does to the tags made so far
+-- how a label changes the tags that were made so far
 abbrev tag_step : ℕ → Label → List Tags → List Tags
 tag_step zero l made = none ∷ made
 tag_step (suc zero) l made = put star made

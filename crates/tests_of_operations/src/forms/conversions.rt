@@ -1,4 +1,4 @@
-//! Values read in one form and written in another.
+//! Values that are read in one form and written in another.
 
 use sexpr_core::{FormFault, decode, encode, unwrap_braces, wrap};
 use sexpr_text::{print_advanced, read_advanced, read_any};
@@ -36,25 +36,25 @@ const BRACED: &[(&[u8], &[u8])] = &[
     (b"{WzE6eF0xOmE=}", b"[1:x]1:a"),
 ];
 
-/// The canonical form of what a text spells.
+/// The canonical form of the value that a text spells.
 pub(crate) fn spelled(alloc: Global, text: &[u8]) -> Result<Vec<u8>, FormFault> {
     let tree = read_advanced(alloc, text)?;
     Ok(encode(alloc, &tree)?)
 }
 
-/// The canonical form of what a text spells or braces.
+/// The canonical form of the value that a text spells or braces.
 fn read(alloc: Global, text: &[u8]) -> Result<Vec<u8>, FormFault> {
     let tree = read_any(alloc, text)?;
     Ok(encode(alloc, &tree)?)
 }
 
-/// The canonical form of what a text braces.
+/// The canonical form of the value that a text braces.
 pub(crate) fn braced(alloc: Global, text: &[u8]) -> Result<Vec<u8>, FormFault> {
     let tree = unwrap_braces(alloc, text)?;
     Ok(encode(alloc, &tree)?)
 }
 
-/// What is printed of a text in canonical form.
+/// The printed text of a text in canonical form.
 fn printed(alloc: Global, text: &[u8]) -> Result<Vec<u8>, FormFault> {
     let tree = decode(alloc, text)?;
     Ok(print_advanced(alloc, &tree)?)

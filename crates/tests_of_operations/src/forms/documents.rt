@@ -19,13 +19,13 @@ fn is_empty_list(value: &Sexp) -> bool {
     }
 }
 
-/// The number of members of the list that a text is; None of a string.
+/// The number of members of the list of a text. None for a string.
 fn parts_of(alloc: Global, text: &[u8]) -> Result<Option<usize>, FormFault> {
     let document = Doc::open(alloc, text)?;
     Ok(document.parts(document.root()))
 }
 
-/// Whether the string that a text is has no octets.
+/// Whether the string of a text has no octets.
 fn is_empty_body(alloc: Global, text: &[u8]) -> Result<bool, FormFault> {
     let document = Doc::open(alloc, text)?;
     Ok(document.body(document.root()) == Some(b"".as_slice()))
@@ -43,7 +43,7 @@ fn smallest_values(rt: HostRuntime) -> Result<(), Fail> {
     Ok(())
 }
 
-/// Looks at the nodes of `(1:a(1:b))`.
+/// Examines the nodes of `(1:a(1:b))`.
 fn looks_at_nodes(rt: &impl Abort, document: &Doc) {
     let root = document.root();
     assert!(rt; root == NodeId(0));
@@ -56,7 +56,7 @@ fn looks_at_nodes(rt: &impl Abort, document: &Doc) {
     assert!(rt; document.body(NodeId(1)) == Some(b"a".as_slice()));
 }
 
-/// Looks at a number that the document doesn't have.
+/// Examines a number that the document does not have.
 fn looks_past_nodes(rt: &impl Abort, document: &Doc, past: NodeId) {
     assert!(rt; document.parts(past) == None);
     assert!(rt; document.part(past, 0) == None);

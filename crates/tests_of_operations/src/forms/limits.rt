@@ -8,7 +8,7 @@ use sexpr_core::{Doc, FormFault, decode, encode};
 use std::alloc::Global;
 use std::test::Fail;
 
-/// The canonical form of a text in canonical form, by way of a tree.
+/// The canonical form of a text in canonical form, read and written as a tree.
 fn rewritten(alloc: Global, text: &[u8]) -> Result<Vec<u8>, FormFault> {
     let tree = decode(alloc, text)?;
     Ok(encode(alloc, &tree)?)

@@ -25,7 +25,7 @@ const CANONICAL: &[(&[u8], FormFault)] = &[
     (b"{KDE6YSk=}", Bad(0)),
 ];
 
-/// Texts that don't begin with a brace and are no advanced form.
+/// Texts that do not begin with a brace and are no advanced form.
 const ADVANCED: &[(&[u8], FormFault)] = &[
     (b"4\"abc\"", Bad(5)),
     (b"#616#", Bad(4)),
@@ -68,7 +68,7 @@ const BRACES: &[(&[u8], FormFault)] = &[
     (b"{YQ==}x", Bad(5)),
 ];
 
-/// Whether both readers of canonical form refuse a text by this fault.
+/// Whether both readers of canonical form refuse a text for this fault.
 pub(crate) fn is_refused_in_canonical_form(alloc: Global, text: &[u8], fault: FormFault) -> bool {
     match (decode(alloc, text), Doc::open(alloc, text)) {
         (Err(met), Err(same)) => met == fault && same == fault,
@@ -76,7 +76,7 @@ pub(crate) fn is_refused_in_canonical_form(alloc: Global, text: &[u8], fault: Fo
     }
 }
 
-/// Whether a text that doesn't begin with a brace is refused by this fault.
+/// Whether a text that does not begin with a brace is refused for this fault.
 pub(crate) fn is_refused(alloc: Global, text: &[u8], fault: FormFault) -> bool {
     match (read_advanced(alloc, text), read_any(alloc, text)) {
         (Err(met), Err(same)) => met == fault && same == fault,
@@ -84,7 +84,7 @@ pub(crate) fn is_refused(alloc: Global, text: &[u8], fault: FormFault) -> bool {
     }
 }
 
-/// Whether a text is refused by this fault as transport form.
+/// Whether a text is refused as transport form for this fault.
 pub(crate) fn is_refused_in_braces(alloc: Global, text: &[u8], fault: FormFault) -> bool {
     match unwrap_braces(alloc, text) {
         Err(met) => met == fault,

@@ -6,7 +6,7 @@ use std::alloc::{AllocError, Global};
 pub const FIRST_RUN: &[u8] =
     b"(4:case(3:acl(5:entry(10:public-key(4:test1:a))(3:tag(3:ftp4:host))))(8:accepted)(8:sequence)(3:key(10:public-key(4:test1:a)))(7:request(3:ftp4:host3:dir))(2:at19:2024-01-01_00:00:00))";
 
-/// So many times the first octets, then so many times the last ones.
+/// The first octets repeated so many times, then the last ones repeated as many times.
 pub(crate) fn repeated(
     alloc: Global,
     first: &[u8],

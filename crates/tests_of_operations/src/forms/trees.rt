@@ -1,4 +1,4 @@
-//! Trees built by hand, and the calls on octets that take memory.
+//! Trees that are built directly, and the calls on octets that take memory.
 
 use sexpr_core::syntax::{append_verbatim, octets_in_braces, read_base64, wrap_octets};
 use sexpr_core::{Doc, FormFault, Sexp, encode};
@@ -16,14 +16,14 @@ fn copied(alloc: Global, value: &Sexp) -> Result<Vec<u8>, AllocError> {
     encode(alloc, &value.clone()?)
 }
 
-/// The canonical form of a document, by way of a tree.
+/// The canonical form of a document, read and written as a tree.
 fn whole(alloc: Global, text: &[u8]) -> Result<Vec<u8>, FormFault> {
     let document = Doc::open(alloc, text)?;
     let tree = Sexp::of_node(alloc, &document.top())?;
     Ok(encode(alloc, &tree)?)
 }
 
-/// What base64 stands for, up to a brace.
+/// The octets of base64 up to a brace.
 fn unpacked(alloc: Global, text: &[u8]) -> Result<Vec<u8>, FormFault> {
     Ok(read_base64(alloc, text, 0, b'}')?.octets)
 }

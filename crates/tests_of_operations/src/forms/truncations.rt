@@ -1,4 +1,4 @@
-//! Beginnings of texts: each proper one is Short.
+//! Beginnings of texts: each proper beginning is Short.
 
 use crate::forms::refusals::{is_refused, is_refused_in_canonical_form};
 use crate::forms::texts::FIRST_RUN;

@@ -52,7 +52,7 @@ const BOB: Given = Given {
     ..DEFINITION
 };
 
-/// Chains, and the keys that they are for.
+/// Chains, and the keys that they become authorizations for.
 const DONE: &[(Given, &[Given], &[u8])] = &[
     (ENTRY, &[], KA),
     // delegation
@@ -90,7 +90,7 @@ fn strings(alloc: Global, n: usize) -> Result<Vec<u8>, AllocError> {
     Ok(text)
 }
 
-/// Whether a chain of an entry and a certificate, for lists of so many strings, is too large.
+/// Whether a chain of an entry and a certificate is too large, if their tags are lists of so many strings.
 fn is_too_large(alloc: Global, n: usize, m: usize) -> Result<bool, Fail> {
     let first = five_for(alloc, &ENTRY, &strings(alloc, n)?)?;
     let second = Step::Auth(five_for(alloc, &CERTIFICATE, &strings(alloc, m)?)?);

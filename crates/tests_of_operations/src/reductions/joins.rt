@@ -65,7 +65,7 @@ const SECOND: Given = Given {
     ..CERTIFICATE
 };
 
-/// Two authorizations, and why they don't join, if they don't.
+/// Two authorizations, and the cause why they do not join, if there is one.
 const DELEGATED: &[(Given, Given, Option<Cause>)] = &[
     // delegation
     (ENTRY, CERTIFICATE, None),
@@ -152,7 +152,7 @@ const BOB: Given = Given {
     ..DEFINITION
 };
 
-/// An authorization and a definition, and the key and the names of the subject of what they become.
+/// An authorization and a definition, and the subject of the result: its key and its names.
 const RESOLVED: &[(Given, Given, &[u8], &[&[u8]])] = &[
     // linked-names
     (
@@ -212,7 +212,7 @@ fn is_same_limit(limit: &Option<Date>, other: &Option<Date>) -> bool {
     }
 }
 
-/// Whether an authorization by the keeper of the access list, for KC, is another one.
+/// Whether an authorization of KC by the owner of the access list is equal to another one.
 fn are_same(alloc: Global, five: &Five, other: &Five) -> Result<bool, Fail> {
     let both_own = matches!((&five.issuer, &other.issuer), (Issuer::Own, Issuer::Own));
     let same_subject = is_subject(&five.subject, KC, &[]) && is_subject(&other.subject, KC, &[]);
@@ -223,7 +223,7 @@ fn are_same(alloc: Global, five: &Five, other: &Five) -> Result<bool, Fail> {
     Ok(both_own && same_subject && same_first && same_last && same_right)
 }
 
-/// An entry for what KA calls friends, and the definitions of this name and of the next, with some limits.
+/// An entry for KA's friends, and the definitions of this name and of the next, with some limits.
 const FOR_FRIENDS: Given = Given {
     names: &[b"friends"],
     tag: b"(3:ftp4:host)",
@@ -241,7 +241,7 @@ const BOB_FROM_JUNE: Given = Given {
     ..BOB
 };
 
-/// An authorization, resolved by two definitions one after the other.
+/// An authorization that is resolved by two definitions, one after another.
 fn one_by_one(alloc: Global, first: &Given, second: &Given) -> Result<Joined<Five<'static>>, Fail> {
     match resolved(alloc, &FOR_FRIENDS, first)? {
         Joined::Done(five) => Ok(five.resolve(alloc, &four(alloc, second)?, Policy::Open)?),
@@ -249,7 +249,7 @@ fn one_by_one(alloc: Global, first: &Given, second: &Given) -> Result<Joined<Fiv
     }
 }
 
-/// The same, resolved by what the two definitions become.
+/// The same authorization, resolved by the result of joining the two definitions.
 fn both_at_once(
     alloc: Global,
     first: &Given,
@@ -261,7 +261,7 @@ fn both_at_once(
     }
 }
 
-/// Whether both became authorizations, and the same.
+/// Whether both results are authorizations, and equal.
 fn join_alike(alloc: Global, joined: &Joined<Five>, other: &Joined<Five>) -> Result<bool, Fail> {
     match (joined, other) {
         (Joined::Done(five), Joined::Done(another)) => are_same(alloc, five, another),

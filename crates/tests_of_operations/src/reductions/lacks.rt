@@ -1,4 +1,4 @@
-//! What an authorization lacks to grant what is asked.
+//! What an authorization lacks to grant a request.
 
 use crate::reductions::tuples::{ENTRY, Given, KA, KC, date, five, key};
 use sexpr_core::Doc;
@@ -13,7 +13,7 @@ fn request(alloc: Global, text: &[u8]) -> Result<Ground, Fail> {
     Ok(Ground::of(alloc, &document.top())?)
 }
 
-/// What the authorization that is given lacks to grant a key a request at a moment.
+/// What the given authorization lacks to grant a key a request at a moment.
 fn lack(
     alloc: Global,
     given: &Given,

@@ -1,4 +1,4 @@
-//! Tuples as they are given in examples.
+//! Tuples of the examples.
 
 use sexpr_core::Doc;
 use spki_cert::{Date, Key, Names, Octets, Principal, Subject, Window, date_of, key_of};
@@ -13,12 +13,12 @@ pub const KB: &[u8] = b"(10:public-key(4:test1:b))";
 
 pub const KC: &[u8] = b"(10:public-key(4:test1:c))";
 
-/// A tuple, by the texts of its parts.
+/// A tuple, as the texts of its parts.
 #[derive(Clone, Copy)]
 pub struct Given {
-    /// The issuer's key; none for the keeper of the access list.
+    /// The issuer's key. None for the owner of the access list.
     pub issuer: Option<&'static [u8]>,
-    /// The name that is defined, where this is a definition.
+    /// The name that is defined, if this is a definition.
     pub name: Option<&'static [u8]>,
     /// The subject's key, and the names behind it.
     pub subject: &'static [u8],
@@ -77,7 +77,7 @@ fn tag(alloc: Global, text: &[u8]) -> Result<Tag, Fail> {
     Ok(Tag::of(alloc, &document.top())?)
 }
 
-/// The moment that this text writes.
+/// The date with this text.
 pub(crate) fn date(alloc: Global, text: &[u8]) -> Result<Date, Fail> {
     let document = Doc::open(alloc, text)?;
     Ok(date_of(&document.top())?)
@@ -115,12 +115,12 @@ fn issuer(alloc: Global, given: &Given) -> Result<Issuer<'static>, Fail> {
     }
 }
 
-/// The authorization that is given.
+/// The given authorization.
 pub(crate) fn five(alloc: Global, given: &Given) -> Result<Five<'static>, Fail> {
     five_for(alloc, given, given.tag)
 }
 
-/// The authorization that is given, but for the tag with another text.
+/// The given authorization, with another text as its tag.
 pub(crate) fn five_for(alloc: Global, given: &Given, text: &[u8]) -> Result<Five<'static>, Fail> {
     Ok(Five {
         issuer: issuer(alloc, given)?,
@@ -131,7 +131,7 @@ pub(crate) fn five_for(alloc: Global, given: &Given, text: &[u8]) -> Result<Five
     })
 }
 
-/// The definition that is given.
+/// The given definition.
 pub(crate) fn four(alloc: Global, given: &Given) -> Result<Four<'static>, Fail> {
     Ok(Four {
         key: key(alloc, given.issuer.unwrap_or(KA))?,
@@ -148,7 +148,7 @@ fn step(alloc: Global, given: &Given) -> Result<Step<'static>, Fail> {
     }
 }
 
-/// The steps that are given.
+/// The given steps.
 pub(crate) fn steps(alloc: Global, given: &[Given]) -> Result<Vec<Step<'static>>, Fail> {
     let mut steps = Vec::new(alloc);
     for one in given {

@@ -1,11 +1,11 @@
-//! Authorizations as they are written.
+//! Written authorizations.
 
 use crate::reductions::tuples::{ENTRY, Given, KA, KB, five};
 use sexpr_core::encode;
 use std::alloc::Global;
 use std::test::Fail;
 
-/// Whether the authorization that is given is written so, in canonical form.
+/// Whether the given authorization is written as this text, in canonical form.
 fn is_written(alloc: Global, given: &Given, wanted: &[u8]) -> Result<bool, Fail> {
     let tuple = five(alloc, given)?;
     let tree = tuple.write(alloc)?;

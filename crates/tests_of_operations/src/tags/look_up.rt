@@ -1,4 +1,4 @@
-//! The index of a set's members, and the order in which sets meet.
+//! The index of a set's members, and the order of the members in an intersection of sets.
 
 use crate::tags::meetings::{Row, all_meet};
 use crate::tags::texts::tag_of;
@@ -7,7 +7,7 @@ use std::alloc::{AllocError, Global};
 use std::process::Abort;
 use std::test::Fail;
 
-/// Tags, what is asked of the index of their members, and the places that it finds.
+/// Tags, the tags that the index of their members is asked for, and the places that it finds.
 const PLACES: &[(&[u8], &[u8], &[usize])] = &[
     (SET, b"1:a", &[2, 3, 5]),
     (SET, b"(1:f)", &[1]),
@@ -24,7 +24,7 @@ const PLACES: &[(&[u8], &[u8], &[usize])] = &[
 
 const SET: &[u8] = b"(1:*3:set(1:f1:x)1:a(1:*6:prefix1:a)(1:g)1:a)";
 
-/// Sets, and what they leave together, with the order of its members.
+/// Sets and their intersection, with the order of its members.
 const SETS_MET: &[Row] = &[
     (
         b"(1:*3:set1:b1:a(1:*6:prefix1:a))",
@@ -48,12 +48,12 @@ const SETS_MET: &[Row] = &[
     ),
 ];
 
-/// The places of the members of a set that another tag is met with.
+/// The places of the members of a set for the intersection with another tag.
 fn places_for(alloc: Global, set: &Tag, asked: &Tag) -> Result<Vec<usize>, AllocError> {
     Index::of(alloc, set)?.places(alloc, asked)
 }
 
-/// The same of tags with these texts.
+/// The same for tags with these texts.
 fn places_by_texts(
     rt: &impl Abort,
     alloc: Global,

@@ -6,7 +6,7 @@ use std::alloc::{AllocError, Global};
 use std::process::Abort;
 use std::test::Fail;
 
-/// Two tags, and what they leave together.
+/// Two tags and their intersection.
 pub type Row<'a> = (&'a [u8], &'a [u8], &'a [u8]);
 
 const LISTS: &[Row] = &[
@@ -55,24 +55,24 @@ const MIXTURES: &[Row] = &[
     ),
 ];
 
-/// What two tags leave together, as a text.
+/// The text of the intersection of two tags.
 fn text_of_both(alloc: Global, one: &Tag, other: &Tag) -> Result<Vec<u8>, Fail> {
     let both = one.meet(alloc, other)?;
     Ok(text_of(alloc, &both)?)
 }
 
-/// What the tags with these texts leave together, as a text.
+/// The text of the intersection of the tags with these texts.
 fn met(rt: &impl Abort, alloc: Global, one: &[u8], other: &[u8]) -> Result<Vec<u8>, Fail> {
     text_of_both(alloc, &tag_of(rt, alloc, one)?, &tag_of(rt, alloc, other)?)
 }
 
-/// The same, where the first of the tags is used up.
+/// The same, with a call that consumes the first of the tags.
 fn met_in_place(rt: &impl Abort, alloc: Global, one: &[u8], other: &[u8]) -> Result<Vec<u8>, Fail> {
     let both = tag_of(rt, alloc, one)?.into_meet(alloc, &tag_of(rt, alloc, other)?)?;
     Ok(text_of(alloc, &both)?)
 }
 
-/// Meets the tags of each row of a table, in both ways.
+/// Intersects the tags of each row of a table, in both orders.
 pub(crate) fn all_meet(rt: &impl Abort, alloc: Global, rows: &[Row]) -> Result<(), Fail> {
     for (one, other, both) in rows {
         let left = met(rt, alloc, one, other)?;
@@ -110,7 +110,7 @@ fn is_too_large(alloc: Global, one: &Tag, other: &Tag) -> bool {
     }
 }
 
-/// Whether the tags with these texts are too large to meet.
+/// Whether the tags with these texts are too large to be intersected.
 fn are_too_large(rt: &impl Abort, alloc: Global, one: &[u8], other: &[u8]) -> Result<bool, Fail> {
     Ok(is_too_large(alloc, &tag_of(rt, alloc, one)?, &tag_of(rt, alloc, other)?))
 }
@@ -130,7 +130,7 @@ fn limits(rt: HostRuntime) -> Result<(), Fail> {
     Ok(())
 }
 
-/// Lists and sets in turn, nested as deep as a text may be.
+/// Lists and sets by turns, nested as deep as a text may be.
 fn nested(alloc: Global) -> Result<Vec<u8>, AllocError> {
     let mut text = b"(1:f(1:*3:set1:a".repeat(alloc, 32)?;
     text.extend_from_slice(b"1:b")?;

@@ -1,4 +1,4 @@
-//! Tags and requests as they are read.
+//! Reading tags and requests.
 
 use crate::tags::texts::{list_of, root_of, tag_of, text_of};
 use sexpr_core::Doc;
@@ -34,7 +34,7 @@ const NORMAL: &[(&[u8], &[u8])] = &[
     (b"(1:x(1:*3:set))", b"(1:*3:set)"),
 ];
 
-/// Tags and requests, and whether the one contains the other.
+/// Tags and requests, and whether the tag contains the request.
 const HELD: &[(&[u8], &[u8], bool)] = &[
     (b"(3:ftp4:host)", b"(3:ftp4:host3:dir)", true),
     (b"(3:ftp4:host)", b"(3:ftp)", false),
@@ -77,7 +77,7 @@ fn tag_faults(rt: HostRuntime) -> Result<(), Fail> {
     Ok(())
 }
 
-/// How many nodes the tag with this text has.
+/// The number of nodes of the tag with this text.
 fn nodes_of(rt: &impl Abort, alloc: Global, text: &[u8]) -> Result<usize, Fail> {
     let tag = tag_of(rt, alloc, text)?;
     Ok(tag.nodes())
@@ -111,7 +111,7 @@ fn tag_faults_at_the_limit(rt: HostRuntime) -> Result<(), Fail> {
     Ok(())
 }
 
-/// The text of the tag in normal form that a text is read as.
+/// The text of the normal form of the tag with this text.
 fn rewritten(rt: &impl Abort, alloc: Global, text: &[u8]) -> Result<Vec<u8>, Fail> {
     let tag = tag_of(rt, alloc, text)?;
     Ok(text_of(alloc, &tag)?)
@@ -141,7 +141,7 @@ fn normal_form(rt: HostRuntime) -> Result<(), Fail> {
     Ok(())
 }
 
-/// Whether a tag contains the request that a document is.
+/// Whether a tag contains the request of a document.
 fn holds_whole(
     rt: &impl Abort,
     alloc: Global,
@@ -152,7 +152,7 @@ fn holds_whole(
     Ok(tag.holds(&request))
 }
 
-/// Whether the tag with a text contains the request with a text.
+/// Whether the tag with this text contains the request with this text.
 fn holds_text(rt: &impl Abort, alloc: Global, tag: &[u8], request: &[u8]) -> Result<bool, Fail> {
     let document = Doc::open(alloc, request)?;
     Ok(holds_whole(rt, alloc, &tag_of(rt, alloc, tag)?, &document)?)

@@ -1,4 +1,4 @@
-//! Tags by their canonical texts.
+//! Tags as canonical texts.
 
 ghost use Rattle.std.specs.Prelude.{IsSome};
 ghost use Rattle.sexpr_core.specs.Value.{node};
@@ -9,7 +9,7 @@ use std::alloc::{AllocError, Global};
 use std::process::Abort;
 use std::test::Fail;
 
-/// The number of a document's value, which the document has.
+/// The number of a document's value. The document has it.
 pub(crate) fn root_of(rt: &impl Abort, document: &Doc) -> NodeId
     ensures { IsSome (node document.now result.0) }
 {
@@ -18,7 +18,7 @@ pub(crate) fn root_of(rt: &impl Abort, document: &Doc) -> NodeId
     root
 }
 
-/// The tag that a document is.
+/// The tag of a document.
 fn whole(rt: &impl Abort, alloc: Global, document: &Doc) -> Result<Tag, TagFault> {
     Tag::read(alloc, document, root_of(rt, document))
 }
@@ -34,7 +34,7 @@ pub(crate) fn text_of(alloc: Global, tag: &Tag) -> Result<Vec<u8>, AllocError> {
     encode(alloc, &tag.write(alloc)?)
 }
 
-/// The octets in front, so many times the octets in the middle, a closing parenthesis.
+/// The octets in front, the octets in the middle repeated so many times, and a closing parenthesis.
 pub(crate) fn list_of(
     alloc: Global,
     front: &[u8],

@@ -4,12 +4,12 @@ use Rattle.sexpr_core.proofs.parser.parse.Goals as goal
 
 pub returns-in_err-end-clause-only : goal.returns-in_err-end-clause-only
 returns-in_err-end-clause-only c =
-    let p = err_from_is_err_and c.from_residual.result c.from_residual.ensures.1 in
+    let p = err_from_is_err_and c.from_residual-in_err-end.result c.from_residual-in_err-end.ensures.1 in
     rw (p.1, p.2) (λ v w e. only_memory _ _ v w e (refused _ _ c.in_err-end.ensures))
 
 pub returns-in_err-end-clause-refused : goal.returns-in_err-end-clause-refused
 returns-in_err-end-clause-refused c =
-    let p = err_from_is_err_and c.from_residual.result c.from_residual.ensures.1 in
+    let p = err_from_is_err_and c.from_residual-in_err-end.result c.from_residual-in_err-end.ensures.1 in
     rw (p.1, p.2) (refused _ _ c.in_err-end.ensures)
 
 pub returns-then-end-text-clause-only : goal.returns-then-end-text-clause-only

@@ -1,13 +1,12 @@
-use Rattle.std.proofs.Common.{◌≡◌, ◌≢◌, ◌∷◌, [], List, ap, ◌∙◌, Some, Option, true, false}
+use Rattle.std.proofs.Common.{◌≡◌, ◌≢◌, ◌∷◌, List, ap, ◌∙◌, Some, Option, true, false}
 use Rattle.std.specs.Prelude.{codes}
 use Rattle.sexpr_core.specs.Value.{Value, plain, group}
-use Rattle.spki_cert.specs.declared.entry.Entry.{Entry}
 use Rattle.spki_cert.specs.declared.fault.CertFaultKind.{CertFaultKind}
 use Rattle.spki_cert.specs.declared.fault.CertFaultKind.TheVariants.{Memory}
-use Rattle.spki_cert.specs.Faults.{Shows}
-use Rattle.spki_cert.specs.Entries.{EntryOf}
-use Rattle.spki_cert.proofs.Showing.{carried, parts-behind}
-use Rattle.spki_cert.proofs.EntryLaws.{entry-subject, entry-fields, entry-window, entry-tag, no-window}
+use Rattle.spki_cert.proofs.Showing.{carried}
+use Rattle.std.proofs.lemmas.Result.{IfErr-weaker}
+use Rattle.spki_cert.proofs.EntryFaultNone.{entry-refused}
+use Rattle.spki_cert.proofs.FaultShows.{shown-named, entry-shows}
 use Rattle.std.specs.Prelude.{is_some}
 use Rattle.spki_tag.specs.Tag as tags
 use Rattle.spki_cert.specs.EntryFaults.{entry_fault}
@@ -18,42 +17,6 @@ use Rattle.spki_cert.proofs.acl.entry_of.Goals as goal
 -- the entry's parts
 written : (v : Value) (all : List Value) (subject : Value) (rest : List Value) → v ≡ group (plain (codes "entry") ∷ all) → all ≡ subject ∷ rest → v ≡ group (plain (codes "entry") ∷ subject ∷ rest)
 written v all subject rest e f = e ∙ ap (λ (vs : List Value). group (plain (codes "entry") ∷ vs)) f
-
-pub returns-in_default-clause-refused : goal.returns-in_default-clause-refused
-returns-in_default-clause-refused c = λ _ e read. c.in_default.ensures (read.subject ∷ read.fields) read.written
-
-pub returns-in_err-subject-clause-refused : goal.returns-in_err-subject-clause-refused
-returns-in_err-subject-clause-refused c =
-    let e = written c.args.node.now c.in-Some.rest c.in-Some-split_first.subject c.in-Some-split_first.rest c.in-Some.ensures c.in-Some-split_first.ensures in
-    carried c.from_residual.result _ (λ (kind : CertFaultKind). kind ≢ Memory → (e : Entry) → EntryOf c.args.node.now e → ⊥) c.from_residual.ensures.1
-    (λ known entry read. c.in_err-subject.ensures.refused known entry.subject (entry-subject c.args.node.now c.in-Some-split_first.subject c.in-Some-split_first.rest e entry read))
-
-pub returns-in_err-propagate-clause-refused : goal.returns-in_err-propagate-clause-refused
-returns-in_err-propagate-clause-refused c =
-    let e = written c.args.node.now c.in-Some.rest c.in-Some-split_first.subject c.in-Some-split_first.rest c.in-Some.ensures c.in-Some-split_first.ensures in
-    carried c.from_residual-in_err-propagate.result _ (λ (kind : CertFaultKind). kind ≢ Memory → (e : Entry) → EntryOf c.args.node.now e → ⊥) c.from_residual-in_err-propagate.ensures.1
-    (λ known entry read. c.in_err-propagate.ensures.refused known (entry-fields c.args.node.now c.in-Some-split_first.subject c.in-Some-split_first.rest e entry read))
-
-pub returns-in_err-propagate-clause-shown : goal.returns-in_err-propagate-clause-shown
-returns-in_err-propagate-clause-shown c =
-    let e = written c.args.node.now c.in-Some.rest c.in-Some-split_first.subject c.in-Some-split_first.rest c.in-Some.ensures c.in-Some-split_first.ensures in
-    carried c.from_residual-in_err-propagate.result _ (λ (kind : CertFaultKind). Shows kind c.args.node.now) c.from_residual-in_err-propagate.ensures.1
-    (c.in_err-propagate.ensures.shown c.args.node.now
-    (parts-behind c.args.node.now (plain (codes "entry") ∷ c.in-Some-split_first.subject ∷ []) c.in-Some-split_first.rest e))
-
-pub returns-in_default-one_way-clause-refused : goal.returns-in_default-one_way-clause-refused
-returns-in_default-one_way-clause-refused c =
-    let e = written c.args.node.now c.in-Some.rest c.in-Some-split_first.subject c.in-Some-split_first.rest c.in-Some.ensures c.in-Some-split_first.ensures in
-    λ _ entry read.
-    no-window c.in-Some-split_first.rest c.in_ok-propagate.field-0.known c.in_ok-propagate.ensures.found.2 c.in_default-one_way.ensures
-    entry.window (entry-window c.args.node.now c.in-Some-split_first.subject c.in-Some-split_first.rest e entry read)
-
-pub returns-in_default-tag-clause-refused : goal.returns-in_default-tag-clause-refused
-returns-in_default-tag-clause-refused c =
-    let e = written c.args.node.now c.in-Some.rest c.in-Some-split_first.subject c.in-Some-split_first.rest c.in-Some.ensures c.in-Some-split_first.ensures in
-    λ _ entry read.
-    entry-tag c.args.node.now c.in-Some-split_first.subject c.in-Some-split_first.rest e c.in_ok-propagate.field-0.known c.in_ok-propagate.ensures.found.2 c.in_default-tag.is
-    entry read
 
 pub returns-in_default-clause-named : goal.returns-in_default-clause-named
 returns-in_default-clause-named c = λ _. entry-unheaded c.args.node.now c.in_default.ensures
@@ -87,3 +50,24 @@ returns-clause-faultless c =
     entry-tagged c.args.node.now _ _ c.in-Some-split_first.rest true c.in-Some.ensures c.in-Some-split_first.ensures c.in_ok-subject.ensures.faultless c.in_ok-propagate.ensures.faultless
     (one-way c.in-Some-split_first.rest c.in_ok-propagate.field-0.known _ c.in_ok-propagate.ensures.found.2 c.in-Some-one_way.ensures)
     (has-tag c.in-Some-split_first.rest c.in_ok-propagate.field-0.known c.in_ok-propagate.ensures.found.2 ∙ ap (λ (t : Option tags.Tag). is_some t) c.in-Some-tag.is)
+
+pub returns-in_default-clause-refused : goal.returns-in_default-clause-refused
+returns-in_default-clause-refused c = λ known. entry-refused c.args.node.now _ (returns-in_default-clause-named c known)
+
+pub returns-in_err-subject-clause-refused : goal.returns-in_err-subject-clause-refused
+returns-in_err-subject-clause-refused c = IfErr-weaker c.from_residual.result _ _ (λ kind named known. entry-refused c.args.node.now kind (named known)) (returns-in_err-subject-clause-named c)
+
+pub returns-in_err-propagate-clause-refused : goal.returns-in_err-propagate-clause-refused
+returns-in_err-propagate-clause-refused c = IfErr-weaker c.from_residual-in_err-propagate.result _ _ (λ kind named known. entry-refused c.args.node.now kind (named known)) (returns-in_err-propagate-clause-named c)
+
+pub returns-in_default-one_way-clause-refused : goal.returns-in_default-one_way-clause-refused
+returns-in_default-one_way-clause-refused c = λ known. entry-refused c.args.node.now _ (returns-in_default-one_way-clause-named c known)
+
+pub returns-in_default-tag-clause-refused : goal.returns-in_default-tag-clause-refused
+returns-in_default-tag-clause-refused c = λ known. entry-refused c.args.node.now _ (returns-in_default-tag-clause-named c known)
+
+pub returns-in_err-subject-clause-shown : goal.returns-in_err-subject-clause-shown
+returns-in_err-subject-clause-shown c = IfErr-weaker c.from_residual.result _ _ (λ kind named. shown-named kind c.args.node.now (λ known. entry-shows c.args.node.now kind (named known))) (returns-in_err-subject-clause-named c)
+
+pub returns-in_err-propagate-clause-shown : goal.returns-in_err-propagate-clause-shown
+returns-in_err-propagate-clause-shown c = IfErr-weaker c.from_residual-in_err-propagate.result _ _ (λ kind named. shown-named kind c.args.node.now (λ known. entry-shows c.args.node.now kind (named known))) (returns-in_err-propagate-clause-named c)

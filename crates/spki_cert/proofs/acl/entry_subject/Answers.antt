@@ -1,24 +1,12 @@
 use Rattle.std.proofs.Common.{◌≢◌, Option, subst, ◌≡◌, Some}
-use Rattle.spki_cert.specs.declared.entry.Subject.{Subject}
 use Rattle.spki_cert.specs.declared.principal.Principal.{Principal}
 use Rattle.spki_cert.specs.declared.fault.CertFaultKind.{CertFaultKind}
 use Rattle.spki_cert.specs.declared.fault.CertFaultKind.TheVariants.{Memory}
-use Rattle.spki_cert.specs.Subjects.{SubjectOf, WhoOf}
+use Rattle.spki_cert.specs.Subjects.{WhoOf}
 use Rattle.spki_cert.proofs.Showing.{carried}
-use Rattle.spki_cert.proofs.EntryLaws.{no-subject, relative-shown}
 use Rattle.spki_cert.specs.SubjectFaults.{entry_subject_fault}
 use Rattle.spki_cert.proofs.EntryFaultLaws.{subject-found, subject-absolute, subject-relative}
 use Rattle.spki_cert.proofs.acl.entry_subject.Goals as goal
-
-pub returns-in_err-principal-clause-refused : goal.returns-in_err-principal-clause-refused
-returns-in_err-principal-clause-refused c =
-    carried c.from_residual.result _ (λ (kind : CertFaultKind). kind ≢ Memory → (s : Subject) → SubjectOf c.args.node.now s → ⊥) c.from_residual.ensures.1
-    (λ known. no-subject c.args.node.now (c.in_err-principal.ensures.refused known))
-
-pub returns-clause-shown : goal.returns-clause-shown
-returns-clause-shown c =
-    relative-shown c.args.node.now c.in_ok-principal.field-0.names.items
-    (subst (λ (p : Option Principal). WhoOf c.args.node.now p c.in_ok-principal.field-0.names.items) c.in-None.is c.in_ok-principal.ensures.found)
 
 pub returns-in_err-principal-clause-named : goal.returns-in_err-principal-clause-named
 returns-in_err-principal-clause-named c =

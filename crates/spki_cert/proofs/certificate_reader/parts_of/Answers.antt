@@ -1,7 +1,6 @@
 use Rattle.std.proofs.Common.{◌≢◌, ◌≡◌, ◌∙◌, Option, Some, true, false, refl, ap}
 use Rattle.spki_cert.specs.declared.fault.CertFaultKind.{CertFaultKind}
 use Rattle.spki_cert.specs.declared.fault.CertFaultKind.TheVariants.{Memory}
-use Rattle.spki_cert.specs.Inner.Gathering.{AreNoParts}
 use Rattle.spki_cert.proofs.Showing.{carried}
 use Rattle.std.specs.Prelude.{codes, is_some}
 use Rattle.spki_cert.specs.declared.principal_reader.Issuer.{Issuer}
@@ -11,11 +10,6 @@ use Rattle.spki_cert.specs.Inner.Gathering.{parts_fault}
 use Rattle.spki_cert.proofs.FieldFaultLaws.{both-ways, one-way, has-issuer, has-subject}
 use Rattle.spki_cert.proofs.SequenceFaultLaws.{parts-fields, parts-tested}
 use Rattle.spki_cert.proofs.certificate_reader.parts_of.Goals as goal
-
-pub returns-in_err-propagate-clause-refused : goal.returns-in_err-propagate-clause-refused
-returns-in_err-propagate-clause-refused c =
-    carried c.from_residual.result _ (λ (kind : CertFaultKind). kind ≢ Memory → AreNoParts c.args.members) c.from_residual.ensures.1
-    (λ known principal name subject window fields _ _ _. c.in_err-propagate.ensures.refused known fields)
 
 pub returns-in_err-propagate-clause-named : goal.returns-in_err-propagate-clause-named
 returns-in_err-propagate-clause-named c =

@@ -1,42 +1,15 @@
 use Rattle.std.proofs.Common.{◌≡◌, ◌≢◌, ◌∷◌, ◌++◌, [], ℕ, List, sym, ap, subst, ◌∙◌, refl, Some, None, rules}
-use Rattle.sexpr_core.specs.Value.{Value}
 use Rattle.spki_cert.specs.declared.fault.CertFaultKind.{CertFaultKind}
 use Rattle.spki_cert.specs.declared.fault.CertFaultKind.TheVariants.{Memory}
 use Rattle.spki_cert.specs.declared.fields.Known.{Known}
-use Rattle.spki_cert.specs.Faults.{Shows}
-use Rattle.spki_cert.specs.Fields.{AreFields}
-use Rattle.spki_cert.specs.Inner.Gathering.{IsFieldOf, AreParts, AreRead, IsNew, gather, fault_in}
-use Rattle.spki_cert.proofs.Showing.{carried, shows-in}
+use Rattle.spki_cert.specs.Inner.Gathering.{AreRead, IsNew, gather, fault_in}
+use Rattle.spki_cert.proofs.Showing.{carried}
 use Rattle.spki_cert.proofs.Groups.{split, moved}
-use Rattle.spki_cert.proofs.KnownLaws.{read-none, read-more, next-field, next-new, first-part}
+use Rattle.spki_cert.proofs.KnownLaws.{read-none, read-more}
 use Rattle.spki_cert.specs.declared.fault.CertFaultKind.TheVariants.{Shape}
 use Rattle.spki_cert.specs.FieldFaults.{fields_fault}
 use Rattle.spki_cert.proofs.FieldFaultLaws.{left-all, left-fault, left-next, left-none, field-new, field-not_new, field-is_new}
 use Rattle.spki_cert.proofs.fields.fields_of.Goals as goal
-
-pub returns-in_default-new_head-clause-refused : goal.returns-in_default-new_head-clause-refused
-returns-in_default-new_head-clause-refused c =
-    let i = c.loop-field.invariant in
-    let e : c.args.members ≡ i.0 ++ c.in-Some.field ∷ c.in-Some.others = split c.args.members i.0 c.loop-field.rest c.in-Some.others c.in-Some.field i.1 c.in-Some.ensures in
-    let none : (head : List ℕ) → IsNew c.in-Some.field c.loop-field.heads.items head → ⊥ =
-    subst (λ (hs : List (List ℕ)). (head : List ℕ) → IsNew c.in-Some.field hs head → ⊥) c.deref.ensures.value c.in_default-new_head.ensures in
-    λ _ all.
-    next-new c.args.place i.0 c.loop-field.heads.items c.loop-field.known c.in-Some.field c.in-Some.others i.2 none
-    (subst (AreFields (IsFieldOf c.args.place)) e all)
-
-pub returns-in_err-said-clause-refused : goal.returns-in_err-said-clause-refused
-returns-in_err-said-clause-refused c =
-    let i = c.loop-field.invariant in
-    let e : c.args.members ≡ i.0 ++ c.in-Some.field ∷ c.in-Some.others = split c.args.members i.0 c.loop-field.rest c.in-Some.others c.in-Some.field i.1 c.in-Some.ensures in
-    carried c.from_residual.result _ (λ (kind : CertFaultKind). kind ≢ Memory → AreFields (IsFieldOf c.args.place) c.args.members → ⊥) c.from_residual.ensures.1
-    (λ known all. c.in_err-said.ensures.refused known (next-field c.args.place i.0 c.in-Some.field c.in-Some.others (subst (AreFields (IsFieldOf c.args.place)) e all)))
-
-pub returns-in_err-said-clause-shown : goal.returns-in_err-said-clause-shown
-returns-in_err-said-clause-shown c =
-    let i = c.loop-field.invariant in
-    let e : c.args.members ≡ i.0 ++ c.in-Some.field ∷ c.in-Some.others = split c.args.members i.0 c.loop-field.rest c.in-Some.others c.in-Some.field i.1 c.in-Some.ensures in
-    carried c.from_residual.result _ (λ (kind : CertFaultKind). (v : Value) → AreParts c.args.members v → Shows kind v) c.from_residual.ensures.1
-    (λ v parts. shows-in _ c.in-Some.field v (first-part c.args.members i.0 c.in-Some.field c.in-Some.others v e parts) c.in_err-said.ensures.shown)
 
 pub loop-field-preserved : goal.loop-field-preserved
 loop-field-preserved c =

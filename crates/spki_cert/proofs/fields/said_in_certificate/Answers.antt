@@ -2,45 +2,23 @@ use Rattle.std.proofs.Common.{◌≢◌, ◌≡◌, ◌∙◌, Some}
 use Rattle.std.proofs.lemmas.Result.{IfErr-weaker, IfOk-weaker}
 use Rattle.spki_cert.specs.declared.fault.CertFaultKind.{CertFaultKind}
 use Rattle.spki_cert.specs.declared.fault.CertFaultKind.TheVariants.{Memory}
-use Rattle.spki_cert.specs.Fields.{IsCertField, common, issuer, subject, unread}
+use Rattle.spki_cert.specs.Fields.{common, issuer, subject, unread}
 use Rattle.spki_cert.proofs.Showing.{carried}
-use Rattle.spki_cert.proofs.FieldLaws.{cert-issuer, cert-subject, cert-version, cert-field}
 use Rattle.spki_cert.specs.FieldFaults.{cert_field_fault}
 use Rattle.spki_cert.proofs.FieldFaultLaws.{cert-issuer_field, cert-subject_field, cert-version_field, cert-unread, cert-common}
 use Rattle.spki_cert.proofs.fields.said_in_certificate.Goals as goal
 
-pub returns-in_err-issuer_in-clause-refused : goal.returns-in_err-issuer_in-clause-refused
-returns-in_err-issuer_in-clause-refused c =
-    carried c.from_residual.result _ (λ (kind : CertFaultKind). kind ≢ Memory → IsCertField c.args.field.now → ⊥) c.from_residual.ensures.1
-    (λ _ f. let read = cert-issuer c.args.field.now c.in-Some.members c.in-Some.ensures f in c.in_err-issuer_in.ensures.refused read.0 read.1)
-
 pub returns-in-Some-clause-found : goal.returns-in-Some-clause-found
 returns-in-Some-clause-found c = issuer c.in-Some.members (c.in_ok-issuer_in.field-0.principal, c.in_ok-issuer_in.field-0.name) c.in-Some.ensures c.in_ok-issuer_in.ensures.found
 
-pub returns-in_err-subject_in-clause-refused : goal.returns-in_err-subject_in-clause-refused
-returns-in_err-subject_in-clause-refused c =
-    carried c.from_residual-in_err-subject_in.result _ (λ (kind : CertFaultKind). kind ≢ Memory → IsCertField c.args.field.now → ⊥) c.from_residual-in_err-subject_in.ensures.1
-    (λ known f. let read = cert-subject c.args.field.now c.in-Some-headed.members c.in-Some-headed.ensures f in c.in_err-subject_in.ensures.refused known read.0 read.1)
-
 pub returns-in-Some-headed-clause-found : goal.returns-in-Some-headed-clause-found
 returns-in-Some-headed-clause-found c = subject c.in-Some-headed.members (c.in_ok-subject_in.field-0.principal, c.in_ok-subject_in.field-0.names.items) c.in-Some-headed.ensures c.in_ok-subject_in.ensures.found
-
-pub returns-in_err-check_version-clause-refused : goal.returns-in_err-check_version-clause-refused
-returns-in_err-check_version-clause-refused c =
-    carried c.from_residual-in_err-check_version.result _ (λ (kind : CertFaultKind). kind ≢ Memory → IsCertField c.args.field.now → ⊥) c.from_residual-in_err-check_version.ensures.1
-    (λ _ f. c.in_err-check_version.ensures.refused (cert-version c.args.field.now c.in-Some-headed-2.members c.in-Some-headed-2.ensures f))
 
 pub returns-then-is_unread-clause-found : goal.returns-then-is_unread-clause-found
 returns-then-is_unread-clause-found c = unread c.if-is_unread.ensures
 
 pub returns-clause-found : goal.returns-clause-found
 returns-clause-found c = IfOk-weaker c.said_in_both.result _ _ (λ _ f. common f) c.said_in_both.ensures.found
-
-pub returns-clause-refused : goal.returns-clause-refused
-returns-clause-refused c =
-    IfErr-weaker c.said_in_both.result _ _
-    (λ kind none known f. none known (cert-field c.args.field.now c.in_default.ensures c.in_default-headed.ensures c.in_default-headed-2.ensures c.if-is_unread.ensures f))
-    c.said_in_both.ensures.refused
 
 pub returns-in_err-issuer_in-clause-named : goal.returns-in_err-issuer_in-clause-named
 returns-in_err-issuer_in-clause-named c =

@@ -1,15 +1,8 @@
 use Rattle.std.proofs.Common.{◌≡◌, ◌∷◌, [], ◌++◌, ℕ, List, sym, ap, ◌∙◌, append_assoc}
 use Rattle.sexpr_core.specs.Value.{Value, plain}
 use Rattle.spki_cert.specs.Subjects.{plains}
-use Rattle.spki_cert.proofs.SubjectLaws.{plains-push, plains-at}
+use Rattle.spki_cert.proofs.SubjectLaws.{plains-push}
 use Rattle.spki_cert.proofs.principal_reader.names_behind.Goals as goal
-
-pub returns-in_default-plain_octets-clause-refused : goal.returns-in_default-plain_octets-clause-refused
-returns-in_default-plain_octets-clause-refused c =
-    let i = c.loop-name.invariant in
-    λ _ behind e.
-    let p = plains-at i.0 c.in-Some.name c.in-Some.others behind (ap (λ (vs : List Value). plains i.0 ++ vs) (sym c.in-Some.ensures) ∙ sym i.2 ∙ e) in
-    c.in_default-plain_octets.ensures p.0 p.1
 
 -- one more name behind those that were seen
 more-names : (all before seen : List (List ℕ)) (name : List ℕ) → all ≡ before ++ seen → all ++ name ∷ [] ≡ before ++ (seen ++ name ∷ [])

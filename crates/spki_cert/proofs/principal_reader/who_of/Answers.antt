@@ -1,15 +1,11 @@
-use Rattle.std.proofs.Common.{◌≡◌, ◌≢◌, ◌⊎◌, ◌∷◌, List, ℕ, refl, ap, sym, subst, Option}
+use Rattle.std.proofs.Common.{◌≡◌, ◌≢◌, ◌⊎◌, ◌∷◌, List, ℕ, ap}
 use Rattle.std.specs.Prelude.{codes}
 use Rattle.std.proofs.lemmas.Result.{IfErr-weaker}
 use Rattle.sexpr_core.specs.Value.{Value, plain, group}
 use Rattle.spki_cert.specs.declared.fault.CertFaultKind.{CertFaultKind}
 use Rattle.spki_cert.specs.declared.fault.CertFaultKind.TheVariants.{Memory}
-use Rattle.spki_cert.specs.declared.principal.Principal.{Principal}
-use Rattle.spki_cert.specs.Subjects.{WhoOf}
-use Rattle.spki_cert.specs.Faults.{HasSubject, Shows}
-use Rattle.spki_cert.specs.Inner.Gathering.{SubjectShows}
-use Rattle.spki_cert.proofs.Showing.{carried, shown-here, shows-in_second}
-use Rattle.spki_cert.proofs.SubjectLaws.{not_name-is_nobody, name-names_who}
+use Rattle.spki_cert.specs.Faults.{HasSubject}
+use Rattle.spki_cert.proofs.Showing.{carried}
 use Rattle.std.proofs.Common.{Some}
 use Rattle.std.proofs.lemmas.Result.{IfOk-weaker}
 use Rattle.spki_cert.specs.SubjectFaults.{subject_fault}
@@ -20,37 +16,6 @@ use Rattle.spki_cert.proofs.principal_reader.who_of.Goals as goal
 with-subject : (head : List ℕ) (v : Value) (vs : List Value) → v ≡ group (plain head ∷ vs) → (word : List ℕ) (rest : List Value) → (word ≡ codes "entry") ⊎ (word ≡ codes "subject") → HasSubject head (group (plain word ∷ v ∷ rest))
 with-subject head v vs e word rest is =
     record { word = word; word_is = is; subject = vs; rest = rest; written = ap (λ (u : Value). group (plain word ∷ u ∷ rest)) e }
-
-pub returns-in-Some-clause-shown : goal.returns-in-Some-clause-shown
-returns-in-Some-clause-shown c = λ word rest is.
-    shown-here (HasSubject (codes "k-of-n")) (group (plain word ∷ c.args.node.now ∷ rest)) (with-subject (codes "k-of-n") c.args.node.now c.in-Some.field-0 c.in-Some.ensures word rest is)
-
-pub returns-in-Some-headed-clause-shown : goal.returns-in-Some-headed-clause-shown
-returns-in-Some-headed-clause-shown c = λ word rest is.
-    shown-here (HasSubject (codes "keyholder")) (group (plain word ∷ c.args.node.now ∷ rest)) (with-subject (codes "keyholder") c.args.node.now c.in-Some-headed.field-0 c.in-Some-headed.ensures word rest is)
-
-pub returns-in_err-principal-clause-refused : goal.returns-in_err-principal-clause-refused
-returns-in_err-principal-clause-refused c =
-    carried c.from_residual.result _ (λ (kind : CertFaultKind). kind ≢ Memory → (principal : Option Principal) (names : List (List ℕ)) → WhoOf c.args.node.now principal names → ⊥) c.from_residual.ensures.1
-    (λ _. not_name-is_nobody c.args.node.now c.in_default-headed-2.ensures c.in_err-principal.ensures.refused)
-
-pub returns-in_err-principal-clause-shown : goal.returns-in_err-principal-clause-shown
-returns-in_err-principal-clause-shown c =
-    carried c.from_residual.result _ (λ (kind : CertFaultKind). SubjectShows kind c.args.node.now) c.from_residual.ensures.1
-    (λ word rest is. shows-in_second _ (plain word) c.args.node.now (c.args.node.now ∷ rest) rest refl c.in_err-principal.ensures.shown)
-
-pub returns-clause-refused : goal.returns-clause-refused
-returns-clause-refused c =
-    IfErr-weaker c.named_by.result _ _
-    (λ kind none known principal names read. none known principal names (name-names_who c.args.node.now c.in-Some-headed-2.members c.in-Some-headed-2.ensures principal names read))
-    c.named_by.ensures.refused
-
-pub returns-clause-shown : goal.returns-clause-shown
-returns-clause-shown c =
-    IfErr-weaker c.named_by.result _ _
-    (λ kind shown word rest is.
-    shows-in_second kind (plain word) c.args.node.now (c.args.node.now ∷ rest) rest refl (subst (λ (v : Value). Shows kind v) (sym c.in-Some-headed-2.ensures) shown))
-    c.named_by.ensures.shown
 
 pub returns-in-Some-clause-named : goal.returns-in-Some-clause-named
 returns-in-Some-clause-named c = λ _. subject-threshold c.args.node.now _ c.in-Some.ensures

@@ -11,6 +11,8 @@ use Rattle.spki_cert.proofs.Showing.{carried}
 use Rattle.spki_cert.proofs.EntryLaws.{items-push}
 use Rattle.spki_cert.proofs.SeqLaws.{place-more, waits-more, misplaced}
 use Rattle.spki_cert.specs.SequenceFaults.{items_fault}
+use Rattle.spki_cert.proofs.ItemFaultNone.{item-refused}
+use Rattle.spki_cert.proofs.FaultShows.{item-shows}
 use Rattle.spki_cert.proofs.SequenceFaultLaws.{sequence-all, sequence-place, sequence-item, sequence-next, sequence-end}
 use Rattle.spki_cert.proofs.sequence.items_of.Goals as goal
 
@@ -39,10 +41,10 @@ returns-in-Err-clause-refused c =
         place = (let f = c.len-item.ensures in omega arith);
         before = c.loop-member.items.items;
         readings = i.2;
-        none = c.in-Err.ensures.refused known;
+        none = item-refused v _ (c.in-Err.ensures.named known);
       };
       in_place = place-more i.0 v c.loop-member.waits i.4 i.3 c.in_ok-check_place.ensures.found;
-      shown = c.in-Err.ensures.shown;
+      shown = item-shows v _ (c.in-Err.ensures.named known);
     })
 
 pub loop-member-preserved : goal.loop-member-preserved

@@ -1,5 +1,5 @@
 use Rattle.std.proofs.Common.{◌≡◌, rules}
-use Rattle.sexpr_core.specs.Value.{Value, plain, group, string}
+use Rattle.sexpr_core.specs.Value.{plain, string}
 use Rattle.std.specs.Prelude.{Some}
 use Rattle.spki_cert.proofs.FixedLaws.{alg-list, alg-hinted, alg-other, alg-known}
 use Rattle.spki_cert.proofs.value_readers.algorithm_of.Goals as goal

@@ -1,4 +1,3 @@
-use Rattle.std.proofs.Common.{◌≡◌, sym}
 use Rattle.spki_cert.proofs.FixedLaws.{date-hinted, date-tested}
 use Rattle.std.specs.Prelude.{true, false}
 use Rattle.spki_cert.proofs.value_readers.date_of.Goals as goal

@@ -3,11 +3,10 @@ use Rattle.std.specs.Prelude.{codes}
 use Rattle.std.specs.Option.{option_copied}
 use Rattle.sexpr_core.specs.Value.{string, plain, group}
 use Rattle.spki_cert.specs.Faults.{IsUnknownVersion}
-use Rattle.spki_cert.proofs.ValidLaws.{is-unknown_version, unknown-version, other-octets}
+use Rattle.spki_cert.proofs.ValidLaws.{is-unknown_version, other-octets}
 use Rattle.spki_cert.specs.declared.fault.CertFaultKind.TheVariants.{Shape}
 use Rattle.spki_cert.specs.FieldFaults.{version_fault}
 use Rattle.spki_cert.proofs.Looking.{sole-found, sole-more, sole-one}
-use Rattle.spki_cert.proofs.ItemFaultLaws.{same-word}
 use Rattle.spki_cert.proofs.FieldFaultLaws.{version-list, version-hinted, version-other, version-zero}
 use Rattle.spki_cert.proofs.version.check_version.Goals as goal
 
@@ -27,14 +26,8 @@ other c =
     (ap (λ (h : Option (Bor (List ℕ))). string (option_copied h) c.in-String-None-default.body.now) (sym c.in-String-None-default.hint-is) ∙ c.in-String-None-default.ensures)
     (other-octets c.in-String-None-default.body.now c.as_slice.result.now (codes "0") c.if-ne.ensures c.as_slice.ensures)
 
-pub returns-in-String-Some-default-clause-shown : goal.returns-in-String-Some-default-clause-shown
-returns-in-String-Some-default-clause-shown c = unknown-version c.args.members (hinted c)
-
 pub returns-in-String-Some-default-clause-fault : goal.returns-in-String-Some-default-clause-fault
 returns-in-String-Some-default-clause-fault c = inr (refl, hinted c)
-
-pub returns-then-ne-clause-shown : goal.returns-then-ne-clause-shown
-returns-then-ne-clause-shown c = unknown-version c.args.members (other c)
 
 pub returns-then-ne-clause-fault : goal.returns-then-ne-clause-fault
 returns-then-ne-clause-fault c = inr (refl, other c)

@@ -1,4 +1,4 @@
-use Rattle.std.proofs.Common.{◌≡◌, Some, slice_get, length, true, false, sym, ap, ◌∙◌, arith, rules}
+use Rattle.std.proofs.Common.{◌≡◌, Some, slice_get, true, false, sym, ap, ◌∙◌, arith, rules}
 use Rattle.std.proofs.lemmas.Option.{slice_get-get_or, slice_get_within}
 use Rattle.spki_case.specs.View.{model}
 use Rattle.spki_reduce.specs.Chain.{tuples_of}
@@ -16,7 +16,7 @@ returns-in_err-grants-clause-too_large c =
       entry = c.index-acl-place.result;
       stands = here;
       none_before = c.loop-place.invariant.none_before;
-      at = c.in_err-grants.ensures.too_large (search (rules, h, c.from_residual.ensures));
+      at = c.in_err-grants.ensures.too_large (search (rules, h, c.from_residual-in_err-grants.ensures));
     }
 
 pub returns-then-branch-clause-named : goal.returns-then-branch-clause-named

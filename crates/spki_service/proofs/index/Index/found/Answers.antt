@@ -1,6 +1,6 @@
-use Rattle.std.proofs.Common.{◌≡◌, ◌∙◌, ap}
+use Rattle.std.proofs.Common.{◌≡◌, ◌∙◌, ap, reverse}
 use Rattle.std.proofs.lemmas.Result.{IfOk-weaker}
-use Rattle.spki_service.specs.Indexed.{numbers_at}
+use Rattle.spki_service.specs.Indexed.{numbers_at, numbers_of_key}
 use Rattle.spki_service.specs.Merged.{merge}
 use Rattle.spki_service.proofs.Found.{found_all}
 use Rattle.spki_service.proofs.index.Index.found.Goals as goal
@@ -8,8 +8,10 @@ use Rattle.spki_service.proofs.index.Index.found.Goals as goal
 -- the numbers of the key itself, and those of its hashes
 pub returns : goal.returns
 returns c = λ es indexed.
-    let own : c.in_ok-own.own.items ≡ numbers_at c.args.self.now.by_key c.args.key.now =
-    c.in_ok-own.ensures.items ∙ c.numbers_at.ensures ∙ ap (λ k. numbers_at c.args.self.now.by_key k) c.as_slice.ensures in
+    let octets : c.deref.result.now ≡ reverse c.args.key.now =
+    c.deref.ensures.value ∙ c.in_ok-octets.ensures ∙ ap (λ k. reverse k) c.as_slice.ensures in
+    let own : c.in_ok-own.own.items ≡ numbers_of_key c.args.self.now c.args.key.now =
+    c.in_ok-own.ensures.items ∙ c.numbers_at.ensures ∙ ap (λ k. numbers_at c.args.self.now.by_key k) octets in
     let first = c.in_ok-first.ensures ∙ ap (λ l. merge l c.admitted.result.now) own in
     let second = c.in_ok-second.ensures ∙ ap (λ l. merge l c.admitted-2.result.now) first in
     let all = found_all c.args.policy c.args.key.now es c.args.self.now indexed in

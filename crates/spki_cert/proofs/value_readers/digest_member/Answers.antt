@@ -3,7 +3,7 @@ use Rattle.sexpr_core.specs.Value.{Value, plain, group}
 use Rattle.spki_cert.specs.Readings.{alg_name}
 use Rattle.spki_cert.specs.Faults.{IsMissized}
 use Rattle.spki_cert.proofs.Showing.{shown-here}
-use Rattle.spki_cert.proofs.value_readers.digest_of.Goals as goal
+use Rattle.spki_cert.proofs.value_readers.digest_member.Goals as goal
 
 pub returns-else-octets-digest_len-clause-shown : goal.returns-else-octets-digest_len-clause-shown
 returns-else-octets-digest_len-clause-shown c = λ rest.

@@ -1,0 +1,41 @@
+"""Decides a request, as a service does that is written in Python.
+
+Usage: decide.py ACL SEQUENCE KEY WORD ..
+
+ACL is a file of the service, its access list. SEQUENCE and KEY are files of the client. The client must have proved that it holds the
+key: this program does not check that. The request is the list of the WORDs, or the word where there is one.
+"""
+import os
+import sys
+import time
+
+import spki
+
+
+def verify(key: bytes, message: bytes, value: bytes) -> bool:
+    """Whether a value is a signature of a message by a key: a call of your crypto library. The keys of this example are words, and so are
+    its signatures."""
+    return value == b"3:sig"
+
+
+def is_granted(guard: spki.Guard, sequence: bytes, key: bytes, words: list[bytes], now: int) -> bool:
+    """Whether a request is granted. Each word is one string of it, whatever octets it has."""
+    question = spki.Question(sequence, key, words, now)
+    return bool(guard.decide(question, verify))
+
+
+def main() -> None:
+    if len(sys.argv) < 5:
+        sys.exit("usage: decide.py ACL SEQUENCE KEY WORD ..")
+    texts = []
+    for path in sys.argv[1:4]:
+        with open(path, "rb") as file:
+            texts.append(file.read())
+    access_list, sequence, key = texts
+    with spki.Guard(access_list) as guard:
+        words = [os.fsencode(word) for word in sys.argv[4:]]
+        print("granted" if is_granted(guard, sequence, key, words, int(time.time())) else "denied")
+
+
+if __name__ == "__main__":
+    main()

@@ -1,0 +1,123 @@
+//! Answers the questions of a test, so that another program can compare the answers.
+//!
+//! Reads strings from standard input, each as LENGTH:OCTETS, and writes the lines of each answer as one string. A question has the strings
+//! COMMAND, POLICY, ACL, SEQUENCE, KEY; `text` or `words`, and a list of strings; `text` or `seconds`, and a string; and a list of what
+//! the verifier accepts, three strings each: a key, a message and a value. A list is its number of strings, and the strings.
+
+use spki::{Decision, Guard, Limits, Moment, Policy, Question, Reason, Refusal, Request};
+use std::error::Error;
+use std::io::{self, Read, Write};
+
+struct Input {
+    octets: Vec<u8>,
+    at: usize,
+}
+
+impl Input {
+    /// The next string, or `None` at the end.
+    fn next(&mut self) -> Option<&[u8]> {
+        let rest = &self.octets[self.at..];
+        let colon = rest.iter().position(|octet| *octet == b':')?;
+        let length: usize = std::str::from_utf8(&rest[..colon]).ok()?.parse().ok()?;
+        self.at += colon + 1 + length;
+        Some(&self.octets[self.at - length..self.at])
+    }
+
+    fn text(&mut self) -> Option<String> {
+        String::from_utf8(self.next()?.to_vec()).ok()
+    }
+
+    fn list(&mut self) -> Option<Vec<Vec<u8>>> {
+        let count = self.text()?.parse().ok()?;
+        (0..count)
+            .map(|_| self.next().map(<[u8]>::to_vec))
+            .collect()
+    }
+}
+
+/// A line of an explanation.
+fn spelled(reason: Reason) -> String {
+    let entry = reason.entry.map(|number| format!("entry {number} "));
+    let item = reason.item.map(|number| format!("item {number} "));
+    format!(
+        "{}{}{}",
+        entry.unwrap_or_default(),
+        item.unwrap_or_default(),
+        reason.word
+    )
+}
+
+/// The next question's answer, without the last line feed.
+fn answer(input: &mut Input) -> Option<Result<String, Refusal>> {
+    let (command, policy) = (input.text()?, input.text()?);
+    let texts: Vec<_> = (0..3)
+        .map(|_| input.next().map(<[u8]>::to_vec))
+        .collect::<Option<_>>()?;
+    let (form, request) = (input.text()?, input.list()?);
+    let (clock, moment) = (input.text()?, input.next()?.to_vec());
+    let accepted = input.list()?;
+    let words: Vec<&[u8]> = request.iter().map(Vec::as_slice).collect();
+    let question = Question {
+        sequence: &texts[1],
+        key: &texts[2],
+        request: match &form[..] {
+            "text" => Request::Text(words[0]),
+            _ => Request::Words(&words),
+        },
+        moment: match &clock[..] {
+            "text" => Moment::Text(&moment),
+            _ => Moment::Seconds(String::from_utf8(moment).ok()?.parse().ok()?),
+        },
+    };
+    let policy = if policy == "strict" {
+        Policy::Strict
+    } else {
+        Policy::Open
+    };
+    Some(answer_to(&command, &texts[0], policy, &question, &accepted))
+}
+
+fn answer_to(
+    command: &str,
+    list: &[u8],
+    policy: Policy,
+    question: &Question,
+    accepted: &[Vec<u8>],
+) -> Result<String, Refusal> {
+    let verify = |key: &[u8], message: &[u8], value: &[u8]| {
+        accepted.chunks(3).any(|row| row == [key, message, value])
+    };
+    let guard = Guard::read(list, policy, Limits::default())?;
+    match command {
+        "reduce" => guard.reduce(question, verify),
+        "explain" => {
+            let lines: Vec<_> = guard
+                .explain(question, verify)?
+                .reasons()
+                .map(spelled)
+                .collect();
+            Ok(if lines.is_empty() {
+                "no entries".into()
+            } else {
+                lines.join("\n")
+            })
+        }
+        _ => Ok(match guard.decide(question, verify)? {
+            Decision::Yes(entry) => format!("yes entry {entry}"),
+            Decision::No => "no".into(),
+        }),
+    }
+}
+
+fn main() -> Result<(), Box<dyn Error>> {
+    let mut input = Input {
+        octets: Vec::new(),
+        at: 0,
+    };
+    io::stdin().read_to_end(&mut input.octets)?;
+    while let Some(answer) = answer(&mut input) {
+        let lines = answer.unwrap_or_else(|refusal| refusal.line().into());
+        write!(io::stdout(), "{}:{lines}", lines.len())?;
+    }
+    Ok(())
+}

@@ -1,0 +1,86 @@
+//! What the calls answer: lines, in a buffer that is made larger until they fit.
+
+use crate::ffi::{self, Status};
+use std::error::Error;
+use std::ffi::c_void;
+use std::fmt;
+
+/// The octets that a decision and most refusals fit in.
+pub(crate) const LINE: usize = 128;
+
+/// A line that begins with `refused`: a text is no input, or an allocation failed. Nothing is granted.
+///
+/// The lines are those of the program `spki`; its manual lists them.
+///
+/// ```
+/// let refusal = spki::canonical(b"(a ~)").unwrap_err();
+/// assert_eq!(refusal.line(), "refused form Bad 3");
+/// assert_eq!(refusal.fault(), "Bad");
+/// ```
+#[derive(Clone, Debug, PartialEq, Eq)]
+pub struct Refusal {
+    line: String,
+}
+
+impl Refusal {
+    /// The refusal of a call.
+    ///
+    /// # Panics
+    ///
+    /// If the call was not refused: then the library says that it was called wrongly, which no caller of this crate can cause.
+    pub(crate) fn of(status: Status, answer: Vec<u8>) -> Refusal {
+        assert_eq!(
+            status,
+            ffi::REFUSED,
+            "libspki_c is of another version than this crate"
+        );
+        Refusal {
+            line: line_of(answer),
+        }
+    }
+
+    /// The line, without its line feed, as `refused sequence 3 Shape`.
+    pub fn line(&self) -> &str {
+        &self.line
+    }
+
+    /// The name of the fault, as `Shape`, `Bad`, `EmptyList`, `TooLarge` or `Memory`.
+    pub fn fault(&self) -> &str {
+        let is_name = |word: &&str| word.starts_with(|first: char| first.is_ascii_uppercase());
+        self.line.split(' ').rfind(is_name).unwrap_or_default()
+    }
+}
+
+impl fmt::Display for Refusal {
+    fn fmt(&self, f: &mut fmt::Formatter) -> fmt::Result {
+        f.write_str(&self.line)
+    }
+}
+
+impl Error for Refusal {}
+
+/// The text of an answer, without the line feed at its end.
+pub(crate) fn line_of(answer: Vec<u8>) -> String {
+    let mut text = String::from_utf8(answer).expect("lines are ASCII");
+    text.truncate(text.trim_end_matches('\n').len());
+    text
+}
+
+/// Calls until the buffer, which begins with so much room, is large enough: the status and the answer.
+pub(crate) fn answered(
+    room: usize,
+    mut call: impl FnMut(*mut c_void, usize, *mut usize) -> Status,
+) -> (Status, Vec<u8>) {
+    let mut buffer: Vec<u8> = Vec::with_capacity(room);
+    loop {
+        let mut needed = 0;
+        let status = call(buffer.as_mut_ptr().cast(), buffer.capacity(), &mut needed);
+        if status == ffi::TOO_SMALL {
+            buffer.reserve(needed);
+            continue;
+        }
+        // SAFETY: the answer has so many octets, and the call has written them to the front of the buffer.
+        unsafe { buffer.set_len(needed) };
+        return (status, buffer);
+    }
+}

@@ -1,0 +1,53 @@
+//! Why a request is granted, or is not.
+
+use std::fmt;
+
+/// The lines of the program's command `explain`.
+#[derive(Clone, Debug, PartialEq, Eq)]
+pub struct Explanation {
+    pub(crate) text: String,
+}
+
+/// One line of an explanation.
+#[derive(Clone, Copy, Debug, PartialEq, Eq)]
+pub struct Reason<'e> {
+    /// The number of the entry that the line is about, from 1. `None` if the certificate stops all entries.
+    pub entry: Option<usize>,
+    /// The number of the certificate that stops it, among the items of the sequence, from 1.
+    pub item: Option<usize>,
+    /// `grants`, or the cause, as `TagLacks`, `NoDelegation` or `NotAccepted`.
+    pub word: &'e str,
+}
+
+impl Explanation {
+    /// The lines as they are, without the last line feed.
+    pub fn text(&self) -> &str {
+        &self.text
+    }
+
+    /// The lines one by one. There is none if the access list is empty.
+    pub fn reasons(&self) -> impl Iterator<Item = Reason<'_>> {
+        self.text
+            .lines()
+            .filter(|line| *line != "no entries")
+            .map(|line| {
+                let (entry, rest) = numbered("entry ", line);
+                let (item, word) = numbered("item ", rest);
+                Reason { entry, item, word }
+            })
+    }
+}
+
+impl fmt::Display for Explanation {
+    fn fmt(&self, f: &mut fmt::Formatter) -> fmt::Result {
+        f.write_str(&self.text)
+    }
+}
+
+/// The number behind a word at the beginning of a line, and what follows; the whole line if the word is not there.
+fn numbered<'l>(word: &str, line: &'l str) -> (Option<usize>, &'l str) {
+    let found = line
+        .strip_prefix(word)
+        .and_then(|rest| rest.split_once(' '));
+    found.map_or((None, line), |(number, rest)| (number.parse().ok(), rest))
+}

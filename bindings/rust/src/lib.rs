@@ -1,0 +1,47 @@
+//! Whether the holder of a key may do what it requests, decided by a proved library: access lists and certificates of SPKI, RFC 2693.
+//!
+//! This crate is a safe interface to `libspki_c`, whose decisions are proved. The lines of this crate are tested and not proved.
+//!
+//! A service reads its access list once, into a [`Guard`], and asks it a [`Question`] for each request. The parts of a question come
+//! from different hands, so each is a text of its own. The service verifies signatures by a crypto library of its choice, in a closure.
+//!
+//! ```
+//! use spki::{Guard, Limits, Moment, Policy, Question, Request};
+//!
+//! // Alice may read and write builds, and may delegate that. She lets Carol read the web builds.
+//! let list = b"(acl (entry (public-key (test alice)) (propagate) (tag (packages (* set read write) (* prefix /builds/)))))";
+//! let sequence = b"(sequence
+//!   (cert (issuer (public-key (test alice))) (subject (public-key (test carol)))
+//!    (tag (packages read (* prefix /builds/web/))))
+//!   (signature (hash sha256 #54c4054f7abf9d1682511152fbbbfda943e3cf2fdcd1aca9175f7f153341ed3c#)
+//!    (public-key (test alice)) signed-by-alice))";
+//! let guard = Guard::read(list, Policy::Strict, Limits::default())?;
+//! let question = Question {
+//!     sequence,
+//!     key: b"(public-key (test carol))", // Carol has proved to hold it, as by TLS
+//!     request: Request::Words(&[b"packages", b"read", b"/builds/web/index.html"]),
+//!     moment: Moment::Seconds(1_772_366_400), // the service's own clock
+//! };
+//! // Here stands a call of your crypto library. The keys of this example are words, and so are their signatures.
+//! let verify = |_key: &[u8], _message: &[u8], value: &[u8]| value == b"15:signed-by-alice";
+//! assert!(guard.decide(&question, verify)?.is_yes());
+//! # Ok::<(), spki::Refusal>(())
+//! ```
+//!
+//! `SPKI_LIB_DIR` names the folder of `libspki_c`, if `pkg-config` does not know the library.
+
+#![deny(missing_docs)]
+#![deny(unsafe_op_in_unsafe_fn)]
+
+mod answer;
+mod explanation;
+mod ffi;
+mod guard;
+mod question;
+mod text;
+
+pub use answer::Refusal;
+pub use explanation::{Explanation, Reason};
+pub use guard::{Guard, Limits, Policy};
+pub use question::{Decision, Moment, Question, Request};
+pub use text::{advanced, canonical, string_at, transport};

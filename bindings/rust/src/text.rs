@@ -1,0 +1,101 @@
+//! S-expressions as texts.
+
+use crate::answer::{answered, Refusal};
+use crate::ffi;
+use std::ffi::c_int;
+use std::ptr;
+
+/// The octets of a string inside a value in canonical form. Each number of the path is that of a member to go into, from 0; the head of
+/// a list is member 0. An empty path is for a text that is a string itself.
+///
+/// `None` if no string is there, the text is no value in canonical form, or an allocation failed.
+///
+/// ```
+/// let key = spki::canonical(b"(public-key (rsa-pkcs1-sha256 (e #010001#) (n #c0ffee#)))")?;
+/// assert_eq!(spki::string_at(&key, &[1, 0]), Some(&b"rsa-pkcs1-sha256"[..]));
+/// assert_eq!(spki::string_at(&key, &[1, 2, 1]), Some(&b"\xc0\xff\xee"[..]));
+/// assert_eq!(spki::string_at(&key, &[1, 3, 1]), None);
+/// # Ok::<(), spki::Refusal>(())
+/// ```
+pub fn string_at<'t>(text: &'t [u8], path: &[usize]) -> Option<&'t [u8]> {
+    let (mut octets, mut length) = (ptr::null(), 0);
+    let (from, size) = (text.as_ptr().cast(), text.len());
+    // SAFETY: each pointer is to as many values as its length says, or to one value of its type, and they do not overlap.
+    let status = unsafe {
+        ffi::spki_string(
+            from,
+            size,
+            path.as_ptr(),
+            path.len(),
+            &mut octets,
+            &mut length,
+        )
+    };
+    if status != ffi::DONE {
+        return None;
+    }
+    let start = octets as usize - text.as_ptr() as usize;
+    text.get(start..start + length)
+}
+
+/// The canonical form of the one value that a text is, in any of the three forms.
+///
+/// # Errors
+///
+/// The text is not one value within the limits, or an allocation failed.
+///
+/// ```
+/// assert_eq!(spki::canonical(b"(packages read)")?, b"(8:packages4:read)");
+/// # Ok::<(), spki::Refusal>(())
+/// ```
+pub fn canonical(text: &[u8]) -> Result<Vec<u8>, Refusal> {
+    converted(ffi::CANONICAL, text)
+}
+
+/// The same in advanced form, on one line, with a line feed at its end.
+///
+/// # Errors
+///
+/// Those of [`canonical`].
+///
+/// ```
+/// assert_eq!(spki::advanced(b"(8:packages4:read)")?, b"(packages read)\n");
+/// # Ok::<(), spki::Refusal>(())
+/// ```
+pub fn advanced(text: &[u8]) -> Result<Vec<u8>, Refusal> {
+    converted(ffi::ADVANCED, text)
+}
+
+/// The same in the transport form, on one line, with a line feed at its end.
+///
+/// # Errors
+///
+/// Those of [`canonical`].
+///
+/// ```
+/// assert_eq!(spki::transport(b"(a)")?, b"{KDE6YSk=}\n");
+/// # Ok::<(), spki::Refusal>(())
+/// ```
+pub fn transport(text: &[u8]) -> Result<Vec<u8>, Refusal> {
+    converted(ffi::TRANSPORT, text)
+}
+
+fn converted(command: c_int, text: &[u8]) -> Result<Vec<u8>, Refusal> {
+    let (status, answer) = answered(2 * text.len() + 64, |buffer, room, needed| {
+        // SAFETY: as above.
+        unsafe {
+            ffi::spki_answer(
+                command,
+                text.as_ptr().cast(),
+                text.len(),
+                buffer,
+                room,
+                needed,
+            )
+        }
+    });
+    if status == ffi::DONE {
+        return Ok(answer);
+    }
+    Err(Refusal::of(status, answer))
+}

@@ -1,0 +1,51 @@
+-- The octets of a string stand at the end of its canonical text.
+use Rattle.std.proofs.Common.{◌≡◌, ℕ, ◌+◌, ◌-◌, ◌≤◌, List, [], ◌∷◌, ◌++◌, length, Option, Some, None, refl, sym, ap, ◌∙◌, subst, arith, append_assoc}
+use Rattle.std.proofs.lemmas.List.{length-append}
+use Rattle.sexpr_core.specs.Characters.{char}
+use Rattle.sexpr_core.specs.Value.{Value, string, canon, decimal, verbatim}
+use Rattle.sexpr_core.specs.Starts.{LiesAt}
+use Rattle.spki_c.specs.Strings.{octets_of, StandsIn}
+
+append-none : (octets : List ℕ) → octets ++ [] ≡ octets
+append-none [] = refl
+append-none (o ∷ octets) = ap (λ (os : List ℕ). o ∷ os) (append-none octets)
+
+at_end : (text front octets : List ℕ) → text ≡ front ++ octets → LiesAt text octets (length text - length octets)
+at_end text front octets is =
+    let long : length text ≡ length front + length octets = ap length is ∙ length-append front octets in
+    record {
+      before = front;
+      behind = [];
+      parts = is ∙ ap (λ os. front ++ os) (sym (append-none octets));
+      begins = omega (arith, long);
+    }
+
+front_of : Option (List ℕ) → List ℕ → List ℕ
+front_of None octets = decimal (length octets) ++ char ":" ∷ []
+front_of (Some hint) octets = char "[" ∷ (verbatim hint ++ char "]" ∷ (decimal (length octets) ++ char ":" ∷ []))
+
+with_front : (hint : Option (List ℕ)) (octets : List ℕ) → canon (string hint octets) ≡ front_of hint octets ++ octets
+unfolding verbatim front_of decimal
+with_front None octets = sym (append_assoc (decimal (length octets)) (char ":" ∷ []) octets)
+with_front (Some hint) octets =
+    ap (λ (os : List ℕ). char "[" ∷ os)
+    (ap (λ (os : List ℕ). verbatim hint ++ char "]" ∷ os) (sym (append_assoc (decimal (length octets)) (char ":" ∷ []) octets))
+    ∙ sym (append_assoc (verbatim hint) (char "]" ∷ (decimal (length octets) ++ char ":" ∷ [])) octets))
+
+pub string_stands : (v : Value) (hint : Option (List ℕ)) (octets whole : List ℕ) → string hint octets ≡ v → whole ≡ canon v
+    → StandsIn (canon v) (octets_of v) (length whole - length octets) (length octets)
+string_stands v hint octets whole is all = record {
+  octets = octets;
+  there_is = ap octets_of (sym is);
+  place = subst (λ (w : Value). LiesAt (canon w) octets (length whole - length octets)) is
+      (subst (λ (os : List ℕ). LiesAt (canon (string hint octets)) octets (length os - length octets)) (sym (all ∙ ap canon (sym is)))
+      (at_end (canon (string hint octets)) (front_of hint octets) octets (with_front hint octets)));
+  counted = refl;
+}
+
+pub string_short : (v : Value) (hint : Option (List ℕ)) (octets whole : List ℕ) → string hint octets ≡ v → whole ≡ canon v
+    → length octets ≤ length whole
+string_short v hint octets whole is all =
+    let long = ap length (all ∙ ap canon (sym is) ∙ with_front hint octets) in
+    let both = length-append (front_of hint octets) octets in
+    omega (arith, long, both)

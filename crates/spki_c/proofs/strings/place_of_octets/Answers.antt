@@ -1,0 +1,11 @@
+use Rattle.std.specs.Option.{option_copied}
+use Rattle.spki_c.proofs.StringPlaces.{string_stands, string_short}
+use Rattle.spki_c.proofs.strings.place_of_octets.Goals as goal
+
+pub overflow_sub-result : goal.overflow_sub-result
+overflow_sub-result c =
+    string_short c.args.node.now (option_copied c.in-String.hint) c.in-String.body.now c.slice-whole.result.now c.in-String.ensures c.slice-whole.ensures
+
+pub returns-in-String : goal.returns-in-String
+returns-in-String c =
+    string_stands c.args.node.now (option_copied c.in-String.hint) c.in-String.body.now c.slice-whole.result.now c.in-String.ensures c.slice-whole.ensures

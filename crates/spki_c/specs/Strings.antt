@@ -1,0 +1,51 @@
+-- The octets of a string inside a value (RFC 9804, sections 4 and 5).
+use Rattle.std.specs.Prelude.{◌≡◌, ℕ, List, [], ◌∷◌, length, Option, Some, None, slice_get}
+use Rattle.sexpr_core.specs.Value.{Value, string, list, canon, members, IsWithinLimits}
+use Rattle.sexpr_core.specs.Starts.{LiesAt}
+
+-- the members of a list; a string has none
+abbrev pub parts : Value → List Value
+parts (string hint octets) = []
+parts (list vs) = members vs
+
+abbrev pub if_there : {A B : Type 0} → Option A → (A → Option B) → Option B
+if_there None f = None
+if_there (Some a) f = f a
+
+-- the octets of a string, whatever its display hint
+abbrev pub octets_of : Value → Option (List ℕ)
+octets_of (string hint octets) = Some octets
+octets_of (list vs) = None
+
+-- The octets of the string to which a path leads: each number is that of the member to go into, counted from 0.
+abbrev pub octets_at : Value → List ℕ → Option (List ℕ)
+octets_at v [] = octets_of v
+octets_at v (n ∷ path) = if_there (slice_get (parts v) n) (λ m. octets_at m path)
+
+-- There are octets, and they stand in the text at this offset, so many.
+pub record StandsIn (text : List ℕ) (there : Option (List ℕ)) (at count : ℕ) : Type 0 where
+  pub octets : List ℕ
+  pub there_is : there ≡ Some octets
+  pub place : LiesAt text octets at
+  pub counted : count ≡ length octets
+
+-- The member of this number, from 0, whose canonical text stands in that of the list at this offset.
+pub record IsMember (v : Value) (n : ℕ) (m : Value) (at : ℕ) : Type 0 where
+  pub is : slice_get (parts v) n ≡ Some m
+  pub place : LiesAt (canon v) (canon m) at
+
+-- The text is a value in canonical form within the limits; and there is such a string, whose octets stand in the text, or there is
+-- none.
+pub record IsFound (text path : List ℕ) (at count status : ℕ) : Type 0 where
+  pub value : Value
+  pub within : IsWithinLimits value
+  pub text_is : text ≡ canon value
+  pub stands : StandsIn text (octets_at value path) at count
+  pub status_is : status ≡ 6
+
+pub record IsNotThere (text path : List ℕ) (status : ℕ) : Type 0 where
+  pub value : Value
+  pub within : IsWithinLimits value
+  pub text_is : text ≡ canon value
+  pub none : octets_at value path ≡ None
+  pub status_is : status ≡ 7

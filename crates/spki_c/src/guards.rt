@@ -1,0 +1,38 @@
+//! Guards on the heap, and what a caller may set for them.
+ghost use Rattle.std.specs.Prelude.{◌≡◌, ◌≢◌, IfOk, IfErr, MatchOption};
+ghost use Rattle.spki_service.specs.Held.{HoldsList};
+ghost use Rattle.spki_service.specs.Lists.{IsNoList};
+ghost use Rattle.spki_c.specs.Guards.{policy_number};
+
+use spki_cert::Policy;
+use spki_guard::{AclFault, Guard, Limits};
+use std::alloc::Global;
+
+/// Reads an access list into a guard on the heap.
+pub(crate) fn read_guard(
+    alloc: Global,
+    list: &[u8],
+    policy: Policy,
+    limits: Limits,
+) -> Result<Box<Guard>, AclFault>
+    ensures list { IfOk result (λ g. HoldsList list.now g.value.texts) }
+    ensures given { IfOk result (λ g. (g.value.policy ≡ policy) × (g.value.octets ≡ limits.octets) × (g.value.nodes ≡ limits.nodes)) }
+    ensures refused { IfErr result (λ fault. fault ≢ AclFault.Memory → IsNoList list.now fault) }
+{
+    let guard = Guard::read(alloc, list, policy, limits)?;
+    match Box::new(alloc, guard) {
+        Ok(guard) => Ok(guard),
+        Err(_) => Err(AclFault::Memory),
+    }
+}
+
+/// The policy of a number.
+pub(crate) fn policy_of(number: u32) -> Option<Policy>
+    ensures { MatchOption result ((p : Policy) → number ≢ policy_number p) (λ p. number ≡ policy_number p) }
+{
+    match number {
+        0 => Some(Policy::Open),
+        1 => Some(Policy::Strict),
+        _ => None,
+    }
+}

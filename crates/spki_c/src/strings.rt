@@ -1,0 +1,72 @@
+//! Where the octets of a string inside a value are.
+ghost use Rattle.std.specs.Prelude.{◌≡◌, ◌≤◌, None, Some, length, slice_get, MatchOption};
+ghost use Rattle.sexpr_core.specs.Value.{canon};
+ghost use Rattle.sexpr_core.specs.Starts.{LiesAt};
+ghost use Rattle.spki_c.specs.Strings.{parts, octets_of, octets_at, StandsIn, IsMember};
+
+use sexpr_core::syntax::{Node, NodeKind};
+
+/// Where octets are in a text.
+#[derive(Clone, Copy, Debug, PartialEq, Eq)]
+pub(crate) struct Place {
+    /// The offset of the first of them, from 0.
+    pub(crate) at: usize,
+    /// How many there are.
+    pub(crate) length: usize,
+}
+
+/// Where the octets of the string are that a path leads to from a node, in the text of the node. The path has the number of the
+/// member to go into, from 0, for each list.
+pub(crate) fn place_in(node: &Node, path: &[usize]) -> Option<Place>
+    requires { length (canon node.now) ≤ 1048576 }
+    ensures { MatchOption result (octets_at node.now path.now ≡ None)
+        (λ p. StandsIn (canon node.now) (octets_at node.now path.now) p.at p.length) }
+{
+    match path {
+        [] => place_of_octets(node),
+        [first, rest @ ..] => {
+            let (member, before) = member_of(node, *first)?;
+            let inner = place_in(&member, rest)?;
+            Some(Place {
+                at: before + inner.at,
+                length: inner.length,
+            })
+        }
+    }
+}
+
+/// Where the octets of a string are in its text: at its end.
+fn place_of_octets(node: &Node) -> Option<Place>
+    ensures { MatchOption result (octets_of node.now ≡ None)
+        (λ p. StandsIn (canon node.now) (octets_of node.now) p.at p.length) }
+{
+    match node.kind() {
+        NodeKind::String { body, .. } => {
+            let whole = node.slice().len();
+            Some(Place {
+                at: whole - body.len(),
+                length: body.len(),
+            })
+        }
+        NodeKind::List(_) => None,
+    }
+}
+
+/// The member of this number, from 0, of a list, and where its text begins in that of the list.
+fn member_of<'d, 'a>(node: &Node<'d, 'a>, number: usize) -> Option<(Node<'d, 'a>, usize)>
+    requires { length (canon node.now) ≤ 1048576 }
+    ensures { MatchOption result (slice_get (parts node.now) number ≡ None) (λ r. IsMember node.now number r.0 r.1) }
+{
+    let mut rest = node.members()?;
+    let mut left = number;
+    let mut begins: usize = 1;
+    while let Some((member, others)) = rest.split_first() {
+        if left == 0 {
+            return Some((member, begins));
+        }
+        begins += member.slice().len();
+        left -= 1;
+        rest = others;
+    }
+    None
+}

@@ -1,0 +1,141 @@
+-- A value has no fault as a row, and the parts of a case have none, exactly where they are such.
+use Rattle.std.proofs.Common.{◌≡◌, ℕ, List, [], ◌∷◌, Some, None, refl, sym, ap, ◌∙◌}
+use Rattle.std.specs.Prelude.{codes, ◌↔◌}
+use Rattle.std.specs.List.{AllZip}
+use Rattle.sexpr_core.specs.Value.{Value, plain, group, canon}
+use Rattle.sexpr_core.specs.Octets.{HasOctets}
+use Rattle.spki_tag.specs.FirstFault.{unless}
+use Rattle.spki_tag.specs.FaultOf.{request_fault}
+use Rattle.spki_tag.proofs.Faultless.{request_none_exactly}
+use Rattle.spki_cert.specs.declared.hash.HashAlg.{HashAlg}
+use Rattle.spki_cert.specs.declared.hash.HashAlg.TheVariants.{Sha1, Sha256, Sha512}
+use Rattle.spki_cert.specs.declared.fault.CertFaultKind.TheVariants.{Shape, HashAlg as OtherAlg}
+use Rattle.spki_cert.specs.Readings.{HashOf}
+use Rattle.spki_cert.specs.Fields.{is_headed, behind_head}
+use Rattle.spki_cert.specs.FixedFaults.{key_fault, hash_fault, date_fault}
+use Rattle.spki_cert.specs.EntryFaults.{acl_fault}
+use Rattle.spki_cert.specs.SequenceFaults.{sequence_fault}
+use Rattle.spki_cert.proofs.Looking.{unless-none, none-found}
+use Rattle.spki_cert.proofs.FieldFaultLaws.{is-headed}
+use Rattle.spki_cert.proofs.Triples.{triple-read, triple-whole}
+use Rattle.spki_cert.proofs.FaultNone.{key-none, hash-none, date-none}
+use Rattle.spki_cert.proofs.EntryFaultNone.{each-none, acl-none}
+use Rattle.spki_cert.proofs.ItemFaultNone.{sequence-none}
+use Rattle.spki_case.specs.Case.{Row, Case}
+use Rattle.spki_case.specs.Rows.{RowOf}
+use Rattle.spki_case.specs.CaseForm.{Parts, acl_value, sequence_value, case_value, CaseOf}
+use Rattle.spki_case.specs.RowFaults.{begins_sha256, sha256_fault, row_fault, rows_fault}
+use Rattle.spki_case.proofs.OneCase.{parts-one}
+use Rattle.spki_case.proofs.RowFaultLaws.{sha256-whole, sha256-other, row-looks}
+
+-- ---- hashes
+
+abbrev SomeDigest : Value → Type 0
+SomeDigest v = (digest : List ℕ) × HashOf v Sha256 digest
+
+other-alg : (v : Value) (alg : HashAlg) → sha256_fault v ≡ None → sha256_fault v ≡ Some OtherAlg → SomeDigest v
+other-alg v alg e f = absurd (let g = sym e ∙ f in cc)
+
+digest-of : (v : Value) (alg : HashAlg) (digest : List ℕ) → hash_fault v ≡ None → HashOf v alg digest → sha256_fault v ≡ None → SomeDigest v
+digest-of v Sha1 digest e read f = other-alg v Sha1 f (sha256-other v Sha1 digest e read (λ g. absurd (cc)))
+digest-of v Sha256 digest e read f = (digest, read)
+digest-of v Sha512 digest e read f = other-alg v Sha512 f (sha256-other v Sha512 digest e read (λ g. absurd (cc)))
+
+sha256-read : (v : Value) → sha256_fault v ≡ None → SomeDigest v
+unfolding sha256_fault
+sha256-read v e =
+    let looks = none-found (hash_fault v) (unless (begins_sha256 (behind_head v)) OtherAlg ∷ []) e in
+    let hash = (hash-none v).0 looks.0 in digest-of v hash.0 hash.1 looks.0 hash.2 e
+
+sha256-faultless : (v : Value) (digest : List ℕ) → HashOf v Sha256 digest → sha256_fault v ≡ None
+sha256-faultless v digest read = sha256-whole v Sha256 digest ((hash-none v).1 (Sha256, digest, read)) read refl
+
+-- ---- rows
+
+abbrev SomeRow : Value → Type 0
+SomeRow v = (row : Row) × RowOf v row
+
+row-read : (v : Value) → row_fault v ≡ None → SomeRow v
+row-read v e =
+    let three = triple-read row-looks v e in
+    let octets = (key-none three.first).0 three.first_is in
+    let digest = sha256-read three.second three.second_is in (
+      record { key = octets.0; digest = digest.0; value = canon three.third },
+      record {
+        key = three.first;
+        hash = three.second;
+        value = three.third;
+        written = three.written;
+        key_is = octets.1;
+        digest_is = digest.1;
+        value_is = refl;
+      },
+    )
+
+row-faultless : (v : Value) (row : Row) → RowOf v row → row_fault v ≡ None
+row-faultless v row read =
+    triple-whole row-looks v read.key read.hash read.value (read.key ∷ read.hash ∷ read.value ∷ []) (read.hash ∷ read.value ∷ []) (read.value ∷ []) [] read.written refl
+    ((key-none read.key).1 (row.key, read.key_is)) refl (sha256-faultless read.hash row.digest read.digest_is) refl refl
+
+pub row-none : (v : Value) → (row_fault v ≡ None) ↔ SomeRow v
+row-none v = (row-read v, λ some. row-faultless v some.0 some.1)
+
+pub rows-none : (vs : List Value) → (rows_fault vs ≡ None) ↔ ((rows : List Row) × AllZip RowOf vs rows)
+unfolding rows_fault
+rows-none vs = each-none row_fault RowOf row-none 1 vs
+
+-- ---- the parts of a case
+
+abbrev AreFaultless : Parts → Type 0
+AreFaultless p =
+    (acl_fault (acl_value p) ≡ None) × (rows_fault p.rows ≡ None) × (sequence_fault (sequence_value p) ≡ None)
+    × (key_fault p.key ≡ None) × (request_fault p.request ≡ None) × (date_fault p.at ≡ None)
+
+abbrev SomeCase : Parts → Type 0
+SomeCase p = (c : Case) × CaseOf (case_value p) c
+
+case-of : (p : Parts) → HasOctets p.request → AreFaultless p → SomeCase p
+case-of p octets (acl, rows, sequence, key, request, at) =
+    let entries = (acl-none (acl_value p)).0 acl in
+    let accepted = (rows-none p.rows).0 rows in
+    let shown = (sequence-none (sequence_value p)).0 sequence in
+    let client = (key-none p.key).0 key in
+    let asked = (request_none_exactly p.request octets).0 request in
+    let moment = (date-none p.at).0 at in (
+      record {
+        entries = entries.0;
+        rows = accepted.0;
+        items = shown.0;
+        key = client.0;
+        request = asked.0;
+        moment = moment.0;
+        policy = p.policy;
+        most_nodes = 1000000;
+      },
+      record {
+        parts = p;
+        written = refl;
+        acl = entries.1;
+        rows = accepted.1;
+        sequence = shown.1;
+        key = client.1;
+        request = record { written = asked.2; is_request = asked.1 };
+        moment = moment.1;
+        policy = refl;
+        limit = refl;
+      },
+    )
+
+case-faultless : (p : Parts) → HasOctets p.request → SomeCase p → AreFaultless p
+case-faultless p octets (c, read) =
+    let same = parts-one p read.parts read.written in (
+      ap acl_fault same.acl ∙ (acl-none (acl_value read.parts)).1 (c.entries, read.acl),
+      ap rows_fault same.rows ∙ (rows-none read.parts.rows).1 (c.rows, read.rows),
+      ap sequence_fault same.sequence ∙ (sequence-none (sequence_value read.parts)).1 (c.items, read.sequence),
+      ap key_fault same.key ∙ (key-none read.parts.key).1 (c.key, read.key),
+      (request_none_exactly p.request octets).1 (c.request, read.request.is_request, read.request.written ∙ sym same.request),
+      ap date_fault same.at ∙ (date-none read.parts.at).1 (c.moment, read.moment),
+    )
+
+pub case-none : (p : Parts) → HasOctets p.request → AreFaultless p ↔ SomeCase p
+case-none p octets = (case-of p octets, case-faultless p octets)

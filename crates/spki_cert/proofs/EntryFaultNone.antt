@@ -1,0 +1,217 @@
+-- A value has no fault as an entry or as an access list exactly where it is one.
+use Rattle.std.proofs.Common.{◌≡◌, ℕ, ◌+◌, List, [], ◌∷◌, ◌++◌, Bool, true, false, ◌&&◌, ◌||◌, Option, Some, None, refl, sym, ap, ◌∙◌}
+use Rattle.std.specs.Prelude.{codes, ◌↔◌, not, if◌then◌else◌}
+use Rattle.std.specs.List.{AllZip}
+use Rattle.sexpr_core.specs.Value.{Value, plain, group}
+use Rattle.spki_tag.specs.Read.{ReadsAs}
+use Rattle.spki_tag.specs.FirstFault.{first_fault, unless}
+use Rattle.spki_cert.specs.declared.fault.CertFaultKind.{CertFaultKind}
+use Rattle.spki_cert.specs.declared.fault.CertFaultKind.TheVariants.{Shape}
+use Rattle.spki_cert.specs.declared.window.Window.{Window}
+use Rattle.spki_cert.specs.declared.entry.Entry.{Entry}
+use Rattle.spki_cert.specs.Readings.{DateOf}
+use Rattle.spki_cert.specs.Fields.{is_headed, behind_head, Sole, Given, ValidOf, IsTimeField, IsField, propagate, tag, time, comment, AreFields, propagates, WindowOf, directly, in_valid}
+use Rattle.spki_cert.specs.Entries.{EntryOf, AclOf, IsVersion, BeginsWell, behind_version}
+use Rattle.spki_cert.specs.Places.{sole_fault}
+use Rattle.spki_cert.specs.SubjectFaults.{entry_subject_fault}
+use Rattle.spki_cert.specs.FieldFaults.{has, fields_fault, version_fault, entry_field_fault, is_both_ways}
+use Rattle.spki_cert.specs.EntryFaults.{entry_fault, at_item, each_looked, acl_version_fault, outer_fault, entries_fault, acl_fault}
+use Rattle.spki_cert.specs.Inner.Gathering.{is_among}
+use Rattle.spki_cert.proofs.Groups.{behind-group}
+use Rattle.spki_cert.proofs.Looking.{unless-none, none-found, sole-read, sole-one}
+use Rattle.spki_cert.proofs.KnownLaws.{none-headed, headed-none}
+use Rattle.spki_cert.proofs.FieldLaws.{other-word, time-first, time-last, time-valid, field-tag}
+use Rattle.spki_cert.proofs.EntryLaws.{entries-behind, entry-unversioned, acl-read}
+use Rattle.spki_cert.proofs.FieldFaultLaws.{is-headed, has-given, version-zero}
+use Rattle.spki_cert.proofs.EntryFaultLaws.{entry-parts, entry-empty, parts_looked, outer-empty, outer-unversioned, outer-versioned, acl-entries}
+use Rattle.spki_cert.proofs.SubjectFaultNone.{entry_subject-none}
+use Rattle.spki_cert.proofs.FieldFaultNone.{again-false, given-read, entry_fields-none, version-read}
+
+-- ---- windows
+
+neither : (valid first last : Bool) → valid ≡ true → (valid && (first || last)) ≡ false → (first ≡ false) × (last ≡ false)
+neither true false false e f = (refl, refl)
+neither true true last e f = absurd (cc)
+neither true false true e f = absurd (cc)
+neither false first last e f = absurd (cc)
+
+and-false : (b : Bool) → (b && false) ≡ false
+and-false true = refl
+and-false false = refl
+
+-- words of fields that say nothing of validity
+abbrev pub untimed_words : List (List ℕ)
+untimed_words =
+    codes "propagate" ∷ codes "tag" ∷ codes "comment" ∷ codes "version" ∷ codes "issuer" ∷ codes "subject" ∷ codes "display" ∷ codes "issuer-info" ∷ codes "subject-info" ∷ []
+
+-- a field with a head other than these is one of validity
+abbrev pub TimedBy : (Value → Type 0) → Type 0
+TimedBy IsOne = (v : Value) (word : List ℕ) (rest : List Value) → v ≡ group (plain word ∷ rest) → is_among untimed_words word ≡ false → IsOne v → IsTimeField v
+
+module _ (IsOne : Value → Type 0) (timed : TimedBy IsOne) (fields : List Value) (read : AreFields IsOne fields) where
+  pub window-read : is_both_ways fields ≡ false → (w : Window) × WindowOf fields w
+  window-read one =
+      let first = given-read (codes "not-before") (Sole DateOf) IsOne (λ v rest e f. time-first v rest e (timed v (codes "not-before") rest e refl f)) fields read in
+      let last = given-read (codes "not-after") (Sole DateOf) IsOne (λ v rest e f. time-last v rest e (timed v (codes "not-after") rest e refl f)) fields read in
+      let valid = given-read (codes "valid") ValidOf IsOne (λ v rest e f. time-valid v rest e (timed v (codes "valid") rest e refl f)) fields read in
+      by first.0 last.0 valid.0 first.1 last.1 valid.1
+    where
+      by : (first last : Option (List ℕ)) (valid : Option Window) → Given (codes "not-before") (Sole DateOf) fields first → Given (codes "not-after") (Sole DateOf) fields last
+          → Given (codes "valid") ValidOf fields valid → (w : Window) × WindowOf fields w
+      by first last None e f g = (record { not_before = first; not_after = last }, directly g (e, f))
+      by first last (Some w) e f g =
+          let none = neither (has (codes "valid") fields) (has (codes "not-before") fields) (has (codes "not-after") fields) (has-given (codes "valid") ValidOf fields (Some w) g) one in
+          (w, in_valid g (none-headed (codes "not-before") fields none.0) (none-headed (codes "not-after") fields none.1))
+
+pub window-one_way : (fields : List Value) (w : Window) → WindowOf fields w → is_both_ways fields ≡ false
+window-one_way fields w (directly none limits) = ap (λ (b : Bool). b && (has (codes "not-before") fields || has (codes "not-after") fields)) (headed-none (codes "valid") fields none)
+window-one_way fields w (in_valid given first last) =
+    (λ i. has (codes "valid") fields && (headed-none (codes "not-before") fields first i || headed-none (codes "not-after") fields last i))
+    ∙ and-false (has (codes "valid") fields)
+
+-- ---- entries
+
+field-timed : TimedBy IsField
+field-timed v word rest e other (propagate written) = absurd (other-word untimed_words v word rest e other (codes "propagate", [], written, refl))
+field-timed v word rest e other (tag behind t written read) = absurd (other-word untimed_words v word rest e other (codes "tag", behind, written, refl))
+field-timed v word rest e other (time f) = f
+field-timed v word rest e other (comment xs written) = absurd (other-word untimed_words v word rest e other (codes "comment", xs, written, refl))
+
+pub some-given : {A : Type 0} (word : List ℕ) (R : List Value → A → Type 0) (fields : List Value) (o : Option A) → Given word R fields o → has word fields ≡ true
+    → (a : A) × Given word R fields (Some a)
+some-given word R fields None given e = absurd (let f = sym (has-given word R fields None given) ∙ e in cc)
+some-given word R fields (Some a) given e = (a, given)
+
+abbrev SomeEntry : Value → Type 0
+SomeEntry v = (e : Entry) × EntryOf v e
+
+entry-of : (v subject : Value) (fields : List Value) → v ≡ group (plain (codes "entry") ∷ subject ∷ fields)
+    → parts_looked (entry_subject_fault subject) (fields_fault entry_field_fault fields) (is_both_ways fields) (has (codes "tag") fields) ≡ None → SomeEntry v
+entry-of v subject fields e f =
+    let who = none-found (entry_subject_fault subject) _ f in
+    let each = none-found (fields_fault entry_field_fault fields) _ who.1 in
+    let one = none-found (unless (not (is_both_ways fields)) Shape) _ each.1 in
+    let tagged = none-found (unless (has (codes "tag") fields) Shape) [] one.1 in
+    let named = (entry_subject-none subject).0 who.0 in
+    let read = (entry_fields-none fields).0 each.0 in
+    let window = window-read IsField field-timed fields read (again-false (is_both_ways fields) (unless-none (not (is_both_ways fields)) Shape one.0)) in
+    let found = given-read (codes "tag") (Sole ReadsAs) IsField field-tag fields read in
+    let given = some-given (codes "tag") (Sole ReadsAs) fields found.0 found.1 (unless-none (has (codes "tag") fields) Shape tagged.0) in (
+      record { subject = named.0; propagate = propagates fields; tag = given.0; window = window.0 },
+      record {
+        subject = subject;
+        fields = fields;
+        written = e;
+        subject_is = named.1;
+        are_fields = read;
+        propagates_is = refl;
+        tag_is = given.1;
+        window_is = window.1;
+      },
+    )
+
+entry-read : (v : Value) → entry_fault v ≡ None → SomeEntry v
+unfolding entry_fault
+entry-read v e =
+    let looks = none-found (unless (is_headed (codes "entry") v) Shape) _ e in
+    let form = is-headed (codes "entry") v (unless-none (is_headed (codes "entry") v) Shape looks.0) in by form.0 form.1
+  where
+    by : (rest : List Value) → v ≡ group (plain (codes "entry") ∷ rest) → SomeEntry v
+    by [] f = absurd (let g = sym (entry-empty v [] f refl) ∙ e in cc)
+    by (subject ∷ fields) f = entry-of v subject fields f (sym (entry-parts v subject (subject ∷ fields) fields f refl) ∙ e)
+
+entry-faultless : (v : Value) (e : Entry) → EntryOf v e → entry_fault v ≡ None
+entry-faultless v e read =
+    entry-parts v read.subject (read.subject ∷ read.fields) read.fields read.written refl
+    ∙ (λ i. parts_looked ((entry_subject-none read.subject).1 (e.subject, read.subject_is) i) ((entry_fields-none read.fields).1 read.are_fields i)
+    (window-one_way read.fields e.window read.window_is i) (has-given (codes "tag") (Sole ReadsAs) read.fields (Some e.tag) read.tag_is i))
+
+pub entry-none : (v : Value) → (entry_fault v ≡ None) ↔ SomeEntry v
+entry-none v = (entry-read v, λ some. entry-faultless v some.0 some.1)
+
+pub entry-refused : (v : Value) (kind : CertFaultKind) → entry_fault v ≡ Some kind → (e : Entry) → EntryOf v e → ⊥
+entry-refused v kind e entry read = absurd (let f = sym (entry-faultless v entry read) ∙ e in cc)
+
+-- ---- items in a row
+
+pub at-none : (item : ℕ) (found : Option CertFaultKind) → at_item item found ≡ None → found ≡ None
+at-none item None e = refl
+at-none item (Some kind) e = absurd (cc)
+
+module _ {A : Type 0} (fault_of : Value → Option CertFaultKind) (R : Value → A → Type 0) (none : (v : Value) → (fault_of v ≡ None) ↔ ((a : A) × R v a)) where
+  each-read : (n : ℕ) (vs : List Value) → first_fault (each_looked fault_of n vs) ≡ None → (xs : List A) × AllZip R vs xs
+  each-read n [] e = ([], tt)
+  each-read n (v ∷ vs) e =
+      let looks = none-found (at_item n (fault_of v)) _ e in
+      let this = (none v).0 (at-none n (fault_of v) looks.0) in
+      let more = each-read (n + 1) vs looks.1 in
+      (this.0 ∷ more.0, (this.1, more.1))
+
+  each-faultless : (n : ℕ) (vs : List Value) (xs : List A) → AllZip R vs xs → first_fault (each_looked fault_of n vs) ≡ None
+  each-faultless n [] xs zip = refl
+  each-faultless n (v ∷ vs) [] zip = absurd zip
+  each-faultless n (v ∷ vs) (a ∷ xs) zip =
+      ap (λ (x : Option CertFaultKind). first_fault (at_item n x ∷ each_looked fault_of (n + 1) vs)) ((none v).1 (a, zip.0)) ∙ each-faultless (n + 1) vs xs zip.1
+
+  pub each-none : (n : ℕ) (vs : List Value) → (first_fault (each_looked fault_of n vs) ≡ None) ↔ ((xs : List A) × AllZip R vs xs)
+  each-none n vs = (each-read n vs, λ some. each-faultless n vs some.0 some.1)
+
+-- ---- access lists
+
+abbrev SomeList : Value → Type 0
+SomeList v = (es : List Entry) × AclOf v es
+
+version-looked : (headed : Bool) (found : Option CertFaultKind) → headed ≡ true → (if headed then found else None) ≡ None → found ≡ None
+version-looked true found h e = e
+version-looked false found h e = absurd (cc)
+
+begins-well : (vs : List Value) → acl_version_fault vs ≡ None → BeginsWell vs
+begins-well [] e = tt
+begins-well (v ∷ vs) e =
+    λ h.
+    let form = is-headed (codes "version") v h in
+    let found : sole_fault Shape version_fault (behind_head v) ≡ None = version-looked (is_headed (codes "version") v) (sole_fault Shape version_fault (behind_head v)) h e in
+    let sole = sole-read Shape version_fault form.0 (ap (sole_fault Shape version_fault) (sym (behind-group v (plain (codes "version")) form.0 form.1)) ∙ found) in
+    form.1 ∙ ap (λ (ws : List Value). group (plain (codes "version") ∷ ws)) (sole.1 ∙ ap (λ (w : Value). w ∷ []) (version-read sole.0 sole.2))
+
+outer-read : (v : Value) → outer_fault v ≡ None → (rest : List Value) × (v ≡ group (plain (codes "acl") ∷ rest)) × BeginsWell rest
+unfolding outer_fault
+outer-read v e =
+    let looks = none-found (unless (is_headed (codes "acl") v) Shape) _ e in
+    let form = is-headed (codes "acl") v (unless-none (is_headed (codes "acl") v) Shape looks.0) in
+    let version = none-found (acl_version_fault (behind_head v)) [] looks.1 in
+    (form.0, form.1, begins-well form.0 (ap acl_version_fault (sym (behind-group v (plain (codes "acl")) form.0 form.1)) ∙ version.0))
+
+acl-whole : (v : Value) → acl_fault v ≡ None → SomeList v
+unfolding acl_fault entries_fault
+acl-whole v e =
+    let looks = none-found (at_item 0 (outer_fault v)) _ e in
+    let items = none-found (entries_fault (behind_version (behind_head v))) [] looks.1 in
+    let outer = outer-read v (at-none 0 (outer_fault v) looks.0) in
+    let entries = (each-none entry_fault EntryOf entry-none 1 (behind_version (behind_head v))).0 items.0 in (
+      entries.0,
+      acl-read v outer.0 (behind_version (behind_head v)) entries.0 outer.1 outer.2
+          (ap behind_version (behind-group v (plain (codes "acl")) outer.0 outer.1)) entries.1,
+    )
+
+outer-faultless : (v : Value) (version entries : List Value) (es : List Entry) → v ≡ group (plain (codes "acl") ∷ (version ++ entries)) → IsVersion version → AllZip EntryOf entries es
+    → outer_fault v ≡ None
+outer-faultless v [] [] es e is zip = outer-empty v [] e refl
+outer-faultless v [] (x ∷ xs) [] e is zip = absurd zip
+outer-faultless v [] (x ∷ xs) (a ∷ es) e is zip =
+    outer-unversioned v x (x ∷ xs) xs e refl (λ us f. absurd (let g = sym (entry-unversioned x a zip.0) ∙ ap (is_headed (codes "version")) f in cc))
+outer-faultless v (w ∷ []) entries es e is zip =
+    outer-versioned v w (w ∷ entries) entries (plain (codes "0") ∷ []) None e refl is
+    (sole-one Shape version_fault (plain (codes "0") ∷ []) [] (plain (codes "0")) refl (version-zero (plain (codes "0")) refl) refl)
+outer-faultless v (w ∷ x ∷ xs) entries es e is zip = absurd is
+
+acl-faultless : (v : Value) (es : List Entry) → AclOf v es → acl_fault v ≡ None
+unfolding entries_fault
+acl-faultless v es read =
+    acl-entries v (read.version ++ read.entries) read.entries None read.written
+    (outer-faultless v read.version read.entries es read.written read.version_is read.each)
+    (sym (entries-behind read.version read.entries es read.version_is read.each))
+    ((each-none entry_fault EntryOf entry-none 1 read.entries).1 (es, read.each))
+
+pub acl-none : (v : Value) → (acl_fault v ≡ None) ↔ SomeList v
+acl-none v = (acl-whole v, λ some. acl-faultless v some.0 some.1)

@@ -1,0 +1,235 @@
+//! The tests that the entries of an access list share: what the certificates say of all of them.
+
+ghost use Rattle.std.specs.Prelude.{◌≡◌, ◌≢◌, ◌≤◌, List, [], ◌∷◌, length, IsTrue, IfOk, IfSome};
+ghost use Rattle.spki_cert.specs.declared.entry.Entry.{Entry};
+ghost use Rattle.spki_case.specs.View.{model};
+ghost use Rattle.spki_cert.specs.declared.principal.Policy.{Policy};
+ghost use Rattle.spki_reduce.specs.Tuples.{five, tags_of};
+ghost use Rattle.spki_reduce.specs.Restrictions.{nodes_product};
+ghost use Rattle.spki_reduce.specs.Chain.{tuples_of, all_tags, TooLargeAt};
+ghost use Rattle.spki_reduce.specs.Views.{entry_tuple, five_tuple, step_tuple};
+ghost use Rattle.spki_decision.specs.Supported.{Supported};
+ghost use Rattle.spki_decision.specs.Shared.{AreShared, IsDenied, IsMetSmall, IsWidest, unlimited};
+
+use spki_case::Case;
+use spki_cert::{Entry, Key, Names, Octets, Principal, Subject, Window};
+use spki_reduce::{Five, Fold, Issuer, ReduceFault, Step, fold_owned};
+use spki_tag::{MeetFault, Tag};
+use std::alloc::{AllocError, Global};
+
+/// The length from which a list of entries is worth the shared tests, which take as long as one entry.
+const WORTH_SHARING: usize = 8;
+
+/// The greatest product of numbers of nodes that is counted.
+const MOST_NODES: usize = 1_000_000;
+
+/// What the certificates that are shown say of all entries.
+#[derive(Clone, Copy, Debug)]
+pub(crate) struct SharedTests {
+    /// They deny each entry whose subject has one name or none.
+    pub(crate) denied: bool,
+    /// The product of the numbers of nodes of their tags, where it is at most 1,000,000.
+    pub(crate) nodes: Option<usize>,
+}
+
+/// What these steps say of all entries of a list of this length; none for a short list.
+///
+/// # Errors
+///
+/// Where memory was refused.
+pub(crate) fn shared_tests<'a>(
+    alloc: Global,
+    entries: usize,
+    case: &Case<'a>,
+    steps: &[Step<'a>],
+) -> Result<Option<SharedTests>, AllocError>
+    ensures { IfOk result (λ shared. IfSome shared (AreShared (model case.now) (tuples_of steps.now))) }
+{
+    if entries < WORTH_SHARING {
+        return Ok(None);
+    }
+    Ok(Some(SharedTests {
+        denied: denies_all(alloc, case, steps)?,
+        nodes: nodes_product(steps),
+    }))
+}
+
+/// Whether an entry is denied with all others, or by its own window or tag. Takes no memory.
+pub(crate) fn is_denied(entry: &Entry, case: &Case, shared: &SharedTests) -> bool
+    ensures { IsTrue result → IsDenied (model case.now) shared.now entry.now }
+{
+    if shared.denied && entry.subject.names.len() <= 1 {
+        return true;
+    }
+    !entry.window.holds(&case.moment) || !entry.tag.holds(&case.request)
+}
+
+/// Whether it is certain that the tag of no step is too large for what the entry's tag and those before it leave: the product of
+/// all nodes is at most this limit, or each product on the way is.
+///
+/// # Errors
+///
+/// Where memory was refused.
+pub(crate) fn is_small<'a>(
+    alloc: Global,
+    entry: &Entry<'a>,
+    steps: &[Step<'a>],
+    shared: &SharedTests,
+    most: usize,
+) -> Result<bool, AllocError>
+    requires limit { most ≤ 1000000 }
+    requires counted { IfSome shared.now.nodes
+        (λ n. (n ≡ nodes_product (all_tags (tuples_of steps.now))) × (n ≤ 1000000)) }
+    ensures { IfOk result (λ yes. IsTrue yes → (policy : Policy)
+        → ¬ TooLargeAt most policy (five (entry_tuple entry.now)) (tuples_of steps.now)) }
+{
+    if let Some(nodes) = shared.nodes {
+        if entry.tag.nodes() * nodes <= most {
+            return Ok(true);
+        }
+    }
+    stays_small(alloc, entry, steps, most)
+}
+
+/// Whether the product of the nodes of each step's tag and of what the entry's tag and those before it leave is at most this limit,
+/// up to a step whose tag leaves nothing.
+fn stays_small<'a>(
+    alloc: Global,
+    entry: &Entry<'a>,
+    steps: &[Step<'a>],
+    most: usize,
+) -> Result<bool, AllocError>
+    requires { most ≤ 1000000 }
+    ensures { IfOk result (λ yes. IsTrue yes → (policy : Policy)
+        → ¬ TooLargeAt most policy (five (entry_tuple entry.now)) (tuples_of steps.now)) }
+{
+    let mut tag = entry.tag.clone()?;
+    for step in steps {
+        match met_small(alloc, tag, step, most)? {
+            Some(met) => {
+                if met.is_nothing() && has_tag(step) {
+                    return Ok(true);
+                }
+                tag = met;
+            }
+            None => return Ok(false),
+        }
+    }
+    Ok(true)
+}
+
+/// Whether the step has a tag, which a definition hasn't.
+fn has_tag(step: &Step) -> bool
+    ensures { IsTrue result → tags_of (step_tuple step.now) ≢ [] }
+{
+    match step {
+        Step::Auth(_) => true,
+        Step::Name(_) => false,
+    }
+}
+
+/// What a tag and that of a step leave, where the product of their nodes is at most this limit.
+fn met_small<'a>(
+    alloc: Global,
+    tag: Tag,
+    step: &Step<'a>,
+    most: usize,
+) -> Result<Option<Tag>, AllocError>
+    requires { most ≤ 1000000 }
+    ensures { IfOk result (λ met. IfSome met (IsMetSmall most tag (step_tuple step.now))) }
+{
+    let Step::Auth(five) = step else {
+        return Ok(Some(tag));
+    };
+    match tag.into_meet_within(alloc, &five.tag, most) {
+        Ok(met) => Ok(Some(met)),
+        Err(MeetFault::TooLarge) => Ok(None),
+        Err(MeetFault::Memory) => Err(AllocError),
+    }
+}
+
+/// Whether the steps deny what is asked to every entry whose subject has one name or none: they deny it to the one that
+/// allows the most.
+fn denies_all<'a>(alloc: Global, case: &Case<'a>, steps: &[Step<'a>]) -> Result<bool, AllocError>
+    ensures { IfOk result (λ yes. IsTrue yes → (e : Entry) → length e.subject.names ≤ 1
+        → ¬ Supported (model case.now) (tuples_of steps.now) e) }
+{
+    let Some(first) = steps.first() else {
+        return Ok(false);
+    };
+    let Some(widest) = widest_entry(alloc, first)? else {
+        return Ok(false);
+    };
+    case.request.known();
+    match fold_owned(alloc, widest, steps, case.policy, case.most_nodes) {
+        Err(ReduceFault::TooLarge) => Ok(false),
+        Err(ReduceFault::Memory) => Err(AllocError),
+        Ok(Fold::Stopped { .. }) => Ok(true),
+        Ok(Fold::Done(five)) => {
+            let lack = five.first_lack(&case.key, &case.request, &case.moment, case.policy);
+            Ok(lack.is_some())
+        }
+    }
+}
+
+/// The tuple of the entry that allows the most with a step behind it: for the key of its issuer, or for the name that it
+/// defines, every request at every moment, to be delegated. None where no key issued the step.
+fn widest_entry<'a>(alloc: Global, step: &Step<'a>) -> Result<Option<Five<'a>>, AllocError>
+    ensures { IfOk result (λ widest. IfSome widest (λ f. IsWidest (step_tuple step.now) (five_tuple f))) }
+{
+    match step {
+        Step::Auth(five) => match &five.issuer {
+            Issuer::Own => Ok(None),
+            Issuer::Key(key) => Ok(Some(unlimited(key, Vec::new(alloc)))),
+        },
+        Step::Name(definition) => {
+            let mut names = Vec::new(alloc);
+            names.push(definition.name.share())?;
+            Ok(Some(unlimited(&definition.key, names)))
+        }
+    }
+}
+
+/// The keeper's authorization for a key, or for a name that it defines, of every request at every moment, to be delegated.
+fn unlimited<'a>(key: &Key<'a>, names: Vec<Octets<'a>>) -> Five<'a>
+    ensures { five_tuple result ≡ unlimited key.now names.entry.items }
+{
+    Five {
+        issuer: Issuer::Own,
+        subject: Subject {
+            principal: Principal::Key(key.share()),
+            names: Names::of(names),
+        },
+        propagate: true,
+        tag: Tag::everything(),
+        window: Window {
+            not_before: None,
+            not_after: None,
+        },
+    }
+}
+
+/// The product of the numbers of nodes of the steps' tags, where it is at most 1,000,000.
+fn nodes_product(steps: &[Step]) -> Option<usize>
+    ensures { IfSome result (λ n. (n ≡ nodes_product (all_tags (tuples_of steps.now))) × (n ≤ 1000000)) }
+{
+    let mut product = 1;
+    for step in steps {
+        product *= nodes_in(step);
+        if product > MOST_NODES {
+            return None;
+        }
+    }
+    Some(product)
+}
+
+/// How many nodes the tag of a step has. A definition has none, which counts as `(*)`.
+fn nodes_in(step: &Step) -> usize
+    ensures counted { result ≡ nodes_product (tags_of (step_tuple step.now)) }
+    ensures few { result ≤ 1000000 }
+{
+    match step {
+        Step::Auth(five) => five.tag.nodes(),
+        Step::Name(_) => 1,
+    }
+}

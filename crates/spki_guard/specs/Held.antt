@@ -1,0 +1,131 @@
+-- What is answered to a question that is asked of a guard, where a service marks the signatures that it has verified (RFC 2693,
+-- section 6).
+use Rattle.std.specs.Prelude.{◌≡◌, ◌≢◌, ◌⊎◌, ◌<◌, ◌≤◌, ℕ, List, [], ◌∷◌, ◌++◌, length, Bool, Ok, Err}
+use Rattle.spki_case.specs.Case.{Case, Verified}
+use Rattle.spki_decision.specs.declared.decision.Decision.{Decision}
+use Rattle.spki_decision.specs.declared.explanation.Explanation.{Explanation}
+use Rattle.spki_decision.specs.declared.reduction.Reduction.{Reduction}
+use Rattle.spki_decision.specs.declared.fault.GuardFault.TheVariants.{TooLarge}
+use Rattle.spki_decision.specs.Answered.{IsDecided, IsExplained, IsReduced}
+use Rattle.spki_decision.specs.Reduced.{EndAtDates}
+use Rattle.spki_decision.specs.Asked.{Signed, asked}
+use Rattle.spki_service.specs.Held.{Held}
+use Rattle.spki_service.specs.Asking.{AskedOf, OfCase, IsMarked}
+use Rattle.spki_service.specs.Questions.{IsAsked, IsNotAsked, asked_octets}
+use Rattle.spki_service.specs.declared.question.Question.{Question}
+use Rattle.spki_service.specs.declared.question.AskFault.{AskFault}
+use Rattle.spki_service.specs.declared.question.AskFault.TheVariants as faults
+use Rattle.spki_guard.specs.declared.answers.Verdict.{Verdict}
+use Rattle.spki_guard.specs.declared.answers.Verdict.TheVariants.{Refused}
+use Rattle.spki_guard.specs.declared.held.Wish.{Wish}
+use Rattle.spki_guard.specs.declared.held.Wish.TheVariants.{Decide, Explain, Reduce}
+use Rattle.spki_guard.specs.Answer.{IsLineOf}
+use Rattle.spki_guard.specs.HeldLines.{refused_question}
+use Rattle.spki_guard.specs.Lines.{refused_large}
+use Rattle.spki_guard.specs.Reports.{IsExplanationReport, IsReductionReport}
+use Rattle.spki_guard.specs.Run.{RefusesForMemory}
+
+-- ---- what is read
+
+-- The question's parts together have no more octets than the guard's limit, and the case is theirs, under the guard's policy and
+-- limit of nodes. It has no entries of its own.
+pub record ReadsQuestion (held : Held) (q : Question) (c : Case) : Type 0 where
+  pub short : asked_octets q ≤ held.octets
+  pub is : IsAsked q c
+  pub policy : c.policy ≡ held.policy
+  pub nodes : c.most_nodes ≡ held.nodes
+
+-- the case beside the guard's entries
+abbrev pub beside : Held → Case → AskedOf
+beside held c = record { texts = held.texts; case = c }
+
+-- ---- what is written of it
+
+-- These are the line or lines of what is answered of the case with the guard's entries, where these signatures are accepted. The
+-- windows that a reduction writes begin and end at dates.
+abbrev pub WritesAsked : Wish → AskedOf → Verified → Verdict → List ℕ → Type 0
+WritesAsked Decide a verified verdict output =
+    (d : Decision) × OfCase a (λ c. IsDecided c verified (Ok d)) × IsLineOf d verdict output
+WritesAsked Explain a verified verdict output =
+    (e : Explanation) × OfCase a (λ c. IsExplained c verified (Ok e)) × IsExplanationReport e verdict output
+WritesAsked Reduce a verified verdict output =
+    (r : Reduction) × OfCase a (λ c. IsReduced c verified (Ok r)) × EndAtDates r × IsReductionReport r verdict output
+
+-- tags are too large for an answer
+abbrev pub IsTooLargeFor : Wish → AskedOf → Verified → Type 0
+IsTooLargeFor Decide a verified = OfCase a (λ c. IsDecided c verified (Err TooLarge))
+IsTooLargeFor Explain a verified = OfCase a (λ c. IsExplained c verified (Err TooLarge))
+IsTooLargeFor Reduce a verified = OfCase a (λ c. IsReduced c verified (Err TooLarge))
+
+-- ---- answers
+
+-- what the marks accept of a case's signatures
+abbrev pub marked : Case → List Bool → Verified
+marked c marks = IsMarked (asked c) marks
+
+-- Tags are too large for an answer, and the line says so.
+pub record SaysTooLarge (wish : Wish) (a : AskedOf) (verified : Verified) (verdict : Verdict) (output : List ℕ) : Type 0 where
+  pub large : IsTooLargeFor wish a verified
+  pub verdict_is : verdict ≡ Refused
+  pub line : output ≡ refused_large
+
+abbrev pub AnswersAsked : Wish → AskedOf → Verified → Verdict → List ℕ → Type 0
+AnswersAsked wish a verified verdict output =
+    WritesAsked wish a verified verdict output ⊎ SaysTooLarge wish a verified verdict output
+
+-- The question is read and has as many signatures as there are marks, and this is the answer of its case.
+pub record AnswersHeld (wish : Wish) (held : Held) (q : Question) (marks : List Bool) (verdict : Verdict) (output : List ℕ) : Type 0 where
+  pub case_read : Case
+  pub read : ReadsQuestion held q case_read
+  pub counted : length marks ≡ length (asked case_read)
+  pub answer : AnswersAsked wish (beside held case_read) (marked case_read marks) verdict output
+
+-- why a question isn't read: its parts together have too many octets; or they haven't, and a part has no reading
+abbrev pub IsUnreadFor : Held → Question → AskFault → Type 0
+IsUnreadFor held q fault =
+    ((fault ≡ faults.TooLong) × (held.octets < asked_octets q)) ⊎ ((asked_octets q ≤ held.octets) × IsNotAsked q fault)
+
+-- The question isn't read, and the line says why.
+pub record RefusesQuestion (held : Held) (q : Question) (verdict : Verdict) (output : List ℕ) : Type 0 where
+  pub fault : AskFault
+  pub refused : IsUnreadFor held q fault
+  pub verdict_is : verdict ≡ Refused
+  pub line : output ≡ refused_question fault
+
+-- The question isn't read, or memory ran out.
+abbrev pub IsUnread : Held → Question → Verdict → List ℕ → Type 0
+IsUnread held q verdict output = RefusesQuestion held q verdict output ⊎ RefusesForMemory verdict output
+
+abbrev pub IsAnswerHeld : Wish → Held → Question → List Bool → Verdict → List ℕ → Type 0
+IsAnswerHeld wish held q marks verdict output =
+    AnswersHeld wish held q marks verdict output ⊎ IsUnread held q verdict output
+
+-- The question is read, and has another number of signatures than there are marks.
+pub record HasOtherCount (held : Held) (q : Question) (marks : List Bool) : Type 0 where
+  pub case_read : Case
+  pub read : ReadsQuestion held q case_read
+  pub other : length marks ≢ length (asked case_read)
+
+-- ---- what a verifier is asked
+
+-- the key, the message and the value of each signature, in order
+abbrev pub signed_texts : List Signed → List (List ℕ)
+signed_texts [] = []
+signed_texts (s ∷ signed) = s.key ∷ s.message ∷ s.value ∷ signed_texts signed
+
+-- one behind another
+abbrev pub joined : List (List ℕ) → List ℕ
+joined [] = []
+joined (text ∷ texts) = text ++ joined texts
+
+-- how many octets each has
+abbrev pub lengths_of : List (List ℕ) → List ℕ
+lengths_of [] = []
+lengths_of (text ∷ texts) = length text ∷ lengths_of texts
+
+-- The question is read; these are what a verifier is asked of it, one behind another, and the length of each.
+pub record ListsSigned (held : Held) (q : Question) (octets : List ℕ) (lengths : List ℕ) : Type 0 where
+  pub case_read : Case
+  pub read : ReadsQuestion held q case_read
+  pub octets_are : octets ≡ joined (signed_texts (asked case_read))
+  pub lengths_are : lengths ≡ lengths_of (signed_texts (asked case_read))

@@ -1,1 +1,0 @@
-(public-key (test b))

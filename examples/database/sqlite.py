@@ -1,0 +1,63 @@
+"""The table of entries in SQLite, which Python brings along. Each thread and process has a connection of its own."""
+import sqlite3
+from contextlib import contextmanager
+
+from entries import Unavailable
+
+# How long a writer waits for another one.
+SECONDS = 30
+TABLE = """
+    CREATE TABLE IF NOT EXISTS entries (number INTEGER PRIMARY KEY AUTOINCREMENT, principal BLOB NOT NULL, text BLOB NOT NULL);
+    CREATE INDEX IF NOT EXISTS by_principal ON entries (principal, number);
+"""
+ADD = "INSERT INTO entries (principal, text) VALUES (?, ?)"
+
+
+@contextmanager
+def answered():
+    """Says by `Unavailable` that the database did not answer."""
+    try:
+        yield
+    except sqlite3.Error as fault:
+        raise Unavailable(str(fault)) from fault
+
+
+class Entries:
+    """The table in a file. A number is never used again."""
+
+    def __init__(self, path):
+        with answered():
+            self.connection = sqlite3.connect(path, timeout=SECONDS, isolation_level=None)
+            self.connection.execute("PRAGMA journal_mode = WAL")
+            self.connection.executescript(TABLE)
+
+    def add(self, entry):
+        """Adds an entry behind the others, and returns its number."""
+        with answered():
+            return self.connection.execute(ADD, (entry.place, entry.text)).lastrowid
+
+    def add_all(self, entries):
+        """Adds many entries, in one transaction."""
+        with answered():
+            self.connection.execute("BEGIN")
+            self.connection.executemany(ADD, ((entry.place, entry.text) for entry in entries))
+            self.connection.execute("COMMIT")
+
+    def remove(self, number):
+        """Removes an entry. Returns whether it was there."""
+        with answered():
+            return self.connection.execute("DELETE FROM entries WHERE number = ?", (number,)).rowcount == 1
+
+    def found(self, places):
+        """The number and the text of each entry whose principal is found by one of these, in order."""
+        wanted = f"SELECT number, text FROM entries WHERE principal IN ({', '.join('?' * len(places))}) ORDER BY number"
+        with answered():
+            return self.connection.execute(wanted, places).fetchall()
+
+    def all(self):
+        """The number and the text of all entries, in order."""
+        with answered():
+            return self.connection.execute("SELECT number, text FROM entries ORDER BY number").fetchall()
+
+    def close(self):
+        self.connection.close()

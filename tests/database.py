@@ -1,0 +1,320 @@
+#!/usr/bin/env python3
+"""Compares decisions by entries in a table, as examples/database/ makes them, with those of a guard of all entries.
+
+- Random lists with entries for keys, hashes and names, and questions with up to three certificates: the answer, the number of the entry
+  and each refusal must be those of the guard of the whole list.
+- Several clients add and remove entries at the same time, and each asks in between: an entry that was added grants, and one that was removed
+  does not.
+- A table that is gone, and a server that is killed while clients ask: each question ends by `Unavailable`, and never by a yes.
+
+The table is in SQLite, and in PostgreSQL where libpq is and a server can be started in a temporary folder, or where the environment variable
+SPKI_POSTGRES has the settings of one: it is not killed then.
+
+Prints what fails; the last line counts.
+Usage: tests/database.py [LIBRARY]        the shared library lies beside the static LIBRARY
+"""
+import hashlib
+import os
+import random
+import sys
+import tempfile
+import threading
+from concurrent.futures import ThreadPoolExecutor
+
+from support import EXAMPLES, LIBRARY, TOP, canonical
+
+SHARED = os.path.abspath(sys.argv[1] if len(sys.argv) > 1 else LIBRARY).removesuffix(".a") + ".so"
+os.environ["SPKI_LIBRARY"] = SHARED
+sys.path[1:1] = [os.path.join(EXAMPLES, "database"), os.path.join(TOP, "bindings", "python")]
+import entries  # noqa: E402
+import postgres  # noqa: E402
+import spki  # noqa: E402
+import sqlite  # noqa: E402
+
+KEYS, ENTRIES, QUESTIONS = 12, 150, 1500
+CLIENTS, ROUNDS, ANSWERS = 4, 25, 20
+NOON = b"19:2026-03-01_12:00:00"
+TAG = b"(tag (packages read))"
+REQUEST = (b"packages", b"read", b"/a")
+
+
+def key_of(name):
+    return [b"public-key", [b"test", name]]
+
+
+def hash_of(value, algorithm="sha256"):
+    return [b"hash", algorithm.encode(), hashlib.new(algorithm, canonical(value)).digest()]
+
+
+def is_right(key, message, value):
+    """The verifier of these tests."""
+    return value == b"3:sig"
+
+
+def question(sequence, asker, request=REQUEST, moment=NOON):
+    return spki.Question(sequence if isinstance(sequence, bytes) else canonical(sequence), canonical(asker), request, moment)
+
+
+# ---- random lists and questions
+
+
+class Maker:
+    """Makes entries and questions about a few keys."""
+
+    def __init__(self, seed):
+        self.random = random.Random(seed)
+        self.keys = [key_of(b"k%d" % place) for place in range(KEYS)]
+
+    def principal(self, key):
+        return self.random.choice([key, key, hash_of(key), hash_of(key), hash_of(key, "sha512"), hash_of(key, "sha1")])
+
+    def tag(self):
+        return [b"tag", self.random.choice([[b"*"], [b"packages"], [b"packages", b"read"], [b"packages", [b"*", b"set", b"read", b"write"]],
+                                            [b"packages", b"write"]])]
+
+    def validity(self):
+        return self.random.choice([[], [], [], [[b"not-after", b"2026-02-01_00:00:00"]], [[b"not-before", b"2026-02-01_00:00:00"]]])
+
+    def entry(self):
+        """What `entries.entry` is called with."""
+        propagate = [[b"propagate"]] if self.random.random() < 0.8 else []
+        names = self.random.choice([(), (), (), (b"friends",), (b"friends", b"bob")])
+        fields = [canonical(field) for field in [*propagate, self.tag(), *self.validity()]]
+        return canonical(self.principal(self.random.choice(self.keys))), fields, names
+
+    def certificate(self, issuer, subject):
+        """A certificate from one key to another, of an authorization or of a name."""
+        owner = self.principal(issuer)
+        if self.random.random() < 0.25:
+            return [b"cert", [b"issuer", [b"name", owner, b"friends"]], [b"subject", self.principal(subject)], *self.validity()]
+        propagate = [[b"propagate"]] if self.random.random() < 0.8 else []
+        return [b"cert", [b"issuer", owner], [b"subject", self.principal(subject)], *propagate, self.tag(), *self.validity()]
+
+    def question(self):
+        """A question with up to three certificates, of which some are wrong, and some of whose parts cannot be read."""
+        chain = [self.random.choice(self.keys) for _ in range(self.random.randrange(4) + 1)]
+        items = [key for key in chain if self.random.random() < 0.95]
+        for issuer, subject in zip(chain, chain[1:]):
+            certificate = self.certificate(issuer, subject)
+            value = b"sig" if self.random.random() < 0.95 else b"wrong"
+            items += [certificate, [b"signature", hash_of(certificate), issuer, value]]
+        asker = chain[-1] if self.random.random() < 0.9 else self.random.choice(self.keys)
+        if self.random.random() < 0.03:
+            return question(b"(sequence) (key)", asker)
+        return question([b"sequence", *items], asker if self.random.random() < 0.97 else [b"public-key"],
+                        self.random.choice([*[REQUEST] * 20, *[REQUEST[:2]] * 5, *[(b"packages", b"write")] * 4, ()]))
+
+
+def outcome(decide, asked):
+    """The number of the entry, None, or the line of the refusal."""
+    try:
+        return decide(asked)
+    except spki.Refused as refusal:
+        return refusal.line
+
+
+def whole(table, policy):
+    """Decides by a guard of all rows of the table, and names the row that grants."""
+    rows = table.all()
+    guard = entries.list_of([text for _, text in rows], policy, spki.Limits(65_536, 10_000))
+
+    def decide(asked):
+        decision = guard.decide(asked, is_right)
+        return rows[decision.entry - 1][0] if decision else None
+    return decide
+
+
+def is_that_of_the_whole(table, seed, policy):
+    """Whether random questions have the answers of the whole list, before and after some entries are removed."""
+    maker, met = Maker(seed), {"yes": 0, "no": 0, "refused": 0}
+    numbers = []
+    for _ in range(ENTRIES):
+        principal, fields, names = maker.entry()
+        numbers.append(table.add(entries.entry(principal, *fields, names=names)))
+    service = entries.Service(table, policy)
+    for _ in range(2):
+        decide = whole(table, policy)
+        for _ in range(QUESTIONS // 2):
+            asked = maker.question()
+            wanted, found = outcome(decide, asked), outcome(lambda it: service.decide(it, is_right), asked)
+            if wanted != found:
+                print(f"seed {seed}: {asked}: {found}, and of the whole list {wanted}")
+                return False
+            met["no" if found is None else "yes" if isinstance(found, int) else "refused"] += 1
+        for number in maker.random.sample(numbers, ENTRIES // 3):
+            table.remove(number)
+    print(f"seed {seed}: {met}")
+    return min(met.values()) > 10
+
+
+# ---- several clients at the same time
+
+
+def client(opened, place):
+    """Adds and removes entries of a key of its own, and asks in between. Returns what was wrong."""
+    table, own = opened(), key_of(b"client%d" % place)
+    service, asked = entries.Service(table), question(b"(sequence)", own)
+    for turn in range(ROUNDS):
+        principal = canonical(own if turn % 2 else hash_of(own))
+        if service.decide(asked, is_right) is not None:
+            return f"client {place}: a yes before entry {turn} is added"
+        useless = table.add(entries.entry(principal, b"(tag (packages write))"))
+        number = table.add(entries.entry(principal, TAG))
+        if service.decide(asked, is_right) != number:
+            return f"client {place}: no yes by entry {number}"
+        if not table.remove(number) or service.decide(asked, is_right) is not None:
+            return f"client {place}: a yes after entry {number} was removed"
+        table.remove(useless)
+    table.close()
+    return None
+
+
+def clients_agree(opened):
+    with ThreadPoolExecutor(CLIENTS) as pool:
+        wrong = list(filter(None, pool.map(lambda place: client(opened, place), range(CLIENTS))))
+    print("".join(f"{each}\n" for each in wrong), end="")
+    return not wrong
+
+
+# ---- a database that does not answer
+
+
+def is_unavailable(service, asked):
+    try:
+        print(f"the database is gone, and the answer is {service.decide(asked, is_right)}")
+    except entries.Unavailable:
+        return True
+    return False
+
+
+class Asker(threading.Thread):
+    """Asks a question with the answer yes and one with the answer no by turns, until the database does not answer."""
+
+    def __init__(self, opened, granted, denied, number):
+        super().__init__()
+        self.service, self.asked, self.answers, self.wrong = entries.Service(opened()), [(granted, number), (denied, None)], 0, []
+        self.asked_often = threading.Event()
+
+    def run(self):
+        try:
+            while True:
+                for asked, wanted in self.asked:
+                    found = self.service.decide(asked, is_right)
+                    self.answers += 1
+                    if found != wanted:
+                        self.wrong.append(f"{found}, and not {wanted}")
+                if self.answers > ANSWERS:
+                    self.asked_often.set()
+        except entries.Unavailable:
+            pass
+        finally:
+            self.asked_often.set()
+
+
+def killed(server, opened):
+    """By name, whether a server that is killed while clients ask is never a yes, and is right again when it is started."""
+    own, other = key_of(b"held"), key_of(b"other")
+    granted, denied = question(b"(sequence)", own), question(b"(sequence)", other)
+    number = opened().add(entries.entry(canonical(own), TAG))
+    askers = [Asker(opened, granted, denied, number) for _ in range(CLIENTS)]
+    for asker in askers:
+        asker.start()
+    for asker in askers:
+        asker.asked_often.wait()
+    server.kill()
+    for asker in askers:
+        asker.join()
+    results = {"answers before the kill": all(asker.answers > ANSWERS and not asker.wrong for asker in askers),
+               "questions after the kill": all([is_unavailable(asker.service, granted) for asker in askers])}
+    try:
+        opened()
+        results["a connection after the kill"] = False
+    except entries.Unavailable:
+        results["a connection after the kill"] = True
+    server.start()
+    service = entries.Service(opened())
+    results["after a new start"] = service.decide(granted, is_right) == number and service.decide(denied, is_right) is None
+    return results
+
+
+def is_refused(call, *given, **more):
+    try:
+        call(*given, **more)
+    except (spki.Refused, ValueError):
+        return True
+    return False
+
+
+def entries_refused():
+    """By name, whether what makes no entry is refused before it is in the table."""
+    own = canonical(key_of(b"k"))
+    return {"an entry without a tag": is_refused(entries.entry, own), "an entry for a tag": is_refused(entries.entry, TAG, TAG),
+            "two principals": is_refused(entries.entry, own + own, TAG),
+            "a name as a principal": is_refused(entries.entry, b"(name %s n)" % own, TAG),
+            "a field that ends the entry": is_refused(entries.entry, own, b"(tag (*))) (entry x)"),
+            "a digest of another length": is_refused(entries.entry, b"(hash sha256 abc)", TAG)}
+
+
+def tested(name, opened, empty):
+    """By name, what passed with a table. `empty` makes a new one."""
+    results = {}
+    for seed, policy in enumerate((spki.Policy.STRICT, spki.Policy.OPEN)):
+        empty()
+        results[f"{name}, {policy.name}"] = is_that_of_the_whole(opened(), seed, policy)
+    empty()
+    results[f"{name}, several clients"] = clients_agree(opened)
+    return results
+
+
+def with_sqlite(room):
+    path = os.path.join(room, "entries")
+
+    def empty():
+        for name in (path, path + "-wal", path + "-shm"):
+            if os.path.exists(name):
+                os.remove(name)
+
+    results = tested("SQLite", lambda: sqlite.Entries(path), empty)
+    table = sqlite.Entries(path)
+    own = key_of(b"held")
+    table.add(entries.entry(canonical(own), TAG))
+    sqlite.Entries(path).connection.execute("DROP TABLE entries")
+    results["SQLite, the table is gone"] = is_unavailable(entries.Service(table), question(b"(sequence)", own))
+    return results
+
+
+def with_postgres(settings, server=None):
+    def empty():
+        table = postgres.Entries(settings)
+        table.connection.rows("DROP TABLE IF EXISTS entries")
+        table.make()
+        table.close()
+
+    def opened():
+        return postgres.Entries(settings)
+
+    results = tested("PostgreSQL", opened, empty)
+    if server is not None:
+        results.update({f"PostgreSQL, {what}": passed for what, passed in killed(server, opened).items()})
+    return results
+
+
+def main():
+    results = entries_refused()
+    with tempfile.TemporaryDirectory() as room:
+        results.update(with_sqlite(room))
+    if given := os.environ.get("SPKI_POSTGRES"):
+        results.update(with_postgres(given))
+    elif missing := postgres.missing():
+        print(f"{missing} is not there: PostgreSQL is left out")
+    else:
+        with postgres.Server() as server:
+            results.update(with_postgres(server.settings, server))
+    failed = [name for name, passed in results.items() if not passed]
+    print("".join(f"failed: {name}\n" for name in failed), end="")
+    print(f"{len(results) - len(failed)} passed, {len(failed)} failed")
+    return 1 if failed else 0
+
+
+if __name__ == "__main__":
+    sys.exit(main())

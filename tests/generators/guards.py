@@ -1,0 +1,64 @@
+"""Questions to a guard: a list, the parts of a question as texts of their own, and what a verifier accepts."""
+import random
+from dataclasses import dataclass
+
+from model.guard import FIRST_SECOND, LAST_SECOND, WISHES
+from model.values import Atom, Value, canonical
+
+from .cases import Builder
+from .nearly import changed, texts
+
+MOST_OCTETS, MOST_NODES = 1_048_576, 1_000_000
+SECONDS = (0, -1, 1_704_067_199, 1_704_067_200, 1_718_440_200, 951_782_400, -2_203_891_200, FIRST_SECOND, FIRST_SECOND - 1,
+           FIRST_SECOND + 31_622_400, LAST_SECOND, LAST_SECOND + 1, -2**63, 2**63 - 1)
+STRINGS = (b"", b"ftp", b"x) (at ", b"1:a", b"\x00\xff", b"(", b"a.o read")
+
+
+@dataclass(frozen=True)
+class GuardQuestion:
+    """A question to a guard: what is wanted, the list, the parts, the rows that the verifier looks into, the policy and the limits.
+    Where there are strings or seconds, they stand in the place of the text."""
+
+    command: str
+    acl: bytes
+    sequence: bytes
+    key: bytes
+    request: bytes
+    moment: bytes
+    rows: bytes
+    strings: tuple[bytes, ...] | None
+    seconds: int | None
+    strict: bool
+    octets: int
+    nodes: int
+
+
+def guard_question(rng: random.Random) -> GuardQuestion:
+    """The parts of a case, each by itself and by chance nearly right, asked of a guard of its list."""
+    builder = Builder(rng)
+    case = builder.case()
+    assert isinstance(case, tuple)
+    acl, rows, sequence = case[1:4]
+    key, request, moment = (part[1] for part in case[4:7] if isinstance(part, tuple))
+    strings = strings_of(request, rng)
+    return GuardQuestion(
+        "guard " + rng.choice(list(WISHES)), part_text(acl, rng), part_text(sequence, rng), part_text(key, rng), part_text(request, rng),
+        part_text(moment, rng), canonical(rows), strings, rng.choice(SECONDS) if rng.random() < 0.15 else None, len(case) == 8,
+        rng.randrange(1200) if rng.random() < 0.05 else MOST_OCTETS, rng.randrange(60) if rng.random() < 0.1 else MOST_NODES)
+
+
+def part_text(value: Value, rng: random.Random) -> bytes:
+    """A text of a part, by chance of nearly the same value, and by chance with another value behind it."""
+    text = texts(changed(value, rng, 0.03), rng, 0.03)
+    return text + canonical(value) if rng.random() < 0.01 else text
+
+
+def strings_of(request: Value, rng: random.Random) -> tuple[bytes, ...] | None:
+    """The strings of a request that consists of strings, by chance others, or none where the request goes as a text."""
+    if rng.random() < 0.06:
+        return tuple(rng.choice(STRINGS) for _ in range(rng.randrange(4)))
+    members = request if isinstance(request, tuple) else (request,)
+    if len(members) == 1 and isinstance(request, tuple) or rng.random() < 0.5:
+        return None
+    strings = [it.body for it in members if isinstance(it, Atom) and it.hint is None]
+    return tuple(strings) if len(strings) == len(members) else None

@@ -1,0 +1,27 @@
+"""Values and texts that are right or nearly right."""
+import random
+
+from model.values import Value, canonical
+
+from . import spellings
+from .mutations import mutated, mutated_text
+
+
+def changed(whole: Value, rng: random.Random, chance: float) -> Value:
+    """A value, or by chance one that differs at one place or at two."""
+    while rng.random() < chance:
+        whole = mutated(whole, rng)
+        chance /= 2
+    return whole
+
+
+def texts(whole: Value, rng: random.Random, wrong: float = 0.35) -> bytes:
+    """A text of a value, or by chance one that is nearly one."""
+    if rng.random() < wrong / 4:
+        # a transport form whose octets are nearly a canonical form
+        return spellings.in_braces(mutated_text(canonical(whole), rng), rng)
+    text = spellings.text_of(whole, rng)
+    while rng.random() < wrong:
+        text = mutated_text(text, rng)
+        wrong /= 2
+    return text
