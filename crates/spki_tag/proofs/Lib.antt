@@ -1,5 +1,6 @@
 pub mod Examples
 pub mod Members
+pub mod Differing
 pub mod MeetNormal
 pub mod Above
 pub mod Written

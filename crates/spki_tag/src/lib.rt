@@ -1,6 +1,7 @@
 //! Authorization tags and requests (RFC 2693, section 6.3.1).
 #![tactic(auto)]
 
+mod equality;
 mod fault;
 mod form;
 mod index;

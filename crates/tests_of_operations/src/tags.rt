@@ -1,5 +1,6 @@
 //! Worked examples of tags and requests, as calls: small tags with the answers that docs/FORMATS.md gives.
 
+mod comparisons;
 mod fault_texts;
 mod look_up;
 mod meetings;

@@ -1,10 +1,10 @@
 use Rattle.std.specs.Arc.{arc_slice_items}
-use Rattle.std.proofs.Common.{◌≡◌, ℕ, ◌+◌, ◌-◌, ◌*◌, ◌<◌, ◌≤◌, ◌++◌, ◌∷◌, [], List, true, false, length, take, drop, get_or, sym, ap, ◌∙◌, subst, le_trans, arith, true≢false, length-drop, length-set, drop-set-lt, take-append-drop, append-nil, slice_index_or}
+use Rattle.std.proofs.Common.{◌≡◌, ◌+◌, ◌-◌, ◌*◌, ◌<◌, ◌≤◌, ◌++◌, ◌∷◌, [], List, true, false, length, take, drop, sym, ap, ◌∙◌, subst, le_trans, arith, true≢false, length-drop, length-set, drop-set-lt, take-append-drop, append-nil, slice_index_or}
 use Rattle.std.proofs.lemmas.List.{take_more_set, take_all}
 use Rattle.std.proofs.lemmas.Nat.{mul-le}
 use Rattle.spki_tag.specs.Tag.{Tag, IsNormalTag, tags, star, list, nodes, nodes_all, most_nodes, is_nothing}
 use Rattle.spki_tag.specs.Nodes.{node_tag}
-use Rattle.spki_tag.specs.Meet.{meet, each_meet, gather, has_nothing, kept}
+use Rattle.spki_tag.specs.Meet.{meet, each_meet, gather, has_nothing}
 use Rattle.spki_tag.proofs.Members.{nodes_le-of_read}
 use Rattle.spki_tag.proofs.Bounds.{append-nodes}
 use Rattle.spki_tag.proofs.MeetSteps.{ListsMeet, lists_meet, each_meet-rest, each_meet-last, has_nothing-found, nothing-is, nothing-is_not}

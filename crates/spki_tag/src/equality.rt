@@ -1,0 +1,118 @@
+//! Whether two tags are the same.
+
+ghost use Rattle.std.specs.Prelude.{◌≡◌, ◌↔◌, IsTrue};
+ghost use Rattle.spki_tag.specs.Leaves.{leaf_tag, limit_of, ordering_of};
+ghost use Rattle.spki_tag.specs.Nodes.{node_tag};
+ghost use Rattle.spki_tag.specs.Tag.{tags};
+
+use crate::leaf::{Leaf, Limit, RangeOrdering};
+use crate::tag::{Node, Tag};
+
+impl Tag {
+    /// Whether another tag is the same value. Takes no memory.
+    #[cycle(same)]
+    pub fn same(&self, other: &Tag) -> bool
+        ensures { IsTrue result ↔ (self.now ≡ other.now) }
+    {
+        match &self.node {
+            Node::Leaf(leaf) => same_as_leaf(leaf, &other.node),
+            Node::List(head, further, _) => match &other.node {
+                Node::Leaf(_) => false,
+                Node::List(second, others, _) => {
+                    head.as_slice() == second.as_slice() && all_same(further, others)
+                }
+                Node::Set(_, _) => false,
+            },
+            Node::Set(members, _) => match &other.node {
+                Node::Leaf(_) => false,
+                Node::List(_, _, _) => false,
+                Node::Set(others, _) => all_same(members, others),
+            },
+        }
+    }
+}
+
+/// Whether there are as many others, and each is the same as the one in its place.
+#[cycle(same)]
+fn all_same(ones: &[Tag], others: &[Tag]) -> bool
+    ensures { IsTrue result ↔ (tags ones.now ≡ tags others.now) }
+{
+    if ones.len() != others.len() {
+        return false;
+    }
+    for i in 0..ones.len() {
+        if !ones[i].same(&others[i]) {
+            return false;
+        }
+    }
+    true
+}
+
+/// Whether a node is this tag without members.
+fn same_as_leaf(leaf: &Leaf, node: &Node) -> bool
+    ensures { IsTrue result ↔ (leaf_tag leaf.now ≡ node_tag node.now) }
+{
+    match node {
+        Node::Leaf(other) => leaf.same(other),
+        Node::List(_, _, _) => false,
+        Node::Set(_, _) => false,
+    }
+}
+
+impl Leaf {
+    /// Whether another tag without members is the same.
+    fn same(&self, other: &Leaf) -> bool
+        ensures { IsTrue result ↔ (leaf_tag self.now ≡ leaf_tag other.now) }
+    {
+        match self {
+            Leaf::Star => match other {
+                Leaf::Star => true,
+                Leaf::String(_) => false,
+                Leaf::Prefix(_) => false,
+                Leaf::Range(_, _, _) => false,
+            },
+            Leaf::String(octets) => match other {
+                Leaf::Star => false,
+                Leaf::String(others) => octets.as_slice() == others.as_slice(),
+                Leaf::Prefix(_) => false,
+                Leaf::Range(_, _, _) => false,
+            },
+            Leaf::Prefix(prefix) => match other {
+                Leaf::Star => false,
+                Leaf::String(_) => false,
+                Leaf::Prefix(others) => prefix.octets() == others.octets(),
+                Leaf::Range(_, _, _) => false,
+            },
+            Leaf::Range(ordering, low, up) => match other {
+                Leaf::Star => false,
+                Leaf::String(_) => false,
+                Leaf::Prefix(_) => false,
+                Leaf::Range(second, from, to) => {
+                    is_ordering(*ordering, *second) && same_limit(low, from) && same_limit(up, to)
+                }
+            },
+        }
+    }
+}
+
+/// Whether two orderings are the same.
+fn is_ordering(one: RangeOrdering, other: RangeOrdering) -> bool
+    ensures { IsTrue result ↔ (ordering_of one ≡ ordering_of other) }
+{
+    one == other
+}
+
+/// Whether two limits are the same, if there are any.
+fn same_limit(one: &Option<Limit>, other: &Option<Limit>) -> bool
+    ensures { IsTrue result ↔ (limit_of one.now ≡ limit_of other.now) }
+{
+    match one {
+        None => other.is_none(),
+        Some(limit) => match other {
+            None => false,
+            Some(second) => {
+                limit.strict == second.strict && limit.octets.as_slice() == second.octets.as_slice()
+            }
+        },
+    }
+}
