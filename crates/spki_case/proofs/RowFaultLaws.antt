@@ -1,23 +1,19 @@
 -- The fault that is named of a row, along the way of its reading.
-use Rattle.std.proofs.Common.{◌≡◌, ◌≢◌, ◌⊎◌, inl, inr, sym, ℕ, ◌+◌, length, List, [], ◌∷◌, drop, Bool, true, false, Option, Some, None, refl, ap, ◌∙◌}
+use Rattle.std.proofs.Common.{◌≡◌, ◌≢◌, ◌⊎◌, inl, inr, sym, ℕ, ◌+◌, length, List, [], ◌∷◌, Bool, true, false, Option, Some, None, refl, ap, ◌∙◌}
 use Rattle.std.specs.Prelude.{codes}
 use Rattle.std.specs.Str.{bytes_eq}
-use Rattle.sexpr_core.specs.Value.{Value, plain, group}
-use Rattle.sexpr_core.specs.Shapes.{IsNotHeaded}
+use Rattle.sexpr_core.specs.Value.{Value}
 use Rattle.spki_tag.specs.FirstFault.{first_fault, unless}
 use Rattle.spki_cert.specs.declared.hash.HashAlg.{HashAlg}
 use Rattle.spki_cert.specs.declared.hash.HashAlg.TheVariants.{Sha1, Sha256, Sha512}
 use Rattle.spki_cert.specs.declared.fault.CertFaultKind.{CertFaultKind}
-use Rattle.spki_cert.specs.declared.fault.CertFaultKind.TheVariants.{Shape, HashAlg as OtherAlg}
+use Rattle.spki_cert.specs.declared.fault.CertFaultKind.TheVariants.{HashAlg as OtherAlg}
 use Rattle.spki_cert.specs.Readings.{HashOf, alg_name}
 use Rattle.spki_cert.specs.Fields.{behind_head}
-use Rattle.spki_cert.specs.Places.{fault_at, unless_none}
 use Rattle.spki_cert.specs.FixedFaults.{key_fault, hash_fault}
-use Rattle.spki_cert.specs.ItemFaults.{any_value}
 use Rattle.spki_cert.specs.declared.fault.CertFault.{CertFault}
 use Rattle.spki_cert.proofs.EntryFaultLaws.{LeftItems, items-fault}
 use Rattle.spki_cert.proofs.Triples.{IsTriple}
-use Rattle.spki_cert.proofs.Looking.{of-form, of-no_form, end-some}
 use Rattle.spki_case.specs.RowFaults.{begins_sha256, sha256_fault, row_fault, rows_fault}
 
 -- ---- hashes

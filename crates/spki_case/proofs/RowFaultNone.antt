@@ -1,22 +1,21 @@
 -- A value has no fault as a row, and the parts of a case have none, exactly where they are such.
 use Rattle.std.proofs.Common.{◌≡◌, ℕ, List, [], ◌∷◌, Some, None, refl, sym, ap, ◌∙◌}
-use Rattle.std.specs.Prelude.{codes, ◌↔◌}
+use Rattle.std.specs.Prelude.{◌↔◌}
 use Rattle.std.specs.List.{AllZip}
-use Rattle.sexpr_core.specs.Value.{Value, plain, group, canon}
+use Rattle.sexpr_core.specs.Value.{Value, canon}
 use Rattle.sexpr_core.specs.Octets.{HasOctets}
 use Rattle.spki_tag.specs.FirstFault.{unless}
 use Rattle.spki_tag.specs.FaultOf.{request_fault}
 use Rattle.spki_tag.proofs.Faultless.{request_none_exactly}
 use Rattle.spki_cert.specs.declared.hash.HashAlg.{HashAlg}
 use Rattle.spki_cert.specs.declared.hash.HashAlg.TheVariants.{Sha1, Sha256, Sha512}
-use Rattle.spki_cert.specs.declared.fault.CertFaultKind.TheVariants.{Shape, HashAlg as OtherAlg}
+use Rattle.spki_cert.specs.declared.fault.CertFaultKind.TheVariants.{HashAlg as OtherAlg}
 use Rattle.spki_cert.specs.Readings.{HashOf}
-use Rattle.spki_cert.specs.Fields.{is_headed, behind_head}
+use Rattle.spki_cert.specs.Fields.{behind_head}
 use Rattle.spki_cert.specs.FixedFaults.{key_fault, hash_fault, date_fault}
 use Rattle.spki_cert.specs.EntryFaults.{acl_fault}
 use Rattle.spki_cert.specs.SequenceFaults.{sequence_fault}
-use Rattle.spki_cert.proofs.Looking.{unless-none, none-found}
-use Rattle.spki_cert.proofs.FieldFaultLaws.{is-headed}
+use Rattle.spki_cert.proofs.Looking.{none-found}
 use Rattle.spki_cert.proofs.Triples.{triple-read, triple-whole}
 use Rattle.spki_cert.proofs.FaultNone.{key-none, hash-none, date-none}
 use Rattle.spki_cert.proofs.EntryFaultNone.{each-none, acl-none}

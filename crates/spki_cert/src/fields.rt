@@ -225,42 +225,20 @@ fn said_by<'a>(alloc: Global, place: Place, field: &Node<'_, 'a>) -> Result<Said
     }
 }
 
-/// What is known after one more field.
-fn gathered<'a>(known: Known<'a>, said: Said<'a>) -> Known<'a>
-    ensures { result ≡ gather known.entry said.entry }
-{
-    match said {
-        Said::Nothing => known,
-        Said::Issuer(issuer) => Known {
-            issuer: Some(issuer),
-            ..known
-        },
-        Said::Subject(who) => Known {
-            subject: Some(who),
-            ..known
-        },
-        Said::Tag(tag) => Known {
-            tag: Some(tag),
-            ..known
-        },
-        Said::NotBefore(date) => Known {
-            limits: Window {
-                not_before: Some(date),
-                not_after: known.limits.not_after,
-            },
-            ..known
-        },
-        Said::NotAfter(date) => Known {
-            limits: Window {
-                not_before: known.limits.not_before,
-                not_after: Some(date),
-            },
-            ..known
-        },
-        Said::Valid(window) => Known {
-            valid: Some(window),
-            ..known
-        },
+impl<'a> Known<'a> {
+    /// Adds the content of one more field.
+    fn add(&mut self, said: Said<'a>)
+        ensures { self.new ≡ gather self.old said.entry }
+    {
+        match said {
+            Said::Nothing => {}
+            Said::Issuer(issuer) => self.issuer = Some(issuer),
+            Said::Subject(who) => self.subject = Some(who),
+            Said::Tag(tag) => self.tag = Some(tag),
+            Said::NotBefore(date) => self.limits.not_before = Some(date),
+            Said::NotAfter(date) => self.limits.not_after = Some(date),
+            Said::Valid(window) => self.valid = Some(window),
+        }
     }
 }
 
@@ -316,7 +294,7 @@ pub(crate) fn fields_of<'a>(
         };
         let said = said_by(alloc, place, &field)?;
         heads.push(Octets::new(head))?;
-        known = gathered(known, said);
+        known.add(said);
         rest = others;
     }
     let propagate = is_among(&heads, b"propagate");

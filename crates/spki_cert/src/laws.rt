@@ -40,6 +40,11 @@ pub fn one_date()
     ensures { (v : Value) (s t : List ℕ) → DateOf v s → DateOf v t → s ≡ t }
 {}
 
+/// A value has at most one reading as an entry.
+pub fn one_entry()
+    ensures { (v : Value) (e f : Entry) → EntryOf v e → EntryOf v f → e ≡ f }
+{}
+
 /// A value has at most one reading as an access list.
 pub fn one_acl()
     ensures { (v : Value) (es fs : List Entry) → AclOf v es → AclOf v fs → es ≡ fs }

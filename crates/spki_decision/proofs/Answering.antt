@@ -29,11 +29,9 @@ agrees verified (s ∷ signatures) accepted = ((λ _. accepted.0, λ _. tt), agr
 module _ (policy : Policy) (verified : Verified) (items : List SeqItem) where
   pub all_accepted : (e : Evidence) → AllByRecursion (IsAccepted verified) (asked_in policy (keys_of items) (certificates items))
       → IsEvidence policy every items e → IsEvidence policy verified items e
-  all_accepted (evidence.Stands numbers steps) accepted h = (
-    h.0,
-    all_shown policy (keys_of items) every verified (certificates items) (map step_tuple steps.items)
-        (agrees verified (asked_in policy (keys_of items) (certificates items)) accepted) h.1,
-  )
+  all_accepted (evidence.Stands steps) accepted h =
+      all_shown policy (keys_of items) every verified (certificates items) (map step_tuple steps.items)
+      (agrees verified (asked_in policy (keys_of items) (certificates items)) accepted) h
   all_accepted (evidence.Fails item stop) accepted h =
       let agree = agrees verified (asked_in policy (keys_of items) (certificates items)) accepted in
       let parted = rw h.parts at agree in

@@ -1,6 +1,7 @@
 -- Certificates that stand, one more at a time, up to one that doesn't.
-use Rattle.std.proofs.Common.{◌≡◌, ℕ, zero, suc, ◌+◌, ◌<◌, List, [], ◌∷◌, ◌++◌, Bool, true, false, ◌&&◌, IsSome, is_some, map, length, take, drop, get_or, refl, sym, ap, ◌∙◌, arith, add-one, drop-cons}
+use Rattle.std.proofs.Common.{◌≡◌, ℕ, zero, suc, ◌+◌, ◌<◌, List, [], ◌∷◌, ◌++◌, Bool, true, false, ◌&&◌, Some, IsSome, is_some, map, length, take, drop, get_or, slice_get, refl, sym, ap, ◌∙◌, arith, add-one, drop-cons}
 use Rattle.std.proofs.lemmas.List.{take_more, take-append-drop, get_or-map, map-append, length-map}
+use Rattle.std.proofs.lemmas.Option.{slice_get-get_or}
 use Rattle.std.specs.List.{AllZip, AllByRecursion, list_all}
 use Rattle.spki_cert.specs.declared.principal.Policy.{Policy}
 use Rattle.spki_cert.specs.declared.certificate.SeqItem.{SeqItem}
@@ -43,6 +44,9 @@ module _ (items : List SeqItem) (kept : List ShownCert) (same : map shown_of kep
   below : i < length (map shown_of kept)
   below = rw length-map within
 
+  pub stands_here : slice_get (certificates items) i ≡ Some (shown_of one)
+  stands_here = ap (λ shown. slice_get shown i) (sym same) ∙ slice_get-get_or (map shown_of kept) i (shown_of one) below ∙ ap Some at_place
+
   pub signed_here : AreSigned items → IsSome (shown_of one).signature
   signed_here signed =
       let all : list_all (λ s. is_some s.signature) (map shown_of kept) ≡ true = rw same signed in
@@ -81,10 +85,6 @@ module _ (items : List SeqItem) (kept : List ShownCert) (same : map shown_of kep
       place = refl;
       fails = k;
     }
-
-    pub numbered : (ns : List ℕ) → ns ≡ map (λ s. s.item) (take i (map shown_of kept))
-        → ns ++ one.item ∷ [] ≡ map (λ s. s.item) (take (i + 1) (map shown_of kept))
-    numbered ns h = rw (taken, map-append, ← h) refl
 
     pub standing_more : (steps : List Step) (step : Step) (holder : List ℕ)
         → AllZip (StandsAs policy (keys_of items) verified) (take i (map shown_of kept)) (map step_tuple steps)

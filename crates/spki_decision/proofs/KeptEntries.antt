@@ -1,21 +1,19 @@
 -- The decision of a part of an access list is that of the list, if only entries are missing that are left out.
-use Rattle.std.proofs.Common.{◌≡◌, ℕ, zero, suc, ◌+◌, ◌<◌, ◌≤◌, List, [], ◌∷◌, Some, None, map, length, slice_get, refl, sym, ap, ◌∙◌, subst, arith, Result, Ok, Err, inl, inr, ◌⊎◌}
+use Rattle.std.proofs.Common.{◌≡◌, ℕ, zero, suc, ◌+◌, ◌<◌, ◌≤◌, List, [], ◌∷◌, Some, map, length, slice_get, refl, sym, ap, ◌∙◌, subst, arith, Result, Ok, Err, inl, inr}
 use Rattle.std.proofs.lemmas.Option.{none-some, slice_get_within}
 use Rattle.spki_cert.specs.declared.entry.Entry.{Entry}
 use Rattle.spki_reduce.specs.Tuples.{Tuple, five}
 use Rattle.spki_reduce.specs.Views.{entry_tuple}
-use Rattle.spki_reduce.specs.Chain.{TooLargeAt}
 use Rattle.spki_case.specs.Case.{Case, Verified}
 use Rattle.spki_decision.specs.declared.decision.Decision.{Decision}
 use Rattle.spki_decision.specs.declared.decision.Decision.TheVariants.{Yes, No}
 use Rattle.spki_decision.specs.declared.fault.GuardFault.{GuardFault}
 use Rattle.spki_decision.specs.declared.fault.GuardFault.TheVariants.{TooLarge, Memory}
 use Rattle.spki_decision.specs.Standing.{AreShown}
-use Rattle.spki_decision.specs.Granted.{Granted, IsFirstGranted, IsNoneGranted, IsTooLarge}
-use Rattle.spki_decision.specs.Supported.{Supported, SmallBefore, AllSmall, SmallUpTo}
-use Rattle.spki_decision.specs.Decision.{IsDecision, IsUnrefused}
+use Rattle.spki_decision.specs.Granted.{Granted}
+use Rattle.spki_decision.specs.Supported.{Supported, SmallBefore}
 use Rattle.spki_decision.specs.Answered.{IsDecided}
-use Rattle.spki_decision.specs.LeftOut.{IsLeftOut, IsKept, AreKept, second, kept_case, IsRenumbered, AreRenumbered}
+use Rattle.spki_decision.specs.LeftOut.{IsLeftOut, IsKept, AreKept, second, kept_case, AreRenumbered}
 use Rattle.spki_decision.proofs.LeftOut.{supported_named, large_named}
 
 some_pair : (a b : ℕ × Entry) → Some a ≡ Some b → a ≡ b

@@ -1,21 +1,18 @@
 -- An entry whose principal doesn't name the first key grants nothing, and no step of its chain is too large.
-use Rattle.std.proofs.Common.{◌≡◌, ℕ, zero, suc, List, [], ◌∷◌, Option, Some, None, take, slice_get, refl, sym, ap, subst}
-use Rattle.std.specs.Prelude.{IsTrue}
+use Rattle.std.proofs.Common.{◌≡◌, ℕ, zero, suc, List, [], ◌∷◌, Some, take, slice_get, sym, subst}
 use Rattle.std.proofs.lemmas.Option.{none-some}
 use Rattle.spki_cert.specs.declared.principal.Policy.{Policy}
 use Rattle.spki_cert.specs.declared.entry.Entry.{Entry}
-use Rattle.spki_cert.specs.Naming.{names}
-use Rattle.spki_reduce.specs.Tuples.{Issuer, own, key, FiveTuple, FourTuple, Tuple, five, four}
+use Rattle.spki_reduce.specs.Tuples.{Issuer, FiveTuple, Tuple, five, four}
 use Rattle.spki_reduce.specs.Views.{entry_tuple}
-use Rattle.spki_reduce.specs.Rules.{Issues, Joins, Delegate, Resolve}
-use Rattle.spki_reduce.specs.Derivation.{Tree, leaf, join, leaves, Derives, from_left}
-use Rattle.spki_reduce.specs.Supports.{Supports}
+use Rattle.spki_reduce.specs.Rules.{Issues, Joins}
+use Rattle.spki_reduce.specs.Derivation.{Derives, from_left}
 use Rattle.spki_reduce.specs.Chain.{TooLargeAt}
 use Rattle.spki_reduce.specs.Stops.{TooLargeFor}
 use Rattle.spki_reduce.proofs.Bracketing.{front, from_left-leaves, supported}
-use Rattle.spki_case.specs.Case.{Case, Verified}
+use Rattle.spki_case.specs.Case.{Case}
 use Rattle.spki_decision.specs.Supported.{Supported}
-use Rattle.spki_decision.specs.LeftOut.{key_of, first_key, IsOf, IsLeftOut}
+use Rattle.spki_decision.specs.LeftOut.{key_of, first_key, IsOf}
 
 module _ (policy : Policy) (asker : List ℕ) (e : Entry) where
   issued : (right : FiveTuple) (others : List Tuple) → Issues policy (entry_tuple e) right → IsOf policy e (first_key asker (five right ∷ others))

@@ -1,5 +1,5 @@
 -- A text has one decision, one explanation and one reduction, or is refused as too large.
-use Rattle.std.proofs.Common.{◌≡◌, ℕ, suc, ◌<◌, List, Result, Ok, Err, refl, sym, ap, subst, arith}
+use Rattle.std.proofs.Common.{◌≡◌, ℕ, ◌<◌, List, Result, Ok, Err, refl, sym, ap, subst, arith}
 use Rattle.std.proofs.lemmas.Option.{slice_get_within}
 use Rattle.spki_reduce.specs.Tuples.{Tuple}
 use Rattle.spki_case.specs.Case.{Case, Verified, accepted_by}
@@ -16,8 +16,8 @@ use Rattle.spki_decision.specs.declared.reduction.Reduction.{Reduction}
 use Rattle.spki_decision.specs.declared.reduction.Reduction.TheVariants as reduction
 use Rattle.spki_decision.specs.Standing.{AreShown}
 use Rattle.spki_decision.specs.Supported.{AllSmall}
-use Rattle.spki_decision.specs.Granted.{IsFirstGranted, IsTooLarge}
-use Rattle.spki_decision.specs.Decision.{IsDecision, IsUnrefused}
+use Rattle.spki_decision.specs.Granted.{IsFirstGranted}
+use Rattle.spki_decision.specs.Decision.{IsDecision}
 use Rattle.spki_decision.specs.Explained.{IsExplanation, IsSameExplanation}
 use Rattle.spki_decision.specs.Reduced.{IsReduction, IsSameReduction, SomeTooLarge}
 use Rattle.spki_decision.specs.Answered.{IsDecided, IsExplained, IsReduced, AreSame}

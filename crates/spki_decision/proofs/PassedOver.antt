@@ -27,7 +27,7 @@ use Rattle.std.proofs.lemmas.List.Sums.{fold-append}
 use Rattle.spki_case.specs.Case.{Case}
 use Rattle.spki_decision.specs.declared.shared_tests.SharedTests.{SharedTests}
 use Rattle.spki_decision.specs.Supported.{Supported}
-use Rattle.spki_decision.specs.Shared.{AreShared, IsDenied, IsSmallWith, IsMetSmall, IsWidest}
+use Rattle.spki_decision.specs.Shared.{AreShared, IsDenied, IsSmallFor, IsSmallWith, IsMetSmall, IsWidest}
 use Rattle.spki_decision.proofs.Widening.{supported as widened}
 
 both : (a b : Bool) → (a && b) ≡ true → (a ≡ true) × (b ≡ true)
@@ -61,61 +61,73 @@ module _ (c : Case) (tuples : List Tuple) (shared : SharedTests) (given : AreSha
 
 -- ---- limits
 
-module _ (most : ℕ) (e : Entry) (tuples : List Tuple) where
-  pub small_product : (n : ℕ) → n ≡ nodes_product (all_tags tuples) → nodes e.tag * n ≤ most → (policy : Policy)
-      → ¬ TooLargeAt most policy (five (entry_tuple e)) tuples
-  small_product n counted small policy l =
-      let over : most < nodes e.tag * nodes_product (all_tags tuples) = large most policy (five (entry_tuple e)) tuples l in
-      let within_limit : nodes e.tag * nodes_product (all_tags tuples) ≤ most = subst (λ m. nodes e.tag * m ≤ most) counted small in
-      omega arith
+module _ (most : ℕ) (tag : Tag) (tuples : List Tuple) where
+  pub small_product : (n : ℕ) → n ≡ nodes_product (all_tags tuples) → nodes tag * n ≤ most → IsSmallFor most tuples tag
+  small_product n counted small = record {
+    none_large = λ e is policy l.
+        let over : most < nodes e.tag * nodes_product (all_tags tuples) = large most policy (five (entry_tuple e)) tuples l in
+        let over_here : most < nodes tag * nodes_product (all_tags tuples) =
+        subst (λ t. most < nodes t * nodes_product (all_tags tuples)) is over in
+        let within_limit : nodes tag * nodes_product (all_tags tuples) ≤ most = subst (λ m. nodes tag * m ≤ most) counted small in
+        omega arith;
+  }
 
-  -- what the entry's tag and those of the first tuples leave
+  -- what the tag and those of the first tuples leave
   abbrev pub met_so_far : ℕ → Tag
-  met_so_far place = met (all_tags (five (entry_tuple e) ∷ take place tuples))
+  met_so_far place = met (tag ∷ all_tags (take place tuples))
 
   -- each of the first tuples is small with what stands before it
   abbrev pub AreSmallBefore : ℕ → Type 0
   AreSmallBefore count =
       (place : ℕ) (tuple : Tuple) → place < count → slice_get tuples place ≡ Some tuple → IsSmallWith most (met_so_far place) tuple
 
-  apart : (policy : Policy) (root : FiveTuple) (tag : Tag) (tuple : Tuple) → TooLargeFor most policy root tuple
-      → most < nodes_product (tag ∷ tags_of tuple) → ¬ IsSmallWith most tag tuple
-  apart policy root tag (five t) large over small = omega arith
-  apart policy root tag (four t) large over small = large
+  apart : (policy : Policy) (root : FiveTuple) (before : Tag) (tuple : Tuple) → TooLargeFor most policy root tuple
+      → most < nodes_product (before ∷ tags_of tuple) → ¬ IsSmallWith most before tuple
+  apart policy root before (five t) large over small = omega arith
+  apart policy root before (four t) large over small = large
 
-  pub all_small : (count : ℕ) → length tuples ≤ count → AreSmallBefore count → (policy : Policy)
-      → ¬ TooLargeAt most policy (five (entry_tuple e)) tuples
-  all_small count whole h policy l =
-      let there = slice_get_within tuples l.place l.tuple l.stands in
-      apart policy l.root (met_so_far l.place) l.tuple l.too_large l.met_too_large (h l.place l.tuple (omega arith) l.stands)
+  -- a step that is too large for an entry with the tag is not small
+  not_small : (e : Entry) → e.tag ≡ tag → (policy : Policy) (l : TooLargeAt most policy (five (entry_tuple e)) tuples)
+      → ¬ IsSmallWith most (met_so_far l.place) l.tuple
+  not_small e is policy l =
+      let over : most < nodes_product (met_so_far l.place ∷ tags_of l.tuple) =
+      subst (λ t. most < nodes_product (met (t ∷ all_tags (take l.place tuples)) ∷ tags_of l.tuple)) is l.met_too_large in
+      apart policy l.root (met_so_far l.place) l.tuple l.too_large over
+
+  pub all_small : (count : ℕ) → length tuples ≤ count → AreSmallBefore count → IsSmallFor most tuples tag
+  all_small count whole h = record {
+    none_large = λ e is policy l.
+        let there = slice_get_within tuples l.place l.tuple l.stands in
+        not_small e is policy l (h l.place l.tuple (omega arith) l.stands);
+  }
 
   -- what leaves nothing at a step with a tag stops there
-  small_by : (count : ℕ) → AreSmallBefore count → met_so_far count ≡ set none → all_tags (take count tuples) ≢ [] → (policy : Policy)
+  small_by : (count : ℕ) → AreSmallBefore count → met_so_far count ≡ set none → all_tags (take count tuples) ≢ []
+      → (e : Entry) → e.tag ≡ tag → (policy : Policy)
       → (l : TooLargeAt most policy (five (entry_tuple e)) tuples) → (l.place < count) ⊎ (count ≤ l.place) → ⊥
-  small_by count h nothing tagged policy l (inl less) =
-      apart policy l.root (met_so_far l.place) l.tuple l.too_large l.met_too_large (h l.place l.tuple less l.stands)
-  small_by count h nothing tagged policy l (inr beyond) =
-      let first = five (entry_tuple e) in
+  small_by count h nothing tagged e is policy l (inl less) = not_small e is policy l (h l.place l.tuple less l.stands)
+  small_by count h nothing tagged e is policy l (inr beyond) =
       let after = drop count (take l.place tuples) in
       let parted : take l.place tuples ≡ take count tuples ++ after =
       sym (take-append-drop count (take l.place tuples)) ∙ ap (λ ts. ts ++ after) (take-take count l.place tuples beyond) in
-      let tags : all_tags (first ∷ take l.place tuples) ≡ all_tags (first ∷ take count tuples) ++ all_tags after =
-      ap (λ ts. all_tags (first ∷ ts)) parted ∙ flat_map-append tags_of (first ∷ take count tuples) after in
-      let gone : met (all_tags (first ∷ take l.place tuples)) ≡ set none =
-      ap met tags ∙ fold-append meet star (all_tags (first ∷ take count tuples)) (all_tags after)
+      let tags : all_tags (take l.place tuples) ≡ all_tags (take count tuples) ++ all_tags after =
+      ap all_tags parted ∙ flat_map-append tags_of (take count tuples) after in
+      let gone : met_so_far l.place ≡ set none =
+      ap (λ ts. met (tag ∷ ts)) tags ∙ fold-append meet star (tag ∷ all_tags (take count tuples)) (all_tags after)
       ∙ ap (λ t. fold meet t (all_tags after)) nothing ∙ nothing_met (all_tags after) in
       let empty : all_tags (take count tuples) ++ all_tags after ≡ [] =
-      sym (flat_map-append tags_of (take count tuples) after) ∙ ap all_tags (sym parted) ∙ l.before.tagged gone in
+      sym tags ∙ l.before.tagged (ap (λ t. met (t ∷ all_tags (take l.place tuples))) is ∙ gone) in
       tagged (first_empty (all_tags (take count tuples)) (all_tags after) empty)
 
   pub small_to_nothing : (count : ℕ) → AreSmallBefore count → met_so_far count ≡ set none → all_tags (take count tuples) ≢ []
-      → (policy : Policy) → ¬ TooLargeAt most policy (five (entry_tuple e)) tuples
-  small_to_nothing count h nothing tagged policy l = small_by count h nothing tagged policy l (cases_lt l.place count)
+      → IsSmallFor most tuples tag
+  small_to_nothing count h nothing tagged =
+      record { none_large = λ e is policy l. small_by count h nothing tagged e is policy l (cases_lt l.place count) }
 
 some_same : (a b : Tuple) → Some a ≡ Some b → a ≡ b
 some_same a b e = cc
 
-module _ (most : ℕ) (e : Entry) (steps : List Step) (place : ℕ) (step : Step) (below : place < length steps) (read : step ≡ get_or steps place step) where
+module _ (most : ℕ) (first : Tag) (steps : List Step) (place : ℕ) (step : Step) (below : place < length steps) (read : step ≡ get_or steps place step) where
   stands : slice_get (tuples_of steps) place ≡ Some (step_tuple step)
   stands = slice_get-map step_tuple steps place
       ∙ ap (option_map step_tuple) (slice_get-get_or steps place step below ∙ ap Some (sym read))
@@ -123,35 +135,35 @@ module _ (most : ℕ) (e : Entry) (steps : List Step) (place : ℕ) (step : Step
   one_more : take (place + 1) (tuples_of steps) ≡ take place (tuples_of steps) ++ step_tuple step ∷ []
   one_more = ap (λ n. take n (tuples_of steps)) (add-one place) ∙ more_at (tuples_of steps) place (step_tuple step) stands
 
-  met_more_here : met_so_far most e (tuples_of steps) (place + 1) ≡ met (met_so_far most e (tuples_of steps) place ∷ tags_of (step_tuple step))
+  met_more_here : met_so_far most first (tuples_of steps) (place + 1) ≡ met (met_so_far most first (tuples_of steps) place ∷ tags_of (step_tuple step))
   met_more_here =
-      let before = five (entry_tuple e) ∷ take place (tuples_of steps) in
-      let tags : all_tags (five (entry_tuple e) ∷ take (place + 1) (tuples_of steps)) ≡ all_tags before ++ tags_of (step_tuple step) =
-      ap (λ ts. all_tags (five (entry_tuple e) ∷ ts)) one_more ∙ flat_map-append tags_of before (step_tuple step ∷ [])
-      ∙ ap (λ ts. all_tags before ++ ts) (append-nil (tags_of (step_tuple step))) in
-      ap met tags ∙ sym (met_more (met (all_tags before)) (all_tags before) (tags_of (step_tuple step)) refl)
+      let before = all_tags (take place (tuples_of steps)) in
+      let tags : all_tags (take (place + 1) (tuples_of steps)) ≡ before ++ tags_of (step_tuple step) =
+      ap all_tags one_more ∙ flat_map-append tags_of (take place (tuples_of steps)) (step_tuple step ∷ [])
+      ∙ ap (λ ts. before ++ ts) (append-nil (tags_of (step_tuple step))) in
+      ap (λ ts. met (first ∷ ts)) tags ∙ sym (met_more (met (first ∷ before)) (first ∷ before) (tags_of (step_tuple step)) refl)
 
   -- one step more
-  pub grown : (tag after : Tag) → tag ≡ met_so_far most e (tuples_of steps) place → AreSmallBefore most e (tuples_of steps) place
+  pub grown : (tag after : Tag) → tag ≡ met_so_far most first (tuples_of steps) place → AreSmallBefore most first (tuples_of steps) place
       → IsMetSmall most tag (step_tuple step) after
-      → (after ≡ met_so_far most e (tuples_of steps) (place + 1)) × AreSmallBefore most e (tuples_of steps) (place + 1)
+      → (after ≡ met_so_far most first (tuples_of steps) (place + 1)) × AreSmallBefore most first (tuples_of steps) (place + 1)
   grown tag after tag_is small h =
       let this : (tuple : Tuple) → slice_get (tuples_of steps) place ≡ Some tuple
-      → IsSmallWith most (met_so_far most e (tuples_of steps) place) tuple =
+      → IsSmallWith most (met_so_far most first (tuples_of steps) place) tuple =
       λ tuple there.
       let here = subst (λ t. IsSmallWith most t (step_tuple step)) tag_is h.small in
-      subst (IsSmallWith most (met_so_far most e (tuples_of steps) place)) (some_same (step_tuple step) tuple (sym stands ∙ there)) here in
+      subst (IsSmallWith most (met_so_far most first (tuples_of steps) place)) (some_same (step_tuple step) tuple (sym stands ∙ there)) here in
       let all : (k : ℕ) → k < place + 1 → (tuple : Tuple) → slice_get (tuples_of steps) k ≡ Some tuple
-      → IsSmallWith most (met_so_far most e (tuples_of steps) k) tuple =
+      → IsSmallWith most (met_so_far most first (tuples_of steps) k) tuple =
       below_more _ _ (λ k less tuple there. small k tuple less there) this in (
         h.met_is ∙ ap (λ t. met (t ∷ tags_of (step_tuple step))) tag_is ∙ sym met_more_here,
         λ k tuple less there. all k less tuple there,
       )
 
   -- one step more, which leaves nothing
-  pub grown_to_nothing : (tag after : Tag) → tag ≡ met_so_far most e (tuples_of steps) place
-      → AreSmallBefore most e (tuples_of steps) place → IsMetSmall most tag (step_tuple step) after → after ≡ set none
-      → tags_of (step_tuple step) ≢ [] → (policy : Policy) → ¬ TooLargeAt most policy (five (entry_tuple e)) (tuples_of steps)
+  pub grown_to_nothing : (tag after : Tag) → tag ≡ met_so_far most first (tuples_of steps) place
+      → AreSmallBefore most first (tuples_of steps) place → IsMetSmall most tag (step_tuple step) after → after ≡ set none
+      → tags_of (step_tuple step) ≢ [] → IsSmallFor most (tuples_of steps) first
   grown_to_nothing tag after tag_is small h nothing tagged =
       let more = grown tag after tag_is small h in
       let before = all_tags (take place (tuples_of steps)) in
@@ -161,7 +173,7 @@ module _ (most : ℕ) (e : Entry) (steps : List Step) (place : ℕ) (step : Step
       let empty : before ++ (last ++ []) ≡ [] =
       sym (flat_map-append tags_of (take place (tuples_of steps)) (step_tuple step ∷ [])) ∙ ap all_tags (sym one_more) ∙ none_left in
       tagged (first_empty last [] (last_empty before (last ++ []) empty)) in
-      small_to_nothing most e (tuples_of steps) (place + 1) more.1 (sym more.0 ∙ nothing) some
+      small_to_nothing most first (tuples_of steps) (place + 1) more.1 (sym more.0 ∙ nothing) some
 
 -- what the entry that allows the most isn't given no other is
 pub denied_all : (c : Case) (w : FiveTuple) (t : Tuple) (ts : List Tuple) → IsWidest t w

@@ -1,7 +1,7 @@
 -- Where chains stop, what fails, and the answers of one entry more.
 use Rattle.std.proofs.Common.{◌≡◌, ℕ, ◌-◌, ◌<◌, List, [], ◌∷◌, Some, map, length, get_or, take, ◌+◌, ◌++◌, slice_get, sym, ap, ◌∙◌, arith}
 use Rattle.std.specs.List.{AllZip, AllByRecursion}
-use Rattle.std.proofs.lemmas.List.{get_or-map, length-map, take_more}
+use Rattle.std.proofs.lemmas.List.{length-map, take_more}
 use Rattle.std.proofs.lemmas.Option.{slice_get_within, slice_get-get_or}
 use Rattle.std.proofs.lemmas.Slice.Zip.{AllZip-long, all_zipped_more}
 use Rattle.spki_cert.specs.declared.principal.Policy.{Policy}
@@ -14,52 +14,48 @@ use Rattle.spki_reduce.specs.Views.{entry_tuple, step_tuple}
 use Rattle.spki_reduce.specs.Chain.{tuples_of, StopsAt, TooLargeAt, Excludes}
 use Rattle.spki_reduce.proofs.Chains.{too_large}
 use Rattle.spki_case.specs.Case.{Case, Verified}
-use Rattle.spki_case.specs.Sequence.{Shown, certificates, keys_of}
+use Rattle.spki_case.specs.Sequence.{certificates, keys_of}
+use Rattle.spki_decision.specs.declared.certificates.ShownCert.{ShownCert}
 use Rattle.spki_decision.specs.declared.evidence.Stop.{Stop}
 use Rattle.spki_decision.specs.Standing.{AreShown, StandsAs, FailsAt}
 use Rattle.spki_decision.specs.Reduced.{IsFailure, StopsAtItem, HasLargeTags}
 use Rattle.spki_decision.specs.Supported.{SmallBefore}
+use Rattle.spki_decision.specs.Views.{shown_of}
+use Rattle.spki_decision.proofs.Chains.{stands_here}
 use Rattle.spki_decision.proofs.Entries.{small_yet}
 use Rattle.spki_decision.proofs.Evident.{none_shown}
 
--- the certificate at a place, where there is one
-certificate_at : (shown : List Shown) (numbers : List ℕ) (place : ℕ) → numbers ≡ map (λ s. s.item) shown
-    → place < length numbers → (s : Shown) × (slice_get shown place ≡ Some s) × (get_or numbers place 0 ≡ s.item)
-certificate_at [] numbers place e within = absurd (let none = ap length e in omega arith)
-certificate_at (s ∷ shown) numbers place e within =
-    let long = ap length e ∙ length-map (s ∷ shown) (λ t. t.item) in
-    let below : place < length (s ∷ shown) = omega arith in (
-      get_or (s ∷ shown) place s,
-      slice_get-get_or (s ∷ shown) place s below,
-      ap (λ xs. get_or xs place 0) e ∙ get_or-map (λ t. t.item) (s ∷ shown) place s 0 below,
-    )
+-- a chain that stops at a step stops at the item of the step's certificate
+module _ (c : Case) (e : Entry) (steps : List Step) (kept : List ShownCert) (same : map shown_of kept ≡ certificates c.items)
+    (as_many : length steps ≡ length (certificates c.items)) (step : ℕ) (cause : Cause)
+    (stops : StopsAt c.policy (five (entry_tuple e)) (tuples_of steps) step cause) where
+  pub stops_within : step - 1 < length kept
+  stops_within =
+      let below = slice_get_within (tuples_of steps) stops.place stops.tuple stops.stands in
+      let steps_long = length-map steps step_tuple in
+      let kept_long = length-map kept shown_of in
+      let long = ap length same in
+      let numbered = stops.numbered in
+      omega arith
 
--- a chain that stops at a step stops at the step's item
-pub stops_at_item : (c : Case) (tuples : List Tuple) (e : Entry) (numbers : List ℕ) (step : ℕ) (cause : Cause)
-    → numbers ≡ map (λ s. s.item) (certificates c.items) → length tuples ≡ length numbers
-    → StopsAt c.policy (five (entry_tuple e)) tuples step cause → Excludes c.policy (five (entry_tuple e)) tuples step cause
-    → StopsAtItem c tuples e (get_or numbers (step - 1) 0) cause
-stops_at_item c tuples e numbers step cause numbered as_many stops excludes =
-    let below = slice_get_within tuples stops.place stops.tuple stops.stands in
-    let place_is : step - 1 ≡ stops.place = (let e = stops.numbered in omega arith) in
-    let here = certificate_at (certificates c.items) numbers stops.place numbered (omega arith) in
-    record {
-      step = step;
-      stops = stops;
-      excludes = excludes;
-      certificate = here.0;
-      there = here.1;
-      item_is = ap (λ k. get_or numbers k 0) place_is ∙ here.2;
-    }
+  pub stops_at_item : (one : ShownCert) → one ≡ get_or kept (step - 1) one → Excludes c.policy (five (entry_tuple e)) (tuples_of steps) step cause
+      → StopsAtItem c (tuples_of steps) e (get_or kept (step - 1) one).item cause
+  stops_at_item one here excludes =
+      let place_is : stops.place ≡ step - 1 = (let numbered = stops.numbered in omega arith) in
+      record {
+        step = step;
+        stops = stops;
+        excludes = excludes;
+        certificate = shown_of one;
+        there = ap (slice_get (certificates c.items)) place_is ∙ stands_here c.items kept same (step - 1) stops_within one here;
+        item_is = ap (λ s. s.item) (sym here);
+      }
 
 -- where every certificate stands there are as many steps as certificates
-pub as_many : (policy : Policy) (verified : Verified) (items : List SeqItem) (numbers : List ℕ) (steps : List Step)
-    → numbers ≡ map (λ s. s.item) (certificates items) → AreShown policy verified items (tuples_of steps)
-    → length steps ≡ length numbers
-as_many policy verified items numbers steps numbered shown =
+pub as_many : (policy : Policy) (verified : Verified) (items : List SeqItem) (steps : List Step)
+    → AreShown policy verified items (tuples_of steps) → length steps ≡ length (certificates items)
+as_many policy verified items steps shown =
     let long = AllZip-long (StandsAs policy (keys_of items) verified) (certificates items) (tuples_of steps) shown in
-    let same = ap length numbered in
-    let shorter = length-map (certificates items) (λ s. s.item) in
     let steps_long = length-map steps step_tuple in
     omega arith
 

@@ -2,11 +2,13 @@
 use Rattle.std.specs.Prelude.{◌≡◌, ℕ, ◌≤◌, ◌⊎◌, true, false, List, [], ◌∷◌, length, None, IfSome}
 use Rattle.spki_cert.specs.declared.entry.Entry.{Entry}
 use Rattle.spki_cert.specs.declared.principal.Principal.TheVariants as principal
+use Rattle.spki_cert.specs.declared.principal.Policy.{Policy}
 use Rattle.spki_cert.specs.Time.{within}
 use Rattle.spki_tag.specs.Tag.{Tag, contains, star}
 use Rattle.spki_reduce.specs.Tuples.{own, key, FiveTuple, Tuple, five, four, tags_of}
 use Rattle.spki_reduce.specs.Restrictions.{met, nodes_product}
-use Rattle.spki_reduce.specs.Chain.{all_tags}
+use Rattle.spki_reduce.specs.Chain.{all_tags, TooLargeAt}
+use Rattle.spki_reduce.specs.Views.{entry_tuple}
 use Rattle.spki_case.specs.Case.{Case}
 use Rattle.spki_decision.specs.declared.shared_tests.SharedTests.{SharedTests}
 use Rattle.spki_decision.specs.Supported.{Supported}
@@ -17,10 +19,14 @@ pub record AreShared (c : Case) (tuples : List Tuple) (shared : SharedTests) : T
   pub denied : shared.denied ≡ true → (e : Entry) → length e.subject.names ≤ 1 → ¬ Supported c tuples e
   pub counted : IfSome shared.nodes (λ n. (n ≡ nodes_product (all_tags tuples)) × (n ≤ 1000000))
 
--- An entry is denied: with all others, or its window hasn't the moment, or its tag hasn't the request.
+-- An entry is denied: with all others, or the moment is not within its window, or its tag does not contain the request.
 abbrev pub IsDenied : Case → SharedTests → Entry → Type 0
 IsDenied c shared e = ((shared.denied ≡ true) × (length e.subject.names ≤ 1)) ⊎ (within c.moment e.window ≡ false)
     ⊎ (contains e.tag c.request ≡ false)
+
+-- For no entry with this tag, and under no policy, the tag of one of the tuples is too large.
+pub record IsSmallFor (most : ℕ) (tuples : List Tuple) (tag : Tag) : Type 0 where
+  pub none_large : (e : Entry) → e.tag ≡ tag → (policy : Policy) → ¬ TooLargeAt most policy (five (entry_tuple e)) tuples
 
 -- The product of the nodes of a tag and of those of an authorization is at most a limit. A definition has no tag.
 abbrev pub IsSmallWith : ℕ → Tag → Tuple → Type 0

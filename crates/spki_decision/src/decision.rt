@@ -8,7 +8,7 @@ ghost use Rattle.spki_reduce.specs.Chain.{tuples_of, TooLargeAt};
 ghost use Rattle.spki_reduce.specs.Views.{entry_tuple};
 ghost use Rattle.spki_decision.specs.Supported.{Supported, Names, HasLarge, SmallUpTo};
 ghost use Rattle.spki_decision.specs.Granted.{IsTooLarge};
-ghost use Rattle.spki_decision.specs.Shared.{AreShared};
+ghost use Rattle.spki_decision.specs.Shared.{AreShared, IsSmallFor};
 ghost use Rattle.spki_decision.specs.Decision.{IsDecision, IsUnrefused};
 
 use crate::entry_chain::fold_entry;
@@ -18,7 +18,8 @@ use crate::shared_tests::{SharedTests, is_denied, is_small, shared_tests};
 use spki_case::{Case, Verifier};
 use spki_cert::Entry;
 use spki_reduce::{Fold, Step};
-use std::alloc::Global;
+use spki_tag::Tag;
+use std::alloc::{AllocError, Global};
 
 /// The answer of a case's access list.
 #[derive(Clone, Copy, Debug, PartialEq, Eq)]
@@ -46,7 +47,7 @@ pub fn decide<V: Verifier>(alloc: Global, case: &Case, verifier: &V) -> Result<D
 {
     match judge(alloc, &case.sequence, case.policy, verifier)? {
         Evidence::Fails { .. } => Ok(Decision::No),
-        Evidence::Stands { steps, .. } => first_granted(alloc, &case.acl, case, &steps),
+        Evidence::Stands(steps) => first_granted(alloc, &case.acl, case, &steps),
     }
 }
 
@@ -67,36 +68,59 @@ pub fn first_granted<'a>(
     ensures small { IfOk result (SmallUpTo (with_entries (model case.now) acl.now) (tuples_of steps.now)) }
 {
     let shared = shared_tests(alloc, acl.len(), case, steps)?;
+    let mut small = None;
     for (place, entry) in acl.iter().enumerate() {
-        if grants(alloc, entry, steps, case, &shared)? {
+        if is_passed_over(alloc, entry, steps, case, &shared, small)? {
+            small = Some(&entry.tag);
+        } else if grants(alloc, entry, steps, case)? {
             return Ok(Decision::Yes(place + 1));
         }
     }
     Ok(Decision::No)
 }
 
-/// Whether an entry and the steps behind it grant the request. `shared` are the shared tests of the steps, if there are any.
-fn grants<'a>(
+/// Whether it is certain that an entry is denied, and that the tag of no step is too large for it. `shared` are the shared tests of
+/// the steps, if there are any, and `small` is a tag for which none is too large.
+///
+/// # Errors
+///
+/// Where memory was refused.
+fn is_passed_over<'a>(
     alloc: Global,
     entry: &Entry<'a>,
     steps: &[Step<'a>],
     case: &Case<'a>,
     shared: &Option<SharedTests>,
+    small: Option<&Tag>,
+) -> Result<bool, AllocError>
+    requires shared { IfSome shared.now (AreShared (model case.now) (tuples_of steps.now)) }
+    requires found { IfSome small (λ t. IsSmallFor case.now.most_nodes (tuples_of steps.now) t.now) }
+    ensures denied { IfOk result (λ yes. IsTrue yes → ¬ Supported (model case.now) (tuples_of steps.now) entry.now) }
+    ensures small { IfOk result (λ yes. IsTrue yes → IsSmallFor case.now.most_nodes (tuples_of steps.now) entry.now.tag) }
+{
+    if let Some(shared) = shared {
+        if is_denied(entry, case, shared)
+            && is_small(alloc, &entry.tag, steps, shared, small, case.most_nodes)?
+        {
+            return Ok(true);
+        }
+    }
+    Ok(false)
+}
+
+/// Whether an entry and the steps behind it grant the request.
+fn grants<'a>(
+    alloc: Global,
+    entry: &Entry<'a>,
+    steps: &[Step<'a>],
+    case: &Case<'a>,
 ) -> Result<bool, GuardFault>
-    requires { IfSome shared.now (AreShared (model case.now) (tuples_of steps.now)) }
     ensures exact { IfOk result (λ yes. IsTrue yes ↔ Supported (model case.now) (tuples_of steps.now) entry.now) }
     ensures too_large { IsErrOf result GuardFault.TooLarge →
         TooLargeAt case.now.most_nodes case.now.policy (five (entry_tuple entry.now)) (tuples_of steps.now) }
     ensures small { IfOk result (λ yes. ¬ TooLargeAt case.now.most_nodes case.now.policy (five (entry_tuple entry.now)) (tuples_of steps.now)) }
 {
     case.request.known();
-    if let Some(shared) = shared {
-        if is_denied(entry, case, shared)
-            && is_small(alloc, entry, steps, shared, case.most_nodes)?
-        {
-            return Ok(false);
-        }
-    }
     match fold_entry(alloc, entry, steps, case.policy, case.most_nodes)? {
         Fold::Stopped { .. } => Ok(false),
         Fold::Done(five) => {

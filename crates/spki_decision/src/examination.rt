@@ -52,13 +52,11 @@ pub fn examine<'a>(
 {
     let mut keys = ShownKeys::new(keys_of(alloc, sequence)?);
     let certificates = certificates_of(alloc, sequence)?;
-    let mut items = Vec::new(alloc);
     let mut steps = Vec::new(alloc);
     let mut signed = Vec::new(alloc);
     for shown in &certificates {
         match test(alloc, shown, &mut keys, policy)? {
             Tested::Passes(one) => {
-                items.push(shown.item)?;
                 steps.push(shown.certificate.step(&one.key)?)?;
                 signed.push(one)?;
             }
@@ -69,7 +67,7 @@ pub fn examine<'a>(
             }
         }
     }
-    let evidence = Evidence::Stands { items, steps };
+    let evidence = Evidence::Stands(steps);
     Ok(Examined { signed, evidence })
 }
 

@@ -3,7 +3,7 @@
 ghost use Rattle.std.specs.Prelude.{◌≡◌, List, map, length, IfOk, OnOk, IsErrOf};
 ghost use Rattle.std.specs.List.{AllZip};
 ghost use Rattle.spki_case.specs.View.{model};
-ghost use Rattle.spki_decision.specs.Views.{with_entries};
+ghost use Rattle.spki_decision.specs.Views.{shown_of, with_entries};
 ghost use Rattle.spki_case.specs.Sequence.{certificates};
 ghost use Rattle.spki_cert.specs.declared.entry.Entry.{Entry};
 ghost use Rattle.spki_reduce.specs.Tuples.{five};
@@ -13,6 +13,7 @@ ghost use Rattle.spki_decision.specs.Supported.{AllSmall};
 ghost use Rattle.spki_decision.specs.Reduced.{HasLargeTags, SomeTooLarge};
 ghost use Rattle.spki_decision.specs.Explained.{IsReason, IsExplanation, reason_of};
 
+use crate::certificates::{ShownCert, certificates_of};
 use crate::evidence::{Evidence, Stop, judge};
 use crate::fault::GuardFault;
 use crate::reduction::{EntryFold, entry_fold};
@@ -77,15 +78,15 @@ pub fn explain<V: Verifier>(
     case.request.known();
     match judge(alloc, &case.sequence, case.policy, verifier)? {
         Evidence::Fails { item, stop } => Ok(Explanation::Evidence { item, stop }),
-        Evidence::Stands { items, steps } => {
-            let reasons = entry_reasons(alloc, &case.acl, case, &items, &steps)?;
+        Evidence::Stands(steps) => {
+            let reasons = entry_reasons(alloc, &case.acl, case, &steps)?;
             Ok(Explanation::Entries(reasons))
         }
     }
 }
 
-/// Returns the reason of each entry of an access list with the steps behind it. The items are those of the steps. The case's
-/// own list is not examined.
+/// Returns the reason of each entry of an access list with the steps of the case's certificates behind it. The case's own list
+/// is not examined.
 ///
 /// # Errors
 ///
@@ -94,40 +95,39 @@ pub fn entry_reasons<'a>(
     alloc: Global,
     acl: &[Entry<'a>],
     case: &Case<'a>,
-    items: &[usize],
     steps: &[Step<'a>],
 ) -> Result<Vec<Reason>, GuardFault>
-    requires numbered { items.now ≡ map (λ shown. shown.item) (certificates case.now.sequence.items) }
-    requires as_many { length steps.now ≡ length items.now }
+    requires { length steps.now ≡ length (certificates case.now.sequence.items) }
     ensures each { IfOk result (λ reasons.
         AllZip (IsReason (with_entries (model case.now) acl.now) (tuples_of steps.now)) acl.now reasons.items) }
     ensures too_large { IsErrOf result GuardFault.TooLarge → HasLargeTags (with_entries (model case.now) acl.now) (tuples_of steps.now) }
     ensures small { OnOk result (AllSmall (with_entries (model case.now) acl.now) (tuples_of steps.now)) }
 {
+    let shown = certificates_of(alloc, &case.sequence)?;
     let mut reasons = Vec::new(alloc);
     for entry in acl {
-        reasons.push(entry_reason(alloc, case, entry, items, steps)?)?;
+        reasons.push(entry_reason(alloc, case, entry, &shown, steps)?)?;
     }
     Ok(reasons)
 }
 
-/// Returns the reason of an entry with the steps behind it. The items are those of the steps.
+/// Returns the reason of an entry with the steps of `shown`, the case's certificates, behind it.
 fn entry_reason<'a>(
     alloc: Global,
     case: &Case<'a>,
     entry: &Entry<'a>,
-    items: &[usize],
+    shown: &[ShownCert<'_, 'a>],
     steps: &[Step<'a>],
 ) -> Result<Reason, GuardFault>
-    requires numbered { items.now ≡ map (λ shown. shown.item) (certificates case.now.sequence.items) }
-    requires as_many { length steps.now ≡ length items.now }
+    requires whole { map shown_of shown.now ≡ certificates case.now.sequence.items }
+    requires as_many { length steps.now ≡ length (certificates case.now.sequence.items) }
     ensures exact { (es : List Entry) →
         IfOk result (IsReason (with_entries (model case.now) es) (tuples_of steps.now) entry.now) }
     ensures too_large { IsErrOf result GuardFault.TooLarge →
         TooLargeAt case.now.most_nodes case.now.policy (five (entry_tuple entry.now)) (tuples_of steps.now) }
     ensures small { IfOk result (λ reason. ¬ TooLargeAt case.now.most_nodes case.now.policy (five (entry_tuple entry.now)) (tuples_of steps.now)) }
 {
-    match entry_fold(alloc, case, entry, items, steps)? {
+    match entry_fold(alloc, case, entry, shown, steps)? {
         EntryFold::Stopped { item, cause } => Ok(Reason::Stopped { item, cause }),
         EntryFold::Done(five) => {
             let lack = five.first_lack(&case.key, &case.request, &case.moment, case.policy);

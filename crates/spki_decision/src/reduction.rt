@@ -3,7 +3,7 @@
 ghost use Rattle.std.specs.Prelude.{◌≡◌, List, map, length, IfOk, OnOk, IsErrOf};
 ghost use Rattle.std.specs.List.{AllZip, AllByRecursion};
 ghost use Rattle.spki_case.specs.View.{model};
-ghost use Rattle.spki_decision.specs.Views.{with_entries};
+ghost use Rattle.spki_decision.specs.Views.{shown_of, with_entries};
 ghost use Rattle.spki_case.specs.Sequence.{certificates};
 ghost use Rattle.spki_cert.specs.declared.entry.Entry.{Entry};
 ghost use Rattle.spki_reduce.specs.Tuples.{five};
@@ -12,6 +12,7 @@ ghost use Rattle.spki_reduce.specs.Views.{entry_tuple};
 ghost use Rattle.spki_decision.specs.Supported.{AllSmall};
 ghost use Rattle.spki_decision.specs.Reduced.{IsEntryFold, IsOwn, IsReduction, IsDated, EndsAtDate, AreDated, EndAtDates, HasLargeTags, SomeTooLarge};
 
+use crate::certificates::{ShownCert, certificates_of};
 use crate::entry_chain::fold_entry;
 use crate::evidence::{Evidence, Stop, judge};
 use crate::fault::GuardFault;
@@ -70,15 +71,15 @@ pub fn reduce_case<'a, V: Verifier>(
 {
     match judge(alloc, &case.sequence, case.policy, verifier)? {
         Evidence::Fails { item, stop } => Ok(Reduction::Evidence { item, stop }),
-        Evidence::Stands { items, steps } => {
-            let folds = entry_folds(alloc, &case.acl, case, &items, &steps)?;
+        Evidence::Stands(steps) => {
+            let folds = entry_folds(alloc, &case.acl, case, &steps)?;
             Ok(Reduction::Entries(folds))
         }
     }
 }
 
-/// Returns what each entry of an access list becomes with the steps behind it. The items are those of the steps. The case's
-/// own list is not examined.
+/// Returns what each entry of an access list becomes with the steps of the case's certificates behind it. The case's own list
+/// is not examined.
 ///
 /// # Errors
 ///
@@ -87,11 +88,9 @@ pub fn entry_folds<'a>(
     alloc: Global,
     acl: &[Entry<'a>],
     case: &Case<'a>,
-    items: &[usize],
     steps: &[Step<'a>],
 ) -> Result<Vec<EntryFold<'a>>, GuardFault>
-    requires numbered { items.now ≡ map (λ shown. shown.item) (certificates case.now.sequence.items) }
-    requires as_many { length steps.now ≡ length items.now }
+    requires { length steps.now ≡ length (certificates case.now.sequence.items) }
     ensures each { IfOk result (λ folds.
         AllZip (IsEntryFold (with_entries (model case.now) acl.now) (tuples_of steps.now)) acl.now folds.items) }
     ensures dated { IfOk result (λ folds. AllByRecursion IsDated folds.items) }
@@ -99,23 +98,24 @@ pub fn entry_folds<'a>(
     ensures too_large { IsErrOf result GuardFault.TooLarge → HasLargeTags (with_entries (model case.now) acl.now) (tuples_of steps.now) }
     ensures small { OnOk result (AllSmall (with_entries (model case.now) acl.now) (tuples_of steps.now)) }
 {
+    let shown = certificates_of(alloc, &case.sequence)?;
     let mut folds = Vec::new(alloc);
     for entry in acl {
-        folds.push(entry_fold(alloc, case, entry, items, steps)?)?;
+        folds.push(entry_fold(alloc, case, entry, &shown, steps)?)?;
     }
     Ok(folds)
 }
 
-/// Returns what an entry becomes with the steps behind it. The items are those of the steps.
+/// Returns what an entry becomes with the steps of `shown`, the case's certificates, behind it.
 pub(crate) fn entry_fold<'a>(
     alloc: Global,
     case: &Case<'a>,
     entry: &Entry<'a>,
-    items: &[usize],
+    shown: &[ShownCert<'_, 'a>],
     steps: &[Step<'a>],
 ) -> Result<EntryFold<'a>, GuardFault>
-    requires numbered { items.now ≡ map (λ shown. shown.item) (certificates case.now.sequence.items) }
-    requires as_many { length steps.now ≡ length items.now }
+    requires whole { map shown_of shown.now ≡ certificates case.now.sequence.items }
+    requires as_many { length steps.now ≡ length (certificates case.now.sequence.items) }
     ensures exact { (es : List Entry) →
         IfOk result (IsEntryFold (with_entries (model case.now) es) (tuples_of steps.now) entry.now) }
     ensures issuer { IfOk result IsOwn }
@@ -131,7 +131,7 @@ pub(crate) fn entry_fold<'a>(
             Ok(EntryFold::Done(five))
         }
         Fold::Stopped { step, cause } => Ok(EntryFold::Stopped {
-            item: items[step - 1],
+            item: shown[step - 1].item,
             cause,
         }),
     }

@@ -3,13 +3,12 @@
 ghost use Rattle.std.specs.Prelude.{◌≡◌, ◌≢◌, ◌≤◌, List, [], ◌∷◌, length, IsTrue, IfOk, IfSome};
 ghost use Rattle.spki_cert.specs.declared.entry.Entry.{Entry};
 ghost use Rattle.spki_case.specs.View.{model};
-ghost use Rattle.spki_cert.specs.declared.principal.Policy.{Policy};
-ghost use Rattle.spki_reduce.specs.Tuples.{five, tags_of};
+ghost use Rattle.spki_reduce.specs.Tuples.{tags_of};
 ghost use Rattle.spki_reduce.specs.Restrictions.{nodes_product};
-ghost use Rattle.spki_reduce.specs.Chain.{tuples_of, all_tags, TooLargeAt};
-ghost use Rattle.spki_reduce.specs.Views.{entry_tuple, five_tuple, step_tuple};
+ghost use Rattle.spki_reduce.specs.Chain.{tuples_of, all_tags};
+ghost use Rattle.spki_reduce.specs.Views.{five_tuple, step_tuple};
 ghost use Rattle.spki_decision.specs.Supported.{Supported};
-ghost use Rattle.spki_decision.specs.Shared.{AreShared, IsDenied, IsMetSmall, IsWidest, unlimited};
+ghost use Rattle.spki_decision.specs.Shared.{AreShared, IsDenied, IsSmallFor, IsMetSmall, IsWidest, unlimited};
 
 use spki_case::Case;
 use spki_cert::{Entry, Key, Names, Octets, Principal, Subject, Window};
@@ -64,53 +63,59 @@ pub(crate) fn is_denied(entry: &Entry, case: &Case, shared: &SharedTests) -> boo
     !entry.window.holds(&case.moment) || !entry.tag.holds(&case.request)
 }
 
-/// Whether it is certain that the tag of no step is too large for what the entry's tag and those before it leave: the product of
-/// all nodes is at most this limit, or each product on the way is.
+/// Whether it is certain that the tag of no step is too large for what an entry's tag and those before it leave: the product of
+/// all nodes is at most this limit, or the tag is the same as one of which it is certain, or each product on the way is at most
+/// the limit.
 ///
 /// # Errors
 ///
 /// Where memory was refused.
 pub(crate) fn is_small<'a>(
     alloc: Global,
-    entry: &Entry<'a>,
+    tag: &Tag,
     steps: &[Step<'a>],
     shared: &SharedTests,
+    small: Option<&Tag>,
     most: usize,
 ) -> Result<bool, AllocError>
     requires limit { most ≤ 1000000 }
     requires counted { IfSome shared.now.nodes
         (λ n. (n ≡ nodes_product (all_tags (tuples_of steps.now))) × (n ≤ 1000000)) }
-    ensures { IfOk result (λ yes. IsTrue yes → (policy : Policy)
-        → ¬ TooLargeAt most policy (five (entry_tuple entry.now)) (tuples_of steps.now)) }
+    requires found { IfSome small (λ t. IsSmallFor most (tuples_of steps.now) t.now) }
+    ensures { IfOk result (λ yes. IsTrue yes → IsSmallFor most (tuples_of steps.now) tag.now) }
 {
     if let Some(nodes) = shared.nodes {
-        if entry.tag.nodes() * nodes <= most {
+        if tag.nodes() * nodes <= most {
             return Ok(true);
         }
     }
-    stays_small(alloc, entry, steps, most)
+    if let Some(small) = small {
+        if tag.same(small) {
+            return Ok(true);
+        }
+    }
+    stays_small(alloc, tag, steps, most)
 }
 
-/// Whether the product of the nodes of each step's tag and of what the entry's tag and those before it leave is at most this limit,
-/// up to a step whose tag leaves nothing.
+/// Whether the product of the nodes of each step's tag and of what a tag and those before it leave is at most this limit, up to a
+/// step whose tag leaves nothing.
 fn stays_small<'a>(
     alloc: Global,
-    entry: &Entry<'a>,
+    tag: &Tag,
     steps: &[Step<'a>],
     most: usize,
 ) -> Result<bool, AllocError>
     requires { most ≤ 1000000 }
-    ensures { IfOk result (λ yes. IsTrue yes → (policy : Policy)
-        → ¬ TooLargeAt most policy (five (entry_tuple entry.now)) (tuples_of steps.now)) }
+    ensures { IfOk result (λ yes. IsTrue yes → IsSmallFor most (tuples_of steps.now) tag.now) }
 {
-    let mut tag = entry.tag.clone()?;
+    let mut left = tag.clone()?;
     for step in steps {
-        match met_small(alloc, tag, step, most)? {
+        match met_small(alloc, left, step, most)? {
             Some(met) => {
                 if met.is_nothing() && has_tag(step) {
                     return Ok(true);
                 }
-                tag = met;
+                left = met;
             }
             None => return Ok(false),
         }

@@ -139,7 +139,7 @@ fn add_key<'a>(
     ensures { OnOk result ((digest : List ℕ) → at_digest first.new digest
         ≡ option_or (at_digest first.old digest) (find (λ octets. is_digest alg digest octets) (key.now ∷ []))) }
 {
-    let digest = digest_of(alloc, alg, key)?;
+    let digest = digest_by(alloc, alg, key)?;
     if !first.contains_key(digest.as_slice()) {
         first.insert(digest, key.share())?;
     }
@@ -147,7 +147,7 @@ fn add_key<'a>(
 }
 
 /// The digest of a key.
-fn digest_of(alloc: Global, alg: HashAlg, key: &Key) -> Result<Vec<u8>, AllocError>
+fn digest_by(alloc: Global, alg: HashAlg, key: &Key) -> Result<Vec<u8>, AllocError>
     ensures { IfOk result (λ digest. digest.items ≡ digest_of alg key.now) }
 {
     match alg {

@@ -21,7 +21,7 @@ loop-field-preserved c =
     i.2 new c.in_ok-said.ensures.found c.in_ok-said.ensures.says in (
       i.0 ++ c.in-Some.field ∷ [],
       moved c.args.members i.0 c.in-Some.others c.in-Some.field e,
-      subst (λ (k : Known). AreRead c.args.place (i.0 ++ c.in-Some.field ∷ []) c.push.new.self.items k) (sym c.gathered-known.ensures)
+      subst (λ (k : Known). AreRead c.args.place (i.0 ++ c.in-Some.field ∷ []) c.push.new.self.items k) (sym c.add.ensures)
           (subst (λ (hs : List (List ℕ)). AreRead c.args.place (i.0 ++ c.in-Some.field ∷ []) hs (gather c.loop-field.known c.in_ok-said.said))
           (sym (c.in_ok-push.ensures.items ∙ ap (λ (h : List ℕ). c.loop-field.heads.items ++ h ∷ []) c.new.ensures)) more),
       left-next (fault_in c.args.place) c.args.members i.0 c.loop-field.rest c.in-Some.others c.in-Some.field i.3 c.in-Some.ensures

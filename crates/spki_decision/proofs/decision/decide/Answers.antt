@@ -33,13 +33,13 @@ returns-in-Fails-clause-small g c tuples shown =
     rw c.deref.ensures.value at evidence in
     absurd (none_shown c.args.case.now.policy verified c.args.case.now.sequence.items c.in-Fails.item c.in-Fails.stop tuples fails shown)
 
-pub returns-clause-small : goal.returns-clause-small
-returns-clause-small g c =
+pub returns-in-Stands-clause-small : goal.returns-in-Stands-clause-small
+returns-in-Stands-clause-small g c =
     let verified = g.V.Verifier.accepted c.args.verifier.now in
-    let evidence : IsEvidence c.args.case.now.policy verified c.deref.result.now (Stands c.in-Stands.items c.in-Stands.steps) =
+    let evidence : IsEvidence c.args.case.now.policy verified c.deref.result.now (Stands c.in-Stands.steps) =
     rw c.in-Stands.is at c.in_ok-judge.ensures in
     let shown : AreShown c.args.case.now.policy verified c.args.case.now.sequence.items (tuples_of c.in-Stands.steps.items) =
-    rw c.deref.ensures.value at evidence.1 in
+    rw c.deref.ensures.value at evidence in
     let small = rw (c.deref-in-Stands-2.ensures.value, c.deref-in-Stands.ensures.value) at c.first_granted.ensures.small in
     kept (model c.args.case.now) verified (tuples_of c.in-Stands.steps.items) shown c.first_granted.result small
 
@@ -52,23 +52,23 @@ returns-in-Fails-clause-exact g c n granted =
     rw c.deref.ensures.value at evidence in
     none_shown c.args.case.now.policy verified c.args.case.now.sequence.items c.in-Fails.item c.in-Fails.stop granted.tuples fails granted.shown
 
-pub returns-clause-exact : goal.returns-clause-exact
-returns-clause-exact g c =
+pub returns-in-Stands-clause-exact : goal.returns-in-Stands-clause-exact
+returns-in-Stands-clause-exact g c =
     let verified = g.V.Verifier.accepted c.args.verifier.now in
-    let evidence : IsEvidence c.args.case.now.policy verified c.deref.result.now (Stands c.in-Stands.items c.in-Stands.steps) =
+    let evidence : IsEvidence c.args.case.now.policy verified c.deref.result.now (Stands c.in-Stands.steps) =
     rw c.in-Stands.is at c.in_ok-judge.ensures in
     let shown : AreShown c.args.case.now.policy verified c.args.case.now.sequence.items (tuples_of c.in-Stands.steps.items) =
-    rw c.deref.ensures.value at evidence.1 in
+    rw c.deref.ensures.value at evidence in
     let named = rw (c.deref-in-Stands-2.ensures.value, c.deref-in-Stands.ensures.value) at c.first_granted.ensures.named in
     lifted (model c.args.case.now) verified (tuples_of c.in-Stands.steps.items) shown c.first_granted.result named
 
-pub returns-clause-too_large : goal.returns-clause-too_large
-returns-clause-too_large g c h =
+pub returns-in-Stands-clause-too_large : goal.returns-in-Stands-clause-too_large
+returns-in-Stands-clause-too_large g c h =
     let verified = g.V.Verifier.accepted c.args.verifier.now in
-    let evidence : IsEvidence c.args.case.now.policy verified c.deref.result.now (Stands c.in-Stands.items c.in-Stands.steps) =
+    let evidence : IsEvidence c.args.case.now.policy verified c.deref.result.now (Stands c.in-Stands.steps) =
     rw c.in-Stands.is at c.in_ok-judge.ensures in
     let shown : AreShown c.args.case.now.policy verified c.args.case.now.sequence.items (tuples_of c.in-Stands.steps.items) =
-    rw c.deref.ensures.value at evidence.1 in
+    rw c.deref.ensures.value at evidence in
     let large : HasLarge (model c.args.case.now) (tuples_of c.in-Stands.steps.items) =
     rw (c.deref-in-Stands-2.ensures.value, c.deref-in-Stands.ensures.value) at (c.first_granted.ensures.too_large h) in
     too_large (model c.args.case.now) verified (tuples_of c.in-Stands.steps.items) shown large

@@ -2,9 +2,6 @@ use Rattle.std.proofs.Common.{◌≡◌, ◌∷◌, false, true}
 use Rattle.spki_reduce.specs.Chain.{tuples_of, SupportsNothing}
 use Rattle.spki_reduce.specs.Tuples.{five}
 use Rattle.spki_reduce.specs.Views.{entry_tuple}
-use Rattle.spki_case.specs.View.{model}
-use Rattle.spki_decision.specs.Shared.{AreShared}
-use Rattle.spki_decision.proofs.PassedOver.{denied}
 use Rattle.spki_decision.proofs.decision.grants.Goals as goal
 
 -- a chain that stops supports nothing, in no bracketing
@@ -15,13 +12,4 @@ returns-in-Stopped-clause-exact c =
     rw c.in-Stopped.is at c.in_ok-fold_entry.ensures.unsupported in (
       λ h. absurd (let clash : false ≡ true = h in cc),
       λ s. absurd (nothing s.tree c.args.case.now.key c.args.case.now.request c.args.case.now.moment s.leaves_are c.known.ensures s.supports),
-    )
-
--- an entry that is denied supports nothing
-pub returns-then-branch-clause-exact : goal.returns-then-branch-clause-exact
-returns-then-branch-clause-exact c =
-    let given : AreShared (model c.args.case.now) (tuples_of c.args.steps.now) c.in-Some.shared = rw c.in-Some.is at c.requires in (
-      λ h. absurd (let clash : false ≡ true = h in cc),
-      λ s. absurd (denied (model c.args.case.now) (tuples_of c.args.steps.now) c.in-Some.shared given c.args.entry.now
-          (c.is_denied.ensures c.if-is_denied.true) s),
     )

@@ -7,7 +7,7 @@ use Rattle.spki_decision.specs.Asked.{asked_in, asked_of, every}
 use Rattle.spki_decision.specs.Steps.{IsTested, PassesAs}
 use Rattle.spki_decision.specs.Views.{shown_of, signed_of}
 use Rattle.spki_decision.proofs.AskedOf.{stands_asked, not_asked, asked_more, asked_whole}
-use Rattle.spki_decision.proofs.Chains.{signed_here, failing_here, numbered, standing_more, rest_here}
+use Rattle.spki_decision.proofs.Chains.{signed_here, failing_here, standing_more, rest_here}
 use Rattle.spki_decision.proofs.examination.examine.Goals as goal
 
 pub test-requires : goal.test-requires
@@ -57,8 +57,6 @@ loop-shown-preserved c =
     let i = c.loop-shown.shown-index in
     let tested : PassesAs policy c.loop-shown.keys (shown_of one) signed = rw c.in-Passes.is at c.in_ok-one.ensures.tested in
     let passes : PassesAs policy (keys_of items) (shown_of one) signed = rw keys at tested in
-    let more = numbered items kept same i c.loop-shown-test.true one c.shown-item.is policy every c.loop-shown.items.items
-    c.loop-shown.invariant.numbered in
     let grown = standing_more items kept same i c.loop-shown-test.true one c.shown-item.is policy every c.loop-shown.steps.items
     c.in_ok-step-in-Passes.field-0 signed.key c.loop-shown.invariant.standing passes.stands c.in_ok-step-in-Passes.ensures in
     let rest = rest_here items kept same i c.loop-shown-test.true one c.shown-item.is in
@@ -67,8 +65,7 @@ loop-shown-preserved c =
     let added = asked_more policy (keys_of items) (map signed_of c.loop-shown.signed.items) (map shown_of kept) i (shown_of one) rest
     c.loop-shown.invariant.asked (signed_of signed) asked in
     record {
-      numbered = c.in_ok-push-in-Passes.ensures.items ∙ more;
-      standing = rw c.in_ok-push-in-Passes-2.ensures.items grown;
+      standing = rw c.in_ok-push-in-Passes.ensures.items grown;
       keys = c.in_ok-one.ensures.kept ∙ keys;
-      asked = rw (c.in_ok-push-in-Passes-3.ensures.items, map-append) added;
+      asked = rw (c.in_ok-push-in-Passes-2.ensures.items, map-append) added;
     }

@@ -9,7 +9,6 @@ use Rattle.spki_decision.proofs.examination.examine.Given as goal
 
 abbrev pub invariant-loop-shown : goal.invariant-loop-shown
 invariant-loop-shown l = record {
-  numbered : l.items.items ≡ map (λ s. s.item) (take l.shown-index (map shown_of l.shown-items));
   standing : AllZip (StandsAs l.policy (keys_of l.sequence) every) (take l.shown-index (map shown_of l.shown-items))
       (map step_tuple l.steps.items);
   keys : l.keys ≡ keys_of l.sequence;

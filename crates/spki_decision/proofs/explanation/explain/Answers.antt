@@ -1,4 +1,4 @@
-use Rattle.std.proofs.Common.{◌∙◌, ap, length, sym}
+use Rattle.std.proofs.Common.{◌∙◌, ap, length}
 use Rattle.spki_reduce.specs.Chain.{tuples_of}
 use Rattle.spki_case.specs.View.{model}
 use Rattle.spki_decision.specs.declared.evidence.Evidence.TheVariants.{Stands, Fails}
@@ -8,15 +8,14 @@ use Rattle.spki_decision.proofs.Reasons.{are_reasons}
 use Rattle.spki_decision.proofs.Stopping.{as_many, failure}
 use Rattle.spki_decision.proofs.explanation.explain.Goals as goal
 
-pub entry_reasons-requires-clause-as_many : goal.entry_reasons-requires-clause-as_many
-entry_reasons-requires-clause-as_many g c =
+pub entry_reasons-requires : goal.entry_reasons-requires
+entry_reasons-requires g c =
     let verified = g.V.Verifier.accepted c.args.verifier.now in
     let policy = c.args.case.now.policy in
-    let evidence : IsEvidence policy verified c.deref.result.now (Stands c.in-Stands.items c.in-Stands.steps) =
+    let evidence : IsEvidence policy verified c.deref.result.now (Stands c.in-Stands.steps) =
     rw c.in-Stands.is at c.in_ok-item.ensures in
-    ap length c.deref-in-Stands-3.ensures.value
-    ∙ as_many policy verified c.deref.result.now c.in-Stands.items.items c.in-Stands.steps.items evidence.0 evidence.1
-    ∙ sym (ap length c.deref-in-Stands-2.ensures.value)
+    ap length c.deref-in-Stands-2.ensures.value
+    ∙ as_many policy verified c.args.case.now.sequence.items c.in-Stands.steps.items (rw c.deref.ensures.value at evidence)
 
 pub returns-in-Fails-clause-exact : goal.returns-in-Fails-clause-exact
 returns-in-Fails-clause-exact g c =
@@ -33,11 +32,11 @@ returns-in_ok-reasons-in-Stands-clause-exact g c =
     let verified = g.V.Verifier.accepted c.args.verifier.now in
     let policy = c.args.case.now.policy in
     let items = c.args.case.now.sequence.items in
-    let evidence : IsEvidence policy verified c.deref.result.now (Stands c.in-Stands.items c.in-Stands.steps) =
+    let evidence : IsEvidence policy verified c.deref.result.now (Stands c.in-Stands.steps) =
     rw c.in-Stands.is at c.in_ok-item.ensures in
     let shown : AreShown policy verified items (tuples_of c.in-Stands.steps.items) =
-    rw c.deref.ensures.value at evidence.1 in
-    let each = rw (c.deref-in-Stands-3.ensures.value, c.deref-in-Stands.ensures.value) at c.in_ok-reasons-in-Stands.ensures.each in
-    let small = rw (c.deref-in-Stands-3.ensures.value, c.deref-in-Stands.ensures.value) at c.in_ok-reasons-in-Stands.ensures.small in
+    rw c.deref.ensures.value at evidence in
+    let each = rw (c.deref-in-Stands-2.ensures.value, c.deref-in-Stands.ensures.value) at c.in_ok-reasons-in-Stands.ensures.each in
+    let small = rw (c.deref-in-Stands-2.ensures.value, c.deref-in-Stands.ensures.value) at c.in_ok-reasons-in-Stands.ensures.small in
     are_reasons (model c.args.case.now) verified (tuples_of c.in-Stands.steps.items) c.in_ok-reasons-in-Stands.reasons.items
     c.known.ensures shown each small

@@ -1,12 +1,11 @@
-use Rattle.std.proofs.Common.{◌≡◌, List, [], ◌∷◌, refl, ◌∙◌}
+use Rattle.std.proofs.Common.{◌≡◌, List, [], ◌∷◌, refl}
 use Rattle.spki_reduce.specs.declared.tuple.Step.{Step}
-use Rattle.std.proofs.lemmas.List.{length-map}
 use Rattle.spki_case.specs.View.{model}
 use Rattle.spki_reduce.specs.Tuples.{five}
-use Rattle.spki_reduce.specs.Views.{entry_tuple, step_tuple}
+use Rattle.spki_reduce.specs.Views.{entry_tuple}
 use Rattle.spki_reduce.specs.Chain.{tuples_of, StopsAt, Excludes}
 use Rattle.spki_decision.specs.Views.{with_entries}
-use Rattle.spki_decision.proofs.Stopping.{stops_at_item}
+use Rattle.spki_decision.proofs.Stopping.{stops_within, stops_at_item}
 use Rattle.spki_decision.proofs.reduction.entry_fold.Goals as goal
 
 no_steps : (steps : List Step) → tuples_of steps ≡ [] → steps ≡ []
@@ -20,6 +19,14 @@ returns-in-Done-clause-exact c es = (
   λ none. rw c.in-Done.is at (c.in_ok-five.ensures.alone (no_steps c.args.steps.now none)),
 )
 
+pub bounds-shown-step : goal.bounds-shown-step
+bounds-shown-step c =
+    let first = five (entry_tuple c.args.entry.now) in
+    let stops : StopsAt c.args.case.now.policy first (tuples_of c.args.steps.now) c.in-Stopped.step c.in-Stopped.cause =
+    rw c.in-Stopped.is at c.in_ok-five.ensures.fold in
+    stops_within (model c.args.case.now) c.args.entry.now c.args.steps.now c.args.shown.now c.requires.whole c.requires.as_many
+    c.in-Stopped.step c.in-Stopped.cause stops
+
 pub returns-in-Stopped-clause-exact : goal.returns-in-Stopped-clause-exact
 returns-in-Stopped-clause-exact c es =
     let policy = c.args.case.now.policy in
@@ -28,5 +35,5 @@ returns-in-Stopped-clause-exact c es =
     let stops : StopsAt policy first steps c.in-Stopped.step c.in-Stopped.cause = rw c.in-Stopped.is at c.in_ok-five.ensures.fold in
     let excludes : Excludes policy first steps c.in-Stopped.step c.in-Stopped.cause =
     rw c.in-Stopped.is at c.in_ok-five.ensures.excluded in
-    stops_at_item (with_entries (model c.args.case.now) es) steps c.args.entry.now c.args.items.now c.in-Stopped.step c.in-Stopped.cause
-    c.requires.numbered (length-map c.args.steps.now step_tuple ∙ c.requires.as_many) stops excludes
+    stops_at_item (with_entries (model c.args.case.now) es) c.args.entry.now c.args.steps.now c.args.shown.now c.requires.whole c.requires.as_many
+    c.in-Stopped.step c.in-Stopped.cause stops c.index-shown-step.result c.index-shown-step.is excludes

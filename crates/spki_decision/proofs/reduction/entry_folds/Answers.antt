@@ -10,7 +10,7 @@ pub returns-in_err-entry_fold-clause-too_large : goal.returns-in_err-entry_fold-
 returns-in_err-entry_fold-clause-too_large c h =
     large_here (with_entries (model c.args.case.now) c.args.acl.now) c.args.acl.now c.loop-entry.entry-index c.entry-item.result
     refl c.loop-entry-test.true c.entry-item.is (tuples_of c.args.steps.now)
-    (c.in_err-entry_fold.ensures.too_large (search (rules, h, c.from_residual.ensures)))
+    (c.in_err-entry_fold.ensures.too_large (search (rules, h, c.from_residual-in_err-entry_fold.ensures)))
 
 pub loop-entry-preserved : goal.loop-entry-preserved
 loop-entry-preserved c = record {

@@ -1,4 +1,4 @@
-use Rattle.std.proofs.Common.{◌∙◌, ap, length, sym}
+use Rattle.std.proofs.Common.{◌∙◌, ap, length}
 use Rattle.spki_case.specs.View.{model}
 use Rattle.spki_decision.specs.declared.evidence.Evidence.TheVariants.{Stands, Fails}
 use Rattle.spki_decision.specs.Judged.{IsEvidence}
@@ -6,15 +6,14 @@ use Rattle.spki_decision.specs.Standing.{FailsAt}
 use Rattle.spki_decision.proofs.Stopping.{as_many, failure}
 use Rattle.spki_decision.proofs.reduction.reduce_case.Goals as goal
 
-pub entry_folds-requires-clause-as_many : goal.entry_folds-requires-clause-as_many
-entry_folds-requires-clause-as_many g c =
+pub entry_folds-requires : goal.entry_folds-requires
+entry_folds-requires g c =
     let verified = g.V.Verifier.accepted c.args.verifier.now in
     let policy = c.args.case.now.policy in
-    let evidence : IsEvidence policy verified c.deref.result.now (Stands c.in-Stands.items c.in-Stands.steps) =
+    let evidence : IsEvidence policy verified c.deref.result.now (Stands c.in-Stands.steps) =
     rw c.in-Stands.is at c.in_ok-item.ensures in
-    ap length c.deref-in-Stands-3.ensures.value
-    ∙ as_many policy verified c.deref.result.now c.in-Stands.items.items c.in-Stands.steps.items evidence.0 evidence.1
-    ∙ sym (ap length c.deref-in-Stands-2.ensures.value)
+    ap length c.deref-in-Stands-2.ensures.value
+    ∙ as_many policy verified c.args.case.now.sequence.items c.in-Stands.steps.items (rw c.deref.ensures.value at evidence)
 
 pub returns-in-Fails-clause-exact : goal.returns-in-Fails-clause-exact
 returns-in-Fails-clause-exact g c =

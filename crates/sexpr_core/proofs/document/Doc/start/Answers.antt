@@ -1,5 +1,4 @@
-use Rattle.std.proofs.Common.{arith, sym, ◌≡◌, None}
-use Rattle.sexpr_core.specs.Starts.{start_of}
+use Rattle.std.proofs.Common.{arith, sym}
 use Rattle.sexpr_core.proofs.TableLaws.{starts_end}
 use Rattle.sexpr_core.proofs.document.Doc.start.Goals as goal
 
