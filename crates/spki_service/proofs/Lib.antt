@@ -13,3 +13,5 @@ pub mod Outcomes
 pub mod Reading
 pub mod DateLaws
 pub mod OneAsking
+pub mod OneList
+pub mod OneAnswer

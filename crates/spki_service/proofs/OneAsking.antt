@@ -35,7 +35,7 @@ text_is : (text : List ℕ) (v : Value) → IsTextWithin text v → IsText text 
 text_is text v (inl m) = inl m.spelling
 text_is text v (inr m) = inr m.braced
 
-text_one : (text : List ℕ) (v w : Value) → IsTextWithin text v → IsTextWithin text w → v ≡ w
+pub text_one : (text : List ℕ) (v w : Value) → IsTextWithin text v → IsTextWithin text w → v ≡ w
 text_one text v w m n = one_value text v w (text_is text v m) (text_is text w n)
 
 wanted_one : (m : wanted.Wanted) (v w : Value) → IsWanted m v → IsWanted m w → v ≡ w
@@ -50,7 +50,7 @@ too_long_or (Bad at) found = inr tt
 too_long_or (Trailing at) found = inr tt
 too_long_or Memory found = absurd (found refl)
 
-refuses_one : (text : List ℕ) (e f : FormFault) → RefusesForm text e → RefusesForm text f → e ≡ f
+pub refuses_one : (text : List ℕ) (e f : FormFault) → RefusesForm text e → RefusesForm text f → e ≡ f
 refuses_one text e f a b = by (too_long_or e a.found) (too_long_or f b.found)
   where
     by : (e ≡ TooLong) ⊎ IsOfForm e → (f ≡ TooLong) ⊎ IsOfForm f → e ≡ f
@@ -69,30 +69,30 @@ wanted_none (requests.Words words) fault v r = absurd r
 -- ---- parts of which each means one value
 
 -- two sayings of the value that a part means
-record Both (P Q : Value → Type 0) : Type 0 where
-  value : Value
-  one : P value
-  other : Q value
+pub record Both (P Q : Value → Type 0) : Type 0 where
+  pub value : Value
+  pub one : P value
+  pub other : Q value
 
 module _ (means : Value → Type 0) (single : (v w : Value) → means v → means w → v ≡ w) where
-  both : (P Q : Value → Type 0) → Reads means P → Reads means Q → Both P Q
+  pub both : (P Q : Value → Type 0) → Reads means P → Reads means Q → Both P Q
   both P Q a b = record { value = b.value; one = subst P (single a.value b.value a.meant b.meant) a.is; other = b.is }
 
 module _ (means : Value → Type 0) (refuses : FormFault → Type 0) (single : (v w : Value) → means v → means w → v ≡ w)
     (none : (fault : FormFault) (v : Value) → refuses fault → ¬ means v) where
-  form_unread : (P : Value → Type 0) (fault : FormFault) → LacksForm means refuses fault → ¬ Reads means P
+  pub form_unread : (P : Value → Type 0) (fault : FormFault) → LacksForm means refuses fault → ¬ Reads means P
   form_unread P fault (inl r) a = none fault a.value r a.meant
   form_unread P fault (inr long) a =
       let e = single long.value a.value long.meant a.meant in
       omega (arith, ap (λ v. length (canon v)) e, long.long, a.short)
 
-  form_one : ((e f : FormFault) → refuses e → refuses f → e ≡ f) → (e f : FormFault) → LacksForm means refuses e → LacksForm means refuses f → e ≡ f
+  pub form_one : ((e f : FormFault) → refuses e → refuses f → e ≡ f) → (e f : FormFault) → LacksForm means refuses e → LacksForm means refuses f → e ≡ f
   form_one one e f (inl r) (inl s) = one e f r s
   form_one one e f (inl r) (inr long) = absurd (none e long.value r long.meant)
   form_one one e f (inr long) (inl s) = absurd (none f long.value s long.meant)
   form_one one e f (inr long) (inr other) = long.named ∙ sym other.named
 
-some-one : {A : Type 0} {found : Option A} {a b : A} → found ≡ Some a → found ≡ Some b → a ≡ b
+pub some-one : {A : Type 0} {found : Option A} {a b : A} → found ≡ Some a → found ≡ Some b → a ≡ b
 some-one e f = cc
 
 -- ---- the parts of a question

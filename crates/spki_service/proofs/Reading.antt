@@ -1,19 +1,17 @@
 -- How an access list is made ready.
-use Rattle.std.proofs.Common.{◌≡◌, ◌≢◌, ◌⊎◌, inl, inr, ℕ, ◌<◌, ◌≤◌, List, Vec, Some, map, length, refl, sym, ap, ◌∙◌, subst, Result, Ok, Err, IfOk, IfErr}
+use Rattle.std.proofs.Common.{◌≡◌, ◌≢◌, inl, inr, ℕ, ◌≤◌, List, Vec, map, length, sym, subst, Result, Ok, Err, IfOk, IfErr}
 use Rattle.std.specs.declared.alloc.Global.{Global}
-use Rattle.std.specs.List.{AllZip}
 use Rattle.std.proofs.lemmas.Slice.Zip.{AllZip-long}
 use Rattle.sexpr_core.specs.Value.{Value, canon}
 use Rattle.sexpr_text.specs.Spelling.{IsTextWithin}
 use Rattle.spki_cert.specs.declared.entry.Entry.{Entry}
 use Rattle.spki_cert.specs.declared.fault.CertFault.{CertFault}
 use Rattle.spki_cert.specs.declared.fault.CertFaultKind.TheVariants as kinds
-use Rattle.spki_cert.specs.Entries.{EntryOf, AclOf, AclRefused}
-use Rattle.spki_cert.specs.EntryFaults.{acl_fault}
+use Rattle.spki_cert.specs.Entries.{EntryOf, AclOf}
 use Rattle.spki_case.specs.Texts.{IsOuter}
 use Rattle.spki_service.specs.declared.list_fault.AclFault.{AclFault}
 use Rattle.spki_service.specs.declared.list_fault.AclFault.TheVariants as faults
-use Rattle.spki_service.specs.Held.{Held, AreEntries, HoldsList, octets_of}
+use Rattle.spki_service.specs.Held.{Held, AreEntries, HoldsValue, HoldsList, octets_of}
 use Rattle.spki_service.specs.Lists.{IsNoAcl, IsNoList, ListRefused}
 use Rattle.spki_service.proofs.Picking.{held}
 
@@ -30,6 +28,10 @@ pub texts_held : (v : Value) (es : List Entry) (texts : List (Vec ℕ Global)) (
     → AreEntries (octets_of texts) es
 texts_held v es texts a same = subst (λ xs. AreEntries xs es) (sym same) (held a.entries es a.each)
 
+pub value_held : (v : Value) (es : List Entry) (texts : List (Vec ℕ Global)) (a : AclOf v es) → octets_of texts ≡ map canon a.entries
+    → HoldsValue v (octets_of texts)
+value_held v es texts a same = record { entries = es; is = a; texts_are = same; held = texts_held v es texts a same }
+
 pub many : (v : Value) (es : List Entry) (a : AclOf v es) → length a.entries ≡ length es
 many v es a = sym (AllZip-long EntryOf a.entries es a.each)
 
@@ -42,13 +44,28 @@ list_refused v w (Err fault) same short h =
     let x = h found in
     subst (λ (f : AclFault). ListRefused v f) (sym x.1) (short, subst (λ (u : Value). IsNoAcl x.0 u) same x.2)
 
+pub value_there : (v w : Value) (r : Result Held AclFault) → w ≡ v → length (canon v) ≤ 1048576 → IfOk r (λ g. HoldsValue w g.texts)
+    → IfOk r (λ g. (length (canon v) ≤ 1048576) × HoldsValue v g.texts)
+value_there v w (Ok g) same short h = (short, subst (λ u. HoldsValue u g.texts) same h)
+value_there v w (Err fault) same short h = tt
+
 -- ---- a text of which the value is known
 
+pub holds_list : (text : List ℕ) (v : Value) (texts : List (List ℕ)) → IsTextWithin text v → length (canon v) ≤ 1048576
+    → HoldsValue v texts → HoldsList text texts
+holds_list text v texts meant short h =
+    record { value = v; spelled = meant; short = short; holds = h }
+
+pub converted_held : (text : List ℕ) (v : Value) → IsTextWithin text v → (r : Result Held AclFault)
+    → IfOk r (λ g. (length (canon v) ≤ 1048576) × HoldsValue v g.texts) → IfOk r (λ g. HoldsList text g.texts)
+converted_held text v meant (Ok g) h = holds_list text v g.texts meant h.0 h.1
+converted_held text v meant (Err fault) h = tt
+
 module _ (text : List ℕ) (v w : Value) (same : w ≡ v) (meant : IsTextWithin text v) where
-  pub list_held : (r : Result Held AclFault) → IfOk r (λ g. (es : List Entry) × AclOf w es × AreEntries g.texts es)
+  pub list_held : (r : Result Held AclFault) → length (canon v) ≤ 1048576 → IfOk r (λ g. HoldsValue w g.texts)
       → IfOk r (λ g. HoldsList text g.texts)
-  list_held (Ok g) (es, is, texts) = record { value = v; spelled = meant; entries = es; is = subst (λ u. AclOf u es) same is; held = texts }
-  list_held (Err fault) h = tt
+  list_held (Ok g) short h = holds_list text v g.texts meant short (subst (λ u. HoldsValue u g.texts) same h)
+  list_held (Err fault) short h = tt
 
   pub list_refused_text : (r : Result Held AclFault) → length (canon v) ≤ 1048576
       → IfErr r (λ fault. fault ≢ faults.Memory → (inner : CertFault) × (fault ≡ faults.Acl inner) × IsNoAcl inner w)

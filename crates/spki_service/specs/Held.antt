@@ -1,6 +1,6 @@
 -- What a guard contains: the entries of an access list, each as its canonical text (RFC 2693, section 3.4; RFC 9804, section
 -- 6.2).
-use Rattle.std.specs.Prelude.{◌≡◌, ℕ, List, Vec, map}
+use Rattle.std.specs.Prelude.{◌≡◌, ℕ, ◌≤◌, List, Vec, map, length}
 use Rattle.std.specs.declared.alloc.Global.{Global}
 use Rattle.std.specs.List.{AllZip}
 use Rattle.sexpr_core.specs.Value.{Value, canon}
@@ -27,13 +27,20 @@ pub record Held : Type 0 where
   pub octets : ℕ
   pub nodes : ℕ
 
--- The text is an access list in one of the three forms, and these are the canonical texts of its entries.
+-- The value is an access list, and these are the canonical texts of its entries, in order.
+pub record HoldsValue (v : Value) (texts : List (List ℕ)) : Type 0 where
+  pub entries : List Entry
+  pub is : AclOf v entries
+  pub texts_are : texts ≡ map canon is.entries
+  pub held : AreEntries texts entries
+
+-- The text is an access list in one of the three forms, and these are the canonical texts of its entries, in order. Its own
+-- canonical form has at most 1,048,576 octets.
 pub record HoldsList (list : List ℕ) (texts : List (List ℕ)) : Type 0 where
   pub value : Value
   pub spelled : IsTextWithin list value
-  pub entries : List Entry
-  pub is : AclOf value entries
-  pub held : AreEntries texts entries
+  pub short : length (canon value) ≤ 1048576
+  pub holds : HoldsValue value texts
 
 -- the octets of some texts
 abbrev pub octets_of : List (Vec ℕ Global) → List (List ℕ)

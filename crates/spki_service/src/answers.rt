@@ -74,7 +74,7 @@ impl<'a> Asked<'a> {
     {
         match &self.examined.evidence {
             Evidence::Fails { .. } => Ok(Decision::No),
-            Evidence::Stands { steps, .. } => self.granted(alloc, steps),
+            Evidence::Stands(steps) => self.granted(alloc, steps),
         }
     }
 
@@ -187,10 +187,10 @@ impl<'a> Asked<'a> {
                 item: *item,
                 stop: *stop,
             }),
-            Evidence::Stands { items, steps } => {
+            Evidence::Stands(steps) => {
                 let guard = self.guard;
                 let entries = all_entries(alloc, &guard.texts)?;
-                let reasons = entry_reasons(alloc, &entries, &self.case, items, steps)?;
+                let reasons = entry_reasons(alloc, &entries, &self.case, steps)?;
                 Ok(Explanation::Entries(reasons))
             }
         }
@@ -206,10 +206,10 @@ impl<'a> Asked<'a> {
                 item: *item,
                 stop: *stop,
             }),
-            Evidence::Stands { items, steps } => {
+            Evidence::Stands(steps) => {
                 let guard = self.guard;
                 let entries = all_entries(alloc, &guard.texts)?;
-                let folds = entry_folds(alloc, &entries, &self.case, items, steps)?;
+                let folds = entry_folds(alloc, &entries, &self.case, steps)?;
                 Ok(Reduction::Entries(folds))
             }
         }

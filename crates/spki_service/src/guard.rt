@@ -1,12 +1,11 @@
 //! Access lists that are read once.
 
-ghost use Rattle.std.specs.Prelude.{◌≡◌, ◌≢◌, ◌↔◌, ◌⊎◌, ◌<◌, ℕ, List, length, IfOk, IfErr, IsErrOf};
+ghost use Rattle.std.specs.Prelude.{◌≡◌, ◌≢◌, ◌↔◌, ◌⊎◌, ◌<◌, ◌≤◌, ℕ, List, length, IfOk, IfErr, IsErrOf};
 ghost use Rattle.std.specs.Option.{option_copied};
 ghost use Rattle.sexpr_core.specs.Value.{Value, canon, IsShallow};
 ghost use Rattle.spki_cert.specs.declared.entry.Entry.{Entry};
-ghost use Rattle.spki_cert.specs.Entries.{AclOf};
 ghost use Rattle.spki_case.specs.Texts.{IsOuter};
-ghost use Rattle.spki_service.specs.Held.{AreEntries, HoldsList};
+ghost use Rattle.spki_service.specs.Held.{AreEntries, HoldsList, HoldsValue};
 ghost use Rattle.spki_service.specs.Kept.{numbers_from};
 ghost use Rattle.spki_service.specs.Lists.{IsNoList, IsNoAcl, ListRefused};
 ghost use Rattle.spki_service.specs.Partly.{is_of};
@@ -175,7 +174,7 @@ impl Guard {
         limits: Limits,
     ) -> Result<Guard, AclFault>
         ensures list { (v : Value) → octets.now ≡ canon v
-            → IfOk result (λ g. (es : List Entry) × AclOf v es × AreEntries g.texts es) }
+            → IfOk result (λ g. (length (canon v) ≤ 1048576) × HoldsValue v g.texts) }
         ensures given { IfOk result (λ g. (g.policy ≡ policy) × (g.octets ≡ limits.octets) × (g.nodes ≡ limits.nodes)) }
         ensures refused { (v : Value) → octets.now ≡ canon v → IsShallow v
             → IfErr result (λ fault. fault ≢ AclFault.Memory → ListRefused v fault) }
@@ -189,7 +188,7 @@ impl Guard {
 
     /// Reads the access list of a node.
     fn of(alloc: Global, list: &Node, policy: Policy, limits: Limits) -> Result<Guard, AclFault>
-        ensures list { IfOk result (λ g. (es : List Entry) × AclOf list.now es × AreEntries g.texts es) }
+        ensures list { IfOk result (λ g. HoldsValue list.now g.texts) }
         ensures given { IfOk result (λ g. (g.policy ≡ policy) × (g.octets ≡ limits.octets) × (g.nodes ≡ limits.nodes)) }
         ensures refused { IfErr result (λ fault. fault ≢ AclFault.Memory
             → (inner : CertFault) × (fault ≡ AclFault.Acl inner) × IsNoAcl inner list.now) }

@@ -157,7 +157,7 @@ fn reversed(alloc: Global, octets: &[u8]) -> Result<Vec<u8>, AllocError>
     Ok(turned)
 }
 
-/// Appends a number to those at the octets.
+/// Appends a number to those at the octets. Of octets that have no number yet the map is searched once.
 fn add_number(
     numbers: &mut Numbers,
     alloc: Global,
@@ -167,12 +167,14 @@ fn add_number(
     ensures { OnOk result ((other : List ℕ) → numbers_at numbers.new other
         ≡ (if bytes_eq octets.now other then numbers_at numbers.old other ++ number ∷ [] else numbers_at numbers.old other)) }
 {
-    match numbers.get_mut(octets) {
-        Some(at) => at.push(number)?,
-        None => {
-            let mut at = Vec::new(alloc);
-            at.push(number)?;
-            numbers.insert(Vec::from_slice(alloc, octets)?, at)?;
+    let mut at = Vec::new(alloc);
+    at.push(number)?;
+    match numbers.insert(Vec::from_slice(alloc, octets)?, at)? {
+        None => {}
+        Some(before) => {
+            let mut all = before;
+            all.push(number)?;
+            numbers.insert(Vec::from_slice(alloc, octets)?, all)?;
         }
     }
     Ok(())

@@ -1,11 +1,36 @@
-//! Laws of questions and dates.
+//! Laws of access lists, questions, answers and dates.
 
-ghost use Rattle.std.specs.Prelude.{◌≡◌, ℤ, ℕ, List};
+ghost use Rattle.std.specs.Prelude.{◌≡◌, ◌≢◌, ℤ, ℕ, List, Bool, Result, Err};
+ghost use Rattle.spki_cert.specs.declared.entry.Entry.{Entry};
 ghost use Rattle.spki_case.specs.Case.{Case};
+ghost use Rattle.spki_decision.specs.declared.decision.Decision.{Decision};
+ghost use Rattle.spki_decision.specs.declared.explanation.Explanation.{Explanation};
+ghost use Rattle.spki_decision.specs.declared.reduction.Reduction.{Reduction};
+ghost use Rattle.spki_decision.specs.declared.fault.GuardFault.{GuardFault};
+ghost use Rattle.spki_decision.specs.declared.fault.GuardFault.TheVariants.{Memory};
+ghost use Rattle.spki_decision.specs.Answered.{IsDecided, IsExplained, IsReduced, AreSame};
+ghost use Rattle.spki_decision.specs.Asked.{Signed};
+ghost use Rattle.spki_decision.specs.Explained.{IsSameExplanation};
+ghost use Rattle.spki_decision.specs.Reduced.{IsSameReduction};
+ghost use Rattle.spki_service.specs.Asking.{AskedOf, Answers, IsMarked};
+ghost use Rattle.spki_service.specs.Held.{AreEntries, HoldsList};
+ghost use Rattle.spki_service.specs.Lists.{IsNoList};
 ghost use Rattle.spki_service.specs.Moment.{IsDateAt, IsAtNoDate};
 ghost use Rattle.spki_service.specs.Questions.{IsAsked, IsNotAsked};
 ghost use Rattle.spki_service.specs.declared.question.Question.{Question};
 ghost use Rattle.spki_service.specs.declared.question.AskFault.{AskFault};
+ghost use Rattle.spki_service.specs.declared.list_fault.AclFault.{AclFault};
+
+use spki_case::Verifier;
+
+/// A text is held as one list of texts, or has one fault as an access list, and never both. These texts are those of one list of
+/// entries.
+pub fn one_list()
+    ensures list { (text : List ℕ) (a b : List (List ℕ)) → HoldsList text a → HoldsList text b → a ≡ b }
+    ensures entries { (texts : List (List ℕ)) (es fs : List Entry) → AreEntries texts es → AreEntries texts fs → es ≡ fs }
+    ensures unrefused { (text : List ℕ) (texts : List (List ℕ)) (fault : AclFault) → HoldsList text texts → ¬ IsNoList text fault }
+    ensures fault { (text : List ℕ) (f g : AclFault) → IsNoList text f → IsNoList text g → f ≡ g }
+{}
 
 /// For a policy and a limit of nodes, a question has one case or one fault, and never both. So the fault of a question is a
 /// function of its parts: the first part that cannot be read, with its fault.
@@ -20,4 +45,38 @@ pub fn one_asking()
 pub fn one_date()
     ensures one { (seconds : ℤ) (date other : List ℕ) → IsDateAt seconds date → IsDateAt seconds other → date ≡ other }
     ensures none { (seconds : ℤ) (date : List ℕ) → IsAtNoDate seconds → ¬ IsDateAt seconds date }
+{}
+
+/// By one verifier, a question that was read has at most one answer of `Asked::decide`, of `explain` and of `reduce`, unless
+/// memory ran out. The texts are those of a guard's entries.
+pub fn one_answer<V: Verifier>()
+    ensures decision { (verifier : V) (a : AskedOf) (es : List Entry) (x y : Result Decision GuardFault) → AreEntries a.texts es
+        → x ≢ Err Memory → y ≢ Err Memory
+        → Answers (λ c answer. IsDecided c (V.accepted verifier) answer) a x
+        → Answers (λ c answer. IsDecided c (V.accepted verifier) answer) a y → x ≡ y }
+    ensures explanation { (verifier : V) (a : AskedOf) (es : List Entry) (x y : Result Explanation GuardFault) → AreEntries a.texts es
+        → x ≢ Err Memory → y ≢ Err Memory
+        → Answers (λ c answer. IsExplained c (V.accepted verifier) answer) a x
+        → Answers (λ c answer. IsExplained c (V.accepted verifier) answer) a y → AreSame IsSameExplanation x y }
+    ensures reduction { (verifier : V) (a : AskedOf) (es : List Entry) (x y : Result Reduction GuardFault) → AreEntries a.texts es
+        → x ≢ Err Memory → y ≢ Err Memory
+        → Answers (λ c answer. IsReduced c (V.accepted verifier) answer) a x
+        → Answers (λ c answer. IsReduced c (V.accepted verifier) answer) a y → AreSame IsSameReduction x y }
+{}
+
+/// By the same marks, a question that was read has at most one answer of `Asked::decide_by`, of `explain_by` and of `reduce_by`,
+/// unless memory ran out. The texts are those of a guard's entries.
+pub fn one_marked_answer()
+    ensures decision { (signed : List Signed) (marks : List Bool) (a : AskedOf) (es : List Entry) (x y : Result Decision GuardFault)
+        → AreEntries a.texts es → x ≢ Err Memory → y ≢ Err Memory
+        → Answers (λ c answer. IsDecided c (IsMarked signed marks) answer) a x
+        → Answers (λ c answer. IsDecided c (IsMarked signed marks) answer) a y → x ≡ y }
+    ensures explanation { (signed : List Signed) (marks : List Bool) (a : AskedOf) (es : List Entry) (x y : Result Explanation GuardFault)
+        → AreEntries a.texts es → x ≢ Err Memory → y ≢ Err Memory
+        → Answers (λ c answer. IsExplained c (IsMarked signed marks) answer) a x
+        → Answers (λ c answer. IsExplained c (IsMarked signed marks) answer) a y → AreSame IsSameExplanation x y }
+    ensures reduction { (signed : List Signed) (marks : List Bool) (a : AskedOf) (es : List Entry) (x y : Result Reduction GuardFault)
+        → AreEntries a.texts es → x ≢ Err Memory → y ≢ Err Memory
+        → Answers (λ c answer. IsReduced c (IsMarked signed marks) answer) a x
+        → Answers (λ c answer. IsReduced c (IsMarked signed marks) answer) a y → AreSame IsSameReduction x y }
 {}

@@ -16,5 +16,5 @@ pub returns-in-Stands : goal.returns-in-Stands
 returns-in-Stands c =
     let evident = subst (λ (a : AskedOf). IsEvidence a.case.policy every a.case.items c.self.inside.examined.evidence) c.self.view_is c.self.invariant.1 in
     let stands = rw c.in-Stands.is at evident in
-    decided_partly c.args.self.now (tuples_of c.in-Stands.steps.items) stands.1 c.granted.result
+    decided_partly c.args.self.now (tuples_of c.in-Stands.steps.items) stands c.granted.result
     (λ es are. rw c.deref.ensures.value at (c.granted.ensures es are))

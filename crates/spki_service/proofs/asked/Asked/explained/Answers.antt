@@ -13,13 +13,12 @@ use Rattle.spki_decision.proofs.Reasons.{are_reasons}
 use Rattle.spki_service.proofs.Outcomes.{explained_failed}
 use Rattle.spki_service.proofs.asked.Asked.explained.Goals as goal
 
-pub entry_reasons-requires-clause-as_many : goal.entry_reasons-requires-clause-as_many
-entry_reasons-requires-clause-as_many c =
-    let evident = subst (λ (a : AskedOf). IsEvidence a.case.policy every a.case.items c.self.inside.examined.evidence) c.self.view_is c.self.invariant.1 in
+pub entry_reasons-requires : goal.entry_reasons-requires
+entry_reasons-requires c =
+    let m = model c.self.inside.case in
+    let evident : IsEvidence m.policy every m.items c.self.inside.examined.evidence = c.self.invariant.1 in
     let stands = rw c.in-Stands.is at evident in
-    ap length c.deref-in-Stands-3.ensures.value
-    ∙ as_many c.args.self.now.case.policy every c.args.self.now.case.items c.in-Stands.items.items c.in-Stands.steps.items stands.0 stands.1
-    ∙ sym (ap length c.deref-in-Stands-2.ensures.value)
+    ap length c.deref-in-Stands-2.ensures.value ∙ as_many m.policy every m.items c.in-Stands.steps.items stands
 
 pub returns-in-Fails : goal.returns-in-Fails
 returns-in-Fails c =
@@ -38,7 +37,7 @@ returns-in_ok-reasons-in-Stands c =
     λ es are.
     let there : AreEntries (octets_of c.deref.result.now) es = subst (λ (ts : List (List ℕ)). AreEntries ts es) (sym texts) are in
     let all = c.deref-in-Stands.ensures.value ∙ c.in_ok-entries-in-Stands.ensures.all es there in
-    let each = rw (c.deref-in-Stands-3.ensures.value, all) at c.in_ok-reasons-in-Stands.ensures.each in
-    let small = rw (c.deref-in-Stands-3.ensures.value, all) at c.in_ok-reasons-in-Stands.ensures.small in
-    are_reasons (with_entries m es) every tuples c.in_ok-reasons-in-Stands.reasons.items c.known.ensures stands.1 each small in
+    let each = rw (c.deref-in-Stands-2.ensures.value, all) at c.in_ok-reasons-in-Stands.ensures.each in
+    let small = rw (c.deref-in-Stands-2.ensures.value, all) at c.in_ok-reasons-in-Stands.ensures.small in
+    are_reasons (with_entries m es) every tuples c.in_ok-reasons-in-Stands.reasons.items c.known.ensures stands each small in
     subst (λ (a : AskedOf). (es : List Entry) → AreEntries a.texts es → AreReasons (with_entries a.case es) every c.in_ok-reasons-in-Stands.reasons.items) c.self.view_is inner

@@ -1,7 +1,6 @@
-use Rattle.std.proofs.Common.{◌≡◌, sym, ◌∙◌, ap, length, arith}
+use Rattle.std.proofs.Common.{◌≡◌, ap, length, arith}
 use Rattle.spki_cert.proofs.EntryLaws.{refused-acl}
-use Rattle.spki_service.specs.Held.{AreEntries, octets_of}
-use Rattle.spki_service.proofs.Reading.{named_fault, texts_held, many}
+use Rattle.spki_service.proofs.Reading.{named_fault, texts_held, value_held, many}
 use Rattle.spki_service.proofs.guard.Guard.of.Goals as goal
 
 pub returns-in-Err-clause-refused : goal.returns-in-Err-clause-refused
@@ -32,9 +31,6 @@ returns-clause-list c =
     let same = many c.args.list.now c.in-Ok.entries.items a in
     let value = ap length c.deref.ensures.value in
     let len = c.len.ensures in
-    let long : length a.entries ≡ c.len.result = omega (arith, same, value, len) in (
-      c.in-Ok.entries.items,
-      a,
-      texts_held c.args.list.now c.in-Ok.entries.items c.in_ok-texts.texts.items a
-          (c.in_ok-texts.ensures a.version a.entries a.version_is a.written long),
-    )
+    let long : length a.entries ≡ c.len.result = omega (arith, same, value, len) in
+    value_held c.args.list.now c.in-Ok.entries.items c.in_ok-texts.texts.items a
+    (c.in_ok-texts.ensures a.version a.entries a.version_is a.written long)

@@ -7,7 +7,7 @@ pub returns-in-Ok-clause-list : goal.returns-in-Ok-clause-list
 returns-in-Ok-clause-list c =
     let read = c.in-Ok.ensures.read in
     let meant = canonical_text c.args.list.now c.in-Ok.document read.1 read.0 in
-    list_held c.args.list.now c.in-Ok.document c.top.result c.top.ensures meant c.of.result c.of.ensures.list
+    list_held c.args.list.now c.in-Ok.document c.top.result c.top.ensures meant c.of.result read.1.short c.of.ensures.list
 
 pub returns-in-Ok-clause-refused : goal.returns-in-Ok-clause-refused
 returns-in-Ok-clause-refused c =
