@@ -148,7 +148,7 @@ reasons_line : (rs : List Reason) (x y : Verdict) (output line : List ℕ) → A
 reasons_line [] x y output line a b = (a.0 ∙ sym b.0, a.1 ∙ sym b.1)
 reasons_line (r ∷ rs) x y output line a b = (a.0 ∙ sym b.0, a.1 ∙ sym b.1)
 
-explanation_line : (r s : Explanation) (x y : Verdict) (output line : List ℕ) → IsSameExplanation r s → IsExplanationReport r x output
+pub explanation_line : (r s : Explanation) (x y : Verdict) (output line : List ℕ) → IsSameExplanation r s → IsExplanationReport r x output
     → IsExplanationReport s y line → Same x y output line
 explanation_line (explanation.Evidence item stop) (explanation.Evidence other last) x y output line same a b =
     (a.0 ∙ sym b.0, a.1 ∙ (λ i. item_line (same.0 i) (same.1 i)) ∙ sym b.1)
@@ -182,7 +182,7 @@ folds_line : (folds : List EntryFold) (x y : Verdict) (output line : List ℕ) �
 folds_line [] x y output line a b = (a.0 ∙ sym b.0, a.1 ∙ sym b.1)
 folds_line (fold ∷ folds) x y output line a b = (a.0 ∙ sym b.0, fold_lines 1 (fold ∷ folds) output line a.1 b.1)
 
-reduction_line : (r s : Reduction) (x y : Verdict) (output line : List ℕ) → IsSameReduction r s → IsReductionReport r x output
+pub reduction_line : (r s : Reduction) (x y : Verdict) (output line : List ℕ) → IsSameReduction r s → IsReductionReport r x output
     → IsReductionReport s y line → Same x y output line
 reduction_line (reduction.Evidence item stop) (reduction.Evidence other last) x y output line same a b =
     (a.0 ∙ sym b.0, a.1 ∙ (λ i. item_line (same.0 i) (same.1 i)) ∙ sym b.1)

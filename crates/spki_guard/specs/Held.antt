@@ -80,19 +80,19 @@ pub record AnswersHeld (wish : Wish) (held : Held) (q : Question) (marks : List 
   pub counted : length marks ≡ length (asked case_read)
   pub answer : AnswersAsked wish (beside held case_read) (marked case_read marks) verdict output
 
--- why a question isn't read: its parts together have too many octets; or they haven't, and a part has no reading
+-- why a question is refused: its parts together have too many octets; or they do not, and a part has no reading
 abbrev pub IsUnreadFor : Held → Question → AskFault → Type 0
 IsUnreadFor held q fault =
     ((fault ≡ faults.TooLong) × (held.octets < asked_octets q)) ⊎ ((asked_octets q ≤ held.octets) × IsNotAsked q fault)
 
--- The question isn't read, and the line says why.
+-- The question is refused, and the line says why.
 pub record RefusesQuestion (held : Held) (q : Question) (verdict : Verdict) (output : List ℕ) : Type 0 where
   pub fault : AskFault
   pub refused : IsUnreadFor held q fault
   pub verdict_is : verdict ≡ Refused
   pub line : output ≡ refused_question fault
 
--- The question isn't read, or memory ran out.
+-- The question is refused, or memory ran out.
 abbrev pub IsUnread : Held → Question → Verdict → List ℕ → Type 0
 IsUnread held q verdict output = RefusesQuestion held q verdict output ⊎ RefusesForMemory verdict output
 

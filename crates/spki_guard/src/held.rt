@@ -192,7 +192,7 @@ fn append(octets: &mut Vec<u8>, lengths: &mut Vec<usize>, more: &[u8]) -> Result
     Ok(())
 }
 
-/// The answer to a question that isn't read: its line, or that of want of memory where there is none for the line.
+/// The answer to a question that is refused: its line, or that memory ran out if there is none for the line.
 fn refuse_question(alloc: Global, fault: AskFault) -> Answer
     ensures verdict { result.verdict ≡ Verdict.Refused }
     ensures line { (written_by result ≡ refused_question fault) ⊎ (written_by result ≡ refused_memory) }

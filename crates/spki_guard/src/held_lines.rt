@@ -9,11 +9,11 @@ use crate::lines::{
 use spki_service::{AclFault, AskFault, Part};
 use std::alloc::{AllocError, Global};
 
-/// Puts the line of an access list's fault behind what is written; of want of memory it is `refused Memory`.
+/// Appends the line of an access list's fault to the output. If memory ran out, the line is `refused Memory`.
 ///
 /// # Errors
 ///
-/// Out of memory; nothing is put behind then, here and in the function below.
+/// If memory ran out. Then nothing is appended, here and in the function below.
 pub(crate) fn push_refused_list(
     alloc: Global,
     out: &mut Vec<u8>,
@@ -29,7 +29,7 @@ pub(crate) fn push_refused_list(
     }
 }
 
-/// Puts the line of a question's fault behind what is written; of want of memory it is `refused Memory`.
+/// Appends the line of a question's fault to the output. If memory ran out, the line is `refused Memory`.
 pub(crate) fn push_refused_question(
     alloc: Global,
     out: &mut Vec<u8>,

@@ -1,12 +1,18 @@
-//! Laws of the answers to a text.
+//! Laws of the answers to a text, and to a question that is asked of a guard.
 
-ghost use Rattle.std.specs.Prelude.{◌≡◌, ◌≢◌, ℕ, List};
+ghost use Rattle.std.specs.Prelude.{◌≡◌, ◌≢◌, ℕ, List, Bool};
+ghost use Rattle.spki_cert.specs.declared.entry.Entry.{Entry};
 ghost use Rattle.spki_decision.specs.declared.fault.GuardFault.TheVariants as guard;
+ghost use Rattle.spki_service.specs.Held.{Held, AreEntries};
+ghost use Rattle.spki_service.specs.declared.question.Question.{Question};
 ghost use Rattle.spki_guard.specs.declared.answers.Refusal.{Refusal};
 ghost use Rattle.spki_guard.specs.declared.answers.Refusal.TheVariants as refusals;
 ghost use Rattle.spki_guard.specs.declared.answers.Verdict.{Verdict};
+ghost use Rattle.spki_guard.specs.declared.held.Wish.{Wish};
 ghost use Rattle.spki_guard.specs.declared.intersection.IntersectFault.TheVariants as intersect;
 ghost use Rattle.spki_guard.specs.Answer.{AnswersRead, RefusesAnswer};
+ghost use Rattle.spki_guard.specs.Held.{IsAnswerHeld, HasOtherCount, IsUnread, ListsSigned};
+ghost use Rattle.spki_guard.specs.Run.{RefusesForMemory};
 ghost use Rattle.spki_words.specs.declared.commands.Command.{Command};
 
 /// A text has one answer of a command, unless memory ran out: at most one output and verdict and no refusal, or one refusal,
@@ -29,4 +35,26 @@ pub fn one_too_large()
     ensures product { (command : Command) (text : List ℕ) (refusal : Refusal)
         → RefusesAnswer command text (refusals.Intersect intersect.TooLarge)
         → RefusesAnswer command text refusal → refusal ≢ refusals.Memory → refusal ≡ refusals.Intersect intersect.TooLarge }
+{}
+
+/// A question that is asked of a guard has one answer, unless memory ran out: one output and verdict, or none, and so
+/// `answer_question` returns one result for the same marks. The texts are those of the guard's entries.
+pub fn one_answer_held()
+    ensures same { (wish : Wish) (held : Held) (q : Question) (marks : List Bool) (es : List Entry) (x y : Verdict) (output line : List ℕ)
+        → AreEntries held.texts es → IsAnswerHeld wish held q marks x output → IsAnswerHeld wish held q marks y line
+        → ¬ RefusesForMemory x output → ¬ RefusesForMemory y line → (x ≡ y) × (output ≡ line) }
+    ensures counted { (wish : Wish) (held : Held) (q : Question) (marks : List Bool) (x : Verdict) (output : List ℕ)
+        → HasOtherCount held q marks → IsAnswerHeld wish held q marks x output → RefusesForMemory x output }
+{}
+
+/// What a verifier is asked of a question is one list of octets and lengths, or the question has one refusal, and never both, unless
+/// memory ran out. So `signed_octets` returns one result.
+pub fn one_signed_list()
+    ensures same { (held : Held) (q : Question) (octets others lengths numbers : List ℕ)
+        → ListsSigned held q octets lengths → ListsSigned held q others numbers → (octets ≡ others) × (lengths ≡ numbers) }
+    ensures listed { (held : Held) (q : Question) (octets lengths : List ℕ) (x : Verdict) (output : List ℕ)
+        → ListsSigned held q octets lengths → IsUnread held q x output → RefusesForMemory x output }
+    ensures refused { (held : Held) (q : Question) (x y : Verdict) (output line : List ℕ)
+        → IsUnread held q x output → IsUnread held q y line
+        → ¬ RefusesForMemory x output → ¬ RefusesForMemory y line → (x ≡ y) × (output ≡ line) }
 {}

@@ -1,0 +1,122 @@
+-- A question that is asked of a guard has one answer, unless memory ran out.
+use Rattle.std.proofs.Common.{◌≡◌, ℕ, inl, inr, List, Bool, Ok, length, sym, ap, subst, ◌∙◌, arith}
+use Rattle.spki_cert.specs.declared.entry.Entry.{Entry}
+use Rattle.spki_case.specs.Case.{Case, Verified}
+use Rattle.spki_decision.specs.declared.decision.Decision.{Decision}
+use Rattle.spki_decision.specs.Asked.{asked}
+use Rattle.spki_decision.specs.Views.{with_entries}
+use Rattle.spki_decision.proofs.OneDecision.{decided_one, explained_one, explained_small, reduced_one, reduced_small}
+use Rattle.spki_decision.proofs.Unrefused.{not_both}
+use Rattle.spki_service.specs.Held.{Held, AreEntries}
+use Rattle.spki_service.specs.Asking.{AskedOf}
+use Rattle.spki_service.specs.declared.question.Question.{Question}
+use Rattle.spki_service.specs.declared.question.AskFault.{AskFault}
+use Rattle.spki_service.proofs.OneAsking.{case-one, unrefused, fault-one}
+use Rattle.spki_guard.specs.declared.answers.Verdict.{Verdict}
+use Rattle.spki_guard.specs.declared.held.Wish.{Wish}
+use Rattle.spki_guard.specs.declared.held.Wish.TheVariants.{Decide, Explain, Reduce}
+use Rattle.spki_guard.specs.Answer.{IsLineOf}
+use Rattle.spki_guard.specs.Held.{ReadsQuestion, IsUnreadFor, IsUnread, WritesAsked, IsTooLargeFor, AnswersAsked, AnswersHeld, IsAnswerHeld, HasOtherCount, ListsSigned, beside, marked, joined, lengths_of, signed_texts}
+use Rattle.spki_guard.specs.HeldLines.{refused_question}
+use Rattle.spki_guard.specs.Run.{RefusesForMemory}
+use Rattle.spki_guard.proofs.OneLine.{decision_line, explanation_line, reduction_line}
+
+-- the same verdict and output
+abbrev Same : Verdict → Verdict → List ℕ → List ℕ → Type 0
+Same x y output line = (x ≡ y) × (output ≡ line)
+
+-- ---- what is read
+
+module _ (held : Held) (q : Question) where
+  case_one : (c d : Case) → ReadsQuestion held q c → ReadsQuestion held q d → c ≡ d
+  case_one c d m n = case-one q c d m.is n.is (m.policy ∙ sym n.policy) (m.nodes ∙ sym n.nodes)
+
+  read_or_not : (c : Case) (fault : AskFault) → ReadsQuestion held q c → ¬ IsUnreadFor held q fault
+  read_or_not c fault m (inl (is, long)) = omega (arith, m.short, long)
+  read_or_not c fault m (inr (short, none)) = unrefused q c fault m.is none
+
+  faults_one : (f g : AskFault) → IsUnreadFor held q f → IsUnreadFor held q g → f ≡ g
+  faults_one f g (inl (is, long)) (inl (also, over)) = is ∙ sym also
+  faults_one f g (inl (is, long)) (inr (short, none)) = absurd (omega (arith, long, short))
+  faults_one f g (inr (short, none)) (inl (is, long)) = absurd (omega (arith, long, short))
+  faults_one f g (inr (short, none)) (inr (within, also)) = fault-one q f g none also
+
+  pub unread_one : (x y : Verdict) (output line : List ℕ) → IsUnread held q x output → IsUnread held q y line
+      → ¬ RefusesForMemory x output → ¬ RefusesForMemory y line → (x ≡ y) × (output ≡ line)
+  unread_one x y output line (inr m) n found known = absurd (found m)
+  unread_one x y output line (inl m) (inr n) found known = absurd (known n)
+  unread_one x y output line (inl m) (inl n) found known =
+      (m.verdict_is ∙ sym n.verdict_is, m.line ∙ ap refused_question (faults_one m.fault n.fault m.refused n.refused) ∙ sym n.line)
+
+  -- ---- what a verifier is asked
+
+  pub listed_one : (octets others lengths numbers : List ℕ) → ListsSigned held q octets lengths → ListsSigned held q others numbers
+      → (octets ≡ others) × (lengths ≡ numbers)
+  listed_one octets others lengths numbers m n =
+      let same : m.case_read ≡ n.case_read = case_one m.case_read n.case_read m.read n.read in (
+        m.octets_are ∙ ap (λ c. joined (signed_texts (asked c))) same ∙ sym n.octets_are,
+        m.lengths_are ∙ ap (λ c. lengths_of (signed_texts (asked c))) same ∙ sym n.lengths_are,
+      )
+
+  pub listed_or_not : (octets lengths : List ℕ) (verdict : Verdict) (output : List ℕ) → ListsSigned held q octets lengths
+      → IsUnread held q verdict output → RefusesForMemory verdict output
+  listed_or_not octets lengths verdict output m (inl n) = absurd (read_or_not m.case_read n.fault m.read n.refused)
+  listed_or_not octets lengths verdict output m (inr n) = n
+
+  -- ---- as many marks
+
+  pub counted_or_not : (wish : Wish) (marks : List Bool) (verdict : Verdict) (output : List ℕ) → HasOtherCount held q marks
+      → IsAnswerHeld wish held q marks verdict output → RefusesForMemory verdict output
+  counted_or_not wish marks verdict output m (inl n) =
+      absurd (m.other (n.counted ∙ ap (λ c. length (asked c)) (case_one n.case_read m.case_read n.read m.read)))
+  counted_or_not wish marks verdict output m (inr (inl n)) = absurd (read_or_not m.case_read n.fault m.read n.refused)
+  counted_or_not wish marks verdict output m (inr (inr n)) = n
+
+-- ---- what is answered
+
+module _ (a : AskedOf) (es : List Entry) (are : AreEntries a.texts es) (verified : Verified) where
+  abbrev whole : Case
+  whole = with_entries a.case es
+
+  writes_one : (wish : Wish) (x y : Verdict) (output line : List ℕ) → WritesAsked wish a verified x output
+      → WritesAsked wish a verified y line → Same x y output line
+  writes_one Decide x y output line (d, at, is) (e, also, other) =
+      let both : Ok d ≡ Ok e = decided_one whole verified (Ok d) (Ok e) (at es are) (also es are) in
+      let same : d ≡ e = cc in
+      decision_line e x y output line (subst (λ (f : Decision). IsLineOf f x output) same is) other
+  writes_one Explain x y output line (d, at, is) (e, also, other) =
+      explanation_line d e x y output line (explained_one whole verified (Ok d) (Ok e) (at es are) (also es are)) is other
+  writes_one Reduce x y output line (d, at, end, is) (e, also, ends, other) =
+      reduction_line d e x y output line (reduced_one whole verified (Ok d) (Ok e) (at es are) (also es are)) is other
+
+  writes_or_not : (wish : Wish) (x : Verdict) (output : List ℕ) → WritesAsked wish a verified x output → ¬ IsTooLargeFor wish a verified
+  writes_or_not Decide x output (d, at, is) large =
+      let answer = at es are in not_both whole verified d answer.0 answer.1 (large es are)
+  writes_or_not Explain x output (d, at, is) large = explained_small whole verified d (at es are) (large es are)
+  writes_or_not Reduce x output (d, at, end, is) large =
+      let answer = at es are in reduced_small whole verified d answer.0 (large es are)
+
+  answers_one : (wish : Wish) (x y : Verdict) (output line : List ℕ) → AnswersAsked wish a verified x output
+      → AnswersAsked wish a verified y line → Same x y output line
+  answers_one wish x y output line (inl m) (inl n) = writes_one wish x y output line m n
+  answers_one wish x y output line (inl m) (inr n) = absurd (writes_or_not wish x output m n.large)
+  answers_one wish x y output line (inr m) (inl n) = absurd (writes_or_not wish y line n m.large)
+  answers_one wish x y output line (inr m) (inr n) = (m.verdict_is ∙ sym n.verdict_is, m.line ∙ sym n.line)
+
+module _ (wish : Wish) (held : Held) (q : Question) (marks : List Bool) (es : List Entry) where
+  held_one : (x y : Verdict) (output line : List ℕ) → AreEntries held.texts es → AnswersHeld wish held q marks x output
+      → AnswersHeld wish held q marks y line → Same x y output line
+  held_one x y output line are m n =
+      let same : m.case_read ≡ n.case_read = case_one held q m.case_read n.case_read m.read n.read in
+      let there = subst (λ (c : Case). AnswersAsked wish (beside held c) (marked c marks) x output) same m.answer in
+      answers_one (beside held n.case_read) es are (marked n.case_read marks) wish x y output line there n.answer
+
+  pub answer_one : (x y : Verdict) (output line : List ℕ) → AreEntries held.texts es → IsAnswerHeld wish held q marks x output
+      → IsAnswerHeld wish held q marks y line → ¬ RefusesForMemory x output → ¬ RefusesForMemory y line
+      → (x ≡ y) × (output ≡ line)
+  answer_one x y output line are (inl m) (inl n) found known = held_one x y output line are m n
+  answer_one x y output line are (inl m) (inr (inl n)) found known = absurd (read_or_not held q m.case_read n.fault m.read n.refused)
+  answer_one x y output line are (inl m) (inr (inr n)) found known = absurd (known n)
+  answer_one x y output line are (inr (inl m)) (inl n) found known = absurd (read_or_not held q n.case_read m.fault n.read m.refused)
+  answer_one x y output line are (inr (inl m)) (inr n) found known = unread_one held q x y output line (inl m) n found known
+  answer_one x y output line are (inr (inr m)) n found known = absurd (found m)

@@ -1,0 +1,8 @@
+use Rattle.spki_guard.proofs.OneHeld.{answer_one, counted_or_not}
+use Rattle.spki_guard.proofs.line_laws.one_answer_held.Goals as goal
+
+pub returns-clause-same : goal.returns-clause-same
+returns-clause-same c = answer_one
+
+pub returns-clause-counted : goal.returns-clause-counted
+returns-clause-counted c wish held q marks = counted_or_not held q wish marks
