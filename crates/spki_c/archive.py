@@ -2,7 +2,7 @@
 """Builds the proved library as out/libspki_c.a and out/libspki_c.so. Needs the toolchain's `rt` in the path, and a C compiler with
 binutils.
 
-Both have the exports of src/exports.rt, the toolchain's calls of `malloc`, `realloc` and `free`, and spki.c, which passes on from the
+Both have the exports of src/, the toolchain's calls of `malloc`, `realloc` and `free`, and spki.c, which passes on from the
 calls of spki.h to the exports. They are linked into one object whose only global symbols are the calls that spki.h declares: so the
 library links beside any other, also beside another one of the toolchain, and a program links with nothing else.
 

@@ -1,12 +1,12 @@
-/* The calls that `spki.h` declares. Each refuses misuse, puts the address of an octet in the place of a null pointer, and passes on
- * to a call of the proved library, which takes no null pointer. Beside this, the strings of a request are joined to one text here, and
- * the octets that a verifier is asked are given their addresses. */
+/* The functions that `spki.h` declares. Each refuses misuse, replaces a null pointer by the address of an octet, and calls a function of
+ * the proved library, which accepts no null pointer. This file also joins the strings of a request to one text, and sets the addresses
+ * of the texts that a verifier is asked about. */
 #include "spki.h"
 
 #include <stdlib.h>
 #include <string.h>
 
-/* The pointer to a guard: the library's own, and one that is lent to a call. */
+/* A pointer to a guard: one that owns the guard, and one that is lent to a call. */
 struct handle {
     void *at;
 };
@@ -33,13 +33,13 @@ uint32_t spki_c_guard_answer(uint32_t wish, struct lent *lent, const unsigned ch
                              const unsigned char *verified, size_t verified_count, unsigned char *buffer, size_t buffer_length,
                              size_t *needed);
 
-/* Whether no octets can be there: a null pointer with a length, or more octets than memory has. */
+/* Whether a text or a buffer is misuse: a null pointer with a length, or more octets than memory can have. */
 static int is_misuse(const void *octets, size_t length)
 {
     return length > PTRDIFF_MAX || (!octets && length);
 }
 
-/* A text, or in the place of a null pointer the address of an octet that is never read. */
+/* The address of a text. For a null pointer it is the address of an octet that is never read. */
 static const unsigned char *text_at(const void *text)
 {
     static const unsigned char no_text;
@@ -112,13 +112,13 @@ size_t spki_guard_entries(const spki_guard *guard)
 
 /* ---- questions */
 
-/* How many digits a number has. */
+/* The number of decimal digits of a number. */
 static size_t digits_of(size_t number)
 {
     return number < 10 ? 1 : digits_of(number / 10) + 1;
 }
 
-/* Writes LENGTH:OCTETS, and returns where it ends. */
+/* Writes LENGTH:OCTETS, and returns the address behind it. */
 static unsigned char *put_string(unsigned char *to, const struct spki_text *text)
 {
     size_t left = text->length, digits = digits_of(left), at = digits;
@@ -130,7 +130,7 @@ static unsigned char *put_string(unsigned char *to, const struct spki_text *text
     return to + digits + 1 + text->length;
 }
 
-/* The length of the request that strings are, or more than the limit if it is more. */
+/* The length of a request of strings in canonical form. If it is over SPKI_MOST_OCTETS, so is the result, which need not be exact. */
 static size_t joined_length(const struct spki_text *words, size_t count)
 {
     size_t whole = count == 1 ? 0 : 2, index;
@@ -139,7 +139,7 @@ static size_t joined_length(const struct spki_text *words, size_t count)
     return whole;
 }
 
-/* The request that strings are, in canonical form: the list of them, or the string if there is one. */
+/* Writes a request of strings in canonical form: the list of them, or the string if there is only one. */
 static void join(unsigned char *to, const struct spki_text *words, size_t count)
 {
     size_t index;
@@ -151,12 +151,14 @@ static void join(unsigned char *to, const struct spki_text *words, size_t count)
         *to = ')';
 }
 
-/* Whether a question has a text that cannot be there. */
+/* Whether a text of a question is misuse. */
 static int is_misused(const struct spki_question *question)
 {
     size_t index;
     if (is_misuse(question->sequence.octets, question->sequence.length) || is_misuse(question->key.octets, question->key.length)
         || is_misuse(question->request.octets, question->request.length) || is_misuse(question->moment.octets, question->moment.length))
+        return 1;
+    if (question->words ? question->word_count > PTRDIFF_MAX / sizeof *question->words : question->word_count)
         return 1;
     for (index = 0; question->words && index < question->word_count; index++)
         if (is_misuse(question->words[index].octets, question->words[index].length))
@@ -164,7 +166,7 @@ static int is_misused(const struct spki_question *question)
     return 0;
 }
 
-/* A line that is written here, as it would be by the library. */
+/* Writes the line of a refusal, as the library does. */
 static enum spki_status refuse(const char *line, unsigned char *buffer, size_t buffer_length, size_t *needed)
 {
     *needed = strlen(line);
@@ -174,7 +176,7 @@ static enum spki_status refuse(const char *line, unsigned char *buffer, size_t b
     return SPKI_REFUSED;
 }
 
-/* What is done with a question, if nothing is misused: `signatures` is null for an answer. */
+/* A call about a question, without misuse. It lists signatures if `count` is not null, and answers otherwise. */
 struct call {
     const spki_guard *guard;
     const struct spki_question *question;
@@ -187,7 +189,7 @@ struct call {
     size_t buffer_length, *needed;
 };
 
-/* Asks the library. */
+/* Calls the library. */
 static enum spki_status ask(const struct call *call, struct spki_text request)
 {
     const struct spki_question *question = call->question;
@@ -207,7 +209,7 @@ static enum spki_status ask(const struct call *call, struct spki_text request)
                                call->needed);
 }
 
-/* Joins the strings of a request, if it has them, and asks the library. */
+/* Joins the strings of a request, if it has strings, and calls the library. */
 static enum spki_status ask_joined(const struct call *call)
 {
     const struct spki_question *question = call->question;
@@ -229,7 +231,8 @@ static enum spki_status ask_joined(const struct call *call)
     return status;
 }
 
-/* Gives each text its place in the buffer. So far the lengths lie one behind another at the front of the signatures. */
+/* Sets the address and the length of each text. `end` is the end of the octets of all texts. Before the call the lengths of all texts
+ * are at the front of the signatures, one behind another. */
 static void give_places(struct spki_signed *signatures, size_t count, const unsigned char *end)
 {
     size_t length[3];

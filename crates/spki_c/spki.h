@@ -11,7 +11,7 @@
  *     size_t count, index;
  *     if (spki_guard_open(list, list_length, SPKI_STRICT, NULL, &guard, line, sizeof line, NULL) != SPKI_DONE) ...
  *     question.sequence = ...                    from the client
- *     question.key = ...                         of the client, who has shown to hold it
+ *     question.key = ...                         of the client, who has proved to hold it
  *     question.words = ...                       what is asked for
  *     question.seconds = ...                     now
  *     if (spki_guard_signed(guard, &question, signatures, 16, &count, octets, sizeof octets, NULL) != SPKI_DONE) ...
@@ -19,18 +19,17 @@
  *         verified[index] = is_signed(signatures[index].key, signatures[index].message, signatures[index].value);
  *     if (spki_guard_decide(guard, &question, verified, count, line, sizeof line, NULL) == SPKI_YES) ...
  *
- * A call gives one answer: the octets that the program `spki` writes to the case, and a status. Of a case as one text:
+ * A call returns one answer: the octets that the program `spki` writes for the case, and a status. For a case as one text:
  *
  *     unsigned char line[64];
  *     size_t length;
  *     enum spki_status status = spki_check_accepted(text, text_length, rows, rows_length, line, sizeof line, &length);
  *     if (status == SPKI_YES) ...
  *
- * Only SPKI_YES is a yes, and only a decision answers it: SPKI_CHECK, spki_check_accepted and spki_guard_decide. Take every other
- * status for a no.
+ * Only SPKI_YES is a yes, and only a decision returns it: SPKI_CHECK, spki_check_accepted and spki_guard_decide. Treat every other
+ * status as a no.
  *
- * How a case is put together, where no guard is held. The library cannot see which part of a text came from whom, so the caller
- * must:
+ * How to write a case, if no guard is used. The library cannot see which part of a text came from whom, so the caller must:
  *
  * - Write a string from outside, as a path or a user's name, as LENGTH:OCTETS: its number of octets in decimal, a colon, and the
  *   octets as they are. Never paste it. `(cache /cache/team1/a.o read write)` is a request of four strings, which a right to
@@ -38,14 +37,14 @@
  *   both, so it is no check of a string.
  * - Put a whole value from outside, as a sequence or a key, through SPKI_CANONICAL, and write its answer into the case. It accepts
  *   one value and no more, so that the text cannot end its part of the case and begin another one.
- * - Take the key from an asker who has shown to hold it, as in TLS or SSH or by a signed nonce. A public key is public: whoever
+ * - Use a key only if the client has proved to hold it, as in TLS or SSH or by a signed nonce. A public key is public: whoever
  *   sends Alice's key would have Alice's rights.
  * - Write the access list, the rows and the moment alone, and end the case with `(policy strict)` unless hashes by SHA-1 must name
  *   keys.
  * - Bound the length of what strangers send, as to 65,536 octets, and the number of their certificates, as to 16. On some texts
  *   with more a decision takes minutes, and a call cannot be ended.
  *
- * What else the caller must keep to, which no proof can see:
+ * What else the caller must ensure. No proof sees these points:
  *
  * - A pointer with a length points to as many octets, and no other thread writes them meanwhile. The pointer may be null if the
  *   length is 0. The contents of the buffer before the call do not matter. `needed` may be null.
@@ -73,7 +72,7 @@
 extern "C" {
 #endif
 
-/* What is done with a text, which is one value in any of the three forms of RFC 9804. */
+/* Commands. Each takes a text, which is one value in any of the three forms of RFC 9804. */
 enum spki_command {
     SPKI_CANONICAL = 0, /* writes its canonical form, with no line feed behind it; the others end in one */
     SPKI_ADVANCED = 1,  /* writes it in advanced form */
@@ -86,31 +85,31 @@ enum spki_command {
 
 /* The numbers never change their meaning. 3 is not used. */
 enum spki_status {
-    SPKI_YES = 0,       /* a decision: the request is granted. No call that decides nothing answers it */
+    SPKI_YES = 0,       /* a decision: the request is granted. Only decisions return it */
     SPKI_NO = 1,        /* a decision: the request is not granted */
     SPKI_REFUSED = 2,   /* the answer is a line that begins with `refused`: the text is no input, or memory ran out */
     SPKI_TOO_SMALL = 4, /* the buffer is too small: nothing is written to it, and `*needed` is the length of the answer */
     SPKI_MISUSED = 5,   /* no such command, a null pointer with a length, or another misuse: there is no answer, and `*needed` is 0 */
-    SPKI_DONE = 6,      /* no decision: what was asked for is written, and says nothing of whether the request is granted */
+    SPKI_DONE = 6,      /* no decision: the answer is written. It does not say whether the request is granted */
     SPKI_NONE = 7       /* spki_string: the value has no string there */
 };
 
-/* Does a command with a text. The answer is written to the front of the buffer, and the rest of the buffer is unchanged. `*needed`
+/* Runs a command on a text. The answer is written to the front of the buffer, and the rest of the buffer is unchanged. `*needed`
  * is the length of the answer. A text of more than 1,048,576 octets is `refused form TooLong`.
  *
- * SPKI_CHECK answers SPKI_YES or SPKI_NO, and every other command SPKI_DONE, also SPKI_EXPLAIN and SPKI_REDUCE where no entry grants
+ * SPKI_CHECK returns SPKI_YES or SPKI_NO. Every other command returns SPKI_DONE, also SPKI_EXPLAIN and SPKI_REDUCE if no entry grants
  * the request.
  *
- * In a case the rows of `(accepted ..)` say which signatures the caller has verified. spki_check_accepted takes them apart. */
+ * In a case the rows of `(accepted ..)` say which signatures the caller has verified. spki_check_accepted takes them separately. */
 enum spki_status spki_answer(enum spki_command command, const void *text, size_t text_length, void *buffer, size_t buffer_length,
                              size_t *needed);
 
-/* Decides a case by rows that are a text of their own: `rows` is `(accepted ROW ..)`, and each row says that the caller has
- * verified a signature. The rows in the case itself are read and never used, so that nobody brings rows of their own with a
- * sequence. The other parts of the case are the caller's to write all the same: see above how.
+/* Decides a case by rows in a separate text: `rows` is `(accepted ROW ..)`, and each row says that the caller has verified a
+ * signature. The rows in the case itself are read and never used, so that a client cannot add rows of its own. The caller must still
+ * write the other parts of the case as described above.
  *
- * The answer is that of SPKI_CHECK, and a refusal of `rows` begins with `refused rows`. The case is read first: where it is refused,
- * the answer says so, whatever `rows` is. The buffer and `needed` are as above. */
+ * The answer is that of SPKI_CHECK, and a refusal of `rows` begins with `refused rows`. The case is read first: if it is refused, the
+ * answer says so, whatever `rows` is. The buffer and `needed` are as above. */
 enum spki_status spki_check_accepted(const void *text, size_t text_length, const void *rows, size_t rows_length, void *buffer,
                                      size_t buffer_length, size_t *needed);
 
@@ -131,23 +130,23 @@ enum spki_policy {
     SPKI_STRICT = 1 /* hashes by SHA-1 name no key, as `(policy strict)` in a case */
 };
 
-/* Limits of each question. A null pointer in place of them sets the highest, SPKI_MOST_OCTETS and SPKI_MOST_NODES. */
+/* Limits of each question. A null pointer means the highest, SPKI_MOST_OCTETS and SPKI_MOST_NODES. */
 struct spki_limits {
     size_t octets; /* the most octets of a question's texts together: more are `refused question TooLong` */
     size_t nodes;  /* the most nodes of one tag times nodes of another, whose intersection is computed: more are `refused TooLarge` */
 };
 
-/* An access list that was read once and is asked often. A call that is given one never changes it. */
+/* An access list that is read once and asked often. No question changes it. */
 typedef struct spki_guard spki_guard;
 
-/* What is asked. Each part is one value in any of the three forms of RFC 9804, and is read by itself. */
+/* A question. Each part is one value in any of the three forms of RFC 9804, and is read separately. */
 struct spki_question {
     struct spki_text sequence;     /* `(sequence ..)`: the certificates that are shown */
-    struct spki_text key;          /* `(public-key ..)` of an asker who has shown to hold it */
+    struct spki_text key;          /* `(public-key ..)` of a client who has proved to hold it */
     struct spki_text request;      /* what is asked for, if `words` is null */
     const struct spki_text *words; /* what is asked for, by its strings, whose octets may be any: the list of them, or the string
                                       if there is one */
-    size_t word_count;
+    size_t word_count;             /* how many strings; 0 if `words` is null */
     struct spki_text moment;       /* a date, as `19:2024-01-01_00:00:00`, if `seconds` is null */
     const int64_t *seconds;        /* the moment in seconds since 1970-01-01 00:00:00 UTC */
 };
@@ -166,31 +165,31 @@ struct spki_signed {
 enum spki_status spki_guard_open(const void *list, size_t list_length, enum spki_policy policy, const struct spki_limits *limits,
                                  spki_guard **guard, void *buffer, size_t buffer_length, size_t *needed);
 
-/* Frees a guard, which no other call may use then or later. A null pointer is left alone. */
+/* Frees a guard. No other call may use it then or later. A null pointer has no effect. */
 void spki_guard_close(spki_guard *guard);
 
-/* How many entries the access list has; 0 if the pointer is null. */
+/* The number of entries of the access list; 0 if the pointer is null. */
 size_t spki_guard_entries(const spki_guard *guard);
 
-/* Lists the signatures of a question that are to be verified. A verifier is asked of no others.
+/* Lists the signatures of a question that are to be verified. No other signature matters.
  *
  * SPKI_DONE: the first `*count` of the signatures are set, and their octets are the first `*needed` in the buffer.
- * SPKI_TOO_SMALL: `room` is below `*count` or the buffer is too small, and neither is written. `*count` and `*needed` say how many
- * are wanted. SPKI_REFUSED: as of spki_guard_decide, and `*count` is 0. */
+ * SPKI_TOO_SMALL: `room` is below `*count` or the buffer is too small, and neither is written. `*count` and `*needed` say how much
+ * room is needed. SPKI_REFUSED: as for spki_guard_decide, and `*count` is 0. */
 enum spki_status spki_guard_signed(const spki_guard *guard, const struct spki_question *question, struct spki_signed *signatures,
                                    size_t room, size_t *count, void *buffer, size_t buffer_length, size_t *needed);
 
 /* Decides a question, if exactly those signatures are valid that spki_guard_signed lists at the places where `verified` is 1. Every
- * other number says that a signature is not valid. `count` must be the count of spki_guard_signed, or the call is SPKI_MISUSED.
+ * other number says that a signature is not valid. `count` must be the count of spki_guard_signed, otherwise the call is SPKI_MISUSED.
  *
- * SPKI_YES with `yes entry N`, or SPKI_NO with `no`, as SPKI_CHECK has them for the case of these parts and the guard's list.
+ * Returns SPKI_YES with `yes entry N`, or SPKI_NO with `no`, as SPKI_CHECK does for the case of these parts and the guard's list.
  * SPKI_REFUSED: the line says which part is refused, as `refused sequence Bad 5` for what is no text of a value, or
  * `refused sequence 3 Shape` for a value that is no sequence; `refused key ..`, `refused request ..`, `refused at ..`; or
  * `refused question TooLong`, `refused TooLarge`, `refused Memory`. */
 enum spki_status spki_guard_decide(const spki_guard *guard, const struct spki_question *question, const unsigned char *verified,
                                    size_t count, void *buffer, size_t buffer_length, size_t *needed);
 
-/* As spki_guard_decide, but writes the lines of SPKI_EXPLAIN or SPKI_REDUCE, and answers SPKI_DONE in the place of yes and no. */
+/* Like spki_guard_decide, but write the lines of SPKI_EXPLAIN or SPKI_REDUCE, and return SPKI_DONE in place of yes and no. */
 enum spki_status spki_guard_explain(const spki_guard *guard, const struct spki_question *question, const unsigned char *verified,
                                     size_t count, void *buffer, size_t buffer_length, size_t *needed);
 enum spki_status spki_guard_reduce(const spki_guard *guard, const struct spki_question *question, const unsigned char *verified,
@@ -198,8 +197,8 @@ enum spki_status spki_guard_reduce(const spki_guard *guard, const struct spki_qu
 
 /* ---- strings */
 
-/* Finds the octets of a string inside a value in canonical form. They lie in the text. Each number of the path is that of the member
- * of a list to go into, from 0: in `(public-key (rsa-pkcs1-sha256 (e #010001#) (n |..|)))` the path {1, 2, 1} leads to the modulus.
+/* Finds the octets of a string inside a value in canonical form. They are in the text. Each number of the path is that of the list
+ * member to enter, from 0: in `(public-key (rsa-pkcs1-sha256 (e #010001#) (n |..|)))` the path {1, 2, 1} leads to the modulus.
  * With a depth of 0 the text itself is the string.
  *
  * SPKI_DONE: `*octets` and `*length` are set. With every other status they are null and 0. SPKI_NONE: no string is there.

@@ -1,4 +1,4 @@
--- What C programs get of guards that they hold.
+-- What a C program receives from the guards that it holds.
 use Rattle.std.specs.Prelude.{◌≡◌, ◌⊎◌, ◌==◌, ℕ, ◌<◌, ◌≤◌, ℤ, List, [], ◌∷◌, ◌++◌, length, map, drop, Bool, Option, Some}
 use Rattle.spki_cert.specs.declared.principal.Policy.{Policy}
 use Rattle.spki_cert.specs.declared.principal.Policy.TheVariants.{Open, Strict}
@@ -31,13 +31,13 @@ wish_number Reduce = 4
 wish_number Decide = 5
 wish_number Explain = 6
 
--- the status of the answer to a question: yes and no are those of a decision alone
+-- the status of the answer to a question: only a decision has the status of yes or no
 abbrev pub status_for : Wish → Verdict → ℕ
 status_for Decide verdict = decided verdict
 status_for Explain verdict = written verdict
 status_for Reduce verdict = written verdict
 
--- what octets mark: 1 is true, and every other number false
+-- the marks of octets: 1 is true, and every other number is false
 abbrev pub marks_from : List ℕ → List Bool
 marks_from octets = map (λ n. n == 1) octets
 
@@ -47,7 +47,7 @@ abbrev pub IsRequest : List ℕ → Wanted → Type 0
 IsRequest text (wanted.Text octets) = octets.now ≡ text
 IsRequest text (wanted.Words words) = ⊥
 
--- the first of the seconds, or the text where there are none
+-- the first of the seconds, or the text if there are none
 abbrev pub IsMoment : List ℕ → List ℤ → Instant → Type 0
 IsMoment text [] (moments.Text octets) = octets.now ≡ text
 IsMoment text [] (moments.Seconds n) = ⊥
@@ -63,7 +63,7 @@ pub record HasParts (sequence key request moment : List ℕ) (seconds : List ℤ
 
 -- ---- opened
 
--- The list was read, and the handle has its guard.
+-- The list is read, and the handle has its guard.
 pub record IsOpened (list : List ℕ) (p : Policy) (octets nodes : ℕ) (held : Option Held) (old new : List ℕ) (needed status : ℕ) : Type 0 where
   pub guard : Held
   pub held_is : held ≡ Some guard
@@ -75,11 +75,11 @@ pub record IsOpened (list : List ℕ) (p : Policy) (octets nodes : ℕ) (held : 
   pub needed_is : needed ≡ 0
   pub status_is : status ≡ 6
 
--- the line of a list that isn't read, and of want of memory
+-- the line of a list that is refused, or that memory ran out
 abbrev pub IsListLine : List ℕ → List ℕ → Type 0
 IsListLine list output = ((fault : AclFault) × IsNoList list fault × (output ≡ refused_list fault)) ⊎ (output ≡ refused_memory)
 
--- The list was refused, or memory ran out. The line says which, and the handle is as it was.
+-- The list is refused, or memory ran out. The line says which, and the handle is unchanged.
 pub record IsUnopened {H : Type 0} (list : List ℕ) (before after : H) (old new : List ℕ) (needed status : ℕ) : Type 0 where
   pub kept : after ≡ before
   pub output : List ℕ
@@ -95,7 +95,7 @@ pub record IsAnswered (wish : Wish) (guard : Held) (q : Question) (marks : List 
   pub answer : IsAnswerHeld wish guard q marks verdict output
   pub handed : IsHanded old new needed status (status_for wish verdict) output
 
--- The question has another number of signatures than there are marks.
+-- The question has more or fewer signatures than there are marks.
 pub record IsMiscounted (guard : Held) (q : Question) (marks : List Bool) (old new : List ℕ) (needed status : ℕ) : Type 0 where
   pub other : HasOtherCount guard q marks
   pub misuse : IsMisuse old new needed status
@@ -106,7 +106,7 @@ IsAsked wish guard q marks old new needed status =
 
 -- ---- listed
 
--- The octets stand in front of what was in the buffer, and their lengths in front of what was in theirs.
+-- The octets are at the front of the buffer, and their lengths at the front of the other buffer. The rest of both is unchanged.
 pub record AreWritten (places more old new ls octets : List ℕ) (status : ℕ) : Type 0 where
   pub lengths_are : more ≡ ls ++ drop (length ls) places
   pub octets_are : new ≡ octets ++ drop (length octets) old
@@ -118,14 +118,14 @@ pub record AreKeptBack (places more old new : List ℕ) (status : ℕ) : Type 0 
   pub unchanged : new ≡ old
   pub status_is : status ≡ 4
 
--- Lengths and octets are told by their numbers, and written exactly where there is room for both.
+-- The numbers of lengths and of octets are returned. Both are written exactly if there is room for both.
 pub record AreHanded (places more old new : List ℕ) (count needed status : ℕ) (ls octets : List ℕ) : Type 0 where
   pub count_is : count ≡ length ls
   pub needed_is : needed ≡ length octets
   pub fit : length ls ≤ length places → length octets ≤ length old → AreWritten places more old new ls octets status
   pub too_small : (length places < length ls) ⊎ (length old < length octets) → AreKeptBack places more old new status
 
--- What a verifier is asked of the question is in the buffers.
+-- What a verifier is asked about the question is in the buffers.
 pub record IsListed (guard : Held) (q : Question) (places more old new : List ℕ) (count needed status : ℕ) : Type 0 where
   pub octets : List ℕ
   pub lengths : List ℕ

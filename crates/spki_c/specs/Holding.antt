@@ -12,12 +12,12 @@ use Rattle.spki_service.specs.contracts.guard.Guard.{the_row}
 abbrev pub heap : Global
 heap = record { memory = record { seal = tt } }
 
--- A guard on the heap, with the right to free it; and nothing where there is none.
+-- A guard on the heap, with the right to free it; nothing if the handle has no guard.
 abbrev pub held_owns : Ptr → Option the_row.Denot → Fml
 held_owns p None = ftrue
 held_owns p (Some g) = box_owns (ghosts.dealloc_token heap) the_row p g
 
--- The guard is lent for a lifetime, and here is a share of that lifetime's token: so it lasts as long as the call.
+-- The guard is lent for a lifetime, and a share of the token of that lifetime is owned. So the lifetime lasts as long as the call.
 abbrev pub lent_for : Ptr → the_row.Denot → Lft × Share → Fml
 lent_for p g s = fsep (flft s.0 s.1) (lent_at the_row p g s.0)
 

@@ -12,29 +12,29 @@ abbrev pub if_there : {A B : Type 0} → Option A → (A → Option B) → Optio
 if_there None f = None
 if_there (Some a) f = f a
 
--- the octets of a string, whatever its display hint
+-- the octets of a string, with or without a display hint
 abbrev pub octets_of : Value → Option (List ℕ)
 octets_of (string hint octets) = Some octets
 octets_of (list vs) = None
 
--- The octets of the string to which a path leads: each number is that of the member to go into, counted from 0.
+-- The octets of the string to which a path leads. Each number of the path selects a member of a list, counted from 0.
 abbrev pub octets_at : Value → List ℕ → Option (List ℕ)
 octets_at v [] = octets_of v
 octets_at v (n ∷ path) = if_there (slice_get (parts v) n) (λ m. octets_at m path)
 
--- There are octets, and they stand in the text at this offset, so many.
+-- There is such a string, and its octets are in the text at this offset, with this length.
 pub record StandsIn (text : List ℕ) (there : Option (List ℕ)) (at count : ℕ) : Type 0 where
   pub octets : List ℕ
   pub there_is : there ≡ Some octets
   pub place : LiesAt text octets at
   pub counted : count ≡ length octets
 
--- The member of this number, from 0, whose canonical text stands in that of the list at this offset.
+-- The member with this number, counted from 0. Its canonical text is in that of the list at this offset.
 pub record IsMember (v : Value) (n : ℕ) (m : Value) (at : ℕ) : Type 0 where
   pub is : slice_get (parts v) n ≡ Some m
   pub place : LiesAt (canon v) (canon m) at
 
--- The text is a value in canonical form within the limits; and there is such a string, whose octets stand in the text, or there is
+-- The text is a value in canonical form within the limits. Either there is such a string, and its octets are in the text, or there is
 -- none.
 pub record IsFound (text path : List ℕ) (at count status : ℕ) : Type 0 where
   pub value : Value

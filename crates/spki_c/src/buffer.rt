@@ -1,4 +1,4 @@
-//! How an answer is handed to a caller.
+//! Writes answers into the buffers of a caller.
 ghost use Rattle.std.specs.Prelude.{◌≡◌};
 ghost use Rattle.spki_guard.specs.Answer.{written_by};
 ghost use Rattle.spki_c.specs.Guards.{AreHanded};
@@ -7,8 +7,9 @@ ghost use Rattle.spki_c.specs.Handed.{IsHanded};
 use crate::numbers::{DONE, MISUSED, TOO_SMALL};
 use spki_guard::{Answer, SignedOctets};
 
-/// Puts an answer into a buffer, if it is large enough, and tells its length. The status is the one that is given, or that the
-/// buffer is too small.
+/// Writes an answer to the front of a buffer, and sets `needed` to its length. Returns the given status.
+///
+/// If the buffer is too small, it is unchanged, and the status says so.
 pub fn hand_over(answer: &Answer, status: u32, buffer: &mut [u8], needed: &mut usize) -> u32
     ensures { IsHanded buffer.old buffer.new needed.new result status (written_by answer.now) }
 {
@@ -21,8 +22,10 @@ pub fn hand_over(answer: &Answer, status: u32, buffer: &mut [u8], needed: &mut u
     status
 }
 
-/// Puts what a verifier is asked into a buffer and its lengths beside it, if both are large enough, and tells how many lengths and
-/// octets there are.
+/// Writes the texts that a verifier is asked about: their lengths to the front of `lengths`, and their octets to the front of
+/// `buffer`. Sets `count` to the number of lengths, and `needed` to the number of octets.
+///
+/// If one of the two is too small, both are unchanged, and the status says so.
 pub fn hand_over_signed(
     signed: &SignedOctets,
     lengths: &mut [usize],
@@ -44,7 +47,7 @@ pub fn hand_over_signed(
     DONE
 }
 
-/// Says that there is no such command.
+/// Returns the status of misuse, and sets `needed` to 0.
 pub fn misused(needed: &mut usize) -> u32
     ensures status { result ≡ 5 }
     ensures needed { needed.new ≡ 0 }

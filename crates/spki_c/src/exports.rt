@@ -1,4 +1,4 @@
-//! The exported calls.
+//! The exported functions that take texts: commands, decisions by separate rows, and strings inside a value.
 ghost use Rattle.std.specs.Prelude.{◌≡◌, ◌≢◌, ◌⊎◌, ℕ, List};
 ghost use Rattle.spki_words.specs.declared.commands.Command.{Command};
 ghost use Rattle.spki_guard.specs.declared.answers.Verdict.{Verdict};
@@ -14,11 +14,11 @@ use sexpr_core::Doc;
 use spki_guard::{Command, answer_text, check_accepted};
 use std::alloc::Global;
 
-/// Does the command of this number with a text in any of the three forms, and puts the answer into the buffer.
+/// Runs the command of this number on a text in any of the three forms, and writes the answer to the front of the buffer.
 ///
-/// The status of `check` is 0 for yes and 1 for no. That of every other command is 6 for an answer that is written, whether it
-/// says yes or no. It is 2 for a refusal, 4 where the buffer is too small, which stays as it is then, and 5 where no command has
-/// this number. In all cases `needed` is the length of the answer.
+/// The command `check` returns 0 for yes and 1 for no. Every other command returns 6, also if no entry grants the request. All
+/// return 2 for a refusal, 4 if the buffer is too small, and 5 if no command has this number. `needed` is the length of the
+/// answer, and 0 with status 5. With 4 and 5 the buffer is unchanged.
 #[unsafe(no_mangle)]
 pub extern "C" fn spki_c_answer(
     alloc: Global,
@@ -46,8 +46,8 @@ pub extern "C" fn spki_c_answer(
     }
 }
 
-/// Decides a case by an accepted list that stands apart from it, `(accepted row ..)`, and puts the answer into the buffer, as
-/// `spki_c_answer` does with that of `check`. None of the rows of the case's own accepted list is asked.
+/// Decides a case by a separate accepted list, `(accepted row ..)`, and writes the answer to the front of the buffer. The status,
+/// the buffer and `needed` are as for `check` in `spki_c_answer`. The rows in the case are not used.
 #[unsafe(no_mangle)]
 pub extern "C" fn spki_c_check_accepted(
     alloc: Global,
@@ -69,11 +69,12 @@ pub extern "C" fn spki_c_check_accepted(
     )
 }
 
-/// Finds the octets of the string inside a value in canonical form to which a path leads: each number is that of the member to go
-/// into, from 0.
+/// Finds a string inside a value in canonical form. The path leads to it: each number is that of the list member to enter,
+/// from 0.
 ///
-/// The status is 6 where they are found, and their offset and number are told, 7 where no string is there, and 2 where the text is no
-/// value in canonical form within the limits or memory was refused.
+/// Returns 6 if there is a string, and sets `at` to the offset of its octets in the text and `length` to their number. Otherwise
+/// both are unchanged: returns 7 if the path leads to no string, and 2 if the text is no value in canonical form within the limits
+/// or memory ran out.
 #[unsafe(no_mangle)]
 pub extern "C" fn spki_c_string(
     alloc: Global,

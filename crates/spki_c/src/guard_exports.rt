@@ -1,4 +1,4 @@
-//! The exported calls of guards that a caller holds.
+//! The exported functions for guards that a caller holds.
 ghost use Rattle.std.specs.Prelude.{◌≡◌, ◌≢◌, ◌⊎◌, ◌<◌, ◌≤◌, None, IsSome, length};
 ghost use Rattle.spki_cert.specs.declared.principal.Policy.{Policy};
 ghost use Rattle.spki_service.specs.declared.question.Question.{Question};
@@ -15,10 +15,10 @@ use crate::questions::{marks_of, question_of};
 use spki_guard::{AclFault, Limits, answer_question, refused_list, signed_octets};
 use std::alloc::Global;
 
-/// Reads an access list, in any of the three forms, into a guard that the caller holds.
+/// Reads an access list, in any of the three forms, into a guard on the heap. The caller holds the guard by the handle.
 ///
-/// The status is 6 where the handle has the guard, 2 for a refusal, 4 where the buffer is too small for its line, and 5 where no
-/// policy has this number or a limit is too high. The handle has a guard with status 6 alone.
+/// Returns 6 if the handle has the guard. Otherwise the handle is unchanged: returns 2 for a refusal, whose line is in the buffer, 4
+/// if the buffer is too small for the line, and 5 if no policy has this number or a limit is too high.
 #[unsafe(no_mangle)]
 pub extern "C" fn spki_c_guard_open(
     alloc: Global,
@@ -55,7 +55,7 @@ pub extern "C" fn spki_c_guard_open(
     }
 }
 
-/// Frees a guard that the caller held.
+/// Frees the guard of a handle.
 #[unsafe(no_mangle)]
 pub extern "C" fn spki_c_guard_close(alloc: Global, handle: Handle)
     requires held { IsSome handle.held }
@@ -63,7 +63,7 @@ pub extern "C" fn spki_c_guard_close(alloc: Global, handle: Handle)
     drop(handle.take(alloc).into_box());
 }
 
-/// How many entries a guard has.
+/// The number of entries of a guard.
 #[unsafe(no_mangle)]
 pub extern "C" fn spki_c_guard_entries(lent: &mut Lent) -> usize
     ensures { result ≡ length lent.old.guard.texts }
@@ -71,10 +71,12 @@ pub extern "C" fn spki_c_guard_entries(lent: &mut Lent) -> usize
     lent.guard().entries()
 }
 
-/// What a verifier is asked of a question: the octets into the buffer, one behind another, and how many each has into the lengths.
-/// There are three for each signature: the issuer's key, the message, and the signature's value, each in canonical form.
+/// Lists the signatures of a question for a verifier. Each has three texts in canonical form: the issuer's key, the message, and the
+/// value. Writes the octets of all texts to the front of the buffer, one text behind another, and the length of each to the front of
+/// `lengths`. The moment is the first of `seconds`, or the text `moment` if `seconds` is empty.
 ///
-/// The status is 6 where both are written, 4 where there is no room for one of them, and neither is written then, and 2 for a refusal.
+/// Returns 6 if both are written, and 4 if there is too little room for one of them. Then both are unchanged. `count` is the number
+/// of lengths, and `needed` the number of octets. Returns 2 if the question is refused: its line is in the buffer, and `count` is 0.
 #[unsafe(no_mangle)]
 pub extern "C" fn spki_c_guard_signed(
     alloc: Global,
@@ -103,11 +105,11 @@ pub extern "C" fn spki_c_guard_signed(
     }
 }
 
-/// The answer to a question, where exactly the signatures that `spki_c_guard_signed` lists at the places where `verified` is 1 are
-/// valid.
+/// Answers a question, if exactly those signatures are valid that `spki_c_guard_signed` lists at the places where `verified` is 1.
+/// Writes the answer to the front of the buffer.
 ///
-/// The status of a decision is 0 for yes and 1 for no, and that of an explanation or a reduction is 6. It is 2 for a refusal, 4 where
-/// the buffer is too small, and 5 where there are not as many marks as signatures, or no wish has this number.
+/// A decision returns 0 for yes and 1 for no. An explanation or a reduction returns 6. All return 2 for a refusal, 4 if the buffer is
+/// too small, and 5 if there are more or fewer marks than signatures or no wish has this number.
 #[unsafe(no_mangle)]
 pub extern "C" fn spki_c_guard_answer(
     alloc: Global,

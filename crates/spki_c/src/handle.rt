@@ -1,4 +1,4 @@
-//! A handle.
+//! Pointers to guards that are passed to C and come back.
 ghost use Rattle.std.specs.Prelude.{◌≡◌, Some, None, IsSome};
 ghost use Rattle.std.specs.declared.option.Option.{Option};
 ghost use Rattle.std.specs.Coded.{coded_option};
@@ -9,7 +9,7 @@ use spki_guard::Guard;
 use std::alloc::Global;
 use std::marker::Model;
 
-/// A handle.
+/// A pointer to a guard on the heap. It owns the guard and the right to free it, if `held` has a guard.
 #[repr(C)]
 pub struct Handle {
     at: *mut u8,
@@ -20,7 +20,7 @@ impl Model for Handle {
     ghost also_owns = { λ h. held_owns h.at h.held };
 }
 
-/// A handle that is lent.
+/// A pointer to a guard that is lent to a call. The guard lasts at least as long as the call.
 #[repr(C)]
 pub struct Lent {
     at: *const u8,
@@ -32,6 +32,7 @@ impl Model for Lent {
 }
 
 impl Handle {
+    /// Takes over a guard. The handle must have none.
     pub(crate) fn hold(&mut self, loose: Loose<Guard, Global>)
         requires { self.old.held ≡ None }
         ensures { self.new.held ≡ Some loose.value }
@@ -40,6 +41,7 @@ impl Handle {
         self.at = at as *mut u8;
     }
 
+    /// Returns the guard, with the right to free it.
     pub(crate) fn take(self, alloc: Global) -> Loose<Guard, Global>
         requires { IsSome self.held }
         ensures { self.held ≡ Some result.value }
@@ -53,6 +55,7 @@ impl Handle {
 }
 
 impl Lent {
+    /// The guard that is lent.
     pub(crate) fn guard(&mut self) -> &Guard
         ensures { result.now ≡ self.entry.now.guard }
     {

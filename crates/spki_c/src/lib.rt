@@ -1,5 +1,6 @@
-//! What C programs call: each command from a text to an answer in a buffer, decisions by signatures that the caller has verified,
-//! and questions to a guard that the caller holds. `spki.h` declares it, and says what a caller has to keep to.
+//! The proved part of the library for C programs: commands from a text to an answer in a buffer, decisions by signatures that the
+//! caller has verified, and questions to a guard that the caller holds. `spki.c` calls these functions. `spki.h` declares what C
+//! programs call, and lists what a caller must ensure.
 #![tactic(auto)]
 
 mod buffer;

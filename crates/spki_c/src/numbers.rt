@@ -1,32 +1,33 @@
-//! The numbers of commands and of statuses.
+//! The numbers of commands, of wishes and of statuses.
 ghost use Rattle.std.specs.Prelude.{◌≡◌, ◌≢◌, MatchOption};
 ghost use Rattle.spki_c.specs.Guards.{wish_number, status_for};
 ghost use Rattle.spki_c.specs.Numbers.{number_of, status_of, decided, written};
 
 use spki_guard::{Command, Verdict, Wish};
 
-/// The status of a decision that is a yes.
+/// The decision is yes. Only decisions have this status.
 pub const YES: u32 = 0;
 
-/// The status of a decision that is a no.
+/// The decision is no. Only decisions have this status.
 pub const NO: u32 = 1;
 
-/// The status of a refusal.
+/// The answer is a refusal.
 pub const REFUSED: u32 = 2;
 
-/// The status where the buffer is too small for the answer.
+/// A buffer is too small for the answer.
 pub const TOO_SMALL: u32 = 4;
 
-/// The status where there is no command of this number.
+/// The call is misused: a number has no meaning, a limit is too high, or there are more or fewer marks than signatures. There is no
+/// answer.
 pub const MISUSED: u32 = 5;
 
-/// The status of an answer that is written and decides nothing.
+/// The call is done, and its answer is no decision.
 pub const DONE: u32 = 6;
 
-/// The status where a value has no string.
+/// A path leads to no string.
 pub const NONE: u32 = 7;
 
-/// The command of a number.
+/// The command of a number, if there is one.
 pub fn command_of(number: u32) -> Option<Command>
     ensures { MatchOption result ((c : Command) → number ≢ number_of c) (λ c. number ≡ number_of c) }
 {
@@ -57,7 +58,7 @@ pub fn status_number(command: Command, verdict: Verdict) -> u32
     }
 }
 
-/// The wish of a number, which is that of the command that does the same with a case.
+/// The wish of a number, if there is one. A wish has the number of the command that does the same with a case.
 pub fn wish_of(number: u32) -> Option<Wish>
     ensures { MatchOption result ((w : Wish) → number ≢ wish_number w) (λ w. number ≡ wish_number w) }
 {

@@ -1,11 +1,11 @@
-//! A question from its texts, and marks from octets.
+//! Questions from texts, and marks from octets.
 ghost use Rattle.std.specs.Prelude.{IfOk, ◌≡◌};
 ghost use Rattle.spki_c.specs.Guards.{HasParts, IsMoment, marks_from};
 
 use spki_guard::{Instant, Question, Wanted};
 use std::alloc::{AllocError, Global};
 
-/// The question that has these texts. Its moment is the first of the seconds, or the text of the moment where there are none.
+/// The question with these texts. Its moment is the first of `seconds`, or the text `moment` if `seconds` is empty.
 pub(crate) fn question_of<'s>(
     sequence: &'s [u8],
     key: &'s [u8],
@@ -23,6 +23,7 @@ pub(crate) fn question_of<'s>(
     }
 }
 
+/// The moment of a question: the first of `seconds`, or the text if `seconds` is empty.
 fn instant_of<'s>(moment: &'s [u8], seconds: &[i64]) -> Instant<'s>
     ensures { IsMoment moment.entry.now seconds.now result }
 {
@@ -32,7 +33,7 @@ fn instant_of<'s>(moment: &'s [u8], seconds: &[i64]) -> Instant<'s>
     }
 }
 
-/// The marks that octets stand for: 1 is true, and every other octet is false.
+/// Returns a mark for each octet: true for 1, and false for every other octet.
 pub(crate) fn marks_of(alloc: Global, octets: &[u8]) -> Result<Vec<bool>, AllocError>
     ensures { IfOk result (λ marks. marks.items ≡ marks_from octets.now) }
 {

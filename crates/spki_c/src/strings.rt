@@ -1,4 +1,4 @@
-//! Where the octets of a string inside a value are.
+//! Finds strings inside values.
 ghost use Rattle.std.specs.Prelude.{◌≡◌, ◌≤◌, None, Some, length, slice_get, MatchOption};
 ghost use Rattle.sexpr_core.specs.Value.{canon};
 ghost use Rattle.sexpr_core.specs.Starts.{LiesAt};
@@ -6,17 +6,17 @@ ghost use Rattle.spki_c.specs.Strings.{parts, octets_of, octets_at, StandsIn, Is
 
 use sexpr_core::syntax::{Node, NodeKind};
 
-/// Where octets are in a text.
+/// A place in a text.
 #[derive(Clone, Copy, Debug, PartialEq, Eq)]
 pub(crate) struct Place {
-    /// The offset of the first of them, from 0.
+    /// The offset of its first octet, from 0.
     pub(crate) at: usize,
-    /// How many there are.
+    /// The number of its octets.
     pub(crate) length: usize,
 }
 
-/// Where the octets of the string are that a path leads to from a node, in the text of the node. The path has the number of the
-/// member to go into, from 0, for each list.
+/// The place of a string's octets in the text of a node. The path leads from the node to the string: each number is that of the
+/// list member to enter, from 0. None if it leads to no string.
 pub(crate) fn place_in(node: &Node, path: &[usize]) -> Option<Place>
     requires { length (canon node.now) ≤ 1048576 }
     ensures { MatchOption result (octets_at node.now path.now ≡ None)
@@ -35,7 +35,7 @@ pub(crate) fn place_in(node: &Node, path: &[usize]) -> Option<Place>
     }
 }
 
-/// Where the octets of a string are in its text: at its end.
+/// The place of a string's octets in the string's own text, which ends with them. None for a list.
 fn place_of_octets(node: &Node) -> Option<Place>
     ensures { MatchOption result (octets_of node.now ≡ None)
         (λ p. StandsIn (canon node.now) (octets_of node.now) p.at p.length) }
@@ -52,7 +52,7 @@ fn place_of_octets(node: &Node) -> Option<Place>
     }
 }
 
-/// The member of this number, from 0, of a list, and where its text begins in that of the list.
+/// The member of a list with this number, from 0, and the offset of its text in the text of the list. None if there is none.
 fn member_of<'d, 'a>(node: &Node<'d, 'a>, number: usize) -> Option<(Node<'d, 'a>, usize)>
     requires { length (canon node.now) ≤ 1048576 }
     ensures { MatchOption result (slice_get (parts node.now) number ≡ None) (λ r. IsMember node.now number r.0 r.1) }
