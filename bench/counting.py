@@ -17,7 +17,7 @@ def counted_by_valgrind(command, text):
 
 
 def counter():
-    """What counts the instructions of a command on an open text here: `perf`, or valgrind where that isn't there."""
+    """What counts the instructions of a command on an open text here: `perf`, or valgrind where that is not there."""
     try:
         if counted_by_perf(["true"], subprocess.DEVNULL) is not None:
             return counted_by_perf

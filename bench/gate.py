@@ -1,6 +1,6 @@
 #!/usr/bin/env python3
-"""Runs a command, `.ci/run` where none is given, and prints how many processor minutes its checks took: by crate, the proofs, the proofs
-of the tests, and the wrong bodies. What isn't a check (compilers, the tests as they run) is one row.
+"""Runs a command, by default `.ci/run`, and prints how many processor minutes its checks took: by crate, the proofs, the proofs
+of the tests, and the wrong bodies. What is not a check (compilers, the tests as they run) is one row.
 
 The processes are looked at each second, so that a process that ends between two looks loses up to a second. Measure on a quiet
 machine: beside other work the same check takes up to half as many processor seconds more.

@@ -2,7 +2,7 @@
 """Counts the instructions of `spki intersect` on pairs of sets, and prints how they grow with the members; and the peak
 memory of the largest answers, of 998,001 members.
 
-Instructions are counted by `perf stat`, or by valgrind where that isn't there; those of meeting two strings, which starting
+Instructions are counted by `perf stat`, or by valgrind where that is not there; those of meeting two strings, which starting
 the program takes anyway, are taken off. Build the program first (`rt run` in crates/spki).
 Usage: bench/intersect.py [PROGRAM]
 """

@@ -2,7 +2,7 @@
 """Times a decision by three certificates, in process through the library for C, beside libmacaroons' verification of a macaroon
 with three caveats. The decision is made from the text of a case, and through a guard that has the list already.
 
-They don't do the same work: a macaroon is checked with a secret that the service shares with whoever mints it, and its caveats
+They do not do the same work: a macaroon is checked with a secret that the service shares with whoever mints it, and its caveats
 are compared as whole texts. Of the certificates the digests are taken, and names, tags and windows are joined; that their signatures
 are right another tool has found before (for what that takes see bench/chains.py).
 
@@ -48,7 +48,7 @@ def measured(folder, library=LIBRARY):
             file.write(octets)
     words = ["cc", *FLAGS, "-I", os.path.join(TOP, "crates", "spki_c"), "-o", program, os.path.join(BENCH, "macaroons.c"), library]
     if subprocess.run([*words, "-lmacaroons"]).returncode:
-        sys.exit(f"bench/macaroons.c doesn't compile with {library}: build it by crates/spki_c/archive.py")
+        sys.exit(f"bench/macaroons.c does not compile with {library}: build it by crates/spki_c/archive.py")
     return tuple(map(float, subprocess.run([program, case, parts], stdout=subprocess.PIPE, check=True, text=True).stdout.split()))
 
 

@@ -3,10 +3,10 @@
 
 - A decision without certificates and one by three certificates on a list of 10,000 entries, beside a list of one.
 - Opening a guard of 1 MiB, beside a decision of a case of the same list.
-- A decision by three certificates, beside libmacaroons' verification of a macaroon with three caveats. Where libmacaroons isn't there
+- A decision by three certificates, beside libmacaroons' verification of a macaroon with three caveats. Where libmacaroons is not there
   (Debian: libmacaroons-dev) this is left out.
 - With limits of 64 KiB and 10,000 nodes, the time and the memory of the widest questions that are known.
-- A decision through the bindings for Rust and Python, beside the call in C. Where `cargo` isn't there Rust is left out.
+- A decision through the bindings for Rust and Python, beside the call in C. Where `cargo` is not there Rust is left out.
 - The decisions of 8 threads, each with a guard of its own, beside those of one. Where 8 threads that only count show that there are no four
   free cores, the decisions in a second of the processors are compared, as if there were four.
 
@@ -46,7 +46,7 @@ class Driver:
         self.room, self.program, self.library = room, os.path.join(room, "service"), library
         words = ["cc", *FLAGS, "-I", os.path.join(TOP, "crates", "spki_c"), "-o", self.program, os.path.join(BENCH, "service.c"), library]
         if subprocess.run(words).returncode:
-            sys.exit(f"bench/service.c doesn't compile with {library}: build it by crates/spki_c/archive.py")
+            sys.exit(f"bench/service.c does not compile with {library}: build it by crates/spki_c/archive.py")
 
     def file(self, name, octets):
         """The path of a file with these octets."""

@@ -41,11 +41,12 @@ def keys_of(length):
     return [key(f"k{place:05}") for place in range(length + 1)]
 
 
-def by_keys(length, tag=STAR, entries=1, asks=None):
-    """Each certificate delegates from one key to the next."""
+def by_keys(length, tag=STAR, entries=1, asks=None, turn=None):
+    """Each certificate delegates from one key to the next. Every second entry has the tag of the turn, if there is one."""
     keys = keys_of(length)
     links = [(certificate(issuer, subject, tag), issuer) for issuer, subject in zip(keys, keys[1:])]
-    return case([entry(keys[0], tag)] * entries, links, asks=asks or keys[-1])
+    listed = [entry(keys[0], turn or tag) if place % 2 else entry(keys[0], tag) for place in range(entries)]
+    return case(listed, links, asks=asks or keys[-1])
 
 
 def through_names(length, entries=1, asks=None):

@@ -1,9 +1,10 @@
 #!/usr/bin/env python3
 """Times `spki check` on the texts that are known to take longest for their octets: the table of README.md under "Limits".
 
-Each text is made for three lengths. A run is ended after a minute. All but the last text have a limit on the seconds at 1 MiB. All but
-the last and the one of the large product have a limit on how many times as long as a quarter of the octets that is, where it is long
-enough to be measured.
+Each text is made for three lengths. A run is ended after a minute. Each text except the last has a limit of seconds at 1 MiB, and each
+except the last and the one of entries in turns a limit on the ratio of that time to the time at 256 KiB, if the time is long enough to be
+measured. The entries in turns take time for each entry and each certificate, so they have a limit of their own. The exit status is 1 if a
+limit is exceeded or an answer is wrong.
 
 Build the program first (`rt run` in crates/spki). Usage: bench/slowest.py [PROGRAM]
 """
@@ -17,6 +18,7 @@ from shapes import a_set, by_keys, certificate, definition, digest, entry, name,
 SIZES = [64 * 1024, 256 * 1024, 1024 * 1024]
 SECONDS = 60
 LIMIT_SECONDS = 1.0
+LIMIT_SECONDS_IN_TURNS = 3.0
 LIMIT_RATIO = 5.0
 LEAST_SECONDS = 0.2
 
@@ -44,17 +46,22 @@ def chain(size):
     return f"1 entry, {certificates:,} certificates in a chain", by_keys(certificates, asks=key("other"))
 
 
-def entries_and_chain(size, tag=STAR, what="(*)"):
+def entries_and_chain(size, tag=STAR, what="all for (*)", turn=None):
     """Entries for the first issuer, and a chain of certificates."""
     link, one = len(by_keys(2, tag)) - len(by_keys(1, tag)), len(entry(key("k00000"), tag))
     certificates, entries = (size // 2 - 512) // link, (size // 2 - 512) // one
-    return (f"{entries:,} entries for the first issuer, {certificates:,} certificates in a chain, all for {what}",
-            by_keys(certificates, tag, entries=entries, asks=key("other")))
+    return (f"{entries:,} entries for the first issuer, {certificates:,} certificates in a chain, {what}",
+            by_keys(certificates, tag, entries=entries, asks=key("other"), turn=turn))
 
 
 def entries_and_tags(size):
-    """The same, where the product of all nodes is over the limit, so that each entry's tag is met with each certificate's."""
-    return entries_and_chain(size, group(string("ftp")), "(ftp)")
+    """The same, where the product of all nodes is over the limit, so that the entries' tag is met with each certificate's."""
+    return entries_and_chain(size, group(string("ftp")), "all for (ftp)")
+
+
+def entries_in_turns(size):
+    """The same, where each entry has another tag than the one before it, so that each entry's tag is met with each certificate's."""
+    return entries_and_chain(size, group(string("ftp")), "for (ftp), and every second entry for (*)", STAR)
 
 
 def entries_and_names(size):
@@ -111,20 +118,26 @@ def seconds_of(text):
     except subprocess.TimeoutExpired:
         return SECONDS, f"over {SECONDS} s"
     took = time.perf_counter() - begun
-    return took, f"{took:.2f} s" if done.stdout == b"no\n" else f"wrong answer: {done.stdout!r}"
+    if done.stdout != b"no\n":
+        sys.exit(f"wrong answer: {done.stdout!r}")
+    return took, f"{took:.2f} s"
 
 
 def is_within(make, times):
     """Whether the times of a text for these lengths are within the limits that it has."""
     before, last = times[-2:]
+    if make is large_tag:
+        return True
+    if make is entries_in_turns:
+        return last <= LIMIT_SECONDS_IN_TURNS
     grows = last >= LEAST_SECONDS and last > LIMIT_RATIO * before
-    return make is large_tag or last <= LIMIT_SECONDS and (make is entries_and_tags or not grows)
+    return last <= LIMIT_SECONDS and not grows
 
 
 def main():
     over = []
     print(f"{'octets':>9}  {'time':>10}  text")
-    for make in (chain, entries_and_chain, entries_and_tags, entries_and_names, long_key, long_issuer, long_name, large_tag):
+    for make in (chain, entries_and_chain, entries_and_tags, entries_in_turns, entries_and_names, long_key, long_issuer, long_name, large_tag):
         times = []
         for size in SIZES:
             what, text = make(size)

@@ -1,5 +1,5 @@
 #!/usr/bin/env python3
-"""Asks through the bindings of bindings/, in Rust and in Python, what the program answers, and compares the lines.
+"""Asks the bindings of bindings/, in Rust and in Python, what the program is asked, and compares the lines.
 
 Each case of the tables beside this file and of `chains.py` is taken apart, into the access list, the sequence, the key, the request and the
 moment. A guard is asked of them in two ways: as texts, and, where the request and the moment allow it, with the request by its strings

@@ -1,5 +1,5 @@
 #!/usr/bin/env python3
-"""Holds the pages for callers, crates/*/CALLING.md, against the sources that they quote.
+"""Compares the pages for callers, crates/*/CALLING.md, with the sources that they quote.
 
 The paragraph before a block of code ends with the block's file. A block under `## A caller` stands word for word in that file of
 crates/test_callers, which the gate proves. Any other block quotes, up to indentation and attributes of proofs: a call's doc comment, signature
@@ -121,7 +121,7 @@ def pieces(block):
 
 
 def place_of(piece, lines):
-    """Where the piece stands among the lines; None where it doesn't."""
+    """Where the piece stands among the lines; None where it does not."""
     return next((i for i in range(len(lines)) if lines[i:i + len(piece)] == piece), None)
 
 
@@ -129,7 +129,7 @@ def fault_of(piece, lines):
     """What is wrong with a quoted piece."""
     place = place_of(piece, lines)
     if place is None:
-        return "doesn't stand in the file"
+        return "does not stand in the file"
     if place > 0 and re.match(r"///|#\[", lines[place - 1]):
         return "begins too late"
     if HEAD.match(piece[-1]):
@@ -192,7 +192,7 @@ def checks(crate):
             source = text_of(path)
             if title == "A caller":
                 stands = path.startswith("crates/test_callers/") and f"\n{block}" in source
-                yield f"the caller in {path}", None if stands else "doesn't stand in the file"
+                yield f"the caller in {path}", None if stands else "does not stand in the file"
                 continue
             lines, imports = bare_lines(source), list(imports_of(source))
             for owner, piece in pieces(block):
@@ -202,13 +202,13 @@ def checks(crate):
                 words |= set(cited(piece, imports))
     for path, name, shown in sorted(set(calls(crate))):
         is_there = (path, name) in quoted or f"`{shown}`" in page
-        yield f"{path}: {shown}", None if is_there else "isn't on the page"
+        yield f"{path}: {shown}", None if is_there else "is not on the page"
     rows = rows_of(crate)
     for path, word in sorted(words):
         is_there = (path, word) in rows or (path, word) in rows_of(path.split("/")[1])
         yield f"{path}: {word}", None if is_there else "has no row"
     for path, word in sorted(rows):
-        yield f"{path}: {word}", None if is_defined(path, word) else "isn't defined there"
+        yield f"{path}: {word}", None if is_defined(path, word) else "is not defined there"
 
 
 def main():

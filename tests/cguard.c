@@ -85,6 +85,7 @@ static void delegation(const char *list, const char *sequence, const char *key)
     size_t count = 7, needed = 7, wanted;
     expect(spki_guard_entries(guard) == 1, "another number of entries");
     question.words = NULL;
+    question.word_count = 0;
     question.request = text("(ftp)");
     expect(spki_guard_signed(guard, &question, signatures, ROOM, &count, octets, sizeof octets, &wanted) == SPKI_DONE && count == 1,
            "another number of signatures");
@@ -191,6 +192,13 @@ static void refusals(void)
     expect(spki_guard_signed(guard, &question, &signature, 1, &count, buffer, sizeof buffer, &needed) == SPKI_MISUSED && !count && !needed,
            "a null key with a length");
     question.key.length = 0;
+    question.word_count = 1;
+    decides(guard, &question, NULL, 0, SPKI_MISUSED, "");
+    question.words = &question.key;
+    question.word_count = (size_t)-1;
+    decides(guard, &question, NULL, 0, SPKI_MISUSED, "");
+    question.words = NULL;
+    question.word_count = 0;
     expect(spki_guard_signed(guard, &question, NULL, 1, &count, buffer, sizeof buffer, NULL) == SPKI_MISUSED, "no place for signatures");
     expect(spki_guard_signed(guard, &question, NULL, 0, &count, buffer, sizeof buffer, &needed) == SPKI_REFUSED && !count
            && is(buffer, needed, "refused question TooLong\n"), "a question that is too long");
@@ -219,6 +227,37 @@ static void octets_of_strings(void)
     expect(spki_string("3:abc", 5, NULL, 0, NULL, &length) == SPKI_MISUSED && !length, "no place for octets");
 }
 
+/* Answers a question by the call with this number, and lists its signatures where there is no such call. */
+static enum spki_status asked_by(int call, spki_guard *guard, const struct spki_question *question, unsigned char *line, size_t length,
+                                 size_t *needed)
+{
+    struct spki_signed signature;
+    size_t count;
+    switch (call) {
+    case 0: return spki_guard_decide(guard, question, NULL, 0, line, length, needed);
+    case 1: return spki_guard_explain(guard, question, NULL, 0, line, length, needed);
+    case 2: return spki_guard_reduce(guard, question, NULL, 0, line, length, needed);
+    default: return spki_guard_signed(guard, question, &signature, 1, &count, line, length, needed);
+    }
+}
+
+/* A request for memory is refused in each call on a guard, and the guard answers as before behind it. */
+static void refused_in_calls(spki_guard *guard, const struct spki_question *question, size_t request)
+{
+    unsigned char line[256];
+    size_t needed;
+    int call;
+    for (call = 0; call < 4; call++) {
+        enum spki_status whole = call ? SPKI_DONE : SPKI_YES, status;
+        is_refused = 0;
+        until_refusal = request;
+        status = asked_by(call, guard, question, line, sizeof line, &needed);
+        until_refusal = 0;
+        expect(is_refused ? status == SPKI_REFUSED && is(line, needed, "refused Memory\n") : status == whole, "a question and no memory");
+        expect(asked_by(call, guard, question, line, sizeof line, &needed) == whole, "another answer once there is memory again");
+    }
+}
+
 /* Each of the first requests for memory is refused in turn. */
 static void refused_memory(size_t most)
 {
@@ -236,13 +275,8 @@ static void refused_memory(size_t most)
         until_refusal = 0;
         expect(is_refused ? status == SPKI_REFUSED && !guard && is(line, needed, "refused Memory\n") : status == SPKI_DONE && guard,
                "a list and no memory");
-        if (!guard)
-            continue;
-        is_refused = 0;
-        until_refusal = request;
-        status = spki_guard_decide(guard, &question, NULL, 0, line, sizeof line, &needed);
-        until_refusal = 0;
-        expect(is_refused ? status == SPKI_REFUSED && is(line, needed, "refused Memory\n") : status == SPKI_YES, "a question and no memory");
+        if (guard)
+            refused_in_calls(guard, &question, request);
         spki_guard_close(guard);
     }
 }

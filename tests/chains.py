@@ -87,9 +87,9 @@ def chains():
     yield "second entry", case(entry("b") + entry("a"), rows, items), (0, "yes entry 2\n")
     yield "value of another row", case(entry("a"), rows.replace(" sig)", " other)"), items), NO
     yield "row of another key", case(entry("a"), rows.replace("test c", "test x"), items), NO
-    yield "entry that doesn't delegate", case(entry("a", "(tag (*))"), rows, items), NO
+    yield "entry that does not delegate", case(entry("a", "(tag (*))"), rows, items), NO
     last = cert(key("a"), key("d"), "(tag (*))")
-    yield "last certificate needn't delegate", case(entry("a"), row(last, key("a")), signed(last, key("a"))), YES
+    yield "last certificate need not delegate", case(entry("a"), row(last, key("a")), signed(last, key("a"))), YES
 
 
 def windows_and_tags():
@@ -126,7 +126,7 @@ def long_lists():
     rows, items = chain()
     ninth = (0, "yes entry 9\n")
     over = '(not-after "2023-12-31_23:59:59")'
-    for why, other in (("of another key", entry("x")), ("that don't delegate", entry("a", "(tag (*))")),
+    for why, other in (("of another key", entry("x")), ("that do not delegate", entry("a", "(tag (*))")),
                        ("whose window is over", entry("a", f"(propagate) (tag (*)) {over}")),
                        ("for another request", entry("a", "(propagate) (tag (http))"))):
         yield f"eight entries {why}, and one that grants", case(other * 8 + entry("a"), rows, items), ninth

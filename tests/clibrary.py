@@ -1,16 +1,16 @@
 #!/usr/bin/env python3
-"""Asks the libraries for C what the program answers, and compares octet by octet.
+"""Asks the libraries for C what the program is asked, and compares the answers octet by octet.
 
 `clibrary.c` asks each question with no buffer, with one of no octets, with one octet too few, with enough and with more, between
-canaries, with requests for memory refused, and then from several threads with 256 KiB of stack each: every command on each file of
+canaries, with failing allocations, and then from several threads with 256 KiB of stack each: every command on each file of
 `examples/`, the rows of the tables beside this file, and cases whose rows of accepted signatures stand apart. It asks the static
 library and the shared one, and the static one also under AddressSanitizer and, where it is there, under valgrind.
-`cguard.c` holds guards and asks them: right and wrong marks, misuse, buffers that are too
-small, requests by strings, refused memory, and one guard from several threads.
+`cguard.c` opens guards and asks them: right and wrong marks, misuse, buffers that are too small, requests by strings, failing
+allocations, and one guard from several threads.
 
 The symbols of both libraries must be the calls that the header declares and no others, and what they need a few functions of the C
 library. `linked.c` is compiled as C11 and, where there is a compiler, as C++17, with all warnings, and linked with either library; and
-with two copies of the static one. Builds the libraries if they aren't there. Needs a C compiler.
+with two copies of the static one. Builds the libraries if they are not there. Needs a C compiler.
 
 Prints what fails; the last line counts.
 Usage: tests/clibrary.py [PROGRAM [LIBRARY]]        the shared library lies beside the static LIBRARY

@@ -1,11 +1,11 @@
 #!/usr/bin/env python3
-"""Runs the built program as one who means it harm would: each request for memory, each read and each write refused in turn, texts
-cut short, ends that fail, limits from both sides, a small stack, and the texts that ask for the most work. `test_one_call` does the same to
-each call of the libraries by itself, on the worked example that is named for it.
+"""Runs the built program under hostile conditions: each allocation, each read and each write fails in turn, texts are cut short, ends
+fail, limits are tried from both sides, the stack is small, and texts need the most work. `test_one_call` runs each call of the libraries by
+itself in the same way, on its worked example.
 
-`refuse.c` beside this file is compiled by `cc` and preloaded, and refuses what it is told to. Build the programs first (`rt run` in
-crates/spki and crates/test_one_call). Prints each fault, and by part the examples, runs, refusals that were met and faults; then the time and
-memory of the largest texts. The last line counts the parts. With --short the longest parts are left out, which `.ci/deep` runs.
+`refuse.c` beside this file is compiled by `cc` and preloaded, and lets the chosen calls fail. Build the programs first (`rt run` in
+crates/spki and crates/test_one_call). Prints each fault, and for each part the examples, runs, failures that were met and faults; then the
+time and memory of the largest texts. The last line counts the parts. --short leaves out the longest parts, which `.ci/deep` runs.
 Usage: tests/hostile.py [--short] [PROGRAM]
 """
 import importlib.util
@@ -56,7 +56,7 @@ CALLS = (
     "Guard::read", "Guard::texts", "Guard::ask", "Asked::decide", "Asked::decide_by", "Asked::explain", "Asked::explain_by",
     "Asked::reduce", "Asked::reduce_by", "answer_question", "signed_octets",
 )
-# What is written of the cases of examples/, and of some of chains.py: the status and the line. A command that the program doesn't
+# What is written of the cases of examples/, and of some of chains.py: the status and the line. A command that the program does not
 # have is passed over.
 FILES = {
     "first-run.csexp": {"check": "0 yes entry 1", "explain": "0 entry 1 grants",
@@ -75,7 +75,7 @@ CHAINS = {
     "certificate 2: signer differs": {"explain": "1 item 3 SignerDiffers", "reduce": "1 item 3 SignerDiffers"},
     "certificate 2: not accepted": {"explain": "1 item 3 NotAccepted", "reduce": "1 item 3 NotAccepted"},
     "chain in another order": {"explain": "1 entry 1 item 1 NotIssuer", "reduce": "1 entry 1 item 1 NotIssuer"},
-    "entry that doesn't delegate": {"explain": "1 entry 1 item 1 NoDelegation", "reduce": "1 entry 1 item 1 NoDelegation"},
+    "entry that does not delegate": {"explain": "1 entry 1 item 1 NoDelegation", "reduce": "1 entry 1 item 1 NoDelegation"},
     "windows: certificate from 2024-06-01_00:00:01": {"explain": "1 entry 1 item 1 NoValidity", "reduce": "1 entry 1 item 1 NoValidity"},
     "too large": {"explain": "2 refused TooLarge", "reduce": "2 refused TooLarge"},
 }
@@ -90,7 +90,7 @@ ENDS = [
 
 @dataclass
 class Example:
-    """A command, a text and how a run on it ends; None where that isn't known beforehand."""
+    """A command, a text and how a run on it ends; None where that is not known beforehand."""
 
     name: str
     command: str
@@ -319,7 +319,7 @@ def checked(program, example, plan):
 
 
 def attempted(do, program, *words):
-    """What a task gives; where it can't go on that is a fault."""
+    """What a task gives; where it cannot go on that is a fault."""
     try:
         return do(program, *words)
     except OSError as fault:
@@ -377,8 +377,8 @@ def pipes_and_files():
     for most in range(12):
         wanted = 3, b"yes entry 1\n"[:most], WRITE_FAULT[2]
         yield ends_so, f"a file of at most {most} octets", wanted, "limited", "check", whole, resource.RLIMIT_FSIZE, most
-    yield ends_so, "a reader that can't wait", READ_FAULT, "without_waiting", "check", b""
-    yield ends_so, "a writer that can't wait", (3, long[:PIPE], WRITE_FAULT[2]), "without_waiting", "canonical", long
+    yield ends_so, "a reader that cannot wait", READ_FAULT, "without_waiting", "check", b""
+    yield ends_so, "a writer that cannot wait", (3, long[:PIPE], WRITE_FAULT[2]), "without_waiting", "canonical", long
 
 
 def at_limits():

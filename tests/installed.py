@@ -2,11 +2,11 @@
 """Installs into an empty folder, asks the installed program and, where there is a C compiler, the installed libraries, looks at
 the manual, and uninstalls.
 
-A C program is compiled as `pkg-config` says, which is left out where it isn't there, and linked with the shared library and with the
+A C program is compiled as `pkg-config` says, which is left out where it is not there, and linked with the shared library and with the
 static one. The header, the manual, the README and `pkg-config` must have the version of the file VERSION. The manual must be shown
 without a warning, which is left out where there is no `man`, and name every fault that a refusal in the tables beside this file
 names. After uninstalling, the files that were there before must be left, and no others. Prints what fails; the last line counts.
-Usage: tests/installed.py [PROGRAM [LIBRARY]]        built already; what isn't given install.sh builds
+Usage: tests/installed.py [PROGRAM [LIBRARY]]        built already; what is not given install.sh builds
 """
 import os
 import re
@@ -112,7 +112,7 @@ def names_every_fault(page):
             for line in REFUSAL.findall(rows.read()):
                 faults.update(re.findall(r"[A-Za-z]+", line))
     missing = sorted(faults - named)
-    print("".join(f"the manual doesn't name {word}\n" for word in missing), end="")
+    print("".join(f"the manual does not name {word}\n" for word in missing), end="")
     return bool(faults) and not missing
 
 

@@ -65,7 +65,7 @@ def deep_run():
         print("this is no whole clone, so the commit of the last run is not looked for")
         return None
     if git("merge-base", "--is-ancestor", commit, "HEAD").returncode:
-        return f"the last run of .ci/deep was of {commit}, which isn't in the history"
+        return f"the last run of .ci/deep was of {commit}, which is not in the history"
     return None
 
 

@@ -53,7 +53,7 @@ def source(text):
 
 
 def finished(child):
-    """What a run wrote, which is ended if it doesn't end by itself."""
+    """What a run wrote, which is ended if it does not end by itself."""
     try:
         return child.communicate(timeout=SECONDS)
     except subprocess.TimeoutExpired:
@@ -141,7 +141,7 @@ class Program:
         return Ended(child.returncode, out, err, {}, 0)
 
     def without_waiting(self, command, text):
-        """A run whose reader has nothing yet, where there is no text, or whose writer has no room left, and can't wait for it."""
+        """A run whose reader has nothing yet, where there is no text, or whose writer has no room left, and cannot wait for it."""
         reader, writer = os.pipe()
         os.set_blocking(writer if text else reader, False)
         if text:

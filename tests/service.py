@@ -124,7 +124,7 @@ def is_answered(remark, met, wanted):
 
 
 def logins(story, client):
-    """By remark, whether a login that isn't right is refused: the signatures are right, and of something else."""
+    """By remark, whether a login that is not right is refused: the signatures are right, and of something else."""
     carol, right = story.carol, story.sequence(signed(story.to_carol, story.bob))
     seen = carol.sign(message(SERVICE, client.nonce))
     answers = {"the nonce is signed": (client.ask(right, carol.text, seen, READ), YES),
