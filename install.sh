@@ -1,8 +1,8 @@
 #!/usr/bin/env bash
-# Builds the proved program and the libraries for C programs, and installs them with the libraries' header, what pkg-config reads and
-# the manual under a prefix. Needs the toolchain's `rt` in the path and a C compiler, but where all is built already and given.
+# Builds the proved program and the libraries for C programs, and installs them under a prefix, with the header of the libraries, the file
+# for pkg-config and the manual page. Needs the toolchain's `rt` in the path and a C compiler, unless PROGRAM and LIBRARY are given.
 # --uninstall removes the files that this version installs, and leaves the folders.
-# Usage: ./install.sh [PREFIX [PROGRAM [LIBRARY]]]        /usr/local where no prefix is given; libspki_c.so lies beside the LIBRARY
+# Usage: ./install.sh [PREFIX [PROGRAM [LIBRARY]]]        the default prefix is /usr/local; libspki_c.so is beside the LIBRARY
 #        ./install.sh --uninstall [PREFIX]
 set -euo pipefail
 uninstalls=

@@ -3,7 +3,7 @@
 
 Makes keys by `lsh-keygen`, splits and locks them by `lsh-writekey`, lets `lsh-authorize` put them on its list, and goes to OpenSSH's
 form and back by `lsh-export-key` and `ssh-conv`, all in an empty home. `examples/lsh/captured` is what `lsh --capture-to` wrote of a
-host's key. docs/PEERS.md says what is alike and what isn't. Prints a line for each thing that is tried; the last line counts.
+host's key. docs/PEERS.md says what is alike and what is not. Prints a line for each thing that is tried; the last line counts.
 
 Build the program first (`rt run` in crates/spki), and install the tools (Debian: lsh-utils, nettle-bin).
 Usage: examples/lsh.py [PROGRAM]

@@ -3,7 +3,7 @@
 
 Of each text: its canonical form by both programs; then what each program writes in each of its forms, read by the other
 one, must be that canonical form again. Prints a line for each text, and ends with status 1 on a difference that
-docs/PEERS.md doesn't list.
+docs/PEERS.md does not list.
 
 Build the program first (`rt run` in crates/spki), and install `sexp-conv` (Debian: nettle-bin).
 Usage: examples/peers.py [PROGRAM [FOLDER]]

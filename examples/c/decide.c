@@ -24,7 +24,7 @@ static unsigned char verify(struct spki_text key, struct spki_text message, stru
 }
 
 /* Whether a request is granted. Each word is one string of it, whatever octets it has. A client who shows more than there is room for
- * is denied. */
+ * is denied. THE CLIENT MUST HAVE PROVED THAT IT HOLDS THE KEY: a public key is public. */
 static int is_granted(const spki_guard *guard, struct spki_text sequence, struct spki_text key, const struct spki_text *words,
                       size_t word_count, int64_t now)
 {

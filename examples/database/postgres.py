@@ -125,7 +125,7 @@ class Entries:
 
 
 def program(name):
-    """The path of a program of the server, which Debian keeps outside of the path. None where it isn't there."""
+    """The path of a program of the server, which Debian keeps outside of the path. None where it is not there."""
     kept = sorted(glob.glob(f"/usr/lib/postgresql/*/bin/{name}"))
     return shutil.which(name) or (kept[-1] if kept else None)
 

@@ -1,8 +1,8 @@
 #!/usr/bin/env python3
-"""From keys made by OpenSSL to decisions by `spki`, and why each of them is as it is.
+"""From keys made by OpenSSL to decisions by `spki`, and the reason of each decision.
 
-A service keeps packages. Alice may read and write all builds, and pass that on. Bob may read manuals. Alice passes the web builds
-on to her builders, and says that Bob is one. Bob lets Carol read. Carol logs in by a signed nonce, and asks. Then the same with
+A service keeps packages. Alice may read and write all builds, and may delegate that. Bob may read manuals. Alice delegates the web
+builds to her builders, and certifies that Bob is one. Bob lets Carol read. Carol logs in by a signed nonce, and asks. Then the same with
 something wrong: logins that the service refuses, and cases with another answer.
 
 Needs `openssl` (3.0) and Python's standard library (3.10). New keys are made at each run, and the private ones are thrown away.

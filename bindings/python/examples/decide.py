@@ -19,7 +19,10 @@ def verify(key: bytes, message: bytes, value: bytes) -> bool:
 
 
 def is_granted(guard: spki.Guard, sequence: bytes, key: bytes, words: list[bytes], now: int) -> bool:
-    """Whether a request is granted. Each word is one string of it, whatever octets it has."""
+    """Whether a request is granted. Each word is one string of it, whatever octets it has.
+
+    THE CLIENT MUST HAVE PROVED THAT IT HOLDS THE KEY: a public key is public.
+    """
     question = spki.Question(sequence, key, words, now)
     return bool(guard.decide(question, verify))
 

@@ -16,6 +16,8 @@ fn verify(_key: &[u8], _message: &[u8], value: &[u8]) -> bool {
 }
 
 /// Whether a request is granted. Each word is one string of it, whatever octets it has.
+///
+/// THE CLIENT MUST HAVE PROVED THAT IT HOLDS THE KEY: a public key is public.
 fn is_granted(
     guard: &Guard,
     sequence: &[u8],

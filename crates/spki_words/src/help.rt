@@ -75,7 +75,7 @@ Example, which writes (ftp a):
 const REDUCE: &str = "\
 Reads a case on standard input, as check does: see spki check --help
 Writes a line for each entry of the access list: entry N and what it comes to with the certificates, as (five ..), or
-entry N item J and why they don't go on at item J. Writes one line item J and why, where certificate J doesn't stand,
+entry N item J and why item J does not join. Writes one line item J and why, where certificate J does not stand,
 and no entries, where the list has none.
 
 Exit status:
@@ -109,8 +109,8 @@ Example, which writes yes entry 1:
 const EXPLAIN: &str = "\
 Reads a case on standard input, as check does: see spki check --help
 Writes a line for each entry of the access list: entry N grants; or entry N and what it comes to lacks with the
-certificates: NotTheKey, TagLacks the request, WindowLacks the moment; or entry N item J and why they don't go on at
-item J. Writes one line item J and why, where certificate J doesn't stand, and no entries, where the list has none.
+certificates: NotTheKey, TagLacks the request, WindowLacks the moment; or entry N item J and why item J does not
+join. Writes one line item J and why, where certificate J does not stand, and no entries, where the list has none.
 
 Exit status:
   0  some entry grants the request
@@ -132,7 +132,7 @@ pub(crate) fn about(command: Command) -> &'static str {
         Command::Intersect => "Writes the tag of the requests that two tags both contain",
         Command::Reduce => "Shows what each entry of an access list comes to with the certificates",
         Command::Check => "Decides whether a key may have what it asks for",
-        Command::Explain => "Says of each entry why it grants what is asked, or doesn't",
+        Command::Explain => "Explains for each entry why it grants what is asked, or does not",
     }
 }
 

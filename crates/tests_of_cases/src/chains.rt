@@ -19,14 +19,14 @@ pub(crate) const C1: &str =
 pub(crate) const ALL: &str = "(entry (public-key (test a)) (propagate) (tag (*)))";
 
 /// The SHA-256 digest of the canonical form of a text, in hexadecimal digits.
-fn digest_of(alloc: Global, text: &str) -> Result<String, Fail> {
+fn digest_text(alloc: Global, text: &str) -> Result<String, Fail> {
     let octets = convert(alloc, Form::Canonical, text.as_bytes())?;
     Ok(hex_of(alloc, Sha256::digest(octets.as_slice()).as_slice())?)
 }
 
 /// A certificate and its signature by a key.
 pub(crate) fn signed(alloc: Global, cert: &str, key: &str) -> Result<String, Fail> {
-    let digest = digest_of(alloc, cert)?;
+    let digest = digest_text(alloc, cert)?;
     let parts = [
         cert,
         "(signature (hash sha256 #",
@@ -40,7 +40,7 @@ pub(crate) fn signed(alloc: Global, cert: &str, key: &str) -> Result<String, Fai
 
 /// The row of the accepted list for this signature.
 pub(crate) fn accepted(alloc: Global, cert: &str, key: &str) -> Result<String, Fail> {
-    let digest = digest_of(alloc, cert)?;
+    let digest = digest_text(alloc, cert)?;
     let parts = ["(by ", key, "(hash sha256 #", &digest, "#) sig)"];
     Ok(joined(alloc, &parts)?)
 }
@@ -69,7 +69,7 @@ pub(crate) fn case_of(
 
 /// A certificate whose issuer is the hash of KA.
 pub(crate) fn issued_by_hash(alloc: Global) -> Result<String, Fail> {
-    let digest = digest_of(alloc, KA)?;
+    let digest = digest_text(alloc, KA)?;
     let parts = [
         "(cert (issuer (hash sha256 #",
         &digest,

@@ -13,11 +13,11 @@ use spki_guard::{Case, Stop, Verifier};
 use std::alloc::Global;
 use std::test::Fail;
 
-/// The expected evidence: the numbers of the items if all certificates stand, or the number of the first that does not, and
+/// The expected evidence: how many tuples there are if all certificates stand, or the number of the first that does not, and
 /// why.
 #[derive(Clone, Copy)]
 enum Wanted {
-    Stands(&'static [usize]),
+    Stands(usize),
     Fails(usize, Stop),
 }
 
@@ -25,9 +25,7 @@ use Wanted::{Fails, Stands};
 
 fn is_wanted(evidence: &Evidence, wanted: Wanted) -> bool {
     match (evidence, wanted) {
-        (Evidence::Stands { items, steps }, Stands(numbers)) => {
-            items.as_slice() == numbers && steps.len() == numbers.len()
-        }
+        (Evidence::Stands(steps), Stands(count)) => steps.len() == count,
         (Evidence::Fails { item, stop }, Fails(number, test)) => *item == number && *stop == test,
         (_, _) => false,
     }
@@ -91,7 +89,7 @@ fn with_changed_digest(alloc: Global) -> Result<String, Fail> {
 fn hash_issuer(rt: HostRuntime) -> Result<(), Fail> {
     let alloc = rt.alloc();
     let shown = hash_as_issuer(alloc, KA)?;
-    assert!(rt; judged_by_list(alloc, &shown, Stands(&[1]))?);
+    assert!(rt; judged_by_list(alloc, &shown, Stands(1))?);
     let not_shown = hash_as_issuer(alloc, "")?;
     assert!(rt; judged_by_list(alloc, &not_shown, Fails(1, Stop::KeyNotShown))?);
     let changed = with_changed_digest(alloc)?;
