@@ -6,7 +6,7 @@ Both have the exports of src/, the toolchain's calls of `malloc`, `realloc` and 
 calls of spki.h to the exports. They are linked into one object whose only global symbols are the calls that spki.h declares: so the
 library links beside any other, also beside another one of the toolchain, and a program links with nothing else.
 
-`rt ci` leaves the libraries below in a form that `rt lib` doesn't take, so that it would prove all of them again. Right behind it,
+`rt ci` leaves the libraries below in a form that `rt lib` does not accept, so that it would prove all of them again. Right behind it,
 --over-gate builds over that form. --again links anew over the proved code of the last run, where only spki.c or spki.h has changed.
 
 Usage: crates/spki_c/archive.py [--over-gate | --again]

@@ -23,7 +23,7 @@ pub record IsHinted (ends_token : Bool) (text hint octets : List ℕ) : Type 0 w
   pub octets_meant : Simple ends_token octets_text octets
 
 abbrev mutual
-  -- the whole text spells a value, without whitespace around it; the test tells whether it ends in a token
+  -- the whole text spells a value, without whitespace around it; the flag is true exactly if it ends in a token
   pub SpellsAs : Bool → List ℕ → Value → Type 0
   SpellsAs ends_token text (string None octets) = Simple ends_token text octets
   SpellsAs ends_token text (string (Some hint) octets) = IsHinted ends_token text hint octets

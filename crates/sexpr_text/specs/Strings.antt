@@ -138,7 +138,7 @@ pub record IsCounted (text octets : List ℕ) : Type 0 where
   pub counts : IsCount count (length octets)
   pub meant : IsMarked marked octets
 
--- A text spells a string without a hint: as a token, which the test tells, in verbatim form, or between marks.
+-- A text spells a string without a hint: as a token (the flag is then true), in verbatim form, or between marks.
 abbrev pub Simple : Bool → List ℕ → List ℕ → Type 0
 Simple true text octets = (text ≡ octets) × IsToken octets
 Simple false text octets = (text ≡ verbatim octets) ⊎ IsCounted text octets

@@ -5,7 +5,7 @@ ghost use Rattle.spki_cert.specs.Time.{is_from, is_until, later, earlier, in_ord
 
 use crate::date::Date;
 
-/// A limit is a date, where there is one.
+/// If there is a limit, it is a date.
 pub fn known_limit(limit: Option<Date>)
     ensures { IsLimit limit }
 {

@@ -1,4 +1,4 @@
--- What certificates say of all entries of a list together, and of one (RFC 2693, section 6.3).
+-- What the tests of a list of entries mean: the tests that all entries share, and those of one entry (RFC 2693, section 6.3).
 use Rattle.std.specs.Prelude.{◌≡◌, ℕ, ◌≤◌, ◌⊎◌, true, false, List, [], ◌∷◌, length, None, IfSome}
 use Rattle.spki_cert.specs.declared.entry.Entry.{Entry}
 use Rattle.spki_cert.specs.declared.principal.Principal.TheVariants as principal
@@ -13,8 +13,8 @@ use Rattle.spki_case.specs.Case.{Case}
 use Rattle.spki_decision.specs.declared.shared_tests.SharedTests.{SharedTests}
 use Rattle.spki_decision.specs.Supported.{Supported}
 
--- The tests say of entries with one name or none that none of them supports what is asked only where none does, and the product of
--- the nodes of the certificates' tags that they keep is this product.
+-- If `denied` is true, no entry with at most one name supports what is asked. `nodes`, if there is one, is the product of the
+-- nodes of the certificates' tags, and at most 1,000,000.
 pub record AreShared (c : Case) (tuples : List Tuple) (shared : SharedTests) : Type 0 where
   pub denied : shared.denied ≡ true → (e : Entry) → length e.subject.names ≤ 1 → ¬ Supported c tuples e
   pub counted : IfSome shared.nodes (λ n. (n ≡ nodes_product (all_tags tuples)) × (n ≤ 1000000))
@@ -24,21 +24,22 @@ abbrev pub IsDenied : Case → SharedTests → Entry → Type 0
 IsDenied c shared e = ((shared.denied ≡ true) × (length e.subject.names ≤ 1)) ⊎ (within c.moment e.window ≡ false)
     ⊎ (contains e.tag c.request ≡ false)
 
--- For no entry with this tag, and under no policy, the tag of one of the tuples is too large.
+-- For each entry with this tag, under each policy, no intersection of its chain is too large.
 pub record IsSmallFor (most : ℕ) (tuples : List Tuple) (tag : Tag) : Type 0 where
   pub none_large : (e : Entry) → e.tag ≡ tag → (policy : Policy) → ¬ TooLargeAt most policy (five (entry_tuple e)) tuples
 
--- The product of the nodes of a tag and of those of an authorization is at most a limit. A definition has no tag.
+-- The product of the nodes of a tag and of an authorization's tags is at most a limit. A definition has no tag.
 abbrev pub IsSmallWith : ℕ → Tag → Tuple → Type 0
 IsSmallWith most tag (five t) = nodes_product (tag ∷ t.tags) ≤ most
 IsSmallWith most tag (four t) = Unit {0}
 
--- a tag, and what it and the tuple's leave, where they are small
+-- the intersection of a tag and the tuple's tags, whose product of nodes is within the limit
 pub record IsMetSmall (most : ℕ) (tag : Tag) (tuple : Tuple) (after : Tag) : Type 0 where
   pub met_is : after ≡ met (tag ∷ tags_of tuple)
   pub small : IsSmallWith most tag tuple
 
--- the keeper's authorization for a key, or for a name that it defines, of every request at every moment, to be delegated
+-- the authorization by the owner of the access list for a key, or for a name that it defines: every request at every moment, to be
+-- delegated
 abbrev pub unlimited : List ℕ → List (List ℕ) → FiveTuple
 unlimited holder names = record {
   issuer = own;
@@ -49,7 +50,8 @@ unlimited holder names = record {
   windows = record { not_before = None; not_after = None } ∷ [];
 }
 
--- The entry's tuple that allows the most with a tuple behind it: for the key of its issuer, or for the name that it defines.
+-- The tuple of the entry that allows the most with this tuple after it: for the key of this tuple's issuer, or for the name that
+-- it defines.
 abbrev pub IsWidest : Tuple → FiveTuple → Type 0
 IsWidest (five t) widest = (holder : List ℕ) × (t.issuer ≡ key holder) × (widest ≡ unlimited holder [])
 IsWidest (four t) widest = widest ≡ unlimited t.key (t.name ∷ [])

@@ -79,12 +79,12 @@ pub fn first_granted<'a>(
     Ok(Decision::No)
 }
 
-/// Whether it is certain that an entry is denied, and that the tag of no step is too large for it. `shared` are the shared tests of
-/// the steps, if there are any, and `small` is a tag for which none is too large.
+/// Returns true only if the entry is denied and no intersection of its chain is too large. `shared` are the shared tests of the
+/// steps, if there are any. `small` is a tag with which no intersection of a chain is too large.
 ///
 /// # Errors
 ///
-/// Where memory was refused.
+/// `AllocError` if memory ran out.
 fn is_passed_over<'a>(
     alloc: Global,
     entry: &Entry<'a>,

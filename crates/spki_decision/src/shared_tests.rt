@@ -1,4 +1,4 @@
-//! The tests that the entries of an access list share: what the certificates say of all of them.
+//! The tests that the entries of an access list share. A decision makes them once for the whole list.
 
 ghost use Rattle.std.specs.Prelude.{◌≡◌, ◌≢◌, ◌≤◌, List, [], ◌∷◌, length, IsTrue, IfOk, IfSome};
 ghost use Rattle.spki_cert.specs.declared.entry.Entry.{Entry};
@@ -22,20 +22,20 @@ const WORTH_SHARING: usize = 8;
 /// The greatest product of numbers of nodes that is counted.
 const MOST_NODES: usize = 1_000_000;
 
-/// What the certificates that are shown say of all entries.
+/// The results of the tests that all entries share.
 #[derive(Clone, Copy, Debug)]
 pub(crate) struct SharedTests {
-    /// They deny each entry whose subject has one name or none.
+    /// If true, each entry whose subject has at most one name is denied.
     pub(crate) denied: bool,
-    /// The product of the numbers of nodes of their tags, where it is at most 1,000,000.
+    /// The product of the numbers of nodes of the certificates' tags, if it is at most 1,000,000.
     pub(crate) nodes: Option<usize>,
 }
 
-/// What these steps say of all entries of a list of this length; none for a short list.
+/// Returns the results of the tests that the entries of a list of this length share. None for fewer than `WORTH_SHARING`.
 ///
 /// # Errors
 ///
-/// Where memory was refused.
+/// `AllocError` if memory ran out.
 pub(crate) fn shared_tests<'a>(
     alloc: Global,
     entries: usize,
@@ -53,7 +53,7 @@ pub(crate) fn shared_tests<'a>(
     }))
 }
 
-/// Whether an entry is denied with all others, or by its own window or tag. Takes no memory.
+/// Returns true only if an entry is denied: by the shared tests, or by its own window or tag. Allocates nothing.
 pub(crate) fn is_denied(entry: &Entry, case: &Case, shared: &SharedTests) -> bool
     ensures { IsTrue result → IsDenied (model case.now) shared.now entry.now }
 {
@@ -63,13 +63,13 @@ pub(crate) fn is_denied(entry: &Entry, case: &Case, shared: &SharedTests) -> boo
     !entry.window.holds(&case.moment) || !entry.tag.holds(&case.request)
 }
 
-/// Whether it is certain that the tag of no step is too large for what an entry's tag and those before it leave: the product of
-/// all nodes is at most this limit, or the tag is the same as one of which it is certain, or each product on the way is at most
-/// the limit.
+/// Returns true only if a chain from an entry with this tag intersects no two tags whose product of nodes is over `most`. It tests
+/// whether the product of all nodes is at most `most`, whether `tag` is the same as `small`, for which this is known, and whether
+/// each product on the way is at most `most`. One of them is enough.
 ///
 /// # Errors
 ///
-/// Where memory was refused.
+/// `AllocError` if memory ran out.
 pub(crate) fn is_small<'a>(
     alloc: Global,
     tag: &Tag,
@@ -97,8 +97,8 @@ pub(crate) fn is_small<'a>(
     stays_small(alloc, tag, steps, most)
 }
 
-/// Whether the product of the nodes of each step's tag and of what a tag and those before it leave is at most this limit, up to a
-/// step whose tag leaves nothing.
+/// Intersects `tag` with the steps' tags in turn. Returns whether each product of the nodes of two tags is at most `most`.
+/// If an intersection is `(* set)`, the steps after it are not examined.
 fn stays_small<'a>(
     alloc: Global,
     tag: &Tag,
@@ -123,7 +123,7 @@ fn stays_small<'a>(
     Ok(true)
 }
 
-/// Whether the step has a tag, which a definition hasn't.
+/// Whether the step has a tag. A definition of a name has none.
 fn has_tag(step: &Step) -> bool
     ensures { IsTrue result → tags_of (step_tuple step.now) ≢ [] }
 {
@@ -133,7 +133,7 @@ fn has_tag(step: &Step) -> bool
     }
 }
 
-/// What a tag and that of a step leave, where the product of their nodes is at most this limit.
+/// The intersection of a tag and a step's tag, if the product of their nodes is at most `most`. With a definition it is the tag.
 fn met_small<'a>(
     alloc: Global,
     tag: Tag,
@@ -153,7 +153,7 @@ fn met_small<'a>(
     }
 }
 
-/// Whether the steps deny what is asked to every entry whose subject has one name or none: they deny it to the one that
+/// Returns true only if every entry whose subject has at most one name is denied with these steps. It tests the entry that
 /// allows the most.
 fn denies_all<'a>(alloc: Global, case: &Case<'a>, steps: &[Step<'a>]) -> Result<bool, AllocError>
     ensures { IfOk result (λ yes. IsTrue yes → (e : Entry) → length e.subject.names ≤ 1
@@ -177,8 +177,8 @@ fn denies_all<'a>(alloc: Global, case: &Case<'a>, steps: &[Step<'a>]) -> Result<
     }
 }
 
-/// The tuple of the entry that allows the most with a step behind it: for the key of its issuer, or for the name that it
-/// defines, every request at every moment, to be delegated. None where no key issued the step.
+/// The tuple of the entry that allows the most with a step after it: for the key of the step's issuer, or for the name that the
+/// step defines, every request at every moment, to be delegated. None if no key issued the step.
 fn widest_entry<'a>(alloc: Global, step: &Step<'a>) -> Result<Option<Five<'a>>, AllocError>
     ensures { IfOk result (λ widest. IfSome widest (λ f. IsWidest (step_tuple step.now) (five_tuple f))) }
 {
@@ -195,7 +195,7 @@ fn widest_entry<'a>(alloc: Global, step: &Step<'a>) -> Result<Option<Five<'a>>, 
     }
 }
 
-/// The keeper's authorization for a key, or for a name that it defines, of every request at every moment, to be delegated.
+/// The list owner's authorization of a key, or of a name that it defines, for every request at every moment, to be delegated.
 fn unlimited<'a>(key: &Key<'a>, names: Vec<Octets<'a>>) -> Five<'a>
     ensures { five_tuple result ≡ unlimited key.now names.entry.items }
 {
@@ -214,7 +214,7 @@ fn unlimited<'a>(key: &Key<'a>, names: Vec<Octets<'a>>) -> Five<'a>
     }
 }
 
-/// The product of the numbers of nodes of the steps' tags, where it is at most 1,000,000.
+/// The product of the numbers of nodes of the steps' tags, if it is at most 1,000,000.
 fn nodes_product(steps: &[Step]) -> Option<usize>
     ensures { IfSome result (λ n. (n ≡ nodes_product (all_tags (tuples_of steps.now))) × (n ≤ 1000000)) }
 {

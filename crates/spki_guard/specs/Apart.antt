@@ -66,20 +66,20 @@ DecidesApart text rows_text verdict output = BehindCase text (λ c. DecidesBy c 
 
 -- ---- refusals
 
--- The text spells or braces a value within the limits, its canonical form is the text of no case, and the fault tells why.
+-- The text spells or braces a value within the limits, its canonical form is the text of no case, and this is its fault.
 pub record LacksCase (text : List ℕ) (fault : CaseFault) : Type 0 where
   pub value : Value
   pub read : IsTextWithin text value
   pub refused : TextRefused (canon value) fault
 
--- The text spells and braces no value within the limits, and the fault tells why.
+-- The text spells and braces no value within the limits, and this is its fault.
 pub record RefusesRowsForm (rows_text : List ℕ) (fault : RowsFault) : Type 0 where
   pub form : FormFault
   pub named : fault ≡ rows_faults.Form form
   pub refused : RefusesForm rows_text form
 
--- The text spells or braces a value within the limits, its canonical form is the text of no accepted list, and the fault
--- tells why.
+-- The text spells or braces a value within the limits, its canonical form is the text of no accepted list, and
+-- this is its fault.
 pub record LacksRows (rows_text : List ℕ) (fault : RowsFault) : Type 0 where
   pub value : Value
   pub read : IsTextWithin rows_text value
@@ -97,8 +97,8 @@ RefusesBy c rows_text (refusals.Rows fault) = RefusesRows rows_text fault
 RefusesBy c rows_text (refusals.Decision fault) = IsUndecidedBy c rows_text fault
 RefusesBy c rows_text refusals.Memory = Unit {0}
 
--- What a refusal means for the two texts: the first is that of no value, or of no case, whatever the second is; or the first
--- is that of a case, and the second that of no value, or of no accepted list; or tags are too large. Memory means nothing.
+-- What a refusal means for the two texts. The first text has no value or is no case, whatever the second is. Or the first text is
+-- a case, and the second has no value or is no accepted list. Or both are read, and tags are too large. Memory means nothing.
 abbrev pub RefusesApart : List ℕ → List ℕ → Refusal → Type 0
 RefusesApart text rows_text (refusals.Form fault) = RefusesForm text fault
 RefusesApart text rows_text (refusals.Intersect fault) = ⊥

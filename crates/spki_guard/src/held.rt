@@ -39,11 +39,11 @@ pub struct SignedOctets {
 /// Answers a question that is asked of a guard, in the lines that `run` writes for the case of the guard's list and the question's
 /// parts (RFC 2693, section 6). Exactly the signatures that `Asked::signed` lists at the places of true marks are accepted.
 ///
-/// A question that is not read is refused. `refused question TooLong` is the line exactly where its parts together have more octets
-/// than the guard's limit. Else the line names the first part that has no reading, and its fault, as `refused sequence Bad 5`; the
-/// word for the moment is `at`. `refused Memory` is the line where memory ran out.
+/// A question that is not read is refused. The line is `refused question TooLong` exactly if its parts together have more octets
+/// than the guard's limit. Otherwise the line names the first part that has no reading, and its fault, as `refused sequence Bad 5`;
+/// the word for the moment is `at`. If memory ran out, the line is `refused Memory`.
 ///
-/// The result is `None` where the question is read and does not have as many signatures as there are marks.
+/// The result is `None` if the question is read and does not have as many signatures as there are marks.
 pub fn answer_question(
     alloc: Global,
     wish: Wish,
@@ -68,7 +68,7 @@ pub fn answer_question(
 ///
 /// # Errors
 ///
-/// The refusal of a question that is not read, in the line that `answer_question` has for it; `refused Memory` where memory ran out.
+/// If the question is refused: the line that `answer_question` returns for it. If memory ran out: `refused Memory`.
 pub fn signed_octets(
     alloc: Global,
     guard: &Guard,
@@ -90,8 +90,8 @@ pub fn signed_octets(
     }
 }
 
-/// The refusal of an access list that `Guard::read` does not read: `refused form KIND` of its text, or `refused acl N KIND` of entry
-/// N, as `run` writes them; `refused Memory` where memory ran out, also for the line.
+/// Returns the refusal of an access list that `Guard::read` does not read: `refused form KIND` of its text, or `refused acl N
+/// KIND` of entry N, as `run` writes them. If memory ran out, also for the line, it is `refused Memory`.
 pub fn refused_list(alloc: Global, fault: AclFault) -> Answer
     ensures verdict { result.verdict ≡ Verdict.Refused }
     ensures line { (written_by result ≡ refused_list fault) ⊎ (written_by result ≡ refused_memory) }
@@ -182,7 +182,7 @@ fn joined(alloc: Global, signed: &[Signed]) -> Result<SignedOctets, AllocError>
     Ok(SignedOctets { octets, lengths })
 }
 
-/// Puts octets behind others, and their number behind other numbers.
+/// Appends octets, and their count to the lengths.
 fn append(octets: &mut Vec<u8>, lengths: &mut Vec<usize>, more: &[u8]) -> Result<(), AllocError>
     ensures octets { OnOk result (octets.new.items ≡ octets.old.items ++ more.now) }
     ensures lengths { OnOk result (lengths.new.items ≡ lengths.old.items ++ length more.now ∷ []) }

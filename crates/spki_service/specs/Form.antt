@@ -6,7 +6,7 @@ use Rattle.sexpr_core.specs.Value.{Value, canon}
 use Rattle.sexpr_text.specs.Spelling.{IsTextWithin}
 use Rattle.sexpr_text.specs.Refusal.{RefusesText}
 
--- The text spells and braces no value within the limits, and the fault tells why. It is TooLong exactly if the text has more
+-- The text spells and braces no value within the limits, and this is its fault. The fault is TooLong exactly if the text has more
 -- than 1,048,576 octets.
 pub record RefusesForm (text : List ℕ) (fault : FormFault) : Type 0 where
   pub found : fault ≢ form.Memory
@@ -28,7 +28,7 @@ pub record IsOverlong (means : Value → Type 0) (fault : FormFault) : Type 0 wh
   pub long : 1048576 < length (canon value)
   pub named : fault ≡ form.TooLong
 
--- The part has no value that is read, and the fault of its form tells why: its text is refused, or it means a value that is
--- too long.
+-- The part has no value that is read, and this is the fault of its form: its text is refused, or it means a value that is too
+-- long.
 abbrev pub LacksForm : (means : Value → Type 0) → (refuses : FormFault → Type 0) → FormFault → Type 0
 LacksForm means refuses fault = refuses fault ⊎ IsOverlong means fault

@@ -115,7 +115,7 @@ ReadsBefore q parts.Key = ReadsSequence q
 ReadsBefore q parts.Request = ReadsSequence q × ReadsKey q
 ReadsBefore q parts.Moment = ReadsSequence q × (ReadsKey q × ReadsRequest q)
 
--- a moment has no value that is read, and the fault of its form tells why
+-- a moment has no value that is read, and this is the fault of its form
 abbrev pub LacksFormOfMoment : instant.Instant → FormFault → Type 0
 LacksFormOfMoment (moments.Text text) fault = LacksForm (IsTextWithin text.now) (RefusesForm text.now) fault
 LacksFormOfMoment (moments.Seconds seconds) fault = ⊥

@@ -24,7 +24,7 @@ use Rattle.spki_service.specs.Form.{RefusesForm, LacksForm}
 use Rattle.spki_service.specs.Moment.{IsDateAt, IsAtNoDate}
 use Rattle.spki_service.specs.Questions.{IsWanted, RefusesWanted, IsNoSequence, IsNoKey, IsNoRequest, IsNoDate}
 
--- the text is the canonical text of a value of the part, or the fault tells why there is none
+-- the text is the canonical text of a value of the part; or the part has none, and this is the fault of its form
 abbrev pub IsReadAs : (means : Value → Type 0) → (refuses : FormFault → Type 0) → PartText → Type 0
 IsReadAs means refuses (Standing document) = means document × IsWithinLimits document
 IsReadAs means refuses (Made octets) = (v : Value) × means v × IsWithinLimits v × (octets.items ≡ canon v)

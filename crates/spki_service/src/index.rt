@@ -157,7 +157,7 @@ fn reversed(alloc: Global, octets: &[u8]) -> Result<Vec<u8>, AllocError>
     Ok(turned)
 }
 
-/// Appends a number to those at the octets. Of octets that have no number yet the map is searched once.
+/// Appends a number to those at the octets. If the octets have no number yet, the map is searched only once.
 fn add_number(
     numbers: &mut Numbers,
     alloc: Global,
