@@ -1,6 +1,7 @@
 #!/usr/bin/env bash
 # Makes two Debian packages of what install.sh installs: `spki`, the program and its manual, and `libspki-dev`, the library for C programs.
 # A machine without the toolchain can install them: `apt-get install ./spki_*.deb`. Needs dpkg-deb, and the file VERSION at the top.
+# There is no package with the shared library alone: a program that is linked with it needs libspki-dev where it runs.
 # DEBFULLNAME and DEBEMAIL name the maintainer.
 # Usage: ./packages.sh [FOLDER [PROGRAM [LIBRARY]]]        the packages go to FOLDER, or here; the rest is as for install.sh
 set -euo pipefail

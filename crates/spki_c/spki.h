@@ -182,6 +182,9 @@ enum spki_status spki_guard_signed(const spki_guard *guard, const struct spki_qu
 /* Decides a question, if exactly those signatures are valid that spki_guard_signed lists at the places where `verified` is 1. Every
  * other number says that a signature is not valid. `count` must be the count of spki_guard_signed, otherwise the call is SPKI_MISUSED.
  *
+ * The time does not grow with the entries for other keys. It grows with the number of entries for the key of the first certificate's
+ * issuer, or for the client's key if no certificate is shown.
+ *
  * Returns SPKI_YES with `yes entry N`, or SPKI_NO with `no`, as SPKI_CHECK does for the case of these parts and the guard's list.
  * SPKI_REFUSED: the line says which part is refused, as `refused sequence Bad 5` for what is no text of a value, or
  * `refused sequence 3 Shape` for a value that is no sequence; `refused key ..`, `refused request ..`, `refused at ..`; or
@@ -189,7 +192,8 @@ enum spki_status spki_guard_signed(const spki_guard *guard, const struct spki_qu
 enum spki_status spki_guard_decide(const spki_guard *guard, const struct spki_question *question, const unsigned char *verified,
                                    size_t count, void *buffer, size_t buffer_length, size_t *needed);
 
-/* Like spki_guard_decide, but write the lines of SPKI_EXPLAIN or SPKI_REDUCE, and return SPKI_DONE in place of yes and no. */
+/* Like spki_guard_decide, but write the lines of SPKI_EXPLAIN or SPKI_REDUCE, and return SPKI_DONE in place of yes and no. The time grows
+ * with the number of all entries. */
 enum spki_status spki_guard_explain(const spki_guard *guard, const struct spki_question *question, const unsigned char *verified,
                                     size_t count, void *buffer, size_t buffer_length, size_t *needed);
 enum spki_status spki_guard_reduce(const spki_guard *guard, const struct spki_question *question, const unsigned char *verified,
