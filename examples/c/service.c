@@ -10,7 +10,7 @@
  * - the sequence, the client's public key, a signature, and each string of the request: the number of octets, and then the octets
  *
  * The signature proves that the client holds the key. It is made by this key, of `(login SERVICE NONCE)` in canonical form. A nonce is
- * used once, so an answer that somebody has seen is of no use to him. The message names the service, so no other service can pass a nonce
+ * used once, so an answer that was seen cannot be used again. The message names the service, so no other service can pass a nonce
  * of this one on to its own clients. It is no certificate, because a certificate begins with `(4:cert`.
  *
  * The service writes `yes entry N`, or `no` and the lines that explain why, or a line that begins with `refused`. ONLY `yes` IS A YES. A
@@ -158,7 +158,7 @@ static bool verifies(struct spki_text key, struct spki_text message, struct spki
     return right;
 }
 
-/* Whether the client holds the key that he shows. Brings the key into canonical form, which is one value and no more. */
+/* Whether the client holds the key that it shows. Brings the key into canonical form, which is one value and no more. */
 static bool holds_key(struct spki_text parts[MOST_PARTS], const unsigned char nonce[NONCE_OCTETS])
 {
     static unsigned char key[MOST_OCTETS];
