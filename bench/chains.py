@@ -61,8 +61,8 @@ def widest():
 
 
 def behind_a_large_tag(more, tag):
-    """An entry and a certificate with a tag of 998,001 strings of one octet together, and so many certificates with this tag behind
-    them."""
+    """An entry and a certificate whose tags have an intersection of 998,001 strings of one octet, and after them `more` certificates
+    with `tag`."""
     large = a_set(string("a"))
     keys = keys_of(more + 1)
     links = [(certificate(keys[0], keys[1], large), keys[0])]
@@ -71,7 +71,7 @@ def behind_a_large_tag(more, tag):
 
 
 def large_tags():
-    """Texts of at most 1 MiB in which an entry and a certificate leave a tag of as many nodes, or of strings as long, as there may be."""
+    """Texts of at most 1 MiB in which the intersection of an entry's and a certificate's tag has the most nodes, or the longest strings."""
     def made(one, other):
         first, second = keys_of(1)
         return case([entry(first, one)], [(certificate(first, second, other), first)], asks=key("other"))

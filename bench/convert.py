@@ -29,7 +29,7 @@ LIMIT_MEMORY = 256
 
 
 def filled(size, piece):
-    """A list of one piece over and over, in so many octets."""
+    """A list of one piece over and over, in at most `size` octets."""
     return b"(" + piece * ((size - 2) // len(piece)) + b")"
 
 

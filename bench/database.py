@@ -40,7 +40,7 @@ def held(place):
 
 
 def rows(count):
-    """Entries for so many keys, every second one for the hash of its key."""
+    """Entries for `count` keys, every second one for the hash of its key."""
     for place in range(count):
         digest = hashlib.sha256(held(place)).digest()
         subject = held(place) if place % 2 else group(string("hash"), string("sha256"), string(digest))

@@ -41,7 +41,7 @@ def explained():
 
 
 def largest(entries):
-    """A case whose reduction has so many tags of 998,001 strings: each of two sets has 999 equal ones."""
+    """A case whose entries are each reduced to a tag of 998,001 strings: each of two sets has 999 equal ones."""
     tag = group(string("*"), string("set"), *[string("a")] * COPIES)
     keys = keys_of(1)
     return case([entry(keys[0], tag)] * entries, [(certificate(keys[0], keys[1], tag), keys[0])], asks=keys[1])

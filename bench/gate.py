@@ -25,7 +25,7 @@ def words_of(process):
 
 
 def ticks_of(process):
-    """The processor time of a process itself, and when it began, which tells it from an earlier one of its number."""
+    """The processor time of a process itself, and when it began, which distinguishes it from an earlier one with its number."""
     with open(f"/proc/{process}/stat") as it:
         fields = it.read().rpartition(")")[2].split()
     return int(fields[11]) + int(fields[12]), int(fields[19])

@@ -57,7 +57,7 @@ static int verifies(void)
     return failed == 0;
 }
 
-/* The µs of a call, of so many in a row. Negative if one does not say yes. */
+/* The µs of a call, of many in a row. Negative if one does not say yes. */
 static double time_of(int (*call)(void))
 {
     struct timespec from, to;

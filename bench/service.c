@@ -5,8 +5,8 @@
  * service widest FILE           with limits of 64 KiB and 10,000 nodes: the status, the ms of the processor, and the MiB, of one question
  * service threads N FILE        of one thread and of N, each with a guard of its own, the decisions in a second and in a processor second;
  *                               and how many times as far N threads count as one
- * service repeat CALLS FILE     so many decisions, for counting instructions
- * service reopen CALLS FILE     so many guards of the list, for counting instructions */
+ * service repeat CALLS FILE     CALLS decisions, for counting instructions
+ * service reopen CALLS FILE     CALLS guards of the list, for counting instructions */
 #define _POSIX_C_SOURCE 200809L
 #include "question.h"
 #include <pthread.h>

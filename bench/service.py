@@ -182,12 +182,12 @@ def fitting(make):
 
 
 def many_small_meets(size):
-    """Two sets that leave 9,604 strings, and certificates for one string, each of which goes over them."""
+    """Two sets whose intersection has 9,604 strings, and certificates for one string, each of which goes over them."""
     owner, large = key("k"), a_set(string("a"), 98)
     first, cert = certificate(owner, owner, large), certificate(owner, owner, string("a"))
     item = shown(cert, owner)
     certificates = (size - 4 * 1024) // len(item)
-    return (f"two sets that leave 9,604 strings, {certificates:,} times a certificate for one string",
+    return (f"two sets whose intersection has 9,604 strings, {certificates:,} times a certificate for one string",
             asked([entry(owner, large)], [], [shown(first, owner)] + [item] * certificates))
 
 

@@ -55,12 +55,12 @@ def entries_and_chain(size, tag=STAR, what="all for (*)", turn=None):
 
 
 def entries_and_tags(size):
-    """The same, where the product of all nodes is over the limit, so that the entries' tag is met with each certificate's."""
+    """The same, where the product of all nodes is over the limit, so that the entries' tag is intersected with each certificate's."""
     return entries_and_chain(size, group(string("ftp")), "all for (ftp)")
 
 
 def entries_in_turns(size):
-    """The same, where each entry has another tag than the one before it, so that each entry's tag is met with each certificate's."""
+    """The same, where each entry has another tag than the one before it, so that each entry's tag is intersected with each certificate's."""
     return entries_and_chain(size, group(string("ftp")), "for (ftp), and every second entry for (*)", STAR)
 
 
@@ -101,12 +101,12 @@ def long_name(size):
 
 
 def large_tag(size):
-    """Two sets that leave 998,001 strings, and one certificate many times, each of which goes over them."""
+    """Two sets whose intersection has 998,001 strings, and one certificate many times, each of which goes over them."""
     owner, large = key("k"), a_set(string("a"))
     first, cert = certificate(owner, owner, large), certificate(owner, owner, string("a"))
     item = shown(cert, owner)
     certificates = (size - 10 * 1024) // len(item)
-    return (f"two sets that leave 998,001 strings, {certificates:,} times a certificate for one string",
+    return (f"two sets whose intersection has 998,001 strings, {certificates:,} times a certificate for one string",
             asked([entry(owner, large)], [row(first, owner), row(cert, owner)], [shown(first, owner)] + [item] * certificates))
 
 

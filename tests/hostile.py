@@ -144,7 +144,7 @@ def of_limits():
 
 
 def known(*sources, most=MOST_OCTETS * 2):
-    """The examples of some sources, of at most so many octets, whose command the program has."""
+    """The examples of some sources, of at most `most` octets, whose command the program has."""
     return [example for source in sources for example in source() if example.command in COMMANDS and len(example.text) <= most]
 
 
@@ -202,7 +202,7 @@ def most_work():
         yield f"most {what}", "intersect", intersect.intersection(*make(332 if what == "lists" else 999)), b"("
 
 
-# ---- what is done with an example: each gives the number of runs and of refusals met, and the faults
+# ---- what is done with an example: each returns the number of runs, the number of refusals, and the faults
 
 def refused_in_turn(program, example, behind):
     """The Nth request for memory is refused, and with `behind` all behind it, until no run meets it. Where there are very many
@@ -229,7 +229,7 @@ def call_refused(program, name, behind):
 
 
 def cut_short(program, command, text, places):
-    """Only so many octets of the text are there."""
+    """The text ends after each of these numbers of octets."""
     faults = []
     for length in places:
         ended = program.run(command, text[:length])
@@ -239,7 +239,7 @@ def cut_short(program, command, text, places):
 
 
 def failing_in_turn(program, example, end, told, wanted):
-    """One octet is read and written at each ask, and the Nth is told an error; `wanted` gives how a run that meets it ends."""
+    """Each call reads or writes one octet, and the Nth call returns an error. `wanted` returns how a run with that error ends."""
     refusals, faults = 0, []
     for number in count(1):
         ended = program.run(example.command, example.text, step=1, **{end: number, "with": told})
@@ -268,7 +268,7 @@ def ended_early(example, number):
 
 
 def interrupted_for_ever(program, example, end, asks, wanted):
-    """Each ask is told to ask again, until there were so many."""
+    """Each call returns that it was interrupted, until the program has called `asks` times."""
     ended = program.run(example.command, example.text, step=1, **{end: "1..", "with": EINTR})
     right = ended.answer == wanted and ended.asked[end] == asks
     return 1, ended.refused, [] if right else [f"{example}: {end} interrupted for ever: {ended}, {ended.asked[end]} asks"]

@@ -20,7 +20,7 @@ def numbered(count):
 
 
 def one_string(size, form):
-    """A text of so many octets that is a string, in a form, and its canonical form."""
+    """A text of `size` octets that is a string, in a form, and its canonical form."""
     room = {"canonical": size - len(f"{size}:"), "advanced": size - 2, "braces": (size - 2) // 4 * 3 - len(f"{size}:")}[form]
     octets = b"x" * room
     canonical = b"%d:%s" % (room, octets)

@@ -1,5 +1,5 @@
-"""All pairs of sets with at most two members out of some. What two sets leave together is what their members leave, each met with
-each, in the order of the first set's members and then of the second's; members that leave nothing are left out."""
+"""All pairs of sets with at most two members out of some. The intersection of two sets is the set of the intersections of their members,
+each with each, in the order of the first set's members and then of the second's. Intersections `(* set)` are left out."""
 from itertools import product
 
 MEMBERS = (b"a", b"ab", b"(* prefix a)", b"(* range alpha ge ab)", b"(f)", b"(f a)", b"(g (* set a b))")
@@ -17,7 +17,7 @@ def written(members):
 
 
 def gathered(members):
-    """What a set comes to whose members are no sets: one alone is itself."""
+    """The normal form of a set whose members are no sets: a set of one member is that member."""
     return members[0] if len(members) == 1 else written(members)
 
 

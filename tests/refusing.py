@@ -116,7 +116,7 @@ class Program:
         return Ended(child.returncode, out, err, {}, 0)
 
     def reader_gone(self, command, text, taken, dies):
-        """A run whose output is read for so many octets; the signal of a closed pipe ends it, if it takes no care (`dies`)."""
+        """A run of whose output `taken` octets are read; the signal of a closed pipe ends it, if it takes no care (`dies`)."""
         reader, writer = os.pipe()
         if taken == 0:
             os.close(reader)

@@ -335,7 +335,7 @@ class Guard:
         return Explanation(self._lines(question, verify, _library.spki_guard_explain))
 
     def reduce(self, question: Question, verify: Verify) -> str:
-        """Which right each entry and all certificates leave: the lines of the program's command `reduce`. Raises `Refused`."""
+        """Which right remains of each entry after all certificates: the lines of the program's command `reduce`. Raises `Refused`."""
         return self._lines(question, verify, _library.spki_guard_reduce)
 
     def _handle(self) -> _Handle:

@@ -165,7 +165,7 @@ impl Guard {
         Ok(Explanation { text })
     }
 
-    /// Writes which right each entry and all certificates leave: the lines of the program's command `reduce`.
+    /// Writes which right remains of each entry after all certificates: the lines of the program's command `reduce`.
     ///
     /// # Errors
     ///
