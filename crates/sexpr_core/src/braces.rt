@@ -12,7 +12,7 @@ ghost use Rattle.sexpr_core.specs.Gathering.{is_symbol, is_body_octet, AreBodyOc
 
 use crate::checker::check_canonical;
 use crate::fault::FormFault;
-use crate::owned::decode;
+use crate::owned_trees::decode;
 use crate::parser::MOST_OCTETS;
 use crate::spaces::{ended, octet_at, skip_spaces};
 use crate::tree::Sexp;

@@ -17,10 +17,10 @@ ghost use Rattle.sexpr_text.specs.Refusal.{RefusesSpelling, RefusesText};
 ghost use Rattle.sexpr_text.specs.Spelling.{IsSpelledWithin, IsTextWithin};
 ghost use Rattle.sexpr_text.specs.Written.{written, written_all, written_string, gap_of};
 
-use crate::hinted::read_hinted_string;
+use crate::hinted_strings::read_hinted_string;
+use crate::opening_brace::opens_braces;
 use crate::printer::{print_string, stands_in_token};
 use crate::strings::{read_string, token_end};
-use crate::whole::opens_braces;
 use sexpr_core::syntax::{append_verbatim, ended, octet_at, octets_in_braces, skip_spaces};
 use sexpr_core::{FormFault, MOST_LISTS, MOST_OCTETS};
 use std::alloc::{AllocError, Global};

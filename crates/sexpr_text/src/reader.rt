@@ -12,9 +12,9 @@ ghost use Rattle.sexpr_text.specs.Begun.{IsPartEnd, GoesValue, GoesMembers, Anyw
 ghost use Rattle.sexpr_text.specs.Refusal.{RefusesSpelling, RefusesText};
 ghost use Rattle.sexpr_text.specs.Spelling.{IsSpelledWithin, IsTextWithin};
 
-use crate::hinted::{HintedString, read_hinted_string};
+use crate::hinted_strings::{HintedString, read_hinted_string};
+use crate::opening_brace::opens_braces;
 use crate::strings::{ReadString, own, read_string};
-use crate::whole::opens_braces;
 use sexpr_core::syntax::{ended, octet_at, skip_spaces};
 use sexpr_core::{Atom, FormFault, MOST_LISTS, MOST_OCTETS, Sexp, unwrap_braces};
 use std::alloc::Global;

@@ -2,7 +2,7 @@
 ghost use Rattle.std.specs.Prelude.{◌≡◌, ◌≢◌, ◌⊎◌, ◌<◌, ◌≤◌, None, IsSome, length};
 ghost use Rattle.spki_cert.specs.declared.principal.Policy.{Policy};
 ghost use Rattle.spki_service.specs.declared.question.Question.{Question};
-ghost use Rattle.spki_guard.specs.declared.held.Wish.{Wish};
+ghost use Rattle.spki_guard.specs.declared.question_answers.Wish.{Wish};
 ghost use Rattle.spki_c.specs.Guards.{policy_number, wish_number, marks_from, HasParts, IsOpened, IsUnopened, IsAsked, IsListed, IsUnlisted};
 ghost use Rattle.spki_c.specs.Handed.{IsMisuse};
 
