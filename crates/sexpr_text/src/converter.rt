@@ -11,7 +11,7 @@ ghost use Rattle.sexpr_text.specs.Printed.{adv};
 ghost use Rattle.sexpr_text.specs.Reads.{ReadsString, StringAt, ReadsValue, ValueAt, ReadsMembers, MembersAt, IsValueFault};
 ghost use Rattle.sexpr_text.specs.Stands.{StringStands, ValueStands, MembersStand};
 ghost use Rattle.sexpr_text.specs.Strings.{is_digit, is_token_octet, IsToken};
-ghost use Rattle.sexpr_text.specs.Begun.{IsPartEnd, GoesString, GoesValue, GoesMembers, Anywhere, IsUnclosedValue, AreUnclosedMembers, IsValueEnd, ValueStandsIn, MembersStandIn};
+ghost use Rattle.sexpr_text.specs.Inner.Begun.{IsPartEnd, GoesString, GoesValue, GoesMembers, Anywhere, IsUnclosedValue, AreUnclosedMembers, IsValueEnd, ValueStandsIn, MembersStandIn};
 ghost use Rattle.sexpr_text.specs.Unclosed.{IsUnclosedString};
 ghost use Rattle.sexpr_text.specs.Refusal.{RefusesSpelling, RefusesText};
 ghost use Rattle.sexpr_text.specs.Spelling.{IsSpelledWithin, IsTextWithin};

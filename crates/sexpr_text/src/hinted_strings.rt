@@ -7,7 +7,7 @@ ghost use Rattle.sexpr_core.specs.Reading.{StandsAt};
 ghost use Rattle.sexpr_core.specs.Value.{Value, string};
 ghost use Rattle.sexpr_text.specs.Reads.{ReadsValue, ValueAt};
 ghost use Rattle.sexpr_text.specs.Stands.{ValueStands};
-ghost use Rattle.sexpr_text.specs.Begun.{IsPartEnd, GoesValue, Anywhere, IsUnclosedValue};
+ghost use Rattle.sexpr_text.specs.Inner.Begun.{IsPartEnd, GoesValue, Anywhere, IsUnclosedValue};
 
 use crate::strings::read_string;
 use sexpr_core::FormFault;

@@ -8,7 +8,7 @@ ghost use Rattle.sexpr_core.specs.Inner.PartFaults.{RefusesPart};
 ghost use Rattle.sexpr_text.specs.Strings.{escape_value, Piece, piece_text, IsPiece, IsQuoted};
 ghost use Rattle.sexpr_text.specs.Reads.{Reads, ReadsPlain, ReadsPiece, ReadsEscape, ReadsDigit, IsLineEnd, IsNoLetter};
 ghost use Rattle.sexpr_text.specs.Stands.{Stands, PieceStands, DigitStands, OctalStands};
-ghost use Rattle.sexpr_text.specs.Begun.{IsFrontEnd, GoesPiece, GoesDigit};
+ghost use Rattle.sexpr_text.specs.Inner.Begun.{IsFrontEnd, GoesPiece, GoesDigit};
 ghost use Rattle.sexpr_text.specs.Unclosed.{OpensQuoted};
 
 use crate::strings::{MarkedString, ReadString};

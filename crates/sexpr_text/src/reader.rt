@@ -8,7 +8,7 @@ ghost use Rattle.sexpr_core.specs.Tree.{sexp_value};
 ghost use Rattle.sexpr_core.specs.Value.{Value, Values, values};
 ghost use Rattle.sexpr_text.specs.Reads.{ReadsValue, ValueAt, ReadsMembers, MembersAt, IsValueFault};
 ghost use Rattle.sexpr_text.specs.Stands.{ValueStands, MembersStand};
-ghost use Rattle.sexpr_text.specs.Begun.{IsPartEnd, GoesValue, GoesMembers, Anywhere, IsUnclosedValue, AreUnclosedMembers, IsValueEnd, ValueStandsIn, MembersStandIn};
+ghost use Rattle.sexpr_text.specs.Inner.Begun.{IsPartEnd, GoesValue, GoesMembers, Anywhere, IsUnclosedValue, AreUnclosedMembers, IsValueEnd, ValueStandsIn, MembersStandIn};
 ghost use Rattle.sexpr_text.specs.Refusal.{RefusesSpelling, RefusesText};
 ghost use Rattle.sexpr_text.specs.Spelling.{IsSpelledWithin, IsTextWithin};
 

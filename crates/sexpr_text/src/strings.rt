@@ -5,7 +5,7 @@ ghost use Rattle.std.specs.Cow.{cow_slice_items};
 ghost use Rattle.sexpr_core.specs.Bounds.{IsShort};
 ghost use Rattle.sexpr_core.specs.Inner.PartFaults.{RefusesPart};
 ghost use Rattle.sexpr_text.specs.Reads.{Reads, ReadsToken, ReadsCount, ReadsOctets, ReadsString, StringAt, Stops, IsTooFew};
-ghost use Rattle.sexpr_text.specs.Begun.{IsPartEnd, GoesMarked, GoesString};
+ghost use Rattle.sexpr_text.specs.Inner.Begun.{IsPartEnd, GoesMarked, GoesString};
 ghost use Rattle.sexpr_text.specs.Unclosed.{IsUnclosed, IsUnclosedString};
 ghost use Rattle.sexpr_text.specs.Stands.{Stands, StringStands};
 ghost use Rattle.sexpr_text.specs.Strings.{is_digit, is_token_octet, IsApart, IsMarked};
