@@ -112,14 +112,19 @@ fn answer_asked(alloc: Global, wish: Wish, read: &Asked, marks: &[bool]) -> Opti
     if marks.len() != read.signed().len() {
         return None;
     }
-    match answered(alloc, wish, read, marks) {
+    match answer_wish(alloc, wish, read, marks) {
         Ok(answer) => Some(answer),
         Err(fault) => Some(refuse(alloc, Refusal::Decision(fault))),
     }
 }
 
 /// The answer to a question that was read, unless tags are too large.
-fn answered(alloc: Global, wish: Wish, read: &Asked, marks: &[bool]) -> Result<Answer, GuardFault>
+fn answer_wish(
+    alloc: Global,
+    wish: Wish,
+    read: &Asked,
+    marks: &[bool],
+) -> Result<Answer, GuardFault>
     ensures written { IfOk result (λ a. WritesAsked wish read.now (marked read.now.case marks.now) a.verdict (written_by a)) }
     ensures large { IsErrOf result GuardFault.TooLarge → IsTooLargeFor wish read.now (marked read.now.case marks.now) }
 {

@@ -1,7 +1,7 @@
 use Rattle.spki_case.specs.View.{model}
 use Rattle.spki_guard.proofs.Standing.{standing_answered, standing_refused, no_case}
 use Rattle.spki_guard.proofs.Undecided.{err_lifted}
-use Rattle.spki_guard.proofs.answers.answered.Goals as goal
+use Rattle.spki_guard.proofs.answers.answer_or_refusal.Goals as goal
 
 pub returns-in_err-case-clause-refused : goal.returns-in_err-case-clause-refused
 returns-in_err-case-clause-refused c =
