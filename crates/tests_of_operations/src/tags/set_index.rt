@@ -1,6 +1,6 @@
 //! The index of a set's members, and the order of the members in an intersection of sets.
 
-use crate::tags::meetings::{Row, all_meet};
+use crate::tags::intersections::{Row, all_meet};
 use crate::tags::texts::tag_of;
 use spki_tag::{Index, Tag};
 use std::alloc::{AllocError, Global};

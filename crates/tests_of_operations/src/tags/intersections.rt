@@ -103,7 +103,7 @@ fn meet_mixtures(rt: HostRuntime) -> Result<(), Fail> {
     all_meet(&rt, rt.alloc(), MIXTURES)
 }
 
-fn is_too_large(alloc: Global, one: &Tag, other: &Tag) -> bool {
+fn is_intersection_too_large(alloc: Global, one: &Tag, other: &Tag) -> bool {
     match one.meet(alloc, other) {
         Ok(_) => false,
         Err(fault) => fault == MeetFault::TooLarge,
@@ -112,7 +112,7 @@ fn is_too_large(alloc: Global, one: &Tag, other: &Tag) -> bool {
 
 /// Whether the tags with these texts are too large to be intersected.
 fn are_too_large(rt: &impl Abort, alloc: Global, one: &[u8], other: &[u8]) -> Result<bool, Fail> {
-    Ok(is_too_large(alloc, &tag_of(rt, alloc, one)?, &tag_of(rt, alloc, other)?))
+    Ok(is_intersection_too_large(alloc, &tag_of(rt, alloc, one)?, &tag_of(rt, alloc, other)?))
 }
 
 #[test]

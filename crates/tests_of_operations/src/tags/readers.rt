@@ -112,20 +112,20 @@ fn tag_faults_at_the_limit(rt: HostRuntime) -> Result<(), Fail> {
 }
 
 /// The text of the normal form of the tag with this text.
-fn rewritten(rt: &impl Abort, alloc: Global, text: &[u8]) -> Result<Vec<u8>, Fail> {
+fn rewritten_tag(rt: &impl Abort, alloc: Global, text: &[u8]) -> Result<Vec<u8>, Fail> {
     let tag = tag_of(rt, alloc, text)?;
     Ok(text_of(alloc, &tag)?)
 }
 
 /// The text of a copy of the tag with this text.
-fn copied(rt: &impl Abort, alloc: Global, text: &[u8]) -> Result<Vec<u8>, Fail> {
+fn copied_tag(rt: &impl Abort, alloc: Global, text: &[u8]) -> Result<Vec<u8>, Fail> {
     let copy = tag_of(rt, alloc, text)?.clone()?;
     Ok(text_of(alloc, &copy)?)
 }
 
 #[test]
 fn copies(rt: HostRuntime) -> Result<(), Fail> {
-    let copy = copied(&rt, rt.alloc(), b"(1:x(1:*3:set1:a1:b))")?;
+    let copy = copied_tag(&rt, rt.alloc(), b"(1:x(1:*3:set1:a1:b))")?;
     assert!(rt; copy.as_slice() == b"(1:x(1:*3:set1:a1:b))".as_slice());
     Ok(())
 }
@@ -134,7 +134,7 @@ fn copies(rt: HostRuntime) -> Result<(), Fail> {
 fn normal_form(rt: HostRuntime) -> Result<(), Fail> {
     for (text, normal) in NORMAL {
         assert!(rt;
-            rewritten(&rt, rt.alloc(), text)?.as_slice() == *normal,
+            rewritten_tag(&rt, rt.alloc(), text)?.as_slice() == *normal,
             "{text:?}"
         );
     }

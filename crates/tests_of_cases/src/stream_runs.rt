@@ -1,6 +1,6 @@
 //! Runs with readers and writers that fail, or that pass on one octet in each call.
 
-use crate::inner_ends::{Dripping, Endless, Narrow, Past};
+use crate::streams::{Dripping, Endless, Narrow, Past};
 use crate::texts::FIRST_RUN;
 use spki_guard::{Command, Metered, Status, run};
 use std::alloc::Global;
