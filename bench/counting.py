@@ -16,6 +16,15 @@ def counted_by_valgrind(command, text):
     return int(re.search(rb"Collected : (\d+)", done.stderr).group(1))
 
 
+def counted(count, words, text):
+    """The instructions of a command on a text, by what counts them."""
+    with tempfile.NamedTemporaryFile() as file:
+        file.write(text)
+        file.flush()
+        with open(file.name, "rb") as opened:
+            return count(words, opened)
+
+
 def counter():
     """What counts the instructions of a command on an open text here: `perf`, or valgrind where that is not there."""
     try:

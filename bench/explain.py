@@ -6,23 +6,14 @@ Build the program first (`rt run` in crates/spki). Usage: bench/explain.py [PROG
 """
 import subprocess
 import sys
-import tempfile
 
 from chains import MOST_OCTETS, by_hashes, by_keys, case, certificate, entry, keys_of, through_names, widest
 from check import LIMIT_MEMORY, PROGRAM, group, key, string
-from counting import counter
+from counting import counted, counter
 from memory import used
 
 LIMIT_RATIO = 1.1
 COPIES = 999
-
-
-def instructions(count, command, text):
-    with tempfile.NamedTemporaryFile() as file:
-        file.write(text)
-        file.flush()
-        with open(file.name, "rb") as opened:
-            return count([PROGRAM, command], opened)
 
 
 def explained():
@@ -33,7 +24,7 @@ def explained():
     texts += [(what, text) for what, text, _ in widest()]
     worst, most = 0.0, 0.0
     for what, text in texts:
-        checked, taken = instructions(count, "check", text), instructions(count, "explain", text)
+        checked, taken = (counted(count, [PROGRAM, command], text) for command in ("check", "explain"))
         seconds, memory = used(PROGRAM, "explain", text)
         print(f"{what:<44}{checked:>16,}{taken:>16,}   {taken / checked:.2f}   {seconds:.2f} s   {memory:.1f} MiB", flush=True)
         worst, most = max(worst, taken / checked), max(most, memory)

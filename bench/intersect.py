@@ -8,9 +8,8 @@ Usage: bench/intersect.py [PROGRAM]
 """
 import os
 import sys
-import tempfile
 
-from counting import counter
+from counting import counted, counter
 from memory import peak
 
 sys.path.append(os.path.join(os.path.dirname(os.path.abspath(__file__)), "..", "tests"))
@@ -70,11 +69,7 @@ WIDEST = {
 
 
 def instructions(count, a, b):
-    with tempfile.NamedTemporaryFile() as text:
-        text.write(intersection(a, b))
-        text.flush()
-        with open(text.name, "rb") as opened:
-            return count([PROGRAM, "intersect"], opened)
+    return counted(count, [PROGRAM, "intersect"], intersection(a, b))
 
 
 def main():

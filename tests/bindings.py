@@ -27,7 +27,7 @@ from datetime import datetime, timezone
 from typing import NamedTuple
 
 import chains
-from support import EXAMPLES, LIBRARY, TOP, canonical, given_program, on_one_line, read, run, string, tables_here
+from support import EXAMPLES, LIBRARY, TOP, canonical, given_program, on_one_line, read, run, string, tables_here, text_of
 from tables import rows_of
 
 CRATE, RUST, PYTHON = (os.path.join(TOP, *words) for words in (["crates", "spki_c"], ["bindings", "rust"], ["bindings", "python"]))
@@ -248,11 +248,6 @@ def is_one_version():
     wrong = [path for path, line in met.items() if re.search(line, text_of(path), re.MULTILINE)[1] != version]
     print("".join(f"{path} has not the version {version}\n" for path in wrong), end="")
     return not wrong
-
-
-def text_of(path):
-    with open(os.path.join(TOP, path), encoding="utf-8") as file:
-        return file.read()
 
 
 def main():

@@ -14,7 +14,7 @@ import os
 import re
 import sys
 
-from support import TOP as ROOT
+from support import TOP as ROOT, text_of
 
 CRATES = os.listdir(os.path.join(ROOT, "crates"))
 SECTION = re.compile(r"^## (.*)$", re.MULTILINE)
@@ -22,11 +22,6 @@ BLOCK = re.compile(r"`([\w./]+\.(?:rt|antt))`[^`\n]*\n\n```(?:rust|antt)\n(.*?)^
 ROW = re.compile(r"^\| `([^` ]+)` \| `([\w./]+\.antt)` \|", re.MULTILINE)
 HEAD = re.compile(r"(?:impl|pub trait)\b.*\{$")
 CALL = re.compile(r"^(?:pub )?fn (\w+)")
-
-
-def text_of(path):
-    with open(os.path.join(ROOT, path), encoding="utf-8") as file:
-        return file.read()
 
 
 def page_of(crate):

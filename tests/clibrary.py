@@ -23,7 +23,7 @@ import sys
 import tempfile
 from concurrent.futures import ThreadPoolExecutor
 
-from support import COMMANDS, EXAMPLES, PROGRAM, TESTS, TOP, canonical, read, run, tables_here
+from support import COMMANDS, EXAMPLES, PROGRAM, TESTS, TOP, canonical, is_compiled, read, run, tables_here
 from tables import rows_of
 
 CRATE = os.path.join(TOP, "crates", "spki_c")
@@ -147,11 +147,6 @@ def agree(words, questions):
     for place, met, wanted in faults:
         print(f"{place}: status {met[0]} and {met[1][:200]!r}, and not {wanted[0]} and {wanted[1][:200]!r}")
     return not faults
-
-
-def is_compiled(*words):
-    """Whether a program compiles without a warning, and links."""
-    return subprocess.run([*words, "-I", CRATE], timeout=SECONDS).returncode == 0
 
 
 def has_compiler(words):

@@ -14,7 +14,7 @@ import os
 import re
 import sys
 
-from support import TOP
+from support import TOP, text_of
 
 PAGES = ["*.md", "docs/*.md", "examples/*.md", "crates/*/CALLING.md"]
 LINK = re.compile(r"\]\(([^)\s]+)\)")
@@ -26,11 +26,6 @@ KINDS = (".md", ".py", ".sexp", ".csexp", ".tsexp", ".rt", ".antt", ".h", ".c", 
 ANY = re.compile(r"\b[A-Z]{2,}(?![A-Za-z.])")
 # What pages name that is made by a command, by the reader, or by another program, and the page of each.
 MADE = {"ask.py", "case.sexp", "chain.svg", "chain.sexp", "wrong.sexp", "x.edit", "locate"}
-
-
-def text_of(path):
-    with open(os.path.join(TOP, path), encoding="utf-8") as file:
-        return file.read()
 
 
 def names_here():

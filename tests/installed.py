@@ -15,21 +15,15 @@ import subprocess
 import sys
 import tempfile
 
-from support import EXAMPLES, TESTS, TOP, tables_here
+from support import EXAMPLES, TESTS, TOP, output_of, tables_here, text_of
 
 REFUSAL = re.compile(r" refused ([A-Za-z0-9 ]+)%n$", re.MULTILINE)
 SECONDS = 3600
 
 
-def output_of(words, text=None, **settings):
-    """The status of a program, and all that it writes."""
-    done = subprocess.run(words, input=text, stdout=subprocess.PIPE, stderr=subprocess.STDOUT, timeout=SECONDS, text=True, **settings)
-    return done.returncode, done.stdout
-
-
 def program_answers(prefix):
     with open(os.path.join(EXAMPLES, "delegation.sexp"), encoding="ascii") as case:
-        return output_of([os.path.join(prefix, "bin", "spki"), "check"], case.read()) == (0, "yes entry 1\n")
+        return output_of(os.path.join(prefix, "bin", "spki"), "check", text=case.read()) == (0, "yes entry 1\n")
 
 
 def library_answers(prefix, *linking):
@@ -38,7 +32,7 @@ def library_answers(prefix, *linking):
     words = ["cc", "-std=c11", "-Wall", "-Wextra", "-Werror", "-o", linked, os.path.join(TESTS, "linked.c"), *linking]
     found = {**os.environ, "LD_LIBRARY_PATH": os.path.join(prefix, "lib")}
     for run, settings in [(words, {}), ([linked], {"env": found})]:
-        met = output_of(run, **settings)
+        met = output_of(*run, **settings)
         if met != (0, ""):
             print(f"{' '.join(run)}: status {met[0]} and {met[1]!r}")
             return False
@@ -48,7 +42,7 @@ def library_answers(prefix, *linking):
 def told_by(prefix, *words):
     """What pkg-config says of the installed library, as words."""
     settings = {**os.environ, "PKG_CONFIG_PATH": os.path.join(prefix, "lib", "pkgconfig")}
-    return output_of(["pkg-config", *words, "spki"], env=settings)[1].split()
+    return output_of("pkg-config", *words, "spki", env=settings)[1].split()
 
 
 def libraries_answer(prefix):
@@ -61,11 +55,6 @@ def libraries_answer(prefix):
     else:
         results["what pkg-config says"] = library_answers(prefix, *told_by(prefix, "--cflags", "--libs"))
     return results
-
-
-def text_of(path):
-    with open(path, encoding="utf-8") as file:
-        return file.read()
 
 
 def is_one_version(prefix, page):
@@ -88,7 +77,7 @@ def files_below(folder):
 
 def uninstalls(prefix, before):
     """Whether only what was there before is left."""
-    status, said = output_of([os.path.join(TOP, "install.sh"), "--uninstall", prefix])
+    status, said = output_of(os.path.join(TOP, "install.sh"), "--uninstall", prefix)
     left = files_below(prefix)
     if status or left != before:
         print(f"{said}\nuninstalling ended with status {status}; left behind: {sorted(left - before)}, gone: {sorted(before - left)}")
@@ -123,7 +112,7 @@ def main():
             with open(os.path.join(prefix, place), "w", encoding="ascii"):
                 pass
         before = files_below(prefix)
-        status, said = output_of([os.path.join(TOP, "install.sh"), prefix, *sys.argv[1:3]])
+        status, said = output_of(os.path.join(TOP, "install.sh"), prefix, *sys.argv[1:3], seconds=SECONDS)
         page = os.path.join(prefix, "share", "man", "man1", "spki.1")
         if status != 0 or not os.path.exists(page):
             print(f"{said}\ninstall.sh ended with status {status}\n0 passed, 1 failed")

@@ -5,22 +5,16 @@ Needs dpkg-deb. Prints what fails; the last line counts.
 Usage: tests/packaged.py [PROGRAM [LIBRARY]]        built already; what is not given install.sh builds
 """
 import os
-import subprocess
 import sys
 import tempfile
 
-from support import EXAMPLES, TOP, run
+from support import EXAMPLES, TOP, output_of, run
 
 # The files that each package must have.
 FILES = {
     "spki": ["usr/bin/spki", "usr/share/man/man1/spki.1.gz", "usr/share/doc/spki/copyright"],
     "libspki-dev": ["usr/include/spki.h", "usr/lib/libspki_c.a", "usr/lib/libspki_c.so", "usr/share/doc/libspki-dev/copyright"]}
 SECONDS = 3600
-
-
-def output_of(*words):
-    done = subprocess.run(words, stdout=subprocess.PIPE, stderr=subprocess.STDOUT, timeout=SECONDS, text=True)
-    return done.returncode, done.stdout
 
 
 def faults(folder):
@@ -49,7 +43,7 @@ def faults(folder):
 
 def main():
     with tempfile.TemporaryDirectory() as folder:
-        status, said = output_of(os.path.join(TOP, "packages.sh"), folder, *sys.argv[1:3])
+        status, said = output_of(os.path.join(TOP, "packages.sh"), folder, *sys.argv[1:3], seconds=SECONDS)
         found = list(faults(folder)) if status == 0 else [f"packages.sh ended with status {status}: {said}"]
     print("".join(f"{fault}\n" for fault in found), end="")
     print(f"{0 if found else 1} passed, {len(found)} failed")

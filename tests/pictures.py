@@ -7,10 +7,9 @@ Usage: tests/pictures.py [PROGRAM]
 """
 import os
 import shutil
-import subprocess
 import sys
 
-from support import TOP, given_program
+from support import TOP, given_program, output_of
 
 # A case of examples/, and what its picture has.
 CASES = {
@@ -19,29 +18,23 @@ CASES = {
     "signed/cases/changed-octet.sexp": ["item 6 DigestDiffers", "color=red"], "signed/cases/other-key.sexp": ["item 6 NotAccepted"],
     "signed/cases/other-signer.sexp": ["item 6 SignerDiffers"], "signed/cases/key-not-shown.sexp": ["item 1 KeyNotShown"],
     "signed/cases/other-holder.sexp": ["NotTheKey", "asks"], "signed/cases/too-late.sexp": ["WindowLacks"]}
-SECONDS = 60
-
-
-def run(*words, text=None):
-    done = subprocess.run(words, input=text, stdout=subprocess.PIPE, stderr=subprocess.STDOUT, text=True, timeout=SECONDS)
-    return done.returncode, done.stdout
 
 
 def faults(program):
     """What is wrong with each picture, or None."""
-    status, said = run(os.path.join(TOP, "docs", "pictures", "draw.py"), "--check")
+    status, said = output_of(os.path.join(TOP, "docs", "pictures", "draw.py"), "--check")
     yield said if status else None
     dot = shutil.which("dot")
     if not dot:
         print("dot is not there (Debian: graphviz): whether it reads the pictures is left out")
     for name, words in CASES.items():
-        status, drawn = run(os.path.join(TOP, "examples", "picture.py"), os.path.join(TOP, "examples", name), program)
+        status, drawn = output_of(os.path.join(TOP, "examples", "picture.py"), os.path.join(TOP, "examples", name), program)
         missing = [word for word in words if word not in drawn]
         if status or missing:
             yield f"{name}: status {status}, without {missing}\n{drawn}"
         else:
-            yield f"{name}: dot does not read it" if dot and run(dot, "-Tplain", text=drawn)[0] else None
-    status, said = run(os.path.join(TOP, "examples", "picture.py"), os.path.join(TOP, "examples", "bad-date.csexp"), program)
+            yield f"{name}: dot does not read it" if dot and output_of(dot, "-Tplain", text=drawn)[0] else None
+    status, said = output_of(os.path.join(TOP, "examples", "picture.py"), os.path.join(TOP, "examples", "bad-date.csexp"), program)
     yield None if (status, said) == (2, "refused at BadDate\n") else f"bad-date.csexp: status {status}, {said}"
 
 

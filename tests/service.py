@@ -15,7 +15,7 @@ import subprocess
 import sys
 import tempfile
 
-from support import EXAMPLES, LIBRARY, TOP, given_program
+from support import EXAMPLES, LIBRARY, given_program, is_compiled
 
 # (examples/signed/ has a module of this file's name)
 sys.path.insert(0, os.path.join(EXAMPLES, "signed"))
@@ -169,10 +169,6 @@ def lists_refused(words, room):
         done = subprocess.run([*words, path if text is not None else room], input="", capture_output=True, text=True, timeout=SECONDS)
         results[name] = is_answered(name, (done.returncode, done.stdout, wanted and done.stderr), (2, "", wanted))
     return results
-
-
-def is_compiled(*words):
-    return subprocess.run([*words, "-I", os.path.join(TOP, "crates", "spki_c")], timeout=SECONDS).returncode == 0
 
 
 def results_of(library, room):

@@ -15,10 +15,10 @@ from sexp import canonical, on_one_line, read  # noqa: E402
 PROGRAM = os.path.join(TOP, "crates", "spki", "out", "spki")
 LIBRARY = os.path.join(TOP, "crates", "spki_c", "out", "libspki_c.a")
 COMMANDS = ("canonical", "advanced", "transport", "intersect", "reduce", "check", "explain")
-SECONDS = 120
+SECONDS, SECONDS_TO_COMPILE = 120, 900
 
 __all__ = ["BENCH", "COMMANDS", "EXAMPLES", "LIBRARY", "PROGRAM", "SECONDS", "TESTS", "TOP", "braced", "canonical", "given_program", "group",
-           "on_one_line", "read", "run", "string", "tables_here"]
+           "is_compiled", "on_one_line", "output_of", "read", "run", "string", "tables_here", "text_of"]
 
 
 def given_program(place=1):
@@ -33,6 +33,23 @@ def run(program, command, text, seconds=SECONDS):
     """The exit status of a command on a text, and what it writes."""
     done = subprocess.run([program, command], input=text, stdout=subprocess.PIPE, stderr=subprocess.DEVNULL, timeout=seconds)
     return done.returncode, done.stdout
+
+
+def output_of(*words, text=None, seconds=SECONDS, **settings):
+    """The status of a program, and all that it writes."""
+    done = subprocess.run(words, input=text, stdout=subprocess.PIPE, stderr=subprocess.STDOUT, timeout=seconds, text=True, **settings)
+    return done.returncode, done.stdout
+
+
+def is_compiled(*words):
+    """Whether a program in C compiles, with `spki.h`, and links."""
+    return subprocess.run([*words, "-I", os.path.join(TOP, "crates", "spki_c")], timeout=SECONDS_TO_COMPILE).returncode == 0
+
+
+def text_of(path):
+    """The text of a file, by its path from the top of the repository, or from the root of the file system."""
+    with open(os.path.join(TOP, path), encoding="utf-8") as file:
+        return file.read()
 
 
 def string(octets):

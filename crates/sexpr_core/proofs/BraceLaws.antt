@@ -12,7 +12,8 @@ use Rattle.sexpr_core.specs.declared.fault.FormFault.TheVariants.{TooLong, TooDe
 use Rattle.sexpr_core.specs.Value.{Value, canon, plain, verbatim, decimal, IsWithinLimits}
 use Rattle.sexpr_core.specs.Reading.{StandsAt}
 use Rattle.sexpr_core.specs.Spaces.{is_whitespace, AreSpaces, visible, Skips}
-use Rattle.sexpr_core.specs.Gathering.{is_body_octet, GathersTo, BodyAt}
+use Rattle.sexpr_core.specs.Gathering.{is_body_octet}
+use Rattle.sexpr_core.specs.Inner.Gathering.{GathersTo, BodyAt}
 use Rattle.sexpr_core.specs.Braces.{IsBase64, Braced, IsBraced, IsBracedWithin, ReadsBase64, PackedAt, transport}
 use Rattle.sexpr_core.specs.Bounds.{IsFaultAt, RefusesBody, IsTrailingBehind}
 use Rattle.sexpr_core.specs.BraceRefusal.{BracesDeep, IsShallowBraced}

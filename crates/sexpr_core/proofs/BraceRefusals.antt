@@ -8,7 +8,8 @@ use Rattle.sexpr_core.specs.declared.fault.FormFault.TheVariants.{TooLong, TooDe
 use Rattle.sexpr_core.specs.Bounds.{RefusesBody, IsTrailingBehind}
 use Rattle.sexpr_core.specs.Braces.{IsBase64, Braced, IsBraced, IsBracedWithin, ReadsBase64, PackedAt}
 use Rattle.sexpr_core.specs.BraceRefusal.{BracesDeep, IsShallowBraced, OpensBraces, BracesGoOn, RefusesBraces}
-use Rattle.sexpr_core.specs.Gathering.{is_body_octet, AreBodyOctets, GathersTo, Passed, IsBodyEnd}
+use Rattle.sexpr_core.specs.Gathering.{is_body_octet, AreBodyOctets, Passed, IsBodyEnd}
+use Rattle.sexpr_core.specs.Inner.Gathering.{GathersTo}
 use Rattle.sexpr_core.specs.Prefix.{Begins}
 use Rattle.sexpr_core.specs.Inner.PartFaults.{RefusesPart}
 use Rattle.sexpr_core.specs.Reading.{StandsAt}

@@ -10,7 +10,8 @@ use Rattle.sexpr_core.specs.declared.fault.FormFault.TheVariants.{TooLong, TooDe
 use Rattle.sexpr_core.specs.Bounds.{IsFaultAt}
 use Rattle.sexpr_core.specs.Reading.{StandsAt}
 use Rattle.sexpr_core.specs.Spaces.{is_whitespace, visible, AreSpaces, StartsVisible, Skips}
-use Rattle.sexpr_core.specs.Gathering.{is_symbol, is_body_octet, AreBodyOctets, StartsNoSymbol, SkipsSymbols, GathersTo, BodyAt, Passed, IsBodyEnd}
+use Rattle.sexpr_core.specs.Gathering.{is_symbol, is_body_octet, AreBodyOctets, Passed, IsBodyEnd}
+use Rattle.sexpr_core.specs.Inner.Gathering.{StartsNoSymbol, SkipsSymbols, GathersTo, BodyAt}
 use Rattle.sexpr_core.specs.Prefix.{StopsAt}
 use Rattle.sexpr_core.proofs.Agreeing.{Agree, agree, spelled_too, stands_too, long_too}
 use Rattle.sexpr_core.proofs.SpaceLaws.{all-append}

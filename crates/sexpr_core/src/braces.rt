@@ -8,11 +8,12 @@ ghost use Rattle.sexpr_core.specs.Braces.{in_braces, transport, IsBase64, IsBrac
 ghost use Rattle.sexpr_core.specs.Bounds.{IsFaultAt, IsBodyFault, RefusesBody};
 ghost use Rattle.sexpr_core.specs.BraceRefusal.{RefusesBraces};
 ghost use Rattle.sexpr_core.specs.Inner.PartFaults.{RefusesPart};
-ghost use Rattle.sexpr_core.specs.Gathering.{is_symbol, is_body_octet, AreBodyOctets, SkipsSymbols, GathersTo, BodyAt, IsBodyEnd};
+ghost use Rattle.sexpr_core.specs.Gathering.{is_symbol, is_body_octet, AreBodyOctets, IsBodyEnd};
+ghost use Rattle.sexpr_core.specs.Inner.Gathering.{SkipsSymbols, GathersTo, BodyAt};
 
 use crate::checker::check_canonical;
 use crate::fault::FormFault;
-use crate::owned::decode;
+use crate::owned_trees::decode;
 use crate::parser::MOST_OCTETS;
 use crate::spaces::{ended, octet_at, skip_spaces};
 use crate::tree::Sexp;

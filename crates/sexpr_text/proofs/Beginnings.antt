@@ -11,7 +11,7 @@ use Rattle.sexpr_core.proofs.Texts.{verbatim_is}
 use Rattle.sexpr_text.specs.Strings.{is_token_octet, IsCount, Simple, IsApart, IsQuoted}
 use Rattle.sexpr_text.specs.Spelling.{SpellsAs, SpellsMembers}
 use Rattle.sexpr_text.specs.Unclosed.{IsUnclosed, IsUnclosedString, IsUnclosedAtom, UnclosedMembers, UnclosedValue, depth_open, IsUnclosedText}
-use Rattle.sexpr_text.specs.Begun.{IsStringPart, GoesString, IsValuePart, IsUnclosedValue, GoesValue, IsMembersPart, AreUnclosedMembers, GoesMembers}
+use Rattle.sexpr_text.specs.Inner.Begun.{IsStringPart, GoesString, IsValuePart, IsUnclosedValue, GoesValue, IsMembersPart, AreUnclosedMembers, GoesMembers}
 use Rattle.sexpr_text.specs.Refusal.{IsSpelling, IsSpellingWithin, GoesOn, GoesOnWithin}
 use Rattle.sexpr_text.proofs.Marked.{is_mark}
 use Rattle.sexpr_text.proofs.OneValue.{apart_front, spaces_members}

@@ -19,7 +19,7 @@ use Rattle.sexpr_text.specs.Strings.{is_digit, IsCount, Piece, octal, hexadecima
 use Rattle.sexpr_text.specs.Reads.{Reads, ReadsDigit, ReadsCount, is_hexadecimal_octet, Stops, IsTooFew}
 use Rattle.sexpr_text.specs.Stands.{Stands}
 use Rattle.sexpr_text.specs.Unclosed.{OpensQuoted, IsUnclosed, IsUnclosedString}
-use Rattle.sexpr_text.specs.Begun.{Begun, From, IsPartEnd, IsFrontEnd, GoesPiece, GoesDigit, GoesMarked, IsStringPart, GoesString}
+use Rattle.sexpr_text.specs.Inner.Begun.{Begun, From, IsPartEnd, IsFrontEnd, GoesPiece, GoesDigit, GoesMarked, IsStringPart, GoesString}
 use Rattle.sexpr_text.proofs.Beginnings.{begins_front, count_begins}
 use Rattle.sexpr_text.proofs.CountedLaws.{count_once, ends_written}
 use Rattle.sexpr_text.proofs.Marked.{is_mark, hexadecimal_octets}

@@ -18,7 +18,7 @@ use Rattle.sexpr_core.proofs.BraceLaws.{opening}
 use Rattle.sexpr_core.proofs.Texts.{join}
 use Rattle.sexpr_text.specs.Strings.{IsApart}
 use Rattle.sexpr_text.specs.Unclosed.{UnclosedMembers, UnclosedValue}
-use Rattle.sexpr_text.specs.Begun.{AreUnclosedMembers, GoesMembers}
+use Rattle.sexpr_text.specs.Inner.Begun.{AreUnclosedMembers, GoesMembers}
 use Rattle.sexpr_text.specs.Spelling.{IsHinted, SpellsMembers, Spells, IsSpelledWithin, IsTextWithin}
 use Rattle.sexpr_text.specs.Reads.{StringAt, ReadsString, ValueAt, ReadsValue, MembersAt, ReadsMembers}
 use Rattle.sexpr_text.proofs.Beginnings.{goes_spaces, goes_first}

@@ -15,7 +15,7 @@ use Rattle.sexpr_text.specs.Strings.{Simple}
 use Rattle.sexpr_text.specs.Reads.{ReadsString, StringAt, IsValueFault}
 use Rattle.sexpr_text.specs.Stands.{StringStands, ValueStands}
 use Rattle.sexpr_text.specs.Unclosed.{IsUnclosedString, IsUnclosedHint, IsUnclosedHinted, UnclosedMembers, UnclosedValue, depth_open}
-use Rattle.sexpr_text.specs.Begun.{Begun, From, IsPartEnd, GoesString, GoesValue, GoesMembers, IsUnclosedValue, AreUnclosedMembers, ValueStandsIn, MembersStandIn, Anywhere, IsDeepAt, IsValueEnd}
+use Rattle.sexpr_text.specs.Inner.Begun.{Begun, From, IsPartEnd, GoesString, GoesValue, GoesMembers, IsUnclosedValue, AreUnclosedMembers, ValueStandsIn, MembersStandIn, Anywhere, IsDeepAt, IsValueEnd}
 use Rattle.sexpr_text.proofs.Beginnings.{goes_string, goes_hint, goes_body, goes_list, goes_member, no_member}
 use Rattle.sexpr_text.proofs.Elsewhere.{string_too}
 use Rattle.sexpr_text.proofs.OneString.{one_simple}

@@ -16,7 +16,7 @@ use Rattle.sexpr_text.specs.Spelling.{SpellsAs, Spells, IsSpelledWithin}
 use Rattle.sexpr_text.specs.Reads.{ReadsValue, ValueAt, IsValueFault}
 use Rattle.sexpr_text.specs.Stands.{ValueStands}
 use Rattle.sexpr_text.specs.Unclosed.{IsUnclosedText, UnclosedValue}
-use Rattle.sexpr_text.specs.Begun.{Begun, From, Anywhere, GoesValue, IsUnclosedValue, ValueStandsIn, IsValueEnd}
+use Rattle.sexpr_text.specs.Inner.Begun.{Begun, From, Anywhere, GoesValue, IsUnclosedValue, ValueStandsIn, IsValueEnd}
 use Rattle.sexpr_text.specs.Refusal.{IsSpelling, IsSpellingWithin, GoesOn, GoesOnWithin, RefusesSpelling}
 use Rattle.sexpr_text.proofs.Beginnings.{value_begins, goes_anyhow}
 use Rattle.sexpr_text.proofs.Elsewhere.{value_too}

@@ -4,6 +4,6 @@ pub mod Refusal
 pub mod Printed
 pub mod Reads
 pub mod Unclosed
-pub mod Begun
 pub mod Stands
 pub mod Written
+pub mod Inner

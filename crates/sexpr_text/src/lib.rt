@@ -5,14 +5,14 @@
 #![tactic(auto)]
 
 mod converter;
-mod hexadecimal;
-mod hinted;
+mod hexadecimal_strings;
+mod hinted_strings;
 pub mod laws;
+mod opening_brace;
 mod printer;
-mod quoted;
+mod quoted_strings;
 mod reader;
 mod strings;
-mod whole;
 
 pub use converter::{Form, convert};
 pub use printer::print_advanced;

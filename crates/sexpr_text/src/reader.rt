@@ -8,13 +8,13 @@ ghost use Rattle.sexpr_core.specs.Tree.{sexp_value};
 ghost use Rattle.sexpr_core.specs.Value.{Value, Values, values};
 ghost use Rattle.sexpr_text.specs.Reads.{ReadsValue, ValueAt, ReadsMembers, MembersAt, IsValueFault};
 ghost use Rattle.sexpr_text.specs.Stands.{ValueStands, MembersStand};
-ghost use Rattle.sexpr_text.specs.Begun.{IsPartEnd, GoesValue, GoesMembers, Anywhere, IsUnclosedValue, AreUnclosedMembers, IsValueEnd, ValueStandsIn, MembersStandIn};
+ghost use Rattle.sexpr_text.specs.Inner.Begun.{IsPartEnd, GoesValue, GoesMembers, Anywhere, IsUnclosedValue, AreUnclosedMembers, IsValueEnd, ValueStandsIn, MembersStandIn};
 ghost use Rattle.sexpr_text.specs.Refusal.{RefusesSpelling, RefusesText};
 ghost use Rattle.sexpr_text.specs.Spelling.{IsSpelledWithin, IsTextWithin};
 
-use crate::hinted::{HintedString, read_hinted_string};
+use crate::hinted_strings::{HintedString, read_hinted_string};
+use crate::opening_brace::opens_braces;
 use crate::strings::{ReadString, own, read_string};
-use crate::whole::opens_braces;
 use sexpr_core::syntax::{ended, octet_at, skip_spaces};
 use sexpr_core::{Atom, FormFault, MOST_LISTS, MOST_OCTETS, Sexp, unwrap_braces};
 use std::alloc::Global;

@@ -5,15 +5,15 @@ ghost use Rattle.std.specs.Cow.{cow_slice_items};
 ghost use Rattle.sexpr_core.specs.Bounds.{IsShort};
 ghost use Rattle.sexpr_core.specs.Inner.PartFaults.{RefusesPart};
 ghost use Rattle.sexpr_text.specs.Reads.{Reads, ReadsToken, ReadsCount, ReadsOctets, ReadsString, StringAt, Stops, IsTooFew};
-ghost use Rattle.sexpr_text.specs.Begun.{IsPartEnd, GoesMarked, GoesString};
+ghost use Rattle.sexpr_text.specs.Inner.Begun.{IsPartEnd, GoesMarked, GoesString};
 ghost use Rattle.sexpr_text.specs.Unclosed.{IsUnclosed, IsUnclosedString};
 ghost use Rattle.sexpr_text.specs.Stands.{Stands, StringStands};
 ghost use Rattle.sexpr_text.specs.Strings.{is_digit, is_token_octet, IsApart, IsMarked};
 ghost use Rattle.sexpr_core.specs.Reading.{StandsAt};
 
-use crate::hexadecimal::read_hexadecimal;
+use crate::hexadecimal_strings::read_hexadecimal;
 use crate::printer::stands_in_token;
-use crate::quoted::{lend_quoted, read_quoted};
+use crate::quoted_strings::{lend_quoted, read_quoted};
 use sexpr_core::syntax::{Unpacked, octet_at, read_base64};
 use sexpr_core::{FormFault, MOST_OCTETS};
 use std::alloc::{AllocError, Global};

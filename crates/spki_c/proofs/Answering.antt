@@ -4,8 +4,8 @@ use Rattle.spki_service.specs.Held.{Held}
 use Rattle.spki_service.specs.declared.question.Question.{Question}
 use Rattle.spki_guard.specs.declared.answers.Verdict.{Verdict}
 use Rattle.spki_guard.specs.declared.answers.Verdict.TheVariants.{Refused}
-use Rattle.spki_guard.specs.declared.held.Wish.{Wish}
-use Rattle.spki_guard.specs.declared.held.Wish.TheVariants.{Decide, Explain, Reduce}
+use Rattle.spki_guard.specs.declared.question_answers.Wish.{Wish}
+use Rattle.spki_guard.specs.declared.question_answers.Wish.TheVariants.{Decide, Explain, Reduce}
 use Rattle.spki_guard.specs.Held.{IsAnswerHeld}
 use Rattle.spki_guard.specs.Lines.{refused_memory}
 use Rattle.spki_c.specs.Guards.{wish_number, status_for, IsAnswered}

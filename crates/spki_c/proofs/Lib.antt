@@ -1,6 +1,6 @@
 pub mod Answering
 pub mod Lending
-pub mod LooseValues
+pub mod BoxPointerValues
 pub mod Members
 pub mod OneCommand
 pub mod StringPlaces

@@ -11,8 +11,8 @@ use Rattle.spki_service.specs.declared.question.Wanted.TheVariants as wanted
 use Rattle.spki_service.specs.declared.question.Instant.{Instant}
 use Rattle.spki_service.specs.declared.question.Instant.TheVariants as moments
 use Rattle.spki_guard.specs.declared.answers.Verdict.{Verdict}
-use Rattle.spki_guard.specs.declared.held.Wish.{Wish}
-use Rattle.spki_guard.specs.declared.held.Wish.TheVariants.{Decide, Explain, Reduce}
+use Rattle.spki_guard.specs.declared.question_answers.Wish.{Wish}
+use Rattle.spki_guard.specs.declared.question_answers.Wish.TheVariants.{Decide, Explain, Reduce}
 use Rattle.spki_guard.specs.Held.{IsAnswerHeld, HasOtherCount, ListsSigned, IsUnread}
 use Rattle.spki_guard.specs.HeldLines.{refused_list}
 use Rattle.spki_guard.specs.Lines.{refused_memory}

@@ -2,14 +2,14 @@
 ghost use Rattle.std.specs.Prelude.{◌≡◌, ◌≢◌, ◌⊎◌, ◌<◌, ◌≤◌, None, IsSome, length};
 ghost use Rattle.spki_cert.specs.declared.principal.Policy.{Policy};
 ghost use Rattle.spki_service.specs.declared.question.Question.{Question};
-ghost use Rattle.spki_guard.specs.declared.held.Wish.{Wish};
+ghost use Rattle.spki_guard.specs.declared.question_answers.Wish.{Wish};
 ghost use Rattle.spki_c.specs.Guards.{policy_number, wish_number, marks_from, HasParts, IsOpened, IsUnopened, IsAsked, IsListed, IsUnlisted};
 ghost use Rattle.spki_c.specs.Handed.{IsMisuse};
 
+use crate::box_pointer::BoxPointer;
 use crate::buffer::{hand_over, hand_over_signed, misused};
 use crate::guards::{policy_of, read_guard};
 use crate::handle::{Handle, Lent};
-use crate::loose::Loose;
 use crate::numbers::{DONE, REFUSED, wish_of, wish_status};
 use crate::questions::{marks_of, question_of};
 use spki_guard::{AclFault, Limits, answer_question, refused_list, signed_octets};
@@ -47,7 +47,7 @@ pub extern "C" fn spki_c_guard_open(
     };
     match read_guard(alloc, list, policy, limits) {
         Ok(guard) => {
-            handle.hold(Loose::of(guard));
+            handle.hold(BoxPointer::of(guard));
             *needed = 0;
             DONE
         }

@@ -4,7 +4,7 @@ ghost use Rattle.std.specs.declared.option.Option.{Option};
 ghost use Rattle.std.specs.Coded.{coded_option};
 ghost use Rattle.spki_c.specs.Holding.{Kept, kept_code, held_owns, held_lent};
 
-use crate::loose::Loose;
+use crate::box_pointer::BoxPointer;
 use spki_guard::Guard;
 use std::alloc::Global;
 use std::marker::Model;
@@ -33,21 +33,21 @@ impl Model for Lent {
 
 impl Handle {
     /// Takes over a guard. The handle must have none.
-    pub(crate) fn hold(&mut self, loose: Loose<Guard, Global>)
+    pub(crate) fn hold(&mut self, pointer: BoxPointer<Guard, Global>)
         requires { self.old.held ≡ None }
-        ensures { self.new.held ≡ Some loose.value }
+        ensures { self.new.held ≡ Some pointer.value }
     {
-        let Loose { at, alloc: _ } = loose;
+        let BoxPointer { at, alloc: _ } = pointer;
         self.at = at as *mut u8;
     }
 
     /// Returns the guard, with the right to free it.
-    pub(crate) fn take(self, alloc: Global) -> Loose<Guard, Global>
+    pub(crate) fn take(self, alloc: Global) -> BoxPointer<Guard, Global>
         requires { IsSome self.held }
         ensures { self.held ≡ Some result.value }
     {
         let Handle { at } = self;
-        Loose {
+        BoxPointer {
             at: at as *mut Guard,
             alloc,
         }

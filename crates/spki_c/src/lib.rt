@@ -3,12 +3,12 @@
 //! programs call, and lists what a caller must ensure.
 #![tactic(auto)]
 
+mod box_pointer;
 mod buffer;
 mod exports;
 mod guard_exports;
 mod guards;
 mod handle;
-mod loose;
 mod numbers;
 mod questions;
 mod strings;

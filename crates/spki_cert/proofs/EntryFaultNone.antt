@@ -16,7 +16,7 @@ use Rattle.spki_cert.specs.Places.{sole_fault}
 use Rattle.spki_cert.specs.SubjectFaults.{entry_subject_fault}
 use Rattle.spki_cert.specs.FieldFaults.{has, fields_fault, version_fault, entry_field_fault, is_both_ways}
 use Rattle.spki_cert.specs.EntryFaults.{entry_fault, at_item, each_looked, acl_version_fault, outer_fault, entries_fault, acl_fault}
-use Rattle.spki_cert.specs.Inner.Gathering.{is_among}
+use Rattle.spki_cert.specs.Inner.Gathering.{is_word_among}
 use Rattle.spki_cert.proofs.Groups.{behind-group}
 use Rattle.spki_cert.proofs.Looking.{unless-none, none-found, sole-read, sole-one}
 use Rattle.spki_cert.proofs.KnownLaws.{none-headed, headed-none}
@@ -46,7 +46,7 @@ untimed_words =
 
 -- a field with a head other than these is one of validity
 abbrev pub TimedBy : (Value → Type 0) → Type 0
-TimedBy IsOne = (v : Value) (word : List ℕ) (rest : List Value) → v ≡ group (plain word ∷ rest) → is_among untimed_words word ≡ false → IsOne v → IsTimeField v
+TimedBy IsOne = (v : Value) (word : List ℕ) (rest : List Value) → v ≡ group (plain word ∷ rest) → is_word_among untimed_words word ≡ false → IsOne v → IsTimeField v
 
 module _ (IsOne : Value → Type 0) (timed : TimedBy IsOne) (fields : List Value) (read : AreFields IsOne fields) where
   pub window-read : is_both_ways fields ≡ false → (w : Window) × WindowOf fields w

@@ -22,7 +22,7 @@ use Rattle.spki_cert.specs.declared.fields.Known.{Known}
 use Rattle.spki_cert.specs.declared.fields.Place.{Place}
 use Rattle.spki_cert.specs.declared.fields.Place.TheVariants as places
 use Rattle.spki_cert.specs.SubjectFaults.{subject_fault, issuer_fault}
-use Rattle.spki_cert.specs.Inner.Gathering.{IsTagKind, is_among, IsNew, AreRead, KnownOf, IsOneWay, IsBothWays, fault_in, IssuerAt, WhoAt}
+use Rattle.spki_cert.specs.Inner.Gathering.{IsTagKind, is_word_among, IsNew, AreRead, KnownOf, IsOneWay, IsBothWays, fault_in, IssuerAt, WhoAt}
 use Rattle.spki_cert.specs.FixedFaults.{is_string, is_plain, date_fault}
 use Rattle.spki_cert.specs.FieldFaults.{head_of, has, has_head, is_again, fields_looked, fields_fault, is_zero, version_fault, limit_fault, time_fault, as_tag, kind_of_tag, entry_field_fault, is_unread, cert_field_fault, is_both_ways}
 use Rattle.spki_cert.proofs.Groups.{headed-by, not-headed, behind-group}
@@ -338,7 +338,7 @@ pub field-not_new : (place : Place) (before : List Value) (heads : List (List �
     → ((head : List ℕ) → IsNew v heads head → ⊥) → first_fault (field_looked (fault_in place) before v) ≡ Some Shape
 field-not_new place before heads k v read none = by (head_of v) refl
   where
-    among : (head : List ℕ) (rest : List Value) → v ≡ group (plain head ∷ rest) → (b : Bool) → is_among heads head ≡ b → b ≡ true
+    among : (head : List ℕ) (rest : List Value) → v ≡ group (plain head ∷ rest) → (b : Bool) → is_word_among heads head ≡ b → b ≡ true
     among head rest e true f = refl
     among head rest e false f = absurd (none head (record { rest = rest; written = e; fresh = f }))
 
@@ -347,7 +347,7 @@ field-not_new place before heads k v read none = by (head_of v) refl
     by (Some head) e =
         let form = head-group v head e in
         field-again (fault_in place) before v
-        (again-headed head before v form.0 form.1 ∙ sym (read.heads_are head) ∙ among head form.0 form.1 (is_among heads head) refl)
+        (again-headed head before v form.0 form.1 ∙ sym (read.heads_are head) ∙ among head form.0 form.1 (is_word_among heads head) refl)
 
 pub field-is_new : (place : Place) (before : List Value) (heads : List (List ℕ)) (k : Known) (v : Value) (head : List ℕ) → AreRead place before heads k → IsNew v heads head
     → is_again before v ≡ false

@@ -24,7 +24,7 @@ use Rattle.spki_cert.specs.Places.{sole_fault, unless_none}
 use Rattle.spki_cert.specs.FixedFaults.{date_fault}
 use Rattle.spki_cert.specs.SubjectFaults.{subject_fault, issuer_fault}
 use Rattle.spki_cert.specs.FieldFaults.{is_again, fields_looked, fields_fault, is_zero, version_fault, limit_fault, time_fault, as_tag, kind_of_tag, entry_field_fault, is_unread, cert_field_fault}
-use Rattle.spki_cert.specs.Inner.Gathering.{is_among}
+use Rattle.spki_cert.specs.Inner.Gathering.{is_word_among}
 use Rattle.spki_cert.proofs.Groups.{headed-by, head-same, behind-group}
 use Rattle.spki_cert.proofs.Looking.{unless-none, none-found, sole-read, sole-one}
 use Rattle.spki_cert.proofs.GivenLaws.{each-push, each-at, contents-headed, contents-other, once-before, once-push}
@@ -228,7 +228,7 @@ entry_field-read v e = by (is_headed (codes "tag") v) (is_headed (codes "propaga
     by false false false f g h = time (time-read v (sym (entry-else v f g h) ∙ e))
 
 -- a value whose head is among some words has no other head
-among-else : (words : List (List ℕ)) (v : Value) (word : List ℕ) → is_among words word ≡ false → HeadAmong words v → is_headed word v ≡ false
+among-else : (words : List (List ℕ)) (v : Value) (word : List ℕ) → is_word_among words word ≡ false → HeadAmong words v → is_headed word v ≡ false
 among-else words v word other among = by (is_headed word v) refl
   where
     by : (b : Bool) → is_headed word v ≡ b → b ≡ false

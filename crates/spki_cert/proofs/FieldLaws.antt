@@ -8,7 +8,7 @@ use Rattle.spki_cert.specs.declared.principal.Principal.{Principal}
 use Rattle.spki_cert.specs.declared.window.Window.{Window}
 use Rattle.spki_cert.specs.Readings.{DateOf}
 use Rattle.spki_cert.specs.Fields.{Sole, IsLimitField, ValidOf, IsTimeField, limit, valid, IsField, propagate, tag, time, comment, IssuerIn, WhoIn, IsUnread, display, issuer_info, subject_info, IsCertField, common, version, issuer, subject, unread}
-use Rattle.spki_cert.specs.Inner.Gathering.{is_among}
+use Rattle.spki_cert.specs.Inner.Gathering.{is_word_among}
 use Rattle.spki_cert.proofs.Groups.{same_others, headed-by, head-same}
 use Rattle.spki_cert.proofs.ValidLaws.{first-limit, last-limit}
 
@@ -16,13 +16,13 @@ use Rattle.spki_cert.proofs.ValidLaws.{first-limit, last-limit}
 
 -- a list whose head is one of these words
 abbrev pub HeadAmong : List (List ℕ) → Value → Type 0
-HeadAmong words v = (word : List ℕ) × (rest : List Value) × (v ≡ group (plain word ∷ rest)) × (is_among words word ≡ true)
+HeadAmong words v = (word : List ℕ) × (rest : List Value) × (v ≡ group (plain word ∷ rest)) × (is_word_among words word ≡ true)
 
 -- its head is no other word
-pub other-word : (words : List (List ℕ)) (v : Value) (word : List ℕ) (rest : List Value) → v ≡ group (plain word ∷ rest) → is_among words word ≡ false → HeadAmong words v → ⊥
+pub other-word : (words : List (List ℕ)) (v : Value) (word : List ℕ) (rest : List Value) → v ≡ group (plain word ∷ rest) → is_word_among words word ≡ false → HeadAmong words v → ⊥
 other-word words v word rest e unknown among =
     let same : among.0 ≡ word = head-same v among.0 word among.1 among.2 (headed-by v word rest e) in
-    absurd (let f : true ≡ false = sym among.3 ∙ ap (is_among words) same ∙ unknown in cc)
+    absurd (let f : true ≡ false = sym among.3 ∙ ap (is_word_among words) same ∙ unknown in cc)
 
 abbrev pub time_words : List (List ℕ)
 time_words = codes "not-before" ∷ codes "not-after" ∷ codes "valid" ∷ []

@@ -12,7 +12,7 @@ use Rattle.spki_cert.specs.declared.fields.Said.{Said}
 use Rattle.spki_cert.specs.declared.fields.Said.TheVariants as said
 use Rattle.spki_cert.specs.Readings.{DateOf}
 use Rattle.spki_cert.specs.Fields.{is_headed, contents, Sole, Given, ValidOf}
-use Rattle.spki_cert.specs.Inner.Gathering.{IssuerAt, WhoAt, Headed, IsSilent, Says, gather, KnownOf, IsFieldOf, is_among, IsNew, AreRead}
+use Rattle.spki_cert.specs.Inner.Gathering.{IssuerAt, WhoAt, Headed, IsSilent, Says, gather, KnownOf, IsFieldOf, is_word_among, IsNew, AreRead}
 use Rattle.spki_cert.proofs.Groups.{head-same, headed-by, behind-group}
 use Rattle.spki_cert.proofs.GivenLaws.{each-push, contents-headed, contents-other, once-push, given-kept, given-first}
 
@@ -39,15 +39,15 @@ pub new-first : (place : Place) (xs : List Value) (heads : List (List ℕ)) (k :
     → (word : List ℕ) → is_headed word v ≡ true → contents word xs ≡ []
 new-first place xs heads k v head read new word e =
     let same : head ≡ word = head-same v head word new.rest new.written e in
-    none-headed word xs (sym (read.heads_are word) ∙ ap (is_among heads) (sym same) ∙ new.fresh)
+    none-headed word xs (sym (read.heads_are word) ∙ ap (is_word_among heads) (sym same) ∙ new.fresh)
 
 pub or-false : (b : Bool) → (b || false) ≡ b
 or-false true = refl
 or-false false = refl
 
 heads-push : (xs : List Value) (heads : List (List ℕ)) (v : Value) (head : List ℕ) (rest : List Value) → v ≡ group (plain head ∷ rest)
-    → ((word : List ℕ) → is_among heads word ≡ list_any (is_headed word) xs)
-    → (word : List ℕ) → is_among (heads ++ head ∷ []) word ≡ list_any (is_headed word) (xs ++ v ∷ [])
+    → ((word : List ℕ) → is_word_among heads word ≡ list_any (is_headed word) xs)
+    → (word : List ℕ) → is_word_among (heads ++ head ∷ []) word ≡ list_any (is_headed word) (xs ++ v ∷ [])
 heads-push xs heads v head rest e are word =
     list_any-append (λ (w : List ℕ). bytes_eq w word) heads (head ∷ [])
     ∙ (λ i. are word i || (sym (ap (is_headed word) e) i || false))

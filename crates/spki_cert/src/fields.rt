@@ -10,7 +10,7 @@ ghost use Rattle.spki_cert.specs.Faults.{Shows};
 ghost use Rattle.spki_cert.specs.Places.{sole_fault};
 ghost use Rattle.spki_cert.specs.SubjectFaults.{subject_fault, issuer_fault};
 ghost use Rattle.spki_cert.specs.FieldFaults.{kind_of_tag, fields_fault, time_fault, entry_field_fault, cert_field_fault};
-ghost use Rattle.spki_cert.specs.Inner.Gathering.{fault_in, IsTagKind, IssuerAt, WhoAt, Says, gather, KnownOf, IsFieldOf, is_among, IsNew};
+ghost use Rattle.spki_cert.specs.Inner.Gathering.{fault_in, IsTagKind, IssuerAt, WhoAt, Says, gather, KnownOf, IsFieldOf, is_word_among, IsNew};
 
 use crate::date::Date;
 use crate::fault::CertFaultKind;
@@ -243,8 +243,8 @@ impl<'a> Known<'a> {
 }
 
 /// Whether some word is this one.
-fn is_among(words: &[Octets], word: &[u8]) -> bool
-    ensures { result ≡ is_among words.now word.now }
+fn is_word_among(words: &[Octets], word: &[u8]) -> bool
+    ensures { result ≡ is_word_among words.now word.now }
 {
     words.iter().any(|w| w.as_slice() == word)
 }
@@ -258,7 +258,7 @@ fn new_head<'a>(field: &Node<'_, 'a>, heads: &[Octets]) -> Option<&'a [u8]>
     };
     let (first, _) = members.split_first()?;
     let head = first.plain_octets()?;
-    if is_among(heads, head) {
+    if is_word_among(heads, head) {
         None
     } else {
         Some(head)
@@ -297,6 +297,6 @@ pub(crate) fn fields_of<'a>(
         known.add(said);
         rest = others;
     }
-    let propagate = is_among(&heads, b"propagate");
+    let propagate = is_word_among(&heads, b"propagate");
     Ok(Fields { propagate, known })
 }

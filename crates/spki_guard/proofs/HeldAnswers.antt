@@ -11,7 +11,7 @@ use Rattle.spki_service.specs.declared.question.AskFault.TheVariants as faults
 use Rattle.spki_guard.specs.declared.answers.Answer.{Answer}
 use Rattle.spki_guard.specs.declared.answers.Verdict.{Verdict}
 use Rattle.spki_guard.specs.declared.answers.Verdict.TheVariants.{Refused}
-use Rattle.spki_guard.specs.declared.held.Wish.{Wish}
+use Rattle.spki_guard.specs.declared.question_answers.Wish.{Wish}
 use Rattle.spki_guard.specs.Answer.{written_by}
 use Rattle.spki_guard.specs.Held.{ReadsQuestion, AnswersAsked, IsUnread, IsAnswerHeld, marked}
 use Rattle.spki_guard.specs.HeldLines.{refused_question}

@@ -13,8 +13,8 @@ use Rattle.spki_service.specs.declared.question.Question.{Question}
 use Rattle.spki_service.specs.declared.question.AskFault.{AskFault}
 use Rattle.spki_service.proofs.OneAsking.{case-one, unrefused, fault-one}
 use Rattle.spki_guard.specs.declared.answers.Verdict.{Verdict}
-use Rattle.spki_guard.specs.declared.held.Wish.{Wish}
-use Rattle.spki_guard.specs.declared.held.Wish.TheVariants.{Decide, Explain, Reduce}
+use Rattle.spki_guard.specs.declared.question_answers.Wish.{Wish}
+use Rattle.spki_guard.specs.declared.question_answers.Wish.TheVariants.{Decide, Explain, Reduce}
 use Rattle.spki_guard.specs.Answer.{IsLineOf}
 use Rattle.spki_guard.specs.Held.{ReadsQuestion, IsUnreadFor, IsUnread, WritesAsked, IsTooLargeFor, AnswersAsked, AnswersHeld, IsAnswerHeld, HasOtherCount, ListsSigned, beside, marked, joined, lengths_of, signed_texts}
 use Rattle.spki_guard.specs.HeldLines.{refused_question}

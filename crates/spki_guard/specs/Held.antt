@@ -17,8 +17,8 @@ use Rattle.spki_service.specs.declared.question.AskFault.{AskFault}
 use Rattle.spki_service.specs.declared.question.AskFault.TheVariants as faults
 use Rattle.spki_guard.specs.declared.answers.Verdict.{Verdict}
 use Rattle.spki_guard.specs.declared.answers.Verdict.TheVariants.{Refused}
-use Rattle.spki_guard.specs.declared.held.Wish.{Wish}
-use Rattle.spki_guard.specs.declared.held.Wish.TheVariants.{Decide, Explain, Reduce}
+use Rattle.spki_guard.specs.declared.question_answers.Wish.{Wish}
+use Rattle.spki_guard.specs.declared.question_answers.Wish.TheVariants.{Decide, Explain, Reduce}
 use Rattle.spki_guard.specs.Answer.{IsLineOf}
 use Rattle.spki_guard.specs.HeldLines.{refused_question}
 use Rattle.spki_guard.specs.Lines.{refused_large}

@@ -181,14 +181,14 @@ pub fn answer_text(alloc: Global, command: Command, text: &[u8]) -> Answer
     ensures answer { IsAnswer command text.now result.verdict (written_by result) }
     ensures too_long { 1048576 < length text.now → RefusesAsLong result.verdict (written_by result) }
 {
-    match answered(alloc, command, text) {
+    match answer_or_refusal(alloc, command, text) {
         Ok(answer) => answer,
         Err(refusal) => refuse(alloc, refusal),
     }
 }
 
 /// The answer to a text, unless it is refused. If the text is canonical, a case is read from it directly.
-fn answered(alloc: Global, command: Command, text: &[u8]) -> Result<Answer, Refusal>
+fn answer_or_refusal(alloc: Global, command: Command, text: &[u8]) -> Result<Answer, Refusal>
     ensures answered { IfOk result (λ a. AnswersRead command text.now a.verdict (octets_of a.output)) }
     ensures refused { IfErr result (λ refusal. RefusesAnswer command text.now refusal) }
     ensures too_long { 1048576 < length text.now → IsErrOf result (Refusal.Form FormFault.TooLong) }

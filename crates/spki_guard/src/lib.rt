@@ -2,26 +2,26 @@
 #![tactic(auto)]
 
 mod answers;
-mod apart;
 mod entry_lines;
-mod held;
-mod held_lines;
+mod guard_refusals;
 mod intersection;
 pub mod line_laws;
 mod lines;
 mod printer;
 mod program;
+mod question_answers;
 mod reports;
 mod runs;
+mod separate_rows;
 mod statuses;
 
 pub use answers::{Answer, Verdict, answer_text};
-pub use apart::{check_accepted, one_answer_apart};
-pub use held::{SignedOctets, Wish, answer_question, refused_list, signed_octets};
 pub use intersection::{IntersectFault, intersect};
 pub use metered_io::Metered;
 pub use program::run_words;
+pub use question_answers::{SignedOctets, Wish, answer_question, refused_list, signed_octets};
 pub use runs::run;
+pub use separate_rows::{check_accepted, one_answer_apart};
 pub use spki_case::{AcceptedTable, Case, CaseFault, Row, RowsFault, Verifier};
 pub use spki_decision::{
     Decision, EntryFold, Explanation, GuardFault, Reason, Reduction, Stop, decide, explain,

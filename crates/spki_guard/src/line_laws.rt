@@ -8,7 +8,7 @@ ghost use Rattle.spki_service.specs.declared.question.Question.{Question};
 ghost use Rattle.spki_guard.specs.declared.answers.Refusal.{Refusal};
 ghost use Rattle.spki_guard.specs.declared.answers.Refusal.TheVariants as refusals;
 ghost use Rattle.spki_guard.specs.declared.answers.Verdict.{Verdict};
-ghost use Rattle.spki_guard.specs.declared.held.Wish.{Wish};
+ghost use Rattle.spki_guard.specs.declared.question_answers.Wish.{Wish};
 ghost use Rattle.spki_guard.specs.declared.intersection.IntersectFault.TheVariants as intersect;
 ghost use Rattle.spki_guard.specs.Answer.{AnswersRead, RefusesAnswer};
 ghost use Rattle.spki_guard.specs.Held.{IsAnswerHeld, HasOtherCount, IsUnread, ListsSigned};

@@ -13,7 +13,7 @@ mod leaf_intersection;
 mod limit_intersection;
 mod membership;
 mod moment;
-mod normal;
+mod normal_forms;
 mod parts;
 mod prefix;
 mod ranges;

@@ -83,7 +83,7 @@ fn read_request(alloc: Global, value: &Node<'_, '_>) -> Result<Ground, TagFault>
     ensures named { IfErr result (λ fault. IsNamed fault (request_fault value.now)) }
 {
     match value.kind() {
-        NodeKind::List(members) => read_list(alloc, members),
+        NodeKind::List(members) => read_request_list(alloc, members),
         NodeKind::String { hint: None, body } => Ok(Ground::string(Vec::from_slice(alloc, body)?)),
         NodeKind::String { hint: Some(_), .. } => Err(TagFault::Hint),
     }
@@ -91,7 +91,7 @@ fn read_request(alloc: Global, value: &Node<'_, '_>) -> Result<Ground, TagFault>
 
 /// Reads a list of these members as a request.
 #[cycle(read_request)]
-fn read_list(alloc: Global, members: Members<'_, '_>) -> Result<Ground, TagFault>
+fn read_request_list(alloc: Global, members: Members<'_, '_>) -> Result<Ground, TagFault>
     ensures request { IfOk result (λ g. IsRequest g) }
     ensures read { IfOk result (λ g. request_value g ≡ group members.entry) }
     ensures shows { IfErr result (λ fault. RequestShows fault (group members.entry)) }
@@ -119,14 +119,14 @@ fn read_headed(alloc: Global, head: &[u8], further: Members<'_, '_>) -> Result<G
     ensures shows { IfErr result (λ fault. RequestShows fault (group (plain head.now ∷ further.entry))) }
     ensures named { IfErr result (λ fault. IsNamed fault (request_fault (group (plain head.now ∷ further.entry)))) }
 {
-    let members = read_members(alloc, further)?;
+    let members = read_request_members(alloc, further)?;
     let octets = Vec::from_slice(alloc, head)?;
     Ok(Ground::list(octets, members))
 }
 
 /// Reads each of the members as a request.
 #[cycle(read_request)]
-fn read_members(alloc: Global, members: Members<'_, '_>) -> Result<Vec<Ground>, TagFault>
+fn read_request_members(alloc: Global, members: Members<'_, '_>) -> Result<Vec<Ground>, TagFault>
     ensures read { IfOk result (λ gs. AreReadRequests members.entry gs.items) }
     ensures shows { IfErr result (λ fault. RequestsShow fault members.entry) }
     ensures named { IfErr result (λ fault. IsNamed fault (fault_of_requests members.entry)) }

@@ -1,6 +1,6 @@
 //! The calls for cases.
 
-use crate::missed::Missed;
+use crate::failure::Failure;
 use sha2::{Digest, Sha256};
 use spki_guard::{
     Case, Command, Decision, EntryFold, Explanation, Metered, Reason, Reduction, Status,
@@ -35,18 +35,18 @@ const WITH_SET: &[u8] =
 const WITH_X: &[u8] =
     b"(4:cert(6:issuer(10:public-key(4:test1:a)))(7:subject(10:public-key(4:test1:b)))(3:tag1:x))";
 
-pub(crate) fn case_read(alloc: Global) -> Result<bool, Missed> {
+pub(crate) fn case_read(alloc: Global) -> Result<bool, Failure> {
     let case = Case::read(alloc, FIRST_RUN)?;
     Ok(case.acl.len() == 1 && case.sequence.is_empty())
 }
 
-pub(crate) fn decide(alloc: Global) -> Result<bool, Missed> {
+pub(crate) fn decide(alloc: Global) -> Result<bool, Failure> {
     let case = Case::read(alloc, FIRST_RUN)?;
     let decision = spki_guard::decide(alloc, &case, case.accepted())?;
     Ok(decision == Decision::Yes(1))
 }
 
-pub(crate) fn explain(alloc: Global) -> Result<bool, Missed> {
+pub(crate) fn explain(alloc: Global) -> Result<bool, Failure> {
     let case = Case::read(alloc, SHORTER)?;
     match spki_guard::explain(alloc, &case, case.accepted())? {
         Explanation::Entries(reasons) => Ok(reasons.as_slice() == [Reason::TagLacks].as_slice()),
@@ -55,7 +55,7 @@ pub(crate) fn explain(alloc: Global) -> Result<bool, Missed> {
 }
 
 /// The case of `reduced-sets` with a certificate.
-fn reduced_sets(alloc: Global, certificate: &[u8]) -> Result<Vec<u8>, Missed> {
+fn reduced_sets(alloc: Global, certificate: &[u8]) -> Result<Vec<u8>, Failure> {
     let digest = Sha256::digest(certificate);
     let digest = digest.as_slice();
     let mut text = Vec::new(alloc);
@@ -73,7 +73,7 @@ fn reduced_sets(alloc: Global, certificate: &[u8]) -> Result<Vec<u8>, Missed> {
     Ok(text)
 }
 
-pub(crate) fn reduce_case(alloc: Global) -> Result<bool, Missed> {
+pub(crate) fn reduce_case(alloc: Global) -> Result<bool, Failure> {
     let text = reduced_sets(alloc, WITH_SET)?;
     let case = Case::read(alloc, &text)?;
     let reduced = match spki_guard::reduce_case(alloc, &case, case.accepted())? {
@@ -90,7 +90,7 @@ pub(crate) fn reduce_case(alloc: Global) -> Result<bool, Missed> {
 }
 
 /// Whether the first entry becomes one tuple for the set of read and write.
-fn one_tag(alloc: Global, folds: &[EntryFold]) -> Result<bool, Missed> {
+fn one_tag(alloc: Global, folds: &[EntryFold]) -> Result<bool, Failure> {
     let Some(EntryFold::Done(five)) = folds.first() else {
         return Ok(false);
     };
@@ -106,13 +106,13 @@ fn is_stopped(folds: &[EntryFold]) -> bool {
     }
 }
 
-pub(crate) fn run(alloc: Global) -> Result<bool, Missed> {
+pub(crate) fn run(alloc: Global) -> Result<bool, Failure> {
     let mut reader = Metered::new(FIRST_RUN);
     let mut writer = Metered::new(Vec::with_capacity(alloc, 64)?);
     let status = spki_guard::run(alloc, Command::Check, &mut reader, &mut writer);
     let written = writer.into_inner();
     match (status, written.as_slice()) {
-        (Status::Refused, b"refused Memory\n") => Err(Missed::Memory),
+        (Status::Refused, b"refused Memory\n") => Err(Failure::Memory),
         (Status::Done, line) => Ok(line == b"yes entry 1\n".as_slice()),
         _ => Ok(false),
     }

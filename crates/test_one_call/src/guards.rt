@@ -2,7 +2,7 @@
 
 ghost use Rattle.std.specs.Prelude.{◌↔◌, IsTrue, IfOk};
 
-use crate::missed::Missed;
+use crate::failure::Failure;
 use crate::structures::{KA, sequence};
 use spki_cert::{Key, Policy};
 use spki_guard::{
@@ -37,7 +37,7 @@ impl Verifier for AcceptsAll {
     }
 }
 
-fn guard(alloc: Global) -> Result<Guard, Missed> {
+fn guard(alloc: Global) -> Result<Guard, Failure> {
     Ok(Guard::read(alloc, LIST, Policy::Open, Limits::default())?)
 }
 
@@ -51,11 +51,11 @@ fn question(sequence: &[u8]) -> Question<'_> {
     }
 }
 
-pub(crate) fn guard_read(alloc: Global) -> Result<bool, Missed> {
+pub(crate) fn guard_read(alloc: Global) -> Result<bool, Failure> {
     Ok(guard(alloc)?.entries() == 3)
 }
 
-pub(crate) fn guard_texts(alloc: Global) -> Result<bool, Missed> {
+pub(crate) fn guard_texts(alloc: Global) -> Result<bool, Failure> {
     let shown = sequence(alloc, 1)?;
     guard(alloc)?.texts(alloc, &question(&shown))?;
     Ok(true)
@@ -74,7 +74,7 @@ enum Answered {
 }
 
 /// Whether the answer is the example's.
-fn answers(alloc: Global, asked: &Asked, answered: Answered) -> Result<bool, Missed> {
+fn answers(alloc: Global, asked: &Asked, answered: Answered) -> Result<bool, Failure> {
     match answered {
         Answered::Signed => Ok(asked.signed().len() == 1),
         Answered::Decided => Ok(asked.decide(alloc, &AcceptsAll)? == Decision::Yes(3)),
@@ -116,7 +116,7 @@ fn are_folds(reduction: &Reduction) -> bool {
 }
 
 /// Whether an answer to the question is the example's.
-fn asked(alloc: Global, answered: Answered) -> Result<bool, Missed> {
+fn asked(alloc: Global, answered: Answered) -> Result<bool, Failure> {
     let shown = sequence(alloc, 1)?;
     let guard = guard(alloc)?;
     let texts = guard.texts(alloc, &question(&shown))?;
@@ -124,55 +124,55 @@ fn asked(alloc: Global, answered: Answered) -> Result<bool, Missed> {
     answers(alloc, &asked, answered)
 }
 
-pub(crate) fn guard_ask(alloc: Global) -> Result<bool, Missed> {
+pub(crate) fn guard_ask(alloc: Global) -> Result<bool, Failure> {
     asked(alloc, Answered::Signed)
 }
 
-pub(crate) fn asked_decide(alloc: Global) -> Result<bool, Missed> {
+pub(crate) fn asked_decide(alloc: Global) -> Result<bool, Failure> {
     asked(alloc, Answered::Decided)
 }
 
-pub(crate) fn asked_decide_by(alloc: Global) -> Result<bool, Missed> {
+pub(crate) fn asked_decide_by(alloc: Global) -> Result<bool, Failure> {
     asked(alloc, Answered::DecidedBy)
 }
 
-pub(crate) fn asked_explain(alloc: Global) -> Result<bool, Missed> {
+pub(crate) fn asked_explain(alloc: Global) -> Result<bool, Failure> {
     asked(alloc, Answered::Explained)
 }
 
-pub(crate) fn asked_explain_by(alloc: Global) -> Result<bool, Missed> {
+pub(crate) fn asked_explain_by(alloc: Global) -> Result<bool, Failure> {
     asked(alloc, Answered::ExplainedBy)
 }
 
-pub(crate) fn asked_reduce(alloc: Global) -> Result<bool, Missed> {
+pub(crate) fn asked_reduce(alloc: Global) -> Result<bool, Failure> {
     asked(alloc, Answered::Reduced)
 }
 
-pub(crate) fn asked_reduce_by(alloc: Global) -> Result<bool, Missed> {
+pub(crate) fn asked_reduce_by(alloc: Global) -> Result<bool, Failure> {
     asked(alloc, Answered::ReducedBy)
 }
 
 /// Why there is no answer, where the answer is a refusal.
-fn missed(answer: &Answer) -> Missed {
+fn failure_of(answer: &Answer) -> Failure {
     if answer.octets() == b"refused Memory\n".as_slice() {
-        Missed::Memory
+        Failure::Memory
     } else {
-        Missed::Fault
+        Failure::Fault
     }
 }
 
 /// Whether the lines that are written for the question are the example's.
-fn is_answered(alloc: Global, wish: Wish, verdict: Verdict, lines: &[u8]) -> Result<bool, Missed> {
+fn is_answered(alloc: Global, wish: Wish, verdict: Verdict, lines: &[u8]) -> Result<bool, Failure> {
     let shown = sequence(alloc, 1)?;
     let guard = guard(alloc)?;
     match spki_guard::answer_question(alloc, wish, &guard, &question(&shown), &[true]) {
-        Some(answer) if answer.verdict == Verdict::Refused => Err(missed(&answer)),
+        Some(answer) if answer.verdict == Verdict::Refused => Err(failure_of(&answer)),
         Some(answer) => Ok(answer.verdict == verdict && answer.octets() == lines),
         None => Ok(false),
     }
 }
 
-pub(crate) fn answer_question(alloc: Global) -> Result<bool, Missed> {
+pub(crate) fn answer_question(alloc: Global) -> Result<bool, Failure> {
     let reasons = b"entry 1 item 1 NoDelegation\nentry 2 item 1 NotIssuer\nentry 3 grants\n";
     Ok(
         is_answered(alloc, Wish::Decide, Verdict::Done, b"yes entry 3\n")?
@@ -180,11 +180,11 @@ pub(crate) fn answer_question(alloc: Global) -> Result<bool, Missed> {
     )
 }
 
-pub(crate) fn signed_octets(alloc: Global) -> Result<bool, Missed> {
+pub(crate) fn signed_octets(alloc: Global) -> Result<bool, Failure> {
     let shown = sequence(alloc, 1)?;
     let guard = guard(alloc)?;
     match spki_guard::signed_octets(alloc, &guard, &question(&shown)) {
         Ok(signed) => Ok(signed.lengths.len() == 3 && signed.octets.starts_with(KA)),
-        Err(refusal) => Err(missed(&refusal)),
+        Err(refusal) => Err(failure_of(&refusal)),
     }
 }

@@ -5,21 +5,21 @@
 #![tactic(auto)]
 
 mod cases;
+mod failure;
 mod forms;
 mod guards;
-mod missed;
 mod structures;
 mod tags;
 mod tuples;
 
-use crate::missed::Missed;
+use crate::failure::Failure;
 use std::alloc::Global;
 use std::process::ExitCode;
 use std::rt::Env;
 use std::{env, io};
 
 /// Whether the call for forms with this name gives its example's answer. None if there is no such call.
-fn of_forms(alloc: Global, name: &str) -> Option<Result<bool, Missed>> {
+fn of_forms(alloc: Global, name: &str) -> Option<Result<bool, Failure>> {
     match name {
         "decode" => Some(forms::decode(alloc)),
         "encode" => Some(forms::encode(alloc)),
@@ -34,7 +34,7 @@ fn of_forms(alloc: Global, name: &str) -> Option<Result<bool, Missed>> {
 }
 
 /// Whether the call for tags or structures with this name gives its example's answer. None if there is no such call.
-fn of_structures(alloc: Global, name: &str) -> Option<Result<bool, Missed>> {
+fn of_structures(alloc: Global, name: &str) -> Option<Result<bool, Failure>> {
     match name {
         "Tag::read" => Some(tags::tag_read(alloc)),
         "Ground::read" => Some(tags::ground_read(alloc)),
@@ -49,7 +49,7 @@ fn of_structures(alloc: Global, name: &str) -> Option<Result<bool, Missed>> {
 }
 
 /// Whether the call for tuples or cases with this name gives its example's answer. None if there is no such call.
-fn of_cases(alloc: Global, name: &str) -> Option<Result<bool, Missed>> {
+fn of_cases(alloc: Global, name: &str) -> Option<Result<bool, Failure>> {
     match name {
         "Five::then" => Some(tuples::five_then(alloc)),
         "fold_chain" => Some(tuples::fold_chain(alloc)),
@@ -66,7 +66,7 @@ fn of_cases(alloc: Global, name: &str) -> Option<Result<bool, Missed>> {
 }
 
 /// Whether the call for guards with this name gives its example's answer. None if there is no such call.
-fn of_guards(alloc: Global, name: &str) -> Option<Result<bool, Missed>> {
+fn of_guards(alloc: Global, name: &str) -> Option<Result<bool, Failure>> {
     match name {
         "Guard::read" => Some(guards::guard_read(alloc)),
         "Guard::texts" => Some(guards::guard_texts(alloc)),
@@ -84,7 +84,7 @@ fn of_guards(alloc: Global, name: &str) -> Option<Result<bool, Missed>> {
 }
 
 /// Whether the call with this name gives its example's answer. None if there is no such call.
-fn ended(alloc: Global, name: &str) -> Option<Result<bool, Missed>> {
+fn ended(alloc: Global, name: &str) -> Option<Result<bool, Failure>> {
     of_forms(alloc, name)
         .or_else(|| of_structures(alloc, name))
         .or_else(|| of_cases(alloc, name))
@@ -92,22 +92,22 @@ fn ended(alloc: Global, name: &str) -> Option<Result<bool, Missed>> {
 }
 
 /// The word behind the program's name, if there is one.
-fn word<R: Env + AllocGlobal>(rt: &R) -> Result<Option<String>, Missed> {
+fn word<R: Env + AllocGlobal>(rt: &R) -> Result<Option<String>, Failure> {
     match env::args(rt) {
         Ok(mut words) => {
             words.next();
             Ok(words.next())
         }
-        Err(_) => Err(Missed::Memory),
+        Err(_) => Err(Failure::Memory),
     }
 }
 
 /// How a call ended, as a line, and its exit status.
-fn report(ended: Option<Result<bool, Missed>>) -> (&'static str, u8) {
+fn report(ended: Option<Result<bool, Failure>>) -> (&'static str, u8) {
     match ended {
         Some(Ok(true)) => ("as promised", 0),
-        Some(Ok(false)) | Some(Err(Missed::Fault)) => ("another answer", 1),
-        Some(Err(Missed::Memory)) => ("refused Memory", 2),
+        Some(Ok(false)) | Some(Err(Failure::Fault)) => ("another answer", 1),
+        Some(Err(Failure::Memory)) => ("refused Memory", 2),
         None => ("no such call", 3),
     }
 }
@@ -116,7 +116,7 @@ fn main(rt: HostRuntime) -> io::Result<ExitCode> {
     let ended = match word(&rt) {
         Ok(Some(name)) => ended(rt.alloc(), &name),
         Ok(None) => None,
-        Err(missed) => Some(Err(missed)),
+        Err(failure) => Some(Err(failure)),
     };
     let (line, status) = report(ended);
     println!(rt; "{line}")?;

@@ -1,6 +1,6 @@
 //! The calls for keys, hashes, access lists and sequences.
 
-use crate::missed::Missed;
+use crate::failure::Failure;
 use sexpr_core::Doc;
 use sha2::{Digest, Sha256};
 use spki_cert::{CertFault, CertFaultKind, HashAlg};
@@ -9,7 +9,7 @@ use std::alloc::Global;
 pub const KA: &[u8] = b"(10:public-key(4:test1:a))";
 
 /// `refused-forms`: an entry whose subject is `(k-of-n ..)` is Threshold, and one for `(name bob)` RelativeInEntry.
-pub(crate) fn read_acl(alloc: Global) -> Result<bool, Missed> {
+pub(crate) fn read_acl(alloc: Global) -> Result<bool, Failure> {
     let threshold =
         b"(3:acl(5:entry(6:k-of-n1:11:2(10:public-key(4:test1:a))(10:public-key(4:test1:b)))(3:tag(1:*))))";
     let relative =
@@ -26,7 +26,7 @@ fn refuses_acl(
     text: &[u8],
     item: usize,
     kind: CertFaultKind,
-) -> Result<bool, Missed> {
+) -> Result<bool, Failure> {
     let document = Doc::open(alloc, text)?;
     let root = document.root();
     if document.node(root).is_none() {
@@ -34,7 +34,7 @@ fn refuses_acl(
     }
     match spki_cert::read_acl(alloc, &document, root) {
         Ok(_) => Ok(false),
-        Err(fault) if fault.kind == CertFaultKind::Memory => Err(Missed::Memory),
+        Err(fault) if fault.kind == CertFaultKind::Memory => Err(Failure::Memory),
         Err(fault) => Ok(fault == CertFault { item, kind }),
     }
 }
@@ -44,7 +44,7 @@ pub(crate) const CERTIFICATE: &[u8] =
     b"(4:cert(6:issuer(10:public-key(4:test1:a)))(7:subject(10:public-key(4:test1:b)))(3:tag(1:*)))";
 
 /// `sequence-order`: a certificate alone is UnsignedCert, with its signature it is read, and a second one is StraySignature.
-pub(crate) fn read_sequence(alloc: Global) -> Result<bool, Missed> {
+pub(crate) fn read_sequence(alloc: Global) -> Result<bool, Failure> {
     Ok(
         refuses_sequence(alloc, 0, 1, CertFaultKind::UnsignedCert)?
             && is_read(alloc)?
@@ -53,7 +53,7 @@ pub(crate) fn read_sequence(alloc: Global) -> Result<bool, Missed> {
 }
 
 /// The sequence of the certificate and `signatures` copies of its signature by KA.
-pub(crate) fn sequence(alloc: Global, signatures: usize) -> Result<Vec<u8>, Missed> {
+pub(crate) fn sequence(alloc: Global, signatures: usize) -> Result<Vec<u8>, Failure> {
     let digest = Sha256::digest(CERTIFICATE);
     let mut text = Vec::from_slice(alloc, b"(8:sequence")?;
     text.extend_from_slice(CERTIFICATE)?;
@@ -69,7 +69,7 @@ pub(crate) fn sequence(alloc: Global, signatures: usize) -> Result<Vec<u8>, Miss
 }
 
 /// Whether the sequence with one signature is read with two items.
-fn is_read(alloc: Global) -> Result<bool, Missed> {
+fn is_read(alloc: Global) -> Result<bool, Failure> {
     let text = sequence(alloc, 1)?;
     let document = Doc::open(alloc, &text)?;
     let root = document.root();
@@ -86,7 +86,7 @@ fn refuses_sequence(
     signatures: usize,
     item: usize,
     kind: CertFaultKind,
-) -> Result<bool, Missed> {
+) -> Result<bool, Failure> {
     let text = sequence(alloc, signatures)?;
     let document = Doc::open(alloc, &text)?;
     let root = document.root();
@@ -95,13 +95,13 @@ fn refuses_sequence(
     }
     match spki_cert::read_sequence(alloc, &document, root) {
         Ok(_) => Ok(false),
-        Err(fault) if fault.kind == CertFaultKind::Memory => Err(Missed::Memory),
+        Err(fault) if fault.kind == CertFaultKind::Memory => Err(Failure::Memory),
         Err(fault) => Ok(fault == CertFault { item, kind }),
     }
 }
 
 /// `keys-and-dates`: KA is the key with its octets.
-pub(crate) fn read_key(alloc: Global) -> Result<bool, Missed> {
+pub(crate) fn read_key(alloc: Global) -> Result<bool, Failure> {
     let document = Doc::open(alloc, KA)?;
     let root = document.root();
     if document.node(root).is_none() {
@@ -112,7 +112,7 @@ pub(crate) fn read_key(alloc: Global) -> Result<bool, Missed> {
 }
 
 /// `hash-issuer`: `(hash sha256 H(KA))` is read with its digest.
-pub(crate) fn read_hash(alloc: Global) -> Result<bool, Missed> {
+pub(crate) fn read_hash(alloc: Global) -> Result<bool, Failure> {
     let mut text = Vec::from_slice(alloc, b"(4:hash6:sha25632:")?;
     text.extend_from_slice(Sha256::digest(KA).as_slice())?;
     text.push(b')')?;

@@ -1,6 +1,6 @@
 //! The calls for tuples.
 
-use crate::missed::Missed;
+use crate::failure::Failure;
 use crate::structures::KA;
 use sexpr_core::Doc;
 use spki_cert::{Key, Names, Octets, Policy, Principal, Subject, Window, key_of};
@@ -18,7 +18,7 @@ const ALWAYS: Window = Window {
     not_after: None,
 };
 
-fn key(alloc: Global, text: &'static [u8]) -> Result<Key<'static>, Missed> {
+fn key(alloc: Global, text: &'static [u8]) -> Result<Key<'static>, Failure> {
     let document = Doc::open(alloc, text)?;
     Ok(key_of(&document.top())?)
 }
@@ -27,7 +27,7 @@ fn subject(
     alloc: Global,
     key_text: &'static [u8],
     names: &[&'static [u8]],
-) -> Result<Subject<'static>, Missed> {
+) -> Result<Subject<'static>, Failure> {
     let mut links = Vec::new(alloc);
     for name in names {
         links.push(Octets::new(name))?;
@@ -44,7 +44,7 @@ fn entry(
     key_text: &'static [u8],
     names: &[&'static [u8]],
     tag: &[u8],
-) -> Result<Five<'static>, Missed> {
+) -> Result<Five<'static>, Failure> {
     let document = Doc::open(alloc, tag)?;
     Ok(Five {
         issuer: Issuer::Own,
@@ -60,7 +60,7 @@ fn certificate(
     alloc: Global,
     issuer: &'static [u8],
     to: &'static [u8],
-) -> Result<Five<'static>, Missed> {
+) -> Result<Five<'static>, Failure> {
     Ok(Five {
         issuer: Issuer::Key(key(alloc, issuer)?),
         window: ALWAYS,
@@ -76,7 +76,7 @@ fn definition(
     issuer: &'static [u8],
     name: &'static [u8],
     to: Subject<'static>,
-) -> Result<Four<'static>, Missed> {
+) -> Result<Four<'static>, Failure> {
     Ok(Four {
         key: key(alloc, issuer)?,
         name: Octets::new(name),
@@ -94,7 +94,7 @@ fn is_key(subject: &Subject, key: &[u8]) -> bool {
 }
 
 /// `delegation`: the entry for KA and the certificate by KA for KB.
-pub(crate) fn five_then(alloc: Global) -> Result<bool, Missed> {
+pub(crate) fn five_then(alloc: Global) -> Result<bool, Failure> {
     let first = entry(alloc, KA, &[], b"(1:*)")?;
     match first.then(alloc, &certificate(alloc, KA, KB)?, Policy::Open)? {
         Joined::Done(five) => Ok(is_key(&five.subject, KB)),
@@ -103,7 +103,7 @@ pub(crate) fn five_then(alloc: Global) -> Result<bool, Missed> {
 }
 
 /// `delegation`: the second certificate does not join, since the first does not delegate.
-pub(crate) fn fold_chain(alloc: Global) -> Result<bool, Missed> {
+pub(crate) fn fold_chain(alloc: Global) -> Result<bool, Failure> {
     let first = entry(alloc, KA, &[], b"(1:*)")?;
     let mut steps = Vec::new(alloc);
     steps.push(Step::Auth(certificate(alloc, KA, KB)?))?;
@@ -115,7 +115,7 @@ pub(crate) fn fold_chain(alloc: Global) -> Result<bool, Missed> {
 }
 
 /// `linked-names`: the entry for KA's friends' bob and KA's definition of friends become one for KB's bob.
-pub(crate) fn five_resolve(alloc: Global) -> Result<bool, Missed> {
+pub(crate) fn five_resolve(alloc: Global) -> Result<bool, Failure> {
     let first = entry(alloc, KA, &[b"friends", b"bob"], b"(1:*)")?;
     let friends = definition(alloc, KA, b"friends", subject(alloc, KB, &[])?)?;
     match first.resolve(alloc, &friends, Policy::Open)? {
@@ -125,7 +125,7 @@ pub(crate) fn five_resolve(alloc: Global) -> Result<bool, Missed> {
 }
 
 /// `linked-names`: KA's definition of friends as KB's bob, and KB's definition of bob, become one tuple for KC.
-pub(crate) fn four_then(alloc: Global) -> Result<bool, Missed> {
+pub(crate) fn four_then(alloc: Global) -> Result<bool, Failure> {
     let friends = definition(alloc, KA, b"friends", subject(alloc, KB, &[b"bob"])?)?;
     let bob = definition(alloc, KB, b"bob", subject(alloc, KC, &[])?)?;
     match friends.then(alloc, &bob, Policy::Open)? {
@@ -135,7 +135,7 @@ pub(crate) fn four_then(alloc: Global) -> Result<bool, Missed> {
 }
 
 /// `reduced-sets`: how its answer is written.
-pub(crate) fn five_write(alloc: Global) -> Result<bool, Missed> {
+pub(crate) fn five_write(alloc: Global) -> Result<bool, Failure> {
     let five = entry(alloc, KB, &[], b"(1:*3:set4:read5:write)")?;
     let octets = sexpr_core::encode(alloc, &five.write(alloc)?)?;
     let wanted =

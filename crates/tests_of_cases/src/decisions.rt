@@ -41,7 +41,7 @@ fn text_of_both(alloc: Global, text: &[u8]) -> Result<Vec<u8>, Fail> {
     Ok(encode(alloc, &written)?)
 }
 
-fn is_refused(alloc: Global, text: &[u8], fault: IntersectFault) -> bool {
+fn is_refused_intersection(alloc: Global, text: &[u8], fault: IntersectFault) -> bool {
     match intersect(alloc, text) {
         Ok(_) => false,
         Err(met) => met == fault,
@@ -54,6 +54,6 @@ fn meet_lists(rt: HostRuntime) -> Result<(), Fail> {
     let both = text_of_both(alloc, b"(9:intersect(3:ftp(4:host1:a))(3:ftp))")?;
     assert!(rt; both.as_slice() == b"(3:ftp(4:host1:a))".as_slice());
     let second = IntersectFault::Second(TagFault::EmptyList);
-    assert!(rt; is_refused(alloc, b"(9:intersect1:a())", second));
+    assert!(rt; is_refused_intersection(alloc, b"(9:intersect1:a())", second));
     Ok(())
 }

@@ -99,19 +99,19 @@ fn hash_issuer(rt: HostRuntime) -> Result<(), Fail> {
 }
 
 /// The first case of `delegation`, signed by this key, with these accepted rows.
-fn delegation(alloc: Global, rows: &str, signer: &str) -> Result<String, Fail> {
+fn signed_delegation(alloc: Global, rows: &str, signer: &str) -> Result<String, Fail> {
     case_of(alloc, ALL, rows, &signed(alloc, C1, signer)?, KB)
 }
 
 #[test]
 fn not_accepted(rt: HostRuntime) -> Result<(), Fail> {
     let alloc = rt.alloc();
-    let none = delegation(alloc, "", KA)?;
+    let none = signed_delegation(alloc, "", KA)?;
     assert!(rt; judged_by_list(alloc, &none, Fails(1, Stop::NotAccepted))?);
-    let other = delegation(alloc, &accepted(alloc, C1, KB)?, KB)?;
+    let other = signed_delegation(alloc, &accepted(alloc, C1, KB)?, KB)?;
     assert!(rt; judged_by_list(alloc, &other, Fails(1, Stop::SignerDiffers))?);
     assert!(rt; judged_by(alloc, &other, &AcceptsAll, Fails(1, Stop::SignerDiffers))?);
-    let right = delegation(alloc, &accepted(alloc, C1, KA)?, KA)?;
+    let right = signed_delegation(alloc, &accepted(alloc, C1, KA)?, KA)?;
     assert!(rt; judged_by(alloc, &right, &AcceptsNone, Fails(1, Stop::NotAccepted))?);
     Ok(())
 }

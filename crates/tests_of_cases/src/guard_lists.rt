@@ -1,7 +1,7 @@
 //! Guards of lists with several entries for a key, their limits, and their answers after a refusal.
 
+use crate::case_questions::{Spelling, parts_of, question_of};
 use crate::chains::{KB, case_of};
-use crate::doors::{Spelling, parts_of, question_of};
 use crate::texts::{KA, joined};
 use hex::encode as hex_of;
 use sexpr_core::FormFault;

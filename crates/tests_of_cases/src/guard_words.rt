@@ -20,7 +20,7 @@ fn list_of(alloc: Global, fields: &[&[u8]]) -> Result<Vec<u8>, AllocError> {
 }
 
 /// The decision of a guard of a list for KA, without certificates.
-fn decided(
+fn guard_decision(
     alloc: Global,
     list: &[u8],
     request: Wanted,
@@ -43,7 +43,7 @@ fn decided(
 /// Whether a tag in canonical form grants the request of these strings.
 fn grants(alloc: Global, tag: &[u8], words: &[&[u8]]) -> Result<bool, Fail> {
     let list = list_of(alloc, &[b"(3:tag", tag, b")"])?;
-    let decision = decided(alloc, &list, Wanted::Words(words), Instant::Seconds(0))?;
+    let decision = guard_decision(alloc, &list, Wanted::Words(words), Instant::Seconds(0))?;
     Ok(decision == Ok(Decision::Yes(1)))
 }
 
@@ -123,7 +123,7 @@ fn strings_of_no_request(rt: HostRuntime) -> Result<(), Fail> {
     let alloc = rt.alloc();
     let list = list_of(alloc, &[b"(3:tag(1:*))"])?;
     for (words, fault) in NO_REQUESTS {
-        let answer = decided(alloc, &list, Wanted::Words(words), Instant::Seconds(0))?;
+        let answer = guard_decision(alloc, &list, Wanted::Words(words), Instant::Seconds(0))?;
         assert!(rt; answer == Err(AskFault::Request(*fault)), "{words:?}");
     }
     Ok(())
@@ -155,8 +155,8 @@ fn is_at(alloc: Global, seconds: i64, date: &[u8]) -> Result<bool, Fail> {
     let mut text = Vec::from_slice(alloc, b"19:")?;
     text.extend_from_slice(date)?;
     let request = Wanted::Words(&[b"a"]);
-    let by_seconds = decided(alloc, &list, request, Instant::Seconds(seconds))?;
-    let by_text = decided(alloc, &list, request, Instant::Text(&text))?;
+    let by_seconds = guard_decision(alloc, &list, request, Instant::Seconds(seconds))?;
+    let by_text = guard_decision(alloc, &list, request, Instant::Text(&text))?;
     Ok(by_seconds == Ok(Decision::Yes(1)) && by_text == by_seconds)
 }
 
@@ -188,7 +188,7 @@ fn seconds_of_no_moment(rt: HostRuntime) -> Result<(), Fail> {
     let list = list_of(alloc, &[b"(3:tag(1:*))"])?;
     for seconds in NO_DATES {
         let moment = Instant::Seconds(*seconds);
-        let answer = decided(alloc, &list, Wanted::Words(&[b"a"]), moment)?;
+        let answer = guard_decision(alloc, &list, Wanted::Words(&[b"a"]), moment)?;
         let fault = AskFault::Moment(CertFaultKind::BadDate);
         assert!(rt; answer == Err(fault), "{seconds}");
     }

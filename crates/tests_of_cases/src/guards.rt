@@ -1,7 +1,7 @@
 //! The worked examples of cases, as questions to guards of their access lists.
 
+use crate::case_questions::{Spelling, both_doors, parts_of, question_of};
 use crate::chains::{ALL, C1, KA, KB, accepted, case_of, hash_as_issuer, signed};
-use crate::doors::{Spelling, both_doors, parts_of, question_of};
 use crate::texts::{FIRST_RUN, FIRST_RUN_ADVANCED, FIRST_RUN_IN_BRACES, case, joined};
 use sexpr_core::FormFault;
 use sexpr_text::{Form, convert};

@@ -2,17 +2,13 @@
 #![tactic(auto)]
 
 #[cfg(test)]
-mod apart;
+mod case_questions;
 #[cfg(test)]
 mod chains;
 #[cfg(test)]
 mod conversions;
 #[cfg(test)]
 mod decisions;
-#[cfg(test)]
-mod doors;
-#[cfg(test)]
-mod ends;
 #[cfg(test)]
 mod evidence;
 #[cfg(test)]
@@ -26,13 +22,17 @@ mod guard_words;
 #[cfg(test)]
 mod guards;
 #[cfg(test)]
-mod inner_ends;
-#[cfg(test)]
 mod meters;
 #[cfg(test)]
 mod programs;
 #[cfg(test)]
 mod runs;
+#[cfg(test)]
+mod separate_rows;
+#[cfg(test)]
+mod stream_runs;
+#[cfg(test)]
+mod streams;
 #[cfg(test)]
 mod structures;
 #[cfg(test)]

@@ -1,6 +1,6 @@
 //! A meter passes each call on, once, with the same buffer.
 
-use crate::inner_ends::Counting;
+use crate::streams::Counting;
 use spki_guard::Metered;
 use std::alloc::Global;
 use std::io::{Read, Write};

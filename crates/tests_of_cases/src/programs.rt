@@ -1,6 +1,6 @@
 //! The program in memory: from the words of a command line to the exit status.
 
-use crate::inner_ends::{Dripping, Narrow, Past};
+use crate::streams::{Dripping, Narrow, Past};
 use crate::texts::{FIRST_RUN, case};
 use spki_guard::{Metered, run_words};
 use std::alloc::Global;
@@ -30,7 +30,7 @@ fn ended(alloc: Global, words: &io::Result<Vec<String>>, text: &[u8]) -> Ended {
     (exit, writer.into_inner(), errors.into_inner())
 }
 
-fn is(ended: &Ended, exit: u8, output: &[u8], said: &[u8]) -> bool {
+fn ended_with(ended: &Ended, exit: u8, output: &[u8], said: &[u8]) -> bool {
     ended.0 == exit && ended.1.as_slice() == output && ended.2.as_slice() == said
 }
 
@@ -45,11 +45,11 @@ fn commands(rt: HostRuntime) -> Result<(), Fail> {
     let alloc = rt.alloc();
     let check = line(alloc, &["check"]);
     let text = FIRST_RUN.as_bytes();
-    assert!(rt; is(&ended(alloc, &check, text), 0, b"yes entry 1\n", b""));
+    assert!(rt; ended_with(&ended(alloc, &check, text), 0, b"yes entry 1\n", b""));
     let none = case(alloc, "", "(ftp)")?;
-    assert!(rt; is(&ended(alloc, &check, none.as_bytes()), 1, b"no\n", b""));
+    assert!(rt; ended_with(&ended(alloc, &check, none.as_bytes()), 1, b"no\n", b""));
     assert!(rt;
-        is(
+        ended_with(
             &ended(alloc, &check, b"(1:a)"),
             2,
             b"refused case Shape\n",
@@ -57,7 +57,7 @@ fn commands(rt: HostRuntime) -> Result<(), Fail> {
         )
     );
     let canonical = line(alloc, &["canonical"]);
-    assert!(rt; is(&ended(alloc, &canonical, b"(a)"), 0, b"(1:a)", b""));
+    assert!(rt; ended_with(&ended(alloc, &canonical, b"(a)"), 0, b"(1:a)", b""));
     Ok(())
 }
 
@@ -71,9 +71,9 @@ fn other_words(rt: HostRuntime) {
     assert!(rt; says(&ended(alloc, &help, text), 0, b"Decides"));
     let no_text = Err(Error::from(ErrorKind::InvalidData));
     let said = b"error: the words aren't UTF-8\n";
-    assert!(rt; is(&ended(alloc, &no_text, text), 2, b"", said));
+    assert!(rt; ended_with(&ended(alloc, &no_text, text), 2, b"", said));
     let unread = Err(Error::from(ErrorKind::OutOfMemory));
-    assert!(rt; is(&ended(alloc, &unread, text), 2, b"refused Memory\n", b""));
+    assert!(rt; ended_with(&ended(alloc, &unread, text), 2, b"refused Memory\n", b""));
 }
 
 #[test]

@@ -68,13 +68,13 @@ impl Verifier for OutOfMemory {
 }
 
 /// The canonical text of a case in which KA delegates its right to KB, with these items, and no row in the accepted list.
-fn delegation(alloc: Global, items: &str) -> Result<Vec<u8>, Fail> {
+fn delegation_text(alloc: Global, items: &str) -> Result<Vec<u8>, Fail> {
     let text = case_of(alloc, ALL, "", items, KB)?;
     Ok(convert(alloc, Form::Canonical, text.as_bytes())?)
 }
 
 /// The decision by a verifier of a canonical text, if it is that of a case.
-fn decided<V: Verifier>(
+fn verifier_decision<V: Verifier>(
     alloc: Global,
     text: &[u8],
     verifier: &V,
@@ -87,19 +87,19 @@ fn decided<V: Verifier>(
 fn verifiers(rt: HostRuntime) -> Result<(), Fail> {
     let alloc = rt.alloc();
     let first_run = FIRST_RUN.as_bytes();
-    assert!(rt; decided(alloc, first_run, &AcceptsNone)? == Ok(Decision::Yes(1)));
-    assert!(rt; decided(alloc, first_run, &OutOfMemory)? == Ok(Decision::Yes(1)));
-    let text = delegation(alloc, &signed(alloc, C1, KA)?)?;
-    assert!(rt; decided(alloc, &text, &AcceptsNone)? == Ok(Decision::No));
-    assert!(rt; decided(alloc, &text, &AcceptsAll)? == Ok(Decision::Yes(1)));
-    assert!(rt; decided(alloc, &text, &OutOfMemory)? == Err(GuardFault::Memory));
+    assert!(rt; verifier_decision(alloc, first_run, &AcceptsNone)? == Ok(Decision::Yes(1)));
+    assert!(rt; verifier_decision(alloc, first_run, &OutOfMemory)? == Ok(Decision::Yes(1)));
+    let text = delegation_text(alloc, &signed(alloc, C1, KA)?)?;
+    assert!(rt; verifier_decision(alloc, &text, &AcceptsNone)? == Ok(Decision::No));
+    assert!(rt; verifier_decision(alloc, &text, &AcceptsAll)? == Ok(Decision::Yes(1)));
+    assert!(rt; verifier_decision(alloc, &text, &OutOfMemory)? == Err(GuardFault::Memory));
     Ok(())
 }
 
 #[test]
 fn signer_differs(rt: HostRuntime) -> Result<(), Fail> {
     let alloc = rt.alloc();
-    let text = delegation(alloc, &signed(alloc, C1, KB)?)?;
-    assert!(rt; decided(alloc, &text, &AcceptsAll)? == Ok(Decision::No));
+    let text = delegation_text(alloc, &signed(alloc, C1, KB)?)?;
+    assert!(rt; verifier_decision(alloc, &text, &AcceptsAll)? == Ok(Decision::No));
     Ok(())
 }

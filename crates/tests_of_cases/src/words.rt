@@ -32,7 +32,7 @@ fn is_command(answer: &Result<Command, WordsFault>, command: Command) -> bool {
     }
 }
 
-fn is_refused(answer: &Result<Command, WordsFault>) -> bool {
+fn are_refused_words(answer: &Result<Command, WordsFault>) -> bool {
     match answer {
         Err(WordsFault::Refused(_)) => true,
         Err(_) | Ok(_) => false,
@@ -58,9 +58,9 @@ fn command_words(rt: HostRuntime) -> Result<(), Fail> {
 #[test]
 fn wrong_words(rt: HostRuntime) -> Result<(), Fail> {
     let alloc = rt.alloc();
-    assert!(rt; is_refused(&asked(alloc, &[])?));
-    assert!(rt; is_refused(&asked(alloc, &["frob"])?));
-    assert!(rt; is_refused(&asked(alloc, &["check", "check"])?));
+    assert!(rt; are_refused_words(&asked(alloc, &[])?));
+    assert!(rt; are_refused_words(&asked(alloc, &["frob"])?));
+    assert!(rt; are_refused_words(&asked(alloc, &["check", "check"])?));
     assert!(rt; is_help(&asked(alloc, &["--help"])?));
     Ok(())
 }

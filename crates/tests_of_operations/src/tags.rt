@@ -2,7 +2,7 @@
 
 mod comparisons;
 mod fault_texts;
-mod look_up;
-mod meetings;
-mod readings;
+mod intersections;
+mod readers;
+mod set_index;
 mod texts;

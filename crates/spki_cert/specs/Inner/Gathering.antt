@@ -154,19 +154,19 @@ fault_in places.Entry = entry_field_fault
 fault_in places.Certificate = cert_field_fault
 
 -- whether some word is this one
-abbrev pub is_among : List (List ℕ) → List ℕ → Bool
-is_among words word = list_any (λ w. bytes_eq w word) words
+abbrev pub is_word_among : List (List ℕ) → List ℕ → Bool
+is_word_among words word = list_any (λ w. bytes_eq w word) words
 
 -- the field has this head, and none of the heads is the same
 pub record IsNew (v : Value) (heads : List (List ℕ)) (head : List ℕ) : Type 0 where
   pub rest : List Value
   pub written : v ≡ group (plain head ∷ rest)
-  pub fresh : is_among heads head ≡ false
+  pub fresh : is_word_among heads head ≡ false
 
 -- fields that were read, with these heads
 pub record AreRead (place : Place) (fields : List Value) (heads : List (List ℕ)) (k : Known) : Type 0 where
   pub are_fields : AreFields (IsFieldOf place) fields
-  pub heads_are : (word : List ℕ) → is_among heads word ≡ list_any (is_headed word) fields
+  pub heads_are : (word : List ℕ) → is_word_among heads word ≡ list_any (is_headed word) fields
   pub known : KnownOf fields k
 
 -- ---- validity, directly or in one (valid ..)

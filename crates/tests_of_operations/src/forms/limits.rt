@@ -9,7 +9,7 @@ use std::alloc::Global;
 use std::test::Fail;
 
 /// The canonical form of a text in canonical form, read and written as a tree.
-fn rewritten(alloc: Global, text: &[u8]) -> Result<Vec<u8>, FormFault> {
+fn rewritten_form(alloc: Global, text: &[u8]) -> Result<Vec<u8>, FormFault> {
     let tree = decode(alloc, text)?;
     Ok(encode(alloc, &tree)?)
 }
@@ -24,11 +24,11 @@ fn is_its_document(alloc: Global, text: &[u8]) -> Result<bool, FormFault> {
 fn depth_and_length(rt: HostRuntime) -> Result<(), Fail> {
     let alloc = rt.alloc();
     let deepest = repeated(alloc, b"(", 64, b")", 64)?;
-    assert!(rt; rewritten(alloc, &deepest)?.as_slice() == deepest.as_slice());
+    assert!(rt; rewritten_form(alloc, &deepest)?.as_slice() == deepest.as_slice());
     assert!(rt; is_its_document(alloc, &deepest)?);
     let longest = repeated(alloc, b"1048568:", 1, b"x", 1048568)?;
     assert!(rt; longest.len() == 1048576);
-    assert!(rt; rewritten(alloc, &longest)?.as_slice() == longest.as_slice());
+    assert!(rt; rewritten_form(alloc, &longest)?.as_slice() == longest.as_slice());
     assert!(rt; is_its_document(alloc, &longest)?);
     let too_deep = repeated(alloc, b"(", 65, b")", 65)?;
     assert!(rt; is_refused_in_canonical_form(alloc, &too_deep, TooDeep));

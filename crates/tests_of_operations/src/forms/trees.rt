@@ -6,18 +6,18 @@ use std::alloc::{AllocError, Global};
 use std::test::Fail;
 
 /// The list of one string.
-fn list_of(alloc: Global, octets: &[u8]) -> Result<Sexp, AllocError> {
+fn list_of_one(alloc: Global, octets: &[u8]) -> Result<Sexp, AllocError> {
     let members = vec![in alloc; Sexp::plain(alloc, octets)?]?;
     Ok(Sexp::list(members))
 }
 
 /// The canonical form of a copy of a value.
-fn copied(alloc: Global, value: &Sexp) -> Result<Vec<u8>, AllocError> {
+fn copied_tree(alloc: Global, value: &Sexp) -> Result<Vec<u8>, AllocError> {
     encode(alloc, &value.clone()?)
 }
 
 /// The canonical form of a document, read and written as a tree.
-fn whole(alloc: Global, text: &[u8]) -> Result<Vec<u8>, FormFault> {
+fn whole_tree(alloc: Global, text: &[u8]) -> Result<Vec<u8>, FormFault> {
     let document = Doc::open(alloc, text)?;
     let tree = Sexp::of_node(alloc, &document.top())?;
     Ok(encode(alloc, &tree)?)
@@ -31,8 +31,10 @@ fn unpacked(alloc: Global, text: &[u8]) -> Result<Vec<u8>, FormFault> {
 #[test]
 fn trees(rt: HostRuntime) -> Result<(), Fail> {
     let alloc = rt.alloc();
-    assert!(rt; copied(alloc, &list_of(alloc, b"a b")?)?.as_slice() == b"(3:a b)".as_slice());
-    assert!(rt; whole(alloc, b"(1:a[1:x]1:b())")?.as_slice() == b"(1:a[1:x]1:b())".as_slice());
+    assert!(rt;
+        copied_tree(alloc, &list_of_one(alloc, b"a b")?)?.as_slice() == b"(3:a b)".as_slice()
+    );
+    assert!(rt; whole_tree(alloc, b"(1:a[1:x]1:b())")?.as_slice() == b"(1:a[1:x]1:b())".as_slice());
     Ok(())
 }
 

@@ -91,7 +91,7 @@ fn strings(alloc: Global, n: usize) -> Result<Vec<u8>, AllocError> {
 }
 
 /// Whether a chain of an entry and a certificate is too large, if their tags are lists of so many strings.
-fn is_too_large(alloc: Global, n: usize, m: usize) -> Result<bool, Fail> {
+fn is_chain_too_large(alloc: Global, n: usize, m: usize) -> Result<bool, Fail> {
     let first = five_for(alloc, &ENTRY, &strings(alloc, n)?)?;
     let second = Step::Auth(five_for(alloc, &CERTIFICATE, &strings(alloc, m)?)?);
     match fold_chain(alloc, &first, &[second], Policy::Open) {
@@ -102,7 +102,7 @@ fn is_too_large(alloc: Global, n: usize, m: usize) -> Result<bool, Fail> {
 
 #[test]
 fn product_limit(rt: HostRuntime) -> Result<(), Fail> {
-    assert!(rt; !is_too_large(rt.alloc(), 999, 999)?);
-    assert!(rt; is_too_large(rt.alloc(), 999, 1000)?);
+    assert!(rt; !is_chain_too_large(rt.alloc(), 999, 999)?);
+    assert!(rt; is_chain_too_large(rt.alloc(), 999, 1000)?);
     Ok(())
 }

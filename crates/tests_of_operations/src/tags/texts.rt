@@ -19,14 +19,14 @@ pub(crate) fn root_of(rt: &impl Abort, document: &Doc) -> NodeId
 }
 
 /// The tag of a document.
-fn whole(rt: &impl Abort, alloc: Global, document: &Doc) -> Result<Tag, TagFault> {
+fn whole_tag(rt: &impl Abort, alloc: Global, document: &Doc) -> Result<Tag, TagFault> {
     Tag::read(alloc, document, root_of(rt, document))
 }
 
 /// The tag with this text.
 pub(crate) fn tag_of(rt: &impl Abort, alloc: Global, text: &[u8]) -> Result<Tag, Fail> {
     let document = Doc::open(alloc, text)?;
-    Ok(whole(rt, alloc, &document)?)
+    Ok(whole_tag(rt, alloc, &document)?)
 }
 
 /// The text of a tag.

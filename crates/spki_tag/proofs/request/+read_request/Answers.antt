@@ -11,32 +11,32 @@ use Rattle.spki_tag.proofs.Named.{named-first, out_of_memory, passed}
 use Rattle.spki_tag.proofs.NamedRequests.{group-itself, star-group, group-members, so_far-named, part-itself}
 use Rattle.spki_tag.proofs.request.+read_request.Goals as goal
 
-pub read_list-returns-in_err-head-in-Some-clause-shows : goal.read_list-returns-in_err-head-in-Some-clause-shows
-read_list-returns-in_err-head-in-Some-clause-shows t c =
+pub read_request_list-returns-in_err-head-in-Some-clause-shows : goal.read_request_list-returns-in_err-head-in-Some-clause-shows
+read_request_list-returns-in_err-head-in-Some-clause-shows t c =
     let p = err_from_is_err_and c.from_residual.result c.from_residual.ensures.1 in
     rw (p.1, p.2)
     (request_head_shows _ c.args.members c.in-Some.first c.in-Some.further c.in-Some.ensures (c.in_err-head-in-Some.ensures.shows c.in-Some.further).1)
 
-pub read_list-returns-in-None-clause-shows : goal.read_list-returns-in-None-clause-shows
-read_list-returns-in-None-clause-shows t c = empty_list c.args.members c.in-None.ensures
+pub read_request_list-returns-in-None-clause-shows : goal.read_request_list-returns-in-None-clause-shows
+read_request_list-returns-in-None-clause-shows t c = empty_list c.args.members c.in-None.ensures
 
-pub read_list-returns-then-eq-clause-shows : goal.read_list-returns-then-eq-clause-shows
-read_list-returns-then-eq-clause-shows t c =
+pub read_request_list-returns-then-eq-clause-shows : goal.read_request_list-returns-then-eq-clause-shows
+read_request_list-returns-then-eq-clause-shows t c =
     let star : c.in_ok-head-in-Some.head.now ≡ codes "*" = same_text _ _ c.if-eq.ensures ∙ c.as_slice.ensures in
     star_shows c.args.members c.in-Some.first c.in-Some.further c.in-Some.ensures (c.in_ok-head-in-Some.ensures.string ∙ ap plain star)
 
-pub read_members-read_request-requires : goal.read_members-read_request-requires
-read_members-read_request-requires t c =
+pub read_request_members-read_request-requires : goal.read_request_members-read_request-requires
+read_request_members-read_request-requires t c =
     (omega (arith, c.decreases, so_far_weight c.args.members c.loop-first.left c.in-Some.further c.loop-first.requests.items c.in-Some.first c.loop-first.invariant c.in-Some.ensures), tt)
 
-pub read_members-returns-in_err-read_request-clause-shows : goal.read_members-returns-in_err-read_request-clause-shows
-read_members-returns-in_err-read_request-clause-shows t c =
+pub read_request_members-returns-in_err-read_request-clause-shows : goal.read_request_members-returns-in_err-read_request-clause-shows
+read_request_members-returns-in_err-read_request-clause-shows t c =
     let p = err_from_is_err_and c.from_residual.result c.from_residual.ensures.1 in
     rw (p.1, p.2)
     (so_far_shows _ c.args.members c.loop-first.left c.in-Some.further c.loop-first.requests.items c.in-Some.first c.loop-first.invariant c.in-Some.ensures c.in_err-read_request.ensures.shows)
 
-pub read_members-loop-first-preserved : goal.read_members-loop-first-preserved
-read_members-loop-first-preserved t c =
+pub read_request_members-loop-first-preserved : goal.read_request_members-loop-first-preserved
+read_request_members-loop-first-preserved t c =
     rw c.in_ok-push.ensures.items
     (so_far_push c.args.members c.loop-first.left c.in-Some.further c.loop-first.requests.items c.in-Some.first c.in_ok-read_request.field-0 c.loop-first.invariant c.in-Some.ensures c.in_ok-read_request.ensures.request c.in_ok-read_request.ensures.read)
 
@@ -54,29 +54,29 @@ read_request-returns-in-String-Some-default-clause-shows t c =
     let e = rw c.in-String-Some-default.hint-is at c.in-String-Some-default.ensures in
     hinted_itself c.args.value.now (c.in-String-Some-default.hint-0.now, c.in-String-Some-default.body.now, sym e)
 
-pub read_list-returns-in_err-head-in-Some-clause-named : goal.read_list-returns-in_err-head-in-Some-clause-named
-read_list-returns-in_err-head-in-Some-clause-named t c =
+pub read_request_list-returns-in_err-head-in-Some-clause-named : goal.read_request_list-returns-in_err-head-in-Some-clause-named
+read_request_list-returns-in_err-head-in-Some-clause-named t c =
     passed _ _ _ c.from_residual.ensures.1
     (group-itself c.args.members _ _ c.in-Some.ensures
     (named-first _ _ (c.in_err-head-in-Some.ensures.named c.in-Some.further).1))
 
-pub read_list-returns-in-None-clause-named : goal.read_list-returns-in-None-clause-named
-read_list-returns-in-None-clause-named t c = group-itself c.args.members [] _ c.in-None.ensures (named-first _ _ refl)
+pub read_request_list-returns-in-None-clause-named : goal.read_request_list-returns-in-None-clause-named
+read_request_list-returns-in-None-clause-named t c = group-itself c.args.members [] _ c.in-None.ensures (named-first _ _ refl)
 
-pub read_list-returns-then-eq-clause-named : goal.read_list-returns-then-eq-clause-named
-read_list-returns-then-eq-clause-named t c =
+pub read_request_list-returns-then-eq-clause-named : goal.read_request_list-returns-then-eq-clause-named
+read_request_list-returns-then-eq-clause-named t c =
     let star : c.in_ok-head-in-Some.head.now ≡ codes "*" = same_text _ _ c.if-eq.ensures ∙ c.as_slice.ensures in
     group-itself c.args.members c.args.members _ refl
     (named-first _ _
     (star-group c.args.members c.in-Some.first c.in-Some.further c.in-Some.ensures (c.in_ok-head-in-Some.ensures.string ∙ ap plain star)))
 
-pub read_members-returns-in_err-read_request-clause-named : goal.read_members-returns-in_err-read_request-clause-named
-read_members-returns-in_err-read_request-clause-named t c =
+pub read_request_members-returns-in_err-read_request-clause-named : goal.read_request_members-returns-in_err-read_request-clause-named
+read_request_members-returns-in_err-read_request-clause-named t c =
     passed _ _ _ c.from_residual.ensures.1
     (so_far-named _ c.args.members c.loop-first.left c.in-Some.further c.loop-first.requests.items c.in-Some.first c.loop-first.invariant c.in-Some.ensures c.in_err-read_request.ensures.named)
 
-pub read_members-returns-in_err-push-clause-named : goal.read_members-returns-in_err-push-clause-named
-read_members-returns-in_err-push-clause-named t c = out_of_memory _ _ c.from_residual-in_err-push.ensures.1
+pub read_request_members-returns-in_err-push-clause-named : goal.read_request_members-returns-in_err-push-clause-named
+read_request_members-returns-in_err-push-clause-named t c = out_of_memory _ _ c.from_residual-in_err-push.ensures.1
 
 pub read_headed-returns-in_err-members-clause-named : goal.read_headed-returns-in_err-members-clause-named
 read_headed-returns-in_err-members-clause-named t c =

@@ -30,15 +30,15 @@ use Rattle.std.specs.contracts.impls.GlobalAllocator.TheImpl.{ghosts}
 use Rattle.std.proofs.raw_atomic.Walks.{proved_at}
 use Rattle.spki_service.specs.contracts.guard.Guard.{the_row as G}
 use Rattle.spki_c.specs.contracts.handle.Handle.{the_row as R, the_type}
-use Rattle.spki_c.specs.contracts.loose.Loose as loose
+use Rattle.spki_c.specs.contracts.box_pointer.BoxPointer as box_pointer
 use Rattle.spki_c.specs.contracts.handle.Handle.hold as f
-use Rattle.spki_c.proofs.LooseValues.{both, loose_good, loose_out}
+use Rattle.spki_c.proofs.BoxPointerValues.{both, pointer_good, pointer_out}
 use Rattle.spki_c.proofs.handle.Handle.TheLaws.{lowers}
 use Rattle.spki_c.proofs.handle.Handle.hold.Statement.{statement}
 use Rattle.spki_c.proofs.handle.Handle.hold.Code as code
 
 abbrev B : RattleType
-B = loose.the_row G heap.the_row ghosts
+B = box_pointer.the_row G heap.the_row ghosts
 
 abbrev stayed : Stays f.ended.signature.params f.ended.kept
 stayed = (stay_ref (0 ∷ []) tt (plain (λ _. R)), (stay_dropped _ yes, tt))
@@ -54,10 +54,10 @@ hold_spec 𝓤 𝓛 𝓜 𝓡 wired =
     let Run : List Val → SProp 𝓤 = λ xs. WpFn 𝓤 𝓛.H 𝓣.C 𝓣.Λ code.function xs (W.post z) in
     qed 𝓛 (((‵ (flft κ q) ⊛ ‵ ftrue) ⊛ ‵ (owns (MutRef (named 0) κ R ∷ B ∷ []) (x, (d, tt)) (rs, (ws, tt)))) ∷ raw (fact 𝓤 (h.held ≡ None)) ∷ []) ∵
     split ! $ split ! $ move ! (1 ∷ []) $ drop ! $ move ! (2 ∷ []) $ heard ! (h.held ≡ None) (λ e. move ! (1 ∷ []) $ fsplit3 ! $ move ! (1 ∷ []) $
-    loose_out G Z LZ ghosts ! d ws (λ b' o' hv at wis fits. move ! (1 ∷ []) $ drop ! $ move ! (1 ∷ []) $ fsplit3 ! $ feq_l ! (λ ev.
+    pointer_out G Z LZ ghosts ! d ws (λ b' o' hv at wis fits. move ! (1 ∷ []) $ drop ! $ move ! (1 ∷ []) $ fsplit3 ! $ feq_l ! (λ ev.
     -- [the two parts of the reference; what is held; nothing; the token]
     move ! (0 ∷ 1 ∷ 4 ∷ []) $
-    let w : Val = both (vptr b' o') hv in let good = loose_good G Z LZ ghosts b' o' hv fits in let vs = mut_vals x in
+    let w : Val = both (vptr b' o') hv in let good = pointer_good G Z LZ ghosts b' o' hv fits in let vs = mut_vals x in
     suffices ! (Run (vptr b o ∷ w ∷ [])) (subst (λ (xs : List Val). ent 𝓤 (Run (vptr b o ∷ w ∷ [])) (Run xs)) (sym (λ i. ev i ++ (wis i ++ []))) (id⊢ 𝓤 (Run (vptr b o ∷ w ∷ [])))) $
     enter ! 𝓣.C 𝓣.Λ code.function (vptr b o ∷ w ∷ []) (W.post z) $ alloc_all ! (λ l. pass_all ! refl ((tt, tt), (good, tt)) $
     opens ! tt R b o (λ us. move ! (1 ∷ []) $ peeks ! R _ (shows 𝓛 R) h us (λ is. fsplit ! $ drop ! $ drop ! $

@@ -31,9 +31,9 @@ use Rattle.std_alloc.specs.Box.Ownership.{box_owns}
 use Rattle.spki_c.specs.Holding.{held_owns, heap as global}
 use Rattle.spki_service.specs.contracts.guard.Guard.{the_row as G}
 use Rattle.spki_c.specs.contracts.handle.Handle.{the_row as R}
-use Rattle.spki_c.specs.contracts.loose.Loose as loose
+use Rattle.spki_c.specs.contracts.box_pointer.BoxPointer as box_pointer
 use Rattle.spki_c.specs.contracts.handle.Handle.take as f
-use Rattle.spki_c.proofs.LooseValues.{both, loose_good, loose_in}
+use Rattle.spki_c.proofs.BoxPointerValues.{both, pointer_good, pointer_in}
 use Rattle.spki_c.proofs.handle.Handle.TheLaws.{lowers}
 use Rattle.spki_c.proofs.handle.Handle.take.Statement.{statement}
 use Rattle.spki_c.proofs.handle.Handle.take.Code as code
@@ -63,14 +63,14 @@ take_spec 𝓤 𝓛 𝓜 𝓡 wired =
     move ! (2 ∷ []) $ handle_tells al ! a ws (λ h ea fits. move ! (1 ∷ 0 ∷ []) $
     -- [what is held; the allocator; what the fields own; nothing]
     let word = lowers.val_is v us is ∙ ap (λ (p : Ptr). lowers.lowered (record v { at = p }) ∷ []) at in
-    let w₀ : Val = vstruct (vcons (vptr b o) vnil) in let w : Val = both (vptr b o) h in let good = loose_good G Z LZ ghosts b o h fits in
-    loose_in G Z LZ ghosts ! b o h a g $
+    let w₀ : Val = vstruct (vcons (vptr b o) vnil) in let w : Val = both (vptr b o) h in let good = pointer_good G Z LZ ghosts b o h fits in
+    pointer_in G Z LZ ghosts ! b o h a g $
     suffices ! (Run (w₀ ∷ h ∷ [])) (subst (λ (xs : List Val). ent 𝓤 (Run (w₀ ∷ h ∷ [])) (Run xs)) (sym (λ i. word i ++ (ea i ++ []))) (id⊢ 𝓤 (Run (w₀ ∷ h ∷ [])))) $
     enter ! 𝓣.C 𝓣.Λ code.function (w₀ ∷ h ∷ []) (W.post z) $ alloc_all ! (λ l. pass_all ! refl ((tt, (tt, tt)), (fits, tt)) $
     sets ! (of_opd ! (get_in ! (fld ! refl (stop !)) (sub ! 0 refl (whole !)))) refl (tt, tt) $
     sets ! (of_opd ! (get ! refl)) refl (tt, tt) $
     sets ! (agg ! (and_then ! (get ! refl) (and_then ! (get ! refl) (no_more !)))) refl good $
     returns ! (look_at ! 0 refl) $ free_all ! refl $ keep ! (0 ∷ []) $
-    let r : (loose.the_row G Z ghosts).Denot = record { at = block_ptr b o; alloc = a; value = g } in
+    let r : (box_pointer.the_row G Z ghosts).Denot = record { at = block_ptr b o; alloc = a; value = g } in
     suffices ! _ (ends_at 𝓛 f.ended stayed c z w r (tt, (tt, tt)) (tt, (tt, tt))) $ says ! e $
     nothing ! $ nothing ! $ join ! $ nothing ! $ join ! $ nothing ! $ done !))))))

@@ -1,0 +1,18 @@
+use Rattle.std.proofs.lemmas.Result.{err_from_is_err_and}
+use Rattle.sexpr_text.proofs.QuotedLaws.{raw_piece}
+use Rattle.sexpr_text.proofs.RefusedPieces.{escape_refused}
+use Rattle.sexpr_text.proofs.StringEnds.{escape_end}
+use Rattle.sexpr_text.proofs.quoted_strings.read_piece.Goals as goal
+
+pub returns-then-octet-ne92-clause-read : goal.returns-then-octet-ne92-clause-read
+returns-then-octet-ne92-clause-read c = raw_piece _ _ _ _ _ c.requires.begins c.requires.other c.if-octet-ne92.true c.in_ok-push.ensures.items
+
+pub returns-in_err-escape-clause-refused : goal.returns-in_err-escape-clause-refused
+returns-in_err-escape-clause-refused c =
+    let p = err_from_is_err_and c.from_residual-in_err-escape.result c.from_residual-in_err-escape.ensures.1 in
+    rw (p.1, p.2) (escape_refused _ _ _ _ c.requires.begins c.if-octet-ne92.false c.in_err-escape.ensures.refused)
+
+pub returns-in_err-escape-clause-begun : goal.returns-in_err-escape-clause-begun
+returns-in_err-escape-clause-begun c =
+    let p = err_from_is_err_and c.from_residual-in_err-escape.result c.from_residual-in_err-escape.ensures.1 in
+    rw (p.1, p.2) (escape_end _ _ _ _ c.requires.begins c.if-octet-ne92.false c.in_err-escape.ensures.begun)

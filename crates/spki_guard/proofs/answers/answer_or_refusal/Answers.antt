@@ -1,0 +1,20 @@
+use Rattle.spki_case.specs.View.{model}
+use Rattle.spki_guard.proofs.Standing.{standing_answered, standing_refused, no_case}
+use Rattle.spki_guard.proofs.Undecided.{err_lifted}
+use Rattle.spki_guard.proofs.answers.answer_or_refusal.Goals as goal
+
+pub returns-in_err-case-clause-refused : goal.returns-in_err-case-clause-refused
+returns-in_err-case-clause-refused c =
+    let from = c.from_residual.ensures in
+    err_lifted c.from_residual.result _ _ from.1
+    (λ outer h. no_case c.args.command c.args.text.now c.in_err-case.field-0.0 outer c.in_err-case.ensures.refused h)
+
+pub returns-in-Some-clause-answered : goal.returns-in-Some-clause-answered
+returns-in-Some-clause-answered c =
+    let read = rw c.in-Some.is at c.in_ok-case.ensures.read in
+    standing_answered c.args.command c.args.text.now (model c.in-Some.case) c.answer_case.result read.1 c.answer_case.ensures.answered
+
+pub returns-in-Some-clause-refused : goal.returns-in-Some-clause-refused
+returns-in-Some-clause-refused c =
+    let read = rw c.in-Some.is at c.in_ok-case.ensures.read in
+    standing_refused c.args.command c.args.text.now (model c.in-Some.case) c.answer_case.result read.1 c.answer_case.ensures.refused

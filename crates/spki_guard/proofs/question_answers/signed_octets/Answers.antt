@@ -1,0 +1,9 @@
+use Rattle.spki_guard.proofs.HeldAnswers.{unread}
+use Rattle.spki_guard.proofs.question_answers.signed_octets.Goals as goal
+
+pub returns-clause-refused : goal.returns-clause-refused
+returns-clause-refused c =
+    let q = c.args.question.now in
+    let refused = c.refuse_question-in-Err-ask.ensures in
+    unread c.args.guard.now q c.in-Err-ask.fault _ _ (λ long. let e = c.in-Ok.ensures.too_long.1 long in cc)
+    (c.in-Err-ask.ensures.refused q c.in-Ok.ensures.texts) refused.verdict refused.line

@@ -1,0 +1,238 @@
+//! The answers to questions that are asked of a guard, as lines.
+ghost use Rattle.std.specs.Prelude.{◌≡◌, ◌≢◌, ◌++◌, ◌⊎◌, ◌∷◌, [], ℕ, List, length, map, IfOk, IfErr, IfSome, IsNone, IsErrOf, OnOk};
+ghost use Rattle.spki_decision.specs.Asked.{asked};
+ghost use Rattle.spki_decision.specs.Views.{signed_of};
+ghost use Rattle.spki_guard.specs.Answer.{written_by};
+ghost use Rattle.spki_guard.specs.Held.{IsAnswerHeld, HasOtherCount, IsUnread, ListsSigned, AnswersAsked, WritesAsked, IsTooLargeFor, marked, joined, lengths_of, signed_texts};
+ghost use Rattle.spki_guard.specs.HeldLines.{refused_list, refused_question};
+ghost use Rattle.spki_guard.specs.Lines.{refused_memory};
+ghost use Rattle.spki_guard.specs.Run.{RefusesForMemory};
+
+use crate::answers::{Answer, Output, Refusal, Verdict, decision_line, out_of_memory, refuse};
+use crate::guard_refusals::{push_refused_list, push_refused_question};
+use crate::reports::{push_explanation, push_reduction};
+use spki_decision::GuardFault;
+use spki_service::{AclFault, AskFault, Asked, Guard, Question, Signed};
+use std::alloc::{AllocError, Global};
+
+/// What a question is asked for.
+#[derive(Clone, Copy, Debug, PartialEq, Eq)]
+pub enum Wish {
+    /// A decision: yes with the entry that grants the request, or no.
+    Decide,
+    /// Why each entry grants the request or does not.
+    Explain,
+    /// What each entry and the certificates become.
+    Reduce,
+}
+
+/// What a verifier is asked of a question: for each signature, in order, the issuer's key, the message and the signature's value,
+/// each in canonical form.
+#[derive(Drop)]
+pub struct SignedOctets {
+    /// The octets of these texts, each text directly behind the one before it.
+    pub octets: Vec<u8>,
+    /// How many octets each text has: three numbers for each signature.
+    pub lengths: Vec<usize>,
+}
+
+/// Answers a question that is asked of a guard, in the lines that `run` writes for the case of the guard's list and the question's
+/// parts (RFC 2693, section 6). Exactly the signatures that `Asked::signed` lists at the places of true marks are accepted.
+///
+/// A question that is not read is refused. The line is `refused question TooLong` exactly if its parts together have more octets
+/// than the guard's limit. Otherwise the line names the first part that has no reading, and its fault, as `refused sequence Bad 5`;
+/// the word for the moment is `at`. If memory ran out, the line is `refused Memory`.
+///
+/// The result is `None` if the question is read and does not have as many signatures as there are marks.
+pub fn answer_question(
+    alloc: Global,
+    wish: Wish,
+    guard: &Guard,
+    question: &Question<'_>,
+    marks: &[bool],
+) -> Option<Answer>
+    ensures answer { IfSome result (λ a. IsAnswerHeld wish guard.now question.now marks.now a.verdict (written_by a)) }
+    ensures none { IsNone result → HasOtherCount guard.now question.now marks.now }
+{
+    let texts = match guard.texts(alloc, question) {
+        Ok(texts) => texts,
+        Err(fault) => return Some(refuse_question(alloc, fault)),
+    };
+    match guard.ask(alloc, &texts) {
+        Ok(asked) => answer_asked(alloc, wish, &asked, marks),
+        Err(fault) => Some(refuse_question(alloc, fault)),
+    }
+}
+
+/// Lists what a verifier is asked of a question: the texts of `Asked::signed`, as octets.
+///
+/// # Errors
+///
+/// If the question is refused: the line that `answer_question` returns for it. If memory ran out: `refused Memory`.
+pub fn signed_octets(
+    alloc: Global,
+    guard: &Guard,
+    question: &Question<'_>,
+) -> Result<SignedOctets, Answer>
+    ensures listed { IfOk result (λ s. ListsSigned guard.now question.now s.octets.items s.lengths.items) }
+    ensures refused { IfErr result (λ a. IsUnread guard.now question.now a.verdict (written_by a)) }
+{
+    let texts = match guard.texts(alloc, question) {
+        Ok(texts) => texts,
+        Err(fault) => return Err(refuse_question(alloc, fault)),
+    };
+    match guard.ask(alloc, &texts) {
+        Ok(asked) => match joined(alloc, asked.signed()) {
+            Ok(octets) => Ok(octets),
+            Err(_) => Err(out_of_memory()),
+        },
+        Err(fault) => Err(refuse_question(alloc, fault)),
+    }
+}
+
+/// Returns the refusal of an access list that `Guard::read` does not read: `refused form KIND` of its text, or `refused acl N
+/// KIND` of entry N, as `run` writes them. If memory ran out, also for the line, it is `refused Memory`.
+pub fn refused_list(alloc: Global, fault: AclFault) -> Answer
+    ensures verdict { result.verdict ≡ Verdict.Refused }
+    ensures line { (written_by result ≡ refused_list fault) ⊎ (written_by result ≡ refused_memory) }
+{
+    match list_line(alloc, fault) {
+        Ok(line) => refused_by(line),
+        Err(_) => out_of_memory(),
+    }
+}
+
+/// The answer to a question that was read.
+fn answer_asked(alloc: Global, wish: Wish, read: &Asked, marks: &[bool]) -> Option<Answer>
+    ensures answer { IfSome result (λ a. AnswersAsked wish read.now (marked read.now.case marks.now) a.verdict (written_by a)
+        ⊎ RefusesForMemory a.verdict (written_by a)) }
+    ensures counted { IfSome result (λ _. length marks.now ≡ length (asked read.now.case)) }
+    ensures none { IsNone result → length marks.now ≢ length (asked read.now.case) }
+{
+    if marks.len() != read.signed().len() {
+        return None;
+    }
+    match answer_wish(alloc, wish, read, marks) {
+        Ok(answer) => Some(answer),
+        Err(fault) => Some(refuse(alloc, Refusal::Decision(fault))),
+    }
+}
+
+/// The answer to a question that was read, unless tags are too large.
+fn answer_wish(
+    alloc: Global,
+    wish: Wish,
+    read: &Asked,
+    marks: &[bool],
+) -> Result<Answer, GuardFault>
+    ensures written { IfOk result (λ a. WritesAsked wish read.now (marked read.now.case marks.now) a.verdict (written_by a)) }
+    ensures large { IsErrOf result GuardFault.TooLarge → IsTooLargeFor wish read.now (marked read.now.case marks.now) }
+{
+    match wish {
+        Wish::Decide => decided(alloc, read, marks),
+        Wish::Explain => explained(alloc, read, marks),
+        Wish::Reduce => reduced(alloc, read, marks),
+    }
+}
+
+/// The line of the decision.
+fn decided(alloc: Global, read: &Asked, marks: &[bool]) -> Result<Answer, GuardFault>
+    ensures written { IfOk result (λ a. WritesAsked Wish.Decide read.now (marked read.now.case marks.now) a.verdict (written_by a)) }
+    ensures large { IsErrOf result GuardFault.TooLarge → IsTooLargeFor Wish.Decide read.now (marked read.now.case marks.now) }
+{
+    let decision = read.decide_by(alloc, marks)?;
+    Ok(decision_line(alloc, decision)?)
+}
+
+/// The lines of the explanation.
+fn explained(alloc: Global, read: &Asked, marks: &[bool]) -> Result<Answer, GuardFault>
+    ensures written { IfOk result (λ a. WritesAsked Wish.Explain read.now (marked read.now.case marks.now) a.verdict (written_by a)) }
+    ensures large { IsErrOf result GuardFault.TooLarge → IsTooLargeFor Wish.Explain read.now (marked read.now.case marks.now) }
+{
+    let explanation = read.explain_by(alloc, marks)?;
+    let mut lines = Vec::new(alloc);
+    let verdict = push_explanation(alloc, &mut lines, &explanation)?;
+    Ok(Answer {
+        verdict,
+        output: Output::Made(lines),
+    })
+}
+
+/// The lines of the reduction.
+fn reduced(alloc: Global, read: &Asked, marks: &[bool]) -> Result<Answer, GuardFault>
+    ensures written { IfOk result (λ a. WritesAsked Wish.Reduce read.now (marked read.now.case marks.now) a.verdict (written_by a)) }
+    ensures large { IsErrOf result GuardFault.TooLarge → IsTooLargeFor Wish.Reduce read.now (marked read.now.case marks.now) }
+{
+    let reduction = read.reduce_by(alloc, marks)?;
+    let mut lines = Vec::new(alloc);
+    let verdict = push_reduction(alloc, &mut lines, &reduction)?;
+    Ok(Answer {
+        verdict,
+        output: Output::Made(lines),
+    })
+}
+
+/// The octets of signatures.
+fn joined(alloc: Global, signed: &[Signed]) -> Result<SignedOctets, AllocError>
+    ensures octets { IfOk result (λ s. s.octets.items ≡ joined (signed_texts (map signed_of signed.now))) }
+    ensures lengths { IfOk result (λ s. s.lengths.items ≡ lengths_of (signed_texts (map signed_of signed.now))) }
+{
+    let mut octets = Vec::new(alloc);
+    let mut lengths = Vec::new(alloc);
+    for one in signed {
+        append(&mut octets, &mut lengths, one.key.as_slice())?;
+        append(&mut octets, &mut lengths, one.message.as_slice())?;
+        append(&mut octets, &mut lengths, one.value.as_slice())?;
+    }
+    Ok(SignedOctets { octets, lengths })
+}
+
+/// Appends octets, and their count to the lengths.
+fn append(octets: &mut Vec<u8>, lengths: &mut Vec<usize>, more: &[u8]) -> Result<(), AllocError>
+    ensures octets { OnOk result (octets.new.items ≡ octets.old.items ++ more.now) }
+    ensures lengths { OnOk result (lengths.new.items ≡ lengths.old.items ++ length more.now ∷ []) }
+{
+    octets.extend_from_slice(more)?;
+    lengths.push(more.len())?;
+    Ok(())
+}
+
+/// The answer to a question that is refused: its line, or that memory ran out if there is none for the line.
+fn refuse_question(alloc: Global, fault: AskFault) -> Answer
+    ensures verdict { result.verdict ≡ Verdict.Refused }
+    ensures line { (written_by result ≡ refused_question fault) ⊎ (written_by result ≡ refused_memory) }
+{
+    match question_line(alloc, fault) {
+        Ok(line) => refused_by(line),
+        Err(_) => out_of_memory(),
+    }
+}
+
+/// The refusal that has this line.
+fn refused_by(line: Vec<u8>) -> Answer
+    ensures verdict { result.verdict ≡ Verdict.Refused }
+    ensures line { written_by result ≡ line.items }
+{
+    Answer {
+        verdict: Verdict::Refused,
+        output: Output::Made(line),
+    }
+}
+
+/// The line of an access list's refusal.
+fn list_line(alloc: Global, fault: AclFault) -> Result<Vec<u8>, AllocError>
+    ensures { IfOk result (λ line. line.items ≡ refused_list fault) }
+{
+    let mut line = Vec::new(alloc);
+    push_refused_list(alloc, &mut line, fault)?;
+    Ok(line)
+}
+
+/// The line of a question's refusal.
+fn question_line(alloc: Global, fault: AskFault) -> Result<Vec<u8>, AllocError>
+    ensures { IfOk result (λ line. line.items ≡ refused_question fault) }
+{
+    let mut line = Vec::new(alloc);
+    push_refused_question(alloc, &mut line, fault)?;
+    Ok(line)
+}
