@@ -99,6 +99,11 @@ OF_PARTS = [
     ("(accepted ~)", "rows Bad 10", "rows Bad 10", (1, 11), "a member or `)`"),
     (with_certificate(KEY), "request EmptyList", "sequence 4 StraySignature", (4, 24), "another refusal"),
 ]
+# A text, the refusal that is given, the exit status, and words that are printed.
+STATUSES = [
+    ("(a)", "", 0, "nothing is wrong with the form"), ("(a ~)", "", 1, "refused form Bad 3"), ("(a ~)", "form Short", 2, "another refusal"),
+    ("(a)", "sequence Bad 5", 2, "of another text"), ("(sequence)", "question TooLong", 0, "no place in it"),
+    (KEY, "TooLarge", 0, "no place in it"), ("(acl)", "Memory", 0, "no place in it")]
 # The readers of the parts in the model.
 MODEL = {"sequence": structures.read_sequence, "key": structures.read_key, "request": tags.read_request, "at": structures.read_date}
 GUARD_QUESTIONS = 600
@@ -115,22 +120,29 @@ def tool():
 
 
 def printed(locate, text, *words):
-    """What the tool prints of a text, with the words of a refusal."""
+    """The exit status of the tool and what it prints of a text, with the words of a refusal."""
     with tempfile.NamedTemporaryFile() as file:
         file.write(text)
         file.flush()
         out, sys.argv = io.StringIO(), ["locate", file.name, *words]
         with contextlib.redirect_stdout(out):
-            locate.main()
-    return out.getvalue()
+            status = locate.main()
+    return status, out.getvalue()
 
 
 def otherwise_of_mistakes(locate):
     for text, given, wanted, (line, column), words in [*((text, "", *rest) for text, *rest in MISTAKES), *OF_PARTS]:
-        said = printed(locate, text.encode(), *(["refused", *given.split()] if given else []))
+        _, said = printed(locate, text.encode(), *(["refused", *given.split()] if given else []))
         first = said.split("\n")[1] if "\n" in said else ""
         if f"refused {wanted}\n" not in said or not first.startswith(f"line {line}, column {column},") or words not in said:
             yield f"{text!r}, given {given!r}\nwanted {wanted} at line {line}, column {column}, {words}, and not\n{said}"
+
+
+def otherwise_of_statuses(locate):
+    for text, given, wanted, words in STATUSES:
+        status, said = printed(locate, text.encode(), *(["refused", *given.split()] if given else []))
+        if status != wanted or words not in said:
+            yield f"{text!r}, given {given!r}: status {status}, and not {wanted}: {said}"
 
 
 def has_no_place(answer):
@@ -190,8 +202,9 @@ def otherwise_of_parts(locate):
 
 def main():
     locate = tool()
-    results = {"mistakes": list(otherwise_of_mistakes(locate)), "rows": list(filter(None, otherwise_of_rows(locate))),
-               "generated": list(filter(None, otherwise_of_generated(locate))), "parts": list(otherwise_of_parts(locate))}
+    results = {"mistakes": list(otherwise_of_mistakes(locate)), "statuses": list(otherwise_of_statuses(locate)),
+               "rows": list(filter(None, otherwise_of_rows(locate))), "generated": list(filter(None, otherwise_of_generated(locate))),
+               "parts": list(otherwise_of_parts(locate))}
     for faults in results.values():
         print(*faults[:20], sep="\n", end="\n" if faults else "")
     failed = sum(map(bool, results.values()))
