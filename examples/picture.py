@@ -126,24 +126,29 @@ def picture(case, explained, reduced):
     yield "}"
 
 
-def main():
-    if len(sys.argv) < 2 or sys.argv[1].startswith("-"):
-        sys.exit(__doc__)
-    program = given_program(2)
-    with open(sys.argv[1], "rb") as file:
+def drawn(program, path):
+    """The lines of the picture of a case, or None if it is refused, whose line is printed then."""
+    with open(path, "rb") as file:
         text = file.read()
     status, lines = run(program, "explain", text)
     if status not in (0, 1):
         print(lines.decode(), end="", file=sys.stderr)
-        return 2
+        return None
 
     def reduced(entry):
         line = run(program, "reduce", text)[1].split(b"\n")[entry - 1]
         return read(run(program, "canonical", line.split(b" ", 2)[2])[1])
 
     case = read(run(program, "canonical", text)[1])
-    print(*picture(case, lines.decode().splitlines(), reduced), sep="\n")
-    return 0
+    return "\n".join(picture(case, lines.decode().splitlines(), reduced)).splitlines()
+
+
+def main():
+    if len(sys.argv) < 2 or sys.argv[1].startswith("-"):
+        sys.exit(__doc__)
+    lines = drawn(given_program(2), sys.argv[1])
+    print(*lines or [], sep="\n", end="\n" if lines else "")
+    return 0 if lines else 2
 
 
 if __name__ == "__main__":

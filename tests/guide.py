@@ -6,11 +6,18 @@ permission to be run until a command gives it. If examples/ has a file of this n
 `python NAME` that an example of this name in PROGRAMS has is a quotation: it must be a part of it. In a block `console`, and in
 the manual's blocks, a line that begins with `$ ` is a command of the shell, one with `> ` goes on with it, and the lines up to the
 next command are what it should write. The commands of a page run as they stand, one after the other in one shell, with the program
-as `spki` and tools/locate as `locate`: once in `sh`, and once in `bash` if it is there. Prints each command that answers otherwise; the last
-line counts.
+as `spki` and tools/locate as `locate`: once in `sh`, and once in `bash` if it is there.
 
-Build the program first (`rt run` in crates/spki).
-Usage: tests/guide.py [PROGRAM]
+An indented block below a paragraph that begins with `**C.**`, `**Rust.**` or `**Python.**` is a snippet: snippets.py compiles it and runs
+it. The lines of another indented block are commands, which must succeed in a copy of what they name, and print what INDENTED says. These
+are left out: `rt try` and `crates/spki_c/archive.py`, since the program and the library are given; and `./decide ..`, which is the usage
+of three programs (tests/bindings.py runs them). The commands in tables install and test: `.ci/run` has tests for them.
+
+Snippets and indented commands need the library, and those in C and Rust their compilers. What is not there is named. Prints each command
+that answers otherwise; the last line counts.
+
+Build the program first (`rt run` in crates/spki), and the library by crates/spki_c/archive.py.
+Usage: tests/guide.py [PROGRAM [LIBRARY]]
 """
 import itertools
 import os
@@ -22,13 +29,24 @@ import sys
 import tempfile
 import textwrap
 
-from support import TOP, given_program
+import snippets
+from support import LIBRARY, TOP, given_program
 
 BLOCK = re.compile(r"^```(\w+)(?: (\S+))?\n(.*?)^```$", re.MULTILINE | re.DOTALL)
 SECONDS = 60
 END = "---- end of command ----"
 # The folders of the examples that pages quote. tests/bindings.py runs them.
 PROGRAMS = ("examples/c", "bindings/rust/examples", "bindings/python/examples")
+FENCED = re.compile(r"^```.*?^```$", re.MULTILINE | re.DOTALL)
+SNIPPET_BELOW = re.compile(r"\*\*(C|Rust|Python)\.\*\*")
+# The indented commands, and what each prints. None is left out: see above.
+INDENTED = {
+    "cd crates/spki && rt try -- check < ../../examples/delegation.sexp": None,
+    "crates/spki_c/archive.py": None,
+    "cd examples/c && cc -std=c11 -o service -I ../../crates/spki_c service.c ../../crates/spki_c/out/libspki_c.a -lcrypto": "",
+    "./service acl.sexp": r"nonce [0-9a-f]{64}\n",
+    "./decide acl.sexp sequence key.sexp packages read /builds/web/index.html": None}
+HEADER = "openssl/evp.h"
 
 
 def commands(text):
@@ -116,11 +134,84 @@ def run_page(shell, name, steps, program):
     return len(wanted) + len(others) - failed, failed
 
 
+# ---- indented blocks
+
+
+def indented(page):
+    """The indented blocks of a page, each with the paragraph above it."""
+    parts = re.split(r"\n{2,}", FENCED.sub("", page))
+    for above, block in zip(parts, parts[1:]):
+        if all(line.startswith("    ") for line in block.splitlines()):
+            yield above, textwrap.dedent(block)
+
+
+def snippets_of(page):
+    """The snippets of a page, each with its language."""
+    return [(found[1], block) for above, block in indented(page) if (found := SNIPPET_BELOW.match(above))]
+
+
+def commands_of(page):
+    """The indented commands of a page."""
+    return [line for above, block in indented(page) if not SNIPPET_BELOW.match(above) for line in block.splitlines()]
+
+
+def of_commands(found, library):
+    """What each indented command that is run does otherwise than it should, or None; and of each that is not known that it is not."""
+    yield from (f"$ {line}\nis not known: write into {__file__} what it prints" for line in found if line not in INDENTED)
+    tried = [line for line in found if INDENTED.get(line) is not None]
+    if not tried or not can_compile():
+        return
+    with tempfile.TemporaryDirectory() as room:
+        crate = os.path.join(room, "crates", "spki_c")
+        os.makedirs(os.path.join(crate, "out"))
+        shutil.copytree(os.path.join(TOP, "examples", "c"), os.path.join(room, "examples", "c"))
+        shutil.copy(os.path.join(TOP, "crates", "spki_c", "spki.h"), crate)
+        os.symlink(library, os.path.join(crate, "out", "libspki_c.a"))
+        lines = "".join(f"{line} < /dev/null || echo status $?\necho '{END}'\n" for line in tried)
+        done = subprocess.run(["sh"], input=lines, cwd=room, text=True, stdout=subprocess.PIPE, stderr=subprocess.STDOUT, timeout=SECONDS)
+    for line, met in zip(tried, done.stdout.split(f"{END}\n")):
+        yield None if re.fullmatch(INDENTED[line], met) else f"$ {line}\nwrote\n{met}\nand not\n{INDENTED[line]}"
+
+
+def of_snippets(found, program, library):
+    """What each snippet does otherwise than it should, or None."""
+    with tempfile.TemporaryDirectory() as room:
+        for language, text in found:
+            if missing := snippets.missing(language):
+                print(f"{missing} is not there: the snippet in {language} is left out")
+            else:
+                yield snippets.otherwise(language, text, room, program, library)
+
+
+def can_compile():
+    """Whether there is what examples/c/service.c needs. Prints what is missing."""
+    found = shutil.which("cc") and subprocess.run(["cc", "-E", "-include", HEADER, "-x", "c", "/dev/null"], stdout=subprocess.DEVNULL,
+                                                  stderr=subprocess.DEVNULL).returncode == 0
+    if not found:
+        print(f"cc or {HEADER} is not there (Debian: gcc, libssl-dev): the service in C of the pages is left out")
+    return found
+
+
+def run_indented(name, program, library):
+    """How many of a page's snippets and indented commands do what they should, and how many do not."""
+    with open(os.path.join(TOP, name), encoding="utf-8") as file:
+        page = file.read()
+    if not os.path.exists(library):
+        print(f"{library} is not there: what the indented lines of {name} say is left out")
+        return 0, 0
+    results = [*of_commands(commands_of(page), library), *of_snippets(snippets_of(page), program, library)]
+    faults = [fault for fault in results if fault]
+    print("".join(f"{name}: {fault}\n" for fault in faults), end="")
+    return len(results) - len(faults), len(faults)
+
+
 def main():
     program = given_program()
+    library = os.path.abspath(sys.argv[2] if len(sys.argv) > 2 else LIBRARY)
     pages = {"README.md": steps_of_markdown, "docs/GUIDE.md": steps_of_markdown, "docs/spki.1": steps_of_manual}
     shells = [shell for shell in ("sh", "bash") if shutil.which(shell)]
     counts = [run_page(shell, name, steps, program) for shell in shells for name, steps in pages.items()]
+    counts += [run_indented(name, program, library) for name, steps in pages.items() if steps == steps_of_markdown]
     passed, failed = (sum(count) for count in zip(*counts))
     print(f"{passed} passed, {failed} failed")
     return 1 if failed else 0

@@ -3,7 +3,7 @@
 and pycodestyle find nothing in the scripts in Python (Debian: pyflakes3, pycodestyle; left out if they are not there), and that
 CONTRIBUTING.md's line on the last run of `.ci/deep` names a commit of the history.
 
-Prints what fails; the last line counts.
+Prints what fails, and how many wrong bodies were added since that run, which has not tried them; the last line counts.
 Usage: tests/layout.py
 """
 import glob
@@ -16,6 +16,7 @@ import sys
 from support import TOP as ROOT
 
 CHECKERS = [["pyflakes3"], ["pycodestyle", "--max-line-length", "150"]]
+WRONG_BODIES = ("crates/*/wrong/*.edit", "crates/*/must-fail/*.edit")
 LINE = re.compile(r"Last run of `\.ci/deep`: commit ([0-9a-f]{12,40}), \d+ passed, \d+ failed, ")
 
 
@@ -55,7 +56,7 @@ def git(*words):
 
 
 def deep_run():
-    """What is wrong with the line on the last run, or None."""
+    """What is wrong with the line on the last run, or None. Prints how many wrong bodies were added since."""
     with open(os.path.join(ROOT, "CONTRIBUTING.md"), encoding="utf-8") as it:
         found = LINE.findall(it.read())
     if len(found) != 1:
@@ -66,6 +67,8 @@ def deep_run():
         return None
     if git("merge-base", "--is-ancestor", commit, "HEAD").returncode:
         return f"the last run of .ci/deep was of {commit}, which is not in the history"
+    added = git("diff", "--diff-filter=A", "--find-renames", "--name-only", commit, "--", *WRONG_BODIES).stdout.split()
+    print(f"{len(added)} wrong bodies were added since the last run of .ci/deep, of {commit}")
     return None
 
 

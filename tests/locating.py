@@ -1,9 +1,10 @@
 #!/usr/bin/env python3
 """Runs tools/locate on texts that are refused, and compares what it shows.
 
-First on texts with one mistake each, written out here with the place and a word of the remark that it should show. Then on each row of
-the tables beside this file, and on generated texts beside the model: it must find the refusal that is the answer there, and none if there
-is another answer. Refusals of tags that are too large are left out: they have no place.
+First on texts with one mistake each, written out here with the place and a word of the remark that it should show: whole texts, and parts
+of a question to a guard. Then on each row of the tables beside this file, and on generated texts and parts beside the model: it must find
+the refusal that is the answer there, and none if there is another answer. Refusals of tags that are too large are left out: they have no
+place.
 Prints each text that is otherwise; the last line counts.
 Usage: tests/locating.py
 """
@@ -12,11 +13,14 @@ import importlib.machinery
 import importlib.util
 import io
 import os
+import random
 import sys
 import tempfile
 
+from generators.guards import guard_question
 from generators.questions import question
-from model.answers import answer
+from model import guard, structures, tags
+from model.answers import Refused, answer
 from support import COMMANDS, TOP, tables_here
 from tables import rows_of
 
@@ -66,6 +70,45 @@ MISTAKES = [
 ]
 
 
+# The same of a part of a question to a guard, or of an access list, with the refusal that is given.
+SIGNED = f"(signature {HASH} {KEY} sig)"
+OF_PARTS = [
+    (f"(acl\n (entry {KEY} (tag a))\n (entry {KEY}\n (taag a)))", "", "acl 2 Shape", (4, 2), "`tag` meant"),
+    ('(acl (version "1"))', "", "acl 0 UnknownVersion", (1, 15), "version is 0"),
+    ("(acl\n ~)", "form Bad 6", "form Bad 6", (2, 2), "a member or `)`"),
+    ("(ack)", "acl 0 Shape", "acl 0 Shape", (1, 1), "headed by `acl`"),
+    (f"(sequence {KEY}\n (cert (issuer {KEY}) (subject {KEY}) (tag ())))", "", "sequence 2 Tag EmptyList", (2, 76), "has members"),
+    (f"(sequence {SIGNED})", "sequence 1 StraySignature", "sequence 1 StraySignature", (1, 11), "no certificate"),
+    (f"(sequence\n (cert (issuer {KEY}) (subject {KEY}) (tag a)))", "", "sequence 1 UnsignedCert", (2, 2), "no signature"),
+    ("(sequenze)", "sequence 0 Shape", "sequence 0 Shape", (1, 1), "headed by `sequence`"),
+    (KEY, "sequence 0 Shape", "sequence 0 Shape", (1, 1), "headed by `sequence`"),
+    ("(seq ~)", "sequence Bad 5", "sequence Bad 5", (1, 6), "a member or `)`"),
+    ("{KDE6YQ", "sequence Short", "sequence Short", (1, 8), "before `}`"),
+    ("(public-key (test a)\n (uri))", "", "key KeyUris", (2, 2), "no `(uri ..)`"),
+    ("(public-key test)", "key Shape", "key Shape", (1, 13), "name of an algorithm"),
+    ("(hash sha1 x)", "key Shape", "key Shape", (1, 1), "headed by `public-key`"),
+    ("(public-key (test a)", "key Short", "key Short", (1, 21), "not closed"),
+    ("(ftp\n ())", "request EmptyList", "request EmptyList", (2, 2), "has members"),
+    ("(ftp (* a))", "request StarInRequest", "request StarInRequest", (1, 7), "does not begin with `*`"),
+    ("(sequence (a) ((b)))", "request ListHead", "request ListHead", (1, 16), "is a string"),
+    ("[text]ftp", "request Hint", "request Hint", (1, 1), "display hint"),
+    ("(" * 65, "request TooDeep", "request TooDeep", (1, 65), "65th list"),
+    ('"2024-13-01_00:00:00"', "at BadDate", "at BadDate", (1, 1), "in UTC"),
+    ('"2024-01-01_00:00:00" x', "at Trailing 22", "at Trailing 22", (1, 23), "a text is one value"),
+    (f"(accepted (by {KEY} {HASH}))", "rows 1 Shape", "rows 1 Shape", (1, 117), "is missing"),
+    ("(accepted ~)", "rows Bad 10", "rows Bad 10", (1, 11), "a member or `)`"),
+    (with_certificate(KEY), "request EmptyList", "sequence 4 StraySignature", (4, 24), "another refusal"),
+]
+# A text, the refusal that is given, the exit status, and words that are printed.
+STATUSES = [
+    ("(a)", "", 0, "nothing is wrong with the form"), ("(a ~)", "", 1, "refused form Bad 3"), ("(a ~)", "form Short", 2, "another refusal"),
+    ("(a)", "sequence Bad 5", 2, "of another text"), ("(sequence)", "question TooLong", 0, "no place in it"),
+    (KEY, "TooLarge", 0, "no place in it"), ("(acl)", "Memory", 0, "no place in it")]
+# The readers of the parts in the model.
+MODEL = {"sequence": structures.read_sequence, "key": structures.read_key, "request": tags.read_request, "at": structures.read_date}
+GUARD_QUESTIONS = 600
+
+
 def tool():
     """The tool as a module, so that a thousand texts need no thousand programs."""
     loader = importlib.machinery.SourceFileLoader("locate", PATH)
@@ -76,23 +119,30 @@ def tool():
     return made
 
 
-def printed(locate, text):
-    """What the tool prints of a text."""
+def printed(locate, text, *words):
+    """The exit status of the tool and what it prints of a text, with the words of a refusal."""
     with tempfile.NamedTemporaryFile() as file:
         file.write(text)
         file.flush()
-        out, sys.argv = io.StringIO(), ["locate", file.name]
+        out, sys.argv = io.StringIO(), ["locate", file.name, *words]
         with contextlib.redirect_stdout(out):
-            locate.main()
-    return out.getvalue()
+            status = locate.main()
+    return status, out.getvalue()
 
 
 def otherwise_of_mistakes(locate):
-    for text, wanted, (line, column), words in MISTAKES:
-        said = printed(locate, text.encode())
+    for text, given, wanted, (line, column), words in [*((text, "", *rest) for text, *rest in MISTAKES), *OF_PARTS]:
+        _, said = printed(locate, text.encode(), *(["refused", *given.split()] if given else []))
         first = said.split("\n")[1] if "\n" in said else ""
         if f"refused {wanted}\n" not in said or not first.startswith(f"line {line}, column {column},") or words not in said:
-            yield f"{text!r}\nwanted {wanted} at line {line}, column {column}, {words}, and not\n{said}"
+            yield f"{text!r}, given {given!r}\nwanted {wanted} at line {line}, column {column}, {words}, and not\n{said}"
+
+
+def otherwise_of_statuses(locate):
+    for text, given, wanted, words in STATUSES:
+        status, said = printed(locate, text.encode(), *(["refused", *given.split()] if given else []))
+        if status != wanted or words not in said:
+            yield f"{text!r}, given {given!r}: status {status}, and not {wanted}: {said}"
 
 
 def has_no_place(answer):
@@ -123,10 +173,38 @@ def otherwise_of_generated(locate):
             yield otherwise(locate, f"case {number}", asked.command, asked.text, answer(asked.command, asked.text))
 
 
+def refusal_of_part(name, text):
+    """The line of the model's refusal of a part, or None."""
+    try:
+        if name == "acl":
+            guard.open_guard(text, False, 1_048_576, 1_000_000)
+        else:
+            guard.part(name, MODEL[name], text)
+    except Refused as why:
+        return f"refused {why}"
+    return None
+
+
+def otherwise_of_parts(locate):
+    """The parts of questions to a guard, each given with its refusal, or if it has none with its name."""
+    for number in range(GUARD_QUESTIONS):
+        asked = guard_question(random.Random(f"{SEED}/{number}"))
+        parts = {"acl": asked.acl, "sequence": asked.sequence, "key": asked.key, "request": asked.request, "at": asked.moment}
+        for name, text in parts.items():
+            wanted = refusal_of_part(name, text)
+            wrong, inner, places = locate.fault_of(text, wanted or f"refused {name}")
+            found = locate.refusal(wrong, places) if wrong else None
+            for at, _ in [(wrong.at, wrong.why), *wrong.others] if wrong else []:
+                locate.place_shown(inner, places, at)
+            if found != wanted:
+                yield f"question {number}, {name} {text!r}: found {found!r}, and not {wanted!r}"
+
+
 def main():
     locate = tool()
-    results = {"mistakes": list(otherwise_of_mistakes(locate)), "rows": list(filter(None, otherwise_of_rows(locate))),
-               "generated": list(filter(None, otherwise_of_generated(locate)))}
+    results = {"mistakes": list(otherwise_of_mistakes(locate)), "statuses": list(otherwise_of_statuses(locate)),
+               "rows": list(filter(None, otherwise_of_rows(locate))), "generated": list(filter(None, otherwise_of_generated(locate))),
+               "parts": list(otherwise_of_parts(locate))}
     for faults in results.values():
         print(*faults[:20], sep="\n", end="\n" if faults else "")
     failed = sum(map(bool, results.values()))

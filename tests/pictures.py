@@ -13,6 +13,7 @@ from support import TOP, given_program, output_of
 
 # A case of examples/, and what its picture has.
 CASES = {
+    "guide/granted.sexp": ["yes entry 1", "left: (tag (packages read (* prefix "], "guide/no-delegation.sexp": ["item 3 NoDelegation", "color=red"],
     "delegation.sexp": ["yes entry 1"], "first-run.csexp": ["yes entry 1"], "shorter-request.csexp": ["TagLacks", "color=red"],
     "second-entry.csexp": ["yes entry 2"], "no-entries.csexp": ["digraph chain"], "signed/cases/granted.sexp": ["yes entry 1", "builders of"],
     "signed/cases/changed-octet.sexp": ["item 6 DigestDiffers", "color=red"], "signed/cases/other-key.sexp": ["item 6 NotAccepted"],
@@ -22,7 +23,7 @@ CASES = {
 
 def faults(program):
     """What is wrong with each picture, or None."""
-    status, said = output_of(os.path.join(TOP, "docs", "pictures", "draw.py"), "--check")
+    status, said = output_of(os.path.join(TOP, "docs", "pictures", "draw.py"), "--check", program)
     yield said if status else None
     dot = shutil.which("dot")
     if not dot:

@@ -1,17 +1,30 @@
 #!/usr/bin/env python3
 """Draws the pictures of the documents, as SVG with plain text, which reads on light and on dark pages:
 
-chain.svg     README.md: from an access list to a yes
-crates.svg    docs/ARCHITECTURE.md: which crate uses which
-octets.svg    docs/ARCHITECTURE.md: the way of the octets to an answer
+chain.svg            README.md: from an access list to a yes
+granted.svg          docs/GUIDE.md: the chain of the case examples/guide/granted.sexp
+no-delegation.svg    docs/GUIDE.md: the same of examples/guide/no-delegation.sexp, with what stops it in red
+crates.svg           docs/ARCHITECTURE.md: which crate uses which
+octets.svg           docs/ARCHITECTURE.md: the way of the octets to an answer
 
-Usage: docs/pictures/draw.py [--check]        --check writes nothing, and fails if a picture is not as it is drawn
+The pictures of cases have the boxes, arrows and words that examples/picture.py writes for Graphviz, which asks the program. Build the
+program first (`rt run` in crates/spki).
+Usage: docs/pictures/draw.py [--check] [PROGRAM]        --check writes nothing, and fails if a picture is not as it is drawn
 """
 import os
+import re
 import sys
 from html import escape
 
 HERE = os.path.dirname(os.path.abspath(__file__))
+sys.path.append(os.path.join(HERE, "..", "..", "examples"))
+import picture  # noqa: E402
+from picture import given_program  # noqa: E402
+
+CASES = {"granted": "The chain of a request that is granted", "no-delegation": "A chain that stops at a certificate"}
+STRING = r'"((?:[^"\\]|\\.)*)"'
+NODE = re.compile(rf"  (\w+) \[(?:shape=box, color=(\w+), )?label={STRING}(?:, shape=box, color=(\w+))?\];")
+ARROW = re.compile(rf"  (\w+) -> (\w+) \[label={STRING}, color=(\w+),")
 STYLE = """
   .page { fill: #ffffff; stroke: #d0d7de }
   .box { fill: #f6f8fa; stroke: #57606a }
@@ -36,6 +49,23 @@ STYLE = """
 """
 
 
+# What the pictures of cases have in addition.
+COLOURS = """
+  .bad { fill: #ffebe9; stroke: #cf222e }
+  .line.red { stroke: #cf222e }
+  .line.darkgreen { stroke: #1a7f37 }
+  text.red { fill: #cf222e }
+  text.darkgreen { fill: #1a7f37 }
+  @media (prefers-color-scheme: dark) {
+    .bad { fill: #3c1618; stroke: #ff7b72 }
+    .line.red { stroke: #ff7b72 }
+    .line.darkgreen { stroke: #3fb950 }
+    text.red { fill: #ff7b72 }
+    text.darkgreen { fill: #3fb950 }
+  }
+"""
+
+
 def box(x, y, width, height, lines, kind="box"):
     """A box with lines of text in its middle, of which the first is its title."""
     yield f'<rect class="{kind}" x="{x}" y="{y}" width="{width}" height="{height}" rx="6"/>'
@@ -56,12 +86,12 @@ def said(x, y, text, of_class="small left"):
     yield f'<text class="{of_class}" x="{x}" y="{y}">{escape(text)}</text>'
 
 
-def page(width, height, title, *parts):
+def page(width, height, title, *parts, style=STYLE):
     """A picture of some parts."""
     yield (f'<svg xmlns="http://www.w3.org/2000/svg" viewBox="0 0 {width} {height}" width="{width}" height="{height}" role="img" '
            f'aria-label="{escape(title)}">')
     yield f"<title>{escape(title)}</title>"
-    yield f"<style>{STYLE}</style>"
+    yield f"<style>{style}</style>"
     yield ('<defs><marker id="end" viewBox="0 0 8 8" refX="7" refY="4" markerWidth="8" markerHeight="8" orient="auto">'
            '<path class="head" d="M0 0 L8 4 L0 8 z"/></marker></defs>')
     yield f'<rect class="page" x="0.5" y="0.5" width="{width - 1}" height="{height - 1}" rx="8"/>'
@@ -142,11 +172,53 @@ def octets():
     return page(878, 202, "The way of the octets to an answer", arrows, boxes)
 
 
+# ---- the chain of a case
+
+
+def lines_of(string):
+    """The lines of a string of Graphviz."""
+    return [re.sub(r"\\(.)", r"\1", line) for line in re.split(r"(?<!\\)\\n", string)]
+
+
+def of_case(name, program):
+    """The chain of a case, from top to bottom: each of its arrows begins where the one before ends."""
+    picture.WIDTH = 70
+    text = picture.drawn(program, os.path.join(HERE, "..", "..", "examples", "guide", f"{name}.sexp"))
+    nodes = {found[1]: (lines_of(found[3]), found[2] or found[4]) for found in map(NODE.fullmatch, text) if found}
+    arrows = [found.groups() for found in map(ARROW.match, text) if found]
+    assert all(end == begin for (_, end, *_), (begin, *_) in zip(arrows, arrows[1:])), f"{name} is no chain without branches"
+    x, y, width, parts = 20, 20, 420, []
+    for place, node in enumerate([arrows[0][0], *(end for _, end, *_ in arrows)]):
+        lines, colour = nodes[node]
+        kind = {"blue": "own", "darkgreen": "good", "red": "bad"}.get(colour, "box")
+        height = 22 + 18 * len(lines)
+        if place:
+            _, _, label, colour = arrows[place - 1]
+            beside = lines_of(label)
+            ends = y + 24 + 16 * len(beside)
+            parts += coloured_arrow(x + width / 2, y, ends - 2, beside, colour)
+            y = ends
+        parts += box(x, y, width, height, lines, kind)
+        y += height
+    return page(620, y + 20, CASES[name], parts, style=STYLE + COLOURS)
+
+
+def coloured_arrow(x, y1, y2, beside, colour):
+    """An arrow downwards with lines of text to the right of it."""
+    yield f'<path class="line {colour}" marker-end="url(#end)" d="M{x:g} {y1:g} L{x:g} {y2:g}"/>'
+    for place, line in enumerate(beside):
+        yield from said(f"{x + 14:g}", y1 + 24 + 16 * place, line, f"small left {colour}")
+
+
 def main():
-    wrong = 0
-    for make in (chain, crates, octets):
-        path, drawn = os.path.join(HERE, f"{make.__name__}.svg"), "\n".join(make()) + "\n"
-        if sys.argv[1:] != ["--check"]:
+    words = sys.argv[1:]
+    is_check = words[:1] == ["--check"]
+    program, wrong = given_program(1 + is_check), 0
+    pictures = {make.__name__: make() for make in (chain, crates, octets)}
+    pictures.update({name: of_case(name, program) for name in CASES})
+    for name, lines in pictures.items():
+        path, drawn = os.path.join(HERE, f"{name}.svg"), "\n".join(lines) + "\n"
+        if not is_check:
             with open(path, "w", encoding="utf-8") as file:
                 file.write(drawn)
             continue

@@ -44,7 +44,7 @@ def guard_question(rng: random.Random) -> GuardQuestion:
     return GuardQuestion(
         "guard " + rng.choice(list(WISHES)), part_text(acl, rng), part_text(sequence, rng), part_text(key, rng), part_text(request, rng),
         part_text(moment, rng), canonical(rows), strings, rng.choice(SECONDS) if rng.random() < 0.15 else None, len(case) == 8,
-        rng.randrange(1200) if rng.random() < 0.05 else MOST_OCTETS, rng.randrange(60) if rng.random() < 0.1 else MOST_NODES)
+        rng.randrange(1200) if rng.random() < 0.05 else MOST_OCTETS, rng.randrange(60) if rng.random() < 0.25 else MOST_NODES)
 
 
 def part_text(value: Value, rng: random.Random) -> bytes:

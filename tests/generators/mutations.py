@@ -4,7 +4,7 @@ import re
 from collections.abc import Callable
 
 from model import advanced
-from model.values import Atom, Value, head_of
+from model.values import Atom, Value, canonical, head_of
 
 WORDS = [it.encode() for it in (
     "public-key hash name entry acl cert issuer subject tag propagate not-before not-after valid online comment version display "
@@ -83,6 +83,15 @@ NEARLY = {
 }
 # heads that stand once in a case, or that seldom show
 RARE = (b"request", b"request", b"entry", b"do", b"at", b"version")
+# what is put behind the head of a list, where it is read first: faults that seldom come by chance
+FIRST = {
+    b"sequence": values_of("(do) (do ()) (do [h]hash sha1) (do sign sha1) (do hash md5) (do hash [h]sha1)"),
+    b"acl": values_of('(version "1") (version [h]"0")'),
+    b"cert": values_of("""
+        (version "1") (version [h]"0") (not-before "2024-13-01_00:00:00") (not-before "2024-01-32_00:00:00") (not-before "2024-01-01_24:00:00")
+        (not-after "2024-01-01_00:60:00") (not-after "2024-01-01_00:00:61") (not-after "2024-01-00_00:00:00")"""),
+    b"signature": values_of("(hash md5 x) (hash [h]sha1 x) (hash md5) (hash [h]sha1)"),
+}
 # what is put into a text
 SNIPPETS = [it.encode() for it in r"""
     "\q" "\400" "\777" "\18" "\108" "\x6g" "\xg6" "\8" #6g# #616# |ZQ===| |YWJ| |Z| |Z=Q=| |=| |a~| 4"abc" 2#61# 1|YWI=| 0"a" 1"" [a](b)
@@ -144,9 +153,25 @@ def nearly(value: Value, rng: random.Random) -> Value:
     return replaced(value, path, (rng.choice(NEARLY[head]),))
 
 
+def with_first(value: Value, rng: random.Random) -> Value | None:
+    """A value in which a list has a member with a fault behind its head; None if it has no such list."""
+    found = [(path, member) for path in places(value) for member in FIRST.get(head_of(part(value, path)) or b"", ())]
+    if not found:
+        return None
+    # each member as often as another one, also those of lists of which there are few
+    member = rng.choice(sorted({it for _, it in found}, key=canonical))
+    path = rng.choice([path for path, it in found if it == member])
+    old = part(value, path)
+    assert isinstance(old, tuple)
+    return replaced(value, path, ((old[0], member, *old[1:]),))
+
+
 def mutated(value: Value, rng: random.Random) -> Value:
     """A value that differs from the given one at one place."""
-    if rng.random() < 0.5:
+    kind = rng.random()
+    if kind < 0.15 and (made := with_first(value, rng)):
+        return made
+    if kind < 0.57:
         return nearly(value, rng)
     everywhere = places(value)
     path = rng.choice(everywhere) if rng.random() < 0.5 else some_place(value, rng)

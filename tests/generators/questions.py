@@ -29,7 +29,17 @@ class Question:
     rows: bytes = b""
 
 
-Asked = Union[Question, GuardQuestion]
+@dataclass(frozen=True)
+class Call:
+    """A call for C programs with a number that need not be a command's, or of `spki_check_accepted` if there is none; and with texts that
+    are empty or, if they are null or too long, none. `command` is the name of all such calls."""
+
+    number: int | None
+    texts: tuple[tuple[bool, int], ...]
+    command: str = "calls"
+
+
+Asked = Union[Question, GuardQuestion, Call]
 
 
 def question(seed: str, number: int) -> Asked:
@@ -41,6 +51,8 @@ def question(seed: str, number: int) -> Asked:
     kind = rng.random()
     if kind < 0.013:
         return limit_question(rng)
+    if kind < 0.018:
+        return call(rng)
     if kind < 0.3:
         return Question(rng.choice(CONVERSIONS), texts(value(rng), rng))
     if kind < 0.5:
@@ -72,10 +84,18 @@ def limit_question(rng: random.Random) -> Question:
     return Question(rng.choice(COMMANDS), text)
 
 
+def call(rng: random.Random) -> Call:
+    """A call that is misused, or nearly."""
+    number = rng.choice((None, None, *range(len(COMMANDS)), len(COMMANDS), len(COMMANDS) + 1, 255, 2**32 - 1))
+    texts = [(rng.random() < 0.4, rng.choice((0, 0, 0, 1, 2**31, 2**63 - 1, 2**63, 2**64 - 1))) for _ in range(2 if number is None else 1)]
+    # a pointer that is not null has the octets that its length says, or there are too many
+    return Call(number, tuple((is_null or 0 < length < 2**63, length) for is_null, length in texts))
+
+
 def case_question(rng: random.Random) -> Question:
     """A case, nearly one, or a case and rows apart."""
     command = rng.choice(OF_CASES)
-    case = changed(Builder(rng).case(), rng, 0.3)
+    case = changed(Builder(rng).case(), rng, 0.35)
     if command != "check_accepted":
         return Question(command, texts(case, rng, 0.05))
     if not isinstance(case, tuple) or len(case) < 3 or not isinstance(case[2], tuple):

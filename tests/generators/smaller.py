@@ -8,7 +8,7 @@ from model.printed import printed
 from model.values import FormFault, Value, canonical
 
 from .mutations import part, places, replaced
-from .questions import Asked, Question
+from .questions import Asked, Call, Question
 
 LARGE = 20_000
 
@@ -30,6 +30,8 @@ def smaller(question: Asked, shows: Callable[[Asked], bool], seconds: float = 20
 
 def candidates(question: Asked) -> Iterator[Asked]:
     """Smaller questions of the same command."""
+    if isinstance(question, Call):
+        return
     names = ("text", "rows") if isinstance(question, Question) else ("acl", "sequence", "key", "request", "moment", "rows")
     for name in names:
         for text in smaller_texts(getattr(question, name)):

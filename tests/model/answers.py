@@ -18,7 +18,8 @@ from .values import Atom, FormFault, Value, canonical, head_of
 
 Answer = tuple[int, bytes]
 COMMANDS = ("canonical", "advanced", "transport", "intersect", "reduce", "check", "explain")
-YES, NO, REFUSED = 0, 1, 2
+YES, NO, REFUSED, MISUSED = 0, 1, 2, 5
+LONGEST_TEXT = 2**63 - 1
 SHORT_CHAIN = 6
 
 LINES = Rows("line", [
@@ -26,10 +27,14 @@ LINES = Rows("line", [
     "entry N FIVE", "entry N item J CAUSE", "grants", "NotTheKey: names left", "NotTheKey: another key", "TagLacks", "WindowLacks"])
 REFUSALS = Rows("line, refused", [
     "form TooLong", "form TooDeep", "form Short", "form Bad", "form Trailing", "intersect Shape", "tag 1", "tag 2",
-    "TooLarge: intersect", "TooLarge: check", "TooLarge: explain", "TooLarge: reduce", "case",
+    "TooLarge: intersect", "TooLarge: check", "TooLarge: explain", "TooLarge: reduce", "TooLarge: check, by a guard's product",
+    "TooLarge: explain, by a guard's product", "TooLarge: reduce, by a guard's product", "case",
     "rows TooLong", "rows TooDeep", "rows Short", "rows Bad", "rows Trailing", "rows Shape", "rows"])
 STATUSES = Rows("status", [f"{command}: {status}" for command in (*COMMANDS, "check_accepted") for status in (YES, NO, REFUSED)
                            if status != NO or COMMANDS.index(command if command in COMMANDS else "check") > 3])
+CALLS = Rows("call for C programs", [
+    "status 5: no command has this number", "status 5: a null pointer with a length", "status 5: a length over 2^63 - 1",
+    "a null pointer without octets"])
 FIVES = Rows("five", ["a principal", "a hash", "a name", "(propagate)", "no valid", "valid with not-before", "valid with not-after",
                       "valid with both"])
 BRACKETS = Rows("every bracketing was tried", [f"{count} certificates" for count in range(SHORT_CHAIN + 1)] + ["one grants"])
@@ -67,6 +72,20 @@ def check_accepted(text: bytes, rows_text: bytes) -> Answer:
     return status, said
 
 
+def call(number: int | None, texts: tuple[tuple[bool, int], ...]) -> Answer:
+    """What the library answers to a number, or if there is none to `spki_check_accepted`, and to texts that are empty, null or too long."""
+    if number is not None and number >= len(COMMANDS):
+        CALLS.used("status 5: no command has this number")
+        return MISUSED, b""
+    for is_null, length in texts:
+        if length:
+            CALLS.used("status 5: " + ("a length over 2^63 - 1" if length > LONGEST_TEXT else "a null pointer with a length"))
+            return MISUSED, b""
+        if is_null:
+            CALLS.used("a null pointer without octets")
+    return check_accepted(b"", b"") if number is None else answer(COMMANDS[number], b"")
+
+
 def refused(why: Refused) -> Answer:
     """The line of a refusal."""
     return REFUSED, b"refused %s\n" % str(why).encode()
@@ -76,6 +95,11 @@ def refusal(row: str, said: object) -> Refused:
     """A refusal of the table."""
     REFUSALS.used(row)
     return Refused(said)
+
+
+def too_large(command: str, why: TooLarge) -> Refused:
+    """The refusal of tags that are too large."""
+    return refusal(f"TooLarge: {command}" + (", by a guard's product" if why.is_of_guard else ""), "TooLarge")
 
 
 def answer_of_text(command: str, text: bytes) -> Answer:
@@ -134,8 +158,8 @@ def intersect(value: Value) -> bytes:
             raise refusal(f"tag {number}", f"tag {number} {fault}") from None
     try:
         left = intersection(*both)
-    except TooLarge:
-        raise refusal("TooLarge: intersect", "TooLarge") from None
+    except TooLarge as why:
+        raise too_large("intersect", why) from None
     LINES.used("intersect")
     return printed(tags.written(left)) + b"\n"
 
@@ -156,8 +180,8 @@ def check(case: Case, rows: list[Row]) -> Answer:
             is_granted = lack(so_far, case) is None
         except reduction.Stopped:
             is_granted = False
-        except TooLarge:
-            raise refusal("TooLarge: check", "TooLarge") from None
+        except TooLarge as why:
+            raise too_large("check", why) from None
         if len(steps) <= SHORT_CHAIN:
             try_brackets(reduction.of_entry(entry), [step for _, step in steps], case, is_granted)
         if is_granted:
@@ -229,8 +253,8 @@ def of_entries(command: str, case: Case, rows: list[Row], said_of: Callable[[Aut
         except reduction.Stopped as stopped:
             LINES.used("entry N item J CAUSE")
             said = b"item %d %s" % (stopped.item, stopped.cause.encode())
-        except TooLarge:
-            raise refusal(f"TooLarge: {command}", "TooLarge") from None
+        except TooLarge as why:
+            raise too_large(command, why) from None
         lines.append(b"entry %d %s\n" % (number, said))
     return status, b"".join(lines)
 

@@ -25,7 +25,11 @@ most_product = MOST_PRODUCT
 
 
 class TooLarge(Exception):
-    """The product of the nodes is over the limit."""
+    """The product of the nodes is over the limit: that of every case, or the lower one of a guard."""
+
+    def __init__(self, product: int) -> None:
+        super().__init__(product)
+        self.is_of_guard = product <= MOST_PRODUCT
 
 
 @contextmanager
@@ -44,7 +48,7 @@ def intersection(a: Tag, b: Tag) -> Tag:
     product = nodes(a) * nodes(b)
     if product > most_product:
         REFUSED.used("TooLarge")
-        raise TooLarge
+        raise TooLarge(product)
     if product == MOST_PRODUCT:
         REFUSED.used("the product is 1,000,000")
     return together(a, b)

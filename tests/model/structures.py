@@ -3,6 +3,7 @@
 Each reader takes a value, and gives what it says or raises the first fault in reading order.
 """
 import hashlib
+import re
 from collections.abc import Callable, Iterable
 from dataclasses import dataclass, field
 from typing import Any, Union
@@ -22,6 +23,11 @@ SHAPES = Rows("structure, Shape", [
     "a digest that is no plain string", "neither a key nor a hash", "a name that is no plain string", "no subject",
     "a version is a list", "no field", "a field twice", "a field is missing", "validity both ways", "tag or propagate beside a name",
     "an issuer of two names", "no item"])
+PLACES = Rows("structure, other faults by their place", [
+    *(f"HashAlg: {place}, {what}" for place in ("a hash", "a hash without a digest", "an operation") for what in ("another string", "a hint")),
+    *(f"UnknownVersion: {place}, {what}" for place in ("a list", "a certificate") for what in ("another string", "a hint")),
+    *(f"BadDate: {what}" for what in ("a list", "a hint", "another form", "month", "day", "hour", "minute", "second")),
+    *(f"UnknownOp: {what}" for what in ("no second member", "a list", "a hint", "another string"))])
 FORMS = Rows("structure that is read", [
     "key", "hash with uri", "hash without uri", "a key as a subject", "a hash as a subject", "a name as a subject",
     "a relative name as a subject", "limits directly", "limits in valid", "an empty valid", "no limit", "version of a list",
@@ -51,6 +57,12 @@ def shape(row: str) -> StructureFault:
     """The fault Shape, and where it was found."""
     SHAPES.used(row)
     return StructureFault("Shape")
+
+
+def fault_at(kind: str, place: str) -> StructureFault:
+    """Another fault, and where it was found."""
+    PLACES.used(f"{kind}: {place}")
+    return StructureFault(kind)
 
 
 @dataclass(frozen=True, slots=True)
@@ -173,19 +185,20 @@ def read_key(value: Value) -> Key:
     return Key(canonical(value), value)
 
 
-def read_algorithm(value: Value) -> bytes:
+def read_algorithm(value: Value, place: str) -> bytes:
     """The algorithm of a hash."""
     if isinstance(value, tuple):
         raise shape("an algorithm is a list")
     if value.hint is not None or value.body not in DIGESTS:
-        raise StructureFault("HashAlg")
+        raise fault_at("HashAlg", f"{place}, {'another string' if value.hint is None else 'a hint'}")
     return value.body
 
 
 def read_hash(value: Value) -> Hash:
     """`(hash alg digest (uri x*)?)`."""
     members = Members(value, b"hash")
-    algorithm = read_algorithm(members.next())
+    has_digest = len(members.left) > 1
+    algorithm = read_algorithm(members.next(), "a hash" if has_digest else "a hash without a digest")
     digest = members.next()
     if not isinstance(digest, Atom) or digest.hint is not None:
         raise shape("a digest that is no plain string")
@@ -244,8 +257,19 @@ def read_subject(value: Value) -> Subject:
 def read_date(value: Value) -> bytes:
     """A date, whose only fault is BadDate."""
     if not isinstance(value, Atom) or value.hint is not None or not DATE.fullmatch(value.body):
-        raise StructureFault("BadDate")
+        raise fault_at("BadDate", no_date(value))
     return value.body
+
+
+def no_date(value: Value) -> str:
+    """Why a value is no date: it is no plain string of this form, or its first number that is not in its range."""
+    if not isinstance(value, Atom) or value.hint is not None:
+        return "a hint" if isinstance(value, Atom) else "a list"
+    found = re.fullmatch(rb"[0-9]{4}-([0-9]{2})-([0-9]{2})_([0-9]{2}):([0-9]{2}):([0-9]{2})", value.body)
+    if not found:
+        return "another form"
+    least_and_most = {"month": (1, 12), "day": (1, 31), "hour": (0, 23), "minute": (0, 59), "second": (0, 60)}
+    return next(name for (name, (least, most)), number in zip(least_and_most.items(), found.groups()) if not least <= int(number) <= most)
 
 
 def read_tag(value: Value) -> Tag:
@@ -256,14 +280,14 @@ def read_tag(value: Value) -> Tag:
         raise StructureFault(f"Tag {fault}") from None
 
 
-def read_version(value: Value) -> None:
+def read_version(value: Value, place: str = "a list") -> None:
     """`(version "0")`."""
     members = Members(value, b"version")
     number = members.next()
     if isinstance(number, tuple):
         raise shape("a version is a list")
     if number != Atom(b"0"):
-        raise StructureFault("UnknownVersion")
+        raise fault_at("UnknownVersion", f"{place}, {'another string' if number.hint is None else 'a hint'}")
     members.end()
 
 
@@ -313,7 +337,7 @@ def read_valid(value: Value) -> dict[bytes, Any]:
 
 def read_certificate_version(value: Value) -> None:
     """The version of a certificate."""
-    read_version(value)
+    read_version(value, "a certificate")
     FORMS.used("version of a certificate")
 
 
@@ -425,10 +449,12 @@ def read_signature(value: Value) -> Signature:
 def read_operation(value: Value) -> Operation:
     """`(do hash alg)`."""
     members = Members(value, b"do")
-    if not members.left or not is_plain(members.left[0], b"hash"):
-        raise StructureFault("UnknownOp")
-    members.next()
-    read_algorithm(members.next())
+    if not members.left:
+        raise fault_at("UnknownOp", "no second member")
+    operation = members.next()
+    if not is_plain(operation, b"hash"):
+        raise fault_at("UnknownOp", "a list" if isinstance(operation, tuple) else "a hint" if operation.hint is not None else "another string")
+    read_algorithm(members.next(), "an operation")
     members.end()
     FORMS.used("do")
     return Operation()

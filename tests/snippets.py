@@ -1,0 +1,140 @@
+"""The snippets of README.md in C, Rust and Python. Each is put, as it stands on the page, into a program that asks what it says, with the
+library for C. The keys and signatures are words, as in examples/c/decide.c."""
+import os
+import shutil
+import subprocess
+import sys
+import textwrap
+
+from support import EXAMPLES, TOP, on_one_line, read, run
+
+SECONDS = 600
+CRATE, RUST, PYTHON = (os.path.join(TOP, *words) for words in (["crates", "spki_c"], ["bindings", "rust"], ["bindings", "python"]))
+# The program around each snippet. Its words are a list, a sequence and a key.
+PROGRAMS = {
+    "C": """
+#include <spki.h>
+#include <stdio.h>
+#include <string.h>
+#include <time.h>
+
+enum { room = 16 };
+
+static unsigned char verify(struct spki_text key, struct spki_text message, struct spki_text value)
+{
+    return key.length > 0 && message.length > 0 && value.length == 5 && memcmp(value.octets, "3:sig", 5) == 0;
+}
+
+static void ask(const char *list, size_t list_length, struct spki_text sequence, struct spki_text key, const struct spki_text *words,
+                int64_t now)
+{
+    spki_guard *guard;
+    struct spki_signed signatures[room];
+    unsigned char octets[65536], verified[room], line[64];
+    size_t count, needed;
+SNIPPET
+    spki_guard_close(guard);
+}
+
+int main(int count, char **given)
+{
+    const struct spki_text words[] = {{"packages", 8}, {"read", 4}, {"/builds/web", 11}};
+    if (count != 4)
+        return 2;
+    ask(given[1], strlen(given[1]), (struct spki_text){given[2], strlen(given[2])}, (struct spki_text){given[3], strlen(given[3])}, words,
+        time(NULL));
+    return 0;
+}
+""",
+    "Rust": """
+use spki::{Guard, Limits, Moment, Policy, Question, Refusal, Request};
+
+fn verify(_key: &[u8], _message: &[u8], value: &[u8]) -> bool {
+    value == b"3:sig"
+}
+
+fn ask(list: &[u8], sequence: &[u8], key: &[u8], path: &[u8], now: i64) -> Result<bool, Refusal> {
+SNIPPET
+    Ok(is_granted)
+}
+
+fn main() {
+    let given: Vec<String> = std::env::args().collect();
+    let [list, sequence, key] = [1, 2, 3].map(|place| given[place].as_bytes());
+    println!("{:?}", ask(list, sequence, key, b"/builds/web", 1_800_000_000).map(|is| if is { "granted" } else { "denied" }));
+}
+""",
+    "Python": """
+import os
+import sys
+import time
+
+import spki
+
+
+def verify(key, message, value):
+    return value == b"3:sig"
+
+
+def ask(access_list, sequence, key, path):
+SNIPPET
+    return "granted" if is_granted else "denied"
+
+
+print(ask(*map(os.fsencode, sys.argv[1:]), b"/builds/web"))
+"""}
+# What they print for a yes and for a no.
+ANSWERS = {"C": ("granted\n", ""), "Rust": ('Ok("granted")\n', 'Ok("denied")\n'), "Python": ("granted\n", "denied\n")}
+MANIFEST = """
+[package]
+name = "snippet"
+version = "0.0.0"
+edition = "2021"
+
+[dependencies]
+spki = {{ path = "{crate}" }}
+"""
+
+
+def built(language, source, room, library):
+    """The words by which a program is run, or None if it cannot be made; in a folder of its own."""
+    folder = os.path.join(room, language)
+    os.makedirs(os.path.join(folder, "src"), exist_ok=True)
+    names = {"C": "snippet.c", "Rust": os.path.join("src", "main.rs"), "Python": "snippet.py"}
+    path, made = os.path.join(folder, names[language]), os.path.join(folder, "snippet")
+    with open(path, "w", encoding="utf-8") as file:
+        file.write(source)
+    if language == "Python":
+        return [sys.executable, path]
+    if language == "C":
+        words = ["cc", "-std=c11", "-Wall", "-Wextra", "-Wpedantic", "-Werror", "-I", CRATE, "-o", made, path, library]
+    else:
+        with open(os.path.join(folder, "Cargo.toml"), "w", encoding="utf-8") as file:
+            file.write(MANIFEST.format(crate=RUST))
+        made = os.path.join(folder, "target", "debug", "snippet")
+        words = ["cargo", "build", "--quiet", "--offline"]
+    settings = {**os.environ, "SPKI_LIB_DIR": os.path.dirname(library), "CARGO_TARGET_DIR": os.path.join(folder, "target"),
+                "RUSTFLAGS": "-D warnings"}
+    return [made] if subprocess.run(words, cwd=folder, env=settings, timeout=SECONDS).returncode == 0 else None
+
+
+def otherwise(language, snippet, room, program, library):
+    """What a snippet does otherwise than to grant the request of delegation.sexp to its key, and to no other; or None."""
+    words = built(language, PROGRAMS[language].replace("SNIPPET", textwrap.indent(snippet, "    ").rstrip("\n")), room, library)
+    if words is None:
+        return f"the snippet in {language} is not compiled"
+    with open(os.path.join(EXAMPLES, "delegation.sexp"), "rb") as file:
+        _, access_list, _, sequence, (_, key), *_ = read(run(program, "canonical", file.read())[1])
+    settings = {**os.environ, "PYTHONPATH": PYTHON, "SPKI_LIBRARY": library.removesuffix(".a") + ".so"}
+    for holder, wanted in zip((key, [b"public-key", [b"test", b"c"]]), ANSWERS[language]):
+        given = [on_one_line(value) for value in (access_list, sequence, holder)]
+        done = subprocess.run([*words, *given], stdout=subprocess.PIPE, stderr=subprocess.STDOUT, text=True, env=settings, timeout=SECONDS)
+        if (done.returncode, done.stdout) != (0, wanted):
+            return f"the snippet in {language}, of {given[-1]}: status {done.returncode}, {done.stdout!r}, and not {wanted!r}"
+    return None
+
+
+def missing(language):
+    """The program that a snippet needs and that is not there, or None."""
+    needs = {"C": "cc", "Rust": "cargo"}.get(language)
+    return needs if needs and not shutil.which(needs) else None
