@@ -8,6 +8,8 @@ pub mod Entries
 pub mod Granting
 pub mod Widening
 pub mod PassedOver
+pub mod SubjectPaths
+pub mod SharedChains
 pub mod Stopping
 pub mod Reasons
 pub mod OneExplanation
@@ -19,3 +21,6 @@ pub mod LeftOut
 pub mod KeptEntries
 pub mod AskedWhole
 pub mod Answering
+pub mod Timely
+pub mod TagRuns
+pub mod SmallRuns

@@ -19,7 +19,7 @@ use Rattle.spki_reduce.specs.LastTests.{IsSupported}
 use Rattle.spki_reduce.proofs.Bracketing.{supported, from_left-leaves}
 use Rattle.spki_reduce.proofs.Chains.{more_at, too_large as large}
 use Rattle.spki_reduce.proofs.Folding.{met_more}
-use Rattle.spki_reduce.proofs.Through.{nothing_met, first_empty, last_empty}
+use Rattle.spki_reduce.proofs.Through.{nothing_met, first_empty}
 use Rattle.spki_reduce.proofs.Parts as parts
 use Rattle.std.proofs.lemmas.Bool.{cases_lt}
 use Rattle.std.proofs.lemmas.List.{take-append-drop, take-take}
@@ -27,7 +27,7 @@ use Rattle.std.proofs.lemmas.List.Sums.{fold-append}
 use Rattle.spki_case.specs.Case.{Case}
 use Rattle.spki_decision.specs.declared.shared_tests.SharedTests.{SharedTests}
 use Rattle.spki_decision.specs.Supported.{Supported}
-use Rattle.spki_decision.specs.Shared.{AreShared, IsDenied, IsSmallFor, IsSmallWith, IsMetSmall, IsWidest}
+use Rattle.spki_decision.specs.Shared.{AreShared, IsDenied, IsSmallFor, IsSmallWith, IsWidest}
 use Rattle.spki_decision.proofs.Widening.{supported as widened}
 
 both : (a b : Bool) → (a && b) ≡ true → (a ≡ true) × (b ≡ true)
@@ -124,15 +124,15 @@ module _ (most : ℕ) (tag : Tag) (tuples : List Tuple) where
   small_to_nothing count h nothing tagged =
       record { none_large = λ e is policy l. small_by count h nothing tagged e is policy l (cases_lt l.place count) }
 
-some_same : (a b : Tuple) → Some a ≡ Some b → a ≡ b
+pub some_same : (a b : Tuple) → Some a ≡ Some b → a ≡ b
 some_same a b e = cc
 
 module _ (most : ℕ) (first : Tag) (steps : List Step) (place : ℕ) (step : Step) (below : place < length steps) (read : step ≡ get_or steps place step) where
-  stands : slice_get (tuples_of steps) place ≡ Some (step_tuple step)
+  pub stands : slice_get (tuples_of steps) place ≡ Some (step_tuple step)
   stands = slice_get-map step_tuple steps place
       ∙ ap (option_map step_tuple) (slice_get-get_or steps place step below ∙ ap Some (sym read))
 
-  one_more : take (place + 1) (tuples_of steps) ≡ take place (tuples_of steps) ++ step_tuple step ∷ []
+  pub one_more : take (place + 1) (tuples_of steps) ≡ take place (tuples_of steps) ++ step_tuple step ∷ []
   one_more = ap (λ n. take n (tuples_of steps)) (add-one place) ∙ more_at (tuples_of steps) place (step_tuple step) stands
 
   met_more_here : met_so_far most first (tuples_of steps) (place + 1) ≡ met (met_so_far most first (tuples_of steps) place ∷ tags_of (step_tuple step))
@@ -145,35 +145,20 @@ module _ (most : ℕ) (first : Tag) (steps : List Step) (place : ℕ) (step : St
 
   -- one step more
   pub grown : (tag after : Tag) → tag ≡ met_so_far most first (tuples_of steps) place → AreSmallBefore most first (tuples_of steps) place
-      → IsMetSmall most tag (step_tuple step) after
+      → after ≡ met (tag ∷ tags_of (step_tuple step)) → IsSmallWith most tag (step_tuple step)
       → (after ≡ met_so_far most first (tuples_of steps) (place + 1)) × AreSmallBefore most first (tuples_of steps) (place + 1)
-  grown tag after tag_is small h =
+  grown tag after tag_is small met_is small_here =
       let this : (tuple : Tuple) → slice_get (tuples_of steps) place ≡ Some tuple
       → IsSmallWith most (met_so_far most first (tuples_of steps) place) tuple =
       λ tuple there.
-      let here = subst (λ t. IsSmallWith most t (step_tuple step)) tag_is h.small in
+      let here = subst (λ t. IsSmallWith most t (step_tuple step)) tag_is small_here in
       subst (IsSmallWith most (met_so_far most first (tuples_of steps) place)) (some_same (step_tuple step) tuple (sym stands ∙ there)) here in
       let all : (k : ℕ) → k < place + 1 → (tuple : Tuple) → slice_get (tuples_of steps) k ≡ Some tuple
       → IsSmallWith most (met_so_far most first (tuples_of steps) k) tuple =
       below_more _ _ (λ k less tuple there. small k tuple less there) this in (
-        h.met_is ∙ ap (λ t. met (t ∷ tags_of (step_tuple step))) tag_is ∙ sym met_more_here,
+        met_is ∙ ap (λ t. met (t ∷ tags_of (step_tuple step))) tag_is ∙ sym met_more_here,
         λ k tuple less there. all k less tuple there,
       )
-
-  -- one step more, which leaves nothing
-  pub grown_to_nothing : (tag after : Tag) → tag ≡ met_so_far most first (tuples_of steps) place
-      → AreSmallBefore most first (tuples_of steps) place → IsMetSmall most tag (step_tuple step) after → after ≡ set none
-      → tags_of (step_tuple step) ≢ [] → IsSmallFor most (tuples_of steps) first
-  grown_to_nothing tag after tag_is small h nothing tagged =
-      let more = grown tag after tag_is small h in
-      let before = all_tags (take place (tuples_of steps)) in
-      let last = tags_of (step_tuple step) in
-      let some : all_tags (take (place + 1) (tuples_of steps)) ≢ [] =
-      λ none_left.
-      let empty : before ++ (last ++ []) ≡ [] =
-      sym (flat_map-append tags_of (take place (tuples_of steps)) (step_tuple step ∷ [])) ∙ ap all_tags (sym one_more) ∙ none_left in
-      tagged (first_empty last [] (last_empty before (last ++ []) empty)) in
-      small_to_nothing most first (tuples_of steps) (place + 1) more.1 (sym more.0 ∙ nothing) some
 
 -- what the entry that allows the most isn't given no other is
 pub denied_all : (c : Case) (w : FiveTuple) (t : Tuple) (ts : List Tuple) → IsWidest t w

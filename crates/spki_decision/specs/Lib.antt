@@ -10,6 +10,7 @@ pub mod Decision
 pub mod Refusal
 pub mod Supported
 pub mod Shared
+pub mod SharedFolds
 pub mod Reduced
 pub mod Explained
 pub mod Answered

@@ -5,8 +5,8 @@ use Rattle.spki_cert.specs.declared.principal.Principal.TheVariants as principal
 use Rattle.spki_cert.specs.declared.principal.Policy.{Policy}
 use Rattle.spki_cert.specs.Time.{within}
 use Rattle.spki_tag.specs.Tag.{Tag, contains, star}
-use Rattle.spki_reduce.specs.Tuples.{own, key, FiveTuple, Tuple, five, four, tags_of}
-use Rattle.spki_reduce.specs.Restrictions.{met, nodes_product}
+use Rattle.spki_reduce.specs.Tuples.{own, key, FiveTuple, Tuple, five, four}
+use Rattle.spki_reduce.specs.Restrictions.{nodes_product}
 use Rattle.spki_reduce.specs.Chain.{all_tags, TooLargeAt}
 use Rattle.spki_reduce.specs.Views.{entry_tuple}
 use Rattle.spki_case.specs.Case.{Case}
@@ -32,11 +32,6 @@ pub record IsSmallFor (most : ℕ) (tuples : List Tuple) (tag : Tag) : Type 0 wh
 abbrev pub IsSmallWith : ℕ → Tag → Tuple → Type 0
 IsSmallWith most tag (five t) = nodes_product (tag ∷ t.tags) ≤ most
 IsSmallWith most tag (four t) = Unit {0}
-
--- the intersection of a tag and the tuple's tags, whose product of nodes is within the limit
-pub record IsMetSmall (most : ℕ) (tag : Tag) (tuple : Tuple) (after : Tag) : Type 0 where
-  pub met_is : after ≡ met (tag ∷ tags_of tuple)
-  pub small : IsSmallWith most tag tuple
 
 -- the authorization by the owner of the access list for a key, or for a name that it defines: every request at every moment, to be
 -- delegated

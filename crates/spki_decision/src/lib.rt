@@ -2,6 +2,7 @@
 //! request or do not (RFC 2693, section 6).
 #![tactic(auto)]
 
+mod bare_steps;
 mod certificates;
 mod decision;
 mod entry_chain;
@@ -12,9 +13,13 @@ mod fault;
 pub mod laws;
 mod named_key;
 mod reduction;
+mod shared_folds;
 mod shared_tests;
 mod shown_keys;
 mod signed;
+mod subject_path;
+mod tag_run;
+mod timely_steps;
 
 pub use certificates::{Certificate, ShownCert, certificates_of};
 pub use decision::{Decision, decide, first_granted};

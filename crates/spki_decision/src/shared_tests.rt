@@ -1,6 +1,6 @@
 //! The tests that the entries of an access list share. A decision makes them once for the whole list.
 
-ghost use Rattle.std.specs.Prelude.{◌≡◌, ◌≢◌, ◌≤◌, List, [], ◌∷◌, length, IsTrue, IfOk, IfSome};
+ghost use Rattle.std.specs.Prelude.{◌≡◌, ◌≤◌, List, length, IsTrue, IfOk, IfSome};
 ghost use Rattle.spki_cert.specs.declared.entry.Entry.{Entry};
 ghost use Rattle.spki_case.specs.View.{model};
 ghost use Rattle.spki_reduce.specs.Tuples.{tags_of};
@@ -8,12 +8,13 @@ ghost use Rattle.spki_reduce.specs.Restrictions.{nodes_product};
 ghost use Rattle.spki_reduce.specs.Chain.{tuples_of, all_tags};
 ghost use Rattle.spki_reduce.specs.Views.{five_tuple, step_tuple};
 ghost use Rattle.spki_decision.specs.Supported.{Supported};
-ghost use Rattle.spki_decision.specs.Shared.{AreShared, IsDenied, IsSmallFor, IsMetSmall, IsWidest, unlimited};
+ghost use Rattle.spki_decision.specs.Shared.{AreShared, IsDenied, IsSmallFor, IsWidest, unlimited};
 
+use crate::tag_run::TagRun;
 use spki_case::Case;
 use spki_cert::{Entry, Key, Names, Octets, Principal, Subject, Window};
 use spki_reduce::{Five, Fold, Issuer, ReduceFault, Step, fold_owned};
-use spki_tag::{MeetFault, Tag};
+use spki_tag::Tag;
 use std::alloc::{AllocError, Global};
 
 /// The length from which a list of entries is worth the shared tests, which take as long as one entry.
@@ -108,48 +109,11 @@ fn stays_small<'a>(
     requires { most ≤ 1000000 }
     ensures { IfOk result (λ yes. IsTrue yes → IsSmallFor most (tuples_of steps.now) tag.now) }
 {
-    let mut left = tag.clone()?;
-    for step in steps {
-        match met_small(alloc, left, step, most)? {
-            Some(met) => {
-                if met.is_nothing() && has_tag(step) {
-                    return Ok(true);
-                }
-                left = met;
-            }
-            None => return Ok(false),
-        }
-    }
-    Ok(true)
-}
-
-/// Whether the step has a tag. A definition of a name has none.
-fn has_tag(step: &Step) -> bool
-    ensures { IsTrue result → tags_of (step_tuple step.now) ≢ [] }
-{
-    match step {
-        Step::Auth(_) => true,
-        Step::Name(_) => false,
-    }
-}
-
-/// The intersection of a tag and a step's tag, if the product of their nodes is at most `most`. With a definition it is the tag.
-fn met_small<'a>(
-    alloc: Global,
-    tag: Tag,
-    step: &Step<'a>,
-    most: usize,
-) -> Result<Option<Tag>, AllocError>
-    requires { most ≤ 1000000 }
-    ensures { IfOk result (λ met. IfSome met (IsMetSmall most tag (step_tuple step.now))) }
-{
-    let Step::Auth(five) = step else {
-        return Ok(Some(tag));
-    };
-    match tag.into_meet_within(alloc, &five.tag, most) {
-        Ok(met) => Ok(Some(met)),
-        Err(MeetFault::TooLarge) => Ok(None),
-        Err(MeetFault::Memory) => Err(AllocError),
+    let run = TagRun::of(tag, steps, most)?;
+    match run.up_to(alloc, steps, steps.len(), most)? {
+        TagRun::Through { .. } => Ok(true),
+        TagRun::Nothing { .. } => Ok(true),
+        TagRun::TooLarge { .. } => Ok(false),
     }
 }
 

@@ -1,5 +1,3 @@
-use Rattle.std.proofs.Common.{◌≡◌, List, [], ◌∷◌, refl}
-use Rattle.spki_reduce.specs.declared.tuple.Step.{Step}
 use Rattle.spki_case.specs.View.{model}
 use Rattle.spki_reduce.specs.Tuples.{five}
 use Rattle.spki_reduce.specs.Views.{entry_tuple}
@@ -8,22 +6,18 @@ use Rattle.spki_decision.specs.Views.{with_entries}
 use Rattle.spki_decision.proofs.Stopping.{stops_within, stops_at_item}
 use Rattle.spki_decision.proofs.reduction.entry_fold.Goals as goal
 
-no_steps : (steps : List Step) → tuples_of steps ≡ [] → steps ≡ []
-no_steps [] e = refl
-no_steps (step ∷ steps) e = absurd cc
-
 pub returns-in-Done-clause-exact : goal.returns-in-Done-clause-exact
 returns-in-Done-clause-exact c es = (
-  rw c.in-Done.is at c.in_ok-five.ensures.fold,
-  rw c.in-Done.is at c.in_ok-five.ensures.which,
-  λ none. rw c.in-Done.is at (c.in_ok-five.ensures.alone (no_steps c.args.steps.now none)),
+  rw c.in-Done.is at c.in_ok-five.ensures.exact.becomes,
+  rw c.in-Done.is at c.in_ok-five.ensures.exact.which,
+  λ none. rw c.in-Done.is at (c.in_ok-five.ensures.exact.alone none),
 )
 
 pub bounds-shown-step : goal.bounds-shown-step
 bounds-shown-step c =
     let first = five (entry_tuple c.args.entry.now) in
     let stops : StopsAt c.args.case.now.policy first (tuples_of c.args.steps.now) c.in-Stopped.step c.in-Stopped.cause =
-    rw c.in-Stopped.is at c.in_ok-five.ensures.fold in
+    rw c.in-Stopped.is at c.in_ok-five.ensures.exact.becomes in
     stops_within (model c.args.case.now) c.args.entry.now c.args.steps.now c.args.shown.now c.requires.whole c.requires.as_many
     c.in-Stopped.step c.in-Stopped.cause stops
 
@@ -32,8 +26,8 @@ returns-in-Stopped-clause-exact c es =
     let policy = c.args.case.now.policy in
     let first = five (entry_tuple c.args.entry.now) in
     let steps = tuples_of c.args.steps.now in
-    let stops : StopsAt policy first steps c.in-Stopped.step c.in-Stopped.cause = rw c.in-Stopped.is at c.in_ok-five.ensures.fold in
+    let stops : StopsAt policy first steps c.in-Stopped.step c.in-Stopped.cause = rw c.in-Stopped.is at c.in_ok-five.ensures.exact.becomes in
     let excludes : Excludes policy first steps c.in-Stopped.step c.in-Stopped.cause =
-    rw c.in-Stopped.is at c.in_ok-five.ensures.excluded in
+    rw c.in-Stopped.is at c.in_ok-five.ensures.exact.excludes in
     stops_at_item (with_entries (model c.args.case.now) es) c.args.entry.now c.args.steps.now c.args.shown.now c.requires.whole c.requires.as_many
     c.in-Stopped.step c.in-Stopped.cause stops c.index-shown-step.result c.index-shown-step.is excludes

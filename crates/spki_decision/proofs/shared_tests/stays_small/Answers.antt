@@ -1,25 +1,26 @@
-use Rattle.std.proofs.Common.{◌≤◌, length, arith}
+use Rattle.std.proofs.Common.{◌≡◌, false, true, length, sym, ◌∙◌, subst}
 use Rattle.std.proofs.lemmas.List.{length-map}
 use Rattle.spki_reduce.specs.Views.{step_tuple}
 use Rattle.spki_reduce.specs.Chain.{tuples_of}
-use Rattle.spki_decision.specs.Shared.{IsMetSmall}
-use Rattle.spki_decision.proofs.PassedOver.{grown, grown_to_nothing, all_small}
+use Rattle.spki_decision.specs.declared.tag_run.TagRun.TheVariants.{Through, Nothing, TooLarge}
+use Rattle.spki_decision.specs.SharedFolds.{ReachesTo}
+use Rattle.spki_decision.proofs.SmallRuns.{small_run}
 use Rattle.spki_decision.proofs.shared_tests.stays_small.Goals as goal
-
-pub loop-step-preserved : goal.loop-step-preserved
-loop-step-preserved c =
-    let small : IsMetSmall c.args.most c.loop-step.left (step_tuple c.step-item.result) c.in-Some.met = rw c.in-Some.is at c.in_ok-met.ensures in
-    grown c.args.most c.args.tag.now c.args.steps.now c.loop-step.step-index c.step-item.result (omega arith) c.step-item.is
-    c.loop-step.left c.in-Some.met c.loop-step.invariant.0 c.loop-step.invariant.1 small
+use Rattle.spki_decision.proofs.shared_tests.stays_small.Goals.{in-Through, in-Nothing, in-TooLarge}
 
 pub returns : goal.returns
-returns c _ =
-    let whole : length (tuples_of c.args.steps.now) ≤ c.loop-step.step-index = omega (arith, length-map c.args.steps.now step_tuple) in
-    all_small c.args.most c.args.tag.now (tuples_of c.args.steps.now) c.loop-step.step-index whole c.loop-step.invariant.1
-
-pub returns-then-has_tag : goal.returns-then-has_tag
-returns-then-has_tag c _ =
-    let small : IsMetSmall c.args.most c.loop-step.left (step_tuple c.step-item.result) c.in-Some.met = rw c.in-Some.is at c.in_ok-met.ensures in
-    grown_to_nothing c.args.most c.args.tag.now c.args.steps.now c.loop-step.step-index c.step-item.result (omega arith) c.step-item.is
-    c.loop-step.left c.in-Some.met c.loop-step.invariant.0 c.loop-step.invariant.1 small (c.is_nothing.ensures.0 c.if-is_nothing.true)
-    (c.has_tag.ensures c.if-has_tag.true)
+returns c =
+    let run = c.in_ok-up_to.field-0 in
+    let reached : ReachesTo (length (tuples_of c.args.steps.now)) run =
+    subst (λ n. ReachesTo n run) (sym (length-map c.args.steps.now step_tuple)) c.in_ok-up_to.ensures.reached in
+    let small =
+    small_run c.args.most c.args.tag.now (tuples_of c.args.steps.now) run (c.in_ok-up_to.ensures.run c.args.tag.now c.in_ok-run.ensures)
+    reached in
+    elim c.match-branch-3.branch [
+      | in-Through w ↦
+          rw w.result-is
+          (λ _. small (λ place e. let clash : Through w.in-Through.tag w.in-Through.count ≡ TooLarge place = sym w.in-Through.is ∙ e in cc))
+      | in-Nothing w ↦
+          rw w.result-is (λ _. small (λ place e. let clash : Nothing w.in-Nothing.place ≡ TooLarge place = sym w.in-Nothing.is ∙ e in cc))
+      | in-TooLarge w ↦ rw w.result-is (λ yes. absurd (let clash : false ≡ true = yes in cc))
+    ]

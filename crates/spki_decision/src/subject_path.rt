@@ -1,0 +1,156 @@
+//! What certificates make of the subject of an entry, whatever their tags and windows are.
+
+ghost use Rattle.std.specs.Prelude.{◌≡◌, List, IsTrue, IfOk, IfErr, OnOk, IfSome};
+ghost use Rattle.std.specs.List.{AllZip, AllByRecursion};
+ghost use Rattle.spki_reduce.specs.Tuples.{Tuple, five};
+ghost use Rattle.spki_reduce.specs.Views.{entry_tuple, five_tuple, step_tuple};
+ghost use Rattle.spki_reduce.specs.Chain.{tuples_of};
+ghost use Rattle.spki_decision.specs.SharedFolds.{Alike, AreAlike, IsUnrestricted, IsPath, IsFrom, IsTailOf, IsTail, IsPathOf, FirstJoins};
+
+use crate::bare_steps::bare_entry;
+use spki_cert::{Entry, Names, Policy, Subject};
+use spki_reduce::{Cause, Five, Fold, Joined, ReduceFault, Step, fold_chain};
+use std::alloc::{AllocError, Global};
+
+/// What steps make of a subject.
+#[derive(Drop)]
+pub(crate) enum Path<'a> {
+    /// All of them join. They lead to this subject.
+    Ends {
+        /// The subject.
+        subject: Subject<'a>,
+        /// Whether it may delegate.
+        propagate: bool,
+    },
+    /// One does not join those before it.
+    Stops {
+        /// Its place, from 0.
+        place: usize,
+        /// Why: neither NoValidity nor NoTag.
+        cause: Cause,
+    },
+}
+
+/// What the steps behind the first make of what it leads to.
+#[derive(Drop)]
+pub(crate) struct Tail<'a> {
+    /// An authorization that an entry and the first step become, without restrictions.
+    pub(crate) from: Five<'a>,
+    /// What it and the other steps become.
+    pub(crate) fold: Fold<'a>,
+}
+
+/// What steps make of an entry's subject. `bare` are the steps without restrictions. `tail` is kept from one entry to the next: entries
+/// that the first step leads to the same subject share it.
+///
+/// # Errors
+///
+/// Only `Memory`, if memory ran out.
+pub(crate) fn path_of<'a>(
+    alloc: Global,
+    entry: &Entry<'a>,
+    bare: &[Step<'a>],
+    tail: &mut Option<Tail<'a>>,
+    policy: Policy,
+) -> Result<Path<'a>, ReduceFault>
+    requires bare { AllByRecursion IsUnrestricted (tuples_of bare.now) }
+    requires tail { IfSome tail.old (IsTail policy (tuples_of bare.now)) }
+    ensures path { (tuples : List Tuple) → AllZip AreAlike (tuples_of bare.now) tuples
+        → IfOk result (IsPath policy (five (entry_tuple entry.now)) tuples) }
+    ensures kept { IfSome tail.new (IsTail policy (tuples_of bare.now)) }
+    ensures refused { IfErr result (λ fault. fault ≡ ReduceFault.Memory) }
+{
+    let Some((first, others)) = bare.split_first() else {
+        return Ok(Path::Ends {
+            subject: entry.subject.clone()?,
+            propagate: entry.propagate,
+        });
+    };
+    match first_joined(alloc, entry, first, policy)? {
+        Joined::Stopped(cause) => Ok(Path::Stops { place: 0, cause }),
+        Joined::Done(from) => {
+            let found = tail_from(alloc, from, others, tail.take(), policy)?;
+            let path = path_behind(&found)?;
+            *tail = Some(found);
+            Ok(path)
+        }
+    }
+}
+
+/// Joins an entry without restrictions and the first step.
+fn first_joined<'a>(
+    alloc: Global,
+    entry: &Entry<'a>,
+    first: &Step<'a>,
+    policy: Policy,
+) -> Result<Joined<Five<'a>>, ReduceFault>
+    requires { IsUnrestricted (step_tuple first.now) }
+    ensures joined { IfOk result (FirstJoins policy entry.now (step_tuple first.now)) }
+    ensures refused { IfErr result (λ fault. fault ≡ ReduceFault.Memory) }
+{
+    let own = bare_entry(entry)?;
+    match first {
+        Step::Auth(next) => own.then(alloc, next, policy),
+        Step::Name(definition) => own.resolve(alloc, definition, policy),
+    }
+}
+
+/// What the other steps make of what the first leads to: the tail of the entry before, if that led to the same subject.
+fn tail_from<'a>(
+    alloc: Global,
+    from: Five<'a>,
+    others: &[Step<'a>],
+    before: Option<Tail<'a>>,
+    policy: Policy,
+) -> Result<Tail<'a>, ReduceFault>
+    requires { AllByRecursion IsUnrestricted (tuples_of others.now) }
+    ensures tail { (first : Tuple) → IsFrom first from.entry → IfSome before.entry (IsTailOf policy first (tuples_of others.now))
+        → IfOk result (λ tail. IsTailOf policy first (tuples_of others.now) tail × Alike (five_tuple tail.from) (five_tuple from.entry)) }
+    ensures refused { (first : Tuple) → IsFrom first from.entry → IfErr result (λ fault. fault ≡ ReduceFault.Memory) }
+{
+    if let Some(before) = before {
+        if is_same_subject(&before.from, &from) {
+            return Ok(before);
+        }
+    }
+    let fold = fold_chain(alloc, &from, others, policy)?;
+    Ok(Tail { from, fold })
+}
+
+/// Whether two authorizations for one principal have the same names behind it, and both or none may be delegated.
+fn is_same_subject(one: &Five, other: &Five) -> bool
+    ensures { IsTrue result → (one.now.subject.names ≡ other.now.subject.names) × (one.now.propagate ≡ other.now.propagate) }
+{
+    one.propagate == other.propagate && are_same_names(&one.subject.names, &other.subject.names)
+}
+
+/// Whether these are the same names.
+fn are_same_names(one: &Names, other: &Names) -> bool
+    ensures { IsTrue result → one.now ≡ other.now }
+{
+    if one.len() != other.len() {
+        return false;
+    }
+    for place in 0..one.len() {
+        if !one.at(place).same(other.at(place)) {
+            return false;
+        }
+    }
+    true
+}
+
+/// The path of an entry to which a tail belongs.
+fn path_behind<'a>(tail: &Tail<'a>) -> Result<Path<'a>, AllocError>
+    ensures { IfOk result (IsPathOf tail.now.fold) }
+{
+    match &tail.fold {
+        Fold::Done(five) => Ok(Path::Ends {
+            subject: five.subject.clone()?,
+            propagate: five.propagate,
+        }),
+        Fold::Stopped { step, cause } => Ok(Path::Stops {
+            place: *step,
+            cause: *cause,
+        }),
+    }
+}

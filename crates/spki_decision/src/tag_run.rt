@@ -1,0 +1,140 @@
+//! How far the tags of certificates go with a tag, apart from everything else that stops a chain.
+
+ghost use Rattle.std.specs.Prelude.{◌+◌, ◌<◌, ◌≤◌, length, IfOk};
+ghost use Rattle.spki_tag.specs.Tag.{Tag};
+ghost use Rattle.spki_reduce.specs.Chain.{tuples_of};
+ghost use Rattle.spki_decision.specs.SharedFolds.{IsRun, ReachesTo};
+ghost use Rattle.spki_decision.specs.declared.tag_run.TagRun.TheVariants.{Through};
+
+use spki_reduce::Step;
+use spki_tag::{MeetFault, Tag};
+use std::alloc::{AllocError, Global};
+
+/// How far steps go with a tag.
+#[derive(Drop)]
+pub(crate) enum TagRun {
+    /// At least through the first `count` steps, which leave this tag.
+    Through {
+        /// What the tag and those of the steps leave.
+        tag: Tag,
+        /// How many steps.
+        count: usize,
+    },
+    /// To the step at this place, from 0, which leaves nothing.
+    Nothing {
+        /// Its place.
+        place: usize,
+    },
+    /// To the step at this place, from 0, whose tag is too large for what is left before it.
+    TooLarge {
+        /// Its place.
+        place: usize,
+    },
+}
+
+impl TagRun {
+    /// The run of a tag before the first step.
+    ///
+    /// # Errors
+    ///
+    /// `AllocError` if memory ran out.
+    pub(crate) fn of(tag: &Tag, steps: &[Step], most: usize) -> Result<TagRun, AllocError>
+        ensures { IfOk result (IsRun most tag.now (tuples_of steps.now)) }
+    {
+        Ok(TagRun::Through {
+            tag: tag.clone()?,
+            count: 0,
+        })
+    }
+
+    /// Continues a run through the first `to` steps at least, if it has not ended.
+    ///
+    /// # Errors
+    ///
+    /// `AllocError` if memory ran out.
+    pub(crate) fn up_to<'a>(
+        self,
+        alloc: Global,
+        steps: &[Step<'a>],
+        to: usize,
+        most: usize,
+    ) -> Result<TagRun, AllocError>
+        requires limit { most ≤ 1000000 }
+        requires within { to ≤ length steps.now }
+        ensures run { (first : Tag) → IsRun most first (tuples_of steps.now) self
+            → IfOk result (IsRun most first (tuples_of steps.now)) }
+        ensures reached { IfOk result (ReachesTo to) }
+    {
+        match self {
+            TagRun::Through { tag, count } => through(alloc, tag, count, steps, to, most),
+            ended => Ok(ended),
+        }
+    }
+}
+
+/// Goes on with the tag that the first `count` steps leave, through the first `to` at least.
+fn through<'a>(
+    alloc: Global,
+    tag: Tag,
+    count: usize,
+    steps: &[Step<'a>],
+    to: usize,
+    most: usize,
+) -> Result<TagRun, AllocError>
+    requires limit { most ≤ 1000000 }
+    requires within { to ≤ length steps.now }
+    ensures run { (first : Tag) → IsRun most first (tuples_of steps.now) (Through tag count)
+        → IfOk result (IsRun most first (tuples_of steps.now)) }
+    ensures reached { IfOk result (ReachesTo to) }
+{
+    let mut left = tag;
+    let mut done = count;
+    while done < to {
+        match one_more(alloc, left, done, steps, most)? {
+            TagRun::Through { tag, count } => {
+                left = tag;
+                done = count;
+            }
+            ended => return Ok(ended),
+        }
+    }
+    Ok(TagRun::Through {
+        tag: left,
+        count: done,
+    })
+}
+
+/// Goes on with the tag that the steps before a place leave, through the step at this place.
+fn one_more<'a>(
+    alloc: Global,
+    tag: Tag,
+    place: usize,
+    steps: &[Step<'a>],
+    most: usize,
+) -> Result<TagRun, AllocError>
+    requires limit { most ≤ 1000000 }
+    requires within { place < length steps.now }
+    ensures run { (first : Tag) → IsRun most first (tuples_of steps.now) (Through tag place)
+        → IfOk result (IsRun most first (tuples_of steps.now)) }
+    ensures reached { IfOk result (ReachesTo (place + 1)) }
+{
+    let Step::Auth(five) = &steps[place] else {
+        return Ok(TagRun::Through {
+            tag,
+            count: place + 1,
+        });
+    };
+    match tag.into_meet_within(alloc, &five.tag, most) {
+        Ok(met) => {
+            if met.is_nothing() {
+                return Ok(TagRun::Nothing { place });
+            }
+            Ok(TagRun::Through {
+                tag: met,
+                count: place + 1,
+            })
+        }
+        Err(MeetFault::TooLarge) => Ok(TagRun::TooLarge { place }),
+        Err(MeetFault::Memory) => Err(AllocError),
+    }
+}
