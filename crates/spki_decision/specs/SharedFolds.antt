@@ -121,7 +121,7 @@ abbrev pub IsUnrestricted : Tuple → Type 0
 IsUnrestricted (five t) = (t.tags ≡ star ∷ []) × (t.windows ≡ unbounded ∷ [])
 IsUnrestricted (four t) = t.windows ≡ unbounded ∷ []
 
--- what a subject becomes with all tuples, in any order of tests on tags and windows
+-- What a subject becomes with all tuples, whatever their tags and windows are.
 pub record PathEnds (policy : Policy) (first : Tuple) (tuples : List Tuple) (principal : Principal) (names : List (List ℕ)) (delegation : Bool) : Type 0 where
   pub root : FiveTuple
   pub derived : Derives policy (from_left first tuples) (five root)
@@ -149,7 +149,7 @@ abbrev pub principal_of : Tuple → Principal
 principal_of (five t) = t.principal
 principal_of (four t) = t.principal
 
--- An authorization by the keeper for the principal of this tuple, of every request at every moment.
+-- An authorization by the owner of the access list for the principal of this tuple, of every request at every moment.
 pub record IsFrom (tuple : Tuple) (from : Five) : Type 0 where
   pub issuer : issuer_of from.issuer ≡ own
   pub principal : from.subject.principal ≡ principal_of tuple
