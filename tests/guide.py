@@ -5,7 +5,7 @@ A fenced block `sexp NAME`, `sh NAME` or `python NAME` of README.md and the guid
 cannot be run until a command permits it. If examples/ has a file of this name, it must be the same. A block `c NAME`, `rust NAME` or
 `python NAME` that an example of this name in PROGRAMS has is a quotation: it must be a part of it.
 
-In a block `console`, and in the manual's blocks, a line that begins with `$ ` is a command of the shell, and one with `> ` continues it.
+In a block `console`, and in the manual's blocks, a line that begins with `$ ` is a command of the shell. A line with `> ` continues it.
 The lines up to the next command are what it should write. The commands of a page run unchanged, one after the other in one shell, with
 the program as `spki` and tools/locate as `locate`. They run once in `sh`, and once in `bash` if it is there.
 
