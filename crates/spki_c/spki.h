@@ -91,7 +91,8 @@ enum spki_status {
     SPKI_TOO_SMALL = 4, /* the buffer is too small: nothing is written to it, and `*needed` is the length of the answer */
     SPKI_MISUSED = 5,   /* no such command, a null pointer with a length, or another misuse: there is no answer, and `*needed` is 0 */
     SPKI_DONE = 6,      /* no decision: the answer is written. It does not say whether the request is granted */
-    SPKI_NONE = 7       /* spki_string: the value has no string there */
+    SPKI_NONE = 7,      /* spki_string: the value has no string there */
+    SPKI_NO_MEMORY = 8  /* spki_string: an allocation failed. The other calls answer `refused Memory` then */
 };
 
 /* Runs a command on a text. The answer is written to the front of the buffer, and the rest of the buffer is unchanged. `*needed`
@@ -206,7 +207,8 @@ enum spki_status spki_guard_reduce(const spki_guard *guard, const struct spki_qu
  * With a depth of 0 the text itself is the string.
  *
  * SPKI_DONE: `*octets` and `*length` are set. With every other status they are null and 0. SPKI_NONE: no string is there.
- * SPKI_REFUSED: the text is no value in canonical form of at most 1,048,576 octets and 64 open lists, or memory ran out. */
+ * SPKI_REFUSED: the text is no value in canonical form of at most 1,048,576 octets and 64 open lists. SPKI_NO_MEMORY: an allocation
+ * failed, so it is not known whether there is a string. */
 enum spki_status spki_string(const void *text, size_t text_length, const size_t *path, size_t depth, const void **octets,
                              size_t *length);
 
