@@ -3,9 +3,8 @@ ghost use Rattle.std.specs.Prelude.{◌≡◌, ◌≢◌, ◌<◌, ◌⊎◌, �
 ghost use Rattle.sexpr_core.specs.Value.{Value, canon, IsWithinLimits};
 ghost use Rattle.spki_words.specs.declared.commands.Command.{Command};
 ghost use Rattle.spki_guard.specs.declared.answers.Verdict.{Verdict};
-ghost use Rattle.spki_guard.specs.Apart.{IsAnswerApart};
 ghost use Rattle.spki_c.specs.Numbers.{number_of, status_of, decided};
-ghost use Rattle.spki_c.specs.Handed.{IsHanded, IsMisuse, AnswersText};
+ghost use Rattle.spki_c.specs.Handed.{IsHanded, IsMisuse, AnswersText, AnswersApart};
 ghost use Rattle.spki_c.specs.Strings.{IsFound, IsNotThere};
 
 use crate::buffer::{hand_over, misused};
@@ -58,7 +57,7 @@ pub extern "C" fn spki_c_check_accepted(
     needed: &mut usize,
 ) -> u32
     ensures { (verdict : Verdict) × (output : List ℕ)
-        × IsAnswerApart text.now rows.now verdict output
+        × AnswersApart text.now rows.now verdict output
         × IsHanded buffer.old buffer.new needed.new result (decided verdict) output }
 {
     let answer = check_accepted(alloc, text, rows);
