@@ -50,6 +50,7 @@
  *   length is 0. The contents of the buffer before the call do not matter. `needed` may be null.
  * - The buffer, the signatures, `count` and `needed` overlap neither each other nor a text.
  * - A guard is closed once, when no call uses it. Its pointer is only passed on: do not read or write through it.
+ * - A guard is passed to another thread by a lock, by the start or end of a thread, or by a sequentially consistent atomic.
  * - `malloc`, `realloc` and `free` of the program are those of one allocator. They align a block to each power of two up to 16 that
  *   divides its size, as those of every common C library do. If `malloc` returns null, the answer is `refused Memory`.
  * - No call is made in a signal handler, nor in a child that a process with several threads forked.
