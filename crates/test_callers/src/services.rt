@@ -3,7 +3,7 @@
 ghost use Rattle.std.specs.Prelude.{◌≡◌, ℕ, List, IfOk};
 ghost use Rattle.spki_service.specs.Held.{HoldsList};
 ghost use Rattle.test_callers.specs.Revoking.{unrevoked};
-ghost use Rattle.test_callers.specs.Serving.{IsAnswered};
+ghost use Rattle.test_callers.specs.Serving.{AnswersQuestion};
 
 use crate::decisions::Unrevoked;
 use spki_cert::{Key, Policy};
@@ -32,7 +32,7 @@ fn answer<V: Verifier>(
     question: &Question,
     verifier: &Unrevoked<V>,
 ) -> Result<Decision, ServiceFault>
-    ensures { IfOk result (IsAnswered guard.now.texts guard.now.policy question.now
+    ensures { IfOk result (AnswersQuestion guard.now.texts guard.now.policy question.now
         (unrevoked verifier.now.revoked.now (V.accepted verifier.now.verifier.now))) }
 {
     let texts = match guard.texts(alloc, question) {
@@ -64,8 +64,8 @@ pub fn answer_both<V: Verifier>(
     revoked: &[Key],
 ) -> Result<(Decision, Decision), ServiceFault>
     ensures { IfOk result (λ both. (texts : List (List ℕ)) × HoldsList list.now texts
-        × IsAnswered texts Policy.Strict first.now (unrevoked revoked.now (V.accepted verifier.now)) both.0
-        × IsAnswered texts Policy.Strict second.now (unrevoked revoked.now (V.accepted verifier.now)) both.1) }
+        × AnswersQuestion texts Policy.Strict first.now (unrevoked revoked.now (V.accepted verifier.now)) both.0
+        × AnswersQuestion texts Policy.Strict second.now (unrevoked revoked.now (V.accepted verifier.now)) both.1) }
 {
     let guard = match Guard::read(alloc, list, Policy::Strict, Limits::default()) {
         Ok(guard) => guard,

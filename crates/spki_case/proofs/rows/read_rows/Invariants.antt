@@ -5,7 +5,7 @@ use Rattle.spki_case.specs.Rows.{RowOf}
 use Rattle.spki_case.specs.View.{row_of}
 use Rattle.spki_cert.proofs.EntryFaultLaws.{LeftItems}
 use Rattle.spki_case.specs.RowFaults.{row_fault}
-use Rattle.spki_case.proofs.rows.rows_of.Given as goal
+use Rattle.spki_case.proofs.rows.read_rows.Given as goal
 
 abbrev pub invariant-loop-member : goal.invariant-loop-member
 invariant-loop-member l = (seen : List Value) × (l.fn.members ≡ seen ++ l.rest) × AllZip RowOf seen (map row_of l.rows.items)

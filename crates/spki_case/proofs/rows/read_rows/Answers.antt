@@ -10,7 +10,7 @@ use Rattle.spki_case.specs.View.{row_of}
 use Rattle.spki_cert.proofs.EntryFaultLaws.{items-all, items-next}
 use Rattle.spki_case.specs.RowFaults.{row_fault}
 use Rattle.spki_case.proofs.RowFaultLaws.{first-row}
-use Rattle.spki_case.proofs.rows.rows_of.Goals as goal
+use Rattle.spki_case.proofs.rows.read_rows.Goals as goal
 
 pub returns-in-Err-clause-refused : goal.returns-in-Err-clause-refused
 returns-in-Err-clause-refused c =

@@ -3,7 +3,7 @@ use Rattle.std.proofs.lemmas.List.{take_more}
 use Rattle.spki_cert.specs.declared.entry.Entry.{Entry}
 use Rattle.spki_service.specs.Indexed.{IsIndexOf}
 use Rattle.spki_service.proofs.Indexing.{index_more}
-use Rattle.spki_service.proofs.index.Index.of.Goals as goal
+use Rattle.spki_service.proofs.index.EntryIndex.of.Goals as goal
 
 -- one entry more
 pub loop-place-preserved : goal.loop-place-preserved

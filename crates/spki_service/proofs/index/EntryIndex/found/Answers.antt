@@ -3,7 +3,7 @@ use Rattle.std.proofs.lemmas.Result.{IfOk-weaker}
 use Rattle.spki_service.specs.Indexed.{numbers_at, numbers_of_key}
 use Rattle.spki_service.specs.Merged.{merge}
 use Rattle.spki_service.proofs.Found.{found_all}
-use Rattle.spki_service.proofs.index.Index.found.Goals as goal
+use Rattle.spki_service.proofs.index.EntryIndex.found.Goals as goal
 
 -- the numbers of the key itself, and those of its hashes
 pub returns : goal.returns

@@ -2,7 +2,7 @@ use Rattle.std.proofs.Common.{◌≡◌, ◌++◌, ◌∷◌, [], ◌∙◌, ap,
 use Rattle.std.proofs.lemmas.Result.{on_ok_weaker}
 use Rattle.spki_service.specs.Indexed.{numbers_at}
 use Rattle.spki_service.proofs.Indexing.{put_key}
-use Rattle.spki_service.proofs.index.Index.add.Goals as goal
+use Rattle.spki_service.proofs.index.EntryIndex.add.Goals as goal
 
 -- a key's number, at its octets as they are kept
 pub returns-in_ok-octets-in-Key-clause-keys : goal.returns-in_ok-octets-in-Key-clause-keys

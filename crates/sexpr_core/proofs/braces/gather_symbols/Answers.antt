@@ -1,7 +1,7 @@
 use Rattle.std.proofs.Common.{subst}
 use Rattle.sexpr_core.specs.Spaces.{Skips}
 use Rattle.sexpr_core.proofs.Gathered.{nothing_gathered, more_gathered, no_body_octet, gathered_mark, gathered_end, body_stops, body_short, body_bad}
-use Rattle.sexpr_core.proofs.braces.gather.Goals as goal
+use Rattle.sexpr_core.proofs.braces.gather_symbols.Goals as goal
 
 pub loop-octet-init : goal.loop-octet-init
 loop-octet-init c = rw c.new-symbols.ensures.items (nothing_gathered _ _ c.requires.begins)

@@ -1,6 +1,6 @@
 use Rattle.std.proofs.Common.{◌-◌, length}
 use Rattle.sexpr_core.proofs.Gathered.{Gathers}
-use Rattle.sexpr_core.proofs.braces.gather.Given as goal
+use Rattle.sexpr_core.proofs.braces.gather_symbols.Given as goal
 
 abbrev pub invariant-loop-octet : goal.invariant-loop-octet
 invariant-loop-octet l = Gathers l.text l.at l.symbols.items l.i
