@@ -2,7 +2,7 @@
 """Tests before anything is proved what else would fail late: that each source file is laid out as `rt fmt` lays it out, that pyflakes
 and pycodestyle find nothing in the scripts in Python (Debian: pyflakes3, pycodestyle; left out if they are not there), that each wrong
 body can be applied, that CONTRIBUTING.md lists those of must-fail/, and that its line on the last run of `.ci/deep` names a commit of the
-history, no failure, and the seed of 1,000,000 texts.
+history, no failure, and the seed of 1,000,000 texts or that only wrong bodies were tried.
 
 Prints what fails, and how many wrong bodies were added since that run, which has not tried them; the last line counts.
 Usage: tests/layout.py
@@ -22,8 +22,9 @@ WRONG_BODIES = ("crates/*/wrong/*.edit", "crates/*/must-fail/*.edit")
 # A line of an edit that the toolchain reads.
 READ = re.compile(r"(file: |old: |new:|$)")
 LISTED = re.compile(r"^\| `(\w+)` \| (`[\w-]+`(?:, `[\w-]+`)*) \|$", re.MULTILINE)
+# The line that a run without names prints, or one on runs with names.
 LINE = re.compile(r"Last run of `\.ci/deep`: commit ([0-9a-f]{12,40}), \d+ passed, 0 failed, "
-                  r"(?:.|\n(?!\n))*\b1,000,000 (?:.|\n(?!\n))*\bseed [0-9a-f]{8}\b")
+                  r"(?:wrong bodies only, |(?:.|\n(?!\n))*\b1,000,000 (?:.|\n(?!\n))*\bseed [0-9a-f]{8}\b)")
 
 
 def misplaced(rattle):
@@ -76,7 +77,7 @@ def deep_run():
     """What is wrong with the line on the last run, or None. Prints how many wrong bodies were added since."""
     found = LINE.findall(text_of("CONTRIBUTING.md"))
     if len(found) != 1:
-        return "CONTRIBUTING.md has not one line on the last run of .ci/deep, with 0 failed and the seed of 1,000,000 texts"
+        return "CONTRIBUTING.md has not one line on the last run of .ci/deep, with 0 failed, and the seed of 1,000,000 texts or 'wrong bodies only'"
     commit = found[0]
     if git("rev-parse", "--is-shallow-repository").stdout.strip() != "false":
         print("this is no whole clone, so the commit of the last run is not looked for")
