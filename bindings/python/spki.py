@@ -13,9 +13,9 @@ A service reads its access list once, into a `Guard`, and asks it a `Question` f
         if guard.decide(question, verify):
             ...
 
-The parts of a question come from different sources, so each is a separate text: one value in any of the three forms of RFC 9804. No octets
-of one part can become another part. The client must have proved that it holds the key. A public key is public: without a proof, each
-client that sends Alice's key would have Alice's rights. The moment is the time of the service's own clock.
+The parts of a question come from different sources, so each is a separate text. It is one value in any of the three forms of RFC 9804. No
+octets of one part can become another part. The client must have proved that it holds the key. A public key is public: without a proof,
+each client that sends Alice's key would have Alice's rights. The moment is the time of the service's own clock.
 
 The environment variable SPKI_LIBRARY names the file of `libspki_c.so`, if it is not installed where the loader looks. The library's
 decisions are proved. The lines of this module are tested and not proved.

@@ -24,7 +24,7 @@ pub struct Asked<'r, 'k> {
 }
 
 /// Whether an authorization by the owner of the access list and the steps after it, in their order, grant the request. They
-/// do if some derivation from them does, in any bracketing (RFC 2693, section 6.3).
+/// do exactly if some derivation from them does, in any bracketing (RFC 2693, section 6.3).
 ///
 /// # Errors
 ///
