@@ -22,14 +22,14 @@ if_one : (b : Bool) (t u : Tag) → nodes t ≡ 1 → nodes u ≡ 1 → nodes (i
 if_one true t u h k = h
 if_one false t u h k = k
 
-ranged-one : (o : Option Ordering) (l u : Option Limit) → nodes (ranged o l u) ≡ 1
+pub ranged-one : (o : Option Ordering) (l u : Option Limit) → nodes (ranged o l u) ≡ 1
 ranged-one None l u = refl
 ranged-one (Some o) l u = if_one (exclude l u) nothing (range o l u) refl refl
 
-string-one : (s : List ℕ) (b : Tag) → nodes (string_meet s b) ≡ 1
+pub string-one : (s : List ℕ) (b : Tag) → nodes (string_meet s b) ≡ 1
 string-one s b = if_one (contains b (request.string s)) (string s) nothing refl refl
 
-range-one : (o : Ordering) (l u : Option Limit) (b : Tag) → nodes (range_meet o l u b) ≡ 1
+pub range-one : (o : Ordering) (l u : Option Limit) (b : Tag) → nodes (range_meet o l u b) ≡ 1
 range-one o l u star = refl
 range-one o l u (string s) = string-one s (range o l u)
 range-one o l u (prefix p) =
@@ -38,7 +38,7 @@ range-one o l u (range p m v) = ranged-one (ordering_meet o p) (greater_low l m)
 range-one o l u (list head us) = refl
 range-one o l u (set us) = refl
 
-prefix-one : (p : List ℕ) (b : Tag) → nodes (prefix_meet p b) ≡ 1
+pub prefix-one : (p : List ℕ) (b : Tag) → nodes (prefix_meet p b) ≡ 1
 prefix-one p star = refl
 prefix-one p (string s) = string-one s (prefix p)
 prefix-one p (prefix q) =
@@ -106,7 +106,7 @@ set_across-le ms f (set bs) h =
     set_across-by (nodes_all ms) (1 + nodes_all bs) _ (nodes_all (tags (f bs))) (gather-le (f bs))
     (le_trans (h bs) (mul-le-mul_left (nodes_all ms) (omega arith))) (omega arith)
 
-tags-items : (ts : Tags) → tags (items ts) ≡ ts
+pub tags-items : (ts : Tags) → tags (items ts) ≡ ts
 tags-items none = refl
 tags-items (more t ts) = ap (more t) (tags-items ts)
 

@@ -200,6 +200,20 @@ is_set (set members) = true
 abbrev pub is_set_or_star : Tag → Bool
 is_set_or_star t = is_set t || is_star t
 
+abbrev mutual
+  -- a tag is a set, or has one as a member at any depth
+  pub nests_set : Tag → Bool
+  nests_set star = false
+  nests_set (string octets) = false
+  nests_set (prefix octets) = false
+  nests_set (range ordering low up) = false
+  nests_set (list head further) = some_nests_set further
+  nests_set (set members) = true
+
+  pub some_nests_set : Tags → Bool
+  some_nests_set none = false
+  some_nests_set (more t ts) = nests_set t || some_nests_set ts
+
 -- (* set), which contains no request
 abbrev pub is_nothing : Tag → Bool
 is_nothing (set none) = true

@@ -19,6 +19,7 @@ mod prefix;
 mod ranges;
 mod reader;
 mod request;
+mod sets;
 mod tag;
 mod writer;
 

@@ -1,0 +1,33 @@
+//! Whether a tag has a set.
+
+ghost use Rattle.std.specs.Prelude.{◌≡◌};
+ghost use Rattle.spki_tag.specs.Tag.{tags, nests_set, some_nests_set};
+
+use crate::tag::{Node, Tag};
+
+impl Tag {
+    /// Whether the tag is a set, or has a set as a member at any depth. Allocates nothing.
+    #[cycle(nests_set)]
+    pub fn nests_set(&self) -> bool
+        ensures { result ≡ nests_set self.now }
+    {
+        match &self.node {
+            Node::Leaf(_) => false,
+            Node::List(_, further, _) => some_nests_set(further),
+            Node::Set(_, _) => true,
+        }
+    }
+}
+
+/// Whether some tag has a set.
+#[cycle(nests_set)]
+fn some_nests_set(members: &[Tag]) -> bool
+    ensures { result ≡ some_nests_set (tags members.now) }
+{
+    for member in members {
+        if member.nests_set() {
+            return true;
+        }
+    }
+    false
+}
