@@ -6,9 +6,9 @@ moment. A guard is asked of them in two ways: as texts, and, where the request a
 and the moment in seconds. The verifier accepts what the case's rows do. `decide`, `explain` and `reduce` must give the lines of `check`,
 `explain` and `reduce` on the case. A case that is refused is asked without its rows: a guard takes none, so it has no fault of them.
 
-Runs the tests of the Python module, and of the crate its tests, those in its documents, clippy and the formatter. The examples
-`decide.c`, `decide.rs` and `decide.py`, which docs/GUIDE.md quotes, must grant and deny. All must have the version of the file VERSION.
-What needs cargo, or a C compiler, is left out if it is not there. Builds the libraries if they are not there.
+Runs the tests of the Python module, mypy over its types, and of the crate its tests, those in its documents, clippy and the formatter. The
+examples `decide.c`, `decide.rs` and `decide.py`, which docs/GUIDE.md quotes, must grant and deny. All must have the version of the file
+VERSION. What needs mypy, cargo or a C compiler is left out if it is not there. Builds the libraries if they are not there.
 
 Prints what fails; the last line counts.
 Usage: tests/bindings.py [PROGRAM [LIBRARY]]        the shared library lies beside the static LIBRARY
@@ -143,6 +143,15 @@ def answered_by_python(spki, asked):
     return f"{spelled(answer.reasons()) if asked.command == 'explain' else answer}\n".encode()
 
 
+def python_typed():
+    """By name, whether mypy accepts the types of the module and of its example. Empty if mypy is not there."""
+    if not shutil.which("mypy"):
+        print("mypy is not there (Debian: mypy): the types of the Python module are left out")
+        return {}
+    words = ["mypy", "--strict", "--cache-dir", os.devnull, "spki.py", os.path.join("examples", "decide.py")]
+    return {"the types of the Python module": subprocess.run(words, cwd=PYTHON, timeout=SECONDS).returncode == 0}
+
+
 def python_answers(shared, asked):
     """By name, whether the tests of the module pass and it answers as it should."""
     os.environ["SPKI_LIBRARY"] = shared
@@ -257,7 +266,7 @@ def main():
     if not os.path.exists(archive) or not os.path.exists(shared):
         subprocess.run([os.path.join(CRATE, "archive.py")], check=True)
     asked = questions(program)
-    results = {"the version": is_one_version(), **python_answers(shared, asked)}
+    results = {"the version": is_one_version(), **python_typed(), **python_answers(shared, asked)}
     if shutil.which("cargo"):
         results.update(rust_answers(os.path.dirname(archive), asked))
     else:

@@ -25,13 +25,15 @@ from __future__ import annotations
 import ctypes
 import ctypes.util
 import enum
+import functools
 import os
 import re
+import struct
 from collections.abc import Callable, Iterator, Sequence
-from ctypes import Array, addressof, byref, c_char, c_char_p, c_int, c_int64, c_size_t, c_void_p
+from ctypes import addressof, byref, c_char, c_char_p, c_int, c_size_t, c_void_p
 from dataclasses import dataclass
 from types import TracebackType
-from typing import NamedTuple
+from typing import NamedTuple, cast
 
 __version__ = "0.1.0"
 __all__ = ["Decision", "Explanation", "Guard", "Limits", "Policy", "Question", "Reason", "Refused", "Verify", "advanced", "canonical",
@@ -41,26 +43,16 @@ Verify = Callable[[bytes, bytes, bytes], bool]
 
 _YES, _NO, _REFUSED, _TOO_SMALL, _DONE, _NO_MEMORY = 0, 1, 2, 4, 6, 8
 _CANONICAL, _ADVANCED, _TRANSPORT = 0, 1, 2
-# `struct spki_signed` is an address and a length of the key, of the message and of the value.
-_NUMBERS = 6
+# `struct spki_signed`: an address and a length of the key, of the message and of the value.
+_SIGNED = struct.Struct("6N")
+# The seconds of a question, and the addresses and lengths of `struct spki_question`.
+_SECONDS, _QUESTION = struct.Struct("q"), struct.Struct("q11N")
 _FAULT = re.compile(r".*\b([A-Z]\w*)")
 _REASON = re.compile(r"^(?:entry (\d+) )?(?:item (\d+) )?(\w+)$", re.MULTILINE)
 
 
-class _Text(ctypes.Structure):
-    _fields_ = [("octets", c_char_p), ("length", c_size_t)]
-
-
 class _Limits(ctypes.Structure):
     _fields_ = [("octets", c_size_t), ("nodes", c_size_t)]
-
-
-class _Question(ctypes.Structure):
-    """`struct spki_question`, with the fields of its texts side by side, so that one call makes it."""
-
-    _fields_ = [("sequence", c_char_p), ("sequence_length", c_size_t), ("key", c_char_p), ("key_length", c_size_t),
-                ("request", c_char_p), ("request_length", c_size_t), ("words", c_void_p), ("word_count", c_size_t),
-                ("moment", c_char_p), ("moment_length", c_size_t), ("seconds", c_void_p)]
 
 
 def _loaded() -> ctypes.CDLL:
@@ -70,11 +62,8 @@ def _loaded() -> ctypes.CDLL:
         raise ImportError("libspki_c.so is not found: install it, or name the file in SPKI_LIBRARY")
     library = ctypes.CDLL(path)
     pointer, answer = c_void_p, [c_void_p, c_size_t, c_void_p]
-    asks = [pointer, pointer, c_char_p, c_size_t, *answer]
     for name, types in {
-        "spki_guard_open": [c_char_p, c_size_t, c_int, pointer, pointer, *answer], "spki_guard_close": [pointer],
-        "spki_guard_entries": [pointer], "spki_guard_decide": asks, "spki_guard_explain": asks, "spki_guard_reduce": asks,
-        "spki_guard_signed": [pointer, pointer, pointer, c_size_t, pointer, *answer],
+        "spki_guard_open": [c_char_p, c_size_t, c_int, pointer, pointer, *answer], "spki_guard_close": [pointer], "spki_guard_entries": [pointer],
         "spki_string": [c_char_p, c_size_t, pointer, c_size_t, pointer, pointer],
         "spki_answer": [c_int, c_char_p, c_size_t, *answer],
     }.items():
@@ -85,6 +74,13 @@ def _loaded() -> ctypes.CDLL:
 
 
 _library = _loaded()
+# The calls about a question. ctypes converts no arguments of theirs: they are objects of ctypes and octets, as mypy checks.
+_Listing = Callable[[c_void_p, c_void_p, c_void_p, c_size_t, c_void_p, c_void_p, c_size_t, c_void_p], int]
+_Answering = Callable[[c_void_p, c_void_p, bytes, c_size_t, c_void_p, c_size_t, c_void_p], int]
+_list: _Listing = _library.spki_guard_signed
+_decide: _Answering = _library.spki_guard_decide
+_explain: _Answering = _library.spki_guard_explain
+_reduce: _Answering = _library.spki_guard_reduce
 
 
 class Refused(Exception):
@@ -142,33 +138,6 @@ class Question:
     moment: bytes | int
     """The time: the text of a date, or seconds since 1970-01-01 00:00:00 UTC."""
 
-    def _lent(self) -> _Question:
-        """The question as the library takes it. It keeps what it points to."""
-        lent = _Question(self.sequence, len(self.sequence), self.key, len(self.key))
-        if isinstance(self.request, bytes):
-            lent.request, lent.request_length = self.request, len(self.request)
-        else:
-            strings = tuple(self.request)
-            lent.kept_words = _words(strings)
-            lent.words, lent.word_count = addressof(lent.kept_words), len(strings)
-        if isinstance(self.moment, bytes):
-            lent.moment, lent.moment_length = self.moment, len(self.moment)
-        else:
-            lent.kept_seconds = _seconds(self.moment)
-            lent.seconds = addressof(lent.kept_seconds)
-        return lent
-
-
-def _words(strings: tuple[bytes, ...]) -> Array[_Text]:
-    """Strings as the library takes them. An array of no strings has an address too: a null one would say that there is a text."""
-    return (_Text * len(strings))(*(_Text(string, len(string)) for string in strings))
-
-
-def _seconds(moment: int) -> c_int64:
-    if not -2 ** 63 <= moment < 2 ** 63:
-        raise OverflowError("the moment has more than 64 bits")
-    return c_int64(moment)
-
 
 @dataclass(frozen=True)
 class Decision:
@@ -208,30 +177,112 @@ class Explanation:
             yield Reason(int(entry) if entry else None, int(item) if item else None, word)
 
 
+@functools.lru_cache
+def _of_strings(count: int) -> struct.Struct:
+    """The addresses and lengths of this number of strings: `struct spki_text` for each."""
+    return struct.Struct(f"{2 * count}N")
+
+
 class _Room:
-    """What a call writes to: octets, and where signatures are among them."""
+    """Memory for one call at a time: its question and its answer. It is reused, because making it takes some microseconds."""
 
-    OCTETS, PLACES = 16384, 16
+    OCTETS, PLACES, STRINGS = 16384, 16, 16
 
-    def __init__(self, octets: int = OCTETS, places: int = PLACES) -> None:
-        self.buffer, self.octets = (c_char * octets)(), octets
-        self.found, self.places = (c_size_t * (_NUMBERS * places))(), places
-        self.count, self.needed = c_size_t(), c_size_t()
-        self.at_count, self.at_needed = byref(self.count), byref(self.needed)
+    def __init__(self) -> None:
+        self.count, self.needed, self.shown = c_size_t(), c_size_t(), c_char_p()
+        self.at_count, self.at_needed = c_void_p(addressof(self.count)), c_void_p(addressof(self.needed))
+        # (the memory of `shown` read as a number: the address of its octets)
+        self.at_shown = c_size_t.from_buffer(self.shown)
+        self.hold_strings(self.STRINGS)
+        self.hold_answer(self.OCTETS, self.PLACES)
+        self.is_usual = True
 
-    def larger(self) -> _Room:
-        """One with the room that a call needs, as the call has returned it."""
-        return _Room(max(self.octets, self.needed.value), max(self.places, self.count.value))
+    def hold_strings(self, count: int) -> None:
+        """Makes memory for a question with this number of strings."""
+        self.question, self.strings, self.is_usual = (c_char * (_QUESTION.size + _of_strings(count).size))(), count, False
+        self.at_seconds = addressof(self.question)
+        self.at_question, self.at_strings = c_void_p(self.at_seconds + _SECONDS.size), self.at_seconds + _QUESTION.size
+
+    def hold_answer(self, octets: int, places: int) -> None:
+        """Makes memory for this number of octets and of signatures."""
+        self.buffer, signed, self.is_usual = (c_char * octets)(), (c_char * (_SIGNED.size * places))(), False
+        self.signed, self.start = memoryview(signed), addressof(self.buffer)
+        self.at_signed, self.places = c_void_p(addressof(signed)), c_size_t(places)
+        self.at_buffer, self.octets = c_void_p(self.start), c_size_t(octets)
+
+    def write(self, question: Question) -> None:
+        """Writes a question. `shown` keeps the octets of all its texts, one after the other."""
+        sequence, key, request, moment = _octets(question.sequence), _octets(question.key), question.request, question.moment
+        text, date, at_strings, at_seconds, seconds = b"", b"", 0, 0, 0
+        strings: tuple[bytes, ...] = ()
+        if isinstance(request, bytes):
+            text = request
+        else:
+            # (a null address would mean that the request is a text, so an array of no strings has an address too)
+            strings = tuple(request)
+            if len(strings) > self.strings:
+                self.hold_strings(len(strings))
+            at_strings = self.at_strings
+        if isinstance(moment, bytes):
+            date = moment
+        else:
+            seconds, at_seconds = _seconds(moment), self.at_seconds
+        self.shown.value = b"".join((sequence, key, text, date, *strings))
+        at_sequence = self.at_shown.value
+        at_key = at_sequence + len(sequence)
+        at_text = at_key + len(key)
+        at_date = at_text + len(text)
+        _QUESTION.pack_into(self.question, 0, seconds, at_sequence, len(sequence), at_key, len(key), at_text, len(text), at_strings,
+                            len(strings), at_date, len(date), at_seconds)
+        if strings:
+            self.write_strings(strings, at_date + len(date))
+
+    def write_strings(self, strings: tuple[bytes, ...], at: int) -> None:
+        """Writes where the strings of a request are: one after the other from an address on."""
+        places: list[int] = []
+        for string in strings:
+            places += (at, len(_octets(string)))
+            at += len(string)
+        _of_strings(len(strings)).pack_into(self.question, _QUESTION.size, *places)
+
+    def list_signatures(self, handle: c_void_p) -> None:
+        """Lists the signatures of the question. Raises `Refused` if a part of it cannot be read."""
+        while (status := _list(handle, self.at_question, self.at_signed, self.places, self.at_count, self.at_buffer, self.octets, self.at_needed)
+               ) == _TOO_SMALL:
+            self.hold_answer(max(self.octets.value, self.needed.value), max(self.places.value, self.count.value))
+        if status != _DONE:
+            raise _refused(status, self.left())
+
+    def marks(self, verify: Verify) -> bytes:
+        """1 for each listed signature up to the first that is not valid, 0 for this one and all after it."""
+        octets, start, count, valid = self.left(), self.start, self.count.value, 0
+        for key, key_length, message, message_length, value, value_length in _SIGNED.iter_unpack(self.signed[:_SIGNED.size * count]):
+            key, message, value = key - start, message - start, value - start
+            if verify(octets[key:key + key_length], octets[message:message + message_length],
+                      octets[value:value + value_length]) is not True:
+                break
+            valid += 1
+        return b"\1" * valid + bytes(count - valid)
+
+    def answer(self, call: _Answering, handle: c_void_p, marks: bytes) -> int:
+        """The status of a call that answers the question, which is repeated until there is memory for its answer."""
+        while (status := call(handle, self.at_question, marks, self.count, self.at_buffer, self.octets, self.at_needed)) == _TOO_SMALL:
+            self.hold_answer(max(self.octets.value, self.needed.value), self.places.value)
+        return status
+
+    def answered(self, call: Callable[..., int], *given: object) -> int:
+        """The same of a call without a question."""
+        while (status := call(*given, self.at_buffer, self.octets, self.at_needed)) == _TOO_SMALL:
+            self.hold_answer(max(self.octets.value, self.needed.value), self.places.value)
+        return status
 
     def left(self) -> bytes:
-        """The octets that a call has written. The room is spare then, if it is no larger one."""
-        octets = self.buffer[:self.needed.value]
-        if self.octets == self.OCTETS and self.places == self.PLACES:
-            _spare.append(self)
-        return octets
+        """The octets that the last call has written."""
+        # (a slice of this array is bytes, which its declared type does not say)
+        return cast(bytes, self.buffer[:self.needed.value])
 
 
-# Rooms that no call uses, since making one takes some microseconds: at most as many as calls were under way at the same time.
+# Rooms that no call uses: at most as many as calls were under way at the same time.
 _spare: list[_Room] = []
 
 
@@ -243,26 +294,26 @@ def _taken() -> _Room:
         return _Room()
 
 
+def _give_back(room: _Room) -> None:
+    """Keeps a room for another call, if it has the usual memory."""
+    room.shown.value = None
+    if room.is_usual:
+        _spare.append(room)
+
+
 def _answered(call: Callable[..., int], *given: object) -> tuple[int, bytes]:
-    """The status and the answer of a call, which is repeated until the buffer is large enough."""
+    """The status and the answer of a call without a question."""
     room = _taken()
-    while (status := call(*given, room.buffer, room.octets, room.at_needed)) == _TOO_SMALL:
-        room = room.larger()
-    return status, room.left()
+    try:
+        return room.answered(call, *given), room.left()
+    finally:
+        _give_back(room)
 
 
-def _signatures(handle: c_void_p, lent: object) -> list[tuple[bytes, bytes, bytes]]:
-    """The key, the message and the value of each signature of a question."""
-    room, call = _taken(), _library.spki_guard_signed
-    while (status := call(handle, lent, room.found, room.places, room.at_count, room.buffer, room.octets, room.at_needed)) == _TOO_SMALL:
-        room = room.larger()
-    start, numbers = addressof(room.buffer), iter(room.found[:_NUMBERS * room.count.value])
-    octets = room.left()
-    if status != _DONE:
-        raise _refused(status, octets)
-    return [(octets[key - start:key - start + key_length], octets[message - start:message - start + message_length],
-             octets[value - start:value - start + value_length])
-            for key, key_length, message, message_length, value, value_length in zip(*[numbers] * _NUMBERS)]
+@functools.lru_cache(1024)
+def _decision(status: int, line: bytes) -> Decision:
+    """The decision of a status and its line. The last ones are kept, because making one takes a microsecond."""
+    return Decision(int(line.removeprefix(b"yes entry ")) if status == _YES else None)
 
 
 def _refused(status: int, answer: bytes) -> Refused:
@@ -277,6 +328,15 @@ def _octets(text: bytes) -> bytes:
     if not isinstance(text, bytes):
         raise TypeError(f"a text is bytes, and not {type(text).__name__}")
     return text
+
+
+def _seconds(moment: int) -> int:
+    """A moment in seconds. The library takes 64 bits of it."""
+    if not isinstance(moment, int):
+        raise TypeError(f"a moment is bytes or an int, and not {type(moment).__name__}")
+    if not -2 ** 63 <= moment < 2 ** 63:
+        raise OverflowError("the moment has more than 64 bits")
+    return moment
 
 
 class _Handle:
@@ -319,47 +379,44 @@ class Guard:
     @property
     def entries(self) -> int:
         """The number of entries of the list."""
-        return _library.spki_guard_entries(self._handle().at)
+        return int(_library.spki_guard_entries(self._handle().at))
 
     def decide(self, question: Question, verify: Verify) -> Decision:
         """Whether the question's request is granted. Raises `Refused` if a part of the question cannot be read."""
-        status, line = self._asked(question, verify, _library.spki_guard_decide)
-        if status == _YES:
-            return Decision(int(line.removeprefix(b"yes entry ")))
-        if status == _NO:
-            return Decision(None)
+        status, line = self._asked(question, verify, _decide)
+        if status in (_YES, _NO):
+            return _decision(status, line)
         raise _refused(status, line)
 
     def explain(self, question: Question, verify: Verify) -> Explanation:
         """Says of each entry why it grants the request or does not. Raises `Refused` as `decide` does."""
-        return Explanation(self._lines(question, verify, _library.spki_guard_explain))
+        return Explanation(self._lines(question, verify, _explain))
 
     def reduce(self, question: Question, verify: Verify) -> str:
         """Which right remains of each entry after all certificates: the lines of the program's command `reduce`. Raises `Refused`."""
-        return self._lines(question, verify, _library.spki_guard_reduce)
+        return self._lines(question, verify, _reduce)
 
     def _handle(self) -> _Handle:
         if self._open is None:
             raise ValueError("the guard is closed")
         return self._open
 
-    def _lines(self, question: Question, verify: Verify, call: Callable[..., int]) -> str:
+    def _lines(self, question: Question, verify: Verify, call: _Answering) -> str:
         """The lines of a call that decides nothing."""
         status, lines = self._asked(question, verify, call)
         if status != _DONE:
             raise _refused(status, lines)
         return lines.decode().rstrip("\n")
 
-    def _asked(self, question: Question, verify: Verify, call: Callable[..., int]) -> tuple[int, bytes]:
-        """The two steps: which signatures there are, and the answer by those that are valid."""
-        handle, lent, right = self._handle(), byref(question._lent()), 0
-        signatures = _signatures(handle.at, lent)
-        for signed in signatures:
-            if verify(*signed) is not True:
-                break
-            right += 1
-        marks = b"\1" * right + bytes(len(signatures) - right)
-        return _answered(call, handle.at, lent, marks, len(marks))
+    def _asked(self, question: Question, verify: Verify, call: _Answering) -> tuple[int, bytes]:
+        """The two steps: which signatures there are, and the answer by those that are right."""
+        handle, room = self._handle(), _taken()
+        try:
+            room.write(question)
+            room.list_signatures(handle.at)
+            return room.answer(call, handle.at, room.marks(verify)), room.left()
+        finally:
+            _give_back(room)
 
 
 def string_at(text: bytes, *path: int) -> bytes | None:
@@ -376,7 +433,7 @@ def string_at(text: bytes, *path: int) -> bytes | None:
     status = _library.spki_string(_octets(text), len(text), places, len(path), byref(octets), byref(length))
     if status == _NO_MEMORY:
         raise Refused("refused Memory")
-    return ctypes.string_at(octets.value, length.value) if status == _DONE else None
+    return ctypes.string_at(octets, length.value) if status == _DONE else None
 
 
 def _converted(command: int, text: bytes) -> bytes:

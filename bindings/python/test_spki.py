@@ -85,6 +85,12 @@ class Parts(unittest.TestCase):
         self.assertTrue(guard.decide(asked(b"(sequence)", request=b"ftp"), right))
         self.assertFalse(guard.decide(asked(b"(sequence)", request=b"(ftp)"), right))
 
+    def test_many_strings(self):
+        guard = spki.Guard(b"(acl (entry (public-key (test b)) (tag (" + 40 * b"w " + b"))))")
+        for count in (39, 40, 41, 1000, 3):
+            for moment in (NOW, b'"2024-01-01_00:00:00"'):
+                self.assertEqual(bool(guard.decide(asked(b"(sequence)", request=count * [b"w"], moment=moment), right)), count >= 40, count)
+
     def test_moments(self):
         guard = spki.Guard(b'(acl (entry (public-key (test b)) (tag (*)) (not-before "1970-01-01_00:00:00")))')
         for moment, is_granted in [(0, True), (-1, False), (b'"1970-01-01_00:00:00"', True), (b'"1969-12-31_23:59:59"', False)]:
@@ -107,7 +113,7 @@ class Parts(unittest.TestCase):
     def test_other_types_are_no_parts(self):
         guard = spki.Guard(LIST)
         for question in (asked("(sequence)"), asked(key=bytearray(KEY)), asked(request="ftp"), asked(request=("ftp",)), asked(request=7),
-                         asked(moment=1.5), asked(moment=None)):
+                         asked(request=(bytearray(b"ftp"),)), asked(moment=1.5), asked(moment=None)):
             with self.assertRaises(TypeError):
                 guard.decide(question, right)
         for other in ("(acl)", 7, None, bytearray(b"(acl)")):
