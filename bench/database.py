@@ -88,8 +88,7 @@ def filled(table, count):
 
 def in_postgres(settings, count):
     """A table in a schema of its own."""
-    table = postgres.Entries(f"{settings} options='-c client_min_messages=error -c search_path=of{count}'")
-    table.connection.rows(f"CREATE SCHEMA of{count}")
+    table = postgres.Entries(settings, f"of{count}")
     table.make()
     filled(table, count).connection.rows("ANALYZE entries")
     return table

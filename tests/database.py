@@ -5,10 +5,12 @@
   and each refusal must be those of the guard of the whole list.
 - Several clients add and remove entries at the same time, and each asks in between: an entry that was added grants, and one that was removed
   does not.
-- A table that is gone, and a server that is killed while clients ask: each question ends by `Unavailable`, and never by a yes.
+- A table that is gone, and a server that is killed while several clients ask and others add and remove: each call ends by `Unavailable`, and
+  never by a yes. After a new start the table has each entry whose addition was acknowledged, and none whose removal was, and the decisions
+  are those of a guard of all entries.
 
 The table is in SQLite, and in PostgreSQL where libpq is and a server can be started in a temporary folder, or where the environment variable
-SPKI_POSTGRES has the settings of one: it is not killed then.
+SPKI_POSTGRES has the settings of one: it is not killed then, and the tests use a schema of their own in it, which they drop.
 
 Prints what fails; the last line counts.
 Usage: tests/database.py [LIBRARY]        the shared library lies beside the static LIBRARY
@@ -16,6 +18,7 @@ Usage: tests/database.py [LIBRARY]        the shared library lies beside the sta
 import hashlib
 import os
 import random
+import secrets
 import sys
 import tempfile
 import threading
@@ -32,7 +35,9 @@ import spki  # noqa: E402
 import sqlite  # noqa: E402
 
 KEYS, ENTRIES, QUESTIONS = 12, 150, 1500
-CLIENTS, ROUNDS, ANSWERS = 4, 25, 20
+CLIENTS, ROUNDS, TURNS = 4, 25, 20
+# How long clients may take for so many turns.
+SECONDS = 120
 NOON = b"19:2026-03-01_12:00:00"
 TAG = b"(tag (packages read))"
 REQUEST = (b"packages", b"read", b"/a")
@@ -187,54 +192,125 @@ def is_unavailable(service, asked):
     return False
 
 
-class Asker(threading.Thread):
-    """Asks a question with the answer yes and one with the answer no by turns, until the database does not answer."""
+class Client(threading.Thread):
+    """Takes turns with a connection of its own until the database does not answer. What else it meets is a fault."""
 
-    def __init__(self, opened, granted, denied, number):
+    def __init__(self, opened):
         super().__init__()
-        self.service, self.asked, self.answers, self.wrong = entries.Service(opened()), [(granted, number), (denied, None)], 0, []
-        self.asked_often = threading.Event()
+        self.table, self.turns, self.ended, self.faults = opened(), 0, False, []
+        self.turned_often = threading.Event()
 
     def run(self):
         try:
             while True:
-                for asked, wanted in self.asked:
-                    found = self.service.decide(asked, is_right)
-                    self.answers += 1
-                    if found != wanted:
-                        self.wrong.append(f"{found}, and not {wanted}")
-                if self.answers > ANSWERS:
-                    self.asked_often.set()
+                self.turn()
+                self.turns += 1
+                if self.turns > TURNS:
+                    self.turned_often.set()
         except entries.Unavailable:
-            pass
+            self.ended = True
+        except Exception as fault:
+            self.faults.append(repr(fault))
         finally:
-            self.asked_often.set()
+            self.turned_often.set()
+
+    @property
+    def is_right(self):
+        """Whether it took its turns, met nothing wrong, and ended because the database did not answer."""
+        print("".join(f"{type(self).__name__}: {fault}\n" for fault in self.faults), end="")
+        return self.turns > TURNS and self.ended and not self.faults
+
+
+class Asker(Client):
+    """Asks a question with the answer yes and one with the answer no by turns."""
+
+    def __init__(self, opened, granted, denied, number):
+        super().__init__(opened)
+        self.service, self.asked = entries.Service(self.table), [(granted, number), (denied, None)]
+
+    def turn(self):
+        for asked, wanted in self.asked:
+            found = self.service.decide(asked, is_right)
+            if found != wanted:
+                self.faults.append(f"{found}, and not {wanted}")
+
+
+class Writer(Client):
+    """Adds entries of a key of its own and removes the oldest, and asks in between. Keeps what was acknowledged, and what is under way."""
+
+    def __init__(self, opened, name):
+        super().__init__(opened)
+        self.key = key_of(name)
+        self.service, self.asked = entries.Service(self.table), question(b"(sequence)", self.key)
+        self.entry = entries.entry(canonical(self.key), TAG)
+        self.added, self.removed, self.adds, self.removes = [], set(), False, None
+
+    def turn(self):
+        self.adds = True
+        self.added.append(self.table.add(self.entry))
+        self.adds = False
+        held = self.held()
+        if self.service.decide(self.asked, is_right) != held[0]:
+            self.faults.append(f"entry {held[0]} does not grant")
+        for number in held[:self.turns % 3]:
+            self.removes = number
+            if not self.table.remove(number):
+                self.faults.append(f"entry {number} was not there")
+            self.removed.add(number)
+            self.removes = None
+
+    def held(self):
+        """The numbers of the entries that were added and not removed, as far as this was acknowledged."""
+        return [number for number in self.added if number not in self.removed]
+
+    def is_kept(self, table):
+        """Whether a table has what was acknowledged. What was under way may be done or not."""
+        found, held = {number for number, _ in table.found(entries.places_of(canonical(self.key)))}, set(self.held())
+        missing, more = held - found, found - held
+        if missing <= {self.removes} and len(more) <= self.adds and not more & self.removed:
+            return True
+        print(f"of {len(self.added)} entries of {self.key}, {sorted(missing)} are missing and {sorted(more)} are too many")
+        return False
 
 
 def killed(server, opened):
-    """By name, whether a server that is killed while clients ask is never a yes, and is right again when it is started."""
+    """By name, whether a server that is killed while clients ask, add and remove is never a yes, and is right again when it is started."""
     own, other = key_of(b"held"), key_of(b"other")
     granted, denied = question(b"(sequence)", own), question(b"(sequence)", other)
     number = opened().add(entries.entry(canonical(own), TAG))
     askers = [Asker(opened, granted, denied, number) for _ in range(CLIENTS)]
-    for asker in askers:
-        asker.start()
-    for asker in askers:
-        asker.asked_often.wait()
+    writers = [Writer(opened, b"writer%d" % place) for place in range(CLIENTS)]
+    for client in (*askers, *writers):
+        client.start()
+    for client in (*askers, *writers):
+        client.turned_often.wait(SECONDS)
+    results = {"clients before the kill": all(client.is_alive() for client in (*askers, *writers))}
     server.kill()
-    for asker in askers:
-        asker.join()
-    results = {"answers before the kill": all(asker.answers > ANSWERS and not asker.wrong for asker in askers),
-               "questions after the kill": all([is_unavailable(asker.service, granted) for asker in askers])}
+    for client in (*askers, *writers):
+        client.join()
+    results["clients that ask, at the kill"] = all([client.is_right for client in askers])
+    results["clients that add and remove, at the kill"] = all([client.is_right for client in writers])
+    results["questions after the kill"] = all([is_unavailable(client.service, client.asked[0][0]) for client in askers]
+                                              + [is_unavailable(client.service, client.asked) for client in writers])
     try:
         opened()
         results["a connection after the kill"] = False
     except entries.Unavailable:
         results["a connection after the kill"] = True
     server.start()
-    service = entries.Service(opened())
-    results["after a new start"] = service.decide(granted, is_right) == number and service.decide(denied, is_right) is None
+    results.update(restarted(opened(), writers, [granted, denied, *(writer.asked for writer in writers)]))
     return results
+
+
+def restarted(table, writers, questions):
+    """By name, whether a table has what was acknowledged, and questions have the answers of the whole list."""
+    service, decide = entries.Service(table), whole(table, spki.Policy.STRICT)
+    wanted = [outcome(decide, asked) for asked in questions]
+    print(f"{sum(len(writer.added) for writer in writers)} entries were added and {sum(len(writer.removed) for writer in writers)} removed "
+          f"before the kill; the answers after it are {wanted}")
+    return {"acknowledged entries after a new start": all([writer.is_kept(table) for writer in writers]),
+            "answers after a new start": wanted == [outcome(lambda it: service.decide(it, is_right), asked) for asked in questions]
+            and wanted[0] is not None and wanted[1] is None}
 
 
 def is_refused(call, *given, **more):
@@ -284,19 +360,24 @@ def with_sqlite(room):
 
 
 def with_postgres(settings, server=None):
+    schema = f"spki_tests_{secrets.token_hex(8)}"
+
+    def opened():
+        return postgres.Entries(settings, schema)
+
     def empty():
-        table = postgres.Entries(settings)
-        table.connection.rows("DROP TABLE IF EXISTS entries")
+        table = opened()
+        table.drop()
         table.make()
         table.close()
 
-    def opened():
-        return postgres.Entries(settings)
-
-    results = tested("PostgreSQL", opened, empty)
-    if server is not None:
-        results.update({f"PostgreSQL, {what}": passed for what, passed in killed(server, opened).items()})
-    return results
+    try:
+        results = tested("PostgreSQL", opened, empty)
+        if server is not None:
+            results.update({f"PostgreSQL, {what}": passed for what, passed in killed(server, opened).items()})
+        return results
+    finally:
+        opened().drop()
 
 
 def main():

@@ -83,15 +83,24 @@ def number_of(octets):
 
 
 class Entries:
-    """The table, through a connection of its own. A number is never used again."""
+    """The table, through a connection of its own. A number is never used again. `schema` is the name of the schema that the table is in, if
+    it is another one than the server chooses."""
 
-    def __init__(self, settings):
-        self.connection = Connection(settings)
+    def __init__(self, settings, schema=None):
+        self.connection, self.schema = Connection(settings), schema
+        if schema is not None:
+            self.connection.rows(f"SET search_path TO {schema}")
 
     def make(self):
-        """Makes the table and its index, where they are not there."""
+        """Makes the schema, the table and its index, where they are not there."""
+        if self.schema is not None:
+            self.connection.rows(f"CREATE SCHEMA IF NOT EXISTS {self.schema}")
         for statement in TABLE:
             self.connection.rows(statement)
+
+    def drop(self):
+        """Drops the schema of the table, which must have been named, with all that is in it."""
+        self.connection.rows(f"DROP SCHEMA IF EXISTS {self.schema} CASCADE")
 
     def add(self, entry):
         """Adds an entry behind the others, and returns its number."""
