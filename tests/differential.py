@@ -2,18 +2,20 @@
 """Compares the library for C programs, and the built program, with the model in `model/` on generated texts.
 
 The model is a second implementation, in Python: it was written from docs/FORMATS.md and not from the sources of the program. Each case
-is a command and a text of `generators/`; of `check_accepted` also a text with rows. Some cases are questions to a guard, and a few are
-calls of the library that are misused, or nearly. First the model answers the rows of the tables beside this file, whose answers were
-worked out by hand. The library answers each case, by a few processes that load it, and the program itself about a tenth of them. Status
-and answer must be those of the model, octet by octet. In some cases the library gets a buffer that is too small.
+is a command and a text of `generators/`; of `check_accepted` also a text with rows. Some cases are questions to a guard, a few ask for a
+string inside a value, and a few are calls of the library that are misuse, or nearly. First the model answers the rows of the tables beside
+this file, whose answers were worked out by hand. The library answers each case, by a few processes that load it, and the program itself at
+least a tenth of them. Status and answer must be those of the model, octet by octet. In some cases the library gets a buffer that is too
+small.
 
 A case depends on the seed and its number alone. A case that differs is made smaller and printed; `--first NUMBER --cases 1` with the
-same seed repeats it. The tables at the end say how often each row of the document's tables came. With 20,000 cases or more a row that
-never came is a failure.
+same seed repeats it. The tables at the end say how often each row of the document's tables came. Each word of docs/FORMATS.md for a fault,
+a cause, a stop or a status must be in a row. With 20,000 cases or more it is a failure if a row never came, or if the program answered
+less than a tenth of them. With 20,000 cases it is a failure if they take more than a minute of four processors.
 
 Needs a C compiler, which makes a shared object of the library in a temporary folder. Build the program by `rt run` in crates/spki, and
-the library by crates/spki_c/archive.py. The last line counts the commands and what is asked of guards, the misused calls as one, the
-tables as one, and the rows that came as one.
+the library by crates/spki_c/archive.py. The last line counts the commands and what is asked of guards, strings and calls that are misuse
+as one each, and each of these tests as one: the tables, the words, the rows that came, the part of the program, the time.
 Usage: tests/differential.py [--cases N] [--seed S] [--first NUMBER] [--jobs J] [PROGRAM [LIBRARY]]
 """
 import argparse
@@ -21,6 +23,8 @@ import ctypes
 import multiprocessing
 import os
 import random
+import re
+import resource
 import secrets
 import signal
 import subprocess
@@ -28,33 +32,39 @@ import sys
 import tempfile
 import time
 from collections import Counter
-from collections.abc import MutableSequence
+from collections.abc import Iterator, MutableSequence
 from dataclasses import dataclass
 from multiprocessing.connection import Connection
 
 from generators import tags
+from generators.asked import Call, Question, StringQuestion
 from generators.guards import GuardQuestion
-from generators.questions import Asked, Call, Question, question
+from generators.questions import Asked, question
+from generators.seldom import ROOM
 from generators.smaller import smaller
 from guard_door import GuardDoor
 from guard_door import model_answer as model_guard_answer
 from model import coverage, laws
-from model.answers import COMMANDS, Answer, ModelDisagrees, answer, call, check_accepted
-from model.guard import WISHES
-from support import LIBRARY as ARCHIVE, PROGRAM, tables_here
+from model.answers import COMMANDS, Answer, ModelDisagrees, answer, check_accepted
+from model.calls import DONE, TOO_SMALL, call, of_library, string_at, too_small
+from model.guard import MISUSES, WISHES
+from support import LIBRARY as ARCHIVE, PROGRAM, tables_here, text_of
 from tables import rows_of
 
-TOO_SMALL, DONE = 4, 6
-DECISIONS = ("check", "check_accepted")
 SECONDS = 60
 SECONDS_QUIET = 300
-PROGRAM_EVERY = 9
-SMALL_BUFFER_EVERY = 11
+# The program answers the texts of each 7th case. Questions to guards, calls and rows apart are no texts, so this is over a tenth of all.
+PROGRAM_EVERY, PROGRAM_SHARE = 7, 0.1
+SMALL_BUFFER_EVERY = 5
 WHOLE_COVERAGE = 20_000
 SHOWN = 5
-ROOM = 64
-# 20,000 cases are wanted within so many seconds on a quiet machine. This is printed and fails nothing.
-SECONDS_WANTED = 60
+# 20,000 cases take at most so many seconds of so many processors, or of all if there are fewer. Other programs on the machine do not count.
+SECONDS_WANTED, PROCESSORS = 60, 4
+# Words of docs/FORMATS.md for faults, causes, stops and statuses. In a line, and in the column for faults of a table, one may be any word.
+WORD = re.compile(r"\b(?:[A-Z][a-z]+(?:[A-Z][a-z]+)+|SPKI_[A-Z_]+)\b")
+LINE, ANY_WORD = re.compile(r"`(refused [^`]*)`"), re.compile(r"\b[A-Z]\w+")
+# The heading of a column is no such word. Allocations fail in tests/hostile.py and tests/clibrary.py.
+ELSEWHERE = {"Fault", "Faults", "Memory", "SPKI_NO_MEMORY"}
 
 
 # ---- who is asked
@@ -78,6 +88,9 @@ class Library:
         self.by_command.argtypes = [ctypes.c_uint32, ctypes.c_char_p, ctypes.c_size_t, *buffer]
         self.by_rows.argtypes = [ctypes.c_char_p, ctypes.c_size_t, ctypes.c_char_p, ctypes.c_size_t, *buffer]
         self.by_command.restype = self.by_rows.restype = ctypes.c_uint32
+        self.string = loaded.spki_string
+        self.string.argtypes = [ctypes.c_void_p, ctypes.c_size_t, ctypes.c_void_p, ctypes.c_size_t, ctypes.POINTER(ctypes.c_void_p),
+                                ctypes.POINTER(ctypes.c_size_t)]
 
     def ask(self, asked: Question, room: int) -> tuple[int, int, bytes]:
         """The status, the length of the answer, and a buffer of this room after the call, which had zeros before it."""
@@ -91,22 +104,37 @@ class Library:
 
     def call(self, asked: Call) -> str | None:
         """What is wrong with the answer to a call with texts that are empty, null or too long, None if nothing is."""
-        wanted = call(asked.number, asked.texts)
-        buffer, needed = ctypes.create_string_buffer(ROOM + 1), ctypes.c_size_t()
+        wanted = call(asked.number, asked.texts, asked.buffer)
+        octets, needed = ctypes.create_string_buffer(ROOM + 1), ctypes.c_size_t()
         words = [word for is_null, length in asked.texts for word in (None if is_null else b"", length)]
+        is_null, room = asked.buffer
+        buffer = None if is_null else octets
         if asked.number is None:
-            status = self.by_rows(*words, buffer, ROOM, needed)
+            status = self.by_rows(*words, buffer, room, needed)
         else:
-            status = self.by_command(asked.number, *words, buffer, ROOM, needed)
-        met = status, buffer.raw.rstrip(b"\0")
+            status = self.by_command(asked.number, *words, buffer, room, needed)
+        met = status, octets.raw.rstrip(b"\0")
         return None if met == wanted else f"the library answers {shown(met)}, the model {shown(wanted)}"
+
+    def finds(self, asked: StringQuestion) -> str | None:
+        """What is wrong with the string that is found inside a value, None if nothing is."""
+        wanted = string_at(asked.text, asked.path)
+        text, path = ctypes.create_string_buffer(asked.text, len(asked.text) + 1), (ctypes.c_size_t * len(asked.path))(*asked.path)
+        octets, length = ctypes.c_void_p(), ctypes.c_size_t()
+        status = self.string(ctypes.addressof(text), len(asked.text), path, len(path), octets, length)
+        at = (octets.value or 0) - ctypes.addressof(text)
+        if status != DONE:
+            is_inside, found = octets.value is None and not length.value, b""
+        else:
+            is_inside, found = 0 <= at <= at + length.value <= len(asked.text), asked.text[at:at + length.value]
+        if (status, found) == wanted and is_inside:
+            return None
+        return f"the library finds {shown((status, found))}, inside the text: {is_inside}, the model {shown(wanted)}"
 
     def answers(self, asked: Question, wanted: Answer) -> str | None:
         """What is wrong with the answer, None if nothing is."""
-        status, said = wanted
-        if asked.command not in DECISIONS and status in (0, 1):
-            wanted = (DONE, said)
-        met_status, needed, buffer = self.ask(asked, len(said) + 8)
+        wanted = of_library(asked.command, wanted)
+        met_status, needed, buffer = self.ask(asked, len(wanted[1]) + 8)
         if met_status == TOO_SMALL:
             met_status, needed, buffer = self.ask(asked, needed)
         if (met_status, buffer[:needed]) != wanted:
@@ -116,7 +144,7 @@ class Library:
     def keeps_back(self, asked: Question, wanted: Answer) -> str | None:
         """What is wrong where the buffer has one octet less than the answer, None if nothing is."""
         length = len(wanted[1])
-        if not length or self.ask(asked, length - 1) == (TOO_SMALL, length, length * b"\0"):
+        if not length or self.ask(asked, length - 1) == (too_small(), length, length * b"\0"):
             return None
         return "the library writes to a buffer that is too small, or tells another length or status"
 
@@ -139,14 +167,18 @@ class Comparison:
     library: Library
     program: str
     seed: str
+    by_program: int = 0
+    """How many cases the program has answered."""
 
     def wrong(self, asked: Asked, number: int) -> str | None:
         """What is wrong with the answers to a question, None if nothing is. The number says who is asked beside the library."""
         if isinstance(asked, Call):
             return self.library.call(asked)
-        return self.wrong_of_guard(asked) if isinstance(asked, GuardQuestion) else self.wrong_of_text(asked, number)
+        if isinstance(asked, StringQuestion):
+            return self.library.finds(asked)
+        return self.wrong_of_guard(asked, number) if isinstance(asked, GuardQuestion) else self.wrong_of_text(asked, number)
 
-    def wrong_of_guard(self, asked: GuardQuestion) -> str | None:
+    def wrong_of_guard(self, asked: GuardQuestion, number: int) -> str | None:
         """What is wrong with the answer of a guard."""
         try:
             wanted = model_guard_answer(asked)
@@ -155,6 +187,8 @@ class Comparison:
         except Exception as why:
             return f"the model fails: {why!r}"
         found = self.library.guards.answers(asked, wanted)
+        if not found and number % SMALL_BUFFER_EVERY == 0 and asked.oddity not in MISUSES.counts:
+            found = self.library.guards.keeps_back(asked)
         return found and f"{found}, the model {shown(wanted[0])}"
 
     def wrong_of_text(self, asked: Question, number: int) -> str | None:
@@ -172,6 +206,7 @@ class Comparison:
         if not found and number % SMALL_BUFFER_EVERY == 0:
             found = self.library.keeps_back(asked, wanted)
         if not found and number % PROGRAM_EVERY == 0 and asked.command != "check_accepted":
+            self.by_program += 1
             found = program_answers(self.program, asked, wanted)
         return found and f"{found}, the model {shown(wanted)}"
 
@@ -194,7 +229,7 @@ def rows_that_differ() -> list[str]:
 
 
 def work(comparison: Comparison, numbers: range, at: MutableSequence[int], job: int, results: Connection) -> None:
-    """Compares the cases of these numbers, and sends the numbers of those that differ and the counts of the rows."""
+    """Compares the cases of these numbers. Sends the numbers of those that differ, the counts of the rows, and how many the program answered."""
     coverage.forget()
     differ = []
     for number in numbers:
@@ -204,11 +239,11 @@ def work(comparison: Comparison, numbers: range, at: MutableSequence[int], job: 
         if comparison.wrong(question(comparison.seed, number), number):
             differ.append(number)
     signal.alarm(0)
-    results.send((differ, coverage.counts()))
+    results.send((differ, coverage.counts(), comparison.by_program))
 
 
 def compare(comparison: Comparison, first: int, cases: int, jobs: int) -> tuple[list[int], list[int], Counter]:
-    """The numbers of the cases that differ, of those that ended their process, and the counts of the rows."""
+    """The numbers of the cases that differ, of those that ended their process, and the counts of the rows. Counts what the program answered."""
     at = multiprocessing.Array("q", jobs)
     workers = []
     for job in range(jobs):
@@ -223,8 +258,9 @@ def compare(comparison: Comparison, first: int, cases: int, jobs: int) -> tuple[
         while not results.poll(SECONDS_QUIET):
             print(f"about {sum(at) // jobs - first} cases so far", flush=True)
         try:
-            numbers, counts = results.recv()
+            numbers, counts, by_program = results.recv()
             differ += numbers
+            comparison.by_program += by_program
             rows.update(counts)
         except EOFError:
             ended.append(at[job])
@@ -266,6 +302,42 @@ def arguments() -> argparse.Namespace:
     return asked.parse_args()
 
 
+def fault_columns(text: str) -> Iterator[str]:
+    """What is in the columns for faults of the tables in a text."""
+    column: int | None = None
+    for line in text.splitlines():
+        cells = line.split("|") if line.startswith("|") else []
+        if not cells:
+            column = None
+        elif column is None:
+            column = next((place for place, cell in enumerate(cells) if cell.strip().startswith("Fault")), len(cells))
+        yield from cells[column:][:1] if column is not None else []
+
+
+def words_without_row() -> list[str]:
+    """The words of docs/FORMATS.md for faults, causes, stops and statuses that no row of the model has."""
+    text = text_of("docs/FORMATS.md")
+    named = {*WORD.findall(text), *(word for part in (*LINE.findall(text), *fault_columns(text)) for word in ANY_WORD.findall(part))}
+    rows = {word for table in coverage.TABLES for row in table.counts for word in re.findall(r"\w+", row)}
+    return sorted(named - rows - ELSEWHERE)
+
+
+def processor_seconds() -> float:
+    """The time that this process and those that it has started and awaited have taken, as of so many processors."""
+    used = [resource.getrusage(whose) for whose in (resource.RUSAGE_SELF, resource.RUSAGE_CHILDREN)]
+    return sum(it.ru_utime + it.ru_stime for it in used) / min(PROCESSORS, len(os.sched_getaffinity(0)))
+
+
+def faults_of_run(cases: int, rows: Counter, by_program: int, took: float) -> list[str]:
+    """What is wrong with the run as a whole, at most one text for each test."""
+    never = [f"{title}: {name}" for (title, name), count in rows.items() if not count]
+    tests = [("docs/FORMATS.md names words that are in no row", words_without_row()),
+             ("never came", never if cases >= WHOLE_COVERAGE else []),
+             (f"the program answered {by_program} cases, less than a tenth", cases >= WHOLE_COVERAGE and by_program < PROGRAM_SHARE * cases),
+             (f"they took {took:.0f} seconds, more than {SECONDS_WANTED}", cases == WHOLE_COVERAGE and took > SECONDS_WANTED)]
+    return [f"{what}{': ' + '; '.join(found) if isinstance(found, list) else ''}" for what, found in tests if found]
+
+
 def main() -> int:
     asked = arguments()
     for path in (asked.program, asked.library):
@@ -278,19 +350,20 @@ def main() -> int:
     with tempfile.TemporaryDirectory() as folder:
         comparison = Comparison(Library(shared_object(os.path.abspath(asked.library), folder)), os.path.abspath(asked.program), asked.seed)
         differ, ended, rows = compare(comparison, asked.first, asked.cases, min(asked.jobs, asked.cases))
+        took, by_program = processor_seconds(), comparison.by_program
         print(*tables(rows), sep="\n")
         for number in differ[:SHOWN]:
             show(comparison, number)
     for number in ended:
         print(f"case {number} ends the process that asks, or takes over {SECONDS} seconds: {question(asked.seed, number)!r:.2000}")
-    never = [f"{title}: {name}" for (title, name), count in rows.items() if not count] if asked.cases >= WHOLE_COVERAGE else []
-    print(*(f"never came: {it}" for it in never), sep="\n", end="\n" if never else "")
-    wanted = f" ({SECONDS_WANTED} are wanted on a quiet machine)" if asked.cases == WHOLE_COVERAGE else ""
-    took = f"{time.monotonic() - begun:.0f} seconds{wanted}"
-    print(f"{asked.cases} cases, seed {asked.seed}: {len(differ)} differ, {len(ended)} do not end, {took}")
+    faults = faults_of_run(asked.cases, rows, by_program, took)
+    print(*faults, sep="\n", end="\n" if faults else "")
+    print(f"{asked.cases} cases, seed {asked.seed}: {len(differ)} differ, {len(ended)} do not end, the program answered {by_program}; "
+          f"{time.monotonic() - begun:.0f} seconds, {took:.0f} by the time of the processors")
     commands = {question(asked.seed, number).command for number in [*differ, *ended]}
-    failed = len(commands) + bool(by_hand) + bool(never)
-    print(f"{len(COMMANDS) + len(WISHES) + 4 - failed} passed, {failed} failed")
+    failed = len(commands) + bool(by_hand) + len(faults)
+    # (of each command, of rows apart, of each call for guards, of calls and of strings; the tables, and the four tests of the run)
+    print(f"{len(COMMANDS) + 1 + len(WISHES) + 2 + 1 + 4 - failed} passed, {failed} failed")
     return 1 if failed else 0
 
 

@@ -1,14 +1,15 @@
 """Questions to a guard: a list, the parts of a question as texts of their own, and what a verifier accepts."""
 import random
-from dataclasses import dataclass
+from dataclasses import dataclass, replace
 
-from model.guard import FIRST_SECOND, LAST_SECOND, WISHES
+from model.guard import ALLOWED, FIRST_SECOND, HIGHEST, LAST_SECOND, MISUSES, OPENED, WISHES
 from model.values import Atom, Value, canonical
 
 from .cases import Builder
 from .nearly import changed, texts
 
-MOST_OCTETS, MOST_NODES = 1_048_576, 1_000_000
+MOST_OCTETS, MOST_NODES = HIGHEST
+ODDITIES = [*MISUSES.counts, *ALLOWED.counts]
 SECONDS = (0, -1, 1_704_067_199, 1_704_067_200, 1_718_440_200, 951_782_400, -2_203_891_200, FIRST_SECOND, FIRST_SECOND - 1,
            FIRST_SECOND + 31_622_400, LAST_SECOND, LAST_SECOND + 1, -2**63, 2**63 - 1)
 STRINGS = (b"", b"ftp", b"x) (at ", b"1:a", b"\x00\xff", b"(", b"a.o read")
@@ -17,7 +18,8 @@ STRINGS = (b"", b"ftp", b"x) (at ", b"1:a", b"\x00\xff", b"(", b"a.o read")
 @dataclass(frozen=True)
 class GuardQuestion:
     """A question to a guard: what is wanted, the list, the parts, the rows that the verifier looks into, the policy and the limits.
-    Where there are strings or seconds, they stand in the place of the text."""
+    Where there are strings or seconds, they stand in the place of the text. The oddity is what is misuse in the calls, or which pointer is
+    null that may be; mostly it is empty."""
 
     command: str
     acl: bytes
@@ -28,9 +30,10 @@ class GuardQuestion:
     rows: bytes
     strings: tuple[bytes, ...] | None
     seconds: int | None
-    strict: bool
+    policy: int
     octets: int
     nodes: int
+    oddity: str = ""
 
 
 def guard_question(rng: random.Random) -> GuardQuestion:
@@ -43,8 +46,16 @@ def guard_question(rng: random.Random) -> GuardQuestion:
     strings = strings_of(request, rng)
     return GuardQuestion(
         "guard " + rng.choice(list(WISHES)), part_text(acl, rng), part_text(sequence, rng), part_text(key, rng), part_text(request, rng),
-        part_text(moment, rng), canonical(rows), strings, rng.choice(SECONDS) if rng.random() < 0.15 else None, len(case) == 8,
+        part_text(moment, rng), canonical(rows), strings, rng.choice(SECONDS) if rng.random() < 0.15 else None, int(len(case) == 8),
         rng.randrange(1200) if rng.random() < 0.05 else MOST_OCTETS, rng.randrange(60) if rng.random() < 0.25 else MOST_NODES)
+
+
+def odd(question: GuardQuestion, rng: random.Random, oddity: str) -> GuardQuestion:
+    """A question whose calls have an oddity."""
+    policy = rng.choice((2, 3, 255, 2**31, 2**32 - 1)) if oddity == OPENED[0] else question.policy
+    octets = rng.choice((MOST_OCTETS + 1, 2**63, 2**64 - 1)) if oddity == OPENED[1] else MOST_OCTETS
+    nodes = rng.choice((MOST_NODES + 1, 2**63, 2**64 - 1)) if oddity == OPENED[2] else MOST_NODES
+    return replace(question, policy=policy, octets=octets, nodes=nodes, oddity=oddity)
 
 
 def part_text(value: Value, rng: random.Random) -> bytes:

@@ -65,7 +65,7 @@ NEARLY = {
     b"signature": values_of(f"""
         (signature) (signature (hash md5 x)) (signature (hash sha256 "{'x' * 32}") (public-key (test a)) s)
         (signature (hash sha256 "{'x' * 32}") (public-key (test a))) (signature (hash sha256 "{'x' * 32}") (public-key (test a)) s s)
-        (signature (hash sha256 "{'x' * 32}") (keyholder a) s)"""),
+        (signature (hash sha256 "{'x' * 32}") (keyholder a) s) x (do) (public-key (test a))"""),
     b"by": values_of(f"""
         (by) (by x) (by (public-key (test a)) (hash sha1 "{'x' * 20}")) (by (public-key (test a)) (hash sha1 x) s)
         (by (public-key (test a)) (hash sha256 "{'x' * 32}")) (by (public-key (test a)) (hash sha256 "{'x' * 32}") s s) by

@@ -1,58 +1,46 @@
 """What is asked in one case: a command and its text, by a seed and a number."""
 import random
-from dataclasses import dataclass
 from typing import Union
 
 from model.answers import COMMANDS
 from model.values import Atom, Value, canonical
 
 from . import rare, spellings, tags
-from .cases import Builder, apart
-from .guards import GuardQuestion, guard_question
-from .mutations import LISTS
+from .asked import Call, Question, StringQuestion
+from .cases import KEYS, Builder, apart
+from .guards import ODDITIES, GuardQuestion, guard_question, odd
+from .mutations import LISTS, mutated_text, places
 from .nearly import changed, texts
+from .seldom import MAKERS, OF_CASES, ROOM
 
 CONVERSIONS = COMMANDS[:3]
-OF_CASES = ("check", "explain", "reduce", "check_accepted")
 BODIES = [b"a", b"ftp", b"", b"my host", b"\x00\xff", b"0a", b'"\\', b"\n\r", b"a\nb", b"?'", b"*", b"\x07\x0b\x7f",
           b"a\x7f", b"~ ", b"a\x1f", b"a\x80", b"3:abc", b"ABC=", bytes(range(256))]
 
+LONG_QUESTIONS = len(rare.LONG) * len((*COMMANDS, "rows"))
 LENGTHS = (9, 10, 63, 64, 65, 99, 100, 255, 256, 1000, 4096)
 
 
-@dataclass(frozen=True)
-class Question:
-    """A command and a text. `check_accepted` has the text of the rows beside it."""
-
-    command: str
-    text: bytes
-    rows: bytes = b""
-
-
-@dataclass(frozen=True)
-class Call:
-    """A call for C programs with a number that need not be a command's, or of `spki_check_accepted` if there is none; and with texts that
-    are empty or, if they are null or too long, none. `command` is the name of all such calls."""
-
-    number: int | None
-    texts: tuple[tuple[bool, int], ...]
-    command: str = "calls"
-
-
-Asked = Union[Question, GuardQuestion, Call]
+Asked = Union[Question, GuardQuestion, Call, StringQuestion]
 
 
 def question(seed: str, number: int) -> Asked:
     """The question of a number."""
     rng = random.Random(f"{seed}/{number}")
     at = number % rare.EVERY
-    if at < len(rare.LONG) * len((*COMMANDS, "rows")):
-        return long_question(rng, at)
+    if at < len(MAKERS):
+        return MAKERS[at](rng)
+    if rare.EVERY - at <= LONG_QUESTIONS:
+        return long_question(rng, rare.EVERY - at - 1)
     kind = rng.random()
     if kind < 0.013:
         return limit_question(rng)
     if kind < 0.018:
         return call(rng)
+    if kind < 0.023:
+        return odd(guard_question(rng), rng, rng.choice(ODDITIES))
+    if kind < 0.033:
+        return string_question(rng)
     if kind < 0.3:
         return Question(rng.choice(CONVERSIONS), texts(value(rng), rng))
     if kind < 0.5:
@@ -88,8 +76,19 @@ def call(rng: random.Random) -> Call:
     """A call that is misused, or nearly."""
     number = rng.choice((None, None, *range(len(COMMANDS)), len(COMMANDS), len(COMMANDS) + 1, 255, 2**32 - 1))
     texts = [(rng.random() < 0.4, rng.choice((0, 0, 0, 1, 2**31, 2**63 - 1, 2**63, 2**64 - 1))) for _ in range(2 if number is None else 1)]
+    buffer = rng.choice(((False, ROOM), (False, ROOM), (True, 0), (True, 1), (False, 2**63), (True, 2**64 - 1), (False, 5)))
     # a pointer that is not null has the octets that its length says, or there are too many
-    return Call(number, tuple((is_null or 0 < length < 2**63, length) for is_null, length in texts))
+    return Call(number, tuple((is_null or 0 < length < 2**63, length) for is_null, length in texts), buffer)
+
+
+def string_question(rng: random.Random) -> StringQuestion:
+    """A value in canonical form, by chance nearly one, and the path to a part of it, by chance to none."""
+    whole = Builder(rng).principal(rng.choice(KEYS)) if rng.random() < 0.3 else value(rng)
+    path = rng.choice(places(whole))
+    if rng.random() < 0.2:
+        path = (*path[:-1], rng.choice((0, 1, 5, 2**32, 2**63, 2**64 - 1)), *path[:rng.randrange(2)])
+    text = canonical(whole)
+    return StringQuestion(mutated_text(text, rng) if rng.random() < 0.2 else text, path)
 
 
 def case_question(rng: random.Random) -> Question:

@@ -2,13 +2,17 @@
 import time
 from collections.abc import Callable, Iterator
 from dataclasses import replace
+from typing import Any
 
 from model import forms
+from model.guard import HIGHEST
 from model.printed import printed
 from model.values import FormFault, Value, canonical
 
+from .asked import Call, Question, StringQuestion
+from .guards import GuardQuestion
 from .mutations import part, places, replaced
-from .questions import Asked, Call, Question
+from .questions import Asked
 
 LARGE = 20_000
 
@@ -32,10 +36,32 @@ def candidates(question: Asked) -> Iterator[Asked]:
     """Smaller questions of the same command."""
     if isinstance(question, Call):
         return
-    names = ("text", "rows") if isinstance(question, Question) else ("acl", "sequence", "key", "request", "moment", "rows")
-    for name in names:
+    if isinstance(question, StringQuestion):
+        yield from (replace(question, path=path) for path in shorter(question.path))
+    if isinstance(question, GuardQuestion):
+        yield from smaller_parts(question)
+    names = {Question: ("text", "rows"), StringQuestion: ("text",), GuardQuestion: ("acl", "sequence", "key", "request", "moment", "rows")}
+    for name in names[type(question)]:
         for text in smaller_texts(getattr(question, name)):
             yield replace(question, **{name: text})
+
+
+def smaller_parts(question: GuardQuestion) -> Iterator[GuardQuestion]:
+    """Questions to a guard with fewer or shorter strings, fewer seconds, and the highest limits."""
+    if question.strings is not None:
+        yield from (replace(question, strings=strings) for strings in shorter(question.strings))
+        for number, string in enumerate(question.strings):
+            for text in smaller_texts(string):
+                yield replace(question, strings=(*question.strings[:number], text, *question.strings[number + 1:]))
+    if question.seconds:
+        yield from (replace(question, seconds=seconds) for seconds in (None, 0, int(question.seconds / 2)))
+    if (question.octets, question.nodes) != HIGHEST:
+        yield replace(question, octets=HIGHEST[0], nodes=HIGHEST[1])
+
+
+def shorter(members: tuple[Any, ...]) -> Iterator[tuple[Any, ...]]:
+    """The members without one of them."""
+    yield from (members[:at] + members[at + 1:] for at in range(len(members)))
 
 
 def smaller_texts(text: bytes) -> Iterator[bytes]:

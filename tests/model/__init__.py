@@ -11,7 +11,8 @@ decides.
 | `tags`, `intersection` | Tags |
 | `structures`, `case` | Keys, hashes, dates, entries, certificates; the case |
 | `evidence`, `reduction`, `derivations` | Evidence and decision |
-| `answers` | The program; the library for C programs |
+| `answers` | The program |
+| `calls` | The library for C programs |
 | `guard` | Questions to a guard |
 
 `laws` tries on the model's own answers what the document says of them beside the tables. `coverage` counts: a table that is declared as

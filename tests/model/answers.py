@@ -1,4 +1,4 @@
-"""The lines and exit statuses of the commands, and of the calls for C programs (sections "The program", "The library for C programs").
+"""The lines and exit statuses of the commands, and of decisions by rows apart (sections "The program", "The library for C programs").
 
 An answer is what the program writes, and the status that it exits with.
 """
@@ -11,15 +11,15 @@ from .coverage import Rows
 from .evidence import Authorization, names
 from .intersection import TooLarge, intersection
 from .printed import printed
-from .structures import ItemFault, Key, Principal, Subject, Window
+from .structures import Entry, ItemFault, Key, Principal, Subject, Window
 from .tags import TagFault, contains
 from .transport import written as transport
 from .values import Atom, FormFault, Value, canonical, head_of
 
 Answer = tuple[int, bytes]
+Steps = list[tuple[int, evidence.Tuple]]
 COMMANDS = ("canonical", "advanced", "transport", "intersect", "reduce", "check", "explain")
-YES, NO, REFUSED, MISUSED = 0, 1, 2, 5
-LONGEST_TEXT = 2**63 - 1
+YES, NO, REFUSED = 0, 1, 2
 SHORT_CHAIN = 6
 
 LINES = Rows("line", [
@@ -32,9 +32,6 @@ REFUSALS = Rows("line, refused", [
     "rows TooLong", "rows TooDeep", "rows Short", "rows Bad", "rows Trailing", "rows Shape", "rows"])
 STATUSES = Rows("status", [f"{command}: {status}" for command in (*COMMANDS, "check_accepted") for status in (YES, NO, REFUSED)
                            if status != NO or COMMANDS.index(command if command in COMMANDS else "check") > 3])
-CALLS = Rows("call for C programs", [
-    "status 5: no command has this number", "status 5: a null pointer with a length", "status 5: a length over 2^63 - 1",
-    "a null pointer without octets"])
 FIVES = Rows("five", ["a principal", "a hash", "a name", "(propagate)", "no valid", "valid with not-before", "valid with not-after",
                       "valid with both"])
 BRACKETS = Rows("every bracketing was tried", [f"{count} certificates" for count in range(SHORT_CHAIN + 1)] + ["one grants"])
@@ -70,20 +67,6 @@ def check_accepted(text: bytes, rows_text: bytes) -> Answer:
         status, said = refused(why)
     STATUSES.used(f"check_accepted: {status}")
     return status, said
-
-
-def call(number: int | None, texts: tuple[tuple[bool, int], ...]) -> Answer:
-    """What the library answers to a number, or if there is none to `spki_check_accepted`, and to texts that are empty, null or too long."""
-    if number is not None and number >= len(COMMANDS):
-        CALLS.used("status 5: no command has this number")
-        return MISUSED, b""
-    for is_null, length in texts:
-        if length:
-            CALLS.used("status 5: " + ("a length over 2^63 - 1" if length > LONGEST_TEXT else "a null pointer with a length"))
-            return MISUSED, b""
-        if is_null:
-            CALLS.used("a null pointer without octets")
-    return check_accepted(b"", b"") if number is None else answer(COMMANDS[number], b"")
 
 
 def refused(why: Refused) -> Answer:
@@ -175,20 +158,28 @@ def check(case: Case, rows: list[Row]) -> Answer:
         LINES.used("no: evidence")
         return NO, b"no\n"
     for number, entry in enumerate(case.entries, 1):
-        try:
-            so_far = reduction.fold(entry, steps, case.strict)
-            is_granted = lack(so_far, case) is None
-        except reduction.Stopped:
-            is_granted = False
-        except TooLarge as why:
-            raise too_large("check", why) from None
-        if len(steps) <= SHORT_CHAIN:
-            try_brackets(reduction.of_entry(entry), [step for _, step in steps], case, is_granted)
+        _, is_granted = folded("check", case, entry, steps)
         if is_granted:
             LINES.used("yes entry")
             return YES, b"yes entry %d\n" % number
     LINES.used("no: no entry grants")
     return NO, b"no\n"
+
+
+def folded(command: str, case: Case, entry: Entry, steps: Steps) -> tuple[Authorization | reduction.Stopped, bool]:
+    """What an entry becomes with all certificates, or where it stops; and whether it grants the request, which a short chain must do exactly
+    if some bracketing does."""
+    result: Authorization | reduction.Stopped
+    try:
+        result = reduction.fold(entry, steps, case.strict)
+        is_granted = lack(result, case) is None
+    except reduction.Stopped as stopped:
+        result, is_granted = stopped, False
+    except TooLarge as why:
+        raise too_large(command, why) from None
+    if len(steps) <= SHORT_CHAIN:
+        try_brackets(reduction.of_entry(entry), [step for _, step in steps], case, is_granted)
+    return result, is_granted
 
 
 def try_brackets(entry: Authorization, steps: list[evidence.Tuple], case: Case, is_granted: bool) -> None:
@@ -246,15 +237,13 @@ def of_entries(command: str, case: Case, rows: list[Row], said_of: Callable[[Aut
         return NO, b"no entries\n"
     lines, status = [], NO
     for number, entry in enumerate(case.entries, 1):
-        try:
-            said = said_of(reduction.fold(entry, steps, case.strict))
-            if is_good(said):
-                status = YES
-        except reduction.Stopped as stopped:
+        result, _ = folded(command, case, entry, steps)
+        if isinstance(result, reduction.Stopped):
             LINES.used("entry N item J CAUSE")
-            said = b"item %d %s" % (stopped.item, stopped.cause.encode())
-        except TooLarge as why:
-            raise too_large(command, why) from None
+            said = b"item %d %s" % (result.item, result.cause.encode())
+        else:
+            said = said_of(result)
+            status = YES if is_good(said) else status
         lines.append(b"entry %d %s\n" % (number, said))
     return status, b"".join(lines)
 

@@ -5,6 +5,7 @@ from typing import Any
 
 from . import answers, evidence, forms, intersection, structures, tags
 from .answers import Answer, Refused, refusal, refused
+from .calls import MISUSED, of_library, too_small
 from .case import Case, Row
 from .coverage import Rows
 from .structures import Certificate, Entry, ItemFault, Key, Signature, StructureFault
@@ -13,12 +14,27 @@ from .values import Atom, FormFault, Value, canonical
 
 WISHES = {"decide": answers.check, "explain": answers.explain, "reduce": answers.reduce}
 PARTS = ("sequence", "key", "request", "at")
+OPEN, STRICT = POLICIES = (0, 1)
+Signed = tuple[bytes, bytes, bytes]
 REFUSED = Rows("question to a guard, refused", [
-    "list, form", "list", "question TooLong", "at, seconds", *(f"{part}{row}" for part in PARTS for row in (", form", ""))])
+    "list, form", "list", "list, item 0", "question TooLong", "at, seconds", *(f"{part}{row}" for part in PARTS for row in (", form", "")),
+    "sequence, item 0"])
 GIVEN = Rows("question to a guard, given", [
     "request by no string", "request by one string", "request by strings", "seconds", "seconds before 1970", "limits that are lower"])
 SIGNED = Rows("question to a guard, signatures that are listed", ["none", "of each certificate", "up to one that does not stand"])
 STATUSES = Rows("question to a guard, status", [f"{wish}: {status}" for wish in WISHES for status in (0, 1, 2)])
+# what is misuse when a guard is opened, at both calls with a question, only when signatures are listed, only when a question is answered
+OPENED = ("no policy has this number", "a limit of octets above the highest", "a limit of nodes above the highest", "no place for the guard",
+          "a list that is null with a length")
+ASKED = ("no guard", "no question", "a part that is null with a length", "a part of a length over 2^63 - 1", "strings that are null with a count",
+         "more strings than there are octets")
+LISTED = ("no place for the count", "signatures that are null with room", "more room for signatures than there are octets")
+ANSWERED = ("marks that are null with a count", "a buffer that is null with a length")
+OTHER_MARKS = "another number of marks"
+MISUSES = Rows("question to a guard, status 5", [*OPENED, *ASKED, *LISTED, *ANSWERED, OTHER_MARKS])
+ALLOWED = Rows("question to a guard, null pointers that are allowed", ["limits", "needed"])
+SMALL = Rows("question to a guard, status 4", ["the line of a refused list", "signatures", "a buffer for signatures", "an answer"])
+HIGHEST = (1_048_576, intersection.MOST_PRODUCT)
 FIRST_SECOND, LAST_SECOND = -62_167_219_200, 253_402_300_799
 DATE_OCTETS = 22
 
@@ -54,12 +70,12 @@ def open_guard(text: bytes, strict: bool, octets: int, nodes: int) -> Guard:
         REFUSED.used("list, form")
         raise refusal(f"form {fault.kind}", f"form {fault}") from None
     except ItemFault as fault:
-        REFUSED.used("list")
+        REFUSED.used("list" if fault.item else "list, item 0")
         raise Refused(f"acl {fault.item} {fault.kind}") from None
     except StructureFault as fault:
-        REFUSED.used("list")
+        REFUSED.used("list, item 0")
         raise Refused(f"acl 0 {fault}") from None
-    if (octets, nodes) != (1_048_576, intersection.MOST_PRODUCT):
+    if (octets, nodes) != HIGHEST:
         GIVEN.used("limits that are lower")
     return Guard(entries, strict, octets, nodes)
 
@@ -97,7 +113,7 @@ def read(name: str, reader: Any, value: Value) -> Any:
         REFUSED.used(name)
         raise Refused(f"{name} {fault.item} {fault.kind}") from None
     except (StructureFault, TagFault) as fault:
-        REFUSED.used(name)
+        REFUSED.used("sequence, item 0" if name == "sequence" else name)
         raise Refused(f"sequence 0 {fault}" if name == "sequence" else f"{name} {fault}") from None
 
 
@@ -131,10 +147,10 @@ def octets_of(asked: Parts) -> int:
 # ---- what is answered
 
 
-def signed(case: Case) -> list[tuple[bytes, bytes, bytes]]:
+def signed(case: Case) -> list[Signed]:
     """What a verifier is asked of: the key, message and value of each certificate up to the first that fails one of the first three
     tests of evidence."""
-    found: list[tuple[bytes, bytes, bytes]] = []
+    found: list[Signed] = []
     certificates = list(evidence.signed(case.items))
     for number, certificate, signature in certificates:
         key = key_of_standing(number, certificate, signature, case)
@@ -154,17 +170,46 @@ def key_of_standing(number: int, certificate: Certificate, signature: Signature,
     return None
 
 
-def answer(wish: str, list_text: bytes, asked: Parts, rows: list[Row], strict: bool, limits: tuple[int, int]
-           ) -> tuple[Answer, list[tuple[bytes, bytes, bytes]]]:
-    """The answer to a question whose verifier accepts what the rows say, and what it is asked of."""
-    listed: list[tuple[bytes, bytes, bytes]] = []
+def misused(row: str) -> tuple[Answer, list[Signed]]:
+    """The answer to a call that is misuse."""
+    MISUSES.used(row)
+    return of_library("", (MISUSED, b"")), []
+
+
+def kept_back(row: str) -> int:
+    """The status where there is too little room for an answer."""
+    SMALL.used(row)
+    return too_small()
+
+
+def misuse_of_opening(policy: int, limits: tuple[int, int], oddity: str) -> str | None:
+    """What is misuse when a guard is opened, None if nothing is."""
+    if policy not in POLICIES:
+        return OPENED[0]
+    above = [row for row, limit, most in zip(OPENED[1:], limits, HIGHEST) if limit > most]
+    return above[0] if above else oddity if oddity in OPENED else None
+
+
+def answer(wish: str, list_text: bytes, asked: Parts, rows: list[Row], policy: int, limits: tuple[int, int], oddity: str
+           ) -> tuple[Answer, list[Signed]]:
+    """What the library answers to a question whose verifier accepts what the rows say, and the signatures that it lists. The oddity is
+    what is misuse in the calls, or which pointer is null that may be, if one is."""
+    if row := misuse_of_opening(policy, limits, oddity):
+        return misused(row)
+    listed: list[Signed] = []
     try:
-        guard = open_guard(list_text, strict, *limits)
+        guard = open_guard(list_text, policy == STRICT, *limits)
+        if oddity in (*ASKED, *LISTED, *ANSWERED):
+            return misused(oddity)
         case = case_of(guard, asked, rows)
         listed = signed(case)
+        if oddity == OTHER_MARKS:
+            return misused(oddity)
         with intersection.limited(guard.nodes):
             status, said = WISHES[wish](case, case.rows)
     except Refused as why:
         status, said = refused(why)
     STATUSES.used(f"{wish}: {status}")
-    return (status, said), listed
+    if oddity in ALLOWED.counts:
+        ALLOWED.used(oddity)
+    return of_library(f"guard {wish}", (status, said)), listed

@@ -1,0 +1,80 @@
+"""What the calls for C programs answer beside what the program writes: their statuses, misuse, strings inside a value (section "The
+library for C programs")."""
+from . import answers, canonical
+from .answers import COMMANDS, NO, REFUSED, YES, Answer
+from .coverage import Rows
+from .values import Atom, FormFault
+
+TOO_SMALL, MISUSED, DONE, NONE = 4, 5, 6, 7
+NAMES = {YES: "SPKI_YES", NO: "SPKI_NO", REFUSED: "SPKI_REFUSED", TOO_SMALL: "SPKI_TOO_SMALL", MISUSED: "SPKI_MISUSED", DONE: "SPKI_DONE",
+         NONE: "SPKI_NONE"}
+LONGEST_TEXT = 2**63 - 1
+DECISIONS = ("check", "check_accepted", "guard decide")
+
+STATUSES = Rows("call for C programs, status", NAMES.values())
+CALLS = Rows("call for C programs, pointers and lengths", [
+    "status 5: no command has this number", "status 5: a null pointer with a length", "status 5: a length over 2^63 - 1",
+    "status 5: a null buffer with a length", "status 5: a buffer of a length over 2^63 - 1", "a null pointer without octets", "no buffer"])
+STRINGS = Rows("string inside a value", [
+    "found", "found, with a hint", "none: a list", "none: no such member", "none: a path into a string",
+    *(f"refused: {kind}" for kind in ("TooLong", "TooDeep", "Short", "Bad", "Trailing"))])
+Pointer = tuple[bool, int]
+
+
+def of_library(command: str, said: Answer) -> Answer:
+    """What the library answers where the program answers so. Yes and no are answered by decisions alone."""
+    status, octets = said
+    status = DONE if status in (YES, NO) and command not in DECISIONS else status
+    STATUSES.used(NAMES[status])
+    return status, octets
+
+
+def too_small() -> int:
+    """The status where the buffer is too small."""
+    STATUSES.used(NAMES[TOO_SMALL])
+    return TOO_SMALL
+
+
+def misused(row: str) -> Answer:
+    """The answer to a call that is misuse."""
+    CALLS.used(f"status 5: {row}")
+    return MISUSED, b""
+
+
+def call(number: int | None, texts: tuple[Pointer, ...], buffer: Pointer) -> Answer:
+    """What the library answers to a number, or if there is none to `spki_check_accepted`. The texts are empty, null or too long; of each
+    and of the buffer it is said whether it is null, and its length."""
+    if number is not None and number >= len(COMMANDS):
+        return misused("no command has this number")
+    for is_null, length in texts:
+        if length:
+            return misused("a length over 2^63 - 1" if length > LONGEST_TEXT else "a null pointer with a length")
+        if is_null:
+            CALLS.used("a null pointer without octets")
+    is_null, length = buffer
+    if length > LONGEST_TEXT or is_null and length:
+        return misused("a buffer of a length over 2^63 - 1" if length > LONGEST_TEXT else "a null buffer with a length")
+    said = answers.check_accepted(b"", b"") if number is None else answers.answer(COMMANDS[number], b"")
+    if len(said[1]) > length:
+        CALLS.used("no buffer")
+        return too_small(), b""
+    return of_library("check", said)
+
+
+def string_at(text: bytes, path: tuple[int, ...]) -> Answer:
+    """What `spki_string` answers: its status, and the octets of the string at the end of a path."""
+    try:
+        value = canonical.read(text)
+    except FormFault as fault:
+        STRINGS.used(f"refused: {fault.kind}")
+        return of_library("spki_string", (REFUSED, b""))
+    for number in path:
+        if isinstance(value, Atom) or number >= len(value):
+            STRINGS.used("none: a path into a string" if isinstance(value, Atom) else "none: no such member")
+            return of_library("spki_string", (NONE, b""))
+        value = value[number]
+    if not isinstance(value, Atom):
+        STRINGS.used("none: a list")
+        return of_library("spki_string", (NONE, b""))
+    STRINGS.used("found" if value.hint is None else "found, with a hint")
+    return of_library("spki_string", (DONE, value.body))
