@@ -1,7 +1,7 @@
 #!/usr/bin/env python3
 """Tests that what the documents name is there: each relative link and its heading, each path of a file or folder of this repository in
-backticks, in a block of commands and in a table, and the versions of the manual and of README.md,
-which are that of the file VERSION.
+backticks, in a block of commands and in a table, the versions of the manual and of README.md, which are that of the file VERSION, and
+the toolchain that README.md names, which is what `rt --version` prints (left out if `rt` is not in the path).
 
 A path is what begins with a name at the top of the repository, or in the folder of the document, or with `src`, `specs` or `proofs` in the
 page of a crate; and each word in backticks that ends as a file of a kind that is here. A word in capitals stands for any name, and so
@@ -12,9 +12,10 @@ Usage: tests/documents.py
 import glob
 import os
 import re
+import shutil
 import sys
 
-from support import TOP, text_of
+from support import TOP, output_of, text_of
 
 PAGES = ["*.md", "docs/*.md", "examples/*.md", "crates/*/CALLING.md"]
 LINK = re.compile(r"\]\(([^)\s]+)\)")
@@ -23,6 +24,7 @@ FENCED = re.compile(r"^```(\w*) ?(\S*)\n(.*?)^```$", re.MULTILINE | re.DOTALL)
 HEADING = re.compile(r"^#+ (.*)$", re.MULTILINE)
 PATH = re.compile(r"^(?:\.ci|[\w*+-][\w.*+-]*)(?:/[\w.*+-]+)*/?$")
 KINDS = (".md", ".py", ".sexp", ".csexp", ".tsexp", ".rt", ".antt", ".h", ".c", ".sh", ".table", ".svg")
+KIT = re.compile(r"rattle-kit-\w+(?: logic [0-9a-f]+)?")
 ANY = re.compile(r"\b[A-Z]{2,}(?![A-Za-z.])")
 # What pages name that is made by a command, by the reader, or by another program, and the page of each.
 MADE = {"ask.py", "case.sexp", "chain.svg", "chain.sexp", "wrong.sexp", "x.edit", "locate"}
@@ -97,11 +99,23 @@ def other_versions():
         yield f"the version {version} in README.md"
 
 
+def other_kits():
+    """Where README.md names another toolchain than `rt --version` prints, or does not have its whole line."""
+    if shutil.which("rt") is None:
+        print("rt is not in the path: the toolchain that README.md names is left out")
+        return
+    printed = output_of("rt", "--version")[1].strip()
+    named = KIT.findall(text_of("README.md"))
+    if printed not in named or set(named) - {printed, *printed.split()[:1]}:
+        yield f"only the toolchain {printed}"
+
+
 def main():
     names, passed, failed = names_here(), 0, 0
     pages = sorted(os.path.relpath(path, TOP) for pattern in PAGES for path in glob.glob(os.path.join(TOP, pattern)))
     for page in [*pages, "docs/spki.1"]:
         missing = other_versions() if page.endswith(".1") else [*dead_links(page), *dead_paths(page, names)]
+        missing = [*missing, *(other_kits() if page == "README.md" else ())]
         missing = sorted(set(missing))
         print("".join(f"{page}: {it} is not there\n" for it in missing), end="")
         passed, failed = passed + (not missing), failed + bool(missing)

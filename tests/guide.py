@@ -1,20 +1,28 @@
 #!/usr/bin/env python3
 """Does what README.md, docs/GUIDE.md and the examples of docs/spki.1 say, each in an empty folder, and compares the answers.
 
-A fenced block `sexp NAME`, `sh NAME` or `python NAME` of README.md and the guide is a file, which is written where it stands on the page and has no
-permission to be run until a command gives it. If examples/ has a file of this name, it must be the same. A block `c NAME`, `rust NAME` or
-`python NAME` that an example of this name in PROGRAMS has is a quotation: it must be a part of it. In a block `console`, and in
-the manual's blocks, a line that begins with `$ ` is a command of the shell, one with `> ` goes on with it, and the lines up to the
-next command are what it should write. The commands of a page run as they stand, one after the other in one shell, with the program
-as `spki` and tools/locate as `locate`: once in `sh`, and once in `bash` if it is there.
+A fenced block `sexp NAME`, `sh NAME` or `python NAME` of README.md and the guide is a file. It is written at its place on the page, and
+cannot be run until a command permits it. If examples/ has a file of this name, it must be the same. A block `c NAME`, `rust NAME` or
+`python NAME` that an example of this name in PROGRAMS has is a quotation: it must be a part of it.
+
+In a block `console`, and in the manual's blocks, a line that begins with `$ ` is a command of the shell. A line with `> ` continues it.
+The lines up to the next command are what it should write. The commands of a page run unchanged, one after the other in one shell, with
+the program as `spki` and tools/locate as `locate`. They run once in `sh`, and once in `bash` if it is there.
 
 An indented block below a paragraph that begins with `**C.**`, `**Rust.**` or `**Python.**` is a snippet: snippets.py compiles it and runs
-it. The lines of another indented block are commands, which must succeed in a copy of what they name, and print what INDENTED says. These
-are left out: `rt try` and `crates/spki_c/archive.py`, since the program and the library are given; and `./decide ..`, which is the usage
-of three programs (tests/bindings.py runs them). The commands in tables install and test: `.ci/run` has tests for them.
+it. The lines of another indented block are commands, which must succeed and print what INDENTED says. They run in a copy of what they
+name. The command of the toolchain, `rt try`, runs in this repository, where it takes about a minute.
 
-Snippets and indented commands need the library, and those in C and Rust their compilers. What is not there is named. Prints each command
-that answers otherwise; the last line counts.
+These commands are left out:
+
+- `crates/spki_c/archive.py`, since it builds the library that this test is given.
+- `./decide ..`, which is the usage of three programs. tests/bindings.py runs them.
+- Those in tables. They build, install, prove or test, and most take minutes to hours. `.ci/run` runs tests/installed.py and
+  tests/packaged.py, which install. The scripts of the other rows are parts of `.ci/run` or `.ci/deep`.
+- Those of other pages, such as examples/README.md, which this test does not read.
+
+Snippets and indented commands, except `rt try`, need the library, and those in C and Rust their compilers. What is not there is named.
+Prints each command that answers otherwise; the last line counts.
 
 Build the program first (`rt run` in crates/spki), and the library by crates/spki_c/archive.py.
 Usage: tests/guide.py [PROGRAM [LIBRARY]]
@@ -39,9 +47,11 @@ END = "---- end of command ----"
 PROGRAMS = ("examples/c", "bindings/rust/examples", "bindings/python/examples")
 FENCED = re.compile(r"^```.*?^```$", re.MULTILINE | re.DOTALL)
 SNIPPET_BELOW = re.compile(r"\*\*(C|Rust|Python)\.\*\*")
-# The indented commands, and what each prints. None is left out: see above.
+# The commands of the toolchain, and what each prints.
+OF_TOOLCHAIN = {"cd crates/spki && rt try -- check < ../../examples/delegation.sexp": "yes entry 1\n"}
+SECONDS_OF_TOOLCHAIN = 1200
+# The other indented commands, and what each prints. Those with None are left out: see above.
 INDENTED = {
-    "cd crates/spki && rt try -- check < ../../examples/delegation.sexp": None,
     "crates/spki_c/archive.py": None,
     "cd examples/c && cc -std=c11 -o service -I ../../crates/spki_c service.c ../../crates/spki_c/out/libspki_c.a -lcrypto": "",
     "./service acl.sexp": r"nonce [0-9a-f]{64}\n",
@@ -86,7 +96,7 @@ def steps_of_manual(page):
 
 
 def script(found):
-    """The files and the commands as one script, which writes a mark behind each command."""
+    """The files and the commands as one script, which writes a mark after each command."""
     for kind, first, second in found:
         if kind == "file":
             yield f"printf %s {shlex.quote(second)} > {shlex.quote(first)}\n"
@@ -157,7 +167,8 @@ def commands_of(page):
 
 def of_commands(found, library):
     """What each indented command that is run does otherwise than it should, or None; and of each that is not known that it is not."""
-    yield from (f"$ {line}\nis not known: write into {__file__} what it prints" for line in found if line not in INDENTED)
+    known = {*INDENTED, *OF_TOOLCHAIN}
+    yield from (f"$ {line}\nis not known: write into {__file__} what it prints" for line in found if line not in known)
     tried = [line for line in found if INDENTED.get(line) is not None]
     if not tried or not can_compile():
         return
@@ -171,6 +182,18 @@ def of_commands(found, library):
         done = subprocess.run(["sh"], input=lines, cwd=room, text=True, stdout=subprocess.PIPE, stderr=subprocess.STDOUT, timeout=SECONDS)
     for line, met in zip(tried, done.stdout.split(f"{END}\n")):
         yield None if re.fullmatch(INDENTED[line], met) else f"$ {line}\nwrote\n{met}\nand not\n{INDENTED[line]}"
+
+
+def of_toolchain(found):
+    """What each command of the toolchain does otherwise than it should, or None. It runs in this repository."""
+    for line in filter(OF_TOOLCHAIN.get, found):
+        if shutil.which("rt") is None:
+            print(f"rt is not in the path: `{line}` is left out")
+            continue
+        done = subprocess.run(["sh", "-c", line], cwd=TOP, text=True, stdout=subprocess.PIPE, stderr=subprocess.PIPE,
+                              timeout=SECONDS_OF_TOOLCHAIN)
+        wanted = OF_TOOLCHAIN[line]
+        yield None if done.stdout == wanted else f"$ {line}\nwrote\n{done.stdout}{done.stderr[-1000:]}\nand not\n{wanted}"
 
 
 def of_snippets(found, program, library):
@@ -196,10 +219,11 @@ def run_indented(name, program, library):
     """How many of a page's snippets and indented commands do what they should, and how many do not."""
     with open(os.path.join(TOP, name), encoding="utf-8") as file:
         page = file.read()
-    if not os.path.exists(library):
-        print(f"{library} is not there: what the indented lines of {name} say is left out")
-        return 0, 0
-    results = [*of_commands(commands_of(page), library), *of_snippets(snippets_of(page), program, library)]
+    results = list(of_toolchain(commands_of(page)))
+    if os.path.exists(library):
+        results += [*of_commands(commands_of(page), library), *of_snippets(snippets_of(page), program, library)]
+    else:
+        print(f"{library} is not there: the snippets of {name}, and its commands that need the library, are left out")
     faults = [fault for fault in results if fault]
     print("".join(f"{name}: {fault}\n" for fault in faults), end="")
     return len(results) - len(faults), len(faults)

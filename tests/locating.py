@@ -1,11 +1,11 @@
 #!/usr/bin/env python3
 """Runs tools/locate on texts that are refused, and compares what it shows.
 
-First on texts with one mistake each, written out here with the place and a word of the remark that it should show: whole texts, and parts
-of a question to a guard. Then on each row of the tables beside this file, and on generated texts and parts beside the model: it must find
-the refusal that is the answer there, and none if there is another answer. Refusals of tags that are too large are left out: they have no
-place.
-Prints each text that is otherwise; the last line counts.
+First on texts with one mistake each: whole texts, and parts of a question to a guard. They are written out here with the place, by line
+and column, and with words of the remark that it should show. It must show each place once. Then on each row of the tables beside this
+file, and on generated texts and parts, whose answers the model has. It must find the refusal that is the answer there, and none if there
+is another answer. Refusals of tags that are too large are left out, since they have no place.
+Prints each text for which it shows something else; the last line counts.
 Usage: tests/locating.py
 """
 import contextlib
@@ -14,6 +14,7 @@ import importlib.util
 import io
 import os
 import random
+import re
 import sys
 import tempfile
 
@@ -67,6 +68,13 @@ MISTAKES = [
     (with_certificate(KEY).replace("(accepted)", f"(accepted (by {KEY} {HASH}))"), "accepted 1 Shape", (2, 118), "is missing"),
     (with_certificate(KEY).replace('"2024-01-01_00:00:00"', '"2024-13-01_00:00:00"'), "sequence 4 StraySignature", (4, 24), "no certificate"),
     ("(intersect (* range numeric) a)", "tag 1 RangeOrdering", (1, 21), "`alpha`, `time` or `date`"),
+    ("(intersect (* range dates) a)", "tag 1 RangeOrdering", (1, 21), "is `date` meant?"),
+    ("(intersect (* prefx a) b)", "tag 1 UnknownStar", (1, 15), "is `prefix` meant?"),
+    (with_certificate(KEY).replace("(entry", "(entri"), "acl 1 Shape", (1, 12), "is `entry` meant?"),
+    (with_field("").replace("(cert", "(certt"), "sequence 3 Shape", (4, 2), "is `cert` meant?"),
+    (with_certificate(KEY).replace("(accepted)", "(acepted)"), "case Shape", (2, 2), "is `accepted` meant?"),
+    (with_certificate(KEY).replace(':00"))', ':00") (policy open))'), "case Shape", (5, 71), "leave it out"),
+    (with_certificate(KEY).replace(':00"))', ':00") (polisy strict))'), "case Shape", (5, 71), "is `policy` meant?"),
 ]
 
 
@@ -80,6 +88,7 @@ OF_PARTS = [
     (f"(sequence {KEY}\n (cert (issuer {KEY}) (subject {KEY}) (tag ())))", "", "sequence 2 Tag EmptyList", (2, 76), "has members"),
     (f"(sequence {SIGNED})", "sequence 1 StraySignature", "sequence 1 StraySignature", (1, 11), "no certificate"),
     (f"(sequence\n (cert (issuer {KEY}) (subject {KEY}) (tag a)))", "", "sequence 1 UnsignedCert", (2, 2), "no signature"),
+    ("(sequence (do hash sha265))", "", "sequence 1 HashAlg", (1, 20), "is `sha256` meant?"),
     ("(sequenze)", "sequence 0 Shape", "sequence 0 Shape", (1, 1), "headed by `sequence`"),
     (KEY, "sequence 0 Shape", "sequence 0 Shape", (1, 1), "headed by `sequence`"),
     ("(seq ~)", "sequence Bad 5", "sequence Bad 5", (1, 6), "a member or `)`"),
@@ -107,6 +116,8 @@ STATUSES = [
 # The readers of the parts in the model.
 MODEL = {"sequence": structures.read_sequence, "key": structures.read_key, "request": tags.read_request, "at": structures.read_date}
 GUARD_QUESTIONS = 600
+# The offset of a place that is shown.
+PLACE = re.compile(r"^(?:line \d+, column \d+, )?octet (\d+)", re.MULTILINE)
 
 
 def tool():
@@ -134,7 +145,9 @@ def otherwise_of_mistakes(locate):
     for text, given, wanted, (line, column), words in [*((text, "", *rest) for text, *rest in MISTAKES), *OF_PARTS]:
         _, said = printed(locate, text.encode(), *(["refused", *given.split()] if given else []))
         first = said.split("\n")[1] if "\n" in said else ""
-        if f"refused {wanted}\n" not in said or not first.startswith(f"line {line}, column {column},") or words not in said:
+        offsets = PLACE.findall(said)
+        is_right = f"refused {wanted}\n" in said and first.startswith(f"line {line}, column {column},") and words in said
+        if not is_right or len(set(offsets)) < len(offsets):
             yield f"{text!r}, given {given!r}\nwanted {wanted} at line {line}, column {column}, {words}, and not\n{said}"
 
 

@@ -13,9 +13,9 @@ A service reads its access list once, into a `Guard`, and asks it a `Question` f
         if guard.decide(question, verify):
             ...
 
-The parts of a question come from different hands, so each is a text of its own: one value in any of the three forms of RFC 9804. No octets
-of one part can become another part. The client must have proved that it holds the key: a public key is public, and whoever sends
-Alice's key would have Alice's rights. The moment is the time of the service's own clock.
+The parts of a question come from different sources, so each is a separate text. It is one value in any of the three forms of RFC 9804. No
+octets of one part can become another part. The client must have proved that it holds the key. A public key is public: without a proof,
+each client that sends Alice's key would have Alice's rights. The moment is the time of the service's own clock.
 
 The environment variable SPKI_LIBRARY names the file of `libspki_c.so`, if it is not installed where the loader looks. The library's
 decisions are proved. The lines of this module are tested and not proved.
@@ -137,8 +137,8 @@ class Question:
     key: bytes
     """The client's key, `(public-key ..)`, which it has proved to hold."""
     request: bytes | Sequence[bytes]
-    """What the client wants to do: a text, or its strings, each as octets that may come from anywhere. Of several strings the request is
-    the list, of one the string."""
+    """What the client wants to do: a text, or its strings, each as octets that may come from the client. Several strings are the list
+    of them, and one is the string itself."""
     moment: bytes | int
     """The time: the text of a date, or seconds since 1970-01-01 00:00:00 UTC."""
 
@@ -189,7 +189,7 @@ class Reason(NamedTuple):
     item: int | None
     """The number of the certificate that stops it, among the items of the sequence, from 1."""
     word: str
-    """`grants`, or the cause, as `TagLacks`, `NoDelegation` or `NotAccepted`."""
+    """`grants`, or the cause, such as `TagLacks`, `NoDelegation` or `NotAccepted`."""
 
 
 @dataclass(frozen=True)
@@ -220,7 +220,7 @@ class _Room:
         self.at_count, self.at_needed = byref(self.count), byref(self.needed)
 
     def larger(self) -> _Room:
-        """One with the room that a call needs, which it has said."""
+        """One with the room that a call needs, as the call has returned it."""
         return _Room(max(self.octets, self.needed.value), max(self.places, self.count.value))
 
     def left(self) -> bytes:
@@ -266,7 +266,7 @@ def _signatures(handle: c_void_p, lent: object) -> list[tuple[bytes, bytes, byte
 
 
 def _refused(status: int, answer: bytes) -> Refused:
-    """The exception of a call that did not do what it should."""
+    """The exception of a call that failed."""
     if status != _REFUSED:
         raise RuntimeError(f"libspki_c is of another version than this module: status {status}")
     return Refused(answer.decode().rstrip("\n"))
@@ -296,10 +296,10 @@ class _Handle:
 class Guard:
     """An access list that is read once and asked often, also by several threads at the same time.
 
-    `decide`, `explain` and `reduce` call `verify(key, message, value)` for each signature that the answer rests on, in order: octets of
-    canonical forms, of the issuer's `(public-key ..)`, of the certificate, and of the value in `(signature ..)`. Only `True` says that the
-    value is a signature of the message by the key. After the first other answer it is not called again. `string_at` finds the numbers
-    of a key. What it raises goes on, and nothing is granted.
+    `decide`, `explain` and `reduce` call `verify(key, message, value)` for each signature that the answer depends on, in order. The three
+    are octets of canonical forms: of the issuer's `(public-key ..)`, of the certificate, and of the value in `(signature ..)`. Only `True`
+    says that the value is a signature of the message by the key. After the first other answer it is not called again. An exception that it
+    raises is passed on, and nothing is granted. `string_at` finds the numbers of a key.
     """
 
     def __init__(self, access_list: bytes, policy: Policy = Policy.STRICT, limits: Limits = Limits()) -> None:
@@ -351,7 +351,7 @@ class Guard:
         return lines.decode().rstrip("\n")
 
     def _asked(self, question: Question, verify: Verify, call: Callable[..., int]) -> tuple[int, bytes]:
-        """The two steps: which signatures there are, and the answer by those that are right."""
+        """The two steps: which signatures there are, and the answer by those that are valid."""
         handle, lent, right = self._handle(), byref(question._lent()), 0
         signatures = _signatures(handle.at, lent)
         for signed in signatures:

@@ -1,12 +1,12 @@
-/* The functions that `spki.h` declares. Each refuses misuse, replaces a null pointer by the address of an octet, and calls a function of
- * the proved library, which accepts no null pointer. This file also joins the strings of a request to one text, and sets the addresses
- * of the texts that a verifier is asked about. */
+/* The functions that `spki.h` declares. Each refuses misuse, and replaces a null pointer by the address of an octet. Then it calls a
+ * function of the proved library, which accepts no null pointer. This file also joins the strings of a request to one text, and sets the
+ * addresses of the texts that a verifier is asked about. */
 #include "spki.h"
 
 #include <stdlib.h>
 #include <string.h>
 
-/* A pointer to a guard: one that owns the guard, and one that is lent to a call. */
+/* A pointer to a guard: one that owns the guard, and one that a call borrows. */
 struct handle {
     void *at;
 };
@@ -118,7 +118,7 @@ static size_t digits_of(size_t number)
     return number < 10 ? 1 : digits_of(number / 10) + 1;
 }
 
-/* Writes LENGTH:OCTETS, and returns the address behind it. */
+/* Writes LENGTH:OCTETS, and returns the address after it. */
 static unsigned char *put_string(unsigned char *to, const struct spki_text *text)
 {
     size_t left = text->length, digits = digits_of(left), at = digits;
@@ -232,7 +232,7 @@ static enum spki_status ask_joined(const struct call *call)
 }
 
 /* Sets the address and the length of each text. `end` is the end of the octets of all texts. Before the call the lengths of all texts
- * are at the front of the signatures, one behind another. */
+ * are at the front of the signatures, one after another. */
 static void give_places(struct spki_signed *signatures, size_t count, const unsigned char *end)
 {
     size_t length[3];

@@ -1,8 +1,8 @@
 /* Conguraki from C: a proved checker of requests by access lists and certificates (SPKI, RFC 2693).
  *
- * There are two ways to ask. A service holds a guard: spki_guard_open reads its access list once, and each question has its parts
- * apart, so that no octets of one part can become another part. spki_answer and spki_check_accepted read a whole case as one text,
- * which the caller puts together. Several threads may call at the same time, also with one guard.
+ * There are two ways to ask. A service holds a guard: spki_guard_open reads its access list once. Each question has its parts apart,
+ * so no octets of one part can become another part. spki_answer and spki_check_accepted read a whole case as one text, which the
+ * caller puts together. Several threads may call at the same time, also with one guard.
  *
  *     spki_guard *guard;
  *     struct spki_question question = {0};
@@ -31,25 +31,25 @@
  *
  * How to write a case, if no guard is used. The library cannot see which part of a text came from whom, so the caller must:
  *
- * - Write a string from outside, as a path or a user's name, as LENGTH:OCTETS: its number of octets in decimal, a colon, and the
- *   octets as they are. Never paste it. `(cache /cache/team1/a.o read write)` is a request of four strings, which a right to
- *   read contains; `(5:cache21:/cache/team1/a.o read5:write)` is one of three, which it does not contain. SPKI_CANONICAL accepts
- *   both, so it is no check of a string.
- * - Put a whole value from outside, as a sequence or a key, through SPKI_CANONICAL, and write its answer into the case. It accepts
- *   one value and no more, so that the text cannot end its part of the case and begin another one.
- * - Use a key only if the client has proved to hold it, as in TLS or SSH or by a signed nonce. A public key is public: whoever
- *   sends Alice's key would have Alice's rights.
- * - Write the access list, the rows and the moment alone, and end the case with `(policy strict)` unless hashes by SHA-1 must name
+ * - Write a string from outside, such as a path or a user's name, as LENGTH:OCTETS. That is its number of octets in decimal, a
+ *   colon, and the octets unchanged. Never paste it. `(cache /cache/team1/a.o read write)` is a request of four strings, which a
+ *   right to read contains. `(5:cache21:/cache/team1/a.o read5:write)` is one of three, which it does not contain. SPKI_CANONICAL
+ *   accepts both, so it is no check of a string.
+ * - Put a whole value from outside, such as a sequence or a key, through SPKI_CANONICAL, and write its answer into the case. It
+ *   accepts one value and no more, so that the text cannot end its part of the case and begin another one.
+ * - Use a key only if the client has proved to hold it, as in TLS or SSH or by a signed nonce. A public key is public: without a
+ *   proof, each client that sends Alice's key would have Alice's rights.
+ * - Write the access list, the rows and the moment itself, and end the case with `(policy strict)` unless hashes by SHA-1 must name
  *   keys.
- * - Bound the length of what strangers send, as to 65,536 octets, and the number of their certificates, as to 16. On some texts
- *   with more a decision takes minutes, and a call cannot be ended.
+ * - Bound the length of what strangers send, for example to 65,536 octets, and the number of their certificates, for example to 16.
+ *   On some texts with more a decision takes minutes, and a call cannot be ended.
  *
- * What else the caller must ensure. No proof sees these points:
+ * What else the caller must ensure. No proof covers these points:
  *
  * - A pointer with a length points to as many octets, and no other thread writes them meanwhile. The pointer may be null if the
  *   length is 0. The contents of the buffer before the call do not matter. `needed` may be null.
  * - The buffer, the signatures, `count` and `needed` overlap neither each other nor a text.
- * - A guard is closed once, when no call uses it. Its pointer is only passed on, and nothing is read or written behind it.
+ * - A guard is closed once, when no call uses it. Its pointer is only passed on: do not read or write through it.
  * - `malloc`, `realloc` and `free` of the program are those of one allocator. They align a block to each power of two up to 16 that
  *   divides its size, as those of every common C library do. If `malloc` returns null, the answer is `refused Memory`.
  * - No call is made in a signal handler, nor in a child that a process with several threads forked.
@@ -74,7 +74,7 @@ extern "C" {
 
 /* Commands. Each takes a text, which is one value in any of the three forms of RFC 9804. */
 enum spki_command {
-    SPKI_CANONICAL = 0, /* writes its canonical form, with no line feed behind it; the others end in one */
+    SPKI_CANONICAL = 0, /* writes its canonical form, with no line feed after it; the others end in one */
     SPKI_ADVANCED = 1,  /* writes it in advanced form */
     SPKI_TRANSPORT = 2, /* writes it in the transport form */
     SPKI_INTERSECT = 3, /* of `(intersect A B)`: writes the intersection of two tags */
@@ -127,7 +127,7 @@ struct spki_text {
 
 enum spki_policy {
     SPKI_OPEN = 0,  /* hashes of all algorithms name keys, as in a case without a policy */
-    SPKI_STRICT = 1 /* hashes by SHA-1 name no key, as `(policy strict)` in a case */
+    SPKI_STRICT = 1 /* hashes by SHA-1 name no key, like `(policy strict)` in a case */
 };
 
 /* Limits of each question. A null pointer means the highest, SPKI_MOST_OCTETS and SPKI_MOST_NODES. */
@@ -147,7 +147,7 @@ struct spki_question {
     const struct spki_text *words; /* what is asked for, by its strings, whose octets may be any: the list of them, or the string
                                       if there is one */
     size_t word_count;             /* how many strings; 0 if `words` is null */
-    struct spki_text moment;       /* a date, as `19:2024-01-01_00:00:00`, if `seconds` is null */
+    struct spki_text moment;       /* a date, such as `19:2024-01-01_00:00:00`, if `seconds` is null */
     const int64_t *seconds;        /* the moment in seconds since 1970-01-01 00:00:00 UTC */
 };
 
@@ -186,9 +186,9 @@ enum spki_status spki_guard_signed(const spki_guard *guard, const struct spki_qu
  * issuer, or for the client's key if no certificate is shown.
  *
  * Returns SPKI_YES with `yes entry N`, or SPKI_NO with `no`, as SPKI_CHECK does for the case of these parts and the guard's list.
- * SPKI_REFUSED: the line says which part is refused, as `refused sequence Bad 5` for what is no text of a value, or
- * `refused sequence 3 Shape` for a value that is no sequence; `refused key ..`, `refused request ..`, `refused at ..`; or
- * `refused question TooLong`, `refused TooLarge`, `refused Memory`. */
+ * SPKI_REFUSED: the line says which part is refused. `refused sequence Bad 5` is for what is no text of a value, and
+ * `refused sequence 3 Shape` for a value that is no sequence. Other lines are `refused key ..`, `refused request ..`,
+ * `refused at ..`, `refused question TooLong`, `refused TooLarge` and `refused Memory`. */
 enum spki_status spki_guard_decide(const spki_guard *guard, const struct spki_question *question, const unsigned char *verified,
                                    size_t count, void *buffer, size_t buffer_length, size_t *needed);
 
@@ -202,7 +202,7 @@ enum spki_status spki_guard_reduce(const spki_guard *guard, const struct spki_qu
 /* ---- strings */
 
 /* Finds the octets of a string inside a value in canonical form. They are in the text. Each number of the path is that of the list
- * member to enter, from 0: in `(public-key (rsa-pkcs1-sha256 (e #010001#) (n |..|)))` the path {1, 2, 1} leads to the modulus.
+ * member to enter, from 0. In `(public-key (rsa-pkcs1-sha256 (e #010001#) (n |..|)))` the path {1, 2, 1} leads to the modulus.
  * With a depth of 0 the text itself is the string.
  *
  * SPKI_DONE: `*octets` and `*length` are set. With every other status they are null and 0. SPKI_NONE: no string is there.

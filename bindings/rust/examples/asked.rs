@@ -1,8 +1,12 @@
 //! Answers the questions of a test, so that another program can compare the answers.
 //!
-//! Reads strings from standard input, each as LENGTH:OCTETS, and writes the lines of each answer as one string. A question has the strings
-//! COMMAND, POLICY, ACL, SEQUENCE, KEY; `text` or `words`, and a list of strings; `text` or `seconds`, and a string; and a list of what
-//! the verifier accepts, three strings each: a key, a message and a value. A list is its number of strings, and the strings.
+//! Reads strings from standard input, each as LENGTH:OCTETS, and writes the lines of each answer as one string. A list of strings is its
+//! number of strings, and the strings. A question is these, in this order:
+//!
+//! - the strings COMMAND, POLICY, ACL, SEQUENCE and KEY
+//! - `text` or `words`, and a list of strings
+//! - `text` or `seconds`, and a string
+//! - a list of what the verifier accepts, three strings each: a key, a message and a value
 
 use spki::{Decision, Guard, Limits, Moment, Policy, Question, Reason, Refusal, Request};
 use std::error::Error;

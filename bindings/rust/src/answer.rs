@@ -39,12 +39,12 @@ impl Refusal {
         }
     }
 
-    /// The line, without its line feed, as `refused sequence 3 Shape`.
+    /// The line, without its line feed, such as `refused sequence 3 Shape`.
     pub fn line(&self) -> &str {
         &self.line
     }
 
-    /// The name of the fault, as `Shape`, `Bad`, `EmptyList`, `TooLarge` or `Memory`.
+    /// The name of the fault, such as `Shape`, `Bad`, `EmptyList`, `TooLarge` or `Memory`.
     pub fn fault(&self) -> &str {
         let is_name = |word: &&str| word.starts_with(|first: char| first.is_ascii_uppercase());
         self.line.split(' ').rfind(is_name).unwrap_or_default()

@@ -15,7 +15,7 @@ pub struct Reason<'e> {
     pub entry: Option<usize>,
     /// The number of the certificate that stops it, among the items of the sequence, from 1.
     pub item: Option<usize>,
-    /// `grants`, or the cause, as `TagLacks`, `NoDelegation` or `NotAccepted`.
+    /// `grants`, or the cause, such as `TagLacks`, `NoDelegation` or `NotAccepted`.
     pub word: &'e str,
 }
 
@@ -44,7 +44,7 @@ impl fmt::Display for Explanation {
     }
 }
 
-/// The number behind a word at the beginning of a line, and what follows; the whole line if the word is not there.
+/// The number after a word at the beginning of a line, and what follows; the whole line if the word is not there.
 fn numbered<'l>(word: &str, line: &'l str) -> (Option<usize>, &'l str) {
     let found = line
         .strip_prefix(word)

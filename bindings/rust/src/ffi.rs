@@ -29,7 +29,7 @@ impl Text {
         length: 0,
     };
 
-    /// These octets, lent to a call.
+    /// These octets, which a call borrows.
     pub fn of(octets: &[u8]) -> Text {
         Text {
             octets: octets.as_ptr().cast(),
@@ -41,12 +41,12 @@ impl Text {
     ///
     /// # Safety
     ///
-    /// They are there, and nobody changes them, for `'t`.
+    /// They are valid and unchanged for `'t`.
     pub unsafe fn octets<'t>(&self) -> &'t [u8] {
         if self.length == 0 {
             return &[];
         }
-        // SAFETY: the caller says so.
+        // SAFETY: the caller ensures it.
         unsafe { slice::from_raw_parts(self.octets.cast(), self.length) }
     }
 }
@@ -57,7 +57,7 @@ pub struct Limits {
     pub nodes: usize,
 }
 
-/// What a handle points to. Nothing here looks into it.
+/// What a handle points to. Nothing here reads it.
 #[repr(C)]
 pub struct Guard {
     _none: [u8; 0],

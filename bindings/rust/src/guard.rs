@@ -30,8 +30,8 @@ pub struct Limits {
 }
 
 impl Limits {
-    /// The most octets that the texts of a question may have together, up to 1,048,576, and the most nodes of one tag times nodes of
-    /// another for which their intersection is computed, up to 1,000,000. `None` if a limit is higher.
+    /// `octets` is the most octets that the texts of a question may have together, up to 1,048,576. `nodes` is the most nodes of one
+    /// tag times nodes of another for which their intersection is computed, up to 1,000,000. `None` if a limit is higher.
     pub fn new(octets: usize, nodes: usize) -> Option<Limits> {
         let most = Limits::default();
         (octets <= most.octets && nodes <= most.nodes).then_some(Limits { octets, nodes })
@@ -50,10 +50,10 @@ impl Default for Limits {
 
 /// An access list that was read once and is asked often, also by several threads at the same time.
 ///
-/// A verifier is called with the key, the message and the value of each signature that the decision rests on, in order: octets of
-/// canonical forms, of the issuer's `(public-key ..)`, of the certificate, and of the value in `(signature ..)`. It returns whether
-/// the value is a signature of the message by the key. After the first `false` it is not called again. [`string_at`](crate::string_at)
-/// finds the numbers of a key. If it panics, the panic goes on and nothing is granted.
+/// A verifier is called for each signature that the decision depends on, in order, with its key, message and value. These are octets
+/// of canonical forms: of the issuer's `(public-key ..)`, of the certificate, and of the value in `(signature ..)`. It returns whether
+/// the value is a signature of the message by the key. After the first `false` it is not called again. If it panics, the panic is
+/// passed on and nothing is granted. [`string_at`](crate::string_at) finds the numbers of a key.
 ///
 /// ```
 /// use spki::{Decision, Guard, Limits, Moment, Policy, Question, Request};
@@ -75,8 +75,8 @@ pub struct Guard {
     handle: NonNull<ffi::Guard>,
 }
 
-// SAFETY: no call changes what the handle points to, except the last one, which frees it, and `drop` alone makes that. The library keeps
-// nothing beside it between calls: the proved `Guard` behind the handle is `Send` and `Sync`.
+// SAFETY: no call changes what the handle points to, except the last one, which frees it, and only `drop` makes that. The library keeps
+// nothing else between calls: the proved `Guard` behind the handle is `Send` and `Sync`.
 unsafe impl Send for Guard {}
 // SAFETY: as above: all calls on `&Guard` take the handle as `const`.
 unsafe impl Sync for Guard {}
@@ -188,7 +188,7 @@ impl Guard {
         }
     }
 
-    /// The two steps: which signatures there are, and the answer by those that are right.
+    /// The two steps: which signatures there are, and the answer by those that are valid.
     fn asked<V>(
         &self,
         question: &Question,
@@ -210,7 +210,7 @@ impl Guard {
         }))
     }
 
-    /// For each signature 1 if the verifier says that it is right, else 0; `room` is for their octets.
+    /// For each signature 1 if the verifier says that it is valid, else 0; `room` is for their octets.
     fn verified<V>(
         &self,
         asked: &ffi::Question,
@@ -234,7 +234,7 @@ impl Guard {
         if status != ffi::DONE {
             return Err(Refusal::of(status, octets));
         }
-        // SAFETY: the call has written so many.
+        // SAFETY: the call has written as many.
         unsafe { signatures.set_len(count) };
         let mut marks = vec![0; count];
         for (mark, signed) in marks.iter_mut().zip(&signatures) {

@@ -3,7 +3,7 @@
 //! This crate is a safe interface to `libspki_c`, whose decisions are proved. The lines of this crate are tested and not proved.
 //!
 //! A service reads its access list once, into a [`Guard`], and asks it a [`Question`] for each request. The parts of a question come
-//! from different hands, so each is a text of its own. The service verifies signatures by a crypto library of its choice, in a closure.
+//! from different sources, so each is a separate text. The service verifies signatures by a crypto library of its choice, in a closure.
 //!
 //! ```
 //! use spki::{Guard, Limits, Moment, Policy, Question, Request};
@@ -18,11 +18,11 @@
 //! let guard = Guard::read(list, Policy::Strict, Limits::default())?;
 //! let question = Question {
 //!     sequence,
-//!     key: b"(public-key (test carol))", // Carol has proved to hold it, as by TLS
+//!     key: b"(public-key (test carol))", // Carol has proved to hold it, for example by TLS
 //!     request: Request::Words(&[b"packages", b"read", b"/builds/web/index.html"]),
 //!     moment: Moment::Seconds(1_772_366_400), // the service's own clock
 //! };
-//! // Here stands a call of your crypto library. The keys of this example are words, and so are their signatures.
+//! // Call your crypto library here. The keys of this example are words, and so are their signatures.
 //! let verify = |_key: &[u8], _message: &[u8], value: &[u8]| value == b"15:signed-by-alice";
 //! assert!(guard.decide(&question, verify)?.is_yes());
 //! # Ok::<(), spki::Refusal>(())

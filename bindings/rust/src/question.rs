@@ -9,8 +9,8 @@ use std::ptr;
 pub struct Question<'q> {
     /// The certificates and signatures that the client shows: `(sequence ..)`.
     pub sequence: &'q [u8],
-    /// The client's key, `(public-key ..)`. The client must have proved that it holds the key: a public key is public, and whoever
-    /// sends Alice's key would have Alice's rights.
+    /// The client's key, `(public-key ..)`. The client must have proved that it holds the key. A public key is public: without a
+    /// proof, each client that sends Alice's key would have Alice's rights.
     pub key: &'q [u8],
     /// What the client wants to do.
     pub request: Request<'q>,

@@ -43,7 +43,7 @@ BracesGoOn text = Begins IsShallowBraced text ⊎ OpensBraces text
 
 -- What each refusal means for the text. TooLong: it has more than 1,048,576 octets. TooDeep: the octets in its braces are
 -- refused as TooDeep. Short: it may continue, and braces no value. Bad: the octets before the offset may continue, and brace
--- no value. With the octet at the offset they may not continue, no text in braces begins with them, and they do not close
+-- no value. With the octet at the offset they may not continue, and no text in braces begins with them. Nor do they close
 -- braces with octets that are refused as TooDeep. Trailing: the octets before the offset brace a value within the limits,
 -- and with the octet at the offset they may not continue.
 abbrev pub RefusesBraces : List ℕ → FormFault → Type 0

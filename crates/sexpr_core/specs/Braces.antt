@@ -45,7 +45,7 @@ pub record IsBracedWithin (text : List ℕ) (v : Value) : Type 0 where
   pub short : length text ≤ octet_limit
   pub shallow : IsShallow v
 
--- a body in base64 and the mark behind it, from one offset of a text up to another
+-- a body in base64 and the mark after it, from one offset of a text up to another
 pub record ReadsBase64 (text : List ℕ) (at mark : ℕ) (octets : List ℕ) (to : ℕ) : Type 0 where
   pub body : List ℕ
   pub spelled : drop at text ≡ body ++ mark ∷ drop to text
@@ -53,7 +53,7 @@ pub record ReadsBase64 (text : List ℕ) (at mark : ℕ) (octets : List ℕ) (to
   pub goes_on : at < to
   pub within : to ≤ length text
 
--- base64 and the mark behind it are at an offset of a text
+-- base64 and the mark after it are at an offset of a text
 pub record PackedAt (at mark : ℕ) (text : List ℕ) : Type 0 where
   pub body : List ℕ
   pub rest : List ℕ

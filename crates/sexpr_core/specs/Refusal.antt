@@ -12,7 +12,7 @@ IsShallowText t = IsCanonWithin depth_limit t
 
 -- What each refusal means for the text. TooLong: it has more than 1,048,576 octets. TooDeep: some beginning of it begins a
 -- canonical text, but no shallow one. Short: it is a proper beginning of a shallow text. Bad: the octets before the offset
--- are a proper beginning of a shallow text, and with the octet at the offset they begin no canonical text. Trailing: the
+-- are a proper beginning of a shallow text. With the octet at the offset they begin no canonical text. Trailing: the
 -- octets before the offset are a shallow text, and there is an octet at the offset.
 abbrev pub Refused : List ℕ → FormFault → Type 0
 Refused text TooLong = octet_limit < length text

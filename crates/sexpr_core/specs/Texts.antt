@@ -29,7 +29,7 @@ pub record IsVerbatim (t : List ℕ) : Type 0 where
   pub octets : List ℕ
   pub is : t ≡ verbatim octets
 
--- the part of a hinted string behind its hint
+-- the part of a hinted string after its hint
 pub record IsClosing (t : List ℕ) : Type 0 where
   pub octets : List ℕ
   pub is : t ≡ char "]" ∷ verbatim octets

@@ -22,12 +22,12 @@ use base64::DecodeAllocError;
 use base64::engine::general_purpose::STANDARD;
 use std::alloc::{AllocError, Global};
 
-/// Octets that were decoded from base64, and the offset behind the mark that ended them.
+/// Octets that were decoded from base64, and the offset after the mark that ended them.
 #[derive(Debug, Drop)]
 pub struct Unpacked {
     /// The octets.
     pub octets: Vec<u8>,
-    /// The offset behind the closing mark.
+    /// The offset after the closing mark.
     pub end: usize,
 }
 
@@ -68,7 +68,7 @@ fn is_base64_octet(octet: u8) -> bool
         || octet == b'='
 }
 
-/// Returns the offset behind the symbols that begin at an offset.
+/// Returns the offset after the symbols that begin at an offset.
 fn skip_symbols(text: &[u8], at: usize) -> usize
     requires { at ≤ length text.now }
     ensures { SkipsSymbols text.now at result }
@@ -194,7 +194,7 @@ fn check_body(octets: &[u8], at: usize) -> Result<(), FormFault>
 /// TooLong: the text has more than `MOST_OCTETS` octets. Otherwise the first fault from the left. Bad: the first octet past
 /// whitespace is no opening brace, or an octet in the body is not a symbol, `=` or whitespace. Short: the text ends before
 /// the closing brace. At the closing brace TooDeep: the octets open more than `MOST_LISTS` lists at once; or Bad: the body
-/// is no base64 of a canonical form. Trailing: an octet behind the braces is not whitespace.
+/// is no base64 of a canonical form. Trailing: an octet after the braces is not whitespace.
 pub fn unwrap_braces(alloc: Global, text: &[u8]) -> Result<Sexp, FormFault>
     ensures read { IfOk result (λ tree. IsBracedWithin text.now (sexp_value tree)) }
     ensures only { (v : Value) → IsBracedWithin text.now v → IsOkUnless result FormFault.Memory }

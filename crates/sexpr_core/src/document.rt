@@ -41,8 +41,9 @@ impl<'a> Model for Doc<'a> {
 }
 
 impl<'a> Doc<'a> {
-    /// Reads a text that is one value in canonical form (RFC 9804, section 6.2), of at most `MOST_OCTETS` octets and with at
-    /// most `MOST_LISTS` lists open at once. It takes time linear in the octets, and reads no octet of a string's body.
+    /// Reads a text that is one value in canonical form (RFC 9804, section 6.2). The text has at most `MOST_OCTETS` octets,
+    /// and at most `MOST_LISTS` lists are open in it at once. The call takes time linear in the octets, and reads no octet
+    /// of a string's body.
     ///
     /// # Errors
     ///

@@ -117,7 +117,8 @@ impl<'d, 'a> Node<'d, 'a> {
         }
     }
 
-    /// The members of a list behind its head, if the head is this word without a display hint. None for every other value.
+    /// The members of a list after its head, if the head is this word without a display hint. None for every other
+    /// value.
     pub fn headed(&self, word: &[u8]) -> Option<Members<'d, 'a>>
         ensures { MatchOption result (IsNotHeaded self.now word.now)
             (λ vs. self.now ≡ group (plain word.now ∷ vs)) }

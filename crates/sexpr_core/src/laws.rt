@@ -19,15 +19,15 @@ pub fn canonical_form_is_prefix_free()
     ensures { (v w : Value) (x y : List ℕ) → canon v ++ x ≡ canon w ++ y → (v ≡ w) × (x ≡ y) }
 {}
 
-/// A text has at most one refusal for its form, with its offset, and none if it is a value's canonical text within the
-/// limits. So each of TooDeep, Short, Bad and Trailing is returned exactly if its meaning holds of a text that is not too
-/// long, if memory does not run out.
+/// A text has at most one refusal for its form, with its offset. It has none if it is a value's canonical text within the
+/// limits. Assume that the text is not too long and that memory does not run out. Then each of TooDeep, Short, Bad and
+/// Trailing is returned exactly if its meaning holds.
 pub fn one_refusal()
     ensures none { (text : List ℕ) (e : FormFault) (v : Value) → IsOfForm e → Refused text e → IsWithinLimits v → text ≢ canon v }
     ensures one { (text : List ℕ) (e f : FormFault) → IsOfForm e → IsOfForm f → Refused text e → Refused text f → e ≡ f }
 {}
 
-/// The same for texts in braces: a text has at most one refusal of the transport form for its form, with its offset, and
+/// The same for texts in braces. A text has at most one refusal of the transport form for its form, with its offset. It has
 /// none if it braces a value within the limits.
 pub fn one_refusal_in_braces()
     ensures none { (text : List ℕ) (e : FormFault) (v : Value) → IsOfForm e → RefusesBraces text e → ¬ IsBracedWithin text v }

@@ -5,7 +5,7 @@
 pub(crate) struct Record {
     /// Where the node's text begins: at the bracket of a hinted string.
     pub(crate) start: usize,
-    /// The offset behind the node's text.
+    /// The offset after the node's text.
     pub(crate) end: usize,
     /// The number of nodes in the node, with itself.
     pub(crate) size: usize,

@@ -13,8 +13,8 @@ use crate::siblings::Members;
 use crate::tree::{Atom, Sexp};
 use std::alloc::{AllocError, Global};
 
-/// Reads a text that is one value in canonical form (RFC 9804, section 6.2), of at most `MOST_OCTETS` octets and with at
-/// most `MOST_LISTS` lists open at once, as an owned tree.
+/// Reads a text as an owned tree. The text is one value in canonical form (RFC 9804, section 6.2), of at most
+/// `MOST_OCTETS` octets. At most `MOST_LISTS` lists are open in it at once.
 ///
 /// # Errors
 ///

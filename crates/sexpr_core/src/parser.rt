@@ -19,7 +19,7 @@ pub const MOST_OCTETS: usize = 1_048_576;
 /// The largest number of lists that may be open at once.
 pub const MOST_LISTS: usize = 64;
 
-/// The length before a string, at most `MOST_OCTETS` plus one, and the offset behind its colon.
+/// The length before a string, at most `MOST_OCTETS` plus one, and the offset after its colon.
 #[derive(Clone, Copy)]
 struct Length {
     number: usize,
@@ -33,7 +33,7 @@ struct Piece {
     end: usize,
 }
 
-/// The number of members of a list, and the offset behind its closing parenthesis.
+/// The number of members of a list, and the offset after its closing parenthesis.
 #[derive(Clone, Copy)]
 struct ListEnd {
     parts: usize,
@@ -58,7 +58,7 @@ fn first_digit(text: &[u8], at: usize) -> Result<usize, FormFault>
     }
 }
 
-/// Reads a decimal length without leading zeros, and the colon behind it. A length of any size is read, since a text may
+/// Reads a decimal length without leading zeros, and the colon after it. A length of any size is read, since a text may
 /// continue for as long. One over `MOST_OCTETS` is returned as `MOST_OCTETS` plus one.
 fn read_length(text: &[u8], at: usize) -> Result<Length, FormFault>
     requires { at ≤ length text.now }
@@ -99,7 +99,7 @@ fn read_verbatim(text: &[u8], at: usize) -> Result<Piece, FormFault>
     })
 }
 
-/// Reads the closing bracket of a hint and the string behind it.
+/// Reads the closing bracket of a hint and the string after it.
 fn read_closing(text: &[u8], at: usize) -> Result<Piece, FormFault>
     requires short { length text.now ≤ 1048576 }
     requires begins { at ≤ length text.now }

@@ -56,7 +56,7 @@ impl<'d, 'a> Members<'d, 'a> {
         self.from == self.to
     }
 
-    /// Returns the next member and the members behind it. None if no member is left.
+    /// Returns the next member and the members after it. None if no member is left.
     pub fn split_first(self) -> Option<(Node<'d, 'a>, Members<'d, 'a>)>
         ensures { MatchOption result (self.entry ≡ []) (λ p. self.entry ≡ p.0 ∷ p.1) }
     {

@@ -26,7 +26,7 @@ pub fn is_space(octet: u8) -> bool
     octet == b' ' || (octet >= 9 && octet <= 13)
 }
 
-/// Returns the offset behind the whitespace that begins at an offset.
+/// Returns the offset after the whitespace that begins at an offset.
 pub fn skip_spaces(text: &[u8], at: usize) -> usize
     requires { at ≤ length text.now }
     ensures { Skips text.now at result }

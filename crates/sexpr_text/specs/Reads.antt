@@ -89,7 +89,7 @@ pub record ReadsEscape (front text : List ℕ) (at : ℕ) (octet : Option ℕ) (
   pub forward : at < to
   pub within : to ≤ length text
 
--- why an octet behind a backslash, at an offset, is refused
+-- why an octet after a backslash, at an offset, is refused
 abbrev pub IsNoLetter : ℕ → ℕ → FormFault → Type 0
 IsNoLetter c at TooLong = ⊥
 IsNoLetter c at TooDeep = ⊥
@@ -139,7 +139,7 @@ IsTooFew text at number (Bad k) = ⊥
 IsTooFew text at number (Trailing k) = ⊥
 IsTooFew text at number Memory = Unit {0}
 
--- ---- strings and values, and the octets behind them
+-- ---- strings and values, and the octets after them
 
 -- a string without a hint is at an offset, and these octets follow it
 pub record StringAt (text : List ℕ) (at : ℕ) (octets rest : List ℕ) : Type 0 where

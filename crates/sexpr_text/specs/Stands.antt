@@ -37,7 +37,7 @@ pub record OctalStands (at : ℕ) (text : List ℕ) : Type 0 where
   pub low : value < 8
   pub spelled : drop at text ≡ (char "0" + value) ∷ rest
 
--- a hexadecimal body and the mark behind it
+-- a hexadecimal body and the mark after it
 pub record DigitsStand (at : ℕ) (text : List ℕ) : Type 0 where
   pub body : List ℕ
   pub octets : List ℕ

@@ -29,7 +29,7 @@ IsApart true (c ∷ cs) = is_token_octet c ≡ false
 
 -- ---- quoted strings
 
--- the octet that the octet behind a backslash means
+-- the octet that the octet after a backslash means
 abbrev pub escape_value : ℕ → Option ℕ
 escape_value e =
     if e == char "a" then Some 7
@@ -45,9 +45,9 @@ escape_value e =
     else if e == char "\\" then Some (char "\\")
     else None
 
--- The pieces between the quotes: an octet that means itself; a backslash and an octet that means another; a backslash and
--- three octal digits; a backslash, x and two hexadecimal digits, with the values of the digits; a backslash and CR or LF; a
--- backslash and CR LF or LF CR.
+-- The pieces between the quotes. A piece is an octet that means itself, or a backslash and an octet that means another. Or
+-- it is a backslash and three octal digits, or a backslash, x and two hexadecimal digits, with the values of the digits. Or
+-- it is a backslash and CR or LF, or a backslash and CR LF or LF CR.
 pub data Piece : Type 0 where
   raw : ℕ → Piece
   escaped : ℕ → ℕ → Piece
@@ -96,7 +96,7 @@ abbrev pub pieces_octets : List Piece → List ℕ
 pieces_octets [] = []
 pieces_octets (p ∷ ps) = piece_octets p ++ pieces_octets ps
 
--- pieces one after another, with these octets behind them all
+-- pieces one after another, with these octets after them all
 abbrev pub ArePieces : List Piece → List ℕ → Type 0
 ArePieces [] rest = Unit {0}
 ArePieces (p ∷ ps) rest = IsPiece p (pieces_text ps ++ rest) × ArePieces ps rest

@@ -75,7 +75,7 @@ IsUnclosedAtom text = IsUnclosedString text ⊎ (IsUnclosedHint text ⊎ IsUnclo
 
 -- ---- lists
 
--- spelled members of a list, with whitespace around each, and a text of U behind them
+-- spelled members of a list, with whitespace around each, and a text of U after them
 abbrev pub UnclosedMembers : (U : List ℕ → Type 0) → Values → List ℕ → Type 0
 UnclosedMembers U none text = (spaces : List ℕ) × (last : List ℕ) × (text ≡ spaces ++ last) × AreSpaces spaces × U last
 UnclosedMembers U (more v vs) text =

@@ -181,7 +181,7 @@ fn write_token(form: Form, octets: &[u8], out: &mut Vec<u8>) -> Result<(), Alloc
 }
 
 /// Converts a value, from its first octet on. At most `room` lists may be open at once in it. This function and those that
-/// it calls for a token are inlined, so that a member that is a token takes one call only, the one that writes it.
+/// it calls for a token are inlined. So a member that is a token takes one call only, the one that writes it.
 #[cycle(converting)]
 #[inline(always)]
 fn convert_value(

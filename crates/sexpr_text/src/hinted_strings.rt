@@ -15,7 +15,7 @@ use sexpr_core::syntax::{octet_at, skip_spaces};
 use std::alloc::Global;
 use std::borrow::CowSlice;
 
-/// The hint and the octets of a string, and the offset behind its text.
+/// The hint and the octets of a string, and the offset after its text.
 #[derive(Drop)]
 pub(crate) struct HintedString<'t> {
     pub(crate) hint: CowSlice<'t, u8, Global>,

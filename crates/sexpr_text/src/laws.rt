@@ -26,9 +26,9 @@ pub fn printed_is_advanced()
     ensures { (v : Value) → HasOctets v → Spells (adv v) v }
 {}
 
-/// A text has at most one refusal of advanced form for its form, with its offset, and none if it spells a value within the
-/// limits. So each of TooDeep, Short, Bad and Trailing is returned exactly if its meaning holds of a text that is not too
-/// long, if memory does not run out.
+/// A text has at most one refusal of advanced form for its form, with its offset. It has none if it spells a value within
+/// the limits. Assume that the text is not too long and that memory does not run out. Then each of TooDeep, Short, Bad and
+/// Trailing is returned exactly if its meaning holds.
 pub fn one_refusal()
     ensures none { (text : List ℕ) (e : FormFault) (v : Value) → IsOfForm e → RefusesSpelling text e → ¬ IsSpelledWithin text v }
     ensures one { (text : List ℕ) (e f : FormFault) → IsOfForm e → IsOfForm f → RefusesSpelling text e → RefusesSpelling text f → e ≡ f }
@@ -40,8 +40,8 @@ pub fn one_refusal_in_any_form()
     ensures one { (text : List ℕ) (e f : FormFault) → IsOfForm e → IsOfForm f → RefusesText text e → RefusesText text f → e ≡ f }
 {}
 
-/// At an octet that is refused as Bad, in any form, no text of a value continues: no text that spells or braces a value
-/// begins with the octets up to this one.
+/// At an octet that is refused as Bad, in any form, no text of a value continues. That is, no text that spells or braces a
+/// value begins with the octets up to this one.
 pub fn bad_is_bad()
     ensures { (text : List ℕ) (at : ℕ) → RefusesText text (Bad at) → (at < length text) × ¬ Begins IsSomeText (take (at + 1) text) }
 {}

@@ -1,4 +1,4 @@
-//! The octets around a value in a whole text.
+//! Whether a text opens with a brace.
 
 ghost use Rattle.std.specs.Prelude.{◌≡◌, ℕ, List, ◌≤◌, ◌↔◌, ◌∷◌, length, drop, IsTrue};
 

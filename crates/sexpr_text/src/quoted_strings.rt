@@ -17,7 +17,7 @@ use sexpr_core::syntax::octet_at;
 use std::alloc::Global;
 use std::borrow::CowSlice;
 
-/// The octet that an escape means, none for a line end, and the offset behind the escape.
+/// The octet that an escape means, none for a line end, and the offset after the escape.
 #[derive(Clone, Copy)]
 struct Escape {
     octet: Option<u8>,
@@ -98,7 +98,7 @@ fn read_piece(text: &[u8], at: usize, octet: u8, octets: &mut Vec<u8>) -> Result
     }
 }
 
-/// Reads the part of an escape behind the backslash.
+/// Reads the part of an escape after the backslash.
 fn read_escape(text: &[u8], at: usize) -> Result<Escape, FormFault>
     requires { at ≤ length text.now }
     ensures read { IfOk result (λ read. ReadsEscape (92 ∷ []) text.now at read.octet read.end) }
@@ -118,7 +118,7 @@ fn read_escape(text: &[u8], at: usize) -> Result<Escape, FormFault>
     }
 }
 
-/// Reads a line end behind a backslash: one octet, or two if the second forms a pair with the first.
+/// Reads a line end after a backslash: one octet, or two if the second forms a pair with the first.
 fn line_end(text: &[u8], at: usize, second: u8) -> Escape
     requires { IsLineEnd text.now at second }
     ensures { ReadsEscape (92 ∷ []) text.now at result.octet result.end }
@@ -137,7 +137,7 @@ fn line_end(text: &[u8], at: usize, second: u8) -> Escape
     }
 }
 
-/// The octet that the octet behind a backslash means. None if that is no escape.
+/// The octet that the octet after a backslash means. None if that is no escape.
 fn meant_by(octet: u8) -> Option<u8>
     ensures { result ≡ escape_value octet }
 {
@@ -199,7 +199,7 @@ fn read_hexadecimal_digit(text: &[u8], at: usize) -> Result<u8, FormFault>
     }
 }
 
-/// Reads two hexadecimal digits behind an x.
+/// Reads two hexadecimal digits after an x.
 fn read_hexadecimal_escape(text: &[u8], at: usize) -> Result<Escape, FormFault>
     requires { at ≤ length text.now }
     ensures read { IfOk result (λ read. ReadsEscape (92 ∷ 120 ∷ []) text.now at read.octet read.end) }

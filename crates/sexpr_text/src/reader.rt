@@ -31,15 +31,15 @@ struct ReadMembers {
     end: usize,
 }
 
-/// Reads a text in advanced form, which includes canonical form (RFC 9804, section 6.4), of at most `MOST_OCTETS` octets and
-/// with at most `MOST_LISTS` lists open at once.
+/// Reads a text in advanced form, which includes canonical form (RFC 9804, section 6.4). The text has at most `MOST_OCTETS`
+/// octets, and at most `MOST_LISTS` lists are open in it at once.
 ///
 /// # Errors
 ///
 /// TooLong: the text has more octets. Otherwise the first fault from the left. TooDeep: a list begins while `MOST_LISTS` are
-/// open. Bad: the octet at this offset is not allowed in its place; or, at a closing mark, the body does not fit the marks
-/// or the length in front. Short: the text ends before the value is complete. Trailing: an octet follows the complete value
-/// and the whitespace behind it, at this offset.
+/// open. Bad: the octet at this offset is not allowed in its place. At a closing mark it may also be that the body does not
+/// fit the marks or the length in front. Short: the text ends before the value is complete. Trailing: an octet follows the
+/// complete value and the whitespace after it, at this offset.
 pub fn read_advanced(alloc: Global, text: &[u8]) -> Result<Sexp, FormFault>
     ensures read { IfOk result (λ tree. IsSpelledWithin text.now (sexp_value tree)) }
     ensures only { (v : Value) → IsSpelledWithin text.now v → IsOkUnless result FormFault.Memory }

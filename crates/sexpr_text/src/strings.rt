@@ -19,21 +19,22 @@ use sexpr_core::{FormFault, MOST_OCTETS};
 use std::alloc::{AllocError, Global};
 use std::borrow::CowSlice;
 
-/// The octets of a string, borrowed from the text if it contains them as they are, and the offset behind the string's text.
+/// The octets of a string, borrowed from the text if it contains them as they are, and the offset after the string's
+/// text.
 #[derive(Drop)]
 pub(crate) struct ReadString<'t> {
     pub(crate) octets: CowSlice<'t, u8, Global>,
     pub(crate) end: usize,
 }
 
-/// The octets of a string between marks, and the offset behind its text.
+/// The octets of a string between marks, and the offset after its text.
 #[derive(Drop)]
 pub(crate) struct MarkedString {
     pub(crate) octets: Vec<u8>,
     pub(crate) end: usize,
 }
 
-/// The length in front of a string, at most `MOST_OCTETS` plus one, and the offset behind its digits.
+/// The length in front of a string, at most `MOST_OCTETS` plus one, and the offset after its digits.
 #[derive(Clone, Copy)]
 struct Count {
     number: usize,

@@ -1,4 +1,4 @@
--- What the handle to a guard owns, and what a call may read of a guard that is lent to it.
+-- What the handle to a guard owns, and what a call may read of a guard that it borrows.
 use Rattle.std.specs.Prelude.{Option, Some, None}
 use base.Stored.{Coded}
 use base.Fml.{Fml, Lft, Share, ftrue, fsep, fex, flft}
@@ -17,7 +17,8 @@ abbrev pub held_owns : Ptr → Option the_row.Denot → Fml
 held_owns p None = ftrue
 held_owns p (Some g) = box_owns (ghosts.dealloc_token heap) the_row p g
 
--- The guard is lent for a lifetime, and a share of the token of that lifetime is owned. So the lifetime lasts as long as the call.
+-- The guard is borrowed for a lifetime, and a share of the token of that lifetime is owned. So the lifetime lasts as
+-- long as the call.
 abbrev pub lent_for : Ptr → the_row.Denot → Lft × Share → Fml
 lent_for p g s = fsep (flft s.0 s.1) (lent_at the_row p g s.0)
 

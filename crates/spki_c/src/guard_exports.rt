@@ -17,8 +17,8 @@ use std::alloc::Global;
 
 /// Reads an access list, in any of the three forms, into a guard on the heap. The caller holds the guard by the handle.
 ///
-/// Returns 6 if the handle has the guard. Otherwise the handle is unchanged: returns 2 for a refusal, whose line is in the buffer, 4
-/// if the buffer is too small for the line, and 5 if no policy has this number or a limit is too high.
+/// Returns 6 if the handle has the guard. Otherwise the handle is unchanged. Returns 2 for a refusal, whose line is in the buffer,
+/// and 4 if the buffer is too small for the line. Returns 5 if no policy has this number or a limit is too high.
 #[unsafe(no_mangle)]
 pub extern "C" fn spki_c_guard_open(
     alloc: Global,
@@ -72,8 +72,8 @@ pub extern "C" fn spki_c_guard_entries(lent: &mut Lent) -> usize
 }
 
 /// Lists the signatures of a question for a verifier. Each has three texts in canonical form: the issuer's key, the message, and the
-/// value. Writes the octets of all texts to the front of the buffer, one text behind another, and the length of each to the front of
-/// `lengths`. The moment is the first of `seconds`, or the text `moment` if `seconds` is empty.
+/// value. Writes the octets of all texts to the front of the buffer, one text after another. Writes the length of each to the front
+/// of `lengths`. The moment is the first of `seconds`, or the text `moment` if `seconds` is empty.
 ///
 /// Returns 6 if both are written, and 4 if there is too little room for one of them. Then both are unchanged. `count` is the number
 /// of lengths, and `needed` the number of octets. Returns 2 if the question is refused: its line is in the buffer, and `count` is 0.
@@ -108,8 +108,8 @@ pub extern "C" fn spki_c_guard_signed(
 /// Answers a question, if exactly those signatures are valid that `spki_c_guard_signed` lists at the places where `verified` is 1.
 /// Writes the answer to the front of the buffer.
 ///
-/// A decision returns 0 for yes and 1 for no. An explanation or a reduction returns 6. All return 2 for a refusal, 4 if the buffer is
-/// too small, and 5 if there are more or fewer marks than signatures or no wish has this number.
+/// A decision returns 0 for yes and 1 for no. An explanation or a reduction returns 6. All return 2 for a refusal, and 4 if the
+/// buffer is too small. All return 5 if there are more or fewer marks than signatures, or if no wish has this number.
 #[unsafe(no_mangle)]
 pub extern "C" fn spki_c_guard_answer(
     alloc: Global,

@@ -20,7 +20,7 @@ impl Model for Handle {
     ghost also_owns = { λ h. held_owns h.at h.held };
 }
 
-/// A pointer to a guard that is lent to a call. The guard lasts at least as long as the call.
+/// A pointer to a guard that a call borrows. The guard lasts at least as long as the call.
 #[repr(C)]
 pub struct Lent {
     at: *const u8,
@@ -55,7 +55,7 @@ impl Handle {
 }
 
 impl Lent {
-    /// The guard that is lent.
+    /// The guard that is borrowed.
     pub(crate) fn guard(&mut self) -> &Guard
         ensures { result.now ≡ self.entry.now.guard }
     {

@@ -1,6 +1,6 @@
-//! The proved part of the library for C programs: commands from a text to an answer in a buffer, decisions by signatures that the
-//! caller has verified, and questions to a guard that the caller holds. `spki.c` calls these functions. `spki.h` declares what C
-//! programs call, and lists what a caller must ensure.
+//! The proved part of the library for C programs. It runs commands on a text and puts the answer in a buffer. It decides by
+//! signatures that the caller has verified, and answers questions to a guard that the caller holds. `spki.c` calls these
+//! functions. `spki.h` declares what C programs call, and lists what a caller must ensure.
 #![tactic(auto)]
 
 mod box_pointer;

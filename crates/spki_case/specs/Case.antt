@@ -20,9 +20,9 @@ pub record Row : Type 0 where
   pub digest : List ℕ
   pub value : List ℕ
 
--- The access list's entries, the signatures that are accepted, the items of the sequence, and the question: whether the key
--- may do the request at the moment, under the policy. If two tags are intersected, the product of their nodes is at most
--- `most_nodes`.
+-- The access list's entries, the signatures that are accepted, the items of the sequence, and the question. The question is
+-- whether the key may do the request at the moment, under the policy. If two tags are intersected, the product of their
+-- nodes is at most `most_nodes`.
 pub record Case : Type 0 where
   pub entries : List Entry
   pub rows : List Row

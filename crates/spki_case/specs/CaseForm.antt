@@ -26,7 +26,7 @@ use Rattle.spki_case.specs.Texts.{IsTextOf, IsMalformed}
 use Rattle.spki_case.specs.declared.cases.CaseFault.{CaseFault}
 use Rattle.spki_case.specs.declared.cases.CaseFault.TheVariants as faults
 
--- the contents of a case, behind the heads of its parts
+-- the contents of a case, after the heads of its parts
 pub record Parts : Type 0 where
   pub entries : List Value
   pub rows : List Value
@@ -182,7 +182,7 @@ ValueRefused v fault = IsMisbuilt v fault ⊎ LacksPart v fault
 abbrev pub IsCaseText : List ℕ → Case → Type 0
 IsCaseText text c = IsTextOf (λ v. CaseOf v c) text
 
--- What a fault means for a text, except for Memory: it is no canonical form within the limits, or its value is refused for
--- the fault.
+-- What a fault means for a text, except for Memory. The text is no canonical form within the limits, or its value is
+-- refused for the fault.
 abbrev pub TextRefused : List ℕ → CaseFault → Type 0
 TextRefused text fault = IsMalformed faults.Form text fault ⊎ IsTextOf (λ v. ValueRefused v fault) text

@@ -22,7 +22,8 @@ pub record RowOf (v : Value) (row : Row) : Type 0 where
   pub digest_is : HashOf hash Sha256 row.digest
   pub value_is : row.value ≡ canon value
 
--- What a kind of fault means for the hash of a row: what it means for any value, or that the hash is by another algorithm.
+-- What a kind of fault means for the hash of a row. It means what it means for any value, or that the hash is by another
+-- algorithm.
 abbrev pub HashShows : CertFaultKind → Value → Type 0
 HashShows kind v =
     Shows kind v ⊎ ((kind ≡ kinds.HashAlg) × (alg : HashAlg) × (digest : List ℕ) × HashOf v alg digest × (alg ≢ Sha256))

@@ -50,7 +50,7 @@ NoRows v fault = IsNoList v fault ⊎ LacksRow v fault
 abbrev pub IsRowsText : List ℕ → List Row → Type 0
 IsRowsText text rows = IsTextOf (λ v. RowsOf v rows) text
 
--- What a fault means for a text, except for Memory: it is no canonical form within the limits, or its value is refused for
--- the fault.
+-- What a fault means for a text, except for Memory. The text is no canonical form within the limits, or its value is
+-- refused for the fault.
 abbrev pub RowsTextRefused : List ℕ → RowsFault → Type 0
 RowsTextRefused text fault = IsMalformed faults.Form text fault ⊎ IsTextOf (λ v. NoRows v fault) text

@@ -34,7 +34,7 @@ abbrev pub octets_of : Certificate → List ℕ
 octets_of (auth cert) = cert.octets
 octets_of (name cert) = cert.octets
 
--- a certificate's signature: the next item behind it, except operations
+-- a certificate's signature: the next item after it, except operations
 abbrev pub signature_in : List SeqItem → Option signature.Signature
 signature_in [] = None
 signature_in (Key octets ∷ items) = None
@@ -43,7 +43,7 @@ signature_in (Auth cert ∷ items) = None
 signature_in (Name cert ∷ items) = None
 signature_in (Signature s ∷ items) = Some s
 
--- a certificate of a sequence: the number of its item, and the signature behind it
+-- a certificate of a sequence: the number of its item, and the signature after it
 pub record Shown : Type 0 where
   pub item : ℕ
   pub certificate : Certificate

@@ -1,4 +1,4 @@
--- Statements about a text that is read in canonical form, and about lack of memory.
+-- Statements about a text that is read in canonical form, and about memory that ran out.
 use Rattle.std.specs.Prelude.{◌≡◌, ◌≢◌, ◌⊎◌, ℕ, List}
 use Rattle.sexpr_core.specs.declared.fault.FormFault.{FormFault}
 use Rattle.sexpr_core.specs.declared.fault.FormFault.TheVariants.{Memory}
@@ -19,7 +19,7 @@ pub record IsMalformed {F : Type 0} (named : FormFault → F) (text : List ℕ) 
   pub found : form ≢ Memory
   pub refused : Refused text form
 
--- The fault of an inner reader as one of the outer reader: if the inner one is for lack of memory, it is the outer one's
--- fault for that; any other is named.
+-- The fault of an inner reader as one of the outer reader. If the inner one is that memory ran out, it is the outer
+-- one's fault for that. Any other is named.
 abbrev pub IsOuter : {F : Type 0} → Type 0 → F → F → F → Type 0
 IsOuter inside memory named outer = (inside × (outer ≡ memory)) ⊎ (¬ inside × (outer ≡ named))

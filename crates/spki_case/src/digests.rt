@@ -6,9 +6,9 @@ ghost use Rattle.std.specs.Prelude.{◌≡◌};
 
 use spki_cert::{Algorithms, Entry, Key, Policy, Principal, SeqItem};
 
-/// The items of a sequence, with keys that carry their digests by the algorithms of the hashes that they may be compared
-/// with: `algorithms`, which are those of the access list, and those of the sequence (RFC 2693, section 2.5). Takes no
-/// memory.
+/// The items of a sequence, with keys that carry their digests (RFC 2693, section 2.5). The digests are by the algorithms
+/// of the hashes that the keys may be compared with. These are `algorithms`, which are those of the access list, and those
+/// of the sequence. Allocates nothing.
 pub(crate) fn digested_items<'a>(
     items: Vec<SeqItem<'a>>,
     algorithms: Algorithms,
@@ -24,9 +24,9 @@ pub(crate) fn digested_items<'a>(
     items
 }
 
-/// The client's key, with its digests by the algorithms of the hashes that it may be compared with: those of the last
-/// certificate's subject, or, if there is no certificate, `algorithms`, which are those of the access list's subjects. Takes
-/// no memory.
+/// The client's key, with its digests by the algorithms of the hashes that it may be compared with. These are those of the
+/// last certificate's subject. If there is no certificate, they are `algorithms`, which are those of the access list's
+/// subjects. Allocates nothing.
 pub(crate) fn asking_key<'a>(
     key: &Key<'a>,
     algorithms: Algorithms,

@@ -10,7 +10,7 @@ ghost use Rattle.spki_case.specs.Parts.{IsPart, IsNoPart, ArePartsOf};
 use sexpr_core::syntax::{Members, Node};
 use spki_cert::Policy;
 
-/// The parts of a case, behind their heads. The access list and the sequence have their heads.
+/// The parts of a case, after their heads. The access list and the sequence have their heads.
 #[derive(Drop)]
 pub(crate) struct Parts<'d, 'a> {
     pub acl: Node<'d, 'a>,
@@ -22,7 +22,7 @@ pub(crate) struct Parts<'d, 'a> {
     pub policy: Policy,
 }
 
-/// A member that is a list with this head: the member, the members behind its head, and the members behind the list.
+/// A member that is a list with this head: the member, the members after its head, and the members after the list.
 #[derive(Drop)]
 struct Part<'d, 'a> {
     node: Node<'d, 'a>,
@@ -63,7 +63,7 @@ fn is_word(members: Members, word: &[u8]) -> bool
     }
 }
 
-/// The policy behind the moment: `(policy strict)`, or nothing for the open policy.
+/// The policy after the moment: `(policy strict)`, or nothing for the open policy.
 fn policy_in(members: Members) -> Option<Policy>
     ensures { MatchOption result ((policy : Policy) → members.entry ≢ policy_values policy)
         (λ policy. members.entry ≡ policy_values policy) }
@@ -88,7 +88,7 @@ pub(crate) fn parts_of<'d, 'a>(node: &Node<'d, 'a>) -> Option<Parts<'d, 'a>>
     parts_in(node.headed(b"case")?)
 }
 
-/// The parts behind the head of a case.
+/// The parts after the head of a case.
 fn parts_in<'d, 'a>(members: Members<'d, 'a>) -> Option<Parts<'d, 'a>>
     ensures { MatchOption result ((p : spec.Parts) → members.entry ≢ part_values p)
         (λ p. (parts : spec.Parts) × ArePartsOf members.entry p parts) }

@@ -78,7 +78,7 @@ fn row_fault(fault: CertFault) -> RowsFault
     }
 }
 
-/// Reads the row of a node: `(by key hash value)`. Takes no memory.
+/// Reads the row of a node: `(by key hash value)`. Allocates nothing.
 fn row_at<'a>(node: &Node<'_, 'a>) -> Result<Row<'a>, CertFaultKind>
     ensures row { IfOk result (λ row. RowOf node.now (row_of row)) }
     ensures refused { IfErr result (λ _. (row : model.Row) → ¬ RowOf node.now row) }
@@ -125,7 +125,7 @@ fn sha256_of<'a>(node: &Node<'_, 'a>) -> Result<Octets<'a>, CertFaultKind>
     }
 }
 
-/// Reads the rows of an accepted list, behind its head.
+/// Reads the rows of an accepted list, after its head.
 fn rows_of<'a>(alloc: Global, members: Members<'_, 'a>) -> Result<Vec<Row<'a>>, CertFault>
     ensures rows { IfOk result (λ rows. AllZip RowOf members.entry (map row_of rows.items)) }
     ensures refused { IfErr result (λ fault. fault.kind ≢ CertFaultKind.Memory → RowsRefused members.entry fault) }

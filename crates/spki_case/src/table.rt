@@ -33,7 +33,7 @@ pub struct AcceptedTable<'a> {
 }
 
 impl<'a> Row<'a> {
-    /// Returns the same row again, without taking memory.
+    /// Returns the same row again, and allocates nothing.
     fn share(&self) -> Row<'a>
         ensures { result ≡ self.now }
     {
@@ -70,7 +70,7 @@ fn first_rows<'a>(alloc: Global, rows: &[Row<'a>]) -> Result<FirstRows<'a>, Allo
     Ok(first)
 }
 
-/// Adds a row behind others, unless one of them has its digest.
+/// Adds a row after others, unless one of them has its digest.
 fn add_row<'a>(first: &mut FirstRows<'a>, alloc: Global, row: &Row<'a>) -> Result<(), AllocError>
     ensures { OnOk result ((digest : List ℕ) → at_digest first.new digest
         ≡ option_or (at_digest first.old digest) (find (λ row. bytes_eq row.digest digest) (row.now ∷ []))) }

@@ -50,7 +50,7 @@ abbrev pub BeginsMisfit : List Value → Type 0
 BeginsMisfit [] = ⊥
 BeginsMisfit (v ∷ vs) = (is_headed (codes "version") v ≡ true) × (v ≢ version_field)
 
--- The fault of the outer list: it is not headed acl, or the first value behind its head is headed version and is not
+-- The fault of the outer list. It is not headed acl, or the first value after its head is headed version and is not
 -- (version 0).
 abbrev pub OuterRefused : Value → CertFaultKind → Type 0
 OuterRefused v kind =

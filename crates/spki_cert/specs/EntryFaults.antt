@@ -1,5 +1,5 @@
--- The fault for which an entry or an access list is refused: the first from the left, with missing fields and clashes last
--- (RFC 2693, section 3.4; the forms are those of the SPKI working group's structure draft).
+-- The fault for which an entry or an access list is refused (RFC 2693, section 3.4). It is the first from the left, with
+-- missing fields and clashes last. The forms are those of the SPKI working group's structure draft.
 use Rattle.std.specs.Prelude.{ℕ, ◌+◌, not, List, [], ◌∷◌, drop, Option, Some, None, codes, if◌then◌else◌}
 use Rattle.sexpr_core.specs.Value.{Value}
 use Rattle.spki_tag.specs.FirstFault.{first_fault, unless}
@@ -45,10 +45,10 @@ acl_version_fault (v ∷ vs) = if is_headed (codes "version") v then sole_fault 
 unfoldable pub outer_fault : Value → Option CertFaultKind
 outer_fault v = first_fault (unless (is_headed (codes "acl") v) Shape ∷ acl_version_fault (behind_head v) ∷ [])
 
--- the entries behind the head and the version, in order
+-- the entries after the head and the version, in order
 unfoldable pub entries_fault : List Value → Option CertFault
 entries_fault vs = first_fault (each_looked entry_fault 1 vs)
 
--- (acl version? entry ..): the outer list at item 0, then each entry, from 1 and behind the version
+-- (acl version? entry ..): the outer list at item 0, then each entry, from 1 and after the version
 unfoldable pub acl_fault : Value → Option CertFault
 acl_fault v = first_fault (at_item 0 (outer_fault v) ∷ entries_fault (behind_version (behind_head v)) ∷ [])

@@ -1,5 +1,5 @@
 -- The fault for which a field is refused, and the one of several fields: the first from the left (RFC 2693, sections 3.3,
--- 3.4 and 5; the forms are those of the SPKI working group's structure draft).
+-- 3.4 and 5). The forms are those of the SPKI working group's structure draft.
 use Rattle.std.specs.Prelude.{ℕ, Bool, false, not, ◌||◌, ◌&&◌, List, [], ◌∷◌, ◌++◌, Option, Some, None, codes, if◌then◌else◌}
 use Rattle.std.specs.Str.{bytes_eq}
 use Rattle.std.specs.List.{list_any}

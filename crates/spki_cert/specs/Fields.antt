@@ -1,5 +1,5 @@
--- The contents of the fields of an entry and of a certificate, in any order (RFC 2693, sections 3.3, 3.4 and 5; the forms
--- are those of the SPKI working group's structure draft).
+-- The contents of the fields of an entry and of a certificate, in any order (RFC 2693, sections 3.3, 3.4 and 5). The
+-- forms are those of the SPKI working group's structure draft.
 use Rattle.std.specs.Prelude.{◌≡◌, ℕ, ◌≤◌, Bool, false, ◌⊎◌, List, [], ◌∷◌, length, Option, Some, None, codes, if◌then◌else◌}
 use Rattle.std.specs.Str.{bytes_eq}
 use Rattle.std.specs.List.{AllByRecursion, list_any}
@@ -21,25 +21,25 @@ is_headed word (list (more (list vs) others)) = false
 is_headed word (list (more (string (Some hint) head) others)) = false
 is_headed word (list (more (string None head) others)) = bytes_eq head word
 
--- the members behind a list's head
+-- the members after a list's head
 abbrev pub behind_head : Value → List Value
 behind_head (string hint octets) = []
 behind_head (list none) = []
 behind_head (list (more head others)) = members others
 
--- the members behind the head, for each list with this head, in order
+-- the members after the head, for each list with this head, in order
 abbrev pub contents : List ℕ → List Value → List (List Value)
 contents word [] = []
 contents word (v ∷ vs) = if is_headed word v then behind_head v ∷ contents word vs else contents word vs
 
--- Of the fields of (cert (issuer K) (subject S) (propagate) (tag T)) the contents of issuer are the list of K, those of
--- propagate the empty list, and not-after is absent.
+-- In the fields of (cert (issuer K) (subject S) (propagate) (tag T)) the contents of issuer are the list of K. Those of
+-- propagate are the empty list, and not-after is absent.
 
 -- no field has this head
 abbrev pub IsAbsent : List ℕ → List Value → Type 0
 IsAbsent word fields = contents word fields ≡ []
 
--- exactly one field has this head, and these are the members behind it
+-- exactly one field has this head, and these are the members after it
 abbrev pub IsOnce : List ℕ → List Value → List Value → Type 0
 IsOnce word fields rest = contents word fields ≡ rest ∷ []
 
@@ -51,7 +51,7 @@ AreOnce vs = (word : List ℕ) → length (contents word vs) ≤ 1
 abbrev pub Sole : {A : Type 0} → (Value → A → Type 0) → List Value → A → Type 0
 Sole R vs a = (v : Value) × (vs ≡ v ∷ []) × R v a
 
--- what is read behind the head of the only field with this head, if there is one
+-- what is read after the head of the only field with this head, if there is one
 abbrev pub Given : {A : Type 0} → List ℕ → (List Value → A → Type 0) → List Value → Option A → Type 0
 Given word R fields None = IsAbsent word fields
 Given word R fields (Some a) = (rest : List Value) × IsOnce word fields rest × R rest a
@@ -73,7 +73,7 @@ LimitsAre vs w =
     Given (codes "not-before") (Sole DateOf) vs w.not_before
     × Given (codes "not-after") (Sole DateOf) vs w.not_after
 
--- the members behind the head valid: limits, each at most once
+-- the members after the head valid: limits, each at most once
 pub record ValidOf (limits : List Value) (w : Window) : Type 0 where
   pub each : AllByRecursion IsLimitField limits
   pub once : AreOnce limits
@@ -93,7 +93,7 @@ pub data IsField (v : Value) : Type 0 where
   time : IsTimeField v → IsField v
   comment : (xs : List Value) → v ≡ group (plain (codes "comment") ∷ xs) → IsField v
 
--- the members behind the head issuer, and those behind the head subject
+-- the members after the head issuer, and those after the head subject
 abbrev pub IssuerIn : List Value → Principal × Option (List ℕ) → Type 0
 IssuerIn rest i = Sole (λ v (j : Principal × Option (List ℕ)). IssuerOf v j.0 j.1) rest i
 

@@ -88,7 +88,7 @@ are_uris [] = true
 are_uris (v ∷ []) = is_headed (codes "uri") v
 are_uris (v ∷ w ∷ vs) = false
 
--- (hash alg digest), or with (uri x ..) behind it: the head, the algorithm, the digest and its length, the end
+-- (hash alg digest), or with (uri x ..) after it: the head, the algorithm, the digest and its length, the end
 unfoldable pub hash_fault : Value → Option CertFaultKind
 hash_fault v =
     first_fault (

@@ -1,5 +1,6 @@
--- The fault for which a certificate, a signature or an operation is refused: the first from the left, with missing fields
--- and clashes last (RFC 2693, sections 3.3 and 6.2; the forms are those of the SPKI working group's structure draft).
+-- The fault for which a certificate, a signature or an operation is refused (RFC 2693, sections 3.3 and 6.2). It is the
+-- first from the left, with missing fields and clashes last. The forms are those of the SPKI working group's structure
+-- draft.
 use Rattle.std.specs.Prelude.{ℕ, Bool, false, not, ◌||◌, if◌then◌else◌, List, [], ◌∷◌, drop, Option, None, codes}
 use Rattle.std.specs.Str.{bytes_eq}
 use Rattle.std.specs.List.{list_any}
@@ -44,7 +45,7 @@ do_fault v =
 
 -- ---- certificates
 
--- the members behind the head issuer begin with a name
+-- the members after the head issuer begin with a name
 abbrev pub begins_with_name : List Value → Bool
 begins_with_name [] = false
 begins_with_name (v ∷ vs) = is_headed (codes "name") v

@@ -28,7 +28,7 @@ admits Strict Sha1 = false
 admits Strict Sha256 = true
 admits Strict Sha512 = true
 
--- Whether a principal names the key with these canonical octets: it is that key, or it is a hash that the policy admits,
+-- Whether a principal names the key with these canonical octets. It is that key, or it is a hash that the policy admits,
 -- with the digest of the octets.
 abbrev pub names : Policy → Principal → List ℕ → Bool
 names policy (Key octets) key = bytes_eq octets key

@@ -38,7 +38,7 @@ pub record DigestOf (v : Value) (alg : HashAlg) (digest : List ℕ) : Type 0 whe
   pub written : v ≡ plain digest
   pub sized : length digest ≡ digest_len alg
 
--- (hash alg digest), or with (uri x ..) behind it (RFC 2693, section 2.5)
+-- (hash alg digest), or with (uri x ..) after it (RFC 2693, section 2.5)
 pub record HashOf (v : Value) (alg : HashAlg) (digest : List ℕ) : Type 0 where
   pub octets : Value
   pub further : List Value

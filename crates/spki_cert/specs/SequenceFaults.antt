@@ -1,5 +1,5 @@
--- The fault for which a sequence is refused: the first from the left, an item's place before the item itself (the forms are
--- those of the SPKI working group's structure draft).
+-- The fault for which a sequence is refused: the first from the left, an item's place before the item itself. The forms are
+-- those of the SPKI working group's structure draft.
 use Rattle.std.specs.Prelude.{ℕ, ◌+◌, ◌||◌, List, [], ◌∷◌, Option, Some, None, codes, if◌then◌else◌}
 use Rattle.sexpr_core.specs.Value.{Value}
 use Rattle.spki_tag.specs.FirstFault.{first_fault, unless}
@@ -25,14 +25,15 @@ abbrev pub waiting : Value → Option ℕ → ℕ → Option ℕ
 waiting v before number =
     if is_headed (codes "cert") v then Some number else if is_headed (codes "signature") v then None else before
 
--- What is tested in items, if `waits` is the certificate that is still without its signature: for each its place and then
--- the item itself, and at the end whether a certificate is without its signature. The first item has this number.
+-- What is tested in items, if `waits` is the certificate that is still without its signature. For each item it is its
+-- place, and then the item itself. At the end it is whether a certificate is without its signature. The first item has this
+-- number.
 abbrev pub items_looked : Option ℕ → ℕ → List Value → List (Option CertFault)
 items_looked waits number [] = unsigned_fault waits ∷ []
 items_looked waits number (v ∷ vs) =
     place_fault waits number v ∷ at_item number (item_fault v) ∷ items_looked (waiting v waits number) (number + 1) vs
 
--- the items behind the head, from 1
+-- the items after the head, from 1
 unfoldable pub items_fault : List Value → Option CertFault
 items_fault vs = first_fault (items_looked None 1 vs)
 

@@ -57,7 +57,7 @@ abbrev pub BreaksOff : List Value → Type 0
 BreaksOff [] = Unit {0}
 BreaksOff (v ∷ vs) = (is_headed (codes "do") v ≡ false) × (is_headed (codes "signature") v ≡ false)
 
--- Certificate number item is followed by no signature: items that are read come before it, and do items behind it.
+-- Certificate number item is followed by no signature: items that are read come before it, and do items after it.
 pub record IsUnsignedAt (vs : List Value) (item : ℕ) : Type 0 where
   pub front : List Value
   pub cert : Value
@@ -94,7 +94,7 @@ pub record ItemRefused (vs : List Value) (item : ℕ) (kind : CertFaultKind) : T
   pub in_place : AreInPlace false (place.front ++ refused ∷ [])
   pub shown : Shows kind refused
 
--- why the items behind the head of a sequence are refused
+-- why the items after the head of a sequence are refused
 pub data ItemsRefused (vs : List Value) (fault : CertFault) : Type 0 where
   unsigned : fault.kind ≡ UnsignedCert → IsUnsignedAt vs fault.item → ItemsRefused vs fault
   stray : fault.kind ≡ StraySignature → IsStrayAt vs fault.item → ItemsRefused vs fault

@@ -1,5 +1,5 @@
 -- The fault for which a principal, a subject or an issuer is refused: the first from the left (RFC 2693, sections 2.5, 2.6
--- and 2.8; the forms are those of the SPKI working group's structure draft).
+-- and 2.8). The forms are those of the SPKI working group's structure draft.
 use Rattle.std.specs.Prelude.{Bool, false, not, ◌&&◌, List, [], ◌∷◌, drop, Option, None, codes, if◌then◌else◌}
 use Rattle.std.specs.List.{list_all}
 use Rattle.sexpr_core.specs.Value.{Value}
@@ -20,11 +20,11 @@ principal_fault v = if is_headed (codes "hash") v then hash_fault v else key_fau
 abbrev pub is_name : Value → Bool
 is_name = is_plain any_octets
 
--- the first member behind the head name: a name, or otherwise a principal
+-- the first member after the head name: a name, or otherwise a principal
 abbrev pub owner_fault : Value → Option CertFaultKind
 owner_fault v = if is_name v then None else principal_fault v
 
--- the names behind the head name: those behind a principal, or all
+-- the names after the head name: those after a principal, or all
 abbrev pub names_in : List Value → List Value
 names_in [] = []
 names_in (v ∷ vs) = if is_name v then v ∷ vs else vs
@@ -34,7 +34,7 @@ abbrev pub are_names : List Value → Bool
 are_names [] = false
 are_names (v ∷ vs) = list_all is_name (v ∷ vs)
 
--- (name principal n n ..) or (name n n ..), behind its head
+-- (name principal n n ..) or (name n n ..), after its head
 unfoldable pub names_fault : List Value → Option CertFaultKind
 names_fault vs = first_fault (fault_at 0 Shape owner_fault vs ∷ unless (are_names (names_in vs)) Shape ∷ [])
 
@@ -65,7 +65,7 @@ entry_subject_fault v = first_fault (subject_fault v ∷ unless (not (is_relativ
 
 -- ---- issuers
 
--- (name principal n), behind its head: the principal, the one name, the end
+-- (name principal n), after its head: the principal, the one name, the end
 abbrev pub issuer_name_fault : List Value → Option CertFaultKind
 issuer_name_fault vs =
     first_fault (

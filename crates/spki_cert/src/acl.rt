@@ -80,7 +80,7 @@ pub fn entry_of<'a>(alloc: Global, node: &Node<'_, 'a>) -> Result<Entry<'a>, Cer
     })
 }
 
-/// Reads the entries of an access list, behind its head and its version.
+/// Reads the entries of an access list, after its head and its version.
 fn entries_of<'a>(alloc: Global, members: Members<'_, 'a>) -> Result<Vec<Entry<'a>>, CertFault>
     ensures entries { IfOk result (λ entries. AllZip EntryOf members.entry entries.items) }
     ensures faultless { IfOk result (λ _. entries_fault members.entry ≡ None) }
@@ -109,7 +109,7 @@ fn entries_of<'a>(alloc: Global, members: Members<'_, 'a>) -> Result<Vec<Entry<'
     Ok(entries)
 }
 
-/// Returns the members behind the head `acl`, and behind a version if the first member is one.
+/// Returns the members after the head `acl`, and after a version if the first member is one.
 fn behind_version<'d, 'a>(node: &Node<'d, 'a>) -> Result<Members<'d, 'a>, CertFaultKind>
     ensures found { IfOk result (λ entries. (all : List Value) × (node.now ≡ group (plain (codes "acl") ∷ all))
         × BeginsWell all × (entries ≡ behind_version all)) }
@@ -154,7 +154,7 @@ pub fn acl_of<'a>(alloc: Global, node: &Node<'_, 'a>) -> Result<Vec<Entry<'a>>, 
 ///
 /// # Errors
 ///
-/// The first fault from the left, with the number of the entry, counted from 1 behind the version. The number is 0 if the
+/// The first fault from the left, with the number of the entry, counted from 1 after the version. The number is 0 if the
 /// outer list is not headed `acl` (`Shape`), and for its version. `Memory` if memory ran out.
 pub fn read_acl<'a>(
     alloc: Global,

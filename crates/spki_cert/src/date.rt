@@ -6,8 +6,8 @@ ghost use Rattle.spki_tag.specs.Time.{is_date};
 use spki_tag::is_date;
 use std::marker::Model;
 
-/// A moment, as the 19 octets `YYYY-MM-DD_HH:MM:SS`: any year of four digits, month 01 to 12, day 01 to 31, hour 00 to 23,
-/// minute 00 to 59 and second 00 to 60. It is not checked whether the month has the day.
+/// A moment, as the 19 octets `YYYY-MM-DD_HH:MM:SS`. The year is any four digits, the month 01 to 12 and the day 01 to 31.
+/// The hour is 00 to 23, the minute 00 to 59 and the second 00 to 60. It is not checked whether the month has the day.
 #[derive(Clone, Copy, Debug)]
 pub struct Date {
     octets: [u8; 19],
@@ -29,7 +29,7 @@ impl Model for Date {
 impl Date {
     ghost use Rattle.spki_cert.specs.Time.{upto};
 
-    /// The date with these octets. None if they are no date. Takes no memory.
+    /// The date with these octets. None if they are no date. Allocates nothing.
     #[tactic(auto, unfolding(spki_tag::specs::Time::is_date))]
     pub fn of(octets: &[u8]) -> Option<Date>
         ensures { MatchOption result (is_date octets.now ≡ false)

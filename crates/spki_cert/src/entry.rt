@@ -13,7 +13,7 @@ use std::alloc::AllocError;
 pub struct Subject<'a> {
     /// The principal itself, or the one in whose name space the first name is defined.
     pub principal: Principal<'a>,
-    /// The names behind the principal. There are none if the principal itself is the subject.
+    /// The names after the principal. There are none if the principal itself is the subject.
     pub names: Names<'a>,
 }
 

@@ -22,7 +22,7 @@ pub enum CertFaultKind {
     /// A digest that does not have the length of its algorithm's digests.
     #[error("digest of a wrong length")]
     DigestLength,
-    /// A key with `(uri ..)` behind it.
+    /// A key with `(uri ..)` after it.
     #[error("a key with uris")]
     KeyUris,
     /// A subject headed `k-of-n`.

@@ -71,7 +71,7 @@ fn from_tag_fault(fault: TagFault) -> CertFaultKind
     }
 }
 
-/// Reads the only tag behind the head `tag`.
+/// Reads the only tag after the head `tag`.
 fn tag_in(alloc: Global, members: Members) -> Result<Tag, CertFaultKind>
     ensures found { IfOk result (λ tag. Sole ReadsAs members.entry tag) }
     ensures faultless { IfOk result (λ _. sole_fault CertFaultKind.Shape kind_of_tag members.entry ≡ None) }
@@ -92,7 +92,7 @@ fn tag_in(alloc: Global, members: Members) -> Result<Tag, CertFaultKind>
     }
 }
 
-/// Reads the only issuer behind the head `issuer`.
+/// Reads the only issuer after the head `issuer`.
 fn issuer_in<'a>(members: Members<'_, 'a>) -> Result<Issuer<'a>, CertFaultKind>
     ensures found { IfOk result (λ issuer. IssuerAt members.entry issuer) }
     ensures faultless { IfOk result (λ _. sole_fault CertFaultKind.Shape issuer_fault members.entry ≡ None) }
@@ -110,7 +110,7 @@ fn issuer_in<'a>(members: Members<'_, 'a>) -> Result<Issuer<'a>, CertFaultKind>
     }
 }
 
-/// Reads the only subject behind the head `subject`.
+/// Reads the only subject after the head `subject`.
 fn subject_in<'a>(alloc: Global, members: Members<'_, 'a>) -> Result<Who<'a>, CertFaultKind>
     ensures found { IfOk result (λ who. WhoAt members.entry who) }
     ensures faultless { IfOk result (λ _. sole_fault CertFaultKind.Shape subject_fault members.entry ≡ None) }

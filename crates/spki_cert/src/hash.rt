@@ -58,7 +58,7 @@ impl HashAlg {
         }
     }
 
-    /// Whether the digest is that of the octets. Takes no memory.
+    /// Whether the digest is that of the octets. Allocates nothing.
     pub fn fits(&self, digest: &[u8], octets: &[u8]) -> bool
         ensures is_test { result ≡ is_digest self.now digest.now octets.now }
         ensures exact { IsTrue result ↔ (digest_of self.now octets.now ≡ digest.now) }

@@ -68,7 +68,7 @@ impl<'a> Key<'a> {
         self.canonical.as_slice()
     }
 
-    /// Returns the same key again, without taking memory.
+    /// Returns the same key again, and allocates nothing.
     pub fn share(&self) -> Key<'a>
         ensures { result ≡ self.now }
     {
@@ -78,8 +78,8 @@ impl<'a> Key<'a> {
         }
     }
 
-    /// Returns the same key with its digests by these algorithms, in addition to those that it carries. Takes no memory. A
-    /// digest that the key carries is not made again, by this call or by `Principal::names`.
+    /// Returns the same key with its digests by these algorithms, in addition to those that it carries. Allocates nothing.
+    /// A digest that the key carries is not made again, by this call or by `Principal::names`.
     pub fn digested(&self, algorithms: Algorithms) -> Key<'a>
         ensures { result ≡ self.now }
     {
@@ -105,7 +105,7 @@ impl<'a> Key<'a> {
         }
     }
 
-    /// Whether its canonical octets have this digest of the algorithm. Takes no memory. A digest that the key carries is
+    /// Whether its canonical octets have this digest of the algorithm. Allocates nothing. A digest that the key carries is
     /// compared. Otherwise the key is digested.
     pub fn has_digest(&self, alg: HashAlg, digest: &[u8]) -> bool
         ensures { result ≡ is_digest alg digest.now self.now }

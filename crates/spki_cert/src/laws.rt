@@ -70,8 +70,8 @@ pub fn no_subject_fault()
     ensures issuer { (v : Value) → (issuer_fault v ≡ None) ↔ ((p : Principal) × (name : Option (List ℕ)) × IssuerOf v p name) }
 {}
 
-/// Values have no fault as limits, as the fields of an entry or as those of a certificate exactly if they are these, each
-/// at most once.
+/// Values have no fault as limits exactly if they are limits, each at most once. The same holds for the fields of an
+/// entry, and for those of a certificate.
 pub fn no_field_fault()
     ensures limits { (vs : List Value) → (fields_fault limit_fault vs ≡ None) ↔ AreFields IsLimitField vs }
     ensures of_entry { (vs : List Value) → (fields_fault entry_field_fault vs ≡ None) ↔ AreFields IsField vs }

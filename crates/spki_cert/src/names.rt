@@ -1,4 +1,4 @@
-//! The names behind a principal.
+//! The names after a principal.
 
 ghost use Rattle.std.specs.Prelude.{◌≡◌, ◌↔◌, ◌++◌, ◌∷◌, ◌<◌, ℕ, List, [], length, drop, slice_get, Some, IsTrue, IfOk, MatchOption};
 
@@ -6,7 +6,7 @@ use crate::octets::Octets;
 use std::alloc::AllocError;
 use std::marker::Model;
 
-/// The names behind a principal, in order (RFC 2693, section 2.8). Removing the first name, and putting others in front,
+/// The names after a principal, in order (RFC 2693, section 2.8). Removing the first name, and putting others in front,
 /// takes no time for the names that are kept.
 #[derive(Drop)]
 pub struct Names<'a> {
@@ -61,7 +61,7 @@ impl<'a> Names<'a> {
         &self.from_last[self.from_last.len() - 1 - place]
     }
 
-    /// The names behind the first.
+    /// The names after the first.
     pub fn behind_first(self) -> Names<'a>
         ensures { result ≡ drop 1 self.entry }
     {
@@ -70,7 +70,7 @@ impl<'a> Names<'a> {
         Names { from_last }
     }
 
-    /// These names behind others.
+    /// These names after others.
     ///
     /// # Errors
     ///

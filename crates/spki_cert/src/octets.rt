@@ -33,7 +33,7 @@ impl<'a> Octets<'a> {
         self.octets
     }
 
-    /// Returns the same octets again, without taking memory.
+    /// Returns the same octets again, and allocates nothing.
     pub fn share(&self) -> Octets<'a>
         ensures { result ≡ self.now }
     {
@@ -50,7 +50,7 @@ impl<'a> Octets<'a> {
     }
 }
 
-/// A copy has the same octets. It takes no memory.
+/// A copy has the same octets. It allocates nothing.
 impl<'a> Clone for Octets<'a> {
     ghost is_clone = { λ octets copy. copy ≡ octets };
 

@@ -32,7 +32,7 @@ pub enum Principal<'a> {
 impl<'a> Principal<'a> {
     ghost use Rattle.spki_cert.specs.Naming.{names};
 
-    /// Returns the same principal again, without taking memory.
+    /// Returns the same principal again, and allocates nothing.
     pub fn share(&self) -> Principal<'a>
         ensures { result ≡ self.now }
     {
@@ -46,7 +46,7 @@ impl<'a> Principal<'a> {
     }
 
     /// Whether the principal names the key. A key names the key with the same octets. A hash names each key whose canonical
-    /// octets have its digest, but under the strict policy a SHA-1 hash names none. Takes no memory.
+    /// octets have its digest, but under the strict policy a SHA-1 hash names none. Allocates nothing.
     pub fn names(&self, key: &Key, policy: Policy) -> bool
         ensures { result ≡ names policy self.now key.now }
     {

@@ -31,7 +31,7 @@ pub(crate) struct Issuer<'a> {
     pub name: Option<Octets<'a>>,
 }
 
-/// Reads the principal of a node: a key or a hash (RFC 2693, section 2.5). Takes no memory.
+/// Reads the principal of a node: a key or a hash (RFC 2693, section 2.5). Allocates nothing.
 ///
 /// # Errors
 ///
@@ -57,7 +57,7 @@ pub fn principal_of<'a>(node: &Node<'_, 'a>) -> Result<Principal<'a>, CertFaultK
     }
 }
 
-/// These names, and those behind them.
+/// These names, and those after them.
 fn names_behind<'a>(
     names: Vec<Octets<'a>>,
     members: Members<'_, 'a>,
@@ -79,7 +79,7 @@ fn names_behind<'a>(
     Ok(all)
 }
 
-/// Reads the name behind the head `name`.
+/// Reads the name after the head `name`.
 fn named_by<'a>(alloc: Global, members: Members<'_, 'a>) -> Result<Who<'a>, CertFaultKind>
     ensures found { IfOk result (λ who. NamesWho members.entry who.principal who.names.items) }
     ensures faultless { IfOk result (λ _. names_fault members.entry ≡ None) }

@@ -90,7 +90,7 @@ fn waiting(node: &Node, before: Option<usize>, number: usize) -> Option<usize>
     }
 }
 
-/// Reads the items of a sequence, behind its head.
+/// Reads the items of a sequence, after its head.
 fn items_of<'a>(alloc: Global, members: Members<'_, 'a>) -> Result<Vec<SeqItem<'a>>, CertFault>
     ensures items { IfOk result (λ items. AllZip ItemOf members.entry items.items) }
     ensures in_place { IfOk result (λ _. AreInPlace false members.entry × (waits_after false members.entry ≡ false)) }

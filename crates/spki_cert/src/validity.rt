@@ -17,7 +17,7 @@ use crate::value_readers::date_of;
 use crate::window::Window;
 use sexpr_core::syntax::{Members, Node};
 
-/// Reads the only date behind the head of a limit.
+/// Reads the only date after the head of a limit.
 pub(crate) fn date_in(members: Members) -> Result<Date, CertFaultKind>
     ensures found { IfOk result (λ date. Sole DateOf members.entry date) }
     ensures faultless { IfOk result (λ _. sole_fault CertFaultKind.Shape date_fault members.entry ≡ None) }
@@ -68,7 +68,7 @@ fn with_limit(field: &Node, window: Window) -> Result<Window, CertFaultKind>
     }
 }
 
-/// Reads the window of the limits behind the head `valid`, each at most once.
+/// Reads the window of the limits after the head `valid`, each at most once.
 pub(crate) fn valid_in(members: Members) -> Result<Window, CertFaultKind>
     ensures found { IfOk result (λ window. ValidOf members.entry window) }
     ensures faultless { IfOk result (λ _. fields_fault limit_fault members.entry ≡ None) }

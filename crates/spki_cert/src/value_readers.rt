@@ -149,7 +149,7 @@ pub fn hash_of<'a>(node: &Node<'_, 'a>) -> Result<(HashAlg, Octets<'a>), CertFau
     }
 }
 
-/// Reads node n of a document as a key: `(public-key (alg part ..))`. Takes no memory.
+/// Reads node n of a document as a key: `(public-key (alg part ..))`. Allocates nothing.
 ///
 /// # Errors
 ///
@@ -175,12 +175,12 @@ pub fn read_key<'a>(document: &Doc<'a>, n: NodeId) -> Result<Key<'a>, CertFault>
     }
 }
 
-/// Reads node n of a document as a hash: `(hash alg digest)`, or with `(uri x ..)` behind it. Takes no memory.
+/// Reads node n of a document as a hash: `(hash alg digest)`, or with `(uri x ..)` after it. Allocates nothing.
 ///
 /// # Errors
 ///
-/// The first fault from the left: `HashAlg` if the algorithm is a string other than `sha1`, `sha256` and `sha512`;
-/// `DigestLength` if the digest does not have its 20, 32 or 64 octets; otherwise `Shape`. The item is 0.
+/// The first fault from the left. `HashAlg`: the algorithm is a string other than `sha1`, `sha256` and `sha512`.
+/// `DigestLength`: the digest does not have its 20, 32 or 64 octets. Otherwise `Shape`. The item is 0.
 pub fn read_hash<'a>(document: &Doc<'a>, n: NodeId) -> Result<(HashAlg, Octets<'a>), CertFault>
     requires { IsSome (node document.now n.0) }
     ensures hash { IfSome (node document.now n.0) (λ value. IfOk result (λ hash. HashOf value hash.0 hash.1)) }
@@ -201,8 +201,8 @@ pub fn read_hash<'a>(document: &Doc<'a>, n: NodeId) -> Result<(HashAlg, Octets<'
     }
 }
 
-/// Reads node n of a document as a date: a string without a display hint, of the form `YYYY-MM-DD_HH:MM:SS`. Takes no
-/// memory.
+/// Reads node n of a document as a date: a string without a display hint, of the form `YYYY-MM-DD_HH:MM:SS`. Allocates
+/// nothing.
 ///
 /// # Errors
 ///

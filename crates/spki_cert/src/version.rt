@@ -10,7 +10,7 @@ ghost use Rattle.spki_cert.specs.Inner.Gathering.{IsVersionFault};
 use crate::fault::CertFaultKind;
 use sexpr_core::syntax::{Members, NodeKind};
 
-/// Checks that the string 0, and nothing else, is behind the head `version`.
+/// Checks that the string 0, and nothing else, is after the head `version`.
 pub(crate) fn check_version(members: Members) -> Result<(), CertFaultKind>
     ensures found { IfOk result (λ _. members.entry ≡ plain (codes "0") ∷ []) }
     ensures refused { IfErr result (λ _. members.entry ≢ plain (codes "0") ∷ []) }

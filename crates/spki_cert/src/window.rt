@@ -16,7 +16,7 @@ impl Window {
     ghost use Rattle.std.specs.Prelude.{◌≡◌, IfSome, IfNone};
     ghost use Rattle.spki_cert.specs.Time.{IsLimit, within, meet_of, IsMeet, Overlap, AreApart};
 
-    /// The limits of a window are dates, however it was made. Takes no memory.
+    /// The limits of a window are dates, however it was made. Allocates nothing.
     pub fn known(&self)
         ensures begins { IsLimit self.now.not_before }
         ensures ends { IsLimit self.now.not_after }
@@ -25,7 +25,7 @@ impl Window {
         known_limit(self.not_after);
     }
 
-    /// Whether the moment is within the window. Takes no memory.
+    /// Whether the moment is within the window. Allocates nothing.
     pub fn holds(&self, moment: &Date) -> bool
         ensures { result ≡ within moment.now self.now }
     {
@@ -33,7 +33,7 @@ impl Window {
     }
 
     /// The window of the moments within both: from the later not-before to the earlier not-after. None if there is no such
-    /// moment. Takes no memory.
+    /// moment. Allocates nothing.
     pub fn meet(&self, other: &Window) -> Option<Window>
         // Which window it is.
         ensures limits { result ≡ meet_of self.now other.now }

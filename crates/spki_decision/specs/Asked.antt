@@ -1,5 +1,5 @@
--- The signatures that a verifier is asked about for a sequence: those of the certificates that pass the other three tests,
--- up to the first certificate that fails one of them (RFC 2693, section 6).
+-- The signatures that a verifier is asked about for a sequence (RFC 2693, section 6). They are those of the certificates
+-- that pass the other three tests, up to the first certificate that fails one of them.
 use Rattle.std.specs.Prelude.{◌≡◌, ℕ, List, [], ◌∷◌, ◌++◌, length, Option, Some, None, ◌&&◌, if◌then◌else◌, option_and_then}
 use Rattle.std.specs.List.{AllByRecursion}
 use Rattle.spki_cert.specs.declared.principal.Policy.{Policy}
@@ -9,8 +9,8 @@ use Rattle.spki_case.specs.Case.{Case, Verified}
 use Rattle.spki_case.specs.Sequence.{Shown, issuer_of, octets_of, keys_of, certificates}
 use Rattle.spki_decision.specs.Standing.{issuer_key}
 
--- A signature that a verifier is asked about: the number of the certificate's item, its issuer's key, the certificate's
--- canonical octets, and the canonical octets of the signature's value.
+-- A signature that a verifier is asked about. It has the number of the certificate's item, its issuer's key, the
+-- certificate's canonical octets, and the canonical octets of the signature's value.
 pub record Signed : Type 0 where
   pub item : ℕ
   pub key : List ℕ

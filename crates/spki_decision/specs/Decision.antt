@@ -13,7 +13,7 @@ abbrev pub IsDecision : Case → Verified → Decision → Type 0
 IsDecision c verified (Yes n) = IsFirstGranted n c verified
 IsDecision c verified No = IsNoneGranted c verified
 
--- No refusal was skipped: if every certificate stands, no entry up to the one with this number, or no entry at all, has a
--- chain that is too large at a step.
+-- No refusal was skipped. If every certificate stands, no entry up to the one that is named has a chain that is too large
+-- at a step. If every certificate stands and none is named, no entry at all has one.
 abbrev pub IsUnrefused : Case → Verified → Decision → Type 0
 IsUnrefused c verified d = (tuples : List Tuple) → AreShown c.policy verified c.items tuples → SmallUpTo c tuples d

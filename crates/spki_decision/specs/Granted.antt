@@ -11,8 +11,8 @@ use Rattle.spki_reduce.specs.Supports.{Supports}
 use Rattle.spki_case.specs.Case.{Case, Verified}
 use Rattle.spki_decision.specs.Standing.{AreShown}
 
--- Entry number n, from 1, is granted: every certificate stands, and some derivation from the entry and all certificates in
--- their order, in any bracketing, supports the key, the request and the moment (RFC 2693, section 6.3).
+-- Entry number n, from 1, is granted (RFC 2693, section 6.3). Every certificate stands. Some derivation from the entry and
+-- all certificates in their order, in any bracketing, supports the key, the request and the moment.
 pub record Granted (n : ℕ) (c : Case) (verified : Verified) : Type 0 where
   pub place : ℕ
   pub numbered : n ≡ suc place
@@ -35,9 +35,9 @@ IsNoneGranted c verified = (n : ℕ) → ¬ Granted n c verified
 
 -- ---- limits
 
--- Every certificate stands, and there is an entry, with no granted entry before it, whose chain is too large at a step: no
--- certificate before that step stops the chain, and the certificate joins it except for the tags. So the product of the
--- nodes of the entry's tag and of the tags of all certificates is over the case's limit.
+-- Every certificate stands, and there is an entry, with no granted entry before it, whose chain is too large at a step. No
+-- certificate before that step stops the chain, and the step's certificate joins it except for the tags. So the product of
+-- the nodes of the entry's tag and of the tags of all certificates is over the case's limit.
 pub record IsTooLarge (c : Case) (verified : Verified) : Type 0 where
   pub place : ℕ
   pub entry : Entry

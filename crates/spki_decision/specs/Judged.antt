@@ -8,7 +8,7 @@ use Rattle.spki_decision.specs.declared.evidence.Evidence.TheVariants.{Stands, F
 use Rattle.spki_case.specs.Case.{Verified}
 use Rattle.spki_decision.specs.Standing.{AreShown, FailsAt}
 
--- Either each certificate stands, and these are their tuples, in order; or this is the first that does not stand, with the
+-- Either each certificate stands, and these are their tuples, in order. Or this is the first that does not stand, with the
 -- first test that it does not pass.
 abbrev pub IsEvidence : Policy → Verified → List SeqItem → Evidence → Type 0
 IsEvidence policy verified items (Stands steps) = AreShown policy verified items (map step_tuple steps.items)

@@ -1,5 +1,5 @@
--- The entries of an access list that a question is about (RFC 2693, section 6.3): those whose subject's principal names the
--- key of the first issuer, or the client's key if no certificate is shown.
+-- The entries of an access list that a question is about (RFC 2693, section 6.3). Their subject's principal names the key of
+-- the first issuer, or the client's key if no certificate is shown.
 use Rattle.std.specs.Prelude.{◌≡◌, ℕ, suc, ◌⊎◌, List, [], ◌∷◌, Option, Some, None, Result, Ok, Err, IsTrue, slice_get, map}
 use Rattle.spki_cert.specs.declared.principal.Policy.{Policy}
 use Rattle.spki_cert.specs.declared.entry.Entry.{Entry}

@@ -34,8 +34,8 @@ pub record StopsAtItem (c : Case) (tuples : List Tuple) (e : Entry) (item : ℕ)
   pub there : slice_get (certificates c.items) stops.place ≡ Some certificate
   pub item_is : item ≡ certificate.item
 
--- an entry and the certificates become this authorization, which is the entry's own if there are no certificates; or they
--- stop at this item, for this cause
+-- An entry and the certificates become this authorization, which is the entry's own if there are no certificates. Or they
+-- stop at this item, for this cause.
 abbrev pub IsEntryFold : Case → List Tuple → Entry → EntryFold → Type 0
 IsEntryFold c tuples e (Done f) =
     FoldsTo c.policy (five (entry_tuple e)) tuples f × HasMet (five (entry_tuple e)) tuples f

@@ -33,8 +33,8 @@ abbrev pub IsSmallWith : ℕ → Tag → Tuple → Type 0
 IsSmallWith most tag (five t) = nodes_product (tag ∷ t.tags) ≤ most
 IsSmallWith most tag (four t) = Unit {0}
 
--- the authorization by the owner of the access list for a key, or for a name that it defines: every request at every moment, to be
--- delegated
+-- The authorization by the owner of the access list for a key, or for a name that it defines. It is for every request at every
+-- moment, and may be delegated.
 abbrev pub unlimited : List ℕ → List (List ℕ) → FiveTuple
 unlimited holder names = record {
   issuer = own;
@@ -45,8 +45,8 @@ unlimited holder names = record {
   windows = record { not_before = None; not_after = None } ∷ [];
 }
 
--- The tuple of the entry that allows the most with this tuple after it: for the key of this tuple's issuer, or for the name that
--- it defines.
+-- The tuple of the entry that allows the most with this tuple after it. It is for the key of this tuple's issuer, or for the name
+-- that it defines.
 abbrev pub IsWidest : Tuple → FiveTuple → Type 0
 IsWidest (five t) widest = (holder : List ℕ) × (t.issuer ≡ key holder) × (widest ≡ unlimited holder [])
 IsWidest (four t) widest = widest ≡ unlimited t.key (t.name ∷ [])

@@ -59,8 +59,8 @@ pub record IsMetOf (tags : List Tag) (left : Tag) : Type 0 where
   pub nodes : nodes left ≤ nodes_product tags
   pub depth : ldepth left ≤ deepest tags
 
--- None of the first tuples is too large for what the tag and the tuples before it leave, and they leave something, unless none of
--- them has a tag.
+-- None of the first tuples is too large for what the tag and the tuples before it leave. They leave something, unless none of them
+-- has a tag.
 pub record GoesTo (most : ℕ) (tag : Tag) (tuples : List Tuple) (count : ℕ) : Type 0 where
   pub within : count ≤ length tuples
   pub small : (place : ℕ) (tuple : Tuple) → place < count → slice_get tuples place ≡ Some tuple
@@ -156,7 +156,7 @@ pub record IsFrom (tuple : Tuple) (from : Five) : Type 0 where
   pub tag : from.tag ≡ star
   pub moments : (moment : List ℕ) → within moment from.window ≡ true
 
--- what an authorization behind the first tuple becomes with the others
+-- what an authorization after the first tuple becomes with the others
 pub record IsTailOf (policy : Policy) (first : Tuple) (others : List Tuple) (tail : Tail) : Type 0 where
   pub from : IsFrom first tail.from
   pub fold : MatchFold tail.fold (FoldsTo policy (five (five_tuple tail.from)) others) (StopsAt policy (five (five_tuple tail.from)) others)
@@ -197,7 +197,7 @@ abbrev pub bound : Path → ℕ → ℕ
 bound (Ends subject propagate) timely = timely
 bound (StopsHere place cause) timely = min timely place
 
--- how far subjects, windows and tags go behind an entry
+-- how far subjects, windows and tags go after an entry
 pub record AreEnds (policy : Policy) (most : ℕ) (e : Entry) (tuples : List Tuple) (path : Path) (timely : ℕ) (run : TagRun) (meets : List Window) : Type 0 where
   pub subject : IsPath policy (five (entry_tuple e)) tuples path
   pub window : IsTimelyFor e.window tuples timely

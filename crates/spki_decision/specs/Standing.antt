@@ -14,7 +14,8 @@ use Rattle.spki_decision.specs.declared.evidence.Stop.TheVariants.{KeyNotShown, 
 use Rattle.spki_case.specs.Case.{Verified}
 use Rattle.spki_case.specs.Sequence.{Certificate, auth, name, Shown, issuer_of, octets_of, keys_of, certificates}
 
--- The key of an issuer: the key as written, or for a hash the first key of the sequence that it names, if there is one.
+-- The key of an issuer. It is the key as written, or for a hash the first key of the sequence that it names, if there is
+-- one.
 abbrev pub issuer_key : Policy → List (List ℕ) → Principal → Option (List ℕ)
 issuer_key policy keys (principal.Key octets) = Some octets
 issuer_key policy keys (principal.Hash alg digest) = find (λ octets. names policy (principal.Hash alg digest) octets) keys
@@ -24,9 +25,9 @@ abbrev pub tuple_of : List ℕ → Certificate → Tuple
 tuple_of holder (auth cert) = five (auth_tuple holder cert)
 tuple_of holder (name cert) = four (name_tuple holder cert)
 
--- A certificate stands, with these keys of the sequence: its issuer has a key; the digest in its signature is that of its
--- octets; the signature's principal names the issuer's key; and the verifier accepts this key, the octets and the
--- signature's value.
+-- A certificate stands, with these keys of the sequence, if four conditions hold. Its issuer has a key. The digest in
+-- its signature is that of its octets. The signature's principal names the issuer's key. The verifier accepts this key,
+-- the octets and the signature's value.
 pub record Stands
     (policy : Policy) (keys : List (List ℕ)) (verified : Verified) (shown : Shown) (holder : List ℕ) : Type 0 where
   pub issued : issuer_key policy keys (issuer_of shown.certificate) ≡ Some holder

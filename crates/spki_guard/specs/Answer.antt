@@ -41,8 +41,8 @@ abbrev pub IsLineOf : Decision → Verdict → List ℕ → Type 0
 IsLineOf (decision.Yes n) verdict output = (verdict ≡ Done) × (output ≡ yes_entry n)
 IsLineOf decision.No verdict output = (verdict ≡ No) × (output ≡ no_line)
 
--- The canonical text is that of a case, and the line is that of its decision with the case's own accepted list as the
--- verifier. No entry up to the one that is named, or no entry at all, has a chain that is too large.
+-- The canonical text is that of a case, and the line is that of its decision with the case's accepted list as the verifier.
+-- No entry up to the one that is named, or no entry at all, has a chain that is too large.
 pub record Decides (text : List ℕ) (verdict : Verdict) (output : List ℕ) : Type 0 where
   pub case_read : Case
   pub text_is : IsCaseText text case_read
@@ -51,7 +51,7 @@ pub record Decides (text : List ℕ) (verdict : Verdict) (output : List ℕ) : T
   pub unrefused : IsUnrefused case_read (accepted_by case_read) decided
   pub line : IsLineOf decided verdict output
 
--- The canonical text is that of a case, and these are the lines of its reduction, or of its explanation, with the case's own
+-- The canonical text is that of a case. These are the lines of its reduction, or of its explanation, with the case's
 -- accepted list as the verifier. The windows in a reduction begin and end at dates.
 pub record Reduces (text : List ℕ) (verdict : Verdict) (output : List ℕ) : Type 0 where
   pub case_read : Case
@@ -80,7 +80,7 @@ HasTooLarge Reduce c verified = SomeTooLarge c verified
 HasTooLarge Check c verified = IsTooLarge c verified
 HasTooLarge Explain c verified = SomeTooLarge c verified
 
--- The canonical text is that of a case whose only answer, with the case's own accepted list as the verifier, is the refusal
+-- The canonical text is that of a case whose only answer, with the case's accepted list as the verifier, is the refusal
 -- TooLarge.
 pub record IsUndecided (command : Command) (text : List ℕ) (fault : GuardFault) : Type 0 where
   pub case_read : Case
@@ -119,7 +119,7 @@ IsOnCase Reduce = Unit {0}
 IsOnCase Check = Unit {0}
 IsOnCase Explain = Unit {0}
 
--- The answer to the value that was read: the value is written in the form of the command, or its canonical form is
+-- The answer to the value that was read. The value is written in the form of the command, or its canonical form is
 -- intersected, reduced, decided or explained.
 abbrev pub AnswersValue : Command → Value → Verdict → List ℕ → Type 0
 AnswersValue Canonical v verdict output = (verdict ≡ Done) × (output ≡ canon v)

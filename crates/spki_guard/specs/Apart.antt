@@ -1,4 +1,4 @@
--- The answer to a case by a separate accepted list. The case's own list is not used.
+-- The answer to a case by a separate accepted list. The case's accepted list is not used.
 use Rattle.std.specs.Prelude.{◌≡◌, ◌⊎◌, ℕ, List}
 use Rattle.sexpr_core.specs.declared.fault.FormFault.{FormFault}
 use Rattle.sexpr_core.specs.Value.{Value, canon}

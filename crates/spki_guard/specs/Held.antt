@@ -113,7 +113,7 @@ abbrev pub signed_texts : List Signed → List (List ℕ)
 signed_texts [] = []
 signed_texts (s ∷ signed) = s.key ∷ s.message ∷ s.value ∷ signed_texts signed
 
--- one behind another
+-- one after another
 abbrev pub joined : List (List ℕ) → List ℕ
 joined [] = []
 joined (text ∷ texts) = text ++ joined texts
@@ -123,7 +123,7 @@ abbrev pub lengths_of : List (List ℕ) → List ℕ
 lengths_of [] = []
 lengths_of (text ∷ texts) = length text ∷ lengths_of texts
 
--- The question is read; these are what a verifier is asked of it, one behind another, and the length of each.
+-- The question is read; these are what a verifier is asked of it, one after another, and the length of each.
 pub record ListsSigned (held : Held) (q : Question) (octets : List ℕ) (lengths : List ℕ) : Type 0 where
   pub case_read : Case
   pub read : ReadsQuestion held q case_read

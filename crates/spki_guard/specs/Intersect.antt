@@ -20,7 +20,7 @@ use Rattle.spki_guard.specs.declared.intersection.IntersectFault.TheVariants as 
 abbrev pub intersect_value : Value → Value → Value
 intersect_value a b = headed (codes "intersect") (a ∷ b ∷ [])
 
--- The value is (intersect A B), and the tag is the intersection of A and B: it is in normal form, and contains exactly the
+-- The value is (intersect A B), and the tag is the intersection of A and B. It is in normal form, and contains exactly the
 -- requests that both contain. The product of the nodes of A and B is at most 1,000,000. The tag has at most as many nodes,
 -- and its lists are nested no deeper.
 pub record Intersects (v : Value) (c : Tag) : Type 0 where
@@ -93,7 +93,7 @@ ValueNotMet v faults.Memory = ⊥
 abbrev pub IsMetText : List ℕ → Tag → Type 0
 IsMetText text c = IsTextOf (λ v. Intersects v c) text
 
--- What a fault means for a text, except for Memory: it is no canonical form within the limits, or its value is refused for
--- the fault.
+-- What a fault means for a text, except for Memory. The text is no canonical form within the limits, or its value is
+-- refused for the fault.
 abbrev pub TextNotMet : List ℕ → IntersectFault → Type 0
 TextNotMet text fault = IsMalformed faults.Form text fault ⊎ IsTextOf (λ v. ValueNotMet v fault) text

@@ -65,8 +65,8 @@ IsReported contents old new Refused = IsSilent contents old new
 IsReported contents old new ReadFault = IsSaid contents old new (codes "spki: read fault" ++ 10 ∷ [])
 IsReported contents old new WriteFault = IsSaid contents old new (codes "spki: write fault" ++ 10 ∷ [])
 
--- What is written if there is no command: the text goes to standard error, and the line for lack of memory to standard
--- output.
+-- What is written if there is no command. The text goes to standard error. If memory ran out, the line that says so goes
+-- to standard output.
 abbrev pub IsRefused : {W E : Type 0} → (W → Option (List ℕ)) → (E → Option (List ℕ)) → Metered W → Metered W → Metered E → Metered E
     → WordsFault → Type 0
 IsRefused contents lines old new before after (words.Refused text) = IsSilent contents old new × IsSaid lines before after (string_bytes text)

@@ -31,7 +31,7 @@ use std::alloc::{AllocError, Global};
 pub(crate) enum Output {
     /// Octets that were made for a text.
     Made(Vec<u8>),
-    /// A line that takes no memory.
+    /// A constant line, for which nothing is allocated.
     Fixed(&'static [u8]),
 }
 
@@ -416,7 +416,7 @@ pub(crate) fn decision_line(alloc: Global, decision: Decision) -> Result<Answer,
     })
 }
 
-/// An answer with the line of a refusal. If there is no memory for the line, it is `refused Memory`.
+/// An answer with the line of a refusal. If memory ran out for the line, it is `refused Memory`.
 pub(crate) fn refuse(alloc: Global, refusal: Refusal) -> Answer
     ensures verdict { result.verdict ≡ Verdict.Refused }
     ensures line { (octets_of result.output ≡ refused_line refusal) ⊎ (octets_of result.output ≡ refused_memory) }
@@ -430,7 +430,7 @@ pub(crate) fn refuse(alloc: Global, refusal: Refusal) -> Answer
     }
 }
 
-/// The answer if memory ran out, which takes no memory.
+/// The answer if memory ran out. It allocates nothing.
 pub(crate) fn out_of_memory() -> Answer
     ensures verdict { result.verdict ≡ Verdict.Refused }
     ensures line { octets_of result.output ≡ refused_memory }

@@ -66,7 +66,7 @@ fn two<'d, 'a>(members: Members<'d, 'a>) -> Option<Operands<'d, 'a>>
     }
 }
 
-/// The two values behind the head of an intersection.
+/// The two values after the head of an intersection.
 fn operands_of<'d, 'a>(node: &Node<'d, 'a>) -> Option<Operands<'d, 'a>>
     ensures { MatchOption result ((a b : Value) → node.now ≢ intersect_value a b)
         (λ p. node.now ≡ intersect_value p.first p.second) }

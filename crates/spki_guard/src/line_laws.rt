@@ -15,7 +15,7 @@ ghost use Rattle.spki_guard.specs.Held.{IsAnswerHeld, HasOtherCount, IsUnread, L
 ghost use Rattle.spki_guard.specs.Run.{RefusesForMemory};
 ghost use Rattle.spki_words.specs.declared.commands.Command.{Command};
 
-/// A text has one answer of a command, unless memory ran out: at most one output and verdict and no refusal, or one refusal,
+/// A text has one answer of a command, unless memory ran out. It has at most one output and verdict and no refusal, or one refusal,
 /// and so one line.
 pub fn one_line()
     ensures same { (command : Command) (text : List ℕ) (x y : Verdict) (output line : List ℕ)
@@ -37,8 +37,8 @@ pub fn one_too_large()
         → RefusesAnswer command text refusal → refusal ≢ refusals.Memory → refusal ≡ refusals.Intersect intersect.TooLarge }
 {}
 
-/// A question that is asked of a guard has one answer, unless memory ran out: one output and verdict, or none, and so
-/// `answer_question` returns one result for the same marks. The texts are those of the guard's entries.
+/// A question that is asked of a guard has one answer, unless memory ran out: one output and verdict, or none. So `answer_question`
+/// returns one result for the same marks. The texts are those of the guard's entries.
 pub fn one_answer_held()
     ensures same { (wish : Wish) (held : Held) (q : Question) (marks : List Bool) (es : List Entry) (x y : Verdict) (output line : List ℕ)
         → AreEntries held.texts es → IsAnswerHeld wish held q marks x output → IsAnswerHeld wish held q marks y line
@@ -47,8 +47,8 @@ pub fn one_answer_held()
         → HasOtherCount held q marks → IsAnswerHeld wish held q marks x output → RefusesForMemory x output }
 {}
 
-/// What a verifier is asked of a question is one list of octets and lengths, or the question has one refusal, and never both, unless
-/// memory ran out. So `signed_octets` returns one result.
+/// Unless memory ran out, a question has one list of octets and lengths that a verifier is asked, or one refusal, and never both. So
+/// `signed_octets` returns one result.
 pub fn one_signed_list()
     ensures same { (held : Held) (q : Question) (octets others lengths numbers : List ℕ)
         → ListsSigned held q octets lengths → ListsSigned held q others numbers → (octets ≡ others) × (lengths ≡ numbers) }

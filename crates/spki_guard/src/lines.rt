@@ -31,7 +31,7 @@ pub fn push_no(out: &mut Vec<u8>) -> Result<(), AllocError>
     push(out, b"no\n")
 }
 
-/// Appends the line of a fault of the text to the output. For lack of memory it is `refused Memory`.
+/// Appends the line of a fault of the text to the output. If memory ran out, it is `refused Memory`.
 pub fn push_refused_form(
     alloc: Global,
     out: &mut Vec<u8>,
@@ -172,7 +172,7 @@ pub(crate) fn push_refused_in(
     }
 }
 
-/// Appends the line of a case's fault to the output. For lack of memory it is `refused Memory`.
+/// Appends the line of a case's fault to the output. If memory ran out, it is `refused Memory`.
 pub fn push_refused_case(
     alloc: Global,
     out: &mut Vec<u8>,
@@ -194,7 +194,7 @@ pub fn push_refused_case(
     }
 }
 
-/// Appends the line of a fault of a separate accepted list to the output, with the word `rows`. For lack of memory it is
+/// Appends the line of a fault of a separate accepted list to the output, with the word `rows`. If memory ran out, it is
 /// `refused Memory`.
 pub fn push_refused_rows(
     alloc: Global,
@@ -212,7 +212,7 @@ pub fn push_refused_rows(
     }
 }
 
-/// Appends the line of a case that is not decided to the output. For lack of memory it is `refused Memory`.
+/// Appends the line of a case that is not decided to the output. If memory ran out, it is `refused Memory`.
 pub fn push_refused_decision(out: &mut Vec<u8>, fault: GuardFault) -> Result<(), AllocError>
     ensures ok { OnOk result (out.new.items ≡ out.old.items ++ refused_decision fault) }
     ensures err { OnErr result (out.new.items ≡ out.old.items) }
@@ -223,7 +223,7 @@ pub fn push_refused_decision(out: &mut Vec<u8>, fault: GuardFault) -> Result<(),
     }
 }
 
-/// Appends the line for lack of memory to the output.
+/// Appends the line `refused Memory` to the output.
 pub fn push_refused_memory(out: &mut Vec<u8>) -> Result<(), AllocError>
     ensures ok { OnOk result (out.new.items ≡ out.old.items ++ refused_memory) }
     ensures err { OnErr result (out.new.items ≡ out.old.items) }
@@ -231,7 +231,7 @@ pub fn push_refused_memory(out: &mut Vec<u8>) -> Result<(), AllocError>
     push(out, b"refused Memory\n")
 }
 
-/// Appends the line of a fault of an intersection to the output. For lack of memory it is `refused Memory`.
+/// Appends the line of a fault of an intersection to the output. If memory ran out, it is `refused Memory`.
 pub fn push_refused_intersect(
     alloc: Global,
     out: &mut Vec<u8>,

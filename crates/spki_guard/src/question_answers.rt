@@ -26,22 +26,23 @@ pub enum Wish {
     Reduce,
 }
 
-/// What a verifier is asked of a question: for each signature, in order, the issuer's key, the message and the signature's value,
-/// each in canonical form.
+/// What a verifier is asked of a question. For each signature, in order, it is the issuer's key, the message and the signature's
+/// value, each in canonical form.
 #[derive(Drop)]
 pub struct SignedOctets {
-    /// The octets of these texts, each text directly behind the one before it.
+    /// The octets of these texts, each text directly after the one before it.
     pub octets: Vec<u8>,
     /// How many octets each text has: three numbers for each signature.
     pub lengths: Vec<usize>,
 }
 
-/// Answers a question that is asked of a guard, in the lines that `run` writes for the case of the guard's list and the question's
-/// parts (RFC 2693, section 6). Exactly the signatures that `Asked::signed` lists at the places of true marks are accepted.
+/// Answers a question that is asked of a guard (RFC 2693, section 6). The lines are those that `run` writes for the case of the
+/// guard's list and the question's parts. Exactly the signatures that `Asked::signed` lists at the places of true marks are
+/// accepted.
 ///
 /// A question that is not read is refused. The line is `refused question TooLong` exactly if its parts together have more octets
-/// than the guard's limit. Otherwise the line names the first part that has no reading, and its fault, as `refused sequence Bad 5`;
-/// the word for the moment is `at`. If memory ran out, the line is `refused Memory`.
+/// than the guard's limit. Otherwise the line names the first part that has no reading, and its fault, such as `refused sequence
+/// Bad 5`; the word for the moment is `at`. If memory ran out, the line is `refused Memory`.
 ///
 /// The result is `None` if the question is read and does not have as many signatures as there are marks.
 pub fn answer_question(

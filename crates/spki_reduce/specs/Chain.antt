@@ -51,7 +51,7 @@ pub record GoesThrough (policy : Policy) (first : Tuple) (others : List Tuple) (
   pub timely : others ≢ [] → SomeMoment root.windows
   pub tagged : met (all_tags (first ∷ others)) ≡ set none → all_tags others ≡ []
 
--- A chain stops at a step, counted from 1, for a cause: no step before it stops the chain, and the step's tuple does not
+-- A chain stops at a step, counted from 1, for a cause. No step before it stops the chain, and the step's tuple does not
 -- join the root of the tuples before it. The cause is NoTag only if the intersection of the tags up to the step, one after
 -- another, is (* set).
 pub record StopsAt (policy : Policy) (first : Tuple) (others : List Tuple) (step : ℕ) (cause : Cause) : Type 0 where
@@ -64,9 +64,9 @@ pub record StopsAt (policy : Policy) (first : Tuple) (others : List Tuple) (step
   pub stopped : Stops policy (five root) tuple cause
   pub nothing_met : cause ≡ NoTag → met (all_tags (first ∷ take step others)) ≡ set none
 
--- A chain is too large at a step: no step before it stops the chain, and the step's tuple joins the root of the tuples
--- before it except for their tags, and the product of the nodes of these tags is over `most`. The product of the nodes of
--- the step's tag and of the intersection of the tags before it is over `most` too.
+-- A chain is too large at a step. No step before it stops the chain, and the step's tuple joins the root of the tuples
+-- before it except for their tags. The product of the nodes of these tags is over `most`. The product of the nodes of the
+-- step's tag and of the intersection of the tags before it is over `most` too.
 pub record TooLargeAt (most : ℕ) (policy : Policy) (first : Tuple) (others : List Tuple) : Type 0 where
   pub place : ℕ
   pub tuple : Tuple
@@ -80,7 +80,7 @@ pub record TooLargeAt (most : ℕ) (policy : Policy) (first : Tuple) (others : L
 abbrev pub NoDerivation : Policy → List Tuple → Type 0
 NoDerivation policy tuples = (tree : Tree) (root : Tuple) → leaves tree ≡ tuples → ¬ Derives policy tree root
 
--- What a stop at a step means for a chain in any bracketing: no derivation has its leaves, or no moment is within all
+-- What a stop at a step means for a chain in any bracketing. No derivation has its leaves. Or no moment is within all
 -- windows up to the step, or no request is in all tags up to the step.
 abbrev pub Excludes : Policy → Tuple → List Tuple → ℕ → Cause → Type 0
 Excludes policy first others step NotIssuer = NoDerivation policy (first ∷ others)

@@ -10,8 +10,8 @@ use Rattle.spki_reduce.specs.Derivation.{Tree, leaves}
 use Rattle.spki_reduce.specs.Supports.{Supports}
 use Rattle.spki_reduce.specs.Restrictions.{in_each, within_each}
 
--- The first test that fails: the subject has names left or does not name the key; some tag does not contain the request; the
--- moment is not within some window. None if all three pass.
+-- The first of three tests that fails. None if all three pass. NotTheKey: the subject has names left or does not name the
+-- key. TagLacks: some tag does not contain the request. WindowLacks: the moment is not within some window.
 abbrev pub IsFirstLack : Policy → FiveTuple → List ℕ → Request → List ℕ → Option Lack → Type 0
 IsFirstLack policy root holder request moment (Some NotTheKey) = ¬ IsFor policy root holder
 IsFirstLack policy root holder request moment (Some TagLacks) =

@@ -19,8 +19,8 @@ use Rattle.spki_reduce.specs.Restrictions.{in_each, within_each, SomeMoment, nod
 
 -- An authorization of the code is a root in reduced form. Issuer, subject and delegation are the same. Its tag contains
 -- exactly the requests that every tag of the root contains, and its window exactly the moments within every window of the
--- root. The tag has at most as many nodes as the product of those of the root's tags, and its lists are nested no deeper
--- than theirs.
+-- root. The tag has at most as many nodes as the product of those of the root's tags. Its lists are nested no deeper than
+-- theirs.
 pub record ReducesToFive (root : FiveTuple) (f : Five) : Type 0 where
   pub issuer : issuer_of f.issuer ≡ root.issuer
   pub principal : f.subject.principal ≡ root.principal

@@ -17,7 +17,7 @@ pub record Issues (policy : Policy) (left right : FiveTuple) : Type 0 where
   pub issued : right.issuer ≡ key holder
   pub is_for : IsFor policy left holder
 
--- A subject, which is a principal and the names behind it, begins with the name that a definition defines (section 6.4).
+-- A subject, which is a principal and the names after it, begins with the name that a definition defines (section 6.4).
 pub record Begins (policy : Policy) (principal : Principal) (path : List (List ℕ)) (definition : FourTuple) : Type 0 where
   pub rest : List (List ℕ)
   pub named : IsTrue (names policy principal definition.key)
@@ -49,7 +49,7 @@ resolved left right rest = record left {
 }
 
 -- An authorization and a name's definition (section 6.4): the left subject begins with the name that the right one defines.
--- The other names of the left subject come behind those of the definition's subject.
+-- The other names of the left subject come after those of the definition's subject.
 pub record Resolve (policy : Policy) (left : FiveTuple) (right : FourTuple) (result : FiveTuple) : Type 0 where
   pub begins : Begins policy left.principal left.names right
   pub result_is : result ≡ resolved left right begins.rest
@@ -67,7 +67,7 @@ pub record Link (policy : Policy) (left right result : FourTuple) : Type 0 where
   pub begins : Begins policy left.principal left.names right
   pub result_is : result ≡ linked left right begins.rest
 
--- Two tuples become a third by one of the rules. No rule joins a definition with an authorization behind it.
+-- Two tuples become a third by one of the rules. No rule joins a definition with an authorization after it.
 abbrev pub Joins : Policy → Tuple → Tuple → Tuple → Type 0
 Joins policy (five left) (five right) (five result) = Delegate policy left right result
 Joins policy (five left) (four right) (five result) = Resolve policy left right result

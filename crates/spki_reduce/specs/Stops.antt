@@ -9,7 +9,7 @@ use Rattle.spki_reduce.specs.Tuples.{FiveTuple, FourTuple, Tuple, five, four}
 use Rattle.spki_reduce.specs.Rules.{Issues, Begins}
 use Rattle.spki_reduce.specs.Restrictions.{SomeMoment, NoMoment, NoRequest, nodes_product}
 
--- Two authorizations join except for their tags: the left subject issued the right one, the left one may be delegated, and
+-- Two authorizations join except for their tags. The left subject issued the right one, the left one may be delegated, and
 -- some moment is within all their windows.
 pub record JoinButForTags (policy : Policy) (left right : FiveTuple) : Type 0 where
   pub issues : Issues policy left right
@@ -41,7 +41,7 @@ Unresolved policy principal path windows right NoValidity =
     Begins policy principal path right × NoMoment (windows ++ right.windows)
 Unresolved policy principal path windows right NoTag = ⊥
 
--- Why two tuples do not become one. There is no cause for a definition with an authorization behind it.
+-- Why two tuples do not become one. There is no cause for a definition with an authorization after it.
 abbrev pub Stops : Policy → Tuple → Tuple → Cause → Type 0
 Stops policy (five left) (five right) cause = Undelegated policy left right cause
 Stops policy (five left) (four right) cause = Unresolved policy left.principal left.names left.windows right cause

@@ -7,7 +7,7 @@ use Rattle.spki_reduce.specs.Tuples.{FiveTuple, own, five}
 use Rattle.spki_reduce.specs.Derivation.{Tree, Derives}
 use Rattle.spki_reduce.specs.Restrictions.{in_each, within_each}
 
--- An authorization by the owner of the access list grants a key a request at a moment: its subject is a principal that names
+-- An authorization by the owner of the access list grants a key a request at a moment. Its subject is a principal that names
 -- the key, each of its tags contains the request, and the moment is within each of its windows. So no intersection that led
 -- to it is empty (sections 6.3.1 and 6.3.2).
 pub record Grants (policy : Policy) (root : FiveTuple) (holder : List ℕ) (request : Request) (moment : List ℕ) : Type 0 where

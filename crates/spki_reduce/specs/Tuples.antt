@@ -9,8 +9,9 @@ pub data Issuer : Type 0 where
   own : Issuer
   key : List ℕ → Issuer
 
--- An authorization (section 6.1). The subject is a principal and the names behind it; without names it is the principal
--- itself. Tags and windows are lists, and all of their members apply: an intersection is the list of what was intersected.
+-- An authorization (section 6.1). The subject is a principal and the names after it; without names it is the principal
+-- itself. Tags and windows are lists, and all of their members apply: an intersection is the list of what was
+-- intersected.
 pub record FiveTuple : Type 0 where
   pub issuer : Issuer
   pub principal : Principal

@@ -21,7 +21,7 @@ abbrev pub IsWrittenPrincipal : Principal → Value → Type 0
 IsWrittenPrincipal (principal.Key octets) v = octets ≡ canon v
 IsWrittenPrincipal (principal.Hash alg digest) v = v ≡ headed (codes "hash") (plain (alg_name alg) ∷ plain digest ∷ [])
 
--- the principal, or (name principal n n ..) if there are names behind it
+-- the principal, or (name principal n n ..) if there are names after it
 abbrev pub IsWrittenSubject : Principal → List (List ℕ) → Value → Type 0
 IsWrittenSubject p [] v = IsWrittenPrincipal p v
 IsWrittenSubject p (n ∷ ns) v =
@@ -50,7 +50,7 @@ in_valid (limit ∷ limits) = headed (codes "valid") (limit ∷ limits) ∷ []
 abbrev pub window_limits : Window → List Value
 window_limits w = limit_values (codes "not-before") w.not_before ++ limit_values (codes "not-after") w.not_after
 
--- (five .. (tag T) ..), with these members before its tag and behind it
+-- (five .. (tag T) ..), with these members before its tag and after it
 abbrev pub five_value : List Value → Tag → List Value → Value
 five_value before tag behind = headed (codes "five") (before ++ headed (codes "tag") (tag_value tag ∷ []) ∷ behind)
 

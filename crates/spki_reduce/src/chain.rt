@@ -19,16 +19,17 @@ use std::alloc::{AllocError, Global};
 /// The greatest product of the numbers of nodes of two tags that `fold_chain` intersects.
 const MOST_NODES: usize = 1_000_000;
 
-/// Joins an authorization with the steps behind it, one after another from the left (RFC 2693, sections 6.3 and 6.4): each
-/// authorization by `Five::then`, and each definition by `Five::resolve`. Without steps the result is a copy of the first.
+/// Joins an authorization with the steps after it, one after another from the left (RFC 2693, sections 6.3 and 6.4). Each
+/// authorization is joined by `Five::then`, and each definition by `Five::resolve`. Without steps the result is a copy of
+/// the first.
 ///
 /// If a step does not join the result of the steps before it, the chain stops there, and the answer is its place and cause.
 /// Then no derivation over the same tuples grants anything, in any bracketing.
 ///
 /// # Errors
 ///
-/// `TooLarge` if a step's tag is too large for the result of the steps before it: the product of the numbers of their nodes
-/// is over 1,000,000. `Memory` if memory ran out.
+/// `TooLarge` if a step's tag is too large for the result of the steps before it. Then the product of the numbers of their
+/// nodes is over 1,000,000. `Memory` if memory ran out.
 pub fn fold_chain<'a>(
     alloc: Global,
     first: &Five<'a>,
@@ -51,7 +52,7 @@ pub fn fold_chain<'a>(
         (Excludes policy (five (five_tuple first.now)) (tuples_of steps.now))) }
     ensures unsupported { IfOk result (λ fold. MatchFold fold (λ f. Unit {0})
         (λ step cause. SupportsNothing policy (five (five_tuple first.now) ∷ tuples_of steps.now))) }
-    // When it is refused: the chain joins up to a step that is too large for the result so far, so the product of all nodes
+    // When it is refused: the chain joins up to a step that is too large for the result so far. So the product of all nodes
     // is over the limit.
     ensures too_large_at { IsErrOf result ReduceFault.TooLarge →
         TooLargeAt 1000000 policy (five (five_tuple first.now)) (tuples_of steps.now) }
@@ -67,8 +68,8 @@ pub fn fold_chain<'a>(
 ///
 /// # Errors
 ///
-/// `TooLarge` if a step's tag is too large for the result of the steps before it: the product of the numbers of their nodes
-/// is over `most`. `Memory` if memory ran out.
+/// `TooLarge` if a step's tag is too large for the result of the steps before it. Then the product of the numbers of their
+/// nodes is over `most`. `Memory` if memory ran out.
 pub fn fold_owned<'a>(
     alloc: Global,
     first: Five<'a>,
@@ -92,7 +93,7 @@ pub fn fold_owned<'a>(
         (Excludes policy (five (five_tuple first.entry)) (tuples_of steps.now))) }
     ensures unsupported { IfOk result (λ fold. MatchFold fold (λ f. Unit {0})
         (λ step cause. SupportsNothing policy (five (five_tuple first.entry) ∷ tuples_of steps.now))) }
-    // When it is refused: the chain joins up to a step that is too large for the result so far, so the product of all nodes
+    // When it is refused: the chain joins up to a step that is too large for the result so far. So the product of all nodes
     // is over the limit.
     ensures too_large_at { IsErrOf result ReduceFault.TooLarge →
         TooLargeAt most policy (five (five_tuple first.entry)) (tuples_of steps.now) }

@@ -23,8 +23,9 @@ impl<'a> Five<'a> {
     /// issuer to the next one's subject, with the intersection of both tags and of both windows. It may be delegated if the
     /// next one may be.
     ///
-    /// They do not join if this one's subject is not the next one's issuer, if this one may not be delegated, if no moment
-    /// is within both windows, or if the intersection of their tags is `(* set)`. The first of these is the cause.
+    /// They do not join if this one's subject is not the next one's issuer, or if this one may not be delegated. Nor do they
+    /// if no moment is within both windows, or if the intersection of their tags is `(* set)`. The first of these four is
+    /// the cause.
     ///
     /// # Errors
     ///
@@ -86,7 +87,7 @@ impl<'a> Five<'a> {
     }
 
     /// Resolves the first name of this authorization's subject by a name's definition (RFC 2693, section 6.4). The result
-    /// has the definition's subject, and behind its names the names of this one's subject, except the first. Its window is
+    /// has the definition's subject, and after its names the names of this one's subject, except the first. Its window is
     /// the intersection of both windows. Everything else is kept.
     ///
     /// They do not join if this one's subject does not begin with the name that is defined, or if no moment is within both
@@ -200,11 +201,11 @@ fn narrowed<'a>(
 
 impl<'a> Four<'a> {
     /// Resolves the first name of this definition's subject by another definition (RFC 2693, section 6.4). The result has
-    /// the next one's subject, and behind its names the names of this one's subject, except the first. Its window is the
+    /// the next one's subject, and after its names the names of this one's subject, except the first. Its window is the
     /// intersection of both windows. The name that this one defines is kept.
     ///
-    /// They do not join if this one's subject does not begin with the name that the next one defines, or if no moment is
-    /// within both windows. The first of these is the cause.
+    /// They do not join if this one's subject does not begin with the name that the next one defines. Nor do they if no
+    /// moment is within both windows. The first of these is the cause.
     ///
     /// # Errors
     ///
@@ -251,7 +252,7 @@ fn begins(subject: &Subject, definition: &Four, policy: Policy) -> bool
     }
 }
 
-/// The definition's subject, with `names`, except the first, behind its own names.
+/// The definition's subject, with `names`, except the first, after its own names.
 fn followed<'a>(subject: &Subject<'a>, names: Names<'a>) -> Result<Subject<'a>, AllocError>
     ensures { IfOk result (λ made. (made.principal ≡ subject.now.principal)
         × (made.names ≡ subject.now.names ++ drop 1 names.entry)) }

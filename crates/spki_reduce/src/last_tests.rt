@@ -24,8 +24,8 @@ pub enum Lack {
 }
 
 impl<'a> Five<'a> {
-    /// What the authorization lacks to grant the key the request at the moment: the first, in the order of `Lack`, of the
-    /// tests that it does not pass. None if it passes all three. Its issuer is not tested. Takes no memory.
+    /// What the authorization lacks to grant the key the request at the moment. It is the first, in the order of `Lack`,
+    /// of the tests that it does not pass. None if it passes all three. Its issuer is not tested. Allocates nothing.
     pub fn first_lack(
         &self,
         key: &Key,

@@ -60,7 +60,7 @@ pub fn one_writing()
     ensures { (f : Five) (v w : Value) → IsWrittenFive f v → IsWrittenFive f w → v ≡ w }
 {}
 
-/// Some tuples have a derivation in one bracketing and none in another: a name's definition between two authorizations joins
+/// Some tuples have a derivation in one bracketing and none in another. A name's definition between two authorizations joins
 /// the left one, and never the right one.
 pub fn other_bracketings()
     ensures { (policy : Policy) → (tree other : Tree) × (root : Tuple) ×

@@ -52,7 +52,7 @@ pub enum Step<'a> {
 }
 
 impl<'a> Issuer<'a> {
-    /// Returns the same issuer again, without taking memory.
+    /// Returns the same issuer again, and allocates nothing.
     pub fn share(&self) -> Issuer<'a>
         ensures { result ≡ self.now }
     {

@@ -17,14 +17,14 @@ use std::alloc::{AllocError, Global};
 pub struct WrittenParts {
     /// Those before the tag: the issuer, the subject, the delegation.
     pub before_tag: Vec<Sexp>,
-    /// Those behind it: the window.
+    /// Those after it: the window.
     pub behind_tag: Vec<Sexp>,
 }
 
 impl<'a> Five<'a> {
     /// Writes the authorization: `(five (issuer K) (subject S) (propagate) (tag T) (valid ..))`. The issuer is omitted if it
-    /// is the owner of the access list, `(propagate)` if the authorization may not be delegated, and `(valid ..)` if the
-    /// window has no limits. A hash is written without `uri`.
+    /// is the owner of the access list. `(propagate)` is omitted if the authorization may not be delegated, and `(valid ..)`
+    /// if the window has no limits. A hash is written without `uri`.
     ///
     /// # Errors
     ///

@@ -9,8 +9,8 @@ use Rattle.spki_decision.specs.Views.{with_entries}
 use Rattle.spki_decision.specs.Asked.{Signed}
 use Rattle.spki_service.specs.Held.{AreEntries}
 
--- A question that was read: the canonical texts of the guard's entries, and the case of the question's parts, which has no
--- entries of its own.
+-- A question that was read. It has the canonical texts of the guard's entries, and the case of the question's parts, which
+-- has no entries of its own.
 pub record AskedOf : Type 0 where
   pub texts : List (List ℕ)
   pub case : Case

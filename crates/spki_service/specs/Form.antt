@@ -28,7 +28,7 @@ pub record IsOverlong (means : Value → Type 0) (fault : FormFault) : Type 0 wh
   pub long : 1048576 < length (canon value)
   pub named : fault ≡ form.TooLong
 
--- The part has no value that is read, and this is the fault of its form: its text is refused, or it means a value that is too
+-- The part has no value that is read, and this is the fault of its form. Its text is refused, or it means a value that is too
 -- long.
 abbrev pub LacksForm : (means : Value → Type 0) → (refuses : FormFault → Type 0) → FormFault → Type 0
 LacksForm means refuses fault = refuses fault ⊎ IsOverlong means fault

@@ -19,8 +19,8 @@ pub record IsEntryText (text : List ℕ) (e : Entry) : Type 0 where
 abbrev pub AreEntries : List (List ℕ) → List Entry → Type 0
 AreEntries texts es = AllZip IsEntryText texts es
 
--- What a guard is in a contract: the canonical texts of its entries, the policy, and the limits on the octets of a question
--- and on the nodes of an intersection.
+-- What a guard is in a contract: the canonical texts of its entries, the policy, and two limits. One is on the octets of a
+-- question, the other on the nodes of an intersection.
 pub record Held : Type 0 where
   pub texts : List (List ℕ)
   pub policy : Policy

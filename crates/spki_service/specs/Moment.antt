@@ -18,8 +18,8 @@ date_octets year month day hour minute second =
     ++ char ":" ∷ (two_digits minute
     ++ char ":" ∷ two_digits second)))))
 
--- The seconds are those of this date, with a year from 0 to 9999 of the Gregorian calendar, on a clock in UTC whose days
--- have 86,400 seconds each.
+-- The seconds are those of this date, on a clock in UTC whose days have 86,400 seconds each. The year is from 0 to 9999,
+-- in the Gregorian calendar.
 pub record IsDateAt (seconds : ℤ) (octets : List ℕ) : Type 0 where
   pub year : ℕ
   pub month : ℕ

@@ -16,8 +16,8 @@ abbrev pub is_of : Policy → Option (List ℕ) → Entry → Bool
 is_of policy None e = false
 is_of policy (Some key) e = names policy e.subject.principal key
 
--- the decision by the entries that are kept, if these are the tuples of the certificates; a decision names an entry by its
--- number in the whole list
+-- The decision by the entries that are kept, if these are the tuples of the certificates. A decision names an entry by its
+-- number in the whole list.
 abbrev pub DecidesKept : Case → List Tuple → List (ℕ × Entry) → Result Decision GuardFault → Type 0
 DecidesKept c tuples kept (Ok d) =
     (part : Decision) × Names (kept_case c kept) tuples part × SmallUpTo (kept_case c kept) tuples part × IsRenumbered kept part d

@@ -27,8 +27,8 @@ use spki_reduce::{Issuer, Step};
 use std::alloc::Global;
 
 impl<'a> Asked<'a> {
-    /// The signatures that a verifier is asked about, in order: those of the certificates that pass the first three of the
-    /// four tests of evidence, up to the first that does not (RFC 2693, section 6). Nothing is copied.
+    /// The signatures that a verifier is asked about, in order (RFC 2693, section 6). They are those of the certificates
+    /// that pass the first three of the four tests of evidence, up to the first that does not. Nothing is copied.
     pub fn signed(&self) -> &[Signed<'a>]
         ensures { map signed_of result.now ≡ asked self.now.case }
     {
@@ -36,9 +36,9 @@ impl<'a> Asked<'a> {
     }
 
     /// Decides the question, as `spki_decision::decide` decides the case of the question's parts and the guard's list. The
-    /// answer is yes exactly if every certificate stands, with signatures that the verifier accepts, and an entry and all
-    /// certificates, in their order, reduce to an authorization that grants the request. Only entries whose principal names
-    /// the first issuer's key are examined, or the client's key if no certificate is shown.
+    /// answer is yes exactly if both of these hold. Every certificate stands, with signatures that the verifier accepts. An
+    /// entry and all certificates, in their order, reduce to an authorization that grants the request. Only entries whose
+    /// principal names the first issuer's key are examined, or the client's key if no certificate is shown.
     ///
     /// # Errors
     ///

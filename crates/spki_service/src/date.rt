@@ -6,7 +6,7 @@ ghost use Rattle.spki_service.specs.Moment.{date_octets, IsDateAt, IsAtNoDate};
 use jiff_core::civil::DateTime;
 use spki_cert::Date;
 
-/// The date of seconds since 1970-01-01 00:00:00 UTC. None if the year is not from 0 to 9999. Takes no memory.
+/// The date of seconds since 1970-01-01 00:00:00 UTC. None if the year is not from 0 to 9999. Allocates nothing.
 pub(crate) fn date_at(seconds: i64) -> Option<Date>
     ensures { MatchOption result (IsAtNoDate seconds) (λ date. IsDateAt seconds date) }
 {

@@ -65,7 +65,7 @@ impl Guard {
     ///
     /// # Errors
     ///
-    /// `Form` if the text spells and braces no value within the limits; `Form(TooLong)` exactly if the text or its canonical
+    /// `Form` if the text spells and braces no value within the limits. `Form(TooLong)` exactly if the text or its canonical
     /// form has more than 1,048,576 octets. Otherwise `Acl` if the value is no access list, with the first fault from the
     /// left. `Memory` if memory ran out.
     pub fn read(

@@ -16,8 +16,8 @@ use std::collections::BTreeMap;
 type Numbers = BTreeMap<Vec<u8>, Vec<usize>>;
 
 /// An index of an access list: for each principal, the numbers of the entries whose subject has it. Numbers are ascending and count
-/// from 1. A key is found by its canonical octets from the last to the first, since keys of one algorithm begin alike, and a hash by
-/// its digest, in a map for each algorithm.
+/// from 1. A key is found by its canonical octets from the last to the first, since keys of one algorithm begin alike. A hash is
+/// found by its digest, in a map for each algorithm.
 #[derive(Drop)]
 pub(crate) struct Index {
     by_key: Numbers,

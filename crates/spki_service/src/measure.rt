@@ -25,14 +25,14 @@ pub(crate) fn is_within(question: &Question, most_octets: usize) -> bool
     }
 }
 
-/// The room that is left behind these octets. None if there is too little.
+/// The room that is left after these octets. None if there is too little.
 fn left_of(room: usize, octets: usize) -> Option<usize>
     ensures { MatchOption result (room < octets) (λ left. left + octets ≡ room) }
 {
     room.checked_sub(octets)
 }
 
-/// The room that is left behind a request. None if there is too little.
+/// The room that is left after a request. None if there is too little.
 fn left_of_wanted(room: usize, wanted: &Wanted) -> Option<usize>
     ensures { MatchOption result (room < wanted_octets wanted.now) (λ left. left + wanted_octets wanted.now ≡ room) }
 {
@@ -42,7 +42,7 @@ fn left_of_wanted(room: usize, wanted: &Wanted) -> Option<usize>
     }
 }
 
-/// The room that is left behind the canonical text of strings. None if there is too little.
+/// The room that is left after the canonical text of strings. None if there is too little.
 fn left_of_words(room: usize, words: &[&[u8]]) -> Option<usize>
     ensures { MatchOption result (room < length (canon (words_value (map (λ w. w.now) words.now))))
         (λ left. left + length (canon (words_value (map (λ w. w.now) words.now))) ≡ room) }
@@ -57,7 +57,7 @@ fn left_of_words(room: usize, words: &[&[u8]]) -> Option<usize>
     Some(left)
 }
 
-/// The room that is left behind the verbatim form of a string. None if there is too little.
+/// The room that is left after the verbatim form of a string. None if there is too little.
 fn left_of_string(room: usize, octets: &[u8]) -> Option<usize>
     ensures { MatchOption result (room < length (verbatim octets.now)) (λ left. left + length (verbatim octets.now) ≡ room) }
 {

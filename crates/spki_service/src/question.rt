@@ -59,8 +59,8 @@ pub enum Part {
     Moment,
 }
 
-/// Why a question is refused. The parts are read in the order sequence, key, request, moment, and the first that cannot be
-/// read is named, with the fault of its own text.
+/// Why a question is refused. The parts are read in the order sequence, key, request, moment. The first that cannot be read
+/// is named, with the fault of its own text.
 #[derive(Clone, Copy, Debug, PartialEq, Eq, Error)]
 pub enum AskFault {
     /// The four texts together have too many octets.

@@ -13,7 +13,7 @@ use Rattle.spki_tag.specs.Faults.{is_word}
 
 abbrev mutual
   -- The tags in a written tag, itself first, depth first from the left. The tags in a list are its members, with the head,
-  -- and the tags in a set are the members behind `set`. Any other list that begins with the star contains none.
+  -- and the tags in a set are the members after `set`. Any other list that begins with the star contains none.
   pub tags_in : Value → List Value
   tags_in (string hint octets) = string hint octets ∷ []
   tags_in (list vs) = list vs ∷ tags_in_list vs
@@ -60,18 +60,18 @@ are_limits (v ∷ w ∷ x ∷ y ∷ z ∷ vs) = false
 abbrev pub is_ordering : List ℕ → Bool
 is_ordering name = bytes_eq name (codes "alpha") || bytes_eq name (codes "time") || bytes_eq name (codes "date")
 
--- the fault of the members behind the ordering of a range; a hint is looked for first
+-- the fault of the members after the ordering of a range; a hint is looked for first
 abbrev pub limits_fault : List Value → Option TagFault
 limits_fault vs = first_fault (unless (not (list_any is_hinted vs)) Hint ∷ unless (are_limits vs) RangeLimit ∷ [])
 
--- the fault of the members behind `*` and `range`
+-- the fault of the members after `*` and `range`
 abbrev pub range_fault : List Value → Option TagFault
 range_fault [] = Some RangeOrdering
 range_fault (list us ∷ vs) = Some RangeOrdering
 range_fault (string (Some hint) octets ∷ vs) = Some Hint
 range_fault (string None name ∷ vs) = if is_ordering name then limits_fault vs else Some RangeOrdering
 
--- the fault of the members behind `*` and `prefix`
+-- the fault of the members after `*` and `prefix`
 abbrev pub prefix_fault : List Value → Option TagFault
 prefix_fault [] = Some UnknownStar
 prefix_fault (list us ∷ []) = Some UnknownStar
@@ -79,7 +79,7 @@ prefix_fault (string (Some hint) octets ∷ []) = Some Hint
 prefix_fault (string None octets ∷ []) = None
 prefix_fault (v ∷ w ∷ vs) = Some UnknownStar
 
--- the fault of the members behind `*` and this word
+-- the fault of the members after `*` and this word
 abbrev pub form_fault : List ℕ → List Value → Option TagFault
 form_fault word vs =
     if bytes_eq word (codes "set") then None
@@ -87,7 +87,7 @@ form_fault word vs =
     else if bytes_eq word (codes "range") then range_fault vs
     else Some UnknownStar
 
--- the fault of the members behind `*`
+-- the fault of the members after `*`
 abbrev pub star_fault : List Value → Option TagFault
 star_fault [] = None
 star_fault (list us ∷ vs) = Some UnknownStar

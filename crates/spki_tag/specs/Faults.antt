@@ -29,7 +29,7 @@ pub data IsUnknownStar (w : Value) : Type 0 where
   other_word :
       (word : List ℕ) (vs : List Value) → word ≢ codes "set" → word ≢ codes "prefix" → word ≢ codes "range"
       → w ≡ starred word (values vs) → IsUnknownStar w
-  -- the members behind the word are not exactly one string
+  -- the members after the word are not exactly one string
   no_prefix :
       (vs : List Value) → ((hint : Option (List ℕ)) (octets : List ℕ) → vs ≢ string hint octets ∷ [])
       → w ≡ starred (codes "prefix") (values vs) → IsUnknownStar w
@@ -97,7 +97,7 @@ TagShowsIn faults.TooManyNodes parts count = 1024 < count
 TagShowsIn faults.StarInRequest parts count = ⊥
 TagShowsIn faults.Memory parts count = Unit {0}
 
--- What a fault means for the value that is refused as a tag: the value or a part of it is so, or there are more than 1,024
+-- What a fault means for the value that is refused as a tag. The value or a part of it is so, or there are more than 1,024
 -- nodes. Memory means nothing for the value.
 abbrev pub TagShows : TagFault → Value → Type 0
 TagShows fault v = TagShowsIn fault (nodes v) (tag_nodes v)

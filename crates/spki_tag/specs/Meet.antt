@@ -61,8 +61,8 @@ abbrev pub above_from : ℕ → Option (List ℕ) → Option (List ℕ)
 above_from octet None = if nat_lt octet 255 then Some ((octet + 1) ∷ []) else None
 above_from octet (Some q) = Some (octet ∷ q)
 
--- the least string above all that start with a string: the string without its last octets FF, with the last octet then
--- increased by one; None if no octet is left
+-- The least string above all that start with a string. It is the string without its last octets FF, with the last octet then
+-- increased by one. None if no octet is left.
 abbrev pub least_above : List ℕ → Option (List ℕ)
 least_above [] = None
 least_above (octet ∷ octets) = above_from octet (least_above octets)

@@ -15,9 +15,9 @@ LeaveEither a b c = (meet a b ≡ c) × (meet b a ≡ c)
 abbrev pub StarRule : Type 0
 StarRule = (t : Tag) → LeaveEither star t t
 
--- If one or both are sets, the results are the intersections of each member of the first with each member of the second, in
--- this order. Each (* set) is dropped. No result left is (* set), one is itself, more are a set. A tag that is no set is its
--- own only member.
+-- If one or both are sets, each member of the first is intersected with each member of the second, in this order. Each
+-- result (* set) is dropped. No result left is (* set), one is itself, more are a set. A tag that is no set is its own only
+-- member.
 abbrev pub SetRule : Type 0
 SetRule =
     (a b : Tag) → is_star a ≡ false → is_star b ≡ false → (is_set a || is_set b) ≡ true → is_normal b ≡ true

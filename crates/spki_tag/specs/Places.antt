@@ -73,7 +73,7 @@ pub record ArePlacesOf (s : PlacesByKind) (ts : List Tag) : Type 0 where
   pub any : s.any.items ≡ places_where (λ t. is_any (kind t)) 1 ts
   pub all : s.all.items ≡ places_where (λ t. true) 1 ts
 
--- The place of a tag of this kind was added behind the others.
+-- The place of a tag of this kind was added after the others.
 pub record IsAdded (old new : PlacesByKind) (k : Kind) (place : ℕ) : Type 0 where
   pub strings : (q : List ℕ) → found_at new.strings q ≡ found_at old.strings q ++ place_if (is_one q k) place
   pub lists : (q : List ℕ) → found_at new.lists q ≡ found_at old.lists q ++ place_if (is_lists q k) place
@@ -84,7 +84,7 @@ pub record IsAdded (old new : PlacesByKind) (k : Kind) (place : ℕ) : Type 0 wh
 
 -- ---- merging
 
--- x before the lists behind it, merged with ys
+-- x before the lists after it, merged with ys
 abbrev weave : ℕ → (List ℕ → List ℕ) → List ℕ → List ℕ
 weave x f [] = x ∷ f []
 weave x f (y ∷ ys) = if nat_lt x y then x ∷ f (y ∷ ys) else y ∷ weave x f ys

@@ -12,8 +12,8 @@ use Rattle.spki_tag.specs.Tag.{Tag, IsTag, tag_value, nodes}
 abbrev pub most_read : ℕ
 most_read = 1024
 
--- The value is a written tag w of at most 1,024 nodes, and t is its normal form (RFC 2693, section 6.3.1): a tag in normal
--- form with the same requests and no more nodes.
+-- The value is a written tag w of at most 1,024 nodes, and t is its normal form (RFC 2693, section 6.3.1). That is a tag
+-- in normal form with the same requests and no more nodes.
 pub record ReadsAs (v : Value) (t : Tag) : Type 0 where
   pub w : Tag
   pub written : IsTag w

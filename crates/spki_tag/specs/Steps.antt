@@ -54,7 +54,7 @@ pub record AreRead (used : ℕ) (vs : List Value) (ts : List Tag) (after : ℕ) 
 abbrev pub OrderingShows : TagFault → Value → Type 0
 OrderingShows fault v = (vs : List Value) → TagShows fault (starred (codes "range") (values (v ∷ vs)))
 
--- not a limit behind one of two words
+-- not a limit after one of two words
 abbrev pub IsNoLimit : List ℕ → List ℕ → List Value → Type 0
 IsNoLimit strict inclusive vs = (limit : Limit) → limit_values strict inclusive (Some limit) ≢ vs
 

@@ -68,7 +68,7 @@ ordering_name alpha = codes "alpha"
 ordering_name time = codes "time"
 ordering_name date = codes "date"
 
--- a limit behind its word; a strict limit has one word, and any other limit has another
+-- a limit after its word; a strict limit has one word, and any other limit has another
 abbrev pub limit_values : List ℕ → List ℕ → Option Limit → List Value
 limit_values above from None = []
 limit_values above from (Some limit) = plain (if limit.strict then above else from) ∷ plain limit.octets ∷ []
@@ -102,7 +102,7 @@ abbrev mutual
 
 -- ---- what tags contain
 
--- Strings are compared octet by octet, and a proper prefix is less than the longer string: x is below y, or, if the limit is
+-- Strings are compared octet by octet, and a proper prefix is less than the longer string. x is below y, or, if the limit is
 -- not strict, equal to y.
 abbrev pub is_within : Bool → List ℕ → List ℕ → Bool
 is_within strict x y = if strict then is_lt (slice_cmp nat_cmp x y) else is_le (slice_cmp nat_cmp x y)
@@ -122,7 +122,7 @@ is_ordered time octets = is_time octets
 is_ordered date octets = is_date octets
 
 abbrev mutual
-  -- Whether a tag contains a request. A list contains lists that are at least as long: each member of the tag contains the
+  -- Whether a tag contains a request. A list contains lists that are at least as long. Each member of the tag contains the
   -- request at its place, and further members of the request are not restricted.
   pub contains : Tag → Request → Bool
   contains star g = true
@@ -219,8 +219,8 @@ is_none_or_many (more t none) = false
 is_none_or_many (more t (more u us)) = true
 
 abbrev mutual
-  -- Normal form: a set has no members or at least two, and none of them is a set or a star; a list has no member (* set);
-  -- and the same holds at each level.
+  -- Normal form. A set has no members or at least two, and none of them is a set or a star. A list has no member (* set).
+  -- The same holds at each level.
   pub is_normal : Tag → Bool
   is_normal star = true
   is_normal (string octets) = true

@@ -9,7 +9,7 @@ use crate::leaf::{Leaf, Limit, RangeOrdering};
 use crate::tag::{Node, Tag};
 
 impl Tag {
-    /// Whether another tag is the same value. Takes no memory.
+    /// Whether another tag is the same value. Allocates nothing.
     #[cycle(same)]
     pub fn same(&self, other: &Tag) -> bool
         ensures { IsTrue result ↔ (self.now ≡ other.now) }

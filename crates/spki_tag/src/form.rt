@@ -40,7 +40,7 @@ pub enum TagForm<'a> {
     List {
         /// The first member of the list, a string.
         head: &'a [u8],
-        /// The tags behind it, in order.
+        /// The tags after it, in order.
         further: &'a [Tag],
     },
     /// `(* set t ..)`.

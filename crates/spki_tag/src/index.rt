@@ -1,4 +1,4 @@
-//! An index of the members of a tag by kind and string, so that a tag is intersected only with those that can have a request
+//! An index of the members of a tag by kind and string. With it, a tag is intersected only with those that can have a request
 //! in common with it.
 
 ghost use Rattle.std.specs.Prelude.{◌≡◌, ◌++◌, [], ℕ, List, IfOk, OnOk};
@@ -60,7 +60,7 @@ impl<'a> Kind<'a> {
 /// The places of tags by string, in increasing order.
 type PlacesByString<'a> = BTreeMap<&'a [u8], Vec<usize>>;
 
-/// Adds a place behind those of a string.
+/// Adds a place after those of a string.
 fn put<'a>(map: &mut PlacesByString<'a>, string: &'a [u8], place: usize) -> Result<(), AllocError>
     ensures { OnOk result ((q : List ℕ) → found_at map.new q ≡ found_at map.old q ++ place_if (bytes_eq q string.now) place) }
 {
@@ -131,7 +131,7 @@ impl<'a> PlacesByKind<'a> {
         }
     }
 
-    /// Adds the place of a tag of this kind, behind all others.
+    /// Adds the place of a tag of this kind, after all others.
     fn add(&mut self, kind: Kind<'a>, place: usize) -> Result<(), AllocError>
         ensures { OnOk result (IsAdded self.old self.new (kind_of kind.entry) place) }
     {
@@ -220,9 +220,9 @@ impl<'a> Index<'a> {
     }
 
     /// The places of the members that can have a request in common with a tag, by their kinds and strings, in increasing
-    /// order. For a string these are the members of the same string, prefixes and ranges; for a list the lists with the same
-    /// head; for a prefix or a range all strings, prefixes and ranges; for a set or `(*)` all members. If the index is that of
-    /// `(*)`, its place is always included.
+    /// order. For a string these are the members of the same string, prefixes and ranges. For a list they are the lists with
+    /// the same head. For a prefix or a range they are all strings, prefixes and ranges, and for a set or `(*)` all members.
+    /// If the index is that of `(*)`, its place is always included.
     ///
     /// # Errors
     ///

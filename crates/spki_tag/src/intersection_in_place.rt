@@ -70,7 +70,7 @@ fn keep(members: &mut Vec<Tag>, to: usize, place: usize)
     }
 }
 
-/// Intersects the tag in a place with another, and puts the result, except `(* set)`, behind the tags that are kept.
+/// Intersects the tag in a place with another, and puts the result, except `(* set)`, after the tags that are kept.
 #[cycle(narrowing)]
 fn meet_place(
     alloc: Global,
@@ -276,8 +276,8 @@ fn meet_owned(alloc: Global, one: Tag, other: &Tag) -> Result<Tag, AllocError>
 }
 
 impl Tag {
-    /// Like `meet`, but consumes `self`. If the other tag is `(*)`, the call takes no memory. If the other is no set, it
-    /// takes the memory for one member at a time.
+    /// Like `meet`, but consumes `self`. If the other tag is `(*)`, the call allocates nothing. If the other is no set, it
+    /// allocates for one member at a time.
     ///
     /// # Errors
     ///

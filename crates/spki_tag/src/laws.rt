@@ -100,8 +100,8 @@ pub fn meet_apart()
     ensures { (t u : Tag) → may_share t u ≡ false → meet t u ≡ nothing }
 {}
 
-/// The intersections of a tag with some tags, one after another, are those with the tags at the places where the two may
-/// have a request in common.
+/// The intersections of a tag with some tags, one after another, are those with some of these tags. They are the tags at
+/// the places where the two may have a request in common.
 pub fn row_at_places()
     ensures { (t : Tag) (us : List Tag)
         → row (meet t) (tags us) ≡ row (meet t) (tags (tags_at us (places_where (may_share t) 1 us))) }

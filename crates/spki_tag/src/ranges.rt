@@ -65,7 +65,7 @@ fn read_ordering(name: &Node<'_, '_>) -> Result<RangeOrdering, TagFault>
     }
 }
 
-/// Reads two values as a limit behind its word: one word for a strict limit, and another for any other limit. None if they
+/// Reads two values as a limit after its word: one word for a strict limit, and another for any other limit. None if they
 /// are no limit.
 fn read_limit(
     alloc: Global,
@@ -174,7 +174,7 @@ fn values_of<'d, 'a>(
     Ok(values)
 }
 
-/// Reads the members behind a range's ordering.
+/// Reads the members after a range's ordering.
 fn read_limits(alloc: Global, rest: Members<'_, '_>) -> Result<Limits, TagFault>
     ensures read { IfOk result (λ p. AreLimits (limit_of p.0) (limit_of p.1) rest.entry) }
     ensures shows { IfErr result (λ fault. LimitsShow fault rest.entry) }
@@ -190,7 +190,7 @@ fn read_limits(alloc: Global, rest: Members<'_, '_>) -> Result<Limits, TagFault>
     }
 }
 
-/// Reads the members behind `*` and `range`.
+/// Reads the members after `*` and `range`.
 pub(crate) fn read_range(alloc: Global, further: Members<'_, '_>) -> Result<Leaf, TagFault>
     ensures read { IfOk result (λ leaf. tag_value (leaf_tag leaf) ≡ starred (codes "range") (values further.entry)) }
     ensures shows { IfErr result (λ fault. TagShows fault (starred (codes "range") (values further.entry))) }

@@ -38,7 +38,7 @@ pub(crate) fn head_of<'a>(first: &Node<'_, 'a>) -> Result<&'a [u8], TagFault>
     }
 }
 
-/// Reads the members behind `*` and `prefix`.
+/// Reads the members after `*` and `prefix`.
 fn read_prefix(alloc: Global, further: Members<'_, '_>) -> Result<Leaf, TagFault>
     ensures read { IfOk result (λ leaf. tag_value (leaf_tag leaf) ≡ starred (codes "prefix") (values further.entry)) }
     ensures shows { IfErr result (λ fault. TagShows fault (starred (codes "prefix") (values further.entry))) }
@@ -102,7 +102,7 @@ fn read_list(alloc: Global, members: Members<'_, '_>, used: usize) -> Result<(Ta
     }
 }
 
-/// Reads the members behind the head `*` of a list.
+/// Reads the members after the head `*` of a list.
 #[cycle(read)]
 fn read_starred(
     alloc: Global,
@@ -124,7 +124,7 @@ fn read_starred(
     }
 }
 
-/// Reads the members behind `*` and this word.
+/// Reads the members after `*` and this word.
 #[cycle(read)]
 fn read_form(
     alloc: Global,
@@ -148,7 +148,7 @@ fn read_form(
     }
 }
 
-/// Reads the members behind `*` and `set`.
+/// Reads the members after `*` and `set`.
 #[cycle(read)]
 fn read_set(alloc: Global, further: Members<'_, '_>, used: usize) -> Result<(Tag, usize), TagFault>
     requires { used < most_read }
@@ -160,7 +160,7 @@ fn read_set(alloc: Global, further: Members<'_, '_>, used: usize) -> Result<(Tag
     Ok((Tag::set_of(alloc, members)?, after))
 }
 
-/// Reads a list with this head, which is not `*`, and these members behind it as a tag.
+/// Reads a list with this head, which is not `*`, and these members after it as a tag.
 #[cycle(read)]
 fn read_plain_list(
     alloc: Global,
@@ -229,7 +229,7 @@ impl Tag {
         Ok(tag)
     }
 
-    /// Reads node n of a document as a tag. Like `of` otherwise.
+    /// Reads node n of a document as a tag. Otherwise like `of`.
     ///
     /// # Errors
     ///

@@ -16,7 +16,7 @@ use sexpr_core::{Doc, NodeId};
 use std::alloc::Global;
 use std::marker::Model;
 
-/// A request: one thing that somebody asks to do. It is a string, or a list of a head that is not `*` and further requests,
+/// A request: one action that a client asks for. It is a string, or a list of a head that is not `*` and further requests,
 /// without display hints (RFC 2693, section 6.3.1).
 #[cycle(ground)]
 #[derive(Debug, Drop)]
@@ -110,7 +110,7 @@ fn read_request_list(alloc: Global, members: Members<'_, '_>) -> Result<Ground, 
     }
 }
 
-/// Reads a list with this head, which is not `*`, and these members behind it as a request.
+/// Reads a list with this head, which is not `*`, and these members after it as a request.
 #[cycle(read_request)]
 fn read_headed(alloc: Global, head: &[u8], further: Members<'_, '_>) -> Result<Ground, TagFault>
     requires { IsHead head.now }
@@ -159,7 +159,7 @@ impl Ground {
         read_request(alloc, value)
     }
 
-    /// Reads node n of a document as a request. Like `of` otherwise.
+    /// Reads node n of a document as a request. Otherwise like `of`.
     ///
     /// # Errors
     ///

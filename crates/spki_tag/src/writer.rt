@@ -32,7 +32,7 @@ fn ordering_name(ordering: RangeOrdering) -> &'static [u8]
     }
 }
 
-/// Adds a limit behind its word: one word for a strict limit, and another for any other limit.
+/// Adds a limit after its word: one word for a strict limit, and another for any other limit.
 fn push_limit(
     alloc: Global,
     out: &mut Vec<Sexp>,

@@ -5,7 +5,7 @@ use crate::commands::Command;
 /// What the program does, in one line.
 pub(crate) const ABOUT: &str = "Decides who may do what by SPKI certificates (RFC 2693)";
 
-/// The text of the help behind the list of commands.
+/// The text of the help after the list of commands.
 pub(crate) const DETAILS: &str = "\
 Each command reads one text on standard input, to its end, in the canonical, advanced or transport form of RFC 9804,
 and writes its answer on standard output. The help of a command says more: spki check --help
@@ -136,7 +136,7 @@ pub(crate) fn about(command: Command) -> &'static str {
     }
 }
 
-/// The text of the help of a command behind its usage: what is read and written, the exit statuses, an example.
+/// The text of the help of a command after its usage: what is read and written, the exit statuses, an example.
 pub(crate) fn details(command: Command) -> &'static str {
     match command {
         Command::Canonical => CANONICAL,

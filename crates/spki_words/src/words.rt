@@ -51,7 +51,7 @@ impl From<AllocError> for WordsFault {
 ///
 /// # Errors
 ///
-/// `Help` if the words ask for help, `Refused` if `clap` refuses them for another reason, both with the text of `clap`;
+/// `Help` if the words ask for help, `Refused` if `clap` refuses them for another reason, both with the text of `clap`.
 /// `Memory` if memory ran out.
 pub fn command_of(alloc: Global, words: &[String]) -> Result<Command, WordsFault>
     ensures named { IfOk result (λ c. subcommand_in (map string_bytes words.now) ≡ Some (word_of c)) }

@@ -6,8 +6,8 @@ use Rattle.spki_cert.specs.declared.principal.Policy.TheVariants.{Strict}
 use Rattle.spki_case.specs.Case.{Case}
 use Rattle.test_callers.specs.declared.cases.Question.{Question}
 
--- The case of a service's entries, the items of a sequence and a question, without an accepted list, under the strict policy
--- and with the limit of all tags.
+-- The case of a service's entries, the items of a sequence and a question, without an accepted list. It is under the strict
+-- policy and has the limit of all tags.
 abbrev pub asked : List Entry → List SeqItem → Question → Case
 asked entries items question = record {
   entries = entries;

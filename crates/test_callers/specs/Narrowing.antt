@@ -7,8 +7,8 @@ use Rattle.spki_tag.specs.Read.{ReadsAs, IsNoTag}
 use Rattle.test_callers.specs.declared.tags.NarrowFault.{NarrowFault}
 use Rattle.test_callers.specs.declared.tags.NarrowFault.TheVariants as faults
 
--- Tag: unless memory ran out, the value is no tag. Meet: it is a tag, and unless memory ran out the product of its nodes and
--- of the nodes of the service's tag is over 1,000,000.
+-- Tag: unless memory ran out, the value is no tag. Meet: it is a tag. Unless memory ran out, the product of its nodes and of
+-- the nodes of the service's tag is over 1,000,000.
 abbrev pub IsNotNarrowed : Tag → Value → NarrowFault → Type 0
 IsNotNarrowed own given (faults.Tag fault) = IsNoTag fault given
 IsNotNarrowed own given (faults.Meet TooLarge) = (t : Tag) × ReadsAs given t × (1000000 < nodes own * nodes t)

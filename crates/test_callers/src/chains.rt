@@ -23,8 +23,8 @@ pub struct Asked<'r, 'k> {
     pub moment: &'r Date,
 }
 
-/// Whether an authorization by the owner of the access list and the steps behind it, in their order, grant the request: some
-/// derivation from them does, in any bracketing (RFC 2693, section 6.3).
+/// Whether an authorization by the owner of the access list and the steps after it, in their order, grant the request. They
+/// do exactly if some derivation from them does, in any bracketing (RFC 2693, section 6.3).
 ///
 /// # Errors
 ///

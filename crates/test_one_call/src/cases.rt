@@ -16,8 +16,8 @@ const FIRST_RUN: &[u8] =
 const SHORTER: &[u8] =
     b"(4:case(3:acl(5:entry(10:public-key(4:test1:a))(3:tag(3:ftp4:host))))(8:accepted)(8:sequence)(3:key(10:public-key(4:test1:a)))(7:request(3:ftp))(2:at19:2024-01-01_00:00:00))";
 
-/// `reduced-sets`: the text before the digest in the accepted row, the text between this digest and the one in the
-/// signature, and the text behind it.
+/// `reduced-sets` in three texts: before the digest in the accepted row, between this digest and the one in the
+/// signature, and after that one.
 const ENTRY: &[u8] =
     b"(4:case(3:acl(5:entry(10:public-key(4:test1:a))(9:propagate)(3:tag(1:*3:set4:read5:write))))(8:accepted(2:by(10:public-key(4:test1:a))(4:hash6:sha25632:";
 

@@ -98,7 +98,7 @@ fn ended(alloc: Global, name: &str) -> Option<Result<bool, Failure>> {
         .or_else(|| of_guards(alloc, name))
 }
 
-/// The word behind the program's name, if there is one.
+/// The word after the program's name, if there is one.
 fn word<R: Env + AllocGlobal>(rt: &R) -> Result<Option<String>, Failure> {
     match env::args(rt) {
         Ok(mut words) => {

@@ -51,8 +51,7 @@ fn slices_of<'a>(alloc: Global, members: Members<'_, 'a>) -> Result<Vec<&'a [u8]
     Ok(slices)
 }
 
-/// The canonical text of the only value behind the head of a key, a request or a moment. Otherwise that of the member
-/// itself.
+/// The canonical text of the only value after the head of a key, a request or a moment. Otherwise that of the member itself.
 fn inner_of<'a>(member: &Node<'_, 'a>) -> &'a [u8] {
     match only_of(member) {
         Some(only) => only.slice(),
@@ -60,7 +59,7 @@ fn inner_of<'a>(member: &Node<'_, 'a>) -> &'a [u8] {
     }
 }
 
-/// The only value behind the head `key`, `request` or `at`.
+/// The only value after the head `key`, `request` or `at`.
 fn only_of<'d, 'a>(member: &Node<'d, 'a>) -> Option<Node<'d, 'a>> {
     let members = member
         .headed(b"key")
@@ -223,8 +222,8 @@ const WISHES: &[(Wish, Command)] = &[
     (Wish::Reduce, Command::Reduce),
 ];
 
-/// Whether the lines of the question are those of the case in a text, where the marks are as many as the signatures, and there are
-/// none with another mark.
+/// Whether the lines of the question are those of the case in a text. There are as many marks as signatures. With one more mark
+/// there must be no line.
 fn alike_in_lines(
     alloc: Global,
     text: &[u8],

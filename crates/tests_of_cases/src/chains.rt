@@ -80,7 +80,7 @@ pub(crate) fn issued_by_hash(alloc: Global) -> Result<String, Fail> {
     Ok(joined(alloc, &parts)?)
 }
 
-/// A case with a certificate whose issuer is the hash of KA. The items behind it may show KA.
+/// A case with a certificate whose issuer is the hash of KA. The items after it may show KA.
 pub(crate) fn hash_as_issuer(alloc: Global, behind: &str) -> Result<String, Fail> {
     let cert = issued_by_hash(alloc)?;
     let items = joined(alloc, &[&signed(alloc, &cert, KA)?, behind])?;

@@ -37,7 +37,7 @@ fn answered(alloc: Global, guard: &Guard, question: &Question) -> Result<Decisio
     }
 }
 
-/// The texts of a question's parts, one of which has something behind its value, and the name of that part.
+/// The texts of a question's parts, one of which has something after its value, and the name of that part.
 const RUN_ON: &[(&[u8], &[u8], &[u8], &[u8], Part, usize)] = &[
     (
         b"(8:sequence)1:x",
@@ -271,7 +271,8 @@ fn limits_of_limits(rt: HostRuntime) {
     assert!(rt; Limits::new(0, 1_000_001).is_none());
 }
 
-/// A case for KB, in which a set of three members is delegated as a set of two: tags of 5 and of 4 nodes are intersected.
+/// A case for KB, in which a set of three members is delegated as a set of two. Tags of 5 and of 4 nodes are
+/// intersected.
 fn sets_case(alloc: Global) -> Result<Vec<u8>, Fail> {
     let cert =
         "(cert (issuer (public-key (test a))) (subject (public-key (test b))) (tag (* set (ftp) x)))";
@@ -320,7 +321,8 @@ fn most_nodes(rt: HostRuntime) -> Result<(), Fail> {
     Ok(())
 }
 
-/// The product of the nodes: a set of a list of one string and of two strings has 5, and a set of a list and a string 4.
+/// The product of the nodes. A set of a list of one string and of two strings has 5. A set of a list and a string has
+/// 4.
 const NODES: usize = 20;
 
 /// Entries for KA by its hashes, for KA itself, and for others. The tag of each is another string.

@@ -8,7 +8,7 @@ use spki_tag::TagFault;
 use std::alloc::{AllocError, Global};
 use std::test::Fail;
 
-/// The access list of an entry for KA with these fields behind its subject, in canonical form.
+/// The access list of an entry for KA with these fields after its subject, in canonical form.
 fn list_of(alloc: Global, fields: &[&[u8]]) -> Result<Vec<u8>, AllocError> {
     let mut list = Vec::from_slice(alloc, b"(3:acl(5:entry")?;
     list.extend_from_slice(KA)?;

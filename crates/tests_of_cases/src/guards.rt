@@ -43,7 +43,7 @@ fn shorter_request(rt: HostRuntime) -> Result<(), Fail> {
     Ok(())
 }
 
-/// Access lists: an entry for KA behind others, before others, and none.
+/// Access lists: an entry for KA after others, before others, and none.
 const LISTS: &[&str] = &[
     "",
     "(entry (public-key (test c)) (tag (*)))(entry (public-key (test a)) (propagate) (tag (*)))",

@@ -1,4 +1,4 @@
-//! Decisions by verifiers other than a case's own list.
+//! Decisions by verifiers other than a case's accepted list.
 
 ghost use Rattle.std.specs.Prelude.{◌↔◌, IsTrue, IfOk};
 
@@ -49,7 +49,7 @@ impl Verifier for AcceptsAll {
     }
 }
 
-/// Has no memory.
+/// Returns that memory ran out.
 pub(crate) struct OutOfMemory;
 
 impl Verifier for OutOfMemory {

@@ -27,7 +27,7 @@ pub record GathersTo (text : List ℕ) (at mark : ℕ) (symbols : List ℕ) (to 
   pub goes_on : at < to
   pub within : to ≤ length text
 
--- a body and the mark behind it are at an offset of a text
+-- a body and the mark after it are at an offset of a text
 pub record BodyAt (at mark : ℕ) (text : List ℕ) : Type 0 where
   pub body : List ℕ
   pub rest : List ℕ

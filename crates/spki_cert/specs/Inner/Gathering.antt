@@ -35,7 +35,7 @@ use Rattle.spki_cert.specs.Faults.{Shows, IsUnknownVersion}
 
 -- ---- subjects
 
--- names behind a principal, or alone
+-- names after a principal, or alone
 abbrev pub NamesWho : List Value → Option Principal → List (List ℕ) → Type 0
 NamesWho vs None names =
     (first : List ℕ) × (others : List (List ℕ)) × (names ≡ first ∷ others) × (vs ≡ plains names)
@@ -48,7 +48,7 @@ abbrev pub SubjectShows : CertFaultKind → Value → Type 0
 SubjectShows kind v =
     (word : List ℕ) (rest : List Value) → (word ≡ codes "entry") ⊎ (word ≡ codes "subject") → Shows kind (group (plain word ∷ v ∷ rest))
 
--- a fault of an algorithm is true of the list that contains it: behind hash, or behind do and hash
+-- a fault of an algorithm is true of the list that contains it: after hash, or after do and hash
 abbrev pub AlgShows : CertFaultKind → Value → Type 0
 AlgShows kind v =
     (w : Value) (rest : List Value)
@@ -66,7 +66,7 @@ abbrev pub IsTagKind : TagFault → CertFaultKind → Type 0
 IsTagKind fault kind =
     ((fault ≡ tag_faults.Memory) × (kind ≡ kinds.Memory)) ⊎ ((fault ≢ tag_faults.Memory) × (kind ≡ kinds.Tag fault))
 
--- a list with this head, with this reading of the members behind it
+-- a list with this head, with this reading of the members after it
 abbrev pub Headed : {A : Type 0} → List ℕ → (List Value → A → Type 0) → Value → A → Type 0
 Headed word R v a = (rest : List Value) × (v ≡ group (plain word ∷ rest)) × R rest a
 
@@ -79,7 +79,7 @@ pub data AddsLimit (v : Value) (before after : Window) : Type 0 where
       (date : List ℕ) → Headed (codes "not-after") (Sole DateOf) v date → before.not_after ≡ None
       → after ≡ record { not_before = before.not_before; not_after = Some date } → AddsLimit v before after
 
--- the fault of one more limit behind those of a window
+-- the fault of one more limit after those of a window
 abbrev pub LimitLook : Window → Value → Option CertFaultKind → Type 0
 LimitLook w v found =
     (before : List Value) → ValidOf before w

@@ -1,4 +1,4 @@
--- Tags and requests as lists of labels, by which proofs distinguish them: the label of a value comes after those of its
+-- Tags and requests as lists of labels, by which proofs distinguish them. The label of a value comes after those of its
 -- members, and the members are in order from the last to the first.
 use Rattle.std.specs.Prelude.{◌≡◌, ℕ, zero, suc, List, [], ◌∷◌, Option, None, Bool, refl}
 use Rattle.std.proofs.Common.{ap, ◌∙◌}

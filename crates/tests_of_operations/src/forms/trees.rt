@@ -1,4 +1,4 @@
-//! Trees that are built directly, and the calls on octets that take memory.
+//! Trees that are built directly, and the calls on octets that allocate.
 
 use sexpr_core::syntax::{append_verbatim, octets_in_braces, read_base64, wrap_octets};
 use sexpr_core::{Doc, FormFault, Sexp, encode};

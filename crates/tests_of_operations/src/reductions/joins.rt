@@ -10,7 +10,7 @@ use spki_tag::Tag;
 use std::alloc::{AllocError, Global};
 use std::test::Fail;
 
-/// Whether two tuples became an authorization of a key with these names behind it.
+/// Whether two tuples became an authorization of a key with these names after it.
 fn is_five(joined: &Joined<Five>, key: &[u8], names: &[&[u8]]) -> bool {
     match joined {
         Joined::Done(five) => is_subject(&five.subject, key, names),

@@ -20,7 +20,7 @@ pub struct Given {
     pub issuer: Option<&'static [u8]>,
     /// The name that is defined, if this is a definition.
     pub name: Option<&'static [u8]>,
-    /// The subject's key, and the names behind it.
+    /// The subject's key, and the names after it.
     pub subject: &'static [u8],
     pub names: &'static [&'static [u8]],
     pub propagate: bool,
@@ -157,7 +157,7 @@ pub(crate) fn steps(alloc: Global, given: &[Given]) -> Result<Vec<Step<'static>>
     Ok(steps)
 }
 
-/// Whether a subject is a key with these names behind it.
+/// Whether a subject is a key with these names after it.
 pub(crate) fn is_subject(subject: &Subject, key: &[u8], names: &[&[u8]]) -> bool {
     let same_key = match &subject.principal {
         Principal::Key(octets) => octets.as_slice() == key,
