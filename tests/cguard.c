@@ -210,7 +210,7 @@ static void refusals(void)
 static void octets_of_strings(void)
 {
     static const char good[] = "(10:public-key(16:rsa-pkcs1-sha256(1:e3:abc)(1:n[1:b]2:ok)))";
-    const size_t modulus[] = {1, 2, 1}, past[] = {1, 3}, through[] = {0, 0};
+    const size_t modulus[] = {1, 2, 1}, past[] = {1, 3}, through[] = {0, 0}, longer[] = {1, 2, 1, 0};
     const void *octets = good;
     size_t length = 12345;
     expect(spki_string(good, sizeof good - 1, modulus, 3, &octets, &length) == SPKI_DONE && is(octets, length, "ok")
@@ -218,6 +218,7 @@ static void octets_of_strings(void)
     expect(spki_string(good, sizeof good - 1, modulus, 2, &octets, &length) == SPKI_NONE && !octets && !length, "a list is no string");
     expect(spki_string(good, sizeof good - 1, past, 2, &octets, &length) == SPKI_NONE, "no such member");
     expect(spki_string(good, sizeof good - 1, through, 2, &octets, &length) == SPKI_NONE, "a string has no members");
+    expect(spki_string(good, sizeof good - 1, longer, 4, &octets, &length) == SPKI_NONE, "a longer path");
     expect(spki_string("3:abc", 5, NULL, 0, &octets, &length) == SPKI_DONE && is(octets, length, "abc"), "a string alone");
     expect(spki_string("0:", 2, NULL, 0, &octets, &length) == SPKI_DONE && octets && !length, "an empty string");
     expect(spki_string("abc", 3, NULL, 0, &octets, &length) == SPKI_REFUSED && !octets, "no canonical form");
@@ -225,6 +226,25 @@ static void octets_of_strings(void)
     expect(spki_string(NULL, 0, NULL, 0, &octets, &length) == SPKI_REFUSED, "no text");
     expect(spki_string("3:abc", 5, NULL, 1, &octets, &length) == SPKI_MISUSED, "a null path");
     expect(spki_string("3:abc", 5, NULL, 0, NULL, &length) == SPKI_MISUSED && !length, "no place for octets");
+}
+
+/* Each of the first requests for memory is refused in turn while a string is looked for. */
+static void strings_without_memory(size_t most)
+{
+    static const char good[] = "(10:public-key(4:test1:a))";
+    const size_t path[] = {1, 1};
+    const void *octets;
+    size_t request, length;
+    for (request = 1; request <= most; request++) {
+        enum spki_status status;
+        is_refused = 0;
+        until_refusal = request;
+        status = spki_string(good, sizeof good - 1, path, 2, &octets, &length);
+        until_refusal = 0;
+        expect(is_refused ? status == SPKI_NO_MEMORY && !octets && !length : status == SPKI_DONE && is(octets, length, "a"),
+               "a string and no memory");
+        expect(is_refused || request > 1, "a string is found without memory");
+    }
 }
 
 /* Answers a question by the call with this number, and lists its signatures where there is no such call. */
@@ -311,6 +331,7 @@ int main(int count, char **words)
     strings();
     refusals();
     octets_of_strings();
+    strings_without_memory(strtoul(words[2], NULL, 10));
     refused_memory(strtoul(words[2], NULL, 10));
     threads(strtoul(words[1], NULL, 10));
     return 0;

@@ -4,9 +4,10 @@
 `clibrary.c` asks each question with no buffer, with one of no octets, with one octet too few, with enough and with more, between
 canaries, with failing allocations, and then from several threads with 256 KiB of stack each: every command on each file of
 `examples/`, the rows of the tables beside this file, and cases whose rows of accepted signatures stand apart. It asks the static
-library and the shared one, and the static one also under AddressSanitizer and, where it is there, under valgrind.
+library and the shared one, each also under AddressSanitizer and, where it is there, under valgrind.
 `cguard.c` opens guards and asks them: right and wrong marks, misuse, buffers that are too small, requests by strings, failing
-allocations, and one guard from several threads.
+allocations, and one guard from several threads. It too uses each library, also under AddressSanitizer, valgrind and helgrind. No
+allocation of the shared library fails, since it calls the C library itself.
 
 The symbols of both libraries must be the calls that the header declares and no others, and what they need a few functions of the C
 library. `linked.c` is compiled as C11 and, where there is a compiler, as C++17, with all warnings, and linked with either library; and
@@ -190,12 +191,12 @@ def links(room, archive, shared):
     source, other = os.path.join(TESTS, "linked.c"), os.path.join(room, "libother.a")
     renamed = [f"--redefine-sym={name}=other_{name}" for name in calls_of_header()]
     subprocess.run(["objcopy", *renamed, archive, other], check=True)
-    beside = ["-L", os.path.dirname(shared), "-lspki_c", f"-Wl,-rpath,{os.path.dirname(shared)}"]
+    by_name = ["-L", os.path.dirname(shared), "-lspki_c", beside(shared)]
     results = {}
     for language, words in {"C11": ["cc", "-std=c11"], "C++17": ["g++", "-std=c++17", "-x", "c++"]}.items():
         if not has_compiler(words):
             continue
-        for way, more in {"static": [archive], "shared": beside, "two archives": ["-DOTHER", archive, other]}.items():
+        for way, more in {"static": [archive], "shared": by_name, "two archives": ["-DOTHER", archive, other]}.items():
             to = os.path.join(room, "linked")
             flags = [it for it in more if it.startswith("-D")]
             made = is_compiled(*words, *WARNINGS, *flags, "-o", to, source, "-x", "none", *(it for it in more if it not in flags))
@@ -219,20 +220,26 @@ def holds_guards(words, threads, refusals):
     return not done.returncode
 
 
+def beside(shared):
+    """The word for the linker that lets a program find a shared object in its folder."""
+    return f"-Wl,-rpath,{os.path.dirname(shared)}"
+
+
 def guards_held(archive, shared, room):
     """By name, whether guards that are held do as the header says, with each library and under what looks for faults of memory."""
     source = os.path.join(TESTS, "cguard.c")
-    ways = {"static": ([], archive, REFUSALS), "shared": ([f"-Wl,-rpath,{os.path.dirname(shared)}"], shared, 0),
-            "AddressSanitizer": (SANITIZED, archive, REFUSALS)}
+    libraries = {"static": ([archive], REFUSALS), "shared": ([shared, beside(shared)], 0)}
+    has_valgrind = has_compiler(VALGRIND)
     results = {}
-    for name, (more, library, refusals) in ways.items():
-        to = os.path.join(room, f"cguard-{name}")
-        made = is_compiled(*STRICT, *more, "-o", to, source, library, *REFUSING)
-        results[f"guards held, {name}"] = made and holds_guards([to], THREADS, refusals)
-    if has_compiler(VALGRIND):
-        to = os.path.join(room, "cguard-static")
-        results["guards held, valgrind"] = holds_guards([*VALGRIND, to], 2, REFUSALS)
-        results["guards held, helgrind"] = holds_guards([*HELGRIND, to], THREADS, 0)
+    for name, (library, refusals) in libraries.items():
+        for way, more in {name: [], f"{name}, AddressSanitizer": SANITIZED}.items():
+            to = os.path.join(room, f"cguard-{way}")
+            made = is_compiled(*STRICT, *more, "-o", to, source, *library, *REFUSING)
+            results[f"guards held, {way}"] = made and holds_guards([to], THREADS, refusals)
+        if has_valgrind:
+            to = os.path.join(room, f"cguard-{name}")
+            results[f"guards held, {name}, valgrind"] = holds_guards([*VALGRIND, to], 2, refusals)
+            results[f"guards held, {name}, helgrind"] = holds_guards([*HELGRIND, to], THREADS, 0)
     return results
 
 
@@ -254,21 +261,25 @@ def asks_all(program, asker, ways):
 
 def results_of(program, archive, shared, room):
     """By name, what passed."""
-    asker, beside, sanitized = (os.path.join(room, name) for name in ("clibrary", "beside", "sanitized"))
     source = os.path.join(TESTS, "clibrary.c")
+    libraries = {"static": [archive], "shared": [shared, beside(shared)]}
+    askers = {name: os.path.join(room, f"clibrary-{name}") for name in libraries}
+    sanitized = {name: f"{asker}-sanitized" for name, asker in askers.items()}
     results = {"symbols of the archive": has_its_symbols(archive), "symbols of the shared object": has_its_symbols(shared, "--dynamic"),
-               "compiling": is_compiled(*STRICT, "-o", asker, source, archive, *REFUSING)
-               and is_compiled(*STRICT, *SANITIZED, "-o", sanitized, source, archive, *REFUSING)
-               and is_compiled(*STRICT, "-o", beside, source, shared, *REFUSING, f"-Wl,-rpath,{os.path.dirname(shared)}"),
+               "compiling": all(is_compiled(*STRICT, "-o", askers[name], source, *library, *REFUSING)
+                                and is_compiled(*STRICT, *SANITIZED, "-o", sanitized[name], source, *library, *REFUSING)
+                                for name, library in libraries.items()),
                **links(room, archive, shared)}
     if not results["compiling"]:
         return results
     # (of the shared object no request for memory is refused: it calls the C library itself)
-    ways = {"the shared object": [beside, "2", "0"], "under AddressSanitizer": [sanitized, "0", str(REFUSALS)]}
+    refused = {"static": str(REFUSALS), "shared": "0"}
+    ways = {"shared": [askers["shared"], "2", "0"]}
+    ways.update({f"{name}, under AddressSanitizer": [sanitized[name], "0", refused[name]] for name in libraries})
     if has_compiler(VALGRIND):
-        ways["under valgrind"] = [*VALGRIND, asker, "2", str(REFUSALS)]
+        ways.update({f"{name}, under valgrind": [*VALGRIND, askers[name], "2", refused[name]] for name in libraries})
     results.update(guards_held(archive, shared, room))
-    results.update(asks_all(program, asker, ways))
+    results.update(asks_all(program, askers["static"], ways))
     return results
 
 

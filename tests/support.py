@@ -3,7 +3,10 @@
 A service that takes over `examples/signed/` does not need this module: `sexp.py` and `tools.py` there stand by themselves.
 """
 import base64
+import importlib.machinery
+import importlib.util
 import os
+import shutil
 import subprocess
 import sys
 
@@ -18,7 +21,7 @@ COMMANDS = ("canonical", "advanced", "transport", "intersect", "reduce", "check"
 SECONDS, SECONDS_TO_COMPILE = 120, 900
 
 __all__ = ["BENCH", "COMMANDS", "EXAMPLES", "LIBRARY", "PROGRAM", "SECONDS", "TESTS", "TOP", "braced", "canonical", "given_program", "group",
-           "is_compiled", "on_one_line", "output_of", "read", "run", "string", "tables_here", "text_of"]
+           "is_compiled", "loaded", "on_one_line", "output_of", "read", "run", "string", "tables_here", "text_of", "toolchain"]
 
 
 def given_program(place=1):
@@ -71,3 +74,19 @@ def braced(octets):
 def tables_here():
     """The tables of tests/, by their paths."""
     return [os.path.join(TESTS, name) for name in sorted(os.listdir(TESTS)) if name.endswith(".table")]
+
+
+def loaded(path):
+    """A script without a suffix, as a module."""
+    sys.dont_write_bytecode = True
+    name = os.path.basename(path)
+    loader = importlib.machinery.SourceFileLoader(name, path)
+    made = importlib.util.module_from_spec(importlib.util.spec_from_loader(name, loader))
+    sys.modules[name] = made
+    loader.exec_module(made)
+    return made
+
+
+def toolchain():
+    """The toolchain's own commands."""
+    return loaded(os.path.realpath(shutil.which("rt") or sys.exit("rt is not in the path")))

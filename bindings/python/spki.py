@@ -39,7 +39,7 @@ __all__ = ["Decision", "Explanation", "Guard", "Limits", "Policy", "Question", "
 
 Verify = Callable[[bytes, bytes, bytes], bool]
 
-_YES, _NO, _REFUSED, _TOO_SMALL, _DONE = 0, 1, 2, 4, 6
+_YES, _NO, _REFUSED, _TOO_SMALL, _DONE, _NO_MEMORY = 0, 1, 2, 4, 6, 8
 _CANONICAL, _ADVANCED, _TRANSPORT = 0, 1, 2
 # `struct spki_signed` is an address and a length of the key, of the message and of the value.
 _NUMBERS = 6
@@ -366,7 +366,7 @@ def string_at(text: bytes, *path: int) -> bytes | None:
     """The octets of a string inside a value in canonical form. Each number of the path is that of a member to go into, from 0; the head
     of a list is member 0.
 
-    `None` if no string is there, the text is no value in canonical form, or an allocation failed. Of
+    `None` if no string is there, or the text is no value in canonical form. Raises `Refused` if an allocation failed. Of
     `(public-key (rsa-pkcs1-sha256 (e #010001#) (n ..)))` the path 1, 2, 1 is that of the modulus.
     """
     octets, length = c_void_p(), c_size_t()
@@ -374,6 +374,8 @@ def string_at(text: bytes, *path: int) -> bytes | None:
         return None
     places = (c_size_t * len(path))(*path)
     status = _library.spki_string(_octets(text), len(text), places, len(path), byref(octets), byref(length))
+    if status == _NO_MEMORY:
+        raise Refused("refused Memory")
     return ctypes.string_at(octets.value, length.value) if status == _DONE else None
 
 

@@ -6,6 +6,7 @@ python3 -m unittest
 import hashlib
 import threading
 import unittest
+from unittest import mock
 
 import spki
 
@@ -194,6 +195,11 @@ class Texts(unittest.TestCase):
         for path in ((), (1,), (1, 3, 1), (0, 0), (2,), (2 ** 64,), (-1,)):
             self.assertIsNone(spki.string_at(key, *path))
         self.assertIsNone(spki.string_at(b"(a)", 0))
+
+    def test_string_without_memory(self):
+        with mock.patch.object(spki._library, "spki_string", return_value=8), self.assertRaises(spki.Refused) as met:
+            spki.string_at(b"3:abc")
+        self.assertEqual(met.exception.fault, "Memory")
 
 
 if __name__ == "__main__":

@@ -50,6 +50,7 @@
  *   length is 0. The contents of the buffer before the call do not matter. `needed` may be null.
  * - The buffer, the signatures, `count` and `needed` overlap neither each other nor a text.
  * - A guard is closed once, when no call uses it. Its pointer is only passed on: do not read or write through it.
+ * - A guard is passed to another thread by a lock, by the start or end of a thread, or by a sequentially consistent atomic.
  * - `malloc`, `realloc` and `free` of the program are those of one allocator. They align a block to each power of two up to 16 that
  *   divides its size, as those of every common C library do. If `malloc` returns null, the answer is `refused Memory`.
  * - No call is made in a signal handler, nor in a child that a process with several threads forked.
@@ -91,7 +92,8 @@ enum spki_status {
     SPKI_TOO_SMALL = 4, /* the buffer is too small: nothing is written to it, and `*needed` is the length of the answer */
     SPKI_MISUSED = 5,   /* no such command, a null pointer with a length, or another misuse: there is no answer, and `*needed` is 0 */
     SPKI_DONE = 6,      /* no decision: the answer is written. It does not say whether the request is granted */
-    SPKI_NONE = 7       /* spki_string: the value has no string there */
+    SPKI_NONE = 7,      /* spki_string: the value has no string there */
+    SPKI_NO_MEMORY = 8  /* spki_string: an allocation failed. The other calls answer `refused Memory` then */
 };
 
 /* Runs a command on a text. The answer is written to the front of the buffer, and the rest of the buffer is unchanged. `*needed`
@@ -206,7 +208,8 @@ enum spki_status spki_guard_reduce(const spki_guard *guard, const struct spki_qu
  * With a depth of 0 the text itself is the string.
  *
  * SPKI_DONE: `*octets` and `*length` are set. With every other status they are null and 0. SPKI_NONE: no string is there.
- * SPKI_REFUSED: the text is no value in canonical form of at most 1,048,576 octets and 64 open lists, or memory ran out. */
+ * SPKI_REFUSED: the text is no value in canonical form of at most 1,048,576 octets and 64 open lists. SPKI_NO_MEMORY: an allocation
+ * failed, so it is not known whether there is a string. */
 enum spki_status spki_string(const void *text, size_t text_length, const size_t *path, size_t depth, const void **octets,
                              size_t *length);
 

@@ -39,6 +39,13 @@ impl Refusal {
         }
     }
 
+    /// The refusal of a call that writes no line, where an allocation failed.
+    pub(crate) fn memory() -> Refusal {
+        Refusal {
+            line: String::from("refused Memory"),
+        }
+    }
+
     /// The line, without its line feed, such as `refused sequence 3 Shape`.
     pub fn line(&self) -> &str {
         &self.line

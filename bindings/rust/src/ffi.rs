@@ -10,6 +10,7 @@ pub const NO: Status = 1;
 pub const REFUSED: Status = 2;
 pub const TOO_SMALL: Status = 4;
 pub const DONE: Status = 6;
+pub const NO_MEMORY: Status = 8;
 
 /// The commands of `spki_answer` that convert, `enum spki_command`.
 pub const CANONICAL: c_int = 0;

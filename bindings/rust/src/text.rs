@@ -8,16 +8,20 @@ use std::ptr;
 /// The octets of a string inside a value in canonical form. Each number of the path is that of a member to go into, from 0; the head of
 /// a list is member 0. An empty path is for a text that is a string itself.
 ///
-/// `None` if no string is there, the text is no value in canonical form, or an allocation failed.
+/// `None` if no string is there, or the text is no value in canonical form.
+///
+/// # Errors
+///
+/// An allocation failed.
 ///
 /// ```
 /// let key = spki::canonical(b"(public-key (rsa-pkcs1-sha256 (e #010001#) (n #c0ffee#)))")?;
-/// assert_eq!(spki::string_at(&key, &[1, 0]), Some(&b"rsa-pkcs1-sha256"[..]));
-/// assert_eq!(spki::string_at(&key, &[1, 2, 1]), Some(&b"\xc0\xff\xee"[..]));
-/// assert_eq!(spki::string_at(&key, &[1, 3, 1]), None);
+/// assert_eq!(spki::string_at(&key, &[1, 0])?, Some(&b"rsa-pkcs1-sha256"[..]));
+/// assert_eq!(spki::string_at(&key, &[1, 2, 1])?, Some(&b"\xc0\xff\xee"[..]));
+/// assert_eq!(spki::string_at(&key, &[1, 3, 1])?, None);
 /// # Ok::<(), spki::Refusal>(())
 /// ```
-pub fn string_at<'t>(text: &'t [u8], path: &[usize]) -> Option<&'t [u8]> {
+pub fn string_at<'t>(text: &'t [u8], path: &[usize]) -> Result<Option<&'t [u8]>, Refusal> {
     let (mut octets, mut length) = (ptr::null(), 0);
     let (from, size) = (text.as_ptr().cast(), text.len());
     // SAFETY: each pointer is to as many values as its length says, or to one value of its type, and they do not overlap.
@@ -31,11 +35,14 @@ pub fn string_at<'t>(text: &'t [u8], path: &[usize]) -> Option<&'t [u8]> {
             &mut length,
         )
     };
+    if status == ffi::NO_MEMORY {
+        return Err(Refusal::memory());
+    }
     if status != ffi::DONE {
-        return None;
+        return Ok(None);
     }
     let start = octets as usize - text.as_ptr() as usize;
-    text.get(start..start + length)
+    Ok(text.get(start..start + length))
 }
 
 /// The canonical form of the one value that a text is, in any of the three forms.

@@ -6,7 +6,7 @@ use Rattle.sexpr_core.specs.Spaces.{StartsVisible, Skips}
 use Rattle.sexpr_core.specs.declared.fault.FormFault.{FormFault}
 use Rattle.sexpr_core.specs.declared.fault.FormFault.TheVariants.{TooLong, TooDeep, Short, Bad, Trailing, Memory}
 use Rattle.sexpr_core.specs.Prefix.{StopsAt}
-use Rattle.sexpr_core.specs.Inner.PartFaults.{RefusesPart}
+use Rattle.sexpr_core.specs.Bounds.{RefusesPart}
 
 -- two texts have the same octets up to and with that at an offset
 pub record Agree (text other : List ℕ) (k : ℕ) : Type 0 where

@@ -15,11 +15,10 @@ use Rattle.sexpr_core.specs.Spaces.{is_whitespace, AreSpaces, visible, Skips}
 use Rattle.sexpr_core.specs.Gathering.{is_body_octet}
 use Rattle.sexpr_core.specs.Inner.Gathering.{GathersTo, BodyAt}
 use Rattle.sexpr_core.specs.Braces.{IsBase64, Braced, IsBraced, IsBracedWithin, ReadsBase64, PackedAt, transport}
-use Rattle.sexpr_core.specs.Bounds.{IsFaultAt, RefusesBody, IsTrailingBehind}
+use Rattle.sexpr_core.specs.Bounds.{IsFaultAt, RefusesBody, IsTrailingBehind, RefusesPart}
 use Rattle.sexpr_core.specs.BraceRefusal.{BracesDeep, IsShallowBraced}
 use Rattle.sexpr_core.specs.Limits.{octet_limit}
 use Rattle.sexpr_core.specs.Prefix.{Begins, StopsAt}
-use Rattle.sexpr_core.specs.Inner.PartFaults.{RefusesPart}
 use Rattle.sexpr_core.proofs.Agreeing.{Agree, agree, spelled_too, stands_too, skips_too, long_too, front_is}
 use Rattle.sexpr_core.proofs.Prefix.{RefusesPart-less}
 use Rattle.sexpr_core.proofs.Base64Laws.{missing_is, body_octets, packed_encoded}

@@ -5,13 +5,12 @@ use Rattle.std.proofs.lemmas.List.{take-append-drop, take_at, drop_at, drop-drop
 use Rattle.std.proofs.lemmas.Bool.{cases_order}
 use Rattle.sexpr_core.specs.declared.fault.FormFault.{FormFault}
 use Rattle.sexpr_core.specs.declared.fault.FormFault.TheVariants.{TooLong, TooDeep, Short, Bad, Trailing, Memory}
-use Rattle.sexpr_core.specs.Bounds.{RefusesBody, IsTrailingBehind}
+use Rattle.sexpr_core.specs.Bounds.{RefusesBody, IsTrailingBehind, RefusesPart}
 use Rattle.sexpr_core.specs.Braces.{IsBase64, Braced, IsBraced, IsBracedWithin, ReadsBase64, PackedAt}
 use Rattle.sexpr_core.specs.BraceRefusal.{BracesDeep, IsShallowBraced, OpensBraces, BracesGoOn, RefusesBraces}
 use Rattle.sexpr_core.specs.Gathering.{is_body_octet, AreBodyOctets, Passed, IsBodyEnd}
 use Rattle.sexpr_core.specs.Inner.Gathering.{GathersTo}
 use Rattle.sexpr_core.specs.Prefix.{Begins}
-use Rattle.sexpr_core.specs.Inner.PartFaults.{RefusesPart}
 use Rattle.sexpr_core.specs.Reading.{StandsAt}
 use Rattle.sexpr_core.specs.Refusal.{IsOfForm, Refused}
 use Rattle.sexpr_core.specs.Spaces.{is_whitespace, AreSpaces, IsSpace, StartsVisible, Skips, visible}

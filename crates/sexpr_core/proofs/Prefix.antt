@@ -5,7 +5,8 @@ use Rattle.std.proofs.Math.Seq.{take-append-add}
 use Rattle.sexpr_core.specs.declared.fault.FormFault.{FormFault}
 use Rattle.sexpr_core.specs.declared.fault.FormFault.TheVariants.{TooLong, TooDeep, Short, Bad, Trailing, Memory}
 use Rattle.sexpr_core.specs.Prefix.{Begins, Front, StopsAt}
-use Rattle.sexpr_core.specs.Inner.PartFaults.{Barred, FaultAt, RefusesPart}
+use Rattle.sexpr_core.specs.Bounds.{RefusesPart}
+use Rattle.sexpr_core.specs.Inner.PartFaults.{Barred, FaultAt}
 
 -- a text that begins with one of U
 pub record Headed (U : List ℕ → Type 0) (t : List ℕ) : Type 0 where

@@ -3,8 +3,18 @@ use Rattle.std.specs.Prelude.{◌≡◌, ◌≢◌, ℕ, ◌<◌, List, length}
 use Rattle.sexpr_core.specs.declared.fault.FormFault.{FormFault}
 use Rattle.sexpr_core.specs.declared.fault.FormFault.TheVariants.{TooLong, TooDeep, Short, Bad, Trailing, Memory}
 use Rattle.sexpr_core.specs.Value.{Value, canon}
+use Rattle.sexpr_core.specs.Prefix.{StopsAt}
 use Rattle.sexpr_core.specs.Refusal.{Refused}
 use Rattle.sexpr_core.specs.Spaces.{Skips}
+
+-- What a fault means for a text, if a part is read from an offset on. T is the set of texts that have such a part there.
+abbrev pub RefusesPart : (T : List ℕ → Type 0) → List ℕ → ℕ → FormFault → Type 0
+RefusesPart T text at TooLong = ⊥
+RefusesPart T text at TooDeep = ⊥
+RefusesPart T text at Short = Unit {0}
+RefusesPart T text at (Bad k) = StopsAt T text at k
+RefusesPart T text at (Trailing k) = ⊥
+RefusesPart T text at Memory = Unit {0}
 
 -- the text ends too soon, or memory ran out
 abbrev pub IsShort : FormFault → Type 0

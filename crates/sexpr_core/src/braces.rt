@@ -5,9 +5,8 @@ ghost use Rattle.sexpr_core.specs.Value.{Value, canon, IsWithinLimits};
 ghost use Rattle.sexpr_core.specs.Tree.{sexp_value};
 ghost use Rattle.sexpr_core.specs.Spaces.{AreSpaces, visible};
 ghost use Rattle.sexpr_core.specs.Braces.{in_braces, transport, IsBase64, IsBracedWithin, ReadsBase64, PackedAt};
-ghost use Rattle.sexpr_core.specs.Bounds.{IsFaultAt, IsBodyFault, RefusesBody};
+ghost use Rattle.sexpr_core.specs.Bounds.{IsFaultAt, IsBodyFault, RefusesBody, RefusesPart};
 ghost use Rattle.sexpr_core.specs.BraceRefusal.{RefusesBraces};
-ghost use Rattle.sexpr_core.specs.Inner.PartFaults.{RefusesPart};
 ghost use Rattle.sexpr_core.specs.Gathering.{is_symbol, is_body_octet, AreBodyOctets, IsBodyEnd};
 ghost use Rattle.sexpr_core.specs.Inner.Gathering.{SkipsSymbols, GathersTo, BodyAt};
 
@@ -84,7 +83,7 @@ fn skip_symbols(text: &[u8], at: usize) -> usize
 }
 
 /// Returns the symbols of a body that ends at a mark.
-fn gather(alloc: Global, text: &[u8], at: usize, mark: u8) -> Result<Gathered, FormFault>
+fn gather_symbols(alloc: Global, text: &[u8], at: usize, mark: u8) -> Result<Gathered, FormFault>
     requires begins { at ≤ length text.now }
     requires apart { is_body_octet mark ≡ false }
     ensures read { IfOk result (λ read. GathersTo text.now at mark read.symbols.items read.end) }
@@ -157,7 +156,7 @@ pub fn read_base64(alloc: Global, text: &[u8], at: usize, mark: u8) -> Result<Un
     ensures refused { IfErr result (λ fault. RefusesPart (PackedAt at mark) text.now at fault) }
     ensures begun { IfErr result (λ fault. IsBodyEnd is_body_octet text.now at fault) }
 {
-    let Gathered { symbols, end } = gather(alloc, text, at, mark)?;
+    let Gathered { symbols, end } = gather_symbols(alloc, text, at, mark)?;
     let octets = unpack(alloc, symbols, end - 1)?;
     Ok(Unpacked { octets, end })
 }

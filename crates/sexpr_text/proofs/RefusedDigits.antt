@@ -6,9 +6,8 @@ use Rattle.hex.specs.Hex.{decode_of}
 use Rattle.sexpr_core.specs.declared.fault.FormFault.{FormFault}
 use Rattle.sexpr_core.specs.declared.fault.FormFault.TheVariants.{TooLong, TooDeep, Short, Bad, Trailing, Memory}
 use Rattle.sexpr_core.specs.Reading.{StandsAt}
-use Rattle.sexpr_core.specs.Bounds.{IsFaultAt}
+use Rattle.sexpr_core.specs.Bounds.{IsFaultAt, RefusesPart}
 use Rattle.sexpr_core.specs.Prefix.{StopsAt}
-use Rattle.sexpr_core.specs.Inner.PartFaults.{RefusesPart}
 use Rattle.sexpr_core.proofs.Agreeing.{Agree, spelled_too, stands_too, long_too, stops_here, refused_later}
 use Rattle.sexpr_text.specs.Strings.{IsHexadecimal}
 use Rattle.sexpr_text.specs.Reads.{Keeps, IsNoHexadecimalOctet, IsDigitsFault}

@@ -5,7 +5,7 @@ use Rattle.sexpr_core.specs.declared.fault.FormFault.{FormFault}
 use Rattle.sexpr_core.specs.declared.fault.FormFault.TheVariants.{TooLong, TooDeep, Short, Bad, Trailing, Memory}
 use Rattle.sexpr_core.specs.Reading.{StandsAt}
 use Rattle.sexpr_core.specs.Prefix.{StopsAt}
-use Rattle.sexpr_core.specs.Inner.PartFaults.{RefusesPart}
+use Rattle.sexpr_core.specs.Bounds.{RefusesPart}
 use Rattle.sexpr_core.proofs.Agreeing.{Agree, SameHead, spelled_too, stands_too, same_head, long_too, stops_here, refused_later}
 use Rattle.sexpr_text.specs.Strings.{escape_value, Piece, raw, escaped, octal, hexadecimal, line, line_pair, StartsOther, IsPiece, pieces_text, ArePieces, IsQuoted}
 use Rattle.sexpr_text.specs.Reads.{ReadsDigit, IsNoLetter}

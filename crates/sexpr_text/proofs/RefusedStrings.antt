@@ -5,10 +5,9 @@ use Rattle.sexpr_core.specs.declared.fault.FormFault.{FormFault}
 use Rattle.sexpr_core.specs.declared.fault.FormFault.TheVariants.{TooLong, TooDeep, Short, Bad, Trailing, Memory}
 use Rattle.sexpr_core.specs.Value.{decimal}
 use Rattle.sexpr_core.specs.Reading.{StandsAt}
-use Rattle.sexpr_core.specs.Bounds.{IsShort}
+use Rattle.sexpr_core.specs.Bounds.{IsShort, RefusesPart}
 use Rattle.sexpr_core.specs.Braces.{PackedAt}
 use Rattle.sexpr_core.specs.Prefix.{StopsAt}
-use Rattle.sexpr_core.specs.Inner.PartFaults.{RefusesPart}
 use Rattle.sexpr_core.specs.Spaces.{Skips}
 use Rattle.sexpr_core.proofs.Agreeing.{Agree, spelled_too, stands_too, skips_too, same_head, long_too, stops_here, refused_later}
 use Rattle.sexpr_core.proofs.Decimal.{IsDigit}

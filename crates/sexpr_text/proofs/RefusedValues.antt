@@ -4,7 +4,7 @@ use Rattle.sexpr_core.specs.declared.fault.FormFault.{FormFault}
 use Rattle.sexpr_core.specs.declared.fault.FormFault.TheVariants.{TooLong, TooDeep, Short, Bad, Trailing, Memory}
 use Rattle.sexpr_core.specs.Value.{Values}
 use Rattle.sexpr_core.specs.Reading.{StandsAt}
-use Rattle.sexpr_core.specs.Inner.PartFaults.{RefusesPart}
+use Rattle.sexpr_core.specs.Bounds.{RefusesPart}
 use Rattle.sexpr_core.proofs.Agreeing.{Agree, stands_too, stops_later}
 use Rattle.sexpr_text.specs.Reads.{IsValueFault}
 use Rattle.sexpr_text.specs.Stands.{StringStands, ValueStands, MembersStand}

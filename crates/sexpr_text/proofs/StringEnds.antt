@@ -7,7 +7,7 @@ use Rattle.sexpr_core.specs.declared.fault.FormFault.{FormFault}
 use Rattle.sexpr_core.specs.declared.fault.FormFault.TheVariants.{TooLong, TooDeep, Short, Bad, Trailing, Memory}
 use Rattle.sexpr_core.specs.Gathering.{Passed, IsBodyEnd, is_body_octet}
 use Rattle.sexpr_core.specs.Prefix.{Begins}
-use Rattle.sexpr_core.specs.Inner.PartFaults.{RefusesPart}
+use Rattle.sexpr_core.specs.Bounds.{RefusesPart}
 use Rattle.sexpr_core.specs.Reading.{StandsAt}
 use Rattle.sexpr_core.specs.Value.{decimal}
 use Rattle.sexpr_core.proofs.Agreeing.{Agree, agree, spelled_too, stands_too, long_too, stops_here, stops_later}

@@ -3,7 +3,7 @@
 ghost use Rattle.std.specs.Prelude.{◌≡◌, ℕ, List, ◌<◌, ◌≤◌, ◌↔◌, [], ◌∷◌, ◌++◌, true, false, length, drop, IfOk, IfErr, OnOk, IsErrOf, IsOkUnless};
 ghost use Rattle.std.specs.Option.{option_to_list};
 ghost use Rattle.sexpr_core.specs.BraceRefusal.{RefusesBraces};
-ghost use Rattle.sexpr_core.specs.Inner.PartFaults.{RefusesPart};
+ghost use Rattle.sexpr_core.specs.Bounds.{RefusesPart};
 ghost use Rattle.sexpr_core.specs.Braces.{IsBracedWithin};
 ghost use Rattle.sexpr_core.specs.Reading.{StandsAt};
 ghost use Rattle.sexpr_core.specs.Value.{Value, Values, canon, IsWithinLimits};

@@ -2,7 +2,7 @@
 
 ghost use Rattle.std.specs.Prelude.{◌≡◌, ℕ, List, Some, ◌≤◌, length, IfOk, IfErr, IsOkUnless};
 ghost use Rattle.std.specs.Cow.{cow_slice_items};
-ghost use Rattle.sexpr_core.specs.Inner.PartFaults.{RefusesPart};
+ghost use Rattle.sexpr_core.specs.Bounds.{RefusesPart};
 ghost use Rattle.sexpr_core.specs.Reading.{StandsAt};
 ghost use Rattle.sexpr_core.specs.Value.{Value, string};
 ghost use Rattle.sexpr_text.specs.Reads.{ReadsValue, ValueAt};

@@ -4,7 +4,7 @@ ghost use Rattle.std.specs.Prelude.{◌≡◌, ◌≢◌, ◌≤◌, ◌<◌, �
 ghost use Rattle.std.specs.Cow.{cow_slice_items};
 ghost use Rattle.hex.specs.Hex.{hex_digit_value};
 ghost use Rattle.sexpr_core.specs.Reading.{StandsAt};
-ghost use Rattle.sexpr_core.specs.Inner.PartFaults.{RefusesPart};
+ghost use Rattle.sexpr_core.specs.Bounds.{RefusesPart};
 ghost use Rattle.sexpr_text.specs.Strings.{escape_value, Piece, piece_text, IsPiece, IsQuoted};
 ghost use Rattle.sexpr_text.specs.Reads.{Reads, ReadsPlain, ReadsPiece, ReadsEscape, ReadsDigit, IsLineEnd, IsNoLetter};
 ghost use Rattle.sexpr_text.specs.Stands.{Stands, PieceStands, DigitStands, OctalStands};

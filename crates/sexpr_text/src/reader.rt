@@ -1,7 +1,7 @@
 //! The reader of advanced form (RFC 9804, section 6.4).
 
 ghost use Rattle.std.specs.Prelude.{◌≡◌, ℕ, List, ◌<◌, ◌≤◌, ◌↔◌, ◌∷◌, length, drop, map, IfOk, IfErr, IsErrOf, IsOkUnless, IsTrue};
-ghost use Rattle.sexpr_core.specs.Inner.PartFaults.{RefusesPart};
+ghost use Rattle.sexpr_core.specs.Bounds.{RefusesPart};
 ghost use Rattle.sexpr_core.specs.Reading.{StandsAt};
 ghost use Rattle.sexpr_core.specs.Spaces.{AreSpaces};
 ghost use Rattle.sexpr_core.specs.Tree.{sexp_value};

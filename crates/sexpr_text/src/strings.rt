@@ -2,8 +2,7 @@
 
 ghost use Rattle.std.specs.Prelude.{◌≡◌, ℕ, List, ◌++◌, true, false, ◌+◌, ◌<◌, ◌≤◌, ◌⊎◌, length, drop, IfOk, IfErr, IsOkUnless};
 ghost use Rattle.std.specs.Cow.{cow_slice_items};
-ghost use Rattle.sexpr_core.specs.Bounds.{IsShort};
-ghost use Rattle.sexpr_core.specs.Inner.PartFaults.{RefusesPart};
+ghost use Rattle.sexpr_core.specs.Bounds.{IsShort, RefusesPart};
 ghost use Rattle.sexpr_text.specs.Reads.{Reads, ReadsToken, ReadsCount, ReadsOctets, ReadsString, StringAt, Stops, IsTooFew};
 ghost use Rattle.sexpr_text.specs.Inner.Begun.{IsPartEnd, GoesMarked, GoesString};
 ghost use Rattle.sexpr_text.specs.Unclosed.{IsUnclosed, IsUnclosedString};

@@ -3,7 +3,7 @@ use Rattle.std.specs.Prelude.{◌≡◌, ◌⊎◌, ◌==◌, ℕ, ◌<◌, ◌�
 use Rattle.spki_cert.specs.declared.principal.Policy.{Policy}
 use Rattle.spki_cert.specs.declared.principal.Policy.TheVariants.{Open, Strict}
 use Rattle.spki_service.specs.Held.{Held, HoldsList}
-use Rattle.spki_service.specs.Lists.{IsNoList}
+use Rattle.spki_service.specs.Lists.{IsNoAccessList}
 use Rattle.spki_service.specs.declared.list_fault.AclFault.{AclFault}
 use Rattle.spki_service.specs.declared.question.Question.{Question}
 use Rattle.spki_service.specs.declared.question.Wanted.{Wanted}
@@ -13,7 +13,7 @@ use Rattle.spki_service.specs.declared.question.Instant.TheVariants as moments
 use Rattle.spki_guard.specs.declared.answers.Verdict.{Verdict}
 use Rattle.spki_guard.specs.declared.question_answers.Wish.{Wish}
 use Rattle.spki_guard.specs.declared.question_answers.Wish.TheVariants.{Decide, Explain, Reduce}
-use Rattle.spki_guard.specs.Held.{IsAnswerHeld, HasOtherCount, ListsSigned, IsUnread}
+use Rattle.spki_guard.specs.Held.{IsAnswerHeld, HasOtherCount, ListsSigned, IsUnreadQuestion}
 use Rattle.spki_guard.specs.HeldLines.{refused_list}
 use Rattle.spki_guard.specs.Lines.{refused_memory}
 use Rattle.spki_c.specs.Handed.{IsHanded, IsMisuse}
@@ -77,7 +77,7 @@ pub record IsOpened (list : List ℕ) (p : Policy) (octets nodes : ℕ) (held : 
 
 -- the line of a list that is refused, or that memory ran out
 abbrev pub IsListLine : List ℕ → List ℕ → Type 0
-IsListLine list output = ((fault : AclFault) × IsNoList list fault × (output ≡ refused_list fault)) ⊎ (output ≡ refused_memory)
+IsListLine list output = ((fault : AclFault) × IsNoAccessList list fault × (output ≡ refused_list fault)) ⊎ (output ≡ refused_memory)
 
 -- The list is refused, or memory ran out. The line says which, and the handle is unchanged.
 pub record IsUnopened {H : Type 0} (list : List ℕ) (before after : H) (old new : List ℕ) (needed status : ℕ) : Type 0 where
@@ -136,7 +136,7 @@ pub record IsListed (guard : Held) (q : Question) (places more old new : List �
 pub record IsUnlisted (guard : Held) (q : Question) (places more old new : List ℕ) (count needed status : ℕ) : Type 0 where
   pub verdict : Verdict
   pub output : List ℕ
-  pub unread : IsUnread guard q verdict output
+  pub unread : IsUnreadQuestion guard q verdict output
   pub none : count ≡ 0
   pub lengths_unchanged : more ≡ places
   pub handed : IsHanded old new needed status 2 output

@@ -3,10 +3,17 @@ use Rattle.std.specs.Prelude.{◌≡◌, ℕ, ◌<◌, ◌≤◌, List, ◌++◌
 use Rattle.spki_words.specs.declared.commands.Command.{Command}
 use Rattle.spki_guard.specs.declared.answers.Verdict.{Verdict}
 use Rattle.spki_guard.specs.Answer.{IsAnswer, RefusesAsLong}
+use Rattle.spki_guard.specs.Apart.{IsAnswerApart}
 
 -- The answer to a text is that of the program. For more than 1,048,576 octets it is that the text is too long.
 pub record AnswersText (command : Command) (text : List ℕ) (verdict : Verdict) (output : List ℕ) : Type 0 where
   pub answer : IsAnswer command text verdict output
+  pub too_long : 1048576 < length text → RefusesAsLong verdict output
+
+-- The answer to a case with separate rows is that of these rows and no others. For a case of more than 1,048,576 octets it is that the
+-- text is too long.
+pub record AnswersApart (text rows : List ℕ) (verdict : Verdict) (output : List ℕ) : Type 0 where
+  pub answer : IsAnswerApart text rows verdict output
   pub too_long : 1048576 < length text → RefusesAsLong verdict output
 
 -- The answer is at the front of the buffer, the rest of the buffer is unchanged, and the status is that of the answer.

@@ -1,16 +1,16 @@
 //! The exported functions that take texts: commands, decisions by separate rows, and strings inside a value.
-ghost use Rattle.std.specs.Prelude.{◌≡◌, ◌≢◌, ◌⊎◌, ℕ, List};
+ghost use Rattle.std.specs.Prelude.{◌≡◌, ◌≢◌, ◌<◌, ◌⊎◌, ℕ, List, length};
+ghost use Rattle.sexpr_core.specs.Value.{Value, canon, IsWithinLimits};
 ghost use Rattle.spki_words.specs.declared.commands.Command.{Command};
 ghost use Rattle.spki_guard.specs.declared.answers.Verdict.{Verdict};
-ghost use Rattle.spki_guard.specs.Apart.{IsAnswerApart};
 ghost use Rattle.spki_c.specs.Numbers.{number_of, status_of, decided};
-ghost use Rattle.spki_c.specs.Handed.{IsHanded, IsMisuse, AnswersText};
+ghost use Rattle.spki_c.specs.Handed.{IsHanded, IsMisuse, AnswersText, AnswersApart};
 ghost use Rattle.spki_c.specs.Strings.{IsFound, IsNotThere};
 
 use crate::buffer::{hand_over, misused};
-use crate::numbers::{DONE, NONE, REFUSED, command_of, status_number};
+use crate::numbers::{DONE, NO_MEMORY, NONE, REFUSED, command_of, status_number};
 use crate::strings::place_in;
-use sexpr_core::Doc;
+use sexpr_core::{Doc, FormFault};
 use spki_guard::{Command, answer_text, check_accepted};
 use std::alloc::Global;
 
@@ -57,7 +57,7 @@ pub extern "C" fn spki_c_check_accepted(
     needed: &mut usize,
 ) -> u32
     ensures { (verdict : Verdict) × (output : List ℕ)
-        × IsAnswerApart text.now rows.now verdict output
+        × AnswersApart text.now rows.now verdict output
         × IsHanded buffer.old buffer.new needed.new result (decided verdict) output }
 {
     let answer = check_accepted(alloc, text, rows);
@@ -72,27 +72,31 @@ pub extern "C" fn spki_c_check_accepted(
 /// Finds a string inside a value in canonical form. The path leads to it: each number is that of the list member to enter,
 /// from 0.
 ///
-/// Returns 6 if there is a string, and sets `at` to the offset of its octets in the text and `length` to their number. Otherwise
-/// both are unchanged: returns 7 if the path leads to no string, and 2 if the text is no value in canonical form within the limits
-/// or memory ran out.
+/// Returns 6 if there is a string, and sets `at` to the offset of its octets in the text and `count` to their number. Otherwise
+/// both are unchanged: returns 7 if the path leads to no string, 2 if the text is no value in canonical form within the limits,
+/// and 8 if memory ran out. A text of more than 1,048,576 octets has the status 2, also if memory ran out.
 #[unsafe(no_mangle)]
 pub extern "C" fn spki_c_string(
     alloc: Global,
     text: &[u8],
     path: &[usize],
     at: &mut usize,
-    length: &mut usize,
+    count: &mut usize,
 ) -> u32
-    ensures found { result ≢ 2 → IsFound text.now path.now at.new length.new result ⊎ IsNotThere text.now path.now result }
-    ensures unchanged { result ≢ 6 → (at.new ≡ at.old) × (length.new ≡ length.old) }
+    ensures found { result ≢ 2 → result ≢ 8 → IsFound text.now path.now at.new count.new result ⊎ IsNotThere text.now path.now result }
+    ensures refused { result ≡ 2 → (v : Value) → IsWithinLimits v → text.now ≢ canon v }
+    ensures too_long { 1048576 < length text.now → result ≡ 2 }
+    ensures unchanged { result ≢ 6 → (at.new ≡ at.old) × (count.new ≡ count.old) }
 {
-    let Ok(document) = Doc::open(alloc, text) else {
-        return REFUSED;
+    let document = match Doc::open(alloc, text) {
+        Ok(document) => document,
+        Err(FormFault::Memory) => return NO_MEMORY,
+        Err(_) => return REFUSED,
     };
     match place_in(&document.top(), path) {
         Some(place) => {
             *at = place.at;
-            *length = place.length;
+            *count = place.length;
             DONE
         }
         None => NONE,

@@ -1,7 +1,7 @@
 //! Guards on the heap, and what a caller may set for them.
 ghost use Rattle.std.specs.Prelude.{◌≡◌, ◌≢◌, IfOk, IfErr, MatchOption};
 ghost use Rattle.spki_service.specs.Held.{HoldsList};
-ghost use Rattle.spki_service.specs.Lists.{IsNoList};
+ghost use Rattle.spki_service.specs.Lists.{IsNoAccessList};
 ghost use Rattle.spki_c.specs.Guards.{policy_number};
 
 use spki_cert::Policy;
@@ -17,7 +17,7 @@ pub(crate) fn read_guard(
 ) -> Result<Box<Guard>, AclFault>
     ensures list { IfOk result (λ g. HoldsList list.now g.value.texts) }
     ensures given { IfOk result (λ g. (g.value.policy ≡ policy) × (g.value.octets ≡ limits.octets) × (g.value.nodes ≡ limits.nodes)) }
-    ensures refused { IfErr result (λ fault. fault ≢ AclFault.Memory → IsNoList list.now fault) }
+    ensures refused { IfErr result (λ fault. fault ≢ AclFault.Memory → IsNoAccessList list.now fault) }
 {
     let guard = Guard::read(alloc, list, policy, limits)?;
     match Box::new(alloc, guard) {

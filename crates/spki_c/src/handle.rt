@@ -63,3 +63,9 @@ impl Lent {
         unsafe { &*(at as *const Guard) }
     }
 }
+
+// A guard is `Send`, so another thread may free it.
+unsafe impl Send for Handle {}
+
+// A guard is `Sync`, so it may be lent to calls in several threads at the same time.
+unsafe impl Send for Lent {}

@@ -27,6 +27,9 @@ pub const DONE: u32 = 6;
 /// A path leads to no string.
 pub const NONE: u32 = 7;
 
+/// Memory ran out in a call that writes no line.
+pub const NO_MEMORY: u32 = 8;
+
 /// The command of a number, if there is one.
 pub fn command_of(number: u32) -> Option<Command>
     ensures { MatchOption result ((c : Command) → number ≢ number_of c) (λ c. number ≡ number_of c) }

@@ -9,7 +9,7 @@ use Rattle.spki_cert.specs.declared.principal.Policy.TheVariants.{Open, Strict}
 use Rattle.spki_case.specs.CaseForm.{headed, part_values, case_value, policy_values}
 use Rattle.spki_case.specs.Parts.{IsPart, ArePartsOf}
 use Rattle.spki_case.specs.declared.parts.Parts.{Parts}
-use Rattle.spki_case.specs.declared.parts.Part.{Part}
+use Rattle.spki_case.specs.declared.parts.TakenPart.{TakenPart}
 
 abbrev behind : Value → List Value
 behind (string hint octets) = []
@@ -29,16 +29,16 @@ others [] = []
 others (x ∷ xs) = xs
 
 -- what stands behind a part
-pub after : (vs : List Value) (word : List ℕ) (p : Part) (y : Value) (ys : List Value) → IsPart vs word p → vs ≡ y ∷ ys → p.rest ≡ ys
+pub after : (vs : List Value) (word : List ℕ) (p : TakenPart) (y : Value) (ys : List Value) → IsPart vs word p → vs ≡ y ∷ ys → p.rest ≡ ys
 after vs word p y ys part e = ap others (sym part.parts ∙ e)
 
 -- what stands in it
-pub inside : (vs : List Value) (word : List ℕ) (p : Part) (inner ys : List Value) → IsPart vs word p → vs ≡ headed word inner ∷ ys → p.members ≡ inner
+pub inside : (vs : List Value) (word : List ℕ) (p : TakenPart) (inner ys : List Value) → IsPart vs word p → vs ≡ headed word inner ∷ ys → p.members ≡ inner
 inside vs word p inner ys part e =
     behind_head word p.members inner (sym part.written ∙ ap (first_or (plain [])) (sym part.parts ∙ e))
 
 -- a part and what stands behind it
-pub joined : (vs : List Value) (word : List ℕ) (p : Part) (inner ys : List Value) → IsPart vs word p → p.members ≡ inner → p.rest ≡ ys → vs ≡ headed word inner ∷ ys
+pub joined : (vs : List Value) (word : List ℕ) (p : TakenPart) (inner ys : List Value) → IsPart vs word p → p.members ≡ inner → p.rest ≡ ys → vs ≡ headed word inner ∷ ys
 joined vs word p inner ys part m r = part.parts ∙ rw (part.written, m, r) refl
 
 -- the parts behind a head are those of the value

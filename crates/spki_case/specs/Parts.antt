@@ -4,10 +4,10 @@ use Rattle.sexpr_core.specs.Value.{Value}
 use Rattle.spki_case.specs.CaseForm.{headed}
 use Rattle.spki_case.specs.CaseForm as spec
 use Rattle.spki_case.specs.declared.parts.Parts.{Parts}
-use Rattle.spki_case.specs.declared.parts.Part.{Part}
+use Rattle.spki_case.specs.declared.parts.TakenPart.{TakenPart}
 
 -- the first member is a list with this head
-pub record IsPart (vs : List Value) (word : List ℕ) (p : Part) : Type 0 where
+pub record IsPart (vs : List Value) (word : List ℕ) (p : TakenPart) : Type 0 where
   pub written : p.node ≡ headed word p.members
   pub parts : vs ≡ p.node ∷ p.rest
 

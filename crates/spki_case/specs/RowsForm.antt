@@ -27,7 +27,7 @@ stated_by rows key message value = IsTrue (accepts rows key message value)
 -- ---- refusals
 
 -- The value is no list with this head, and the fault is Shape.
-pub record IsNoList (v : Value) (fault : RowsFault) : Type 0 where
+pub record IsNoAcceptedList (v : Value) (fault : RowsFault) : Type 0 where
   pub named : fault ≡ faults.Shape
   pub none : (members : List Value) → v ≢ accepted_value members
 
@@ -42,7 +42,7 @@ pub record LacksRow (v : Value) (fault : RowsFault) : Type 0 where
 
 -- What a fault means for a value, except for Memory.
 abbrev pub NoRows : Value → RowsFault → Type 0
-NoRows v fault = IsNoList v fault ⊎ LacksRow v fault
+NoRows v fault = IsNoAcceptedList v fault ⊎ LacksRow v fault
 
 -- ---- texts
 

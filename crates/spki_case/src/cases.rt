@@ -112,27 +112,27 @@ impl<'a> Case<'a> {
         };
         let acl = match acl_of(alloc, &parts.acl) {
             Ok(acl) => acl,
-            Err(fault) => return Err(acl_fault(fault)),
+            Err(fault) => return Err(fault_of_acl(fault)),
         };
         let accepted = match table_of(alloc, parts.rows) {
             Ok(accepted) => accepted,
-            Err(fault) => return Err(rows_fault(fault)),
+            Err(fault) => return Err(fault_of_rows(fault)),
         };
         let sequence = match sequence_of(alloc, &parts.sequence) {
             Ok(items) => items,
-            Err(fault) => return Err(sequence_fault(fault)),
+            Err(fault) => return Err(fault_of_sequence(fault)),
         };
         let key = match key_of(&parts.key) {
             Ok(key) => key,
-            Err(kind) => return Err(CaseFault::Key(outer_fault(kind))),
+            Err(kind) => return Err(CaseFault::Key(fault_of_part(kind))),
         };
         let request = match Ground::of(alloc, &parts.request) {
             Ok(request) => request,
-            Err(fault) => return Err(request_fault(fault)),
+            Err(fault) => return Err(fault_of_request(fault)),
         };
         let moment = match date_of(&parts.at) {
             Ok(moment) => moment,
-            Err(kind) => return Err(CaseFault::At(outer_fault(kind))),
+            Err(kind) => return Err(CaseFault::At(fault_of_part(kind))),
         };
         let algorithms = entry_algorithms(&acl, parts.policy);
         let sequence = digested_items(sequence, algorithms, parts.policy);
@@ -200,13 +200,13 @@ impl<'a> Case<'a> {
     }
 }
 
-fn outer_fault(kind: CertFaultKind) -> CertFault
+fn fault_of_part(kind: CertFaultKind) -> CertFault
     ensures { result ≡ record { item = 0; kind = kind } }
 {
     CertFault { item: 0, kind }
 }
 
-fn acl_fault(fault: CertFault) -> CaseFault
+fn fault_of_acl(fault: CertFault) -> CaseFault
     ensures { IsOuter (fault.kind ≡ CertFaultKind.Memory) CaseFault.Memory (CaseFault.Acl fault) result }
 {
     match fault.kind {
@@ -215,7 +215,7 @@ fn acl_fault(fault: CertFault) -> CaseFault
     }
 }
 
-fn rows_fault(fault: CertFault) -> CaseFault
+fn fault_of_rows(fault: CertFault) -> CaseFault
     ensures { IsOuter (fault.kind ≡ CertFaultKind.Memory) CaseFault.Memory (CaseFault.Accepted fault) result }
 {
     match fault.kind {
@@ -224,7 +224,7 @@ fn rows_fault(fault: CertFault) -> CaseFault
     }
 }
 
-fn sequence_fault(fault: CertFault) -> CaseFault
+fn fault_of_sequence(fault: CertFault) -> CaseFault
     ensures { IsOuter (fault.kind ≡ CertFaultKind.Memory) CaseFault.Memory (CaseFault.Sequence fault) result }
 {
     match fault.kind {
@@ -233,7 +233,7 @@ fn sequence_fault(fault: CertFault) -> CaseFault
     }
 }
 
-fn request_fault(fault: TagFault) -> CaseFault
+fn fault_of_request(fault: TagFault) -> CaseFault
     ensures { IsOuter (fault ≡ TagFault.Memory) CaseFault.Memory (CaseFault.Request fault) result }
 {
     match fault {

@@ -24,18 +24,18 @@ pub(crate) struct Parts<'d, 'a> {
 
 /// A member that is a list with this head: the member, the members after its head, and the members after the list.
 #[derive(Drop)]
-struct Part<'d, 'a> {
+struct TakenPart<'d, 'a> {
     node: Node<'d, 'a>,
     members: Members<'d, 'a>,
     rest: Members<'d, 'a>,
 }
 
-fn take_part<'d, 'a>(members: Members<'d, 'a>, word: &[u8]) -> Option<Part<'d, 'a>>
+fn take_part<'d, 'a>(members: Members<'d, 'a>, word: &[u8]) -> Option<TakenPart<'d, 'a>>
     ensures { MatchOption result (IsNoPart members.entry word.now) (IsPart members.entry word.now) }
 {
     let (node, rest) = members.split_first()?;
     let members = node.headed(word)?;
-    Some(Part {
+    Some(TakenPart {
         node,
         members,
         rest,

@@ -64,12 +64,12 @@ impl<'a> AcceptedTable<'a> {
         };
         match table_of(alloc, rows) {
             Ok(table) => Ok(table),
-            Err(fault) => Err(row_fault(fault)),
+            Err(fault) => Err(fault_of_row(fault)),
         }
     }
 }
 
-fn row_fault(fault: CertFault) -> RowsFault
+fn fault_of_row(fault: CertFault) -> RowsFault
     ensures { IsOuter (fault.kind ≡ CertFaultKind.Memory) RowsFault.Memory (RowsFault.Row fault) result }
 {
     match fault.kind {
@@ -126,7 +126,7 @@ fn sha256_of<'a>(node: &Node<'_, 'a>) -> Result<Octets<'a>, CertFaultKind>
 }
 
 /// Reads the rows of an accepted list, after its head.
-fn rows_of<'a>(alloc: Global, members: Members<'_, 'a>) -> Result<Vec<Row<'a>>, CertFault>
+fn read_rows<'a>(alloc: Global, members: Members<'_, 'a>) -> Result<Vec<Row<'a>>, CertFault>
     ensures rows { IfOk result (λ rows. AllZip RowOf members.entry (map row_of rows.items)) }
     ensures refused { IfErr result (λ fault. fault.kind ≢ CertFaultKind.Memory → RowsRefused members.entry fault) }
 {
@@ -159,7 +159,7 @@ pub(crate) fn table_of<'a>(
     ensures rows { IfOk result (λ table. AllZip RowOf members.entry (rows_of table)) }
     ensures refused { IfErr result (λ fault. fault.kind ≢ CertFaultKind.Memory → RowsRefused members.entry fault) }
 {
-    let rows = rows_of(alloc, members)?;
+    let rows = read_rows(alloc, members)?;
     match AcceptedTable::new(alloc, rows) {
         Ok(table) => Ok(table),
         Err(_) => Err(CertFault {

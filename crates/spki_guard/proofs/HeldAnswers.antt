@@ -4,7 +4,7 @@ use Rattle.spki_case.specs.Case.{Case}
 use Rattle.spki_decision.specs.Asked.{asked}
 use Rattle.spki_service.specs.Held.{Held}
 use Rattle.spki_service.specs.Asking.{AskedOf}
-use Rattle.spki_service.specs.Questions.{IsAsked, IsNotAsked, asked_octets}
+use Rattle.spki_service.specs.Questions.{IsAskedCase, IsNotAsked, asked_octets}
 use Rattle.spki_service.specs.declared.question.Question.{Question}
 use Rattle.spki_service.specs.declared.question.AskFault.{AskFault}
 use Rattle.spki_service.specs.declared.question.AskFault.TheVariants as faults
@@ -13,13 +13,13 @@ use Rattle.spki_guard.specs.declared.answers.Verdict.{Verdict}
 use Rattle.spki_guard.specs.declared.answers.Verdict.TheVariants.{Refused}
 use Rattle.spki_guard.specs.declared.question_answers.Wish.{Wish}
 use Rattle.spki_guard.specs.Answer.{written_by}
-use Rattle.spki_guard.specs.Held.{ReadsQuestion, AnswersAsked, IsUnread, IsAnswerHeld, marked}
+use Rattle.spki_guard.specs.Held.{ReadsQuestion, AnswersAsked, IsUnreadQuestion, IsAnswerHeld, marked}
 use Rattle.spki_guard.specs.HeldLines.{refused_question}
 use Rattle.spki_guard.specs.Lines.{refused_memory}
 use Rattle.spki_guard.specs.Run.{RefusesForMemory}
 
 -- a question whose parts are within the limit, and are read
-pub reads : (held : Held) (q : Question) (c : Case) → ¬ (held.octets < asked_octets q) → IsAsked q c → c.policy ≡ held.policy
+pub reads : (held : Held) (q : Question) (c : Case) → ¬ (held.octets < asked_octets q) → IsAskedCase q c → c.policy ≡ held.policy
     → c.most_nodes ≡ held.nodes → ReadsQuestion held q c
 reads held q c within is policy nodes = record { short = omega (arith, within); is = is; policy = policy; nodes = nodes }
 
@@ -41,7 +41,7 @@ answered wish held q marks a (Some x) read texts (inr h) counted = inr (inr h)
 -- a question that isn't read, and the line that says why
 pub unread : (held : Held) (q : Question) (fault : AskFault) (verdict : Verdict) (output : List ℕ) → ¬ (held.octets < asked_octets q)
     → (fault ≢ faults.Memory → IsNotAsked q fault) → verdict ≡ Refused
-    → (output ≡ refused_question fault) ⊎ (output ≡ refused_memory) → IsUnread held q verdict output
+    → (output ≡ refused_question fault) ⊎ (output ≡ refused_memory) → IsUnreadQuestion held q verdict output
 unread held q fault verdict output within is refused (inr line) = inr (record { verdict_is = refused; line = line })
 unread held q faults.Memory verdict output within is refused (inl line) = inr (record { verdict_is = refused; line = line })
 unread held q faults.TooLong verdict output within is refused (inl line) = absurd (is (λ e. cc))

@@ -16,7 +16,7 @@ use Rattle.spki_guard.specs.declared.answers.Verdict.{Verdict}
 use Rattle.spki_guard.specs.declared.question_answers.Wish.{Wish}
 use Rattle.spki_guard.specs.declared.question_answers.Wish.TheVariants.{Decide, Explain, Reduce}
 use Rattle.spki_guard.specs.Answer.{IsLineOf}
-use Rattle.spki_guard.specs.Held.{ReadsQuestion, IsUnreadFor, IsUnread, WritesAsked, IsTooLargeFor, AnswersAsked, AnswersHeld, IsAnswerHeld, HasOtherCount, ListsSigned, beside, marked, joined, lengths_of, signed_texts}
+use Rattle.spki_guard.specs.Held.{ReadsQuestion, IsUnreadFor, IsUnreadQuestion, WritesAsked, IsTooLargeFor, AnswersAsked, AnswersHeld, IsAnswerHeld, HasOtherCount, ListsSigned, beside, marked, joined, lengths_of, signed_texts}
 use Rattle.spki_guard.specs.HeldLines.{refused_question}
 use Rattle.spki_guard.specs.Run.{RefusesForMemory}
 use Rattle.spki_guard.proofs.OneLine.{decision_line, explanation_line, reduction_line}
@@ -41,7 +41,7 @@ module _ (held : Held) (q : Question) where
   faults_one f g (inr (short, none)) (inl (is, long)) = absurd (omega (arith, long, short))
   faults_one f g (inr (short, none)) (inr (within, also)) = fault-one q f g none also
 
-  pub unread_one : (x y : Verdict) (output line : List ℕ) → IsUnread held q x output → IsUnread held q y line
+  pub unread_one : (x y : Verdict) (output line : List ℕ) → IsUnreadQuestion held q x output → IsUnreadQuestion held q y line
       → ¬ RefusesForMemory x output → ¬ RefusesForMemory y line → (x ≡ y) × (output ≡ line)
   unread_one x y output line (inr m) n found known = absurd (found m)
   unread_one x y output line (inl m) (inr n) found known = absurd (known n)
@@ -59,7 +59,7 @@ module _ (held : Held) (q : Question) where
       )
 
   pub listed_or_not : (octets lengths : List ℕ) (verdict : Verdict) (output : List ℕ) → ListsSigned held q octets lengths
-      → IsUnread held q verdict output → RefusesForMemory verdict output
+      → IsUnreadQuestion held q verdict output → RefusesForMemory verdict output
   listed_or_not octets lengths verdict output m (inl n) = absurd (read_or_not m.case_read n.fault m.read n.refused)
   listed_or_not octets lengths verdict output m (inr n) = n
 

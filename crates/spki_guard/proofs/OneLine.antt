@@ -39,7 +39,7 @@ use Rattle.spki_guard.specs.declared.answers.Verdict.{Verdict}
 use Rattle.spki_guard.specs.declared.intersection.IntersectFault.{IntersectFault}
 use Rattle.spki_guard.specs.declared.intersection.IntersectFault.TheVariants as intersect
 use Rattle.spki_guard.specs.Lines.{item_line, entry_line}
-use Rattle.spki_guard.specs.Reports.{IsFoldLine, AreFoldLines, AreFolds, IsReductionReport, AreReasons, IsExplanationReport}
+use Rattle.spki_guard.specs.Reports.{IsFoldLine, AreFoldLines, ReportsFolds, IsReductionReport, ReportsReasons, IsExplanationReport}
 use Rattle.spki_guard.specs.Intersect.{intersect_value, Intersects, AreTooLarge, ValueNotMet, IsMetText, TextNotMet}
 use Rattle.spki_guard.specs.Answer.{IsLineOf, Decides, Reduces, Explains, WritesMeet, HasTooLarge, IsOnCase, AnswersValue, AnswersRead, RefusesValue, RefusesAnswer}
 
@@ -144,7 +144,7 @@ decides_one text x y output line m n =
 
 -- ---- explanations
 
-reasons_line : (rs : List Reason) (x y : Verdict) (output line : List ℕ) → AreReasons rs x output → AreReasons rs y line → Same x y output line
+reasons_line : (rs : List Reason) (x y : Verdict) (output line : List ℕ) → ReportsReasons rs x output → ReportsReasons rs y line → Same x y output line
 reasons_line [] x y output line a b = (a.0 ∙ sym b.0, a.1 ∙ sym b.1)
 reasons_line (r ∷ rs) x y output line a b = (a.0 ∙ sym b.0, a.1 ∙ sym b.1)
 
@@ -155,7 +155,7 @@ explanation_line (explanation.Evidence item stop) (explanation.Evidence other la
 explanation_line (explanation.Evidence item stop) (explanation.Entries reasons) x y output line same a b = absurd same
 explanation_line (explanation.Entries reasons) (explanation.Evidence item stop) x y output line same a b = absurd same
 explanation_line (explanation.Entries reasons) (explanation.Entries others) x y output line same a b =
-    reasons_line others.items x y output line (subst (λ (rs : List Reason). AreReasons rs x output) same a) b
+    reasons_line others.items x y output line (subst (λ (rs : List Reason). ReportsReasons rs x output) same a) b
 
 explains_one : (text : List ℕ) (x y : Verdict) (output line : List ℕ) → Explains text x output → Explains text y line → Same x y output line
 explains_one text x y output line m n =
@@ -178,7 +178,7 @@ fold_lines n (fold ∷ folds) output line a b =
     let rest = fold_lines (suc n) folds a.1 b.1 a.3 b.3 in
     a.4 ∙ (λ i. first i ++ rest i) ∙ sym b.4
 
-folds_line : (folds : List EntryFold) (x y : Verdict) (output line : List ℕ) → AreFolds folds x output → AreFolds folds y line → Same x y output line
+folds_line : (folds : List EntryFold) (x y : Verdict) (output line : List ℕ) → ReportsFolds folds x output → ReportsFolds folds y line → Same x y output line
 folds_line [] x y output line a b = (a.0 ∙ sym b.0, a.1 ∙ sym b.1)
 folds_line (fold ∷ folds) x y output line a b = (a.0 ∙ sym b.0, fold_lines 1 (fold ∷ folds) output line a.1 b.1)
 
@@ -189,7 +189,7 @@ reduction_line (reduction.Evidence item stop) (reduction.Evidence other last) x 
 reduction_line (reduction.Evidence item stop) (reduction.Entries folds) x y output line same a b = absurd same
 reduction_line (reduction.Entries folds) (reduction.Evidence item stop) x y output line same a b = absurd same
 reduction_line (reduction.Entries folds) (reduction.Entries others) x y output line same a b =
-    folds_line others.items x y output line (subst (λ (fs : List EntryFold). AreFolds fs x output) same a) b
+    folds_line others.items x y output line (subst (λ (fs : List EntryFold). ReportsFolds fs x output) same a) b
 
 reduced_lines : (text : List ℕ) (c d : Case) (r s : Reduction) (x y : Verdict) (output line : List ℕ) → IsCaseText text c → IsCaseText text d
     → IsReduced c (accepted_by c) (Ok r) → IsReduced d (accepted_by d) (Ok s) → IsReductionReport r x output → IsReductionReport s y line

@@ -15,7 +15,7 @@ use Rattle.spki_words.specs.declared.commands.Command.TheVariants.{Check}
 use Rattle.spki_guard.specs.declared.answers.Answer.{Answer}
 use Rattle.spki_guard.specs.declared.answers.Refusal.{Refusal}
 use Rattle.spki_guard.specs.declared.answers.Refusal.TheVariants as refusals
-use Rattle.spki_guard.specs.Answer.{IsOnCase, AnswersValue, RefusesValue, AnswersRead, RefusesAnswer, octets_of, written_by}
+use Rattle.spki_guard.specs.Answer.{IsOnCase, AnswersValue, RefusesValue, AnswersRead, RefusesAnswer, output_octets, written_by}
 use Rattle.spki_guard.specs.Apart.{ReadsCase, DecidesApart, DecidesBy, RefusesApart, RefusesBy}
 
 canonical_text : (text : List ℕ) (v : Value) → IsWithinLimits v → text ≡ canon v → IsTextWithin text v
@@ -33,8 +33,8 @@ of_value text fault (inl m) other = absurd (other (m.form, m.is))
 of_value text fault (inr t) other = t
 
 answered_by : (command : Command) (text : List ℕ) (v : Value) (r : Result Answer Refusal) → IsTextWithin text v
-    → IfOk r (λ a. AnswersValue command v a.verdict (octets_of a.output))
-    → IfOk r (λ a. AnswersRead command text a.verdict (octets_of a.output))
+    → IfOk r (λ a. AnswersValue command v a.verdict (output_octets a.output))
+    → IfOk r (λ a. AnswersRead command text a.verdict (output_octets a.output))
 answered_by command text v (Ok a) t h = record { value = v; read = t; answer = h }
 answered_by command text v (Err refusal) t h = tt
 
@@ -54,8 +54,8 @@ err_by command text v (Err refusal) t h = refused_by command text v refusal t h
 
 -- what is answered to the value is answered to the canonical text
 pub standing_answered : (command : Command) (text : List ℕ) (c : Case) (r : Result Answer Refusal) → IsCaseText text c
-    → ((v : Value) → IsCaseText (canon v) c → IfOk r (λ a. AnswersValue command v a.verdict (octets_of a.output)))
-    → IfOk r (λ a. AnswersRead command text a.verdict (octets_of a.output))
+    → ((v : Value) → IsCaseText (canon v) c → IfOk r (λ a. AnswersValue command v a.verdict (output_octets a.output)))
+    → IfOk r (λ a. AnswersRead command text a.verdict (output_octets a.output))
 standing_answered command text c r t f =
     answered_by command text t.value r (canonical_text text t.value t.within t.written)
     (f t.value (subst (λ s. IsCaseText s c) t.written t))

@@ -188,10 +188,10 @@ pub record RefusesAsLong (verdict : Verdict) (output : List ℕ) : Type 0 where
 
 -- ---- answers of the code
 
-abbrev pub octets_of : output.Output → List ℕ
-octets_of (Made octets) = octets.items
-octets_of (Fixed octets) = octets.now
+abbrev pub output_octets : output.Output → List ℕ
+output_octets (Made octets) = octets.items
+output_octets (Fixed octets) = octets.now
 
 -- the octets of an answer
 abbrev pub written_by : Answer → List ℕ
-written_by answer = octets_of answer.output
+written_by answer = output_octets answer.output

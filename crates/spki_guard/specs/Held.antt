@@ -10,8 +10,8 @@ use Rattle.spki_decision.specs.Answered.{IsDecided, IsExplained, IsReduced}
 use Rattle.spki_decision.specs.Reduced.{EndAtDates}
 use Rattle.spki_decision.specs.Asked.{Signed, asked}
 use Rattle.spki_service.specs.Held.{Held}
-use Rattle.spki_service.specs.Asking.{AskedOf, OfCase, IsMarked}
-use Rattle.spki_service.specs.Questions.{IsAsked, IsNotAsked, asked_octets}
+use Rattle.spki_service.specs.Asking.{AskedOf, OfCase, MarksAccept}
+use Rattle.spki_service.specs.Questions.{IsAskedCase, IsNotAsked, asked_octets}
 use Rattle.spki_service.specs.declared.question.Question.{Question}
 use Rattle.spki_service.specs.declared.question.AskFault.{AskFault}
 use Rattle.spki_service.specs.declared.question.AskFault.TheVariants as faults
@@ -31,7 +31,7 @@ use Rattle.spki_guard.specs.Run.{RefusesForMemory}
 -- limit of nodes. It has no entries of its own.
 pub record ReadsQuestion (held : Held) (q : Question) (c : Case) : Type 0 where
   pub short : asked_octets q ≤ held.octets
-  pub is : IsAsked q c
+  pub is : IsAskedCase q c
   pub policy : c.policy ≡ held.policy
   pub nodes : c.most_nodes ≡ held.nodes
 
@@ -61,7 +61,7 @@ IsTooLargeFor Reduce a verified = OfCase a (λ c. IsReduced c verified (Err TooL
 
 -- what the marks accept of a case's signatures
 abbrev pub marked : Case → List Bool → Verified
-marked c marks = IsMarked (asked c) marks
+marked c marks = MarksAccept (asked c) marks
 
 -- Tags are too large for an answer, and the line says so.
 pub record SaysTooLarge (wish : Wish) (a : AskedOf) (verified : Verified) (verdict : Verdict) (output : List ℕ) : Type 0 where
@@ -93,12 +93,12 @@ pub record RefusesQuestion (held : Held) (q : Question) (verdict : Verdict) (out
   pub line : output ≡ refused_question fault
 
 -- The question is refused, or memory ran out.
-abbrev pub IsUnread : Held → Question → Verdict → List ℕ → Type 0
-IsUnread held q verdict output = RefusesQuestion held q verdict output ⊎ RefusesForMemory verdict output
+abbrev pub IsUnreadQuestion : Held → Question → Verdict → List ℕ → Type 0
+IsUnreadQuestion held q verdict output = RefusesQuestion held q verdict output ⊎ RefusesForMemory verdict output
 
 abbrev pub IsAnswerHeld : Wish → Held → Question → List Bool → Verdict → List ℕ → Type 0
 IsAnswerHeld wish held q marks verdict output =
-    AnswersHeld wish held q marks verdict output ⊎ IsUnread held q verdict output
+    AnswersHeld wish held q marks verdict output ⊎ IsUnreadQuestion held q verdict output
 
 -- The question is read, and has another number of signatures than there are marks.
 pub record HasOtherCount (held : Held) (q : Question) (marks : List Bool) : Type 0 where

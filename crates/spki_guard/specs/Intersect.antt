@@ -74,9 +74,9 @@ pub record AreTooLarge (v : Value) : Type 0 where
   pub large : 1000000 < nodes a * nodes b
 
 -- the fault for a refusal of the intersection itself
-abbrev pub outer_fault : MeetFault → IntersectFault
-outer_fault meet_faults.TooLarge = faults.TooLarge
-outer_fault meet_faults.Memory = faults.Memory
+abbrev pub intersect_fault : MeetFault → IntersectFault
+intersect_fault meet_faults.TooLarge = faults.TooLarge
+intersect_fault meet_faults.Memory = faults.Memory
 
 -- What a fault means for a value, except for Memory, in the order of the tests.
 abbrev pub ValueNotMet : Value → IntersectFault → Type 0

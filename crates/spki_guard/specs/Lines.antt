@@ -2,6 +2,7 @@
 use Rattle.std.specs.Prelude.{ℕ, List, [], ◌∷◌, ◌++◌, codes}
 use Rattle.sexpr_core.specs.declared.fault.FormFault.{FormFault}
 use Rattle.sexpr_core.specs.declared.fault.FormFault.TheVariants.{TooLong, TooDeep, Short, Bad, Trailing, Memory}
+use Rattle.sexpr_core.specs.Characters.{char}
 use Rattle.sexpr_core.specs.Value.{decimal}
 use Rattle.spki_tag.specs.declared.fault.TagFault.{TagFault}
 use Rattle.spki_tag.specs.declared.fault.TagFault.TheVariants as tag
@@ -25,7 +26,7 @@ use Rattle.spki_guard.specs.declared.intersection.IntersectFault.TheVariants as 
 abbrev pub line : List (List ℕ) → List ℕ
 line [] = 10 ∷ []
 line (word ∷ []) = word ++ 10 ∷ []
-line (word ∷ next ∷ words) = word ++ 32 ∷ line (next ∷ words)
+line (word ∷ next ∷ words) = word ++ char " " ∷ line (next ∷ words)
 
 -- ---- answers of `check`
 

@@ -13,7 +13,7 @@ use Rattle.spki_words.specs.Words as of_words
 use Rattle.spki_guard.specs.declared.answers.Verdict.{Verdict}
 use Rattle.spki_guard.specs.declared.statuses.Status.{Status}
 use Rattle.spki_guard.specs.declared.statuses.Status.TheVariants.{Done, No, Refused, ReadFault, WriteFault}
-use Rattle.spki_guard.specs.Status.{status_of, code_of}
+use Rattle.spki_guard.specs.Status.{answer_status, exit_code}
 use Rattle.spki_guard.specs.Lines.{refused_memory}
 use Rattle.spki_guard.specs.Run.{IsReply, IsFaulty, IsWritten, IsCutOff}
 
@@ -21,7 +21,7 @@ use Rattle.spki_guard.specs.Run.{IsReply, IsFaulty, IsWritten, IsCutOff}
 
 -- The result for the words: the subcommand that `clap` finds in them, or a fault that it finds. The program's name and the
 -- word of a command give that command, unless memory ran out.
-pub record IsAsked (list : List (List ℕ)) (asked : Result Command WordsFault) : Type 0 where
+pub record IsAskedCommand (list : List (List ℕ)) (asked : Result Command WordsFault) : Type 0 where
   pub named : IfOk asked (λ c. subcommand_in list ≡ Some (word_of c))
   pub taken : (program : List ℕ) (c : Command) → list ≡ program ∷ word_of c ∷ [] → (asked ≡ Ok c) ⊎ (asked ≡ Err words.Memory)
   pub faults : MatchResult asked (λ _. faults_of list ≡ []) (IsFaultOf list)
@@ -33,13 +33,13 @@ IsNoText (words.Help text) = ⊥
 IsNoText words.Memory = Unit {0}
 
 -- If the words cannot be read there is no command: they are not UTF-8, or memory ran out.
-pub record IsUnread (kind : ErrorKind) (fault : WordsFault) : Type 0 where
+pub record AreUnreadWords (kind : ErrorKind) (fault : WordsFault) : Type 0 where
   pub no_text : kind ≡ InvalidData → IsNoText fault
   pub other : kind ≢ InvalidData → fault ≡ words.Memory
 
 -- the result if an error takes the place of the words
 abbrev pub IsUnasked : ErrorKind → Result Command WordsFault → Type 0
-IsUnasked kind asked = MatchResult asked (λ _. ⊥) (IsUnread kind)
+IsUnasked kind asked = MatchResult asked (λ _. ⊥) (AreUnreadWords kind)
 
 -- ---- messages
 
@@ -76,7 +76,7 @@ IsRefused contents lines old new before after words.Memory = IsSaid contents old
 -- ---- runs
 
 -- A command was run, from what was read to what was written, with this status. These are the promises of `run`.
-pub record IsRun {R W : Type 0} (remaining : R → Option (List ℕ)) (contents : W → Option (List ℕ)) (command : Command)
+pub record IsCommandRun {R W : Type 0} (remaining : R → Option (List ℕ)) (contents : W → Option (List ℕ)) (command : Command)
     (reader read : Metered R) (writer written_to : Metered W) (status : Status) : Type 0 where
   pub reader_asks : read.asks ≤ 2097152
   pub no_more : (octets : List ℕ) × (length octets ≤ 1048577) × Gives remaining reader read octets
@@ -86,7 +86,7 @@ pub record IsRun {R W : Type 0} (remaining : R → Option (List ℕ)) (contents 
   pub no_read_fault : (status ≡ ReadFault) ⊎ (read.faults ≡ 0)
   pub no_write_fault : (status ≡ WriteFault) ⊎ (written_to.faults ≡ 0)
   pub unwritten : status ≡ ReadFault → (written_to.asks ≡ 0) × TakesNone contents writer written_to
-  pub written : (verdict : Verdict) → status ≡ status_of verdict → (output : List ℕ)
+  pub written : (verdict : Verdict) → status ≡ answer_status verdict → (output : List ℕ)
       × IsReply command (remaining (inner_of reader)) (remaining (inner_of read)) read.ended verdict output
       × IsWritten contents writer written_to output
   pub write_fault : status ≡ WriteFault → (verdict : Verdict) × (output : List ℕ)
@@ -97,9 +97,9 @@ pub record IsRun {R W : Type 0} (remaining : R → Option (List ℕ)) (contents 
 pub record DoesCommand {R W E : Type 0} (remaining : R → Option (List ℕ)) (contents : W → Option (List ℕ)) (lines : E → Option (List ℕ))
     (reader read : Metered R) (writer written_to : Metered W) (errors said : Metered E) (exit : ℕ) (command : Command) : Type 0 where
   pub status : Status
-  pub run : IsRun remaining contents command reader read writer written_to status
+  pub run : IsCommandRun remaining contents command reader read writer written_to status
   pub reported : IsReported lines errors said status
-  pub exit_is : exit ≡ code_of status
+  pub exit_is : exit ≡ exit_code status
 
 -- There is no command: nothing was read, the fault was written, and the exit status is that of the fault.
 pub record SaysFault {R W E : Type 0} (remaining : R → Option (List ℕ)) (contents : W → Option (List ℕ)) (lines : E → Option (List ℕ))

@@ -41,14 +41,14 @@ abbrev pub some_done : List EntryFold → Bool
 some_done [] = false
 some_done (fold ∷ folds) = is_done fold || some_done folds
 
-abbrev pub AreFolds : List EntryFold → Verdict → List ℕ → Type 0
-AreFolds [] verdict output = (verdict ≡ No) × (output ≡ no_entries)
-AreFolds (fold ∷ folds) verdict output =
+abbrev pub ReportsFolds : List EntryFold → Verdict → List ℕ → Type 0
+ReportsFolds [] verdict output = (verdict ≡ No) × (output ≡ no_entries)
+ReportsFolds (fold ∷ folds) verdict output =
     (verdict ≡ verdict_of (some_done (fold ∷ folds))) × AreFoldLines 1 (fold ∷ folds) output
 
 abbrev pub IsReductionReport : Reduction → Verdict → List ℕ → Type 0
 IsReductionReport (reduction.Evidence item stop) verdict output = (verdict ≡ No) × (output ≡ item_line item stop)
-IsReductionReport (reduction.Entries folds) verdict output = AreFolds folds.items verdict output
+IsReductionReport (reduction.Entries folds) verdict output = ReportsFolds folds.items verdict output
 
 -- ---- explanations
 
@@ -68,11 +68,11 @@ abbrev pub some_grant : List Reason → Bool
 some_grant [] = false
 some_grant (why ∷ reasons) = is_grant why || some_grant reasons
 
-abbrev pub AreReasons : List Reason → Verdict → List ℕ → Type 0
-AreReasons [] verdict output = (verdict ≡ No) × (output ≡ no_entries)
-AreReasons (why ∷ reasons) verdict output =
+abbrev pub ReportsReasons : List Reason → Verdict → List ℕ → Type 0
+ReportsReasons [] verdict output = (verdict ≡ No) × (output ≡ no_entries)
+ReportsReasons (why ∷ reasons) verdict output =
     (verdict ≡ verdict_of (some_grant (why ∷ reasons))) × (output ≡ reason_lines 1 (why ∷ reasons))
 
 abbrev pub IsExplanationReport : Explanation → Verdict → List ℕ → Type 0
 IsExplanationReport (explanation.Evidence item stop) verdict output = (verdict ≡ No) × (output ≡ item_line item stop)
-IsExplanationReport (explanation.Entries reasons) verdict output = AreReasons reasons.items verdict output
+IsExplanationReport (explanation.Entries reasons) verdict output = ReportsReasons reasons.items verdict output

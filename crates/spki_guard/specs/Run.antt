@@ -14,7 +14,7 @@ use Rattle.spki_guard.specs.Answer.{IsAnswer}
 -- ---- replies
 
 -- The text was read to its end, and this is the answer to it. `known` is what the reader had, if it exposes that.
-pub record AnswersText (command : Command) (known : Option (List ℕ)) (ended : Bool) (verdict : Verdict) (output : List ℕ) : Type 0 where
+pub record AnswersAtEnd (command : Command) (known : Option (List ℕ)) (ended : Bool) (verdict : Verdict) (output : List ℕ) : Type 0 where
   pub text : List ℕ
   pub at_end : IsTrue ended
   pub whole : IfSome known (λ octets. octets ≡ text)
@@ -37,7 +37,7 @@ pub record RefusesForMemory (verdict : Verdict) (output : List ℕ) : Type 0 whe
 -- the reply to what a reader had, and what is left of it
 abbrev pub IsReply : Command → Option (List ℕ) → Option (List ℕ) → Bool → Verdict → List ℕ → Type 0
 IsReply command known left ended verdict output =
-    AnswersText command known ended verdict output ⊎ (RefusesLong known left verdict output ⊎ RefusesForMemory verdict output)
+    AnswersAtEnd command known ended verdict output ⊎ (RefusesLong known left verdict output ⊎ RefusesForMemory verdict output)
 
 -- ---- writing
 

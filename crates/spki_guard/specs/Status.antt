@@ -6,15 +6,15 @@ use Rattle.spki_guard.specs.declared.statuses.Status.{Status}
 use Rattle.spki_guard.specs.declared.statuses.Status.TheVariants.{Done, No, Refused, ReadFault, WriteFault}
 
 -- the status of a run that was not cut off
-abbrev pub status_of : Verdict → Status
-status_of verdict.Done = Done
-status_of verdict.No = No
-status_of verdict.Refused = Refused
+abbrev pub answer_status : Verdict → Status
+answer_status verdict.Done = Done
+answer_status verdict.No = No
+answer_status verdict.Refused = Refused
 
 -- the exit status
-abbrev pub code_of : Status → ℕ
-code_of Done = 0
-code_of No = 1
-code_of Refused = 2
-code_of ReadFault = 3
-code_of WriteFault = 3
+abbrev pub exit_code : Status → ℕ
+exit_code Done = 0
+exit_code No = 1
+exit_code Refused = 2
+exit_code ReadFault = 3
+exit_code WriteFault = 3

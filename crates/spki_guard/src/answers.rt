@@ -7,7 +7,7 @@ ghost use Rattle.spki_tag.specs.Tag.{tag_value};
 ghost use Rattle.spki_case.specs.CaseForm.{IsCaseText, ValueRefused};
 ghost use Rattle.spki_case.specs.Texts.{IsOuter, IsTextOf};
 ghost use Rattle.spki_case.specs.View.{model};
-ghost use Rattle.spki_guard.specs.Answer.{form_of, IsOnCase, IsAnswer, AnswersValue, RefusesValue, AnswersRead, RefusesAnswer, RefusesAsLong, WritesMeet, Decides, Reduces, Explains, IsLineOf, refused_line, octets_of, written_by};
+ghost use Rattle.spki_guard.specs.Answer.{form_of, IsOnCase, IsAnswer, AnswersValue, RefusesValue, AnswersRead, RefusesAnswer, RefusesAsLong, WritesMeet, Decides, Reduces, Explains, IsLineOf, refused_line, output_octets, written_by};
 ghost use Rattle.spki_guard.specs.Lines.{refused_memory};
 
 use crate::intersection::{IntersectFault, intersect};
@@ -37,7 +37,7 @@ pub(crate) enum Output {
 
 impl Output {
     pub(crate) fn as_slice(&self) -> &[u8]
-        ensures { result.now ≡ octets_of self.now }
+        ensures { result.now ≡ output_octets self.now }
     {
         match self {
             Output::Made(octets) => octets.as_slice(),
@@ -189,7 +189,7 @@ pub fn answer_text(alloc: Global, command: Command, text: &[u8]) -> Answer
 
 /// The answer to a text, unless it is refused. If the text is canonical, a case is read from it directly.
 fn answer_or_refusal(alloc: Global, command: Command, text: &[u8]) -> Result<Answer, Refusal>
-    ensures answered { IfOk result (λ a. AnswersRead command text.now a.verdict (octets_of a.output)) }
+    ensures answered { IfOk result (λ a. AnswersRead command text.now a.verdict (output_octets a.output)) }
     ensures refused { IfErr result (λ refusal. RefusesAnswer command text.now refusal) }
     ensures too_long { 1048576 < length text.now → IsErrOf result (Refusal.Form FormFault.TooLong) }
 {
@@ -201,7 +201,7 @@ fn answer_or_refusal(alloc: Global, command: Command, text: &[u8]) -> Result<Ans
 
 /// The answer to a text, by its value in the form that the command needs.
 fn answer_converted(alloc: Global, command: Command, text: &[u8]) -> Result<Answer, Refusal>
-    ensures answered { IfOk result (λ a. AnswersRead command text.now a.verdict (octets_of a.output)) }
+    ensures answered { IfOk result (λ a. AnswersRead command text.now a.verdict (output_octets a.output)) }
     ensures refused { IfErr result (λ refusal. RefusesAnswer command text.now refusal) }
     ensures too_long { 1048576 < length text.now → IsErrOf result (Refusal.Form FormFault.TooLong) }
 {
@@ -284,7 +284,7 @@ fn form_of(command: Command) -> Form
 /// The answer to the value with this text, in the form that the command needs.
 fn answer_octets(alloc: Global, command: Command, octets: Vec<u8>) -> Result<Answer, Refusal>
     ensures answered { (v : Value) → octets.items ≡ written (form_of command) v
-        → IfOk result (λ a. AnswersValue command v a.verdict (octets_of a.output)) }
+        → IfOk result (λ a. AnswersValue command v a.verdict (output_octets a.output)) }
     ensures refused { (v : Value) → octets.items ≡ written (form_of command) v
         → IfErr result (λ refusal. RefusesValue command v refusal) }
 {
@@ -302,7 +302,7 @@ fn answer_octets(alloc: Global, command: Command, octets: Vec<u8>) -> Result<Ans
 /// The answer of a command for a case to a canonical text.
 fn answer_canonical(alloc: Global, command: Command, text: &[u8]) -> Result<Answer, Refusal>
     requires { IsOnCase command }
-    ensures answered { (v : Value) → text.now ≡ canon v → IfOk result (λ a. AnswersValue command v a.verdict (octets_of a.output)) }
+    ensures answered { (v : Value) → text.now ≡ canon v → IfOk result (λ a. AnswersValue command v a.verdict (output_octets a.output)) }
     ensures refused { (v : Value) → text.now ≡ canon v → IfErr result (λ refusal. RefusesValue command v refusal) }
 {
     let case = Case::read(alloc, text)?;
@@ -313,7 +313,7 @@ fn answer_canonical(alloc: Global, command: Command, text: &[u8]) -> Result<Answ
 fn answer_case(alloc: Global, command: Command, case: &Case) -> Result<Answer, Refusal>
     requires { IsOnCase command }
     ensures answered { (v : Value) → IsCaseText (canon v) (model case.now) →
-        IfOk result (λ a. AnswersValue command v a.verdict (octets_of a.output)) }
+        IfOk result (λ a. AnswersValue command v a.verdict (output_octets a.output)) }
     ensures refused { (v : Value) → IsCaseText (canon v) (model case.now) → IfErr result (λ refusal. RefusesValue command v refusal) }
 {
     match command {
@@ -329,7 +329,7 @@ fn answer_case(alloc: Global, command: Command, case: &Case) -> Result<Answer, R
 
 /// Decides a case.
 fn check(alloc: Global, case: &Case) -> Result<Answer, Refusal>
-    ensures answered { (text : List ℕ) → IsCaseText text (model case.now) → IfOk result (λ a. Decides text a.verdict (octets_of a.output)) }
+    ensures answered { (text : List ℕ) → IsCaseText text (model case.now) → IfOk result (λ a. Decides text a.verdict (output_octets a.output)) }
     ensures refused { (v : Value) → IsCaseText (canon v) (model case.now) → IfErr result (λ refusal. RefusesValue Command.Check v refusal) }
 {
     let decision = decide(alloc, case, case.accepted())?;
@@ -338,7 +338,7 @@ fn check(alloc: Global, case: &Case) -> Result<Answer, Refusal>
 
 /// Reduces a case.
 fn reduce(alloc: Global, case: &Case) -> Result<Answer, Refusal>
-    ensures answered { (text : List ℕ) → IsCaseText text (model case.now) → IfOk result (λ a. Reduces text a.verdict (octets_of a.output)) }
+    ensures answered { (text : List ℕ) → IsCaseText text (model case.now) → IfOk result (λ a. Reduces text a.verdict (output_octets a.output)) }
     ensures refused { (v : Value) → IsCaseText (canon v) (model case.now) → IfErr result (λ refusal. RefusesValue Command.Reduce v refusal) }
 {
     let reduction = reduce_case(alloc, case, case.accepted())?;
@@ -352,7 +352,7 @@ fn reduce(alloc: Global, case: &Case) -> Result<Answer, Refusal>
 
 /// Explains a case.
 fn explain_case(alloc: Global, case: &Case) -> Result<Answer, Refusal>
-    ensures answered { (text : List ℕ) → IsCaseText text (model case.now) → IfOk result (λ a. Explains text a.verdict (octets_of a.output)) }
+    ensures answered { (text : List ℕ) → IsCaseText text (model case.now) → IfOk result (λ a. Explains text a.verdict (output_octets a.output)) }
     ensures refused { (v : Value) → IsCaseText (canon v) (model case.now) → IfErr result (λ refusal. RefusesValue Command.Explain v refusal) }
 {
     let explanation = explain(alloc, case, case.accepted())?;
@@ -367,7 +367,7 @@ fn explain_case(alloc: Global, case: &Case) -> Result<Answer, Refusal>
 /// An answer with this output.
 fn done(output: Vec<u8>) -> Answer
     ensures verdict { result.verdict ≡ Verdict.Done }
-    ensures output { octets_of result.output ≡ output.items }
+    ensures output { output_octets result.output ≡ output.items }
 {
     Answer {
         verdict: Verdict::Done,
@@ -378,7 +378,7 @@ fn done(output: Vec<u8>) -> Answer
 /// An answer with this output and a line feed.
 fn done_line(output: Vec<u8>) -> Result<Answer, AllocError>
     ensures verdict { IfOk result (λ a. a.verdict ≡ Verdict.Done) }
-    ensures output { IfOk result (λ a. octets_of a.output ≡ output.items ++ 10 ∷ []) }
+    ensures output { IfOk result (λ a. output_octets a.output ≡ output.items ++ 10 ∷ []) }
 {
     let mut line = output;
     line.push(b'\n')?;
@@ -388,7 +388,7 @@ fn done_line(output: Vec<u8>) -> Result<Answer, AllocError>
 /// An answer with a tag in advanced form and a line feed.
 fn tag_line(alloc: Global, tag: &Tag) -> Result<Answer, AllocError>
     ensures verdict { IfOk result (λ a. a.verdict ≡ Verdict.Done) }
-    ensures output { IfOk result (λ a. octets_of a.output ≡ adv (tag_value tag.now) ++ 10 ∷ []) }
+    ensures output { IfOk result (λ a. output_octets a.output ≡ adv (tag_value tag.now) ++ 10 ∷ []) }
 {
     let mut line = Vec::new(alloc);
     push_tag(alloc, &mut line, tag)?;
@@ -397,7 +397,7 @@ fn tag_line(alloc: Global, tag: &Tag) -> Result<Answer, AllocError>
 
 /// The line of a decision.
 pub(crate) fn decision_line(alloc: Global, decision: Decision) -> Result<Answer, AllocError>
-    ensures { IfOk result (λ a. IsLineOf decision a.verdict (octets_of a.output)) }
+    ensures { IfOk result (λ a. IsLineOf decision a.verdict (output_octets a.output)) }
 {
     let mut line = Vec::new(alloc);
     let verdict = match decision {
@@ -419,7 +419,7 @@ pub(crate) fn decision_line(alloc: Global, decision: Decision) -> Result<Answer,
 /// An answer with the line of a refusal. If memory ran out for the line, it is `refused Memory`.
 pub(crate) fn refuse(alloc: Global, refusal: Refusal) -> Answer
     ensures verdict { result.verdict ≡ Verdict.Refused }
-    ensures line { (octets_of result.output ≡ refused_line refusal) ⊎ (octets_of result.output ≡ refused_memory) }
+    ensures line { (output_octets result.output ≡ refused_line refusal) ⊎ (output_octets result.output ≡ refused_memory) }
 {
     match refused_line(alloc, refusal) {
         Ok(line) => Answer {
@@ -433,7 +433,7 @@ pub(crate) fn refuse(alloc: Global, refusal: Refusal) -> Answer
 /// The answer if memory ran out. It allocates nothing.
 pub(crate) fn out_of_memory() -> Answer
     ensures verdict { result.verdict ≡ Verdict.Refused }
-    ensures line { octets_of result.output ≡ refused_memory }
+    ensures line { output_octets result.output ≡ refused_memory }
 {
     Answer {
         verdict: Verdict::Refused,

@@ -3,7 +3,7 @@
 ghost use Rattle.std.specs.Prelude.{◌≡◌, ◌≢◌, ◌<◌, ◌↔◌, [], ◌∷◌, length, MatchOption, IfOk, IfErr, IsErrOf};
 ghost use Rattle.sexpr_core.specs.Value.{Value};
 ghost use Rattle.spki_case.specs.Texts.{IsOuter};
-ghost use Rattle.spki_guard.specs.Intersect.{intersect_value, outer_fault, Intersects, ValueNotMet, IsMetText, TextNotMet};
+ghost use Rattle.spki_guard.specs.Intersect.{intersect_value, intersect_fault, Intersects, ValueNotMet, IsMetText, TextNotMet};
 
 use sexpr_core::syntax::{Members, Node};
 use sexpr_core::{Doc, FormFault};
@@ -35,7 +35,7 @@ pub enum IntersectFault {
 }
 
 impl From<MeetFault> for IntersectFault {
-    ghost from_gives = { λ fault outer. outer ≡ outer_fault fault };
+    ghost from_gives = { λ fault outer. outer ≡ intersect_fault fault };
 
     fn from(fault: MeetFault) -> IntersectFault {
         match fault {
@@ -74,7 +74,7 @@ fn operands_of<'d, 'a>(node: &Node<'d, 'a>) -> Option<Operands<'d, 'a>>
     two(node.headed(b"intersect")?)
 }
 
-fn first_fault(fault: TagFault) -> IntersectFault
+fn fault_of_first(fault: TagFault) -> IntersectFault
     ensures { IsOuter (fault ≡ TagFault.Memory) IntersectFault.Memory (IntersectFault.First fault) result }
 {
     match fault {
@@ -83,7 +83,7 @@ fn first_fault(fault: TagFault) -> IntersectFault
     }
 }
 
-fn second_fault(fault: TagFault) -> IntersectFault
+fn fault_of_second(fault: TagFault) -> IntersectFault
     ensures { IsOuter (fault ≡ TagFault.Memory) IntersectFault.Memory (IntersectFault.Second fault) result }
 {
     match fault {
@@ -102,11 +102,11 @@ fn meet_in(alloc: Global, node: &Node) -> Result<Tag, IntersectFault>
     };
     let first = match Tag::of(alloc, &operands.first) {
         Ok(tag) => tag,
-        Err(fault) => return Err(first_fault(fault)),
+        Err(fault) => return Err(fault_of_first(fault)),
     };
     let second = match Tag::of(alloc, &operands.second) {
         Ok(tag) => tag,
-        Err(fault) => return Err(second_fault(fault)),
+        Err(fault) => return Err(fault_of_second(fault)),
     };
     Ok(first.meet(alloc, &second)?)
 }

@@ -3,7 +3,7 @@ ghost use Rattle.std.specs.Prelude.{◌≡◌, ◌≢◌, Result, map, string_by
 ghost use Rattle.spki_words.specs.declared.commands.Command.{Command};
 ghost use Rattle.spki_words.specs.declared.words.WordsFault.{WordsFault};
 ghost use Rattle.std.specs.IoError.{error_kind};
-ghost use Rattle.spki_guard.specs.Program.{IsAsked, IsNoText, IsUnasked, IsUnread, IsSaid, IsReported, IsRefused, DoesCommand, SaysFault};
+ghost use Rattle.spki_guard.specs.Program.{IsAskedCommand, IsNoText, IsUnasked, AreUnreadWords, IsSaid, IsReported, IsRefused, DoesCommand, SaysFault};
 
 use crate::runs::run;
 use crate::statuses::Status;
@@ -27,7 +27,7 @@ pub fn run_words<R: Read, W: Write, E: Write>(
     errors: &mut Metered<E>,
 ) -> u8
     ensures { (asked : Result Command WordsFault)
-        × MatchResult words.now (λ list. IsAsked (map string_bytes list.items) asked) (λ error. IsUnasked (error_kind error) asked)
+        × MatchResult words.now (λ list. IsAskedCommand (map string_bytes list.items) asked) (λ error. IsUnasked (error_kind error) asked)
         × MatchResult asked
         (DoesCommand R.remaining W.contents E.contents reader.old reader.new writer.old writer.new errors.old errors.new result)
         (SaysFault R.remaining W.contents E.contents reader.old reader.new writer.old writer.new errors.old errors.new result) }
@@ -40,7 +40,7 @@ pub fn run_words<R: Read, W: Write, E: Write>(
 
 /// Returns the command that the words ask for, or why there is none.
 fn asked_by(alloc: Global, words: &io::Result<Vec<String>>) -> Result<Command, WordsFault>
-    ensures { MatchResult words.now (λ list. IsAsked (map string_bytes list.items) result)
+    ensures { MatchResult words.now (λ list. IsAskedCommand (map string_bytes list.items) result)
         (λ error. IsUnasked (error_kind error) result) }
 {
     match words {
@@ -51,7 +51,7 @@ fn asked_by(alloc: Global, words: &io::Result<Vec<String>>) -> Result<Command, W
 
 /// The fault if the words cannot be read.
 fn unread(alloc: Global, error: &io::Error) -> WordsFault
-    ensures { IsUnread (error_kind error.now) result }
+    ensures { AreUnreadWords (error_kind error.now) result }
 {
     if error.kind() == ErrorKind::InvalidData {
         no_text(alloc)

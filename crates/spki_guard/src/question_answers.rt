@@ -3,7 +3,7 @@ ghost use Rattle.std.specs.Prelude.{◌≡◌, ◌≢◌, ◌++◌, ◌⊎◌, �
 ghost use Rattle.spki_decision.specs.Asked.{asked};
 ghost use Rattle.spki_decision.specs.Views.{signed_of};
 ghost use Rattle.spki_guard.specs.Answer.{written_by};
-ghost use Rattle.spki_guard.specs.Held.{IsAnswerHeld, HasOtherCount, IsUnread, ListsSigned, AnswersAsked, WritesAsked, IsTooLargeFor, marked, joined, lengths_of, signed_texts};
+ghost use Rattle.spki_guard.specs.Held.{IsAnswerHeld, HasOtherCount, IsUnreadQuestion, ListsSigned, AnswersAsked, WritesAsked, IsTooLargeFor, marked, joined, lengths_of, signed_texts};
 ghost use Rattle.spki_guard.specs.HeldLines.{refused_list, refused_question};
 ghost use Rattle.spki_guard.specs.Lines.{refused_memory};
 ghost use Rattle.spki_guard.specs.Run.{RefusesForMemory};
@@ -76,7 +76,7 @@ pub fn signed_octets(
     question: &Question<'_>,
 ) -> Result<SignedOctets, Answer>
     ensures listed { IfOk result (λ s. ListsSigned guard.now question.now s.octets.items s.lengths.items) }
-    ensures refused { IfErr result (λ a. IsUnread guard.now question.now a.verdict (written_by a)) }
+    ensures refused { IfErr result (λ a. IsUnreadQuestion guard.now question.now a.verdict (written_by a)) }
 {
     let texts = match guard.texts(alloc, question) {
         Ok(texts) => texts,

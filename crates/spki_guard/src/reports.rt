@@ -1,7 +1,7 @@
 //! Writes a case's reduction and explanation: a line for each entry.
 ghost use Rattle.std.specs.Prelude.{◌≡◌, ℕ, List, ◌++◌, OnOk, IfOk};
 ghost use Rattle.spki_guard.specs.Lines.{reason_line};
-ghost use Rattle.spki_guard.specs.Reports.{verdict_of, IsFoldLine, AreFoldLines, AreFolds, is_done, some_done, IsReductionReport, reason_lines, is_grant, some_grant, AreReasons, IsExplanationReport};
+ghost use Rattle.spki_guard.specs.Reports.{verdict_of, IsFoldLine, AreFoldLines, ReportsFolds, is_done, some_done, IsReductionReport, reason_lines, is_grant, some_grant, ReportsReasons, IsExplanationReport};
 
 use crate::answers::Verdict;
 use crate::entry_lines::{push_entry, push_item, push_no_entries, push_reason, push_stopped};
@@ -36,7 +36,7 @@ pub fn push_reduction(
 
 /// Appends the lines of the entries' chains, or `no entries`, to the output.
 fn push_folds(alloc: Global, out: &mut Vec<u8>, folds: &[EntryFold]) -> Result<Verdict, AllocError>
-    ensures { IfOk result (λ verdict. (lines : List ℕ) × AreFolds folds.now verdict lines
+    ensures { IfOk result (λ verdict. (lines : List ℕ) × ReportsFolds folds.now verdict lines
         × (out.new.items ≡ out.old.items ++ lines)) }
 {
     if folds.is_empty() {
@@ -121,7 +121,7 @@ pub fn push_explanation(
 
 /// Appends the lines of the entries' reasons, or `no entries`, to the output.
 fn push_reasons(alloc: Global, out: &mut Vec<u8>, reasons: &[Reason]) -> Result<Verdict, AllocError>
-    ensures { IfOk result (λ verdict. (lines : List ℕ) × AreReasons reasons.now verdict lines
+    ensures { IfOk result (λ verdict. (lines : List ℕ) × ReportsReasons reasons.now verdict lines
         × (out.new.items ≡ out.old.items ++ lines)) }
 {
     if reasons.is_empty() {

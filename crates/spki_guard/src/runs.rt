@@ -1,8 +1,8 @@
 //! Runs a command, from the octets that are read to those that are written.
 ghost use Rattle.std.specs.Prelude.{◌≡◌, ℕ, ◌<◌, ◌≤◌, ◌⊎◌, List, length, max, IsTrue, IfNone, IfSome, OnSome};
 ghost use Rattle.metered_io.specs.Metered.{inner_of, Gives, TakesNone};
-ghost use Rattle.spki_guard.specs.Answer.{octets_of};
-ghost use Rattle.spki_guard.specs.Status.{status_of};
+ghost use Rattle.spki_guard.specs.Answer.{output_octets};
+ghost use Rattle.spki_guard.specs.Status.{answer_status};
 ghost use Rattle.spki_guard.specs.Run.{IsReply, IsFaulty, IsWritten, IsCutOff};
 
 use crate::answers::{Answer, Output, Verdict, answer_text, out_of_memory};
@@ -32,7 +32,7 @@ pub fn run<R: Read, W: Write>(
         × TakesNone W.contents writer.old writer.new }
 
     // With any other status there is a reply, and all of it or a beginning of it was written.
-    ensures written { (verdict : Verdict) → result ≡ status_of verdict → (output : List ℕ)
+    ensures written { (verdict : Verdict) → result ≡ answer_status verdict → (output : List ℕ)
         × IsReply command (R.remaining (inner_of reader.old)) (R.remaining (inner_of reader.new)) reader.new.ended verdict output
         × IsWritten W.contents writer.old writer.new output }
     ensures write_fault { result ≡ Status.WriteFault → (verdict : Verdict) × (output : List ℕ)
@@ -54,7 +54,7 @@ fn reply_to<R: Read>(alloc: Global, command: Command, reader: &mut Metered<R>) -
     ensures fault { IfNone result ((0 < reader.new.faults) ⊎ (2097152 ≤ reader.new.asks)) }
     ensures no_fault { OnSome result (reader.new.faults ≡ reader.old.faults) }
     ensures reply { IfSome result (λ answer. IsReply command (R.remaining (inner_of reader.old))
-        (R.remaining (inner_of reader.new)) reader.new.ended answer.verdict (octets_of answer.output)) }
+        (R.remaining (inner_of reader.new)) reader.new.ended answer.verdict (output_octets answer.output)) }
 {
     match read_whole(alloc, reader, MOST_OCTETS) {
         Ok(text) => Some(answer_text(alloc, command, &text)),
@@ -71,11 +71,11 @@ fn reply_to<R: Read>(alloc: Global, command: Command, reader: &mut Metered<R>) -
 fn send<W: Write>(writer: &mut Metered<W>, answer: &Answer) -> Status
     requires { writer.old.asks ≡ 0 }
     ensures read_fault { result ≡ Status.ReadFault → ⊥ }
-    ensures written { (verdict : Verdict) → result ≡ status_of verdict → (verdict ≡ answer.now.verdict)
-        × IsWritten W.contents writer.old writer.new (octets_of answer.now.output) }
+    ensures written { (verdict : Verdict) → result ≡ answer_status verdict → (verdict ≡ answer.now.verdict)
+        × IsWritten W.contents writer.old writer.new (output_octets answer.now.output) }
     ensures no_fault { (result ≡ Status.WriteFault) ⊎ (writer.new.faults ≡ writer.old.faults) }
     ensures write_fault { result ≡ Status.WriteFault
-        → IsCutOff W.contents writer.old writer.new (octets_of answer.now.output) }
+        → IsCutOff W.contents writer.old writer.new (output_octets answer.now.output) }
 {
     if write_whole(writer, answer.output.as_slice()).is_err() {
         return Status::WriteFault;

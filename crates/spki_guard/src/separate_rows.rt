@@ -39,7 +39,7 @@ fn checked(alloc: Global, text: &[u8], rows: &[u8]) -> Result<Answer, Refusal>
     ensures too_long { 1048576 < length text.now → IsErrOf result (Refusal.Form FormFault.TooLong) }
 {
     match standing_case(alloc, Command::Check, text)? {
-        Some(case) => decide_by(alloc, &case, rows),
+        Some(case) => decide_by_rows(alloc, &case, rows),
         None => checked_converted(alloc, text, rows),
     }
 }
@@ -52,11 +52,11 @@ fn checked_converted(alloc: Global, text: &[u8], rows: &[u8]) -> Result<Answer, 
 {
     let octets = convert(alloc, Form::Canonical, text)?;
     let case = Case::read(alloc, &octets)?;
-    decide_by(alloc, &case, rows)
+    decide_by_rows(alloc, &case, rows)
 }
 
 /// Decides a case by the accepted list of a text in any form.
-fn decide_by(alloc: Global, case: &Case, rows: &[u8]) -> Result<Answer, Refusal>
+fn decide_by_rows(alloc: Global, case: &Case, rows: &[u8]) -> Result<Answer, Refusal>
     ensures answered { IfOk result (λ a. DecidesBy (model case.now) rows.now a.verdict (written_by a)) }
     ensures refused { IfErr result (λ refusal. RefusesBy (model case.now) rows.now refusal) }
 {

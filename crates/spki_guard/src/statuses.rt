@@ -1,7 +1,7 @@
 //! How a run ends.
 
 ghost use Rattle.std.specs.Prelude.{◌≡◌};
-ghost use Rattle.spki_guard.specs.Status.{status_of, code_of};
+ghost use Rattle.spki_guard.specs.Status.{answer_status, exit_code};
 
 use crate::answers::Verdict;
 
@@ -23,7 +23,7 @@ pub enum Status {
 impl Status {
     /// The exit status: 0, 1, 2, and 3 for both faults.
     pub fn code(self) -> u8
-        ensures { result ≡ code_of self }
+        ensures { result ≡ exit_code self }
     {
         match self {
             Status::Done => 0,
@@ -35,7 +35,7 @@ impl Status {
 }
 
 impl From<Verdict> for Status {
-    ghost from_gives = { λ verdict status. status ≡ status_of verdict };
+    ghost from_gives = { λ verdict status. status ≡ answer_status verdict };
 
     fn from(verdict: Verdict) -> Status {
         match verdict {

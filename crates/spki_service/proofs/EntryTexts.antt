@@ -7,19 +7,19 @@ use Rattle.std.proofs.lemmas.Option.{none-some}
 use Rattle.sexpr_core.specs.Value.{Value, canon}
 use Rattle.spki_cert.specs.declared.entry.Entry.{Entry}
 use Rattle.spki_cert.specs.Entries.{IsVersion}
-use Rattle.spki_service.specs.Held.{IsEntryText, AreEntries, octets_of}
+use Rattle.spki_service.specs.Held.{IsEntryText, AreEntries, octets_of_texts}
 use Rattle.spki_service.specs.Picked.{HasNumber, ArePicked, AreNumbers}
 
 -- ---- one place
 
-pub entry_there : (texts : List (Vec ℕ Global)) (es : List Entry) (i : ℕ) (d : Vec ℕ Global) → AreEntries (octets_of texts) es
+pub entry_there : (texts : List (Vec ℕ Global)) (es : List Entry) (i : ℕ) (d : Vec ℕ Global) → AreEntries (octets_of_texts texts) es
     → i < length texts → (e : Entry) × (slice_get es i ≡ Some e) × IsEntryText (get_or texts i d).items e
 entry_there [] es i d are below = absurd (omega (arith, below))
 entry_there (t ∷ texts) [] i d are below = absurd are
 entry_there (t ∷ texts) (e ∷ es) zero d are below = (e, refl, are.0)
 entry_there (t ∷ texts) (e ∷ es) (suc i) d are below = entry_there texts es i d are.1 (omega (arith, below))
 
-pub as_many : (texts : List (Vec ℕ Global)) (es : List Entry) → AreEntries (octets_of texts) es → length texts ≡ length es
+pub as_many : (texts : List (Vec ℕ Global)) (es : List Entry) → AreEntries (octets_of_texts texts) es → length texts ≡ length es
 as_many [] [] are = refl
 as_many [] (e ∷ es) are = absurd are
 as_many (t ∷ texts) [] are = absurd are
@@ -35,7 +35,7 @@ take_next (f ∷ es) (suc i) e stands = ap (λ (fs : List Entry). f ∷ fs) (tak
 
 -- ---- all of them
 
-module _ (texts : List (Vec ℕ Global)) (es : List Entry) (are : AreEntries (octets_of texts) es) where
+module _ (texts : List (Vec ℕ Global)) (es : List Entry) (are : AreEntries (octets_of_texts texts) es) where
   pub one_entry : (i : ℕ) (d : Vec ℕ Global) (below : i < length texts) (so_far more : List Entry) (read : Entry) → so_far ≡ take i es
       → ((e : Entry) → IsEntryText (get_or texts i d).items e → read ≡ e) → more ≡ so_far ++ read ∷ [] → more ≡ take (i + 1) es
   one_entry i d below so_far more read before found grown =
@@ -69,7 +69,7 @@ number_at long (n ∷ numbers) zero d are below = are.0
 number_at long (n ∷ numbers) (suc i) d are below = number_at long numbers i d are.1 (omega (arith, below))
 
 pub one_picked : (texts : List (Vec ℕ Global)) (es : List Entry) (numbers : List ℕ) (i : ℕ) (d : Vec ℕ Global) (number : ℕ)
-    → AreEntries (octets_of texts) es → AreNumbers (length texts) numbers → i < length numbers → number ≡ get_or numbers i 0
+    → AreEntries (octets_of_texts texts) es → AreNumbers (length texts) numbers → i < length numbers → number ≡ get_or numbers i 0
     → (so_far more : List Entry) (read : Entry) → ArePicked es (take i numbers) so_far
     → ((e : Entry) → IsEntryText (get_or texts (number - 1) d).items e → read ≡ e) → more ≡ so_far ++ read ∷ []
     → ArePicked es (take (i + 1) numbers) more
@@ -88,21 +88,21 @@ one_picked texts es numbers i d number are within below here so_far more read be
 
 -- ---- behind a version
 
-drop-octets : (all : List (Vec ℕ Global)) → octets_of (drop 1 all) ≡ drop 1 (octets_of all)
+drop-octets : (all : List (Vec ℕ Global)) → octets_of_texts (drop 1 all) ≡ drop 1 (octets_of_texts all)
 drop-octets [] = refl
 drop-octets (t ∷ all) = refl
 
 pub behind : (version entries : List Value) (all last : List (Vec ℕ Global)) (count : ℕ) → IsVersion version → length entries ≡ count
-    → octets_of all ≡ map canon (version ++ entries) → (length all ≡ count → last ≡ all) → (length all ≡ 1 + count → last ≡ drop 1 all)
-    → octets_of last ≡ map canon entries
+    → octets_of_texts all ≡ map canon (version ++ entries) → (length all ≡ count → last ≡ all) → (length all ≡ 1 + count → last ≡ drop 1 all)
+    → octets_of_texts last ≡ map canon entries
 behind [] entries all last count is long texts same fewer =
     let e = ap length texts in
     let a = length-map all (λ (t : Vec ℕ Global). t.items) in
     let b = length-map entries canon in
-    ap octets_of (same (omega (arith, e, a, b, long))) ∙ texts
+    ap octets_of_texts (same (omega (arith, e, a, b, long))) ∙ texts
 behind (v ∷ []) entries all last count is long texts same fewer =
     let e = ap length texts in
     let a = length-map all (λ (t : Vec ℕ Global). t.items) in
     let b = length-map entries canon in
-    ap octets_of (fewer (omega (arith, e, a, b, long))) ∙ drop-octets all ∙ ap (drop 1) texts
+    ap octets_of_texts (fewer (omega (arith, e, a, b, long))) ∙ drop-octets all ∙ ap (drop 1) texts
 behind (v ∷ w ∷ vs) entries all last count is long texts same fewer = absurd is

@@ -8,7 +8,7 @@ use Rattle.spki_cert.specs.declared.principal.Principal.{Principal}
 use Rattle.spki_cert.specs.declared.principal.Principal.TheVariants.{Key, Hash}
 use Rattle.spki_cert.specs.declared.entry.Entry.{Entry}
 use Rattle.spki_cert.specs.Naming.{names, admits, digest_of}
-use Rattle.spki_service.specs.declared.index.Index.{Index}
+use Rattle.spki_service.specs.declared.index.EntryIndex.{EntryIndex}
 use Rattle.spki_service.specs.Kept.{numbers_from}
 use Rattle.spki_service.specs.Merged.{merge}
 use Rattle.spki_service.specs.Indexed.{is_key, is_hash, numbers_at, numbers_of_key, by_algorithm, IsIndexOf}
@@ -68,10 +68,10 @@ module _ (policy : Policy) (key : List ℕ) where
 
   -- ---- what is looked up
 
-  abbrev pub admitted_at : Index → HashAlg → List ℕ
+  abbrev pub admitted_at : EntryIndex → HashAlg → List ℕ
   admitted_at index alg = cond (admits policy alg) (numbers_at (by_algorithm index alg) (digest_of alg key)) []
 
-  hash_at : (alg : HashAlg) (es : List Entry) (index : Index) → IsIndexOf es index → admitted_at index alg ≡ hash_numbers alg es
+  hash_at : (alg : HashAlg) (es : List Entry) (index : EntryIndex) → IsIndexOf es index → admitted_at index alg ≡ hash_numbers alg es
   hash_at alg es index i = by (admits policy alg)
     where
       by : (b : Bool) → cond b (numbers_at (by_algorithm index alg) (digest_of alg key)) []
@@ -79,7 +79,7 @@ module _ (policy : Policy) (key : List ℕ) where
       by true = i.hashes alg (digest_of alg key)
       by false = sym (numbers_none 1 es)
 
-  pub found_all : (es : List Entry) (index : Index) → IsIndexOf es index
+  pub found_all : (es : List Entry) (index : EntryIndex) → IsIndexOf es index
       → merge (merge (merge (numbers_of_key index key) (admitted_at index Sha1)) (admitted_at index Sha256)) (admitted_at index Sha512)
       ≡ numbers_from 1 (λ e. names policy e.subject.principal key) es
   found_all es index i =

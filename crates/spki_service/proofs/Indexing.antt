@@ -8,7 +8,7 @@ use Rattle.std.proofs.lemmas.List.{reverse-reverse}
 use Rattle.spki_cert.specs.declared.hash.HashAlg.{HashAlg}
 use Rattle.spki_cert.specs.declared.entry.Entry.{Entry}
 use Rattle.spki_case.specs.ByDigest.{at_digest}
-use Rattle.spki_service.specs.declared.index.Index.{Index}
+use Rattle.spki_service.specs.declared.index.EntryIndex.{EntryIndex}
 use Rattle.spki_service.specs.Kept.{numbers_from}
 use Rattle.spki_service.specs.Indexed.{NumberMap, is_key, is_hash, numbers_at, numbers_of_key, by_algorithm, IsIndexOf}
 use Rattle.spki_service.proofs.Numbering.{numbers_more}
@@ -19,7 +19,7 @@ module _ (es : List Entry) (e : Entry) (number : ℕ) (counted : 1 + length es �
   more_at p old new stood added =
       added ∙ ap (λ l. cond (p e) (l ++ number ∷ []) l) stood ∙ sym (numbers_more p es e number counted)
 
-  pub index_more : (old new : Index) → IsIndexOf es old
+  pub index_more : (old new : EntryIndex) → IsIndexOf es old
       → ((octets : List ℕ) → numbers_of_key new octets
       ≡ cond (is_key octets e.subject.principal) (numbers_of_key old octets ++ number ∷ []) (numbers_of_key old octets))
       → ((alg : HashAlg) (digest : List ℕ) → numbers_at (by_algorithm new alg) digest

@@ -5,7 +5,7 @@ use Rattle.std.proofs.lemmas.Option.{slice_get-get_or, slice_get_within}
 use Rattle.spki_decision.specs.declared.signed.Signed as examined
 use Rattle.spki_decision.specs.Views.{signed_of}
 use Rattle.spki_decision.specs.Asked.{Signed, IsAccepted}
-use Rattle.spki_service.specs.Asking.{IsMarked}
+use Rattle.spki_service.specs.Asking.{MarksAccept}
 use Rattle.spki_service.specs.Marks.{AskSame, NoneMarked}
 
 module _ (signed : List examined.Signed) (marks : List Bool) where
@@ -17,7 +17,7 @@ module _ (signed : List examined.Signed) (marks : List Bool) where
 
   -- a true mark is for the signature at its place, and for each that asks for the same
   pub marked_at : (place : ℕ) (other : examined.Signed) (one : Signed) → place < length signed → other ≡ get_or signed place other
-      → slice_get marks place ≡ Some true → AskSame (signed_of other) one → IsAccepted (IsMarked (map signed_of signed) marks) one
+      → slice_get marks place ≡ Some true → AskSame (signed_of other) one → IsAccepted (MarksAccept (map signed_of signed) marks) one
   marked_at place other one below here mark same = (
     place,
     other.item,
@@ -31,7 +31,7 @@ module _ (signed : List examined.Signed) (marks : List Bool) where
   )
 
   pub marked_here : (place : ℕ) (one : examined.Signed) → place < length signed → one ≡ get_or signed place one
-      → slice_get marks place ≡ Some true → IsAccepted (IsMarked (map signed_of signed) marks) (signed_of one)
+      → slice_get marks place ≡ Some true → IsAccepted (MarksAccept (map signed_of signed) marks) (signed_of one)
   marked_here place one below here mark = marked_at place one (signed_of one) below here mark (refl, refl, refl)
 
   -- one place more without a mark for a signature
@@ -51,7 +51,7 @@ module _ (signed : List examined.Signed) (marks : List Bool) where
       λ k s less. all k less s
 
   pub not_marked : (one : Signed) (bound : ℕ) → length signed ≤ bound → NoneMarked (map signed_of signed) marks one bound
-      → IsAccepted (IsMarked (map signed_of signed) marks) one → ⊥
+      → IsAccepted (MarksAccept (map signed_of signed) marks) one → ⊥
   not_marked one bound long none accepted =
       let within = slice_get_within (map signed_of signed) accepted.0 _ accepted.3 in
       let same = length-map signed signed_of in

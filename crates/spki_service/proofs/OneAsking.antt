@@ -26,7 +26,7 @@ use Rattle.spki_service.specs.declared.question.Part.TheVariants as parts
 use Rattle.spki_service.specs.declared.question.AskFault.{AskFault}
 use Rattle.spki_service.specs.declared.question.AskFault.TheVariants as faults
 use Rattle.spki_service.specs.Form.{RefusesForm, Reads, LacksForm}
-use Rattle.spki_service.specs.Questions.{IsWanted, RefusesWanted, IsAskedAt, IsAsked, IsNoSequence, IsNoKey, IsNoRequest, IsNoDate, ReadsSequence, ReadsKey, ReadsRequest, ReadsBefore, LacksFormOfMoment, LacksFormAt, IsAskedAtNone, IsNotAsked}
+use Rattle.spki_service.specs.Questions.{IsWanted, RefusesWanted, IsAskedAt, IsAskedCase, IsNoSequenceFor, IsNoKeyFor, IsNoRequestFor, IsNoDateFor, ReadsSequence, ReadsKey, ReadsRequest, ReadsBefore, LacksFormOfMoment, LacksFormAt, IsAskedAtNone, IsNotAsked}
 use Rattle.spki_service.proofs.DateLaws.{no_date, one_date}
 
 -- ---- texts
@@ -106,9 +106,9 @@ ReadsPart q parts.Moment = (date : List ℕ) × IsAskedAt q.moment date
 
 -- a fault of the value of a part, or of its seconds
 abbrev LacksValue : Question → Part → AskFault → Type 0
-LacksValue q parts.Sequence fault = (inner : CertFault) × (fault ≡ faults.Sequence inner) × Reads (IsTextWithin q.sequence.now) (IsNoSequence inner)
-LacksValue q parts.Key fault = (kind : CertFaultKind) × (fault ≡ faults.Key kind) × Reads (IsTextWithin q.key.now) (IsNoKey kind)
-LacksValue q parts.Request fault = (inner : TagFault) × (fault ≡ faults.Request inner) × Reads (IsWanted q.request) (IsNoRequest inner)
+LacksValue q parts.Sequence fault = (inner : CertFault) × (fault ≡ faults.Sequence inner) × Reads (IsTextWithin q.sequence.now) (IsNoSequenceFor inner)
+LacksValue q parts.Key fault = (kind : CertFaultKind) × (fault ≡ faults.Key kind) × Reads (IsTextWithin q.key.now) (IsNoKeyFor kind)
+LacksValue q parts.Request fault = (inner : TagFault) × (fault ≡ faults.Request inner) × Reads (IsWanted q.request) (IsNoRequestFor inner)
 LacksValue q parts.Moment fault = (kind : CertFaultKind) × (fault ≡ faults.Moment kind) × IsAskedAtNone q.moment kind
 
 -- a fault of a part
@@ -122,7 +122,7 @@ moment_form_unread (moments.Seconds seconds) form date lacks a = lacks
 
 moment_none : (m : instant.Instant) (kind : CertFaultKind) (date : List ℕ) → IsAskedAtNone m kind → ¬ IsAskedAt m date
 moment_none (moments.Text text) kind date n a =
-    let b = both (IsTextWithin text.now) (text_one text.now) (IsNoDate kind) (λ v. DateOf v date) n a in
+    let b = both (IsTextWithin text.now) (text_one text.now) (IsNoDateFor kind) (λ v. DateOf v date) n a in
     b.one.none date b.other
 moment_none (moments.Seconds seconds) kind date n a = no_date seconds date n.1 a
 
@@ -137,13 +137,13 @@ form_unread_at q parts.Moment form lacks (date, a) = moment_form_unread q.moment
 
 value_unread : (q : Question) (part : Part) (fault : AskFault) → LacksValue q part fault → ¬ ReadsPart q part
 value_unread q parts.Sequence fault (inner, is, n) (items, a) =
-    let b = both (IsTextWithin q.sequence.now) (text_one q.sequence.now) (IsNoSequence inner) (λ v. SeqOf v items) n a in
+    let b = both (IsTextWithin q.sequence.now) (text_one q.sequence.now) (IsNoSequenceFor inner) (λ v. SeqOf v items) n a in
     b.one.none items b.other
 value_unread q parts.Key fault (kind, is, n) (key, a) =
-    let b = both (IsTextWithin q.key.now) (text_one q.key.now) (IsNoKey kind) (λ v. KeyOf v key) n a in
+    let b = both (IsTextWithin q.key.now) (text_one q.key.now) (IsNoKeyFor kind) (λ v. KeyOf v key) n a in
     b.one.none key b.other
 value_unread q parts.Request fault (inner, is, n) (g, a) =
-    let b = both (IsWanted q.request) (wanted_one q.request) (IsNoRequest inner) (λ v. RequestOf v g) n a in
+    let b = both (IsWanted q.request) (wanted_one q.request) (IsNoRequestFor inner) (λ v. RequestOf v g) n a in
     b.one.none g b.other
 value_unread q parts.Moment fault (kind, is, n) (date, a) = moment_none q.moment kind date n a
 
@@ -176,29 +176,29 @@ kind_one (moments.Seconds seconds) k l a b = a.0 ∙ sym b.0
 
 value_one : (q : Question) (part : Part) (f g : AskFault) → LacksValue q part f → LacksValue q part g → f ≡ g
 value_one q parts.Sequence f g (x, is, m) (y, at, n) =
-    let b = both (IsTextWithin q.sequence.now) (text_one q.sequence.now) (IsNoSequence x) (IsNoSequence y) m n in
+    let b = both (IsTextWithin q.sequence.now) (text_one q.sequence.now) (IsNoSequenceFor x) (IsNoSequenceFor y) m n in
     is ∙ ap faults.Sequence (some-one b.one.named b.other.named) ∙ sym at
 value_one q parts.Key f g (x, is, m) (y, at, n) =
-    let b = both (IsTextWithin q.key.now) (text_one q.key.now) (IsNoKey x) (IsNoKey y) m n in
+    let b = both (IsTextWithin q.key.now) (text_one q.key.now) (IsNoKeyFor x) (IsNoKeyFor y) m n in
     is ∙ ap faults.Key (some-one b.one.named b.other.named) ∙ sym at
 value_one q parts.Request f g (x, is, m) (y, at, n) =
-    let b = both (IsWanted q.request) (wanted_one q.request) (IsNoRequest x) (IsNoRequest y) m n in
+    let b = both (IsWanted q.request) (wanted_one q.request) (IsNoRequestFor x) (IsNoRequestFor y) m n in
     is ∙ ap faults.Request (some-one b.one.named b.other.named) ∙ sym at
 value_one q parts.Moment f g (x, is, m) (y, at, n) = is ∙ ap faults.Moment (kind_one q.moment x y m n) ∙ sym at
 
 -- a part that lacks a form means no value, and so none that is refused
 form_no_value_of_moment : (m : instant.Instant) (form : FormFault) (kind : CertFaultKind) → LacksFormOfMoment m form → ¬ IsAskedAtNone m kind
 form_no_value_of_moment (moments.Text text) form kind lacks n =
-    form_unread (IsTextWithin text.now) (RefusesForm text.now) (text_one text.now) (λ fault v r. r.none v) (IsNoDate kind) form lacks n
+    form_unread (IsTextWithin text.now) (RefusesForm text.now) (text_one text.now) (λ fault v r. r.none v) (IsNoDateFor kind) form lacks n
 form_no_value_of_moment (moments.Seconds seconds) form kind lacks n = lacks
 
 form_no_value : (q : Question) (part : Part) (form : FormFault) (fault : AskFault) → LacksFormAt q part form → ¬ LacksValue q part fault
 form_no_value q parts.Sequence form fault lacks (x, is, n) =
-    form_unread (IsTextWithin q.sequence.now) (RefusesForm q.sequence.now) (text_one q.sequence.now) (λ fault v r. r.none v) (IsNoSequence x) form lacks n
+    form_unread (IsTextWithin q.sequence.now) (RefusesForm q.sequence.now) (text_one q.sequence.now) (λ fault v r. r.none v) (IsNoSequenceFor x) form lacks n
 form_no_value q parts.Key form fault lacks (x, is, n) =
-    form_unread (IsTextWithin q.key.now) (RefusesForm q.key.now) (text_one q.key.now) (λ fault v r. r.none v) (IsNoKey x) form lacks n
+    form_unread (IsTextWithin q.key.now) (RefusesForm q.key.now) (text_one q.key.now) (λ fault v r. r.none v) (IsNoKeyFor x) form lacks n
 form_no_value q parts.Request form fault lacks (x, is, n) =
-    form_unread (IsWanted q.request) (RefusesWanted q.request) (wanted_one q.request) (wanted_none q.request) (IsNoRequest x) form lacks n
+    form_unread (IsWanted q.request) (RefusesWanted q.request) (wanted_one q.request) (wanted_none q.request) (IsNoRequestFor x) form lacks n
 form_no_value q parts.Moment form fault lacks (x, is, n) = form_no_value_of_moment q.moment form x lacks n
 
 part_one : (q : Question) (part : Part) (f g : AskFault) → LacksPart q part f → LacksPart q part g → f ≡ g
@@ -251,13 +251,13 @@ fault-one q f g m n =
 
 -- ---- one case
 
-part_read : (q : Question) (c : Case) → IsAsked q c → (part : Part) → ReadsPart q part
+part_read : (q : Question) (c : Case) → IsAskedCase q c → (part : Part) → ReadsPart q part
 part_read q c a parts.Sequence = (c.items, a.sequence)
 part_read q c a parts.Key = (c.key, a.key)
 part_read q c a parts.Request = (c.request, a.request)
 part_read q c a parts.Moment = (c.moment, a.moment)
 
-pub unrefused : (q : Question) (c : Case) (fault : AskFault) → IsAsked q c → ¬ IsNotAsked q fault
+pub unrefused : (q : Question) (c : Case) (fault : AskFault) → IsAskedCase q c → ¬ IsNotAsked q fault
 unrefused q c fault a n = let f = first_of q fault n in unread q f.part fault f.lacks (part_read q c a f.part)
 
 asked_at_one : (m : instant.Instant) (s t : List ℕ) → IsAskedAt m s → IsAskedAt m t → s ≡ t
@@ -266,7 +266,7 @@ asked_at_one (moments.Text text) s t a b =
     date-one two.value s t two.one two.other
 asked_at_one (moments.Seconds seconds) s t a b = one_date seconds s t a b
 
-pub case-one : (q : Question) (c d : Case) → IsAsked q c → IsAsked q d → c.policy ≡ d.policy
+pub case-one : (q : Question) (c d : Case) → IsAskedCase q c → IsAskedCase q d → c.policy ≡ d.policy
     → c.most_nodes ≡ d.most_nodes → c ≡ d
 case-one q c d a b policy most_nodes =
     let sequences =

@@ -12,7 +12,7 @@ use Rattle.spki_service.specs.declared.list_fault.AclFault.{AclFault}
 use Rattle.spki_service.specs.declared.list_fault.AclFault.TheVariants as faults
 use Rattle.spki_service.specs.Form.{RefusesForm, Reads, LacksForm}
 use Rattle.spki_service.specs.Held.{HoldsList}
-use Rattle.spki_service.specs.Lists.{IsNoAcl, IsNoList}
+use Rattle.spki_service.specs.Lists.{IsNoAcl, IsNoAccessList}
 use Rattle.spki_service.proofs.OneAsking.{text_one, refuses_one, both, form_unread, form_one, some-one}
 
 -- ---- one list
@@ -37,7 +37,7 @@ module _ (text : List ℕ) where
   unread : (P : Value → Type 0) (fault : FormFault) → LacksForm (IsTextWithin text) (RefusesForm text) fault → ¬ Reads (IsTextWithin text) P
   unread P fault lacks a = form_unread (IsTextWithin text) (RefusesForm text) (text_one text) (λ fault v r. r.none v) P fault lacks a
 
-  pub list_fault-one : (f g : AclFault) → IsNoList text f → IsNoList text g → f ≡ g
+  pub list_fault-one : (f g : AclFault) → IsNoAccessList text f → IsNoAccessList text g → f ≡ g
   list_fault-one (faults.Form e) (faults.Form f) m n =
       ap faults.Form
       (form_one (IsTextWithin text) (RefusesForm text) (text_one text) (λ fault v r. r.none v) (refuses_one text) e f m n)
@@ -52,7 +52,7 @@ module _ (text : List ℕ) where
 
   -- ---- never both
 
-  pub list_unrefused : (texts : List (List ℕ)) (fault : AclFault) → HoldsList text texts → ¬ IsNoList text fault
+  pub list_unrefused : (texts : List (List ℕ)) (fault : AclFault) → HoldsList text texts → ¬ IsNoAccessList text fault
   list_unrefused texts (faults.Form fault) m lacks =
       let read : Reads (IsTextWithin text) (λ v. AclOf v m.holds.entries) =
       record { value = m.value; meant = m.spelled; short = m.short; is = m.holds.is } in

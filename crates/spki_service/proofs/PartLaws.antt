@@ -29,7 +29,7 @@ use Rattle.spki_service.specs.declared.texts.MomentText.{MomentText}
 use Rattle.spki_service.specs.declared.texts.MomentText.TheVariants as of_moment
 use Rattle.spki_service.specs.declared.texts.Texts.{Texts}
 use Rattle.spki_service.specs.Form.{RefusesForm, Reads, LacksForm}
-use Rattle.spki_service.specs.Questions.{RefusesWanted, IsAskedAt, IsAsked, ReadsSequence, ReadsKey, ReadsRequest, LacksFormOfMoment, IsAskedAtNone, IsNotAsked}
+use Rattle.spki_service.specs.Questions.{RefusesWanted, IsAskedAt, IsAskedCase, ReadsSequence, ReadsKey, ReadsRequest, LacksFormOfMoment, IsAskedAtNone, IsNotAsked}
 use Rattle.spki_service.specs.Texts.{IsReadAs, IsMomentText, IsTextsOf, OfText, IsInstant, NamesForm, NamesPart, NamesSequence, NamesKey, NamesRequest, NamesMoment, NamesInstant}
 
 -- ---- texts that are canonical
@@ -115,7 +115,7 @@ moment_named (moments.Seconds seconds) of_moment.Dateless fault r h = inr (kinds
 module _ (q : Question) (texts : Texts) (t : IsTextsOf q texts) where
   pub asked_case : (c : Case) → c.entries ≡ [] → c.rows ≡ [] → OfText texts.sequence (λ v. SeqOf v c.items)
       → OfText texts.key (λ v. KeyOf v c.key) → OfText texts.request (λ v. RequestOf v c.request) → IsInstant texts.moment c.moment
-      → IsAsked q c
+      → IsAskedCase q c
   asked_case c entries rows sequence key request moment = record {
     entries = entries;
     rows = rows;

@@ -11,8 +11,8 @@ use Rattle.spki_cert.specs.Entries.{EntryOf, AclOf}
 use Rattle.spki_case.specs.Texts.{IsOuter}
 use Rattle.spki_service.specs.declared.list_fault.AclFault.{AclFault}
 use Rattle.spki_service.specs.declared.list_fault.AclFault.TheVariants as faults
-use Rattle.spki_service.specs.Held.{Held, AreEntries, HoldsValue, HoldsList, octets_of}
-use Rattle.spki_service.specs.Lists.{IsNoAcl, IsNoList, ListRefused}
+use Rattle.spki_service.specs.Held.{Held, AreEntries, HoldsValue, HoldsList, octets_of_texts}
+use Rattle.spki_service.specs.Lists.{IsNoAcl, IsNoAccessList, ListRefused}
 use Rattle.spki_service.proofs.Picking.{held}
 
 -- a fault other than of memory is named
@@ -24,12 +24,12 @@ named_fault v fault outer (inl memory) refused found = absurd (found memory.1)
 named_fault v fault outer (inr named) refused found = (fault, named.1, refused named.0)
 
 -- the texts of the entries that are read are held
-pub texts_held : (v : Value) (es : List Entry) (texts : List (Vec ℕ Global)) (a : AclOf v es) → octets_of texts ≡ map canon a.entries
-    → AreEntries (octets_of texts) es
+pub texts_held : (v : Value) (es : List Entry) (texts : List (Vec ℕ Global)) (a : AclOf v es) → octets_of_texts texts ≡ map canon a.entries
+    → AreEntries (octets_of_texts texts) es
 texts_held v es texts a same = subst (λ xs. AreEntries xs es) (sym same) (held a.entries es a.each)
 
-pub value_held : (v : Value) (es : List Entry) (texts : List (Vec ℕ Global)) (a : AclOf v es) → octets_of texts ≡ map canon a.entries
-    → HoldsValue v (octets_of texts)
+pub value_held : (v : Value) (es : List Entry) (texts : List (Vec ℕ Global)) (a : AclOf v es) → octets_of_texts texts ≡ map canon a.entries
+    → HoldsValue v (octets_of_texts texts)
 value_held v es texts a same = record { entries = es; is = a; texts_are = same; held = texts_held v es texts a same }
 
 pub many : (v : Value) (es : List Entry) (a : AclOf v es) → length a.entries ≡ length es
@@ -69,10 +69,10 @@ module _ (text : List ℕ) (v w : Value) (same : w ≡ v) (meant : IsTextWithin 
 
   pub list_refused_text : (r : Result Held AclFault) → length (canon v) ≤ 1048576
       → IfErr r (λ fault. fault ≢ faults.Memory → (inner : CertFault) × (fault ≡ faults.Acl inner) × IsNoAcl inner w)
-      → IfErr r (λ fault. fault ≢ faults.Memory → IsNoList text fault)
+      → IfErr r (λ fault. fault ≢ faults.Memory → IsNoAccessList text fault)
   list_refused_text (Ok g) short h = tt
   list_refused_text (Err fault) short h =
       λ found.
       let x = h found in
-      subst (λ (f : AclFault). IsNoList text f) (sym x.1)
+      subst (λ (f : AclFault). IsNoAccessList text f) (sym x.1)
       (record { value = v; meant = meant; short = short; is = subst (λ (u : Value). IsNoAcl x.0 u) same x.2 })

@@ -26,7 +26,7 @@ Answers IsAnswer a (Err TooLarge) = OfCase a (λ c. IsAnswer c (Err TooLarge))
 Answers IsAnswer a (Err Memory) = Unit {0}
 
 -- What marks accept: the signatures that are listed at a place with a true mark.
-abbrev pub IsMarked : List Signed → List Bool → Verified
-IsMarked signed marks key message value =
+abbrev pub MarksAccept : List Signed → List Bool → Verified
+MarksAccept signed marks key message value =
     (place : ℕ) × (item : ℕ) × (slice_get marks place ≡ Some true)
     × (slice_get signed place ≡ Some (record { item = item; key = key; message = message; value = value }))

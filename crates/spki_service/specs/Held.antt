@@ -43,5 +43,5 @@ pub record HoldsList (list : List ℕ) (texts : List (List ℕ)) : Type 0 where
   pub holds : HoldsValue value texts
 
 -- the octets of some texts
-abbrev pub octets_of : List (Vec ℕ Global) → List (List ℕ)
-octets_of texts = map (λ text. text.items) texts
+abbrev pub octets_of_texts : List (Vec ℕ Global) → List (List ℕ)
+octets_of_texts texts = map (λ text. text.items) texts

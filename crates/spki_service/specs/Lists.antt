@@ -26,7 +26,7 @@ ListRefused v (faults.Acl fault) = (length (canon v) ≤ 1048576) × IsNoAcl fau
 ListRefused v faults.Memory = ⊥
 
 -- What a fault means for a text in any of the three forms, except for Memory.
-abbrev pub IsNoList : List ℕ → AclFault → Type 0
-IsNoList list (faults.Form fault) = LacksForm (IsTextWithin list) (RefusesForm list) fault
-IsNoList list (faults.Acl fault) = Reads (IsTextWithin list) (IsNoAcl fault)
-IsNoList list faults.Memory = ⊥
+abbrev pub IsNoAccessList : List ℕ → AclFault → Type 0
+IsNoAccessList list (faults.Form fault) = LacksForm (IsTextWithin list) (RefusesForm list) fault
+IsNoAccessList list (faults.Acl fault) = Reads (IsTextWithin list) (IsNoAcl fault)
+IsNoAccessList list faults.Memory = ⊥

@@ -60,7 +60,7 @@ IsAskedAt (moments.Seconds seconds) date = IsDateAt seconds date
 
 -- The case of a question: each of its parts is read from the part of the question with that name. It has no entries and no
 -- rows.
-pub record IsAsked (q : Question) (c : Case) : Type 0 where
+pub record IsAskedCase (q : Question) (c : Case) : Type 0 where
   pub entries : c.entries ≡ []
   pub rows : c.rows ≡ []
   pub sequence : Reads (IsTextWithin q.sequence.now) (λ v. SeqOf v c.items)
@@ -71,28 +71,28 @@ pub record IsAsked (q : Question) (c : Case) : Type 0 where
 -- ---- refusals of a value
 
 -- The value is no sequence. The fault names one of its items, or the whole sequence, and is the first one from the left.
-pub record IsNoSequence (fault : CertFault) (v : Value) : Type 0 where
+pub record IsNoSequenceFor (fault : CertFault) (v : Value) : Type 0 where
   pub found : fault.kind ≢ kinds.Memory
   pub refused : SeqRefused v fault
   pub named : sequence_fault v ≡ Some fault
   pub none : (items : List SeqItem) → ¬ SeqOf v items
 
 -- The value is no key, and the fault is its first fault.
-pub record IsNoKey (kind : CertFaultKind) (v : Value) : Type 0 where
+pub record IsNoKeyFor (kind : CertFaultKind) (v : Value) : Type 0 where
   pub found : kind ≢ kinds.Memory
   pub shows : Shows kind v
   pub named : key_fault v ≡ Some kind
   pub none : (key : List ℕ) → ¬ KeyOf v key
 
 -- The value is no request, and the fault is its first fault.
-pub record IsNoRequest (fault : TagFault) (v : Value) : Type 0 where
+pub record IsNoRequestFor (fault : TagFault) (v : Value) : Type 0 where
   pub found : fault ≢ tag_faults.Memory
   pub shows : RequestShows fault v
   pub named : request_fault v ≡ Some fault
   pub none : (g : Request) → ¬ RequestOf v g
 
 -- The value is no date.
-pub record IsNoDate (kind : CertFaultKind) (v : Value) : Type 0 where
+pub record IsNoDateFor (kind : CertFaultKind) (v : Value) : Type 0 where
   pub named : kind ≡ kinds.BadDate
   pub none : (date : List ℕ) → ¬ DateOf v date
 
@@ -129,7 +129,7 @@ LacksFormAt q parts.Moment fault = LacksFormOfMoment q.moment fault
 
 -- the moment is no date
 abbrev pub IsAskedAtNone : instant.Instant → CertFaultKind → Type 0
-IsAskedAtNone (moments.Text text) kind = Reads (IsTextWithin text.now) (IsNoDate kind)
+IsAskedAtNone (moments.Text text) kind = Reads (IsTextWithin text.now) (IsNoDateFor kind)
 IsAskedAtNone (moments.Seconds seconds) kind = (kind ≡ kinds.BadDate) × IsAtNoDate seconds
 
 -- What a fault means for a question, except for Memory and TooLong: the part that it names cannot be read, and those before
@@ -137,9 +137,9 @@ IsAskedAtNone (moments.Seconds seconds) kind = (kind ≡ kinds.BadDate) × IsAtN
 abbrev pub IsNotAsked : Question → AskFault → Type 0
 IsNotAsked q faults.TooLong = ⊥
 IsNotAsked q (faults.Form part fault) = ReadsBefore q part × LacksFormAt q part fault
-IsNotAsked q (faults.Sequence fault) = Reads (IsTextWithin q.sequence.now) (IsNoSequence fault)
-IsNotAsked q (faults.Key kind) = ReadsBefore q parts.Key × Reads (IsTextWithin q.key.now) (IsNoKey kind)
-IsNotAsked q (faults.Request fault) = ReadsBefore q parts.Request × Reads (IsWanted q.request) (IsNoRequest fault)
+IsNotAsked q (faults.Sequence fault) = Reads (IsTextWithin q.sequence.now) (IsNoSequenceFor fault)
+IsNotAsked q (faults.Key kind) = ReadsBefore q parts.Key × Reads (IsTextWithin q.key.now) (IsNoKeyFor kind)
+IsNotAsked q (faults.Request fault) = ReadsBefore q parts.Request × Reads (IsWanted q.request) (IsNoRequestFor fault)
 IsNotAsked q (faults.Moment kind) = ReadsBefore q parts.Moment × IsAskedAtNone q.moment kind
 IsNotAsked q faults.Memory = ⊥
 

@@ -22,7 +22,7 @@ use Rattle.spki_service.specs.declared.texts.MomentText.TheVariants as of_moment
 use Rattle.spki_service.specs.declared.texts.Texts.{Texts}
 use Rattle.spki_service.specs.Form.{RefusesForm, LacksForm}
 use Rattle.spki_service.specs.Moment.{IsDateAt, IsAtNoDate}
-use Rattle.spki_service.specs.Questions.{IsWanted, RefusesWanted, IsNoSequence, IsNoKey, IsNoRequest, IsNoDate}
+use Rattle.spki_service.specs.Questions.{IsWanted, RefusesWanted, IsNoSequenceFor, IsNoKeyFor, IsNoRequestFor, IsNoDateFor}
 
 -- the text is the canonical text of a value of the part; or the part has none, and this is the fault of its form
 abbrev pub IsReadAs : (means : Value → Type 0) → (refuses : FormFault → Type 0) → PartText → Type 0
@@ -76,22 +76,22 @@ pub record NamesForm (part : Part) (text : PartText) (fault : AskFault) : Type 0
 pub record NamesSequence (fault : AskFault) (v : Value) : Type 0 where
   pub inner : CertFault
   pub named : fault ≡ faults.Sequence inner
-  pub refused : IsNoSequence inner v
+  pub refused : IsNoSequenceFor inner v
 
 pub record NamesKey (fault : AskFault) (v : Value) : Type 0 where
   pub inner : CertFaultKind
   pub named : fault ≡ faults.Key inner
-  pub refused : IsNoKey inner v
+  pub refused : IsNoKeyFor inner v
 
 pub record NamesRequest (fault : AskFault) (v : Value) : Type 0 where
   pub inner : TagFault
   pub named : fault ≡ faults.Request inner
-  pub refused : IsNoRequest inner v
+  pub refused : IsNoRequestFor inner v
 
 pub record NamesMoment (fault : AskFault) (v : Value) : Type 0 where
   pub inner : CertFaultKind
   pub named : fault ≡ faults.Moment inner
-  pub refused : IsNoDate inner v
+  pub refused : IsNoDateFor inner v
 
 -- What a fault means for the text of a part, except for Memory: it has no value, or its value is refused.
 abbrev pub NamesPart : Part → (AskFault → Value → Type 0) → PartText → AskFault → Type 0

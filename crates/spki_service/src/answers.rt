@@ -11,7 +11,7 @@ ghost use Rattle.spki_decision.specs.Reduced.{EndAtDates};
 ghost use Rattle.spki_decision.specs.LeftOut.{first_key};
 ghost use Rattle.spki_decision.specs.Views.{signed_of, with_entries};
 ghost use Rattle.spki_service.specs.Held.{AreEntries};
-ghost use Rattle.spki_service.specs.Asking.{Answers, IsMarked};
+ghost use Rattle.spki_service.specs.Asking.{Answers, MarksAccept};
 ghost use Rattle.spki_service.specs.Partly.{DecidesPartly};
 
 use crate::asked::Asked;
@@ -60,7 +60,7 @@ impl<'a> Asked<'a> {
     ///
     /// Those of `decide`.
     pub fn decide_by(&self, alloc: Global, verified: &[bool]) -> Result<Decision, GuardFault>
-        ensures { Answers (λ c answer. IsDecided c (IsMarked (asked self.now.case) verified.now) answer) self.now result }
+        ensures { Answers (λ c answer. IsDecided c (MarksAccept (asked self.now.case) verified.now) answer) self.now result }
     {
         match first_unmarked(&self.examined.signed, verified) {
             None => self.decided(alloc),
@@ -123,7 +123,7 @@ impl<'a> Asked<'a> {
     ///
     /// Those of `explain`.
     pub fn explain_by(&self, alloc: Global, verified: &[bool]) -> Result<Explanation, GuardFault>
-        ensures { Answers (λ c answer. IsExplained c (IsMarked (asked self.now.case) verified.now) answer) self.now result }
+        ensures { Answers (λ c answer. IsExplained c (MarksAccept (asked self.now.case) verified.now) answer) self.now result }
     {
         match first_unmarked(&self.examined.signed, verified) {
             None => self.explained(alloc),
@@ -165,7 +165,7 @@ impl<'a> Asked<'a> {
     ///
     /// Those of `explain`.
     pub fn reduce_by(&self, alloc: Global, verified: &[bool]) -> Result<Reduction<'a>, GuardFault>
-        ensures reduced { Answers (λ c answer. IsReduced c (IsMarked (asked self.now.case) verified.now) answer) self.now result }
+        ensures reduced { Answers (λ c answer. IsReduced c (MarksAccept (asked self.now.case) verified.now) answer) self.now result }
         ensures end { IfOk result EndAtDates }
     {
         match first_unmarked(&self.examined.signed, verified) {

@@ -5,7 +5,7 @@ ghost use Rattle.sexpr_core.specs.Value.{Value, canon, group, plain};
 ghost use Rattle.spki_cert.specs.declared.entry.Entry.{Entry};
 ghost use Rattle.spki_decision.specs.declared.fault.GuardFault.{GuardFault};
 ghost use Rattle.spki_cert.specs.Entries.{IsVersion};
-ghost use Rattle.spki_service.specs.Held.{IsEntryText, AreEntries, octets_of};
+ghost use Rattle.spki_service.specs.Held.{IsEntryText, AreEntries, octets_of_texts};
 ghost use Rattle.spki_service.specs.Picked.{AreNumbers, ArePicked};
 
 use sexpr_core::Doc;
@@ -22,7 +22,7 @@ pub(crate) fn entry_texts(
 ) -> Result<Vec<Vec<u8>>, AllocError>
     ensures { (version entries : List Value) → IsVersion version
         → list.now ≡ group (plain (codes "acl") ∷ (version ++ entries)) → length entries ≡ count
-        → IfOk result (λ texts. octets_of texts.items ≡ map canon entries) }
+        → IfOk result (λ texts. octets_of_texts texts.items ≡ map canon entries) }
 {
     let Some(members) = list.headed(b"acl") else {
         return Ok(Vec::new(alloc));
@@ -44,7 +44,7 @@ fn last(texts: Vec<Vec<u8>>, count: usize) -> Vec<Vec<u8>>
 
 /// Returns the canonical texts of the members of a list.
 fn member_texts(alloc: Global, members: Members<'_, '_>) -> Result<Vec<Vec<u8>>, AllocError>
-    ensures { IfOk result (λ texts. octets_of texts.items ≡ map canon members.entry) }
+    ensures { IfOk result (λ texts. octets_of_texts texts.items ≡ map canon members.entry) }
 {
     let mut rest = members;
     let mut texts = Vec::new(alloc);
@@ -85,7 +85,7 @@ pub(crate) fn entries_at<'a>(
     numbers: &[usize],
 ) -> Result<Vec<Entry<'a>>, GuardFault>
     requires { AreNumbers (length texts.now) numbers.now }
-    ensures picked { (es : List Entry) → AreEntries (octets_of texts.entry.now) es
+    ensures picked { (es : List Entry) → AreEntries (octets_of_texts texts.entry.now) es
         → IfOk result (λ picked. ArePicked es numbers.now picked.items) }
     ensures refused { IfErr result (λ fault. fault ≡ GuardFault.Memory) }
 {
@@ -105,7 +105,7 @@ pub(crate) fn all_entries<'a>(
     alloc: Global,
     texts: &'a [Vec<u8>],
 ) -> Result<Vec<Entry<'a>>, GuardFault>
-    ensures all { (es : List Entry) → AreEntries (octets_of texts.entry.now) es → IfOk result (λ all. all.items ≡ es) }
+    ensures all { (es : List Entry) → AreEntries (octets_of_texts texts.entry.now) es → IfOk result (λ all. all.items ≡ es) }
     ensures refused { IfErr result (λ fault. fault ≡ GuardFault.Memory) }
 {
     let mut all = Vec::new(alloc);

@@ -7,15 +7,15 @@ ghost use Rattle.spki_cert.specs.declared.entry.Entry.{Entry};
 ghost use Rattle.spki_case.specs.Texts.{IsOuter};
 ghost use Rattle.spki_service.specs.Held.{AreEntries, HoldsList, HoldsValue};
 ghost use Rattle.spki_service.specs.Kept.{numbers_from};
-ghost use Rattle.spki_service.specs.Lists.{IsNoList, IsNoAcl, ListRefused};
+ghost use Rattle.spki_service.specs.Lists.{IsNoAccessList, IsNoAcl, ListRefused};
 ghost use Rattle.spki_service.specs.Partly.{is_of};
-ghost use Rattle.spki_service.specs.Questions.{IsAsked, IsNotAsked, asked_octets};
+ghost use Rattle.spki_service.specs.Questions.{IsAskedCase, IsNotAsked, asked_octets};
 ghost use Rattle.spki_service.specs.Texts.{IsTextsOf};
 ghost use Rattle.spki_service.specs.declared.question.Question.{Question};
 
 use crate::asked::Asked;
 use crate::entry_texts::entry_texts;
-use crate::index::Index;
+use crate::index::EntryIndex;
 use crate::limits::Limits;
 use crate::list_fault::AclFault;
 use crate::parts::case_of;
@@ -36,7 +36,7 @@ use std::marker::Model;
 #[derive(Drop)]
 pub struct Guard {
     pub(crate) texts: Vec<Vec<u8>>,
-    index: Index,
+    index: EntryIndex,
     policy: Policy,
     limits: Limits,
 }
@@ -44,19 +44,19 @@ pub struct Guard {
 impl Model for Guard {
     ghost use Rattle.std.specs.Prelude.{List};
     ghost use Rattle.spki_cert.specs.declared.entry.Entry.{Entry};
-    ghost use Rattle.spki_service.specs.Held.{Held, AreEntries, octets_of};
+    ghost use Rattle.spki_service.specs.Held.{Held, AreEntries, octets_of_texts};
     ghost use Rattle.spki_service.specs.Indexed.{IsIndexOf};
 
     ghost Value = { Held };
 
     ghost view = { λ g. record {
-      texts = octets_of g.texts.items;
+      texts = octets_of_texts g.texts.items;
       policy = g.policy;
       octets = g.limits.octets;
       nodes = g.limits.nodes;
     } };
 
-    ghost invariant = { λ g. (es : List Entry) × AreEntries (octets_of g.texts.items) es × IsIndexOf es g.index };
+    ghost invariant = { λ g. (es : List Entry) × AreEntries (octets_of_texts g.texts.items) es × IsIndexOf es g.index };
 }
 
 impl Guard {
@@ -78,7 +78,7 @@ impl Guard {
         ensures policy { IfOk result (λ g. g.policy ≡ policy) }
         ensures octets { IfOk result (λ g. g.octets ≡ limits.octets) }
         ensures nodes { IfOk result (λ g. g.nodes ≡ limits.nodes) }
-        ensures refused { IfErr result (λ fault. fault ≢ AclFault.Memory → IsNoList list.now fault) }
+        ensures refused { IfErr result (λ fault. fault ≢ AclFault.Memory → IsNoAccessList list.now fault) }
     {
         match Doc::open(alloc, list) {
             Ok(document) => Guard::of(alloc, &document.top(), policy, limits),
@@ -116,7 +116,7 @@ impl Guard {
     /// The first part that cannot be read is named: `Form` if its text has no value within the limits, otherwise the fault
     /// of its value. `Memory` if memory ran out.
     pub fn ask<'a>(&'a self, alloc: Global, texts: &'a Texts<'_>) -> Result<Asked<'a>, AskFault>
-        ensures asked { (q : Question) → IsTextsOf q texts.entry.now → IfOk result (λ a. IsAsked q a.case) }
+        ensures asked { (q : Question) → IsTextsOf q texts.entry.now → IfOk result (λ a. IsAskedCase q a.case) }
         ensures entries { IfOk result (λ a. a.texts ≡ self.entry.now.texts) }
         ensures policy { IfOk result (λ a. a.case.policy ≡ self.entry.now.policy) }
         ensures limit { IfOk result (λ a. a.case.most_nodes ≡ self.entry.now.nodes) }
@@ -157,7 +157,7 @@ impl Guard {
     ) -> Result<Guard, AclFault>
         ensures list { IfOk result (λ g. HoldsList list.now g.texts) }
         ensures given { IfOk result (λ g. (g.policy ≡ policy) × (g.octets ≡ limits.octets) × (g.nodes ≡ limits.nodes)) }
-        ensures refused { IfErr result (λ fault. fault ≢ AclFault.Memory → IsNoList list.now fault) }
+        ensures refused { IfErr result (λ fault. fault ≢ AclFault.Memory → IsNoAccessList list.now fault) }
     {
         match convert(alloc, Form::Canonical, list) {
             Ok(octets) => Guard::of_text(alloc, &octets, policy, limits),
@@ -195,9 +195,9 @@ impl Guard {
     {
         let entries = match acl_of(alloc, list) {
             Ok(entries) => entries,
-            Err(fault) => return Err(acl_fault(fault)),
+            Err(fault) => return Err(fault_of_acl(fault)),
         };
-        let index = Index::of(alloc, &entries)?;
+        let index = EntryIndex::of(alloc, &entries)?;
         let texts = entry_texts(alloc, list, entries.len())?;
         Ok(Guard {
             texts,
@@ -208,7 +208,7 @@ impl Guard {
     }
 }
 
-fn acl_fault(fault: CertFault) -> AclFault
+fn fault_of_acl(fault: CertFault) -> AclFault
     ensures { IsOuter (fault.kind ≡ CertFaultKind.Memory) AclFault.Memory (AclFault.Acl fault) result }
 {
     match fault.kind {

@@ -19,23 +19,23 @@ type Numbers = BTreeMap<Vec<u8>, Vec<usize>>;
 /// from 1. A key is found by its canonical octets from the last to the first, since keys of one algorithm begin alike. A hash is
 /// found by its digest, in a map for each algorithm.
 #[derive(Drop)]
-pub(crate) struct Index {
+pub(crate) struct EntryIndex {
     by_key: Numbers,
     by_sha1: Numbers,
     by_sha256: Numbers,
     by_sha512: Numbers,
 }
 
-impl Index {
+impl EntryIndex {
     /// Makes the index of these entries. For n entries this takes n look-ups in maps of at most n keys.
     ///
     /// # Errors
     ///
     /// `AllocError` if memory ran out.
-    pub(crate) fn of(alloc: Global, entries: &[Entry]) -> Result<Index, AllocError>
+    pub(crate) fn of(alloc: Global, entries: &[Entry]) -> Result<EntryIndex, AllocError>
         ensures { IfOk result (IsIndexOf entries.now) }
     {
-        let mut index = Index {
+        let mut index = EntryIndex {
             by_key: BTreeMap::new(alloc),
             by_sha1: BTreeMap::new(alloc),
             by_sha256: BTreeMap::new(alloc),

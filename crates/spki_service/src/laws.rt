@@ -12,11 +12,11 @@ ghost use Rattle.spki_decision.specs.Answered.{IsDecided, IsExplained, IsReduced
 ghost use Rattle.spki_decision.specs.Asked.{Signed};
 ghost use Rattle.spki_decision.specs.Explained.{IsSameExplanation};
 ghost use Rattle.spki_decision.specs.Reduced.{IsSameReduction};
-ghost use Rattle.spki_service.specs.Asking.{AskedOf, Answers, IsMarked};
+ghost use Rattle.spki_service.specs.Asking.{AskedOf, Answers, MarksAccept};
 ghost use Rattle.spki_service.specs.Held.{AreEntries, HoldsList};
-ghost use Rattle.spki_service.specs.Lists.{IsNoList};
+ghost use Rattle.spki_service.specs.Lists.{IsNoAccessList};
 ghost use Rattle.spki_service.specs.Moment.{IsDateAt, IsAtNoDate};
-ghost use Rattle.spki_service.specs.Questions.{IsAsked, IsNotAsked};
+ghost use Rattle.spki_service.specs.Questions.{IsAskedCase, IsNotAsked};
 ghost use Rattle.spki_service.specs.declared.question.Question.{Question};
 ghost use Rattle.spki_service.specs.declared.question.AskFault.{AskFault};
 ghost use Rattle.spki_service.specs.declared.list_fault.AclFault.{AclFault};
@@ -28,16 +28,16 @@ use spki_case::Verifier;
 pub fn one_list()
     ensures list { (text : List ℕ) (a b : List (List ℕ)) → HoldsList text a → HoldsList text b → a ≡ b }
     ensures entries { (texts : List (List ℕ)) (es fs : List Entry) → AreEntries texts es → AreEntries texts fs → es ≡ fs }
-    ensures unrefused { (text : List ℕ) (texts : List (List ℕ)) (fault : AclFault) → HoldsList text texts → ¬ IsNoList text fault }
-    ensures fault { (text : List ℕ) (f g : AclFault) → IsNoList text f → IsNoList text g → f ≡ g }
+    ensures unrefused { (text : List ℕ) (texts : List (List ℕ)) (fault : AclFault) → HoldsList text texts → ¬ IsNoAccessList text fault }
+    ensures fault { (text : List ℕ) (f g : AclFault) → IsNoAccessList text f → IsNoAccessList text g → f ≡ g }
 {}
 
 /// For a policy and a limit of nodes, a question has one case or one fault, and never both. So the fault of a question is a
 /// function of its parts: the first part that cannot be read, with its fault.
 pub fn one_asking()
-    ensures case { (q : Question) (c d : Case) → IsAsked q c → IsAsked q d → c.policy ≡ d.policy
+    ensures case { (q : Question) (c d : Case) → IsAskedCase q c → IsAskedCase q d → c.policy ≡ d.policy
         → c.most_nodes ≡ d.most_nodes → c ≡ d }
-    ensures unrefused { (q : Question) (c : Case) (fault : AskFault) → IsAsked q c → ¬ IsNotAsked q fault }
+    ensures unrefused { (q : Question) (c : Case) (fault : AskFault) → IsAskedCase q c → ¬ IsNotAsked q fault }
     ensures fault { (q : Question) (f g : AskFault) → IsNotAsked q f → IsNotAsked q g → f ≡ g }
 {}
 
@@ -69,14 +69,14 @@ pub fn one_answer<V: Verifier>()
 pub fn one_marked_answer()
     ensures decision { (signed : List Signed) (marks : List Bool) (a : AskedOf) (es : List Entry) (x y : Result Decision GuardFault)
         → AreEntries a.texts es → x ≢ Err Memory → y ≢ Err Memory
-        → Answers (λ c answer. IsDecided c (IsMarked signed marks) answer) a x
-        → Answers (λ c answer. IsDecided c (IsMarked signed marks) answer) a y → x ≡ y }
+        → Answers (λ c answer. IsDecided c (MarksAccept signed marks) answer) a x
+        → Answers (λ c answer. IsDecided c (MarksAccept signed marks) answer) a y → x ≡ y }
     ensures explanation { (signed : List Signed) (marks : List Bool) (a : AskedOf) (es : List Entry) (x y : Result Explanation GuardFault)
         → AreEntries a.texts es → x ≢ Err Memory → y ≢ Err Memory
-        → Answers (λ c answer. IsExplained c (IsMarked signed marks) answer) a x
-        → Answers (λ c answer. IsExplained c (IsMarked signed marks) answer) a y → AreSame IsSameExplanation x y }
+        → Answers (λ c answer. IsExplained c (MarksAccept signed marks) answer) a x
+        → Answers (λ c answer. IsExplained c (MarksAccept signed marks) answer) a y → AreSame IsSameExplanation x y }
     ensures reduction { (signed : List Signed) (marks : List Bool) (a : AskedOf) (es : List Entry) (x y : Result Reduction GuardFault)
         → AreEntries a.texts es → x ≢ Err Memory → y ≢ Err Memory
-        → Answers (λ c answer. IsReduced c (IsMarked signed marks) answer) a x
-        → Answers (λ c answer. IsReduced c (IsMarked signed marks) answer) a y → AreSame IsSameReduction x y }
+        → Answers (λ c answer. IsReduced c (MarksAccept signed marks) answer) a x
+        → Answers (λ c answer. IsReduced c (MarksAccept signed marks) answer) a y → AreSame IsSameReduction x y }
 {}

@@ -3,7 +3,7 @@
 ghost use Rattle.std.specs.Prelude.{◌≡◌, ◌↔◌, List, map, true, slice_get, Some, IsTrue};
 ghost use Rattle.spki_decision.specs.Asked.{IsAccepted, IsFirstRefused};
 ghost use Rattle.spki_decision.specs.Views.{signed_of};
-ghost use Rattle.spki_service.specs.Asking.{IsMarked};
+ghost use Rattle.spki_service.specs.Asking.{MarksAccept};
 ghost use Rattle.spki_service.specs.Marks.{AskSame};
 
 use spki_decision::Signed;
@@ -11,10 +11,10 @@ use spki_decision::Signed;
 /// The place, from 0, of the first signature without a true mark. None if there is none. A mark is for the signature at its
 /// place, and for each signature with the same key, message and value.
 pub(crate) fn first_unmarked(signed: &[Signed], marks: &[bool]) -> Option<usize>
-    ensures { IsFirstRefused (IsMarked (map signed_of signed.now) marks.now) (map signed_of signed.now) result }
+    ensures { IsFirstRefused (MarksAccept (map signed_of signed.now) marks.now) (map signed_of signed.now) result }
 {
     for (place, one) in signed.iter().enumerate() {
-        if !(is_set(marks, place) || is_marked(signed, marks, one)) {
+        if !(is_true_at(marks, place) || is_marked(signed, marks, one)) {
             return Some(place);
         }
     }
@@ -22,7 +22,7 @@ pub(crate) fn first_unmarked(signed: &[Signed], marks: &[bool]) -> Option<usize>
 }
 
 /// Whether the mark at a place is true. Missing marks count as false.
-fn is_set(marks: &[bool], place: usize) -> bool
+fn is_true_at(marks: &[bool], place: usize) -> bool
     ensures { IsTrue result ↔ (slice_get marks.now place ≡ Some true) }
 {
     match marks.get(place) {
@@ -33,10 +33,10 @@ fn is_set(marks: &[bool], place: usize) -> bool
 
 /// Whether a true mark is for a signature with the same key, message and value as this one.
 fn is_marked(signed: &[Signed], marks: &[bool], one: &Signed) -> bool
-    ensures { IsTrue result ↔ IsAccepted (IsMarked (map signed_of signed.now) marks.now) (signed_of one.now) }
+    ensures { IsTrue result ↔ IsAccepted (MarksAccept (map signed_of signed.now) marks.now) (signed_of one.now) }
 {
     for (place, other) in signed.iter().enumerate() {
-        if is_set(marks, place) && asks_same(other, one) {
+        if is_true_at(marks, place) && asks_same(other, one) {
             return true;
         }
     }

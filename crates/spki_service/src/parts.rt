@@ -8,7 +8,7 @@ ghost use Rattle.spki_case.specs.CaseForm.{RequestOf};
 ghost use Rattle.spki_case.specs.Sequence.{AreSigned};
 ghost use Rattle.spki_case.specs.Texts.{IsOuter};
 ghost use Rattle.spki_case.specs.View.{model};
-ghost use Rattle.spki_service.specs.Questions.{IsAsked, IsNotAsked};
+ghost use Rattle.spki_service.specs.Questions.{IsAskedCase, IsNotAsked};
 ghost use Rattle.spki_service.specs.Texts.{IsTextsOf, OfText, IsInstant, NamesPart, NamesSequence, NamesKey, NamesRequest, NamesMoment, NamesInstant};
 ghost use Rattle.spki_service.specs.declared.question.Question.{Question};
 
@@ -39,7 +39,7 @@ pub(crate) fn case_of<'a>(
     limits: Limits,
     algorithms: Algorithms,
 ) -> Result<Case<'a>, AskFault>
-    ensures asked { (q : Question) → IsTextsOf q texts.entry.now → IfOk result (λ c. IsAsked q (model c)) }
+    ensures asked { (q : Question) → IsTextsOf q texts.entry.now → IfOk result (λ c. IsAskedCase q (model c)) }
     ensures policy { IfOk result (λ c. c.policy ≡ policy) }
     ensures limit { IfOk result (λ c. c.most_nodes ≡ limits.nodes) }
     ensures refused { (q : Question) → IsTextsOf q texts.entry.now
@@ -167,11 +167,11 @@ fn sequence_at<'a>(alloc: Global, node: &Node<'_, 'a>) -> Result<Vec<SeqItem<'a>
 {
     match sequence_of(alloc, node) {
         Ok(items) => Ok(items),
-        Err(fault) => Err(sequence_fault(fault)),
+        Err(fault) => Err(fault_of_sequence(fault)),
     }
 }
 
-fn sequence_fault(fault: CertFault) -> AskFault
+fn fault_of_sequence(fault: CertFault) -> AskFault
     ensures { IsOuter (fault.kind ≡ CertFaultKind.Memory) AskFault.Memory (AskFault.Sequence fault) result }
 {
     match fault.kind {
@@ -198,11 +198,11 @@ fn request_at(alloc: Global, node: &Node) -> Result<Ground, AskFault>
 {
     match Ground::of(alloc, node) {
         Ok(request) => Ok(request),
-        Err(fault) => Err(request_fault(fault)),
+        Err(fault) => Err(fault_of_request(fault)),
     }
 }
 
-fn request_fault(fault: TagFault) -> AskFault
+fn fault_of_request(fault: TagFault) -> AskFault
     ensures { IsOuter (fault ≡ TagFault.Memory) AskFault.Memory (AskFault.Request fault) result }
 {
     match fault {

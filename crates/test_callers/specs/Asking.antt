@@ -8,8 +8,8 @@ use Rattle.test_callers.specs.declared.cases.Question.{Question}
 
 -- The case of a service's entries, the items of a sequence and a question, without an accepted list. It is under the strict
 -- policy and has the limit of all tags.
-abbrev pub asked : List Entry → List SeqItem → Question → Case
-asked entries items question = record {
+abbrev pub asked_case : List Entry → List SeqItem → Question → Case
+asked_case entries items question = record {
   entries = entries;
   rows = [];
   items = items;

@@ -4,7 +4,7 @@ ghost use Rattle.std.specs.Prelude.{◌≡◌, ◌≢◌, List, IfOk, IfErr};
 ghost use Rattle.spki_cert.specs.declared.certificate.SeqItem.{SeqItem};
 ghost use Rattle.spki_cert.specs.Sequences.{SeqOf, SeqRefused};
 ghost use Rattle.spki_case.specs.View.{model};
-ghost use Rattle.test_callers.specs.Asking.{asked};
+ghost use Rattle.test_callers.specs.Asking.{asked_case};
 
 use sexpr_core::syntax::Node;
 use spki_cert::{CertFault, CertFaultKind, Date, Entry, Key, Policy, sequence_of};
@@ -36,7 +36,7 @@ pub fn case_of<'a>(
     question: Question<'a>,
 ) -> Result<Case<'a>, CertFault>
     ensures case { IfOk result (λ case. (items : List SeqItem) × SeqOf shown.now items
-        × (model case ≡ asked acl.entry.items items question.entry)) }
+        × (model case ≡ asked_case acl.entry.items items question.entry)) }
     ensures refused { IfErr result (λ fault. fault.kind ≢ CertFaultKind.Memory → SeqRefused shown.now fault) }
 {
     let sequence = sequence_of(alloc, shown)?;

@@ -8,7 +8,7 @@ use crate::cases::{Question, case_of};
 use crate::certificates::pinned_key;
 use crate::chains::{Asked, grants};
 use crate::decisions::decide_unrevoked;
-use crate::services::answer_both;
+use crate::services::{answer_both, shared_guard};
 use crate::streams::text_from;
 use crate::tags::narrowed;
 use crate::texts::same_value;
@@ -226,5 +226,12 @@ fn two_questions(rt: HostRuntime) -> Result<(), Fail> {
     let document = Doc::open(alloc, KA)?;
     let revoked = [key_of(&document.top())?];
     assert!(rt; both_answers(alloc, &revoked)? == (Decision::No, Decision::No));
+    Ok(())
+}
+
+#[test]
+fn guard_of_threads(rt: HostRuntime) -> Result<(), Fail> {
+    let guard = shared_guard(rt.alloc(), ACL.as_bytes())?;
+    assert!(rt; guard.entries() == 1);
     Ok(())
 }

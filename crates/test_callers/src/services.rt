@@ -1,9 +1,9 @@
-//! A caller of `spki_guard` that holds an access list and decides two questions.
+//! Callers of `spki_guard` that hold an access list: one decides two questions, and one may share its guard among threads.
 
 ghost use Rattle.std.specs.Prelude.{◌≡◌, ℕ, List, IfOk};
 ghost use Rattle.spki_service.specs.Held.{HoldsList};
 ghost use Rattle.test_callers.specs.Revoking.{unrevoked};
-ghost use Rattle.test_callers.specs.Serving.{IsAnswered};
+ghost use Rattle.test_callers.specs.Serving.{AnswersQuestion};
 
 use crate::decisions::Unrevoked;
 use spki_cert::{Key, Policy};
@@ -32,7 +32,7 @@ fn answer<V: Verifier>(
     question: &Question,
     verifier: &Unrevoked<V>,
 ) -> Result<Decision, ServiceFault>
-    ensures { IfOk result (IsAnswered guard.now.texts guard.now.policy question.now
+    ensures { IfOk result (AnswersQuestion guard.now.texts guard.now.policy question.now
         (unrevoked verifier.now.revoked.now (V.accepted verifier.now.verifier.now))) }
 {
     let texts = match guard.texts(alloc, question) {
@@ -64,8 +64,8 @@ pub fn answer_both<V: Verifier>(
     revoked: &[Key],
 ) -> Result<(Decision, Decision), ServiceFault>
     ensures { IfOk result (λ both. (texts : List (List ℕ)) × HoldsList list.now texts
-        × IsAnswered texts Policy.Strict first.now (unrevoked revoked.now (V.accepted verifier.now)) both.0
-        × IsAnswered texts Policy.Strict second.now (unrevoked revoked.now (V.accepted verifier.now)) both.1) }
+        × AnswersQuestion texts Policy.Strict first.now (unrevoked revoked.now (V.accepted verifier.now)) both.0
+        × AnswersQuestion texts Policy.Strict second.now (unrevoked revoked.now (V.accepted verifier.now)) both.1) }
 {
     let guard = match Guard::read(alloc, list, Policy::Strict, Limits::default()) {
         Ok(guard) => guard,
@@ -75,4 +75,24 @@ pub fn answer_both<V: Verifier>(
     let to_first = answer(alloc, &guard, first, &unrevoked)?;
     let to_second = answer(alloc, &guard, second, &unrevoked)?;
     Ok((to_first, to_second))
+}
+
+/// Returns a value that may be sent to another thread, and that several threads may use at the same time.
+fn shareable<T: Send + Sync>(value: T) -> T
+    ensures { result ≡ value }
+{
+    value
+}
+
+/// Reads the access list of a service whose threads ask one guard, under the strict policy.
+///
+/// # Errors
+///
+/// Those of `Guard::read`.
+pub fn shared_guard(alloc: Global, list: &[u8]) -> Result<Guard, AclFault>
+    ensures list { IfOk result (λ guard. HoldsList list.now guard.texts) }
+    ensures policy { IfOk result (λ guard. guard.policy ≡ Policy.Strict) }
+{
+    let guard = Guard::read(alloc, list, Policy::Strict, Limits::default())?;
+    Ok(shareable(guard))
 }

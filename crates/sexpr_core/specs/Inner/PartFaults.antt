@@ -2,7 +2,7 @@
 use Rattle.std.specs.Prelude.{◌≡◌, ℕ, suc, ◌+◌, ◌<◌, List, ◌++◌, length, take}
 use Rattle.sexpr_core.specs.declared.fault.FormFault.{FormFault}
 use Rattle.sexpr_core.specs.declared.fault.FormFault.TheVariants.{TooLong, TooDeep, Short, Bad, Trailing, Memory}
-use Rattle.sexpr_core.specs.Prefix.{Front, StopsAt}
+use Rattle.sexpr_core.specs.Prefix.{Front}
 
 -- no text of T agrees with the octets up to the end of the shorter of both
 pub record Barred (T : List ℕ → Type 0) (xs : List ℕ) : Type 0 where
@@ -32,12 +32,3 @@ FaultAt T S at xs Short = Front S xs
 FaultAt T S at xs (Bad k) = IsBad T S at xs k
 FaultAt T S at xs (Trailing k) = ⊥
 FaultAt T S at xs Memory = Unit {0}
-
--- What a fault means for a text, if a part is read from an offset on. T is the set of texts that have such a part there.
-abbrev pub RefusesPart : (T : List ℕ → Type 0) → List ℕ → ℕ → FormFault → Type 0
-RefusesPart T text at TooLong = ⊥
-RefusesPart T text at TooDeep = ⊥
-RefusesPart T text at Short = Unit {0}
-RefusesPart T text at (Bad k) = StopsAt T text at k
-RefusesPart T text at (Trailing k) = ⊥
-RefusesPart T text at Memory = Unit {0}

@@ -5,18 +5,18 @@ use Rattle.spki_decision.specs.Explained.{IsSameExplanation}
 use Rattle.spki_decision.specs.Reduced.{IsSameReduction}
 use Rattle.spki_decision.specs.Answered.{IsDecided, IsExplained, IsReduced, AreSame}
 use Rattle.spki_decision.proofs.OneDecision.{decided_one, explained_one, reduced_one}
-use Rattle.spki_service.specs.Asking.{IsMarked}
+use Rattle.spki_service.specs.Asking.{MarksAccept}
 use Rattle.spki_service.proofs.OneAnswer.{answer_one}
 use Rattle.spki_service.proofs.laws.one_marked_answer.Goals as goal
 
 pub returns-clause-decision : goal.returns-clause-decision
 returns-clause-decision c signed marks =
-    answer_one IsDecided (λ (x y : Result Decision GuardFault). x ≡ y) decided_one (IsMarked signed marks)
+    answer_one IsDecided (λ (x y : Result Decision GuardFault). x ≡ y) decided_one (MarksAccept signed marks)
 
 pub returns-clause-explanation : goal.returns-clause-explanation
 returns-clause-explanation c signed marks =
-    answer_one IsExplained (AreSame IsSameExplanation) explained_one (IsMarked signed marks)
+    answer_one IsExplained (AreSame IsSameExplanation) explained_one (MarksAccept signed marks)
 
 pub returns-clause-reduction : goal.returns-clause-reduction
 returns-clause-reduction c signed marks =
-    answer_one IsReduced (AreSame IsSameReduction) reduced_one (IsMarked signed marks)
+    answer_one IsReduced (AreSame IsSameReduction) reduced_one (MarksAccept signed marks)

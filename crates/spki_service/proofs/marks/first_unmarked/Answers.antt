@@ -2,18 +2,18 @@ use Rattle.std.proofs.Common.{◌≡◌, true, false, sym, ◌∙◌, map}
 use Rattle.spki_decision.specs.Views.{signed_of}
 use Rattle.spki_decision.specs.Asked.{IsAccepted}
 use Rattle.spki_decision.proofs.Answering.{refused_here, one_more}
-use Rattle.spki_service.specs.Asking.{IsMarked}
+use Rattle.spki_service.specs.Asking.{MarksAccept}
 use Rattle.spki_service.proofs.Marking.{marked_here}
-use Rattle.spki_service.proofs.marks.first_unmarked.Goals.{then-is_set, else-is_set}
+use Rattle.spki_service.proofs.marks.first_unmarked.Goals.{then-is_true_at, else-is_true_at}
 use Rattle.spki_service.proofs.marks.first_unmarked.Goals as goal
 
 pub returns-then-not-is_marked : goal.returns-then-not-is_marked
 returns-then-not-is_marked c =
-    refused_here (IsMarked (map signed_of c.args.signed.now) c.args.marks.now) c.args.signed.now c.loop-place.place c.loop-place-test.true
+    refused_here (MarksAccept (map signed_of c.args.signed.now) c.args.marks.now) c.args.signed.now c.loop-place.place c.loop-place-test.true
     c.index-signed-place.result c.index-signed-place.is c.loop-place.invariant
-    (λ accepted. elim c.if-is_set.branch [
-      | then-is_set w ↦ let clash : false ≡ true = sym c.if-not-is_marked.true ∙ w.value-is ∙ w.if-is_set.true in absurd cc
-      | else-is_set w ↦
+    (λ accepted. elim c.if-is_true_at.branch [
+      | then-is_true_at w ↦ let clash : false ≡ true = sym c.if-not-is_marked.true ∙ w.value-is ∙ w.if-is_true_at.true in absurd cc
+      | else-is_true_at w ↦
           let yes = w.is_marked.ensures.1 accepted in
           let clash : false ≡ true = sym c.if-not-is_marked.true ∙ w.value-is ∙ yes in
           absurd cc
@@ -21,12 +21,12 @@ returns-then-not-is_marked c =
 
 pub loop-place-preserved : goal.loop-place-preserved
 loop-place-preserved c =
-    let one : IsAccepted (IsMarked (map signed_of c.args.signed.now) c.args.marks.now) (signed_of c.index-signed-place.result) =
-    elim c.if-is_set.branch [
-      | then-is_set w ↦
+    let one : IsAccepted (MarksAccept (map signed_of c.args.signed.now) c.args.marks.now) (signed_of c.index-signed-place.result) =
+    elim c.if-is_true_at.branch [
+      | then-is_true_at w ↦
           marked_here c.args.signed.now c.args.marks.now c.loop-place.place c.index-signed-place.result c.loop-place-test.true
-          c.index-signed-place.is (c.is_set.ensures.0 w.if-is_set.true)
-      | else-is_set w ↦ w.is_marked.ensures.0 (sym w.value-is ∙ c.if-not-is_marked.false)
+          c.index-signed-place.is (c.is_true_at.ensures.0 w.if-is_true_at.true)
+      | else-is_true_at w ↦ w.is_marked.ensures.0 (sym w.value-is ∙ c.if-not-is_marked.false)
     ] in
-    one_more (IsMarked (map signed_of c.args.signed.now) c.args.marks.now) c.args.signed.now c.loop-place.place c.loop-place-test.true
+    one_more (MarksAccept (map signed_of c.args.signed.now) c.args.marks.now) c.args.signed.now c.loop-place.place c.loop-place-test.true
     c.index-signed-place.result c.index-signed-place.is c.loop-place.invariant one

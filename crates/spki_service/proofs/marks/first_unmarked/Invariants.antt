@@ -2,10 +2,10 @@ use Rattle.std.proofs.Common.{map, take}
 use Rattle.std.specs.List.{AllByRecursion}
 use Rattle.spki_decision.specs.Views.{signed_of}
 use Rattle.spki_decision.specs.Asked.{IsAccepted}
-use Rattle.spki_service.specs.Asking.{IsMarked}
+use Rattle.spki_service.specs.Asking.{MarksAccept}
 use Rattle.spki_service.proofs.marks.first_unmarked.Given as goal
 
 -- each so far is marked
 abbrev pub invariant-loop-place : goal.invariant-loop-place
 invariant-loop-place l =
-    AllByRecursion (IsAccepted (IsMarked (map signed_of l.signed) l.marks)) (take l.place (map signed_of l.signed))
+    AllByRecursion (IsAccepted (MarksAccept (map signed_of l.signed) l.marks)) (take l.place (map signed_of l.signed))

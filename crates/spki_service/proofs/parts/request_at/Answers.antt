@@ -12,7 +12,7 @@ request-named fault found (inr named) known = named
 pub returns-in-Err-clause-refused : goal.returns-in-Err-clause-refused
 returns-in-Err-clause-refused c = λ known.
     let e = c.in-Err.ensures in
-    elim c.request_fault.ensures [
+    elim c.fault_of_request.ensures [
       | inl h ↦ absurd (known h.1)
       | inr h ↦ record {
         inner = c.in-Err.fault;

@@ -7,7 +7,7 @@ pub returns-in-Ok-clause-signed : goal.returns-in-Ok-clause-signed
 returns-in-Ok-clause-signed c = signed c.args.node.now c.in-Ok.items.items c.in-Ok.ensures.sequence
 
 pub returns-in-Err-clause-refused : goal.returns-in-Err-clause-refused
-returns-in-Err-clause-refused c = λ known. elim c.sequence_fault.ensures [
+returns-in-Err-clause-refused c = λ known. elim c.fault_of_sequence.ensures [
   | inl h ↦ absurd (known h.1)
   | inr h ↦ record {
     inner = c.in-Err.fault;

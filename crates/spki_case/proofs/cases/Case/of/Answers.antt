@@ -24,7 +24,7 @@ pub returns-in-Err-clause-refused : goal.returns-in-Err-clause-refused
 returns-in-Err-clause-refused c =
     let h = c.in-Some.ensures in
     let parts : Parts = h.0 in
-    lacks c.args.node.now parts _ _ c.acl_fault.result h.1 c.acl_fault.ensures (λ known.
+    lacks c.args.node.now parts _ _ c.fault_of_acl.result h.1 c.fault_of_acl.ensures (λ known.
     let refused : AclRefused (acl_value parts) c.in-Err.fault = subst (λ (v : Value). AclRefused v c.in-Err.fault) h.2.acl (c.in-Err.ensures.refused known) in
     record {
       found = known;
@@ -38,7 +38,7 @@ returns-in-Err-table_of-clause-refused c =
     let h = c.in-Some.ensures in
     let parts : Parts = h.0 in
     let reads : ReadsAcl parts = search rules in
-    lacks c.args.node.now parts _ _ c.rows_fault.result h.1 c.rows_fault.ensures (λ known.
+    lacks c.args.node.now parts _ _ c.fault_of_rows.result h.1 c.fault_of_rows.ensures (λ known.
     let refused : RowsRefused parts.rows c.in-Err-table_of.fault =
     subst (λ (vs : List Value). RowsRefused vs c.in-Err-table_of.fault) h.2.rows (c.in-Err-table_of.ensures.refused known) in
     record { before = reads; refused = refused; none = no_rows_at parts.rows c.in-Err-table_of.fault refused })
@@ -48,7 +48,7 @@ returns-in-Err-sequence_of-clause-refused c =
     let h = c.in-Some.ensures in
     let parts : Parts = h.0 in
     let reads : ReadsRows parts = search rules in
-    lacks c.args.node.now parts _ _ c.sequence_fault.result h.1 c.sequence_fault.ensures (λ known.
+    lacks c.args.node.now parts _ _ c.fault_of_sequence.result h.1 c.fault_of_sequence.ensures (λ known.
     let refused : SeqRefused (sequence_value parts) c.in-Err-sequence_of.fault =
     subst (λ (v : Value). SeqRefused v c.in-Err-sequence_of.fault) h.2.sequence (c.in-Err-sequence_of.ensures.refused known) in
     record {
@@ -64,16 +64,16 @@ returns-in-Err-key_of-clause-refused c =
     let h = c.in-Some.ensures in
     let parts : Parts = h.0 in
     let reads : ReadsItems parts = search rules in
-    let found : c.outer_fault.result.kind ≢ kinds.Memory = rw c.outer_fault.ensures c.in-Err-key_of.ensures.fault in
+    let found : c.fault_of_part.result.kind ≢ kinds.Memory = rw c.fault_of_part.ensures c.in-Err-key_of.ensures.fault in
     λ other. inr (record {
       parts = parts;
       written = h.1;
       refused = record {
         before = reads;
-        outer = rw c.outer_fault.ensures refl;
+        outer = rw c.fault_of_part.ensures refl;
         found = found;
-        shows = (let shown = rw h.2.key at c.in-Err-key_of.ensures.shown in rw c.outer_fault.ensures shown);
-        named = (let named = rw h.2.key at c.in-Err-key_of.ensures.named in rw c.outer_fault.ensures named);
+        shows = (let shown = rw h.2.key at c.in-Err-key_of.ensures.shown in rw c.fault_of_part.ensures shown);
+        named = (let named = rw h.2.key at c.in-Err-key_of.ensures.named in rw c.fault_of_part.ensures named);
         none = λ key e. c.in-Err-key_of.ensures.refused key (rw h.2.key e);
       };
     })
@@ -83,7 +83,7 @@ returns-in-Err-of-clause-refused c =
     let h = c.in-Some.ensures in
     let parts : Parts = h.0 in
     let reads : ReadsKey parts = search rules in
-    lacks c.args.node.now parts _ _ c.request_fault.result h.1 c.request_fault.ensures (λ known. record {
+    lacks c.args.node.now parts _ _ c.fault_of_request.result h.1 c.fault_of_request.ensures (λ known. record {
       before = reads;
       found = known;
       shows = (rw h.2.request at c.in-Err-of.ensures.shows);
@@ -101,7 +101,7 @@ returns-in-Err-date_of-clause-refused c =
       written = h.1;
       refused = record {
         before = reads;
-        no_date = rw (c.outer_fault-in-Err-date_of.ensures, c.in-Err-date_of.ensures.fault) refl;
+        no_date = rw (c.fault_of_part-in-Err-date_of.ensures, c.in-Err-date_of.ensures.fault) refl;
         none = λ date e. c.in-Err-date_of.ensures.refused date (rw h.2.at e);
       };
     })

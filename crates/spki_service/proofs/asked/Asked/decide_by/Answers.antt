@@ -1,24 +1,24 @@
 use Rattle.std.proofs.Common.{None, map, ap, ◌∙◌, subst, List}
 use Rattle.spki_decision.specs.Views.{signed_of}
 use Rattle.spki_decision.specs.Asked.{Signed, asked, IsFirstRefused, RefusedAt}
-use Rattle.spki_service.specs.Asking.{IsMarked}
+use Rattle.spki_service.specs.Asking.{MarksAccept}
 use Rattle.spki_service.proofs.Outcomes.{decided_all, decided_none}
 use Rattle.spki_service.proofs.asked.Asked.decide_by.Goals as goal
 
 pub returns-in-None : goal.returns-in-None
 returns-in-None c =
     let marks = c.args.verified.now in
-    let first : IsFirstRefused (IsMarked (map signed_of c.deref.result.now) marks) (map signed_of c.deref.result.now) None =
+    let first : IsFirstRefused (MarksAccept (map signed_of c.deref.result.now) marks) (map signed_of c.deref.result.now) None =
     rw c.in-None.is at c.first_unmarked.ensures in
     let same = ap (map signed_of) c.deref.ensures.value ∙ c.self.invariant.0 ∙ ap (λ a. asked a.case) c.self.view_is in
-    let accepted = subst (λ (xs : List Signed). IsFirstRefused (IsMarked xs marks) xs None) same first in
-    decided_all c.args.self.now (IsMarked (asked c.args.self.now.case) marks) accepted c.decided.result c.decided.ensures
+    let accepted = subst (λ (xs : List Signed). IsFirstRefused (MarksAccept xs marks) xs None) same first in
+    decided_all c.args.self.now (MarksAccept (asked c.args.self.now.case) marks) accepted c.decided.result c.decided.ensures
 
 pub returns-in-Some : goal.returns-in-Some
 returns-in-Some c =
     let marks = c.args.verified.now in
-    let first : RefusedAt (IsMarked (map signed_of c.deref.result.now) marks) (map signed_of c.deref.result.now) c.in-Some.field-0 =
+    let first : RefusedAt (MarksAccept (map signed_of c.deref.result.now) marks) (map signed_of c.deref.result.now) c.in-Some.field-0 =
     rw c.in-Some.is at c.first_unmarked.ensures in
     let same = ap (map signed_of) c.deref.ensures.value ∙ c.self.invariant.0 ∙ ap (λ a. asked a.case) c.self.view_is in
-    let there = subst (λ (xs : List Signed). RefusedAt (IsMarked xs marks) xs c.in-Some.field-0) same first in
-    decided_none c.args.self.now (IsMarked (asked c.args.self.now.case) marks) c.in-Some.field-0 there
+    let there = subst (λ (xs : List Signed). RefusedAt (MarksAccept xs marks) xs c.in-Some.field-0) same first in
+    decided_none c.args.self.now (MarksAccept (asked c.args.self.now.case) marks) c.in-Some.field-0 there

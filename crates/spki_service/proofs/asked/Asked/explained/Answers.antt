@@ -7,7 +7,7 @@ use Rattle.spki_decision.specs.Views.{with_entries}
 use Rattle.spki_decision.proofs.Stopping.{as_many}
 use Rattle.spki_case.specs.View.{model}
 use Rattle.spki_service.specs.Asking.{AskedOf}
-use Rattle.spki_service.specs.Held.{AreEntries, octets_of}
+use Rattle.spki_service.specs.Held.{AreEntries, octets_of_texts}
 use Rattle.spki_decision.specs.Explained.{AreReasons}
 use Rattle.spki_decision.proofs.Reasons.{are_reasons}
 use Rattle.spki_service.proofs.Outcomes.{explained_failed}
@@ -32,10 +32,10 @@ returns-in_ok-reasons-in-Stands c =
     let tuples = tuples_of c.in-Stands.steps.items in
     let evident : IsEvidence m.policy every m.items c.self.inside.examined.evidence = c.self.invariant.1 in
     let stands = rw c.in-Stands.is at evident in
-    let texts = ap octets_of c.deref.ensures.value ∙ ap (λ h. h.texts) c.guard.view_is in
+    let texts = ap octets_of_texts c.deref.ensures.value ∙ ap (λ h. h.texts) c.guard.view_is in
     let inner : (es : List Entry) → AreEntries c.self.inside.guard.now.texts es → AreReasons (with_entries m es) every c.in_ok-reasons-in-Stands.reasons.items =
     λ es are.
-    let there : AreEntries (octets_of c.deref.result.now) es = subst (λ (ts : List (List ℕ)). AreEntries ts es) (sym texts) are in
+    let there : AreEntries (octets_of_texts c.deref.result.now) es = subst (λ (ts : List (List ℕ)). AreEntries ts es) (sym texts) are in
     let all = c.deref-in-Stands.ensures.value ∙ c.in_ok-entries-in-Stands.ensures.all es there in
     let each = rw (c.deref-in-Stands-2.ensures.value, all) at c.in_ok-reasons-in-Stands.ensures.each in
     let small = rw (c.deref-in-Stands-2.ensures.value, all) at c.in_ok-reasons-in-Stands.ensures.small in

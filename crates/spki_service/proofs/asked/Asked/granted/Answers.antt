@@ -8,7 +8,7 @@ use Rattle.spki_decision.specs.declared.fault.GuardFault.TheVariants.{TooLarge, 
 use Rattle.spki_decision.specs.Supported.{Names, SmallUpTo, HasLarge}
 use Rattle.spki_decision.specs.Views.{with_entries}
 use Rattle.spki_service.specs.Asking.{AskedOf}
-use Rattle.spki_service.specs.Held.{AreEntries, octets_of}
+use Rattle.spki_service.specs.Held.{AreEntries, octets_of_texts}
 use Rattle.spki_service.specs.Partly.{DecidesPartly}
 use Rattle.spki_service.proofs.EntryTexts.{as_many}
 use Rattle.spki_service.proofs.Deciding.{refused_partly, fault_partly, no_partly, yes_partly, place_within, numbers_found, entries_found, numbers_are}
@@ -42,12 +42,12 @@ pub returns-in_err-first_granted : goal.returns-in_err-first_granted
 returns-in_err-first_granted c =
     let m = model c.self.inside.case in
     let tuples = tuples_of c.args.steps.now in
-    let texts = ap octets_of c.deref.ensures.value ∙ ap (λ h. h.texts) c.guard.view_is in
+    let texts = ap octets_of_texts c.deref.ensures.value ∙ ap (λ h. h.texts) c.guard.view_is in
     let inner : (es : List Entry) → AreEntries c.self.inside.guard.now.texts es → DecidesPartly (with_entries m es) tuples c.from_residual-in_err-first_granted.result =
     λ es are.
     let numbers = numbers_found m es tuples c.self.inside.guard.now.policy (option_copied c.first_key.result) c.in_ok-numbers.numbers.items c.self.invariant.2
     c.first_key.ensures (c.in_ok-numbers.ensures es are) in
-    let there : AreEntries (octets_of c.deref.result.now) es = subst (λ (ts : List (List ℕ)). AreEntries ts es) (sym texts) are in
+    let there : AreEntries (octets_of_texts c.deref.result.now) es = subst (λ (ts : List (List ℕ)). AreEntries ts es) (sym texts) are in
     let picked = entries_found m es tuples c.in_ok-numbers.numbers.items c.deref-2.result.now c.in_ok-entries.entries.items
     c.deref-2.ensures.value numbers (c.in_ok-entries.ensures.picked es there) in
     let large : c.in_err-first_granted.field-0.0 ≡ TooLarge → HasLarge (with_entries m c.in_ok-entries.entries.items) tuples =
@@ -61,12 +61,12 @@ pub returns-in-No : goal.returns-in-No
 returns-in-No c =
     let m = model c.self.inside.case in
     let tuples = tuples_of c.args.steps.now in
-    let texts = ap octets_of c.deref.ensures.value ∙ ap (λ h. h.texts) c.guard.view_is in
+    let texts = ap octets_of_texts c.deref.ensures.value ∙ ap (λ h. h.texts) c.guard.view_is in
     let inner : (es : List Entry) → AreEntries c.self.inside.guard.now.texts es → DecidesPartly (with_entries m es) tuples (Ok No) =
     λ es are.
     let numbers = numbers_found m es tuples c.self.inside.guard.now.policy (option_copied c.first_key.result) c.in_ok-numbers.numbers.items c.self.invariant.2
     c.first_key.ensures (c.in_ok-numbers.ensures es are) in
-    let there : AreEntries (octets_of c.deref.result.now) es = subst (λ (ts : List (List ℕ)). AreEntries ts es) (sym texts) are in
+    let there : AreEntries (octets_of_texts c.deref.result.now) es = subst (λ (ts : List (List ℕ)). AreEntries ts es) (sym texts) are in
     let picked = entries_found m es tuples c.in_ok-numbers.numbers.items c.deref-2.result.now c.in_ok-entries.entries.items
     c.deref-2.ensures.value numbers (c.in_ok-entries.ensures.picked es there) in
     let named : Names (with_entries m c.in_ok-entries.entries.items) tuples No =
@@ -86,8 +86,8 @@ index-requires c =
     subst (λ (ts : List (List ℕ)). AreEntries ts es) (ap (λ h. h.texts) c.guard.view_is) held in
     let numbers = numbers_found m es tuples c.self.inside.guard.now.policy (option_copied c.first_key.result) c.in_ok-numbers.numbers.items c.self.invariant.2
     c.first_key.ensures (c.in_ok-numbers.ensures es are) in
-    let there : AreEntries (octets_of c.deref.result.now) es =
-    subst (λ (ts : List (List ℕ)). AreEntries ts es) (sym (ap octets_of c.deref.ensures.value)) held in
+    let there : AreEntries (octets_of_texts c.deref.result.now) es =
+    subst (λ (ts : List (List ℕ)). AreEntries ts es) (sym (ap octets_of_texts c.deref.ensures.value)) held in
     let picked = entries_found m es tuples c.in_ok-numbers.numbers.items c.deref-2.result.now c.in_ok-entries.entries.items
     c.deref-2.ensures.value numbers (c.in_ok-entries.ensures.picked es there) in
     let named : Names (with_entries m c.in_ok-entries.entries.items) tuples (Yes c.in-Yes.place) =
@@ -101,12 +101,12 @@ pub returns : goal.returns
 returns c =
     let m = model c.self.inside.case in
     let tuples = tuples_of c.args.steps.now in
-    let texts = ap octets_of c.deref.ensures.value ∙ ap (λ h. h.texts) c.guard.view_is in
+    let texts = ap octets_of_texts c.deref.ensures.value ∙ ap (λ h. h.texts) c.guard.view_is in
     let inner : (es : List Entry) → AreEntries c.self.inside.guard.now.texts es → DecidesPartly (with_entries m es) tuples (Ok (Yes c.index.result.now)) =
     λ es are.
     let numbers = numbers_found m es tuples c.self.inside.guard.now.policy (option_copied c.first_key.result) c.in_ok-numbers.numbers.items c.self.invariant.2
     c.first_key.ensures (c.in_ok-numbers.ensures es are) in
-    let there : AreEntries (octets_of c.deref.result.now) es = subst (λ (ts : List (List ℕ)). AreEntries ts es) (sym texts) are in
+    let there : AreEntries (octets_of_texts c.deref.result.now) es = subst (λ (ts : List (List ℕ)). AreEntries ts es) (sym texts) are in
     let picked = entries_found m es tuples c.in_ok-numbers.numbers.items c.deref-2.result.now c.in_ok-entries.entries.items
     c.deref-2.ensures.value numbers (c.in_ok-entries.ensures.picked es there) in
     let named : Names (with_entries m c.in_ok-entries.entries.items) tuples (Yes c.in-Yes.place) =

@@ -5,7 +5,7 @@ use Rattle.spki_service.proofs.guard.Guard.of.Goals as goal
 
 pub returns-in-Err-clause-refused : goal.returns-in-Err-clause-refused
 returns-in-Err-clause-refused c found =
-    named_fault c.args.list.now c.in-Err.fault c.acl_fault.result c.acl_fault.ensures (λ known. record {
+    named_fault c.args.list.now c.in-Err.fault c.fault_of_acl.result c.fault_of_acl.ensures (λ known. record {
       found = known;
       refused = c.in-Err.ensures.refused known;
       named = c.in-Err.ensures.named known;

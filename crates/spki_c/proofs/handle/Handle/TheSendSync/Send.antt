@@ -1,0 +1,24 @@
+-- A handle owns a guard and the right to free it, and both say the same to every thread.
+use mir.Raw.{raw}
+use base.Shift.{Keyless}
+use denote.Memory.{lone}
+use denote.RawPtr.{Ptr}
+use denote.Struct.Struct.{exits_of}
+use denote.Struct.Owning.{shape, fields, to}
+use denote.Param.Send.{IsSend, AllSend, owning_send, struct_send, sendable}
+use Rattle.std.specs.Prelude.{Option, Some, None}
+use Rattle.std.proofs.Crossing.{frees}
+use Rattle.std_alloc.proofs.SendSync.{quiet, lies}
+use Rattle.spki_service.specs.contracts.guard.Guard as guard
+use Rattle.spki_service.proofs.guard.Guard.TheSendSync.{the_send as guard_send}
+use Rattle.spki_c.specs.Holding.{Kept, heap, held_owns}
+use Rattle.spki_c.specs.contracts.handle.Handle.{the_row, the_type}
+
+held_keyless : (p : Ptr) (held : Option Kept) → Keyless (held_owns p held)
+held_keyless p None = tt
+held_keyless p (Some g) = (lies guard.the_row guard_send p g, frees.frees heap (raw (lone guard.the_row.mir)) p)
+
+pub send : IsSend the_row
+send =
+    let all : AllSend (fields the_type) = (search sendable, tt) in
+    owning_send the_type all (λ h. held_keyless h.at h.held) (λ k. quiet (to the_type) (exits_of k (fields the_type)) ((struct_send (shape the_type) all).leaving k))

@@ -1,0 +1,58 @@
+use Rattle.std.proofs.Common.{◌≡◌, ◌∷◌, ◌++◌, [], List, map, ap, sym, subst, arith, ◌∙◌, refl}
+use Rattle.std.specs.List.{AllZip}
+use Rattle.std.proofs.lemmas.List.{map-append, length-map}
+use Rattle.std.proofs.lemmas.Slice.Zip.{AllZip-long}
+use Rattle.spki_cert.proofs.Groups.{split, moved}
+use Rattle.spki_cert.proofs.EntryLaws.{items-push}
+use Rattle.spki_case.specs.Case.{Row}
+use Rattle.spki_case.specs.Rows.{RowOf}
+use Rattle.spki_case.specs.View.{row_of}
+use Rattle.spki_cert.proofs.EntryFaultLaws.{items-all, items-next}
+use Rattle.spki_case.specs.RowFaults.{row_fault}
+use Rattle.spki_case.proofs.RowFaultLaws.{first-row}
+use Rattle.spki_case.proofs.rows.read_rows.Goals as goal
+
+pub returns-in-Err-clause-refused : goal.returns-in-Err-clause-refused
+returns-in-Err-clause-refused c =
+    let i = c.loop-member.invariant in
+    let kept = map row_of c.loop-member.rows.items in
+    let long = AllZip-long RowOf i.0 kept i.2 in
+    let same = length-map c.loop-member.rows.items row_of in
+    λ known. record {
+      found = known;
+      refused = c.in-Some.member;
+      place = record {
+        front = i.0;
+        behind = c.in-Some.others;
+        parts = split c.args.members i.0 c.loop-member.rest c.in-Some.others c.in-Some.member i.1 c.in-Some.ensures;
+        place = (let e = c.len-item.ensures in omega arith);
+        before = kept;
+        readings = i.2;
+        none = c.in-Err.ensures.refused;
+      };
+      shown = c.in-Err.ensures.shown.1;
+      named = first-row c.args.members i.0 c.loop-member.rest c.in-Some.others c.in-Some.member _ i.3 c.in-Some.ensures c.in-Err.ensures.named
+          (let e = c.len-item.ensures in omega arith);
+    }
+
+pub loop-member-preserved : goal.loop-member-preserved
+loop-member-preserved c =
+    let i = c.loop-member.invariant in
+    let v = c.in-Some.member in
+    let e = split c.args.members i.0 c.loop-member.rest c.in-Some.others v i.1 c.in-Some.ensures in
+    let more = items-push RowOf i.0 (map row_of c.loop-member.rows.items) v (row_of c.in-Ok.row) i.2 c.in-Ok.ensures.row in
+    let grown : map row_of c.push.new.self.items ≡ map row_of c.loop-member.rows.items ++ row_of c.in-Ok.row ∷ [] =
+    ap (map row_of) c.in-Ok-push.ensures.items ∙ map-append row_of c.loop-member.rows.items (c.in-Ok.row ∷ []) in (
+      i.0 ++ v ∷ [],
+      moved c.args.members i.0 c.in-Some.others v e,
+      subst (λ (rows : List Row). AllZip RowOf (i.0 ++ v ∷ []) rows) (sym grown) more,
+      items-next row_fault c.args.members i.0 c.loop-member.rest c.in-Some.others v i.3 c.in-Some.ensures c.in-Ok.ensures.faultless,
+    )
+
+pub loop-member-init : goal.loop-member-init
+loop-member-init c = (
+  [],
+  refl,
+  subst (λ (rows : List Row). AllZip RowOf [] rows) (sym (ap (map row_of) c.new-rows.ensures.items)) tt,
+  items-all row_fault c.args.members,
+)
