@@ -1,28 +1,22 @@
 #!/usr/bin/env python3
-"""Times `spki check` on long chains of certificates and on wide texts, and beside `openssl`. `slowest.py` has slower texts.
+"""Times `spki check` on long chains of certificates and on wide texts, and beside `openssl`. `slowest.py` has slower texts. Times are
+processor times, the least of some runs.
 
 Build the program first (`rt run` in crates/spki). Usage: bench/chains.py [PROGRAM]
 """
 import subprocess
 import sys
-import tempfile
-import time
 
 from check import LIMIT_MEMORY, LIMIT_RATIO, PROGRAM, STAR, group, key, run, string
-from memory import peak
-from shapes import a_set, by_keys, case, certificate, digest, entry, keys_of, through_names
+from memory import peak, processor_seconds
+from shapes import a_set, by_hashes, by_keys, case, certificate, entry, keys_of, through_names
 
 LENGTHS = [94, 375, 1500]
 RUNS = 30
 LIMIT_SECONDS = 1.0
+# The most seconds of a step behind a tag of 998,001 strings: 15 ns for each string, and nothing for `(*)`.
+LIMIT_STEPS = {"(*)": 0.001, "a": 0.015}
 MOST_OCTETS = 1024 * 1024
-
-
-def by_hashes(length):
-    """The same, where the issuers are hashes of keys that are shown, and the subjects are hashes."""
-    keys = keys_of(length)
-    links = [(certificate(digest(issuer), digest(subject)), issuer) for issuer, subject in zip(keys, keys[1:])]
-    return case([entry(digest(keys[0]))], links, keys[:-1], keys[-1])
 
 
 def grown():
@@ -97,7 +91,7 @@ def steps():
     """The seconds that each further certificate takes behind such a tag, and the memory."""
     for what, tag in (("(*)", STAR), ("a", string("a"))):
         few, many = behind_a_large_tag(1, tag), behind_a_large_tag(21, tag)
-        took = (min(run(many, b"no\n") for _ in range(3)) - min(run(few, b"no\n") for _ in range(3))) / 20
+        took = (min(run(many, b"no\n") for _ in range(5)) - min(run(few, b"no\n") for _ in range(5))) / 20
         yield what, max(took, 0.0), peak(PROGRAM, "check", many)
 
 
@@ -105,15 +99,9 @@ def beside_openssl():
     """A decision by three certificates, and the SHA-256 of the same octets by `openssl`, each a process of its own."""
     text = by_keys(3)
     decided = min(run(text, b"yes entry 1\n") for _ in range(50))
-    with tempfile.NamedTemporaryFile() as file:
-        file.write(text)
-        file.flush()
-        times = []
-        for _ in range(50):
-            begun = time.perf_counter()
-            subprocess.run(["openssl", "dgst", "-sha256", file.name], stdout=subprocess.DEVNULL, check=True)
-            times.append(time.perf_counter() - begun)
-    return decided, min(times)
+    words = ["openssl", "dgst", "-sha256"]
+    hashed = min(processor_seconds(words, input=text, stdout=subprocess.DEVNULL, check=True)[1] for _ in range(50))
+    return decided, hashed
 
 
 def main():
@@ -126,9 +114,12 @@ def main():
         slowest, most = max(slowest, took), max(most, memory)
         print(f"{what}, {len(text)} octets: {took:.2f} s, {memory:.1f} MiB")
     print(f"longest: {slowest:.2f} s (at most {LIMIT_SECONDS})")
+    over = []
     for what, took, memory in steps():
-        print(f"a certificate for {what} behind a tag of 998,001 nodes: {took * 1000:.1f} ms, {memory:.1f} MiB")
+        print(f"a certificate for {what} behind a tag of 998,001 strings: {took * 1000:.1f} ms (at most {LIMIT_STEPS[what] * 1000:.0f}), "
+              f"{memory:.1f} MiB")
         most = max(most, memory)
+        over += [what] if took > LIMIT_STEPS[what] else []
     for what, text in large_tags():
         memory = peak(PROGRAM, "check", text)
         print(f"a large tag of {what}, {len(text)} octets: {memory:.1f} MiB")
@@ -136,7 +127,7 @@ def main():
     decided, hashed = beside_openssl()
     print(f"a chain of three certificates: {decided * 1000:.2f} ms, openssl {hashed * 1000:.2f} ms, ratio {decided / hashed:.2f}")
     print(f"most memory: {most:.1f} MiB (at most {LIMIT_MEMORY})")
-    if worst > LIMIT_RATIO or slowest > LIMIT_SECONDS or most > LIMIT_MEMORY:
+    if over or worst > LIMIT_RATIO or slowest > LIMIT_SECONDS or most > LIMIT_MEMORY:
         sys.exit(1)
 
 

@@ -1,14 +1,14 @@
 #!/usr/bin/env python3
-"""Times `spki check` on large cases, and prints how the time grows with the octets and how much memory it takes.
+"""Times `spki check` on large cases, and prints how the time grows with the octets and how much memory it takes. Times are processor
+times, the least of some runs.
 
 Build the program first (`rt run` in crates/spki). Usage: bench/check.py [PROGRAM]
 """
 import os
 import subprocess
 import sys
-import time
 
-from memory import peak
+from memory import peak, processor_seconds
 
 sys.path.append(os.path.join(os.path.dirname(os.path.abspath(__file__)), "..", "tests"))
 from support import PROGRAM as BUILT, group, string  # noqa: E402
@@ -94,13 +94,11 @@ def no_value(size):
     return b"(" + b"()" * ((size - 1) // 2), b"refused form Short\n"
 
 
-def run(text, wanted):
-    process = subprocess.Popen([PROGRAM, "check"], stdin=subprocess.PIPE, stdout=subprocess.PIPE)
-    begun = time.perf_counter()
-    out, _ = process.communicate(text)
-    took = time.perf_counter() - begun
-    if not out.startswith(wanted):
-        sys.exit(f"wrong answer: {out!r}, wanted {wanted!r}")
+def run(text, wanted, timeout=None):
+    """The processor time of a decision, whose answer begins as wanted."""
+    done, took = processor_seconds([PROGRAM, "check"], input=text, stdout=subprocess.PIPE, timeout=timeout)
+    if not done.stdout.startswith(wanted):
+        sys.exit(f"wrong answer: {done.stdout!r}, wanted {wanted!r}")
     return took
 
 

@@ -13,7 +13,7 @@ import subprocess
 import sys
 import tempfile
 
-from memory import peak
+from memory import peak, processor_seconds
 
 sys.path.append(os.path.join(os.path.dirname(os.path.abspath(__file__)), "..", "tests"))
 from support import PROGRAM as BUILT, braced  # noqa: E402
@@ -23,7 +23,7 @@ PEER = "sexp-conv"
 FORMS = ("canonical", "advanced", "transport")
 SIZES = [64 * 1024, 256 * 1024, 1024 * 1024]
 RUNS = 7
-LIMIT_PEER = 0.5
+LIMIT_PEER = 0.40
 LIMIT_RATIO = 5.0
 LIMIT_MEMORY = 256
 
@@ -105,16 +105,9 @@ class Text:
             return subprocess.run(command, stdin=reader, stdout=subprocess.PIPE, check=True).stdout
 
     def seconds(self, command):
-        """The processor time of one run, which other programs on the machine disturb less than the time on the clock."""
-        files = [
-            (os.POSIX_SPAWN_OPEN, 0, self.file.name, os.O_RDONLY, 0),
-            (os.POSIX_SPAWN_OPEN, 1, os.devnull, os.O_WRONLY, 0),
-        ]
-        child = os.posix_spawnp(command[0], command, os.environ, file_actions=files)
-        _, status, used = os.wait4(child, 0)
-        if status != 0:
-            sys.exit(f"{command} ended with {status}")
-        return used.ru_utime + used.ru_stime
+        """The processor time of one run."""
+        with open(self.file.name, "rb") as reader:
+            return processor_seconds(command, stdin=reader, stdout=subprocess.DEVNULL, check=True)[1]
 
 
 def ours(form):

@@ -1,4 +1,4 @@
-"""How many instructions a run of a program takes."""
+"""How many instructions a run of a program takes, or a call that it repeats."""
 import re
 import subprocess
 import tempfile
@@ -33,3 +33,11 @@ def counter():
     except OSError:
         pass
     return counted_by_valgrind
+
+
+def of_one_call(count, words, calls=100):
+    """The instructions of one call by a program whose last word is the number of calls: what further calls add, divided by their number.
+    What the program does besides is the same for each number of calls."""
+    subprocess.run([*words, "1"], stdout=subprocess.DEVNULL, check=True)
+    few, many = (counted(count, [*words, str(number)], b"") for number in (1, 1 + calls))
+    return (many - few) / calls

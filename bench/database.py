@@ -17,8 +17,7 @@ import tempfile
 import time
 
 from check import STAR, group, key, string
-from macaroons import parts_of
-from shapes import case, certificate, entry
+from shapes import case, certificate, entry, parts_of
 
 sys.path.append(os.path.join(os.path.dirname(os.path.abspath(__file__)), "..", "tests"))
 from support import EXAMPLES, LIBRARY, TOP  # noqa: E402

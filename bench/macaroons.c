@@ -1,6 +1,10 @@
-/* Times, in one process, a decision by three certificates through spki_c, from the text of a case and through a guard that is open
- * already, and the verification of a macaroon with three caveats by libmacaroons, from its text to yes. Prints the three in microseconds.
- * The first word names the file of the case, and the second that of its parts. */
+/* Three ways to grant, in one process: a decision by three certificates through spki_c, from the text of a case (0), and through a guard
+ * that is open already (1); and the verification of a macaroon with three caveats by libmacaroons, from its text to yes (2).
+ *
+ * macaroons CASE PARTS              prints the microseconds of each way
+ * macaroons CASE PARTS WAY CALLS    grants CALLS times by one way, for counting instructions
+ *
+ * CASE is the file of the case, and PARTS that of its parts. */
 #define _POSIX_C_SOURCE 199309L
 #include <macaroons.h>
 #include <time.h>
@@ -68,16 +72,11 @@ static double time_of(int (*call)(void))
     return ((to.tv_sec - from.tv_sec) * 1e6 + (to.tv_nsec - from.tv_nsec) / 1e3) / CALLS;
 }
 
-int main(int count, char **words)
+static int (*const ways[WAYS])(void) = {decides, grants, verifies};
+
+/* Prints the least time of each way, or returns 1 if one does not say yes. */
+static int print_times(void)
 {
-    FILE *file = count == 3 ? fopen(words[1], "rb") : NULL;
-    if (!file) return 2;
-    length = fread(text, 1, sizeof text, file);
-    fclose(file);
-    mint();
-    held = held_in(words[2], NULL);
-    if (list_signed(&held) != SPKI_DONE) return 1;
-    int (*const ways[WAYS])(void) = {decides, grants, verifies};
     double least[WAYS] = {1e9, 1e9, 1e9};
     for (int turn = 0; turn < ROUNDS * WAYS; turn++) {
         double took = time_of(ways[turn % WAYS]);
@@ -86,4 +85,24 @@ int main(int count, char **words)
     if (least[0] < 0 || least[1] < 0 || least[2] < 0) return 1;
     printf("%.1f %.1f %.1f\n", least[0], least[1], least[2]);
     return 0;
+}
+
+/* Grants so many times by one way, or returns 1 if it does not say yes. */
+static int repeat(unsigned long way, long calls)
+{
+    for (long i = 0; i < calls; i++)
+        if (way >= WAYS || !ways[way]()) return 1;
+    return 0;
+}
+
+int main(int count, char **words)
+{
+    FILE *file = count == 3 || count == 5 ? fopen(words[1], "rb") : NULL;
+    if (!file) return 2;
+    length = fread(text, 1, sizeof text, file);
+    fclose(file);
+    mint();
+    held = held_in(words[2], NULL);
+    if (list_signed(&held) != SPKI_DONE) return 1;
+    return count == 3 ? print_times() : repeat(strtoul(words[3], NULL, 10), strtol(words[4], NULL, 10));
 }

@@ -14,18 +14,14 @@ import subprocess
 import sys
 import tempfile
 
-from chains import by_keys
+from shapes import by_keys, parts_of
 
 sys.path.append(os.path.join(os.path.dirname(os.path.abspath(__file__)), "..", "tests"))
-from support import BENCH, LIBRARY, TOP, canonical, read  # noqa: E402
+from support import BENCH, LIBRARY, TOP  # noqa: E402
 
 FLAGS = ["-O2", "-Wall", "-Wextra", "-std=c11"]
-
-
-def parts_of(text):
-    """The list, the sequence, the key, the request and the moment of a case."""
-    _, acl, _, sequence, asker, request, moment, *_ = read(text)
-    return [canonical(it) for it in (acl, sequence, asker[1], request[1], moment[1])]
+# Two of the ways to grant that macaroons.c numbers.
+GUARD, MACAROON = "1", "2"
 
 
 def written_parts(text):
@@ -38,8 +34,8 @@ def is_there():
     return subprocess.run(["cc", "-E", "-"], input=b"#include <macaroons.h>\n", capture_output=True).returncode == 0
 
 
-def measured(folder, library=LIBRARY):
-    """The microseconds of a decision from a case's text, of one through a guard, and of a verification; None without libmacaroons."""
+def built(folder, library=LIBRARY):
+    """The words that start the program of macaroons.c in a folder, or None without libmacaroons."""
     if not is_there():
         return None
     program, case, parts = (os.path.join(folder, name) for name in ("macaroons", "case", "parts"))
@@ -49,15 +45,18 @@ def measured(folder, library=LIBRARY):
     words = ["cc", *FLAGS, "-I", os.path.join(TOP, "crates", "spki_c"), "-o", program, os.path.join(BENCH, "macaroons.c"), library]
     if subprocess.run([*words, "-lmacaroons"]).returncode:
         sys.exit(f"bench/macaroons.c does not compile with {library}: build it by crates/spki_c/archive.py")
-    return tuple(map(float, subprocess.run([program, case, parts], stdout=subprocess.PIPE, check=True, text=True).stdout.split()))
+    return [program, case, parts]
+
+
+def measured(words):
+    """The microseconds of a decision from a case's text, of one through a guard, and of a verification."""
+    return tuple(map(float, subprocess.run(words, stdout=subprocess.PIPE, check=True, text=True).stdout.split()))
 
 
 def main():
     with tempfile.TemporaryDirectory() as folder:
-        met = measured(folder)
-    if met is None:
-        sys.exit("libmacaroons is not there (Debian: libmacaroons-dev)")
-    decision, through_guard, verification = met
+        words = built(folder) or sys.exit("libmacaroons is not there (Debian: libmacaroons-dev)")
+        decision, through_guard, verification = measured(words)
     print(f"three certificates: from a case's text {decision} µs, through a guard {through_guard} µs; "
           f"a macaroon with three caveats {verification} µs")
 

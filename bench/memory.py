@@ -1,24 +1,33 @@
-"""The time that a run of a program takes, and the most memory."""
+"""The processor time that a run of a program takes, and the most memory. Other programs on the machine disturb processor time less than
+the time on the clock."""
+import resource
 import subprocess
 import sys
 import tempfile
 
 # A process counts the memory that it had before it became the program, so a small one starts it.
 STARTER = """
-import os, sys, time
-begun = time.perf_counter()
+import os, sys
 child = os.fork()
 if child == 0:
     os.dup2(os.open(sys.argv[3], os.O_RDONLY), 0)
     os.dup2(os.open(os.devnull, os.O_WRONLY), 1)
     os.execv(sys.argv[1], sys.argv[1:3])
 used = os.wait4(child, 0)[2]
-print(time.perf_counter() - begun, used.ru_maxrss)
+print(used.ru_utime + used.ru_stime, used.ru_maxrss)
 """
 
 
+def processor_seconds(words, **settings):
+    """How one run of a program ended, and its processor time."""
+    before = resource.getrusage(resource.RUSAGE_CHILDREN)
+    done = subprocess.run(words, **settings)
+    after = resource.getrusage(resource.RUSAGE_CHILDREN)
+    return done, after.ru_utime + after.ru_stime - before.ru_utime - before.ru_stime
+
+
 def used(program, command, text):
-    """The seconds and the MiB of one run of a command of the program on a text."""
+    """The processor seconds and the MiB of one run of a command of the program on a text."""
     with tempfile.NamedTemporaryFile() as file:
         file.write(text)
         file.flush()

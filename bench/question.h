@@ -47,11 +47,18 @@ static enum spki_status list_signed(struct held *held)
     return spki_guard_signed(held->guard, &held->question, listed, MOST_LISTED, &held->count, held->buffer, held->room, &needed);
 }
 
+/* A call that answers a question. */
+typedef enum spki_status wish(const spki_guard *, const struct spki_question *, const unsigned char *, size_t, void *, size_t, size_t *);
+
+static enum spki_status answered(struct held *held, wish *call)
+{
+    size_t needed;
+    return call(held->guard, &held->question, held->verified, held->count, held->buffer, held->room, &needed);
+}
+
 static enum spki_status decided(struct held *held)
 {
-    unsigned char line[64];
-    size_t needed;
-    return spki_guard_decide(held->guard, &held->question, held->verified, held->count, line, sizeof line, &needed);
+    return answered(held, spki_guard_decide);
 }
 
 /* The guard and the question of a file, and the number of the signatures that are asked of. */

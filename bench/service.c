@@ -1,20 +1,25 @@
 /* Times what a service does with the library, and prints numbers that `service.py` compares.
  *
- * service decide FILE ..        of each file the µs of listing the signatures and of a decision, in one process, by turns
- * service open LIST CASE        the µs of opening a guard of a list, and of SPKI_CHECK on a case of the same list
- * service widest FILE           with limits of 64 KiB and 10,000 nodes: the status, the ms of the processor, and the MiB, of one question
- * service threads N FILE        of one thread and of N, each with a guard of its own, the decisions in a second and in a processor second;
- *                               and how many times as far N threads count as one
- * service repeat CALLS FILE     CALLS decisions, for counting instructions
- * service reopen CALLS FILE     CALLS guards of the list, for counting instructions */
-#define _POSIX_C_SOURCE 200809L
+ * service decide FILE           the µs of listing the signatures and of a decision
+ * service widest WISH FILE      with limits of 64 KiB and 10,000 nodes, of one question whose answer is `decide`, `explain` or `reduce`: the
+ *                               status, the ms of the processor, those of listing the signatures, and the MiB
+ * service threads N FILE        of one thread and of N, each with a guard of its own, the decisions in a second; how many times as far N
+ *                               threads count as one; and how often the N threads waited for each 1,000 decisions
+ *
+ * For counting instructions:
+ *
+ * service repeat FILE CALLS     CALLS decisions through one guard
+ * service reopen LIST CALLS     CALLS guards of a list
+ * service answer CASE CALLS     CALLS decisions of a case, each from its text */
+#define _GNU_SOURCE
 #include "question.h"
 #include <pthread.h>
 #include <stdatomic.h>
 #include <stdbool.h>
+#include <sys/resource.h>
 #include <time.h>
 
-enum { ROUNDS = 40, CALLS = 50, MOST_FILES = 16, MOST_THREADS = 64, OPENINGS = 10, TURNS = 5 };
+enum { ROUNDS = 40, CALLS = 50, MOST_THREADS = 64, TURNS = 5 };
 
 /* The µs of a clock. */
 static double time_by(clockid_t clock)
@@ -44,19 +49,15 @@ static double time_of(enum spki_status (*call)(struct held *), struct held *held
     return (now() - begun) / CALLS;
 }
 
-static void decide_files(int count, char **files)
+static void decide_file(const char *path)
 {
-    static struct held held[MOST_FILES];
-    static double listing[MOST_FILES], deciding[MOST_FILES];
-    for (int i = 0; i < count; i++)
-        held[i] = held_in(files[i], NULL);
-    for (int round = 0; round < ROUNDS; round++)
-        for (int i = 0; i < count; i++) {
-            keep_least(&listing[i], time_of(list_signed, &held[i], SPKI_DONE));
-            keep_least(&deciding[i], time_of(decided, &held[i], SPKI_YES));
-        }
-    for (int i = 0; i < count; i++)
-        printf("%.2f %.2f\n", listing[i], deciding[i]);
+    struct held held = held_in(path, NULL);
+    double listing = 0, deciding = 0;
+    for (int round = 0; round < ROUNDS; round++) {
+        keep_least(&listing, time_of(list_signed, &held, SPKI_DONE));
+        keep_least(&deciding, time_of(decided, &held, SPKI_YES));
+    }
+    printf("%.2f %.2f\n", listing, deciding);
 }
 
 static struct spki_text whole_file(const char *path)
@@ -68,25 +69,6 @@ static struct spki_text whole_file(const char *path)
     text.length = fread((void *)text.octets, 1, 2 << 20, file);
     fclose(file);
     return text;
-}
-
-static void open_list(const char *list_path, const char *case_path)
-{
-    struct spki_text list = whole_file(list_path), asked = whole_file(case_path);
-    unsigned char line[64];
-    size_t needed;
-    double opening = 0, checking = 0;
-    for (int i = 0; i < OPENINGS; i++) {
-        double begun = now();
-        spki_guard *guard = open_guard(list, NULL);
-        keep_least(&opening, now() - begun);
-        spki_guard_close(guard);
-        begun = now();
-        if (spki_answer(SPKI_CHECK, asked.octets, asked.length, line, sizeof line, &needed) != SPKI_NO)
-            exit(4);
-        keep_least(&checking, now() - begun);
-    }
-    printf("%.1f %.1f\n", opening, checking);
 }
 
 /* A line of /proc/self/status, in KiB. */
@@ -113,9 +95,21 @@ static void forget_peak(void)
     }
 }
 
-static void ask_widest(const char *path)
+/* The call for an answer of this kind. */
+static wish *wish_of(const char *word)
+{
+    static const struct { const char *word; wish *call; } wishes[] = {
+        {"decide", spki_guard_decide}, {"explain", spki_guard_explain}, {"reduce", spki_guard_reduce}};
+    for (size_t i = 0; i < sizeof wishes / sizeof *wishes; i++)
+        if (!strcmp(word, wishes[i].word))
+            return wishes[i].call;
+    exit(2);
+}
+
+static void ask_widest(const char *word, const char *path)
 {
     const struct spki_limits limits = {65536, 10000};
+    wish *call = wish_of(word);
     struct held held = held_in(path, &limits);
     forget_peak();
     long before = memory("VmRSS:");
@@ -123,23 +117,32 @@ static void ask_widest(const char *path)
     enum spki_status status = list_signed(&held);
     double listed = time_by(CLOCK_PROCESS_CPUTIME_ID) - begun;
     if (status == SPKI_DONE)
-        status = decided(&held);
+        status = answered(&held, call);
     double took = time_by(CLOCK_PROCESS_CPUTIME_ID) - begun;
     printf("%d %.2f %.2f %.2f\n", status, took / 1e3, listed / 1e3, (memory("VmHWM:") - before) / 1024.0);
 }
 
 static atomic_bool stop;
 static struct held of_threads[MOST_THREADS];
-static struct { long count; char apart[120]; } made[MOST_THREADS];
+static struct { long count, waits; char apart[112]; } made[MOST_THREADS];
+
+/* How often the thread that calls has waited for something else than a processor. */
+static long waits(void)
+{
+    struct rusage used;
+    getrusage(RUSAGE_THREAD, &used);
+    return used.ru_nvcsw;
+}
 
 static void *decide_on(void *which)
 {
     size_t thread = (size_t)which;
-    long count = 0;
+    long count = 0, before = waits();
     while (!atomic_load_explicit(&stop, memory_order_relaxed))
         if (decided(&of_threads[thread]) == SPKI_YES)
             count++;
     made[thread].count = count;
+    made[thread].waits = waits() - before;
     return NULL;
 }
 
@@ -153,17 +156,17 @@ static void *count_on(void *which)
     return NULL;
 }
 
-/* What threads do in a second, and in a second of the processors. */
+/* What threads do in a second, and how often they wait for each 1,000 of it. */
 struct rate {
-    double by_time, by_processors;
+    double by_time, waits;
 };
 
 static struct rate rate_of(void *(*work)(void *), size_t threads)
 {
     pthread_t ids[MOST_THREADS];
-    long total = 0;
+    long total = 0, waited = 0;
     atomic_store(&stop, false);
-    double begun = now(), used = time_by(CLOCK_PROCESS_CPUTIME_ID);
+    double begun = now();
     for (size_t i = 0; i < threads; i++)
         if (pthread_create(&ids[i], NULL, work, (void *)i))
             exit(5);
@@ -172,14 +175,15 @@ static struct rate rate_of(void *(*work)(void *), size_t threads)
     for (size_t i = 0; i < threads; i++) {
         pthread_join(ids[i], NULL);
         total += made[i].count;
+        waited += made[i].waits;
     }
-    return (struct rate){total / (now() - begun) * 1e6, total / (time_by(CLOCK_PROCESS_CPUTIME_ID) - used) * 1e6};
+    return (struct rate){total / (now() - begun) * 1e6, waited * 1e3 / (total + 1)};
 }
 
-static void keep_most(struct rate *most, struct rate met)
+static void keep_fastest(struct rate *fastest, struct rate met)
 {
-    most->by_time = met.by_time > most->by_time ? met.by_time : most->by_time;
-    most->by_processors = met.by_processors > most->by_processors ? met.by_processors : most->by_processors;
+    if (met.by_time > fastest->by_time)
+        *fastest = met;
 }
 
 static void ask_by_threads(size_t threads, const char *path)
@@ -192,14 +196,13 @@ static void ask_by_threads(size_t threads, const char *path)
     }
     for (int turn = 0; turn < TURNS * 2; turn++) {
         int work = turn % 2;
-        keep_most(&one[work], rate_of(works[work], 1));
-        keep_most(&many[work], rate_of(works[work], threads));
+        keep_fastest(&one[work], rate_of(works[work], 1));
+        keep_fastest(&many[work], rate_of(works[work], threads));
     }
-    printf("%.0f %.0f %.0f %.0f %.2f\n", one[0].by_time, many[0].by_time, one[0].by_processors, many[0].by_processors,
-           many[1].by_time / one[1].by_time);
+    printf("%.0f %.0f %.2f %.3f\n", one[0].by_time, many[0].by_time, many[1].by_time / one[1].by_time, many[0].waits);
 }
 
-static void repeat(long calls, const char *path)
+static void repeat(const char *path, long calls)
 {
     struct held held = held_in(path, NULL);
     if (list_signed(&held) != SPKI_DONE)
@@ -209,28 +212,40 @@ static void repeat(long calls, const char *path)
             exit(4);
 }
 
-static void reopen(long calls, const char *path)
+static void reopen(const char *path, long calls)
 {
-    struct held held = held_in(path, NULL);
+    struct spki_text list = whole_file(path);
     for (long i = 0; i < calls; i++)
-        spki_guard_close(open_guard(held.list, NULL));
+        spki_guard_close(open_guard(list, NULL));
+}
+
+static void answer(const char *path, long calls)
+{
+    struct spki_text text = whole_file(path);
+    unsigned char line[64];
+    size_t needed;
+    for (long i = 0; i < calls; i++) {
+        enum spki_status status = spki_answer(SPKI_CHECK, text.octets, text.length, line, sizeof line, &needed);
+        if (status != SPKI_YES && status != SPKI_NO)
+            exit(4);
+    }
 }
 
 int main(int count, char **words)
 {
     const char *way = count > 2 ? words[1] : "";
-    if (!strcmp(way, "decide") && count - 2 <= MOST_FILES)
-        decide_files(count - 2, words + 2);
-    else if (!strcmp(way, "widest"))
-        ask_widest(words[2]);
-    else if (!strcmp(way, "open") && count > 3)
-        open_list(words[2], words[3]);
+    if (!strcmp(way, "decide"))
+        decide_file(words[2]);
+    else if (!strcmp(way, "widest") && count > 3)
+        ask_widest(words[2], words[3]);
     else if (!strcmp(way, "threads") && count > 3)
         ask_by_threads((size_t)strtoul(words[2], NULL, 10), words[3]);
     else if (!strcmp(way, "repeat") && count > 3)
-        repeat(strtol(words[2], NULL, 10), words[3]);
+        repeat(words[2], strtol(words[3], NULL, 10));
     else if (!strcmp(way, "reopen") && count > 3)
-        reopen(strtol(words[2], NULL, 10), words[3]);
+        reopen(words[2], strtol(words[3], NULL, 10));
+    else if (!strcmp(way, "answer") && count > 3)
+        answer(words[2], strtol(words[3], NULL, 10));
     else
         return 2;
     return 0;

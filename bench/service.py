@@ -1,16 +1,16 @@
 #!/usr/bin/env python3
-"""Times what a service does with a guard, through the library for C, and ends with another status where a limit is passed.
+"""Measures what a service does with a guard, through the library for C, and ends with another status where a limit is passed.
 
-- A decision without certificates and one by three certificates on a list of 10,000 entries, beside a list of one.
+- A decision without certificates and one by three certificates on lists of 10,000 entries for keys and for hashes, beside a list of one.
 - Opening a guard of 1 MiB, beside a decision of a case of the same list.
-- A decision by three certificates, beside libmacaroons' verification of a macaroon with three caveats. Where libmacaroons is not there
-  (Debian: libmacaroons-dev) this is left out.
-- With limits of 64 KiB and 10,000 nodes, the time and the memory of the widest questions that are known, also to a list with ten entries
-  for the key of the first issuer.
+- A decision by three certificates from the text of a case, and one through a guard beside libmacaroons' verification of a macaroon with three
+  caveats. Where libmacaroons is not there (Debian: libmacaroons-dev) this is left out.
+- With limits of 64 KiB and 10,000 nodes, the time and the memory of the widest questions that are known, with lists of up to 1 MiB.
 - A decision through the bindings for Rust and Python, beside the call in C. Where `cargo` is not there Rust is left out.
-- The decisions of 8 threads, each with a guard of its own, beside those of one. Where 8 threads that only count show that there are no four
-  free cores, the decisions in a second of the processors are compared, as if there were four.
+- The decisions of 8 threads, each with a guard of its own, beside those of one, as on four free cores: how many cores are free is how far
+  8 threads count beside one. A thread that decides must not wait for another one.
 
+The first three are compared by instructions, and where valgrind is not there they are left out; the questions by processor time.
 All ratios are taken in one run. Build the library first (crates/spki_c/archive.py).
 Usage: bench/service.py [LIBRARY]
 """
@@ -23,21 +23,27 @@ import time
 
 from chains import MOST_OCTETS, large_tags
 from check import group, key, string
-from macaroons import measured, parts_of, written_parts
-from shapes import a_set, by_keys, case, certificate, entry, keys_of
-from slowest import asked, chain, entries_and_chain, large_tag, long_issuer, long_key, long_name, shown
+from counting import counted_by_valgrind, counter, of_one_call
+from macaroons import GUARD, MACAROON, built, measured, written_parts
+from shapes import by_keys, case, certificate, digest, entry, keys_of, parts_of
+from slowest import LARGE_TAG, SHAPES, Shape, large_tag, most
 
 sys.path.append(os.path.join(os.path.dirname(os.path.abspath(__file__)), "..", "tests"))
 from support import BENCH, LIBRARY, TOP, canonical, read  # noqa: E402
 
 FLAGS = ["-std=c11", "-O2", "-Wall", "-Wextra", "-Wpedantic", "-Werror", "-pthread"]
 ENTRIES = 10_000
-THREADS, CORES, FREE_CORES = 8, 4, 3.8
+THREADS, CORES = 8, 4
 ROUNDS, CALLS, TURNS = 40, 50, 3
-QUESTION_OCTETS = 65_536
+# The limits of a guard for strangers' questions: octets, and the members of two sets or lists whose product of nodes is 10,000.
+QUESTION_OCTETS, QUESTION_MEMBERS = 65_536, 99
 SECONDS = 600
-LIMITS = {"10,000 entries, no certificate": 1.5, "10,000 entries, three certificates": 1.5, "opening 1 MiB": 1.3,
-          "three caveats": 1.0, "Rust": 1.1, "Python, µs more": 20.0, "a question's ms": 100.0, "a question's MiB": 16.0, "threads": 3.5}
+MOST = {"10,000 keys, no certificate": 1.5, "10,000 keys, three certificates": 1.5, "10,000 hashes, no certificate": 1.5,
+        "10,000 hashes, three certificates": 1.5, "opening 1 MiB": 1.3, "instructions of a case": 96_000, "three caveats": 1.0, "Rust": 1.1,
+        "Python, µs more": 20.0, "a question's ms": 100.0, "a question's MiB": 16.0, "waits of 1,000 decisions": 1.0}
+LEAST = {"threads": 3.5}
+# What the library's statuses say.
+ANSWERS = {0: "yes", 1: "no", 2: "refused", 6: "done"}
 
 
 class Driver:
@@ -60,56 +66,83 @@ class Driver:
         """The path of a file with the parts of a case."""
         return self.file(name, written_parts(text))
 
+    def instructions(self, way, path, calls=100):
+        """The instructions of one call."""
+        return of_one_call(counter(), [self.program, way, path], calls)
+
     def run(self, *words):
-        """The numbers of each line that the driver prints."""
+        """The numbers that the driver prints."""
         done = subprocess.run([self.program, *map(str, words)], stdout=subprocess.PIPE, text=True, timeout=SECONDS)
         if done.returncode:
             sys.exit(f"service {' '.join(map(str, words))}: status {done.returncode}")
-        return [[float(number) for number in line.split()] for line in done.stdout.splitlines()]
+        return [float(number) for number in done.stdout.split()]
 
 
-def others(count):
-    """Entries of keys that ask for nothing."""
-    return [entry(key(f"other{place:06}")) for place in range(count)]
+def by_key(owner):
+    return owner
 
 
-def without(entries):
-    return case([*others(entries - 1), entry(key("k00000"))], [], asks=key("k00000"))
+def without(entries, subject_of):
+    """The last entry is that of the key that asks."""
+    return case([*others(entries - 1, subject_of), entry(subject_of(key("k00000")))], [], asks=key("k00000"))
 
 
-def with_three(entries):
+def with_three(entries, subject_of=by_key):
+    """The last entry is that of the first issuer."""
     keys = keys_of(3)
     links = [(certificate(issuer, subject), issuer) for issuer, subject in zip(keys, keys[1:])]
-    return case([*others(entries - 1), entry(keys[0])], links, asks=keys[-1])
+    return case([*others(entries - 1, subject_of), entry(subject_of(keys[0]))], links, asks=keys[-1])
+
+
+def others(count, subject_of=by_key):
+    """Entries of keys that ask for nothing."""
+    return [entry(subject_of(key(f"other{place:06}"))) for place in range(count)]
 
 
 def many_entries(driver):
     """The ratios of decisions with 10,000 entries to those with one."""
-    for what, make in (("no certificate", without), ("three certificates", with_three)):
-        few, many = driver.run("decide", driver.question("few", make(1)), driver.question("many", make(ENTRIES)))
-        print(f"{what}: 1 entry {few[1]:.1f} µs, {ENTRIES:,} entries {many[1]:.1f} µs; the signatures are listed in {few[0]:.1f} µs and "
-              f"{many[0]:.1f} µs")
-        yield f"10,000 entries, {what}", many[1] / few[1]
+    for subjects, subject_of in (("keys", by_key), ("hashes", digest)):
+        for what, make in (("no certificate", without), ("three certificates", with_three)):
+            few, many = (driver.instructions("repeat", driver.question("entries", make(count, subject_of))) for count in (1, ENTRIES))
+            print(f"{what}: 1 entry {few:,.0f} instructions, {ENTRIES:,} {subjects} {many:,.0f}", flush=True)
+            yield f"10,000 {subjects}, {what}", many / few
 
 
 def opened(driver):
     """The ratio of opening a list of 1 MiB to a decision of a case of it."""
     empty = len(case([], [], asks=key("a")))
     text = case(others((MOST_OCTETS - empty) // len(others(1)[0])), [], asks=key("a"))
-    (opening, checking), = driver.run("open", driver.file("list", parts_of(text)[0]), driver.file("case", text))
-    print(f"opening a list of {len(parts_of(text)[0]):,} octets {opening / 1e3:.2f} ms, SPKI_CHECK on a case of it {checking / 1e3:.2f} ms")
+    opening = driver.instructions("reopen", driver.file("list", parts_of(text)[0]), 2)
+    checking = driver.instructions("answer", driver.file("case", text), 2)
+    print(f"opening a list of {len(parts_of(text)[0]):,} octets {opening:,.0f} instructions, SPKI_CHECK on a case of it {checking:,.0f}", flush=True)
     yield "opening 1 MiB", opening / checking
+
+
+def from_text(driver):
+    """The instructions of a decision by three certificates from the text of a case."""
+    yield "instructions of a case", driver.instructions("answer", driver.file("case", by_keys(3)))
 
 
 def beside_macaroons(driver):
     """The ratio of a decision by three certificates to the verification of a macaroon, where libmacaroons is there."""
-    met = measured(driver.room, driver.library)
-    if met is None:
+    words = built(driver.room, driver.library)
+    if words is None:
         print("libmacaroons is not there (Debian: libmacaroons-dev): the decision beside a macaroon is left out")
         return
-    _, decision, verification = met
+    _, decision, verification = measured(words)
     print(f"three certificates through a guard {decision:.1f} µs, a macaroon with three caveats {verification:.1f} µs")
+    decision, verification = (of_one_call(counter(), [*words, way]) for way in (GUARD, MACAROON))
+    print(f"in instructions {decision:,.0f} and {verification:,.0f}", flush=True)
     yield "three caveats", decision / verification
+
+
+def by_instructions(driver):
+    """What is compared by instructions, where they can be counted."""
+    if counter() is counted_by_valgrind and shutil.which("valgrind") is None:
+        print("valgrind is not there (Debian: valgrind): what is compared by instructions is left out")
+        return
+    for part in (many_entries, opened, from_text, beside_macaroons):
+        yield from part(driver)
 
 
 def built_in_rust(driver):
@@ -161,7 +194,7 @@ def bindings(driver):
     path, rust = driver.question("three", text), built_in_rust(driver)
     met = {"C": [], "Rust": [], "Python": []}
     for _ in range(TURNS):
-        met["C"].append(sum(driver.run("decide", path)[0]))
+        met["C"].append(sum(driver.run("decide", path)))
         met["Python"].append(through_python(driver, text))
         if rust:
             met["Rust"].append(float(subprocess.run([rust, path], stdout=subprocess.PIPE, check=True, text=True).stdout))
@@ -172,73 +205,62 @@ def bindings(driver):
     yield "Python, µs more", least["Python"] - least["C"]
 
 
-def fitting(make):
-    """The longest of the cases that a shape makes whose question has at most 64 KiB, and that itself has at most 1 MiB."""
-    low, high = 16 * 1024, MOST_OCTETS
-    while high - low > 1024:
-        middle = (low + high) // 2
-        fits = sum(map(len, parts_of(make(middle)[1])[1:])) <= QUESTION_OCTETS
-        low, high = (middle, high) if fits else (low, middle)
-    return make(low)
+def question_of(text):
+    """The octets of the parts of a case that a client sends."""
+    return sum(map(len, parts_of(text)[1:]))
 
 
-def many_small_meets(size):
-    """Two sets whose intersection has 9,604 strings, and certificates for one string, each of which goes over them."""
-    owner, large = key("k"), a_set(string("a"), 98)
-    first, cert = certificate(owner, owner, large), certificate(owner, owner, string("a"))
-    item = shown(cert, owner)
-    certificates = (size - 4 * 1024) // len(item)
-    return (f"two sets whose intersection has 9,604 strings, {certificates:,} times a certificate for one string",
-            asked([entry(owner, large)], [], [shown(first, owner)] + [item] * certificates))
+def widest_of(shape):
+    """The case of a shape whose list has at most 1 MiB and whose question at most 64 KiB, and what it is."""
+    entries = shape.entries(MOST_OCTETS, QUESTION_MEMBERS)
+    certificates = most(lambda count: question_of(shape.make(1, count, QUESTION_MEMBERS)), QUESTION_OCTETS)
+    return f"{shape.name}, {entries:,} and {certificates:,}", shape.make(entries, certificates, QUESTION_MEMBERS)
 
 
-def ten_entries(size):
-    """The same with ten entries for the first issuer, each with a set of its own."""
-    _, text = many_small_meets(size)
-    value = read(text)
-    owner = key("k")
-    sets = [group(string("*"), string("set"), string(f"b{place}"), *[string("a")] * 97) for place in range(10)]
-    value[1] = read(group(string("acl"), *[entry(owner, one) for one in sets]))
-    return "ten entries with sets of their own for the first issuer", canonical(value)
+def ten_entries(entries, certificates, members):
+    """A large tag, with ten entries for the first issuer, each with a set of its own."""
+    value = read(large_tag(1, certificates, members))
+    sets = [group(string("*"), string("set"), string(f"b{place}"), *[string("a")] * (members - 1)) for place in range(10)]
+    value[1] = read(group(string("acl"), *[entry(key("k"), one) for one in sets]))
+    return canonical(value)
 
 
 def one_question(driver, what, text):
-    """The milliseconds and the MiB of one question."""
-    (status, milliseconds, listing, mebibytes), = driver.run("widest", driver.question("wide", text))
-    octets = list(map(len, parts_of(text)))
-    print(f"{what}: list of {octets[0]:,} octets, question of {sum(octets[1:]):,}: {['yes', 'no', 'refused'][int(status)]}, "
-          f"{milliseconds:.1f} ms, of which {listing:.1f} list the signatures, {mebibytes:.1f} MiB", flush=True)
-    return milliseconds, mebibytes
+    """The milliseconds and the MiB of each kind of answer to one question."""
+    path = driver.question("wide", text)
+    listed, asked = len(parts_of(text)[0]), question_of(text)
+    print(f"{what}: list of {listed:,} octets, question of {asked:,}")
+    for wish in ("decide", "explain", "reduce"):
+        runs = [driver.run("widest", wish, path) for _ in range(TURNS)]
+        status, milliseconds, listing, mebibytes = min(runs, key=lambda run: run[1])
+        print(f"    {wish}: {ANSWERS[status]}, {milliseconds:.1f} ms, of which {listing:.1f} list the signatures, {mebibytes:.1f} MiB", flush=True)
+        yield milliseconds, mebibytes
 
 
 def widest(driver):
-    """The most milliseconds and MiB of one question. Each further entry for the first issuer that has a tag of its own takes more time:
+    """The most milliseconds and MiB of one question. Each further entry for the first issuer that has a large tag of its own takes more time:
     of the list with ten of them the limit holds, and of one with a hundred it need not hold."""
-    makes = (chain, entries_and_chain, long_key, long_issuer, long_name, large_tag, many_small_meets, ten_entries)
-    shapes = [fitting(make) for make in makes]
+    shapes = [widest_of(shape) for shape in (*SHAPES, LARGE_TAG, Shape("", ten_entries))]
     shapes += [(f"large tags: {what}", text) for what, text in large_tags()]
-    shapes.append(("1,000 entries for the first issuer", by_keys(3, entries=1000, asks=key("other"))))
-    met = [one_question(driver, *each) for each in shapes]
+    met = [each for what, text in shapes for each in one_question(driver, what, text)]
     yield "a question's ms", max(milliseconds for milliseconds, _ in met)
     yield "a question's MiB", max(mebibytes for _, mebibytes in met)
 
 
 def threads(driver):
-    """The ratio of the decisions of 8 threads to those of one."""
-    (one, many, one_used, many_used, counting), = driver.run("threads", THREADS, driver.question("three", with_three(1)))
-    print(f"one thread {one:,.0f} decisions a second ({one_used:,.0f} in a processor second), {THREADS} threads {many:,.0f} "
-          f"({many_used:,.0f}); {THREADS} threads count {counting:.2f} times as far as one")
-    if counting >= FREE_CORES:
-        yield "threads", many / one
-    else:
-        print(f"there are no {CORES} free cores: the decisions in a processor second are compared")
-        yield "threads", CORES * many_used / one_used
+    """The ratio of the decisions of 8 threads to those of one, as on four free cores, and how often a thread waits."""
+    one, many, counting, waits = driver.run("threads", THREADS, driver.question("three", with_three(1)))
+    print(f"one thread {one:,.0f} decisions a second, {THREADS} threads {many:,.0f}; {THREADS} threads count {counting:.2f} times as far as one")
+    yield "threads", CORES * many / one / counting
+    yield "waits of 1,000 decisions", waits
 
 
 def is_kept(what, met):
-    """Whether a limit is kept. The decisions of threads have a least number, the others a most."""
-    kept = met >= LIMITS[what] if what == "threads" else met <= LIMITS[what]
-    print(f"{what}: {met:.2f} (at {'least' if what == 'threads' else 'most'} {LIMITS[what]:.2f}){'' if kept else ': LIMIT PASSED'}")
+    """Whether a limit is kept."""
+    least, most = LEAST.get(what, 0), MOST.get(what, float("inf"))
+    kept = least <= met <= most
+    limit = f"at least {least:,.2f}" if what in LEAST else f"at most {most:,.2f}"
+    print(f"{what}: {met:,.2f} ({limit}){'' if kept else ': LIMIT PASSED'}")
     return kept
 
 
@@ -246,7 +268,7 @@ def main():
     library = os.path.abspath(sys.argv[1] if len(sys.argv) > 1 else LIBRARY)
     with tempfile.TemporaryDirectory() as room:
         driver = Driver(room, library)
-        met = [each for part in (many_entries, opened, beside_macaroons, bindings, widest, threads) for each in part(driver)]
+        met = [each for part in (by_instructions, bindings, widest, threads) for each in part(driver)]
     if not all([is_kept(*each) for each in met]):
         sys.exit(1)
 

@@ -2,6 +2,7 @@
 import hashlib
 
 from check import STAR, group, key, string
+from support import canonical, read
 
 NOW = string("2024-01-01_00:00:00")
 
@@ -41,6 +42,13 @@ def keys_of(length):
     return [key(f"k{place:05}") for place in range(length + 1)]
 
 
+def by_hashes(length, asks=None):
+    """The same as `by_keys`, where the issuers are hashes of keys that are shown, and the subjects are hashes."""
+    keys = keys_of(length)
+    links = [(certificate(digest(issuer), digest(subject)), issuer) for issuer, subject in zip(keys, keys[1:])]
+    return case([entry(digest(keys[0]))], links, keys[:-1], asks or keys[-1])
+
+
 def by_keys(length, tag=STAR, entries=1, asks=None, turn=None):
     """Each certificate delegates from one key to the next. Every second entry has the tag of the turn, if there is one."""
     keys = keys_of(length)
@@ -59,3 +67,9 @@ def through_names(length, entries=1, asks=None):
 
 def a_set(member, members=999):
     return group(string("*"), string("set"), *[member] * members)
+
+
+def parts_of(text):
+    """The list, the sequence, the key, the request and the moment of a case."""
+    _, acl, _, sequence, asker, request, moment, *_ = read(text)
+    return [canonical(it) for it in (acl, sequence, asker[1], request[1], moment[1])]

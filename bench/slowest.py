@@ -1,26 +1,35 @@
 #!/usr/bin/env python3
 """Times `spki check` on the texts that are known to take longest for their octets: the table of README.md under "Limits".
 
-Each text is made for three lengths. A run is ended after a minute. Each text except the last has a limit of seconds at 1 MiB, and each
-except the last and the one of entries in turns a limit on the ratio of that time to the time at 256 KiB, if the time is long enough to be
-measured. The entries in turns take time for each entry and each certificate, so they have a limit of their own. The exit status is 1 if a
-limit is exceeded or an answer is wrong.
+Each text is made for three lengths. Times are processor times, the least of some runs. The limits are:
+
+- At most 5 times for 4 times the octets, and at most 1 second at 1 MiB, for each text except the last.
+- Many entries with many certificates take at most 1.5 times what the entries take with one certificate and the certificates with one entry.
+- The last text at 64 KiB takes at most a quarter of the time that it took before a member that remains was left where it is.
+
+The exit status is 1 if a limit is exceeded or an answer is wrong.
 
 Build the program first (`rt run` in crates/spki). Usage: bench/slowest.py [PROGRAM]
 """
 import subprocess
 import sys
-import time
+from dataclasses import dataclass
+from typing import Callable
 
-from check import PROGRAM, STAR, group, key, string
-from shapes import a_set, by_keys, certificate, definition, digest, entry, name, through_names
+from check import STAR, group, key, run, string
+from shapes import a_set, by_hashes, by_keys, certificate, definition, digest, entry, name, parts_of, through_names
 
 SIZES = [64 * 1024, 256 * 1024, 1024 * 1024]
-SECONDS = 60
-LIMIT_SECONDS = 1.0
-LIMIT_SECONDS_IN_TURNS = 3.0
-LIMIT_RATIO = 5.0
-LEAST_SECONDS = 0.2
+RUNS, ENOUGH_SECONDS, MOST_SECONDS = 7, 2.0, 120
+LIMIT_SECONDS, LIMIT_RATIO, LIMIT_SUM = 1.0, 5.0, 1.5
+# The seconds of the last text of 64 KiB before.
+LARGE_TAG_BEFORE = 17.6
+LIMIT_LARGE_TAG = LARGE_TAG_BEFORE / 4
+# The most members of a set or list of which two have 1,000,000 as the product of their nodes.
+MEMBERS = 999
+OTHER = key("other")
+OWNER = key("k")
+FTP = group(string("ftp"))
 
 
 def shown(octets, signer):
@@ -28,125 +37,218 @@ def shown(octets, signer):
     return octets + group(string("signature"), digest(octets), signer, string("sig"))
 
 
-def asked(entries, rows, items, asks=None):
-    """A case of these parts; the key that asks is none of theirs, so that every entry is tried."""
+def asked(entries, rows, items, asks=OTHER):
+    """A case of these parts. The key that asks is none of theirs, so that every entry is tried."""
     return group(
         string("case"), group(string("acl"), *entries), group(string("accepted"), *rows), group(string("sequence"), *items),
-        group(string("key"), asks or key("other")), group(string("request"), string("ftp")), group(string("at"), string("2024-01-01_00:00:00")))
+        group(string("key"), asks), group(string("request"), string("ftp")), group(string("at"), string("2024-01-01_00:00:00")))
 
 
 def row(octets, signer):
     return group(string("by"), signer, digest(octets), string("sig"))
 
 
-def chain(size):
-    """One entry, and a chain of certificates."""
-    link = len(by_keys(2)) - len(by_keys(1))
-    certificates = (size - 1024) // link
-    return f"1 entry, {certificates:,} certificates in a chain", by_keys(certificates, asks=key("other"))
+def repeated(entries, cert, certificates, before=()):
+    """A case of one certificate of the owner many times, with others before it."""
+    return asked(entries, [row(octets, OWNER) for octets in (*before, cert)],
+                 [shown(octets, OWNER) for octets in before] + [shown(cert, OWNER)] * certificates)
 
 
-def entries_and_chain(size, tag=STAR, what="all for (*)", turn=None):
-    """Entries for the first issuer, and a chain of certificates."""
-    link, one = len(by_keys(2, tag)) - len(by_keys(1, tag)), len(entry(key("k00000"), tag))
-    certificates, entries = (size // 2 - 512) // link, (size // 2 - 512) // one
-    return (f"{entries:,} entries for the first issuer, {certificates:,} certificates in a chain, {what}",
-            by_keys(certificates, tag, entries=entries, asks=key("other"), turn=turn))
+# Each shape makes a case of so many entries and certificates. The third number is the most members of a set or list.
+
+def chain(entries, certificates, members):
+    return by_keys(certificates, asks=OTHER)
 
 
-def entries_and_tags(size):
-    """The same, where the product of all nodes is over the limit, so that the entries' tag is intersected with each certificate's."""
-    return entries_and_chain(size, group(string("ftp")), "all for (ftp)")
+def chain_of_hashes(entries, certificates, members):
+    return by_hashes(certificates, OTHER)
 
 
-def entries_in_turns(size):
-    """The same, where each entry has another tag than the one before it, so that each entry's tag is intersected with each certificate's."""
-    return entries_and_chain(size, group(string("ftp")), "for (ftp), and every second entry for (*)", STAR)
+def chain_of_names(entries, certificates, members):
+    return through_names(certificates, asks=OTHER)
 
 
-def entries_and_names(size):
-    """Entries for the first name, and a chain of definitions."""
-    link, one = len(through_names(3)) - len(through_names(2)), len(entry(name(key("k00000"), "friends")))
-    certificates, entries = (size // 2 - 512) // link, (size // 2 - 512) // one
-    return (f"{entries:,} entries for the first name, {certificates:,} definitions in a chain",
-            through_names(certificates, entries=entries, asks=key("other")))
+def many_rows(entries, certificates, members):
+    """Certificates of one key, each with a row."""
+    certs = [certificate(OWNER, OWNER, group(string("*"), string("set"), string("ftp"), string(f"x{place:05}"))) for place in range(certificates)]
+    return asked([entry(OWNER)], [row(cert, OWNER) for cert in certs], [shown(cert, OWNER) for cert in certs])
 
 
-def long_key(size):
+def wide_lists(entries, certificates, members):
+    return by_keys(certificates, group(string("ftp"), *[string("x")] * (members - 1)), asks=OTHER)
+
+
+def wide_sets(entries, certificates, members):
+    return by_keys(certificates, group(string("*"), string("set"), *[string(f"{place:03}") for place in range(members)]), asks=OTHER)
+
+
+def list_of_members(entries, certificates, members):
+    """An entry for a list, and a certificate for its head."""
+    return repeated([entry(OWNER, group(string("ftp"), *[string("x")] * (members * 9 // 10 - 1)))], certificate(OWNER, OWNER, FTP), certificates)
+
+
+def entries_and_chain(entries, certificates, members):
+    return by_keys(certificates, entries=entries, asks=OTHER)
+
+
+def entries_and_tags(entries, certificates, members):
+    """The product of all nodes is over the limit, so that it alone says nothing."""
+    return by_keys(certificates, FTP, entries=entries, asks=OTHER)
+
+
+def entries_in_turns(entries, certificates, members):
+    """Each entry has another tag than the one before it."""
+    return by_keys(certificates, FTP, entries=entries, asks=OTHER, turn=STAR)
+
+
+def entries_with_own_tags(entries, certificates, members):
+    """Each entry has a tag that no other has, and that the certificates leave as it is."""
+    text = by_keys(certificates, FTP, entries=0, asks=OTHER)
+    listed = [entry(key("k00000"), group(string("ftp"), string(f"x{place:05}"))) for place in range(entries)]
+    return text.replace(group(string("acl")), group(string("acl"), *listed), 1)
+
+
+def entries_and_names(entries, certificates, members):
+    return through_names(certificates, entries=entries, asks=OTHER)
+
+
+def entries_and_two_words(entries, certificates, members):
+    """Entries for a friend of a friend, of whom the definitions resolve the first."""
+    text = through_names(certificates, entries=0, asks=OTHER)
+    listed = [entry(name(key("k00000"), "friends", "friend"))] * entries
+    return text.replace(group(string("acl")), group(string("acl"), *listed), 1)
+
+
+def long_key(entries, octets, members):
     """Entries for a hash, each of which is compared with a long key."""
-    one = entry(digest(key("k")))
-    entries, octets = (size // 2 - 512) // len(one), size // 2 - 512
-    return f"{entries:,} entries for a hash, an asking key of {octets:,} octets", asked([one] * entries, [], [], key("k" * octets))
+    return asked([entry(digest(OWNER))] * entries, [], [], key("k" * octets))
 
 
-def long_issuer(size):
+def long_issuer(entries, certificates, members):
     """Entries for the hash of a long key, and one certificate many times, from this hash to itself."""
-    long = key("k" * (size * 5 // 24))
-    one, cert = entry(digest(long)), certificate(digest(long), digest(long))
-    item = shown(cert, digest(long))
-    left = size - 2 * len(long) - 1024
-    entries, certificates = left // 3 // len(one), left * 2 // 3 // len(item)
-    return (f"{entries:,} entries, {certificates:,} times one certificate, all for the hash of a key of {len(long):,} octets",
-            asked([one] * entries, [row(cert, long)], [long] + [item] * certificates))
+    long = key("k" * (148 * certificates))
+    cert = certificate(digest(long), digest(long))
+    return asked([entry(digest(long))] * entries, [row(cert, long)], [long] + [shown(cert, digest(long))] * certificates)
 
 
-def long_name(size):
-    """An entry for a long name, and one definition many times, which takes a word of it away."""
-    owner = key("k")
-    cert = definition(name(owner, "n"), owner)
-    item = shown(cert, owner)
-    names, definitions = (size // 2 - 512) // len(string("n")), (size // 2 - 512) // len(item)
-    return (f"a subject of {names:,} names, {definitions:,} times one definition",
-            asked([entry(name(owner, *["n"] * names))], [row(cert, owner)], [item] * definitions))
+def long_name(names, certificates, members):
+    """An entry for a long name, and one definition many times, of its first word by itself."""
+    first = name(OWNER, "n")
+    return repeated([entry(name(OWNER, *["n"] * names))], definition(first, first), certificates)
 
 
-def large_tag(size):
-    """Two sets whose intersection has 998,001 strings, and one certificate many times, each of which goes over them."""
-    owner, large = key("k"), a_set(string("a"))
-    first, cert = certificate(owner, owner, large), certificate(owner, owner, string("a"))
-    item = shown(cert, owner)
-    certificates = (size - 10 * 1024) // len(item)
-    return (f"two sets whose intersection has 998,001 strings, {certificates:,} times a certificate for one string",
-            asked([entry(owner, large)], [row(first, owner), row(cert, owner)], [shown(first, owner)] + [item] * certificates))
+def large_tag(entries, certificates, members):
+    """Two sets whose intersection has the most strings, and one certificate many times, each of which goes over them."""
+    large = a_set(string("a"), members)
+    return repeated([entry(OWNER, large)], certificate(OWNER, OWNER, string("a")), certificates, [certificate(OWNER, OWNER, large)])
+
+
+@dataclass(frozen=True)
+class Shape:
+    """A kind of text, of which the list takes this part, and whether it is one of many entries and many certificates."""
+
+    what: str
+    make: Callable
+    listed: float = 0.5
+    is_product: bool = False
+
+    @property
+    def name(self):
+        return self.make.__name__
+
+    def entries(self, octets, members):
+        """How many entries have at most so many octets in the list."""
+        return most(lambda count: lengths_in_case(self.make(count, 2, members))[0], octets)
+
+    def fitting(self, size):
+        """The counts of entries and certificates in the largest text of at most so many octets."""
+        entries = self.entries(int(size * self.listed), MEMBERS)
+        others = lengths_in_case(self.make(1, 2, MEMBERS))[1]
+        listed = len(self.make(entries, 2, MEMBERS)) - others
+        return entries, most(lambda count: lengths_in_case(self.make(1, count, MEMBERS))[1], size - listed)
+
+    def text(self, size):
+        """What the largest text of at most so many octets is, and the text."""
+        counts = self.fitting(size)
+        return self.what.format(*counts), self.make(*counts, MEMBERS)
+
+
+def most(octets_of, octets):
+    """The greatest count for which the octets are at most so many, if they grow by the same for each; 1 if they do not grow."""
+    few, many = octets_of(2), octets_of(12)
+    return max(1, 2 + (octets - 16 - few) * 10 // (many - few)) if many > few else 1
+
+
+def lengths_in_case(text):
+    """The octets of a case's list, and of all else."""
+    listed = len(parts_of(text)[0])
+    return listed, len(text) - listed
+
+
+LARGE_TAG = Shape("two sets whose intersection has 998,001 strings, {1:,} times a certificate for one string", large_tag, 0.0)
+SHAPES = [
+    Shape("1 entry, {1:,} certificates in a chain", chain, 0.0),
+    Shape("1 entry, {1:,} certificates in a chain, by hashes of keys", chain_of_hashes, 0.0),
+    Shape("1 entry, {1:,} definitions of names in a chain", chain_of_names, 0.0),
+    Shape("1 entry, {1:,} certificates of one key", many_rows, 0.0),
+    Shape("1 entry, {1:,} certificates for lists of 1,000 nodes", wide_lists, 0.0),
+    Shape("1 entry, {1:,} certificates for sets of 1,000 nodes", wide_sets, 0.0),
+    Shape("1 entry for a list of 900 nodes, {1:,} times a certificate for its head", list_of_members, 0.0),
+    Shape("{0:,} entries for the first issuer, {1:,} certificates in a chain, all for (*)", entries_and_chain, is_product=True),
+    Shape("{0:,} entries for the first issuer, {1:,} certificates in a chain, all for (ftp)", entries_and_tags, is_product=True),
+    Shape("the same of {0:,} and {1:,}, every second entry for (*)", entries_in_turns, is_product=True),
+    Shape("the same of {0:,} and {1:,}, each entry with a tag of its own", entries_with_own_tags, is_product=True),
+    Shape("{0:,} entries for the first name, {1:,} definitions in a chain", entries_and_names, is_product=True),
+    Shape("{0:,} entries for names of two words, {1:,} definitions in a chain", entries_and_two_words, is_product=True),
+    Shape("{0:,} entries for a hash, an asking key of {1:,} octets", long_key),
+    Shape("{0:,} entries, {1:,} times one certificate, all for the hash of one long key", long_issuer, 0.25),
+    Shape("a subject of {0:,} names, {1:,} times one definition of the first by itself", long_name),
+]
 
 
 def seconds_of(text):
-    """How long the program takes for a text, and how that is printed."""
-    begun = time.perf_counter()
-    try:
-        done = subprocess.run([PROGRAM, "check"], input=text, stdout=subprocess.PIPE, timeout=SECONDS)
-    except subprocess.TimeoutExpired:
-        return SECONDS, f"over {SECONDS} s"
-    took = time.perf_counter() - begun
-    if done.stdout != b"no\n":
-        sys.exit(f"wrong answer: {done.stdout!r}")
-    return took, f"{took:.2f} s"
+    """The least processor time of some runs, or None if a run was ended."""
+    times = []
+    while len(times) < RUNS and sum(times) < ENOUGH_SECONDS:
+        try:
+            times.append(run(text, b"no\n", MOST_SECONDS))
+        except subprocess.TimeoutExpired:
+            return None
+    return min(times)
 
 
-def is_within(make, times):
-    """Whether the times of a text for these lengths are within the limits that it has."""
-    before, last = times[-2:]
-    if make is large_tag:
-        return True
-    if make is entries_in_turns:
-        return last <= LIMIT_SECONDS_IN_TURNS
-    grows = last >= LEAST_SECONDS and last > LIMIT_RATIO * before
-    return last <= LIMIT_SECONDS and not grows
+def timed(shape, sizes=SIZES):
+    """The times of a shape for these lengths, each of which is printed."""
+    for size in sizes:
+        what, text = shape.text(size)
+        took = seconds_of(text)
+        print(f"{len(text):>9,}  " + (f"{took:>8.3f} s" if took is not None else f"over {MOST_SECONDS} s") + f"  {what}", flush=True)
+        yield float("inf") if took is None else took
+
+
+def faults_of(shape):
+    """The limits that a shape exceeds."""
+    times = list(timed(shape))
+    ratio = max(after / before for before, after in zip(times, times[1:]))
+    if times[-1] > LIMIT_SECONDS:
+        yield f"{shape.name}: {times[-1]:.2f} s (at most {LIMIT_SECONDS})"
+    if ratio > LIMIT_RATIO:
+        yield f"{shape.name}: {ratio:.1f} times for 4 times the octets (at most {LIMIT_RATIO})"
+    if shape.is_product:
+        entries, certificates = shape.fitting(SIZES[-1])
+        parts = seconds_of(shape.make(entries, 1, MEMBERS)) + seconds_of(shape.make(1, certificates, MEMBERS))
+        print(f"{'':<9}  {parts:>8.3f} s  the entries with one certificate, and the certificates with one entry", flush=True)
+        if times[-1] > LIMIT_SUM * parts:
+            yield f"{shape.name}: {times[-1] / parts:.1f} times what its parts take (at most {LIMIT_SUM})"
 
 
 def main():
-    over = []
     print(f"{'octets':>9}  {'time':>10}  text")
-    for make in (chain, entries_and_chain, entries_and_tags, entries_in_turns, entries_and_names, long_key, long_issuer, long_name, large_tag):
-        times = []
-        for size in SIZES:
-            what, text = make(size)
-            took, shown_as = seconds_of(text)
-            times.append(took)
-            print(f"{len(text):>9,}  {shown_as:>10}  {what}", flush=True)
-        if not is_within(make, times):
-            over.append(make.__name__)
-    print(f"over the limits: {', '.join(over) or 'none'}")
+    over = [fault for shape in SHAPES for fault in faults_of(shape)]
+    first, *_ = timed(LARGE_TAG)
+    if first > LIMIT_LARGE_TAG:
+        over.append(f"{LARGE_TAG.name}: {first:.2f} s (at most {LIMIT_LARGE_TAG})")
+    print("over the limits:", *over or ["none"], sep="\n")
     if over:
         sys.exit(1)
 

@@ -37,6 +37,8 @@ LIMITS = (12, 16, 24, 32, 64, 128)
 MOST_FAULTS = 20
 VALGRIND_STEP = 9
 MOST_ASKS = 2097152
+# What a service may take from a client.
+SENT_OCTETS = 65536
 MOST_SECONDS, MOST_MEMORY = 10, 256
 STACK = 256 * 1024
 MEMORY = (2, b"refused Memory\n", b"")
@@ -50,11 +52,12 @@ UNSAID_FAULT = (3, b"", b"")
 # The calls that may be refused memory. `test_one_call` runs the example of each.
 CALLS = (
     "decode", "encode", "read_any", "print_advanced", "wrap", "unwrap_braces", "Doc::open", "read_advanced",
-    "Tag::read", "Ground::read", "Tag::meet", "Tag::write", "read_acl", "read_sequence", "read_key", "read_hash",
-    "Five::then", "fold_chain", "Five::resolve", "Four::then", "Five::write",
+    "Tag::read", "Ground::read", "Tag::meet", "Tag::into_meet_within", "Tag::write", "read_acl", "read_sequence", "read_key", "read_hash",
+    "Five::then", "fold_chain", "fold_owned", "Five::resolve", "Four::then", "Five::write",
     "Case::read", "decide", "reduce_case", "explain", "run",
     "Guard::read", "Guard::texts", "Guard::ask", "Asked::decide", "Asked::decide_by", "Asked::explain", "Asked::explain_by",
-    "Asked::reduce", "Asked::reduce_by", "answer_question", "signed_octets",
+    "Asked::reduce", "Asked::reduce_by", "answer_question", "signed_octets", "refused_list",
+    "decide of nine entries", "explain of nine entries", "reduce of nine entries",
 )
 # What is written of the cases of examples/, and of some of chains.py: the status and the line. A command that the program does not
 # have is passed over.
@@ -180,9 +183,9 @@ def most_work():
         yield make.__name__, "check", text, answer
     for make in (long.by_keys, long.by_hashes, long.through_names):
         yield make.__name__, "check", make(long.LENGTHS[-1]), b"yes entry 1\n"
-    for make in (slowest.entries_and_chain, slowest.entries_and_tags, slowest.entries_and_names, slowest.long_key, slowest.long_issuer,
-                 slowest.long_name):
-        yield make.__name__, "check", make(MOST_OCTETS)[1], b"no\n"
+    for shape in slowest.SHAPES:
+        yield shape.name, "check", shape.text(MOST_OCTETS)[1], b"no\n"
+    yield slowest.LARGE_TAG.name, "check", slowest.LARGE_TAG.text(SENT_OCTETS)[1], b"no\n"
     for what, text, answer in long.widest():
         yield what, "check", text, answer
         yield what, "explain", text, b"entry 1 "

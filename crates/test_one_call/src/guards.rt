@@ -4,10 +4,10 @@ ghost use Rattle.std.specs.Prelude.{◌↔◌, IsTrue, IfOk};
 
 use crate::failure::Failure;
 use crate::structures::{KA, sequence};
-use spki_cert::{Key, Policy};
+use spki_cert::{CertFault, CertFaultKind, Key, Policy};
 use spki_guard::{
-    Answer, Asked, Decision, EntryFold, Explanation, Guard, Instant, Limits, Question, Reason,
-    Reduction, Verdict, Verifier, Wanted, Wish,
+    AclFault, Answer, Asked, Decision, EntryFold, Explanation, Guard, Instant, Limits, Question,
+    Reason, Reduction, Verdict, Verifier, Wanted, Wish,
 };
 use spki_reduce::Cause;
 use std::alloc::{AllocError, Global};
@@ -153,7 +153,7 @@ pub(crate) fn asked_reduce_by(alloc: Global) -> Result<bool, Failure> {
 }
 
 /// Why there is no answer, where the answer is a refusal.
-fn failure_of(answer: &Answer) -> Failure {
+pub(crate) fn failure_of(answer: &Answer) -> Failure {
     if answer.octets() == b"refused Memory\n".as_slice() {
         Failure::Memory
     } else {
@@ -178,6 +178,17 @@ pub(crate) fn answer_question(alloc: Global) -> Result<bool, Failure> {
         is_answered(alloc, Wish::Decide, Verdict::Done, b"yes entry 3\n")?
             && is_answered(alloc, Wish::Explain, Verdict::Done, reasons)?,
     )
+}
+
+/// The line of a list whose first entry is no entry.
+pub(crate) fn refused_list(alloc: Global) -> Result<bool, Failure> {
+    let (item, kind) = (1, CertFaultKind::Shape);
+    let answer = spki_guard::refused_list(alloc, AclFault::Acl(CertFault { item, kind }));
+    if answer.octets() == b"refused acl 1 Shape\n".as_slice() {
+        Ok(true)
+    } else {
+        Err(failure_of(&answer))
+    }
 }
 
 pub(crate) fn signed_octets(alloc: Global) -> Result<bool, Failure> {

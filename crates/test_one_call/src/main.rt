@@ -8,6 +8,7 @@ mod cases;
 mod failure;
 mod forms;
 mod guards;
+mod long_lists;
 mod structures;
 mod tags;
 mod tuples;
@@ -39,6 +40,7 @@ fn of_structures(alloc: Global, name: &str) -> Option<Result<bool, Failure>> {
         "Tag::read" => Some(tags::tag_read(alloc)),
         "Ground::read" => Some(tags::ground_read(alloc)),
         "Tag::meet" => Some(tags::tag_meet(alloc)),
+        "Tag::into_meet_within" => Some(tags::tag_into_meet_within(alloc)),
         "Tag::write" => Some(tags::tag_write(alloc)),
         "read_acl" => Some(structures::read_acl(alloc)),
         "read_sequence" => Some(structures::read_sequence(alloc)),
@@ -53,6 +55,7 @@ fn of_cases(alloc: Global, name: &str) -> Option<Result<bool, Failure>> {
     match name {
         "Five::then" => Some(tuples::five_then(alloc)),
         "fold_chain" => Some(tuples::fold_chain(alloc)),
+        "fold_owned" => Some(tuples::fold_owned(alloc)),
         "Five::resolve" => Some(tuples::five_resolve(alloc)),
         "Four::then" => Some(tuples::four_then(alloc)),
         "Five::write" => Some(tuples::five_write(alloc)),
@@ -79,6 +82,10 @@ fn of_guards(alloc: Global, name: &str) -> Option<Result<bool, Failure>> {
         "Asked::reduce_by" => Some(guards::asked_reduce_by(alloc)),
         "answer_question" => Some(guards::answer_question(alloc)),
         "signed_octets" => Some(guards::signed_octets(alloc)),
+        "refused_list" => Some(guards::refused_list(alloc)),
+        "decide of nine entries" => Some(long_lists::decide(alloc)),
+        "explain of nine entries" => Some(long_lists::explain(alloc)),
+        "reduce of nine entries" => Some(long_lists::reduce(alloc)),
         _ => None,
     }
 }

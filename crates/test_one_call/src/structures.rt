@@ -54,18 +54,27 @@ pub(crate) fn read_sequence(alloc: Global) -> Result<bool, Failure> {
 
 /// The sequence of the certificate and `signatures` copies of its signature by KA.
 pub(crate) fn sequence(alloc: Global, signatures: usize) -> Result<Vec<u8>, Failure> {
-    let digest = Sha256::digest(CERTIFICATE);
     let mut text = Vec::from_slice(alloc, b"(8:sequence")?;
     text.extend_from_slice(CERTIFICATE)?;
     for _ in 0..signatures {
-        text.extend_from_slice(b"(9:signature(4:hash6:sha25632:")?;
-        text.extend_from_slice(digest.as_slice())?;
-        text.push(b')')?;
-        text.extend_from_slice(KA)?;
-        text.extend_from_slice(b"3:sig)")?;
+        push_signature(&mut text, CERTIFICATE, KA)?;
     }
     text.push(b')')?;
     Ok(text)
+}
+
+/// Appends the signature of a certificate by a key.
+pub(crate) fn push_signature(
+    text: &mut Vec<u8>,
+    certificate: &[u8],
+    signer: &[u8],
+) -> Result<(), Failure> {
+    text.extend_from_slice(b"(9:signature(4:hash6:sha25632:")?;
+    text.extend_from_slice(Sha256::digest(certificate).as_slice())?;
+    text.push(b')')?;
+    text.extend_from_slice(signer)?;
+    text.extend_from_slice(b"3:sig)")?;
+    Ok(())
 }
 
 /// Whether the sequence with one signature is read with two items.

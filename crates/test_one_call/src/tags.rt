@@ -53,6 +53,9 @@ pub(crate) fn ground_read(alloc: Global) -> Result<bool, Failure> {
     }
 }
 
+/// The first set of `reduced-sets`, which is its answer too.
+const SET: &[u8] = b"(1:*3:set4:read5:write)";
+
 /// The answer of `meet-lists`.
 const BOTH: &[u8] = b"(3:ftp(4:host1:a)(3:dir1:b))";
 
@@ -66,6 +69,14 @@ fn both(alloc: Global) -> Result<Vec<u8>, Failure> {
 
 pub(crate) fn tag_meet(alloc: Global) -> Result<bool, Failure> {
     Ok(both(alloc)?.as_slice() == BOTH)
+}
+
+/// `reduced-sets`: the intersection of its two sets, within the product of their nodes.
+pub(crate) fn tag_into_meet_within(alloc: Global) -> Result<bool, Failure> {
+    let one = tag(alloc, SET)?;
+    let other = tag(alloc, b"(1:*3:set5:write(1:*6:prefix2:re))")?;
+    let tree = one.into_meet_within(alloc, &other, 9)?.write(alloc)?;
+    Ok(sexpr_core::encode(alloc, &tree)?.as_slice() == SET)
 }
 
 /// The answer of `meet-lists`, read and written.

@@ -114,6 +114,20 @@ pub(crate) fn fold_chain(alloc: Global) -> Result<bool, Failure> {
     }
 }
 
+/// `reduced-sets`: the entry for a set, consumed, and the certificate for another one, within the product of their nodes.
+pub(crate) fn fold_owned(alloc: Global) -> Result<bool, Failure> {
+    let first = entry(alloc, KA, &[], b"(1:*3:set4:read5:write)")?;
+    let mut second = certificate(alloc, KA, KB)?;
+    let document = Doc::open(alloc, b"(1:*3:set5:write(1:*6:prefix2:re))")?;
+    second.tag = Tag::of(alloc, &document.top())?;
+    let mut steps = Vec::new(alloc);
+    steps.push(Step::Auth(second))?;
+    match spki_reduce::fold_owned(alloc, first, &steps, Policy::Open, 9)? {
+        Fold::Done(five) => Ok(is_key(&five.subject, KB) && five.tag.nodes() == 3),
+        Fold::Stopped { .. } => Ok(false),
+    }
+}
+
 /// `linked-names`: the entry for KA's friends' bob and KA's definition of friends become one for KB's bob.
 pub(crate) fn five_resolve(alloc: Global) -> Result<bool, Failure> {
     let first = entry(alloc, KA, &[b"friends", b"bob"], b"(1:*)")?;

@@ -2,11 +2,12 @@
 
 ghost use Rattle.std.specs.Prelude.{◌↔◌, IsTrue, IfOk};
 
+use crate::case_questions::{Spelling, parts_of, question_of};
 use crate::chains::{ALL, C1, KA, KB, case_of, signed};
 use crate::texts::FIRST_RUN;
 use sexpr_text::{Form, convert};
 use spki_cert::Key;
-use spki_guard::{Case, CaseFault, Decision, GuardFault, Verifier, decide};
+use spki_guard::{Case, Decision, Guard, GuardFault, Limits, Verifier, decide};
 use std::alloc::{AllocError, Global};
 use std::test::Fail;
 
@@ -73,26 +74,52 @@ fn delegation_text(alloc: Global, items: &str) -> Result<Vec<u8>, Fail> {
     Ok(convert(alloc, Form::Canonical, text.as_bytes())?)
 }
 
-/// The decision by a verifier of a canonical text, if it is that of a case.
-fn verifier_decision<V: Verifier>(
+/// The decision by a verifier of a canonical text's case.
+fn case_decision<V: Verifier>(
     alloc: Global,
     text: &[u8],
     verifier: &V,
-) -> Result<Result<Decision, GuardFault>, CaseFault> {
+) -> Result<Result<Decision, GuardFault>, Fail> {
     let case = Case::read(alloc, text)?;
     Ok(decide(alloc, &case, verifier))
+}
+
+/// The same of the case's parts, as a question to a guard of its list.
+fn guard_decision<V: Verifier>(
+    alloc: Global,
+    text: &[u8],
+    verifier: &V,
+) -> Result<Result<Decision, GuardFault>, Fail> {
+    let parts = parts_of(alloc, text, Spelling::Canonical)?;
+    let guard = Guard::read(alloc, &parts.list, parts.policy, Limits::default())?;
+    let texts = guard.texts(alloc, &question_of(&parts))?;
+    let asked = guard.ask(alloc, &texts)?;
+    Ok(asked.decide(alloc, verifier))
+}
+
+/// Whether this is the decision by a verifier both ways.
+fn is_decided<V: Verifier>(
+    alloc: Global,
+    text: &[u8],
+    verifier: &V,
+    decision: &Result<Decision, GuardFault>,
+) -> Result<bool, Fail> {
+    Ok(
+        case_decision(alloc, text, verifier)? == *decision
+            && guard_decision(alloc, text, verifier)? == *decision,
+    )
 }
 
 #[test]
 fn verifiers(rt: HostRuntime) -> Result<(), Fail> {
     let alloc = rt.alloc();
     let first_run = FIRST_RUN.as_bytes();
-    assert!(rt; verifier_decision(alloc, first_run, &AcceptsNone)? == Ok(Decision::Yes(1)));
-    assert!(rt; verifier_decision(alloc, first_run, &OutOfMemory)? == Ok(Decision::Yes(1)));
+    assert!(rt; is_decided(alloc, first_run, &AcceptsNone, &Ok(Decision::Yes(1)))?);
+    assert!(rt; is_decided(alloc, first_run, &OutOfMemory, &Ok(Decision::Yes(1)))?);
     let text = delegation_text(alloc, &signed(alloc, C1, KA)?)?;
-    assert!(rt; verifier_decision(alloc, &text, &AcceptsNone)? == Ok(Decision::No));
-    assert!(rt; verifier_decision(alloc, &text, &AcceptsAll)? == Ok(Decision::Yes(1)));
-    assert!(rt; verifier_decision(alloc, &text, &OutOfMemory)? == Err(GuardFault::Memory));
+    assert!(rt; is_decided(alloc, &text, &AcceptsNone, &Ok(Decision::No))?);
+    assert!(rt; is_decided(alloc, &text, &AcceptsAll, &Ok(Decision::Yes(1)))?);
+    assert!(rt; is_decided(alloc, &text, &OutOfMemory, &Err(GuardFault::Memory))?);
     Ok(())
 }
 
@@ -100,6 +127,6 @@ fn verifiers(rt: HostRuntime) -> Result<(), Fail> {
 fn signer_differs(rt: HostRuntime) -> Result<(), Fail> {
     let alloc = rt.alloc();
     let text = delegation_text(alloc, &signed(alloc, C1, KB)?)?;
-    assert!(rt; verifier_decision(alloc, &text, &AcceptsAll)? == Ok(Decision::No));
+    assert!(rt; is_decided(alloc, &text, &AcceptsAll, &Ok(Decision::No))?);
     Ok(())
 }

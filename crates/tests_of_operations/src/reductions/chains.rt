@@ -4,7 +4,7 @@ use crate::reductions::tuples::{
     CERTIFICATE, DEFINITION, ENTRY, Given, KA, KB, KC, five, five_for, is_subject, steps,
 };
 use spki_cert::Policy;
-use spki_reduce::{Cause, Fold, ReduceFault, Step, fold_chain};
+use spki_reduce::{Cause, Five, Fold, ReduceFault, Step, fold_chain, fold_owned};
 use std::alloc::{AllocError, Global};
 use std::test::Fail;
 
@@ -104,5 +104,47 @@ fn is_chain_too_large(alloc: Global, n: usize, m: usize) -> Result<bool, Fail> {
 fn product_limit(rt: HostRuntime) -> Result<(), Fail> {
     assert!(rt; !is_chain_too_large(rt.alloc(), 999, 999)?);
     assert!(rt; is_chain_too_large(rt.alloc(), 999, 1000)?);
+    Ok(())
+}
+
+#[test]
+fn consumed_chains(rt: HostRuntime) -> Result<(), Fail> {
+    let alloc = rt.alloc();
+    for (first, others, key) in DONE {
+        let (first, others) = (five(alloc, first)?, steps(alloc, others)?);
+        assert!(rt;
+            is_for(
+                &fold_owned(alloc, first, &others, Policy::Open, 1_000_000)?,
+                key
+            )
+        );
+    }
+    for (first, others, step, cause) in STOPPED {
+        let (first, others) = (five(alloc, first)?, steps(alloc, others)?);
+        let fold = fold_owned(alloc, first, &others, Policy::Open, 1_000_000)?;
+        assert!(rt; stop(&fold) == Some((*step, *cause)));
+    }
+    Ok(())
+}
+
+/// An entry and a certificate whose tags are lists of nine strings.
+fn nine_strings(alloc: Global) -> Result<(Five<'static>, Step<'static>), Fail> {
+    let tag = strings(alloc, 9)?;
+    Ok((
+        five_for(alloc, &ENTRY, &tag)?,
+        Step::Auth(five_for(alloc, &CERTIFICATE, &tag)?),
+    ))
+}
+
+#[test]
+fn given_limit(rt: HostRuntime) -> Result<(), Fail> {
+    let (first, second) = nine_strings(rt.alloc())?;
+    let fold = fold_owned(rt.alloc(), first, &[second], Policy::Open, 100)?;
+    assert!(rt; is_for(&fold, KB));
+    let (first, second) = nine_strings(rt.alloc())?;
+    match fold_owned(rt.alloc(), first, &[second], Policy::Open, 99) {
+        Ok(_) => assert!(rt; false),
+        Err(fault) => assert!(rt; fault == ReduceFault::TooLarge),
+    }
     Ok(())
 }

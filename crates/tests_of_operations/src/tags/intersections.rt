@@ -130,6 +130,20 @@ fn limits(rt: HostRuntime) -> Result<(), Fail> {
     Ok(())
 }
 
+#[test]
+fn given_limit(rt: HostRuntime) -> Result<(), Fail> {
+    let alloc = rt.alloc();
+    let text = list_of(alloc, b"(", b"1:x", 9)?;
+    let other = tag_of(&rt, alloc, &text)?;
+    let both = tag_of(&rt, alloc, &text)?.into_meet_within(alloc, &other, 100)?;
+    assert!(rt; text_of(alloc, &both)?.as_slice() == text.as_slice());
+    match tag_of(&rt, alloc, &text)?.into_meet_within(alloc, &other, 99) {
+        Ok(_) => assert!(rt; false),
+        Err(fault) => assert!(rt; fault == MeetFault::TooLarge),
+    }
+    Ok(())
+}
+
 /// Lists and sets by turns, nested as deep as a text may be.
 fn nested(alloc: Global) -> Result<Vec<u8>, AllocError> {
     let mut text = b"(1:f(1:*3:set1:a".repeat(alloc, 32)?;
