@@ -8,6 +8,7 @@ pub mod Entries
 pub mod Granting
 pub mod Widening
 pub mod PassedOver
+pub mod PlainChains
 pub mod SubjectPaths
 pub mod SharedChains
 pub mod Stopping

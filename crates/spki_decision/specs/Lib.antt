@@ -11,6 +11,7 @@ pub mod Refusal
 pub mod Supported
 pub mod Shared
 pub mod SharedFolds
+pub mod SharedWork
 pub mod Reduced
 pub mod Explained
 pub mod Answered

@@ -1,5 +1,5 @@
 -- What stops a chain of tuples by its subjects alone, by its windows alone, and by its tags alone (RFC 2693, section 6.3).
-use Rattle.std.specs.Prelude.{◌≡◌, ◌≢◌, ◌⊎◌, ℕ, suc, ◌<◌, ◌≤◌, Bool, true, List, [], ◌∷◌, Some, None, length, take, slice_get, min, IfSome}
+use Rattle.std.specs.Prelude.{◌≡◌, ◌≢◌, ◌⊎◌, ℕ, suc, ◌<◌, ◌≤◌, Bool, true, List, [], ◌∷◌, Some, None, length, take, slice_get, min, All}
 use Rattle.std.specs.List.{AllZip, AllByRecursion}
 use Rattle.spki_cert.specs.declared.entry.Entry.{Entry}
 use Rattle.spki_cert.specs.declared.principal.Policy.{Policy}
@@ -24,6 +24,7 @@ use Rattle.spki_reduce.specs.Reduced.{MatchJoined}
 use Rattle.spki_reduce.specs.Chain.{tuples_of, all_tags, all_windows, FoldsTo, HasMet, StopsAt, TooLargeAt, Excludes, MatchFold}
 use Rattle.spki_decision.specs.declared.tag_run.TagRun.{TagRun}
 use Rattle.spki_decision.specs.declared.tag_run.TagRun.TheVariants.{Through, Nothing, TooLarge}
+use Rattle.spki_decision.specs.declared.recent_runs.RunOf.{RunOf}
 use Rattle.spki_decision.specs.declared.subject_path.Path.{Path}
 use Rattle.spki_decision.specs.declared.subject_path.Path.TheVariants.{Ends, Stops as StopsHere}
 use Rattle.spki_decision.specs.declared.subject_path.Tail.{Tail}
@@ -89,6 +90,10 @@ abbrev pub IsRun : ℕ → Tag → List Tuple → TagRun → Type 0
 IsRun most tag tuples (Through left count) = GoesTo most tag tuples count × IsMetOf (tags_to tag tuples count) left
 IsRun most tag tuples (Nothing place) = GoesTo most tag tuples place × LeavesNothing most tag tuples place
 IsRun most tag tuples (TooLarge place) = GoesTo most tag tuples place × IsTooLarge most tag tuples place
+
+-- how far the tuples go with the tag of a run
+abbrev pub IsRunOf : ℕ → List Tuple → RunOf → Type 0
+IsRunOf most tuples run = IsRun most run.tag tuples run.run
 
 -- a run that has ended, or goes so far at least
 abbrev pub ReachesTo : ℕ → TagRun → Type 0
@@ -189,8 +194,8 @@ pub record AreSharedFolds (policy : Policy) (most : ℕ) (tuples : List Tuple) (
   pub alike : AllZip AreAlike (tuples_of folds.bare.items) tuples
   pub unrestricted : AllByRecursion IsUnrestricted (tuples_of folds.bare.items)
   pub meets : AreMeets tuples folds.windows.items
-  pub tail : IfSome folds.tail (IsTail policy (tuples_of folds.bare.items))
-  pub run : IfSome folds.run (λ run. IsRun most run.tag tuples run.run)
+  pub tails : All (IsTail policy (tuples_of folds.bare.items)) folds.tails.items
+  pub runs : All (IsRunOf most tuples) folds.runs.items
 
 -- how many steps neither the subjects nor the windows stop
 abbrev pub bound : Path → ℕ → ℕ

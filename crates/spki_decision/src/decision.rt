@@ -1,24 +1,25 @@
 //! Deciding a case (RFC 2693, section 6).
 
-ghost use Rattle.std.specs.Prelude.{◌≡◌, ◌↔◌, List, IsTrue, IfOk, IfSome, IsErrOf};
+ghost use Rattle.std.specs.Prelude.{◌↔◌, List, IsTrue, IfOk, IfSome, IsErrOf};
 ghost use Rattle.spki_case.specs.View.{model};
 ghost use Rattle.spki_decision.specs.Views.{with_entries};
-ghost use Rattle.spki_reduce.specs.Tuples.{five};
+ghost use Rattle.spki_cert.specs.declared.entry.Entry.{Entry};
+ghost use Rattle.spki_reduce.specs.Tuples.{Tuple, five};
 ghost use Rattle.spki_reduce.specs.Chain.{tuples_of, TooLargeAt};
 ghost use Rattle.spki_reduce.specs.Views.{entry_tuple};
 ghost use Rattle.spki_decision.specs.Supported.{Supported, Names, HasLarge, SmallUpTo};
 ghost use Rattle.spki_decision.specs.Granted.{IsTooLarge};
-ghost use Rattle.spki_decision.specs.Shared.{AreShared, IsSmallFor};
+ghost use Rattle.spki_decision.specs.SharedFolds.{IsWholeFold};
+ghost use Rattle.spki_decision.specs.SharedWork.{IsSharedWork, IsChain};
 ghost use Rattle.spki_decision.specs.Decision.{IsDecision, IsUnrefused};
 
 use crate::entry_chain::fold_entry;
 use crate::evidence::{Evidence, judge};
 use crate::fault::GuardFault;
-use crate::shared_tests::{SharedTests, is_denied, is_small, shared_tests};
+use crate::shared_work::SharedWork;
 use spki_case::{Case, Verifier};
 use spki_cert::Entry;
-use spki_reduce::{Fold, Step};
-use spki_tag::Tag;
+use spki_reduce::{Fold, ReduceFault, Step};
 use std::alloc::{AllocError, Global};
 
 /// The answer of a case's access list.
@@ -52,7 +53,7 @@ pub fn decide<V: Verifier>(alloc: Global, case: &Case, verifier: &V) -> Result<D
 }
 
 /// Returns the first entry of an access list that grants the request of a case, if the certificates give these steps. The
-/// case's own list is not examined.
+/// case's own access list is not examined.
 ///
 /// # Errors
 ///
@@ -67,65 +68,67 @@ pub fn first_granted<'a>(
     ensures too_large { IsErrOf result GuardFault.TooLarge → HasLarge (with_entries (model case.now) acl.now) (tuples_of steps.now) }
     ensures small { IfOk result (SmallUpTo (with_entries (model case.now) acl.now) (tuples_of steps.now)) }
 {
-    let shared = shared_tests(alloc, acl.len(), case, steps)?;
-    let mut small = None;
+    let mut shared = SharedWork::of(alloc, acl.len(), case, steps)?;
     for (place, entry) in acl.iter().enumerate() {
-        if is_passed_over(alloc, entry, steps, case, &shared, small)? {
-            small = Some(&entry.tag);
-        } else if grants(alloc, entry, steps, case)? {
+        if grants(alloc, entry, steps, case, &mut shared)? {
             return Ok(Decision::Yes(place + 1));
         }
     }
     Ok(Decision::No)
 }
 
-/// Returns true only if the entry is denied and no intersection of its chain is too large. `shared` are the shared tests of the
-/// steps, if there are any. `small` is a tag with which no intersection of a chain is too large.
-///
-/// # Errors
-///
-/// `AllocError` if memory ran out.
-fn is_passed_over<'a>(
-    alloc: Global,
-    entry: &Entry<'a>,
-    steps: &[Step<'a>],
-    case: &Case<'a>,
-    shared: &Option<SharedTests>,
-    small: Option<&Tag>,
-) -> Result<bool, AllocError>
-    requires shared { IfSome shared.now (AreShared (model case.now) (tuples_of steps.now)) }
-    requires found { IfSome small (λ t. IsSmallFor case.now.most_nodes (tuples_of steps.now) t.now) }
-    ensures denied { IfOk result (λ yes. IsTrue yes → ¬ Supported (model case.now) (tuples_of steps.now) entry.now) }
-    ensures small { IfOk result (λ yes. IsTrue yes → IsSmallFor case.now.most_nodes (tuples_of steps.now) entry.now.tag) }
-{
-    if let Some(shared) = shared {
-        if is_denied(entry, case, shared)
-            && is_small(alloc, &entry.tag, steps, shared, small, case.most_nodes)?
-        {
-            return Ok(true);
-        }
-    }
-    Ok(false)
-}
-
-/// Whether an entry and the steps behind it grant the request.
+/// Whether an entry and the steps after it grant the request. `shared` is what the entries share, if they share anything.
 fn grants<'a>(
     alloc: Global,
     entry: &Entry<'a>,
     steps: &[Step<'a>],
     case: &Case<'a>,
+    shared: &mut Option<SharedWork<'a>>,
 ) -> Result<bool, GuardFault>
+    requires shared { IfSome shared.old (IsSharedWork (model case.now) (tuples_of steps.now)) }
     ensures exact { IfOk result (λ yes. IsTrue yes ↔ Supported (model case.now) (tuples_of steps.now) entry.now) }
     ensures too_large { IsErrOf result GuardFault.TooLarge →
         TooLargeAt case.now.most_nodes case.now.policy (five (entry_tuple entry.now)) (tuples_of steps.now) }
     ensures small { IfOk result (λ yes. ¬ TooLargeAt case.now.most_nodes case.now.policy (five (entry_tuple entry.now)) (tuples_of steps.now)) }
+    ensures kept { IfOk result (λ yes. IfSome shared.new (IsSharedWork (model case.now) (tuples_of steps.now))) }
+{
+    match chain_of(alloc, entry, steps, case, shared)? {
+        None => Ok(false),
+        Some(fold) => Ok(is_grant(&fold, case)),
+    }
+}
+
+/// What an entry and the steps after it become. None if it is certain that they grant nothing and that no step is too large.
+fn chain_of<'a>(
+    alloc: Global,
+    entry: &Entry<'a>,
+    steps: &[Step<'a>],
+    case: &Case<'a>,
+    shared: &mut Option<SharedWork<'a>>,
+) -> Result<Option<Fold<'a>>, ReduceFault>
+    requires shared { IfSome shared.old (IsSharedWork (model case.now) (tuples_of steps.now)) }
+    ensures chain { IfOk result (IsChain (model case.now) (tuples_of steps.now) entry.now) }
+    ensures too_large { IsErrOf result ReduceFault.TooLarge →
+        TooLargeAt case.now.most_nodes case.now.policy (five (entry_tuple entry.now)) (tuples_of steps.now) }
+    ensures kept { IfOk result (λ fold. IfSome shared.new (IsSharedWork (model case.now) (tuples_of steps.now))) }
+{
+    match shared {
+        None => Ok(Some(fold_entry(alloc, entry, steps, case.policy, case.most_nodes)?)),
+        Some(shared) => shared.fold(alloc, entry, steps, case),
+    }
+}
+
+/// Whether what an entry and steps become grants the request.
+fn is_grant(fold: &Fold, case: &Case) -> bool
+    ensures { (e : Entry) (tuples : List Tuple) → IsWholeFold case.now.policy case.now.most_nodes e tuples fold.now
+        → IsTrue result ↔ Supported (model case.now) tuples e }
 {
     case.request.known();
-    match fold_entry(alloc, entry, steps, case.policy, case.most_nodes)? {
-        Fold::Stopped { .. } => Ok(false),
+    match fold {
+        Fold::Stopped { .. } => false,
         Fold::Done(five) => {
             let lack = five.first_lack(&case.key, &case.request, &case.moment, case.policy);
-            Ok(lack.is_none())
+            lack.is_none()
         }
     }
 }

@@ -1,15 +1,16 @@
-//! Joins an entry and the steps behind it (RFC 2693, section 6.3).
+//! Joins an entry and the steps after it (RFC 2693, section 6.3).
 
-ghost use Rattle.std.specs.Prelude.{◌≡◌, ◌≤◌, [], ◌∷◌, IfOk, IsErrOf};
-ghost use Rattle.spki_reduce.specs.Tuples.{five, own};
-ghost use Rattle.spki_reduce.specs.Views.{issuer_of, entry_tuple, five_tuple};
-ghost use Rattle.spki_reduce.specs.Chain.{tuples_of, FoldsTo, StopsAt, HasMet, TooLargeAt, Excludes, SupportsNothing, MatchFold};
+ghost use Rattle.std.specs.Prelude.{◌≡◌, ◌≤◌, IfOk, IsErrOf};
+ghost use Rattle.spki_reduce.specs.Tuples.{five};
+ghost use Rattle.spki_reduce.specs.Views.{entry_tuple, five_tuple};
+ghost use Rattle.spki_reduce.specs.Chain.{tuples_of, TooLargeAt};
+ghost use Rattle.spki_decision.specs.SharedFolds.{IsWholeFold};
 
 use spki_cert::{Entry, Policy};
 use spki_reduce::{Five, Fold, Issuer, ReduceFault, Step, fold_owned};
 use std::alloc::{AllocError, Global};
 
-/// Joins an entry's 5-tuple and the steps behind it, one after another, with `most` as the limit of an intersection.
+/// Joins an entry's 5-tuple and the steps after it, one after another, with `most` as the limit of an intersection.
 pub(crate) fn fold_entry<'a>(
     alloc: Global,
     entry: &Entry<'a>,
@@ -18,22 +19,9 @@ pub(crate) fn fold_entry<'a>(
     most: usize,
 ) -> Result<Fold<'a>, ReduceFault>
     requires { most ≤ 1000000 }
-    ensures fold { IfOk result (λ fold. MatchFold fold
-        (FoldsTo policy (five (entry_tuple entry.now)) (tuples_of steps.now))
-        (StopsAt policy (five (entry_tuple entry.now)) (tuples_of steps.now))) }
-    ensures alone { steps.now ≡ [] → IfOk result (λ fold. MatchFold fold
-        (λ f. five_tuple f ≡ entry_tuple entry.now) (λ step cause. ⊥)) }
-    ensures which { IfOk result (λ fold. MatchFold fold
-        (HasMet (five (entry_tuple entry.now)) (tuples_of steps.now)) (λ step cause. Unit {0})) }
-    ensures issuer { IfOk result (λ fold. MatchFold fold
-        (λ f. issuer_of f.issuer ≡ own) (λ step cause. Unit {0})) }
-    ensures excluded { IfOk result (λ fold. MatchFold fold (λ f. Unit {0})
-        (Excludes policy (five (entry_tuple entry.now)) (tuples_of steps.now))) }
-    ensures unsupported { IfOk result (λ fold. MatchFold fold (λ f. Unit {0})
-        (λ step cause. SupportsNothing policy (five (entry_tuple entry.now) ∷ tuples_of steps.now))) }
+    ensures exact { IfOk result (IsWholeFold policy most entry.now (tuples_of steps.now)) }
     ensures too_large { IsErrOf result ReduceFault.TooLarge →
         TooLargeAt most policy (five (entry_tuple entry.now)) (tuples_of steps.now) }
-    ensures small { IfOk result (λ fold. ¬ TooLargeAt most policy (five (entry_tuple entry.now)) (tuples_of steps.now)) }
 {
     let own = own_five(entry)?;
     fold_owned(alloc, own, steps, policy, most)

@@ -87,8 +87,8 @@ pub fn explain<V: Verifier>(
     }
 }
 
-/// Returns the reason of each entry of an access list with the steps of the case's certificates behind it. The case's own list
-/// is not examined.
+/// Returns the reason of each entry of an access list with the steps of the case's certificates after it. The case's own
+/// access list is not examined.
 ///
 /// # Errors
 ///
@@ -114,7 +114,7 @@ pub fn entry_reasons<'a>(
     Ok(reasons)
 }
 
-/// Returns the reason of an entry with the steps of `shown`, the case's certificates, behind it. `shared` is what the entries share.
+/// Returns the reason of an entry with the steps of `shown`, the case's certificates, after it. `shared` is what the entries share.
 fn entry_reason<'a>(
     alloc: Global,
     case: &Case<'a>,

@@ -35,7 +35,7 @@ pub fn keys_of<'a>(alloc: Global, sequence: &[SeqItem<'a>]) -> Result<Vec<Key<'a
 }
 
 /// Returns the place, from 0, of the first key for which the closure returns true: the principal names it. None if there is
-/// none. Takes no memory.
+/// none. Allocates nothing.
 pub fn first_named<F: Fn(&Principal, &Key) -> bool>(
     principal: &Principal,
     keys: &[Key],

@@ -79,8 +79,8 @@ pub fn reduce_case<'a, V: Verifier>(
     }
 }
 
-/// Returns what each entry of an access list becomes with the steps of the case's certificates behind it. The case's own list
-/// is not examined.
+/// Returns what each entry of an access list becomes with the steps of the case's certificates after it. The case's own
+/// access list is not examined.
 ///
 /// # Errors
 ///
@@ -108,7 +108,7 @@ pub fn entry_folds<'a>(
     Ok(folds)
 }
 
-/// Returns what an entry becomes with the steps of `shown`, the case's certificates, behind it. `shared` is what the entries share.
+/// Returns what an entry becomes with the steps of `shown`, the case's certificates, after it. `shared` is what the entries share.
 pub(crate) fn entry_fold<'a>(
     alloc: Global,
     case: &Case<'a>,

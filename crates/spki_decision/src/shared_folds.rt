@@ -1,11 +1,11 @@
-//! Joins the entries of an access list and the certificates behind each (RFC 2693, section 6.3), and does once what is the same for many
-//! entries.
+//! Joins the entries of an access list and the certificates after each (RFC 2693, section 6.3). What is the same for many entries is
+//! done once.
 //!
-//! A chain stops at the first step at which its subject, its windows or its tags stop it. What the subjects and windows of the
-//! certificates do is found once. Entries with equal tags, one after another, share the intersections of their tags.
+//! A chain stops at the first step at which its subject, its windows or its tags stop it. What the windows of the certificates do is
+//! found once. Entries that the first certificate leads to equal subjects share what follows, and entries with equal tags share the
+//! intersections of their tags, as long as few different subjects and tags are in turns.
 
-ghost use Rattle.std.specs.Prelude.{◌≡◌, ◌≤◌, ◌<◌, ◌∷◌, [], ℕ, List, length, IfOk, IfSome, IsErrOf};
-ghost use Rattle.spki_tag.specs.Tag.{Tag};
+ghost use Rattle.std.specs.Prelude.{◌≡◌, ◌≢◌, ◌≤◌, ◌<◌, ◌∷◌, [], ℕ, List, length, IsTrue, IfOk, IsErrOf};
 ghost use Rattle.spki_cert.specs.declared.principal.Policy.{Policy};
 ghost use Rattle.spki_reduce.specs.declared.tuple.Step.{Step};
 ghost use Rattle.spki_reduce.specs.Tuples.{Tuple, five};
@@ -13,9 +13,12 @@ ghost use Rattle.spki_reduce.specs.Views.{entry_tuple};
 ghost use Rattle.spki_cert.specs.Time.{within};
 ghost use Rattle.spki_reduce.specs.Restrictions.{within_each};
 ghost use Rattle.spki_reduce.specs.Chain.{tuples_of, all_windows, TooLargeAt, MatchFold};
-ghost use Rattle.spki_decision.specs.SharedFolds.{AreSharedFolds, AreMeets, IsTimelyFor, IsPath, IsRun, ReachesTo, AreEnds, IsStop, IsWholeFold, bound};
+ghost use Rattle.spki_decision.specs.Shared.{IsSmallFor};
+ghost use Rattle.spki_decision.specs.declared.tag_run.TagRun.TheVariants.{TooLarge};
+ghost use Rattle.spki_decision.specs.SharedFolds.{AreSharedFolds, AreMeets, IsTimelyFor, AreEnds, IsStop, IsWholeFold, bound};
 
 use crate::bare_steps::bare_steps;
+use crate::recent_runs::{RunOf, keep_run, run_to};
 use crate::subject_path::{Path, Tail, path_of};
 use crate::tag_run::TagRun;
 use crate::timely_steps::{timely_steps, windows_met};
@@ -24,24 +27,17 @@ use spki_reduce::{Cause, Five, Fold, Issuer, ReduceFault, Step};
 use spki_tag::Tag;
 use std::alloc::{AllocError, Global};
 
-/// What certificates say of all entries, and what was found for the entry before.
+/// What certificates say of all entries, and what was found for the entries before.
 #[derive(Drop)]
 pub(crate) struct SharedFolds<'a> {
     bare: Vec<Step<'a>>,
     windows: Vec<Window>,
-    tail: Option<Tail<'a>>,
-    run: Option<RunOf>,
-}
-
-/// How far the steps go with this tag.
-#[derive(Drop)]
-pub(crate) struct RunOf {
-    tag: Tag,
-    run: TagRun,
+    tails: Vec<Tail<'a>>,
+    runs: Vec<RunOf>,
 }
 
 impl<'a> SharedFolds<'a> {
-    /// Of these steps, before the first entry.
+    /// The shared results for these steps, before the first entry.
     ///
     /// # Errors
     ///
@@ -52,12 +48,12 @@ impl<'a> SharedFolds<'a> {
         Ok(SharedFolds {
             bare: bare_steps(alloc, steps)?,
             windows: windows_met(alloc, steps)?,
-            tail: None,
-            run: None,
+            tails: Vec::new(alloc),
+            runs: Vec::new(alloc),
         })
     }
 
-    /// Joins an entry's 5-tuple and the steps behind it, one after another, with `most` as the limit of an intersection.
+    /// Joins an entry's 5-tuple and the steps after it, one after another, with `most` as the limit of an intersection.
     ///
     /// # Errors
     ///
@@ -77,54 +73,52 @@ impl<'a> SharedFolds<'a> {
             TooLargeAt most policy (five (entry_tuple entry.now)) (tuples_of steps.now) }
         ensures kept { IfOk result (λ fold. AreSharedFolds policy most (tuples_of steps.now) self.new) }
     {
-        let path = path_of(alloc, entry, &self.bare, &mut self.tail, policy)?;
+        let path = path_of(alloc, entry, &self.bare, &mut self.tails, policy)?;
         let timely = timely_steps(&entry.window, &self.windows);
-        let run = run_to(
-            alloc,
-            &entry.tag,
-            self.run.take(),
-            steps,
-            bound(&path, timely),
-            most,
-        )?;
+        let to = bound(&path, timely);
+        let run = run_to(alloc, &mut self.runs, &entry.tag, steps, to, most)?;
         let fold = ended(entry, path, timely, &run.run, &self.windows, steps.len());
-        self.run = Some(run);
+        keep_run(&mut self.runs, run, steps, most)?;
         fold
     }
-}
 
-/// How far the steps go with a tag, through the first `to` steps at least: the run of the entry before, if it has the same tag.
-fn run_to<'a>(
-    alloc: Global,
-    tag: &Tag,
-    before: Option<RunOf>,
-    steps: &[Step<'a>],
-    to: usize,
-    most: usize,
-) -> Result<RunOf, AllocError>
-    requires limit { most ≤ 1000000 }
-    requires within { to ≤ length steps.now }
-    requires before { IfSome before (λ run. IsRun most run.tag (tuples_of steps.now) run.run) }
-    ensures tag { IfOk result (λ run. run.tag ≡ tag.now) }
-    ensures run { IfOk result (λ run. IsRun most tag.now (tuples_of steps.now) run.run) }
-    ensures reached { IfOk result (λ run. ReachesTo to run.run) }
-{
-    if let Some(before) = before {
-        if before.tag.same(tag) {
-            return Ok(RunOf {
-                tag: before.tag,
-                run: before.run.up_to(alloc, steps, to, most)?,
-            });
-        }
+    /// Whether no step is too large for an entry with this tag, under any policy.
+    ///
+    /// # Errors
+    ///
+    /// `AllocError` if memory ran out.
+    pub(crate) fn is_small(
+        &mut self,
+        alloc: Global,
+        tag: &Tag,
+        steps: &[Step<'a>],
+        policy: Policy,
+        most: usize,
+    ) -> Result<bool, AllocError>
+        requires limit { most ≤ 1000000 }
+        requires shared { AreSharedFolds policy most (tuples_of steps.now) self.old }
+        ensures small { IfOk result (λ yes. IsTrue yes → IsSmallFor most (tuples_of steps.now) tag.now) }
+        ensures kept { IfOk result (λ yes. AreSharedFolds policy most (tuples_of steps.now) self.new) }
+    {
+        let run = run_to(alloc, &mut self.runs, tag, steps, steps.len(), most)?;
+        let small = never_too_large(&run.run);
+        keep_run(&mut self.runs, run, steps, most)?;
+        Ok(small)
     }
-    let run = TagRun::of(tag, steps, most)?;
-    Ok(RunOf {
-        tag: tag.clone()?,
-        run: run.up_to(alloc, steps, to, most)?,
-    })
 }
 
-/// How many steps neither the subjects nor the windows stop.
+/// Whether a run through all steps meets none that is too large.
+fn never_too_large(run: &TagRun) -> bool
+    ensures { (place : ℕ) → IsTrue result → run.now ≢ TooLarge place }
+{
+    match run {
+        TagRun::Through { .. } => true,
+        TagRun::Nothing { .. } => true,
+        TagRun::TooLarge { .. } => false,
+    }
+}
+
+/// The number of first steps that join by subjects and windows alone.
 fn bound(path: &Path, timely: usize) -> usize
     ensures { result ≡ bound path.now timely }
 {
@@ -201,7 +195,7 @@ fn stopped<'a>(path: &Path, timely: usize) -> Fold<'a>
     }
 }
 
-/// The moments within a window and those of all steps, where there is one.
+/// The moments within a window and those of all steps, if there is one.
 fn window_behind(window: &Window, meets: &[Window]) -> Window
     ensures moments { (tuples : List Tuple) → AreMeets tuples meets.now → IsTimelyFor window.now tuples (length tuples)
         → (moment : List ℕ) → within moment result ≡ within_each moment (window.now ∷ all_windows tuples) }

@@ -1,6 +1,7 @@
 //! The tests that the entries of an access list share. A decision makes them once for the whole list.
 
-ghost use Rattle.std.specs.Prelude.{◌≡◌, ◌≤◌, List, length, IsTrue, IfOk, IfSome};
+ghost use Rattle.std.specs.Prelude.{◌≡◌, ◌≤◌, List, false, length, IsTrue, IfOk, IfSome};
+ghost use Rattle.spki_tag.specs.Tag.{tags, nodes_all, some_nests_set};
 ghost use Rattle.spki_cert.specs.declared.entry.Entry.{Entry};
 ghost use Rattle.spki_case.specs.View.{model};
 ghost use Rattle.spki_reduce.specs.Tuples.{tags_of};
@@ -8,17 +9,13 @@ ghost use Rattle.spki_reduce.specs.Restrictions.{nodes_product};
 ghost use Rattle.spki_reduce.specs.Chain.{tuples_of, all_tags};
 ghost use Rattle.spki_reduce.specs.Views.{five_tuple, step_tuple};
 ghost use Rattle.spki_decision.specs.Supported.{Supported};
-ghost use Rattle.spki_decision.specs.Shared.{AreShared, IsDenied, IsSmallFor, IsWidest, unlimited};
+ghost use Rattle.spki_decision.specs.Shared.{AreShared, ArePlain, IsDenied, IsSmallFor, IsWidest, unlimited};
 
-use crate::tag_run::TagRun;
 use spki_case::Case;
 use spki_cert::{Entry, Key, Names, Octets, Principal, Subject, Window};
 use spki_reduce::{Five, Fold, Issuer, ReduceFault, Step, fold_owned};
 use spki_tag::Tag;
 use std::alloc::{AllocError, Global};
-
-/// The length from which a list of entries is worth the shared tests, which take as long as one entry.
-const WORTH_SHARING: usize = 8;
 
 /// The greatest product of numbers of nodes that is counted.
 const MOST_NODES: usize = 1_000_000;
@@ -30,28 +27,36 @@ pub(crate) struct SharedTests {
     pub(crate) denied: bool,
     /// The product of the numbers of nodes of the certificates' tags, if it is at most 1,000,000.
     pub(crate) nodes: Option<usize>,
+    /// The numbers of nodes of the certificates' tags, if none of these tags has a set and all have at most 1,000,000 nodes.
+    pub(crate) plain: Option<PlainNodes>,
 }
 
-/// Returns the results of the tests that the entries of a list of this length share. None for fewer than `WORTH_SHARING`.
+/// The numbers of nodes of tags that have no set.
+#[derive(Clone, Copy, Debug)]
+pub(crate) struct PlainNodes {
+    /// Of all tags together.
+    pub(crate) all: usize,
+    /// The greatest of one tag.
+    pub(crate) most: usize,
+}
+
+/// Returns the results of the tests that all entries share. They take as long as one entry.
 ///
 /// # Errors
 ///
 /// `AllocError` if memory ran out.
 pub(crate) fn shared_tests<'a>(
     alloc: Global,
-    entries: usize,
     case: &Case<'a>,
     steps: &[Step<'a>],
-) -> Result<Option<SharedTests>, AllocError>
-    ensures { IfOk result (λ shared. IfSome shared (AreShared (model case.now) (tuples_of steps.now))) }
+) -> Result<SharedTests, AllocError>
+    ensures { IfOk result (AreShared (model case.now) (tuples_of steps.now)) }
 {
-    if entries < WORTH_SHARING {
-        return Ok(None);
-    }
-    Ok(Some(SharedTests {
+    Ok(SharedTests {
         denied: denies_all(alloc, case, steps)?,
         nodes: nodes_product(steps),
-    }))
+        plain: plain_nodes(steps),
+    })
 }
 
 /// Returns true only if an entry is denied: by the shared tests, or by its own window or tag. Allocates nothing.
@@ -65,55 +70,22 @@ pub(crate) fn is_denied(entry: &Entry, case: &Case, shared: &SharedTests) -> boo
 }
 
 /// Returns true only if a chain from an entry with this tag intersects no two tags whose product of nodes is over `most`. It tests
-/// whether the product of all nodes is at most `most`, whether `tag` is the same as `small`, for which this is known, and whether
-/// each product on the way is at most `most`. One of them is enough.
-///
-/// # Errors
-///
-/// `AllocError` if memory ran out.
-pub(crate) fn is_small<'a>(
-    alloc: Global,
-    tag: &Tag,
-    steps: &[Step<'a>],
-    shared: &SharedTests,
-    small: Option<&Tag>,
-    most: usize,
-) -> Result<bool, AllocError>
-    requires limit { most ≤ 1000000 }
+/// whether the product of all nodes is at most `most`, and, if no tag has a set, whether the product with the sum of all nodes is.
+/// Allocates nothing.
+pub(crate) fn is_small<'a>(tag: &Tag, shared: &SharedTests, steps: &[Step<'a>], most: usize) -> bool
     requires counted { IfSome shared.now.nodes
         (λ n. (n ≡ nodes_product (all_tags (tuples_of steps.now))) × (n ≤ 1000000)) }
-    requires found { IfSome small (λ t. IsSmallFor most (tuples_of steps.now) t.now) }
-    ensures { IfOk result (λ yes. IsTrue yes → IsSmallFor most (tuples_of steps.now) tag.now) }
+    requires plain { IfSome shared.now.plain (ArePlain (tuples_of steps.now)) }
+    ensures { IsTrue result → IsSmallFor most (tuples_of steps.now) tag.now }
 {
     if let Some(nodes) = shared.nodes {
         if tag.nodes() * nodes <= most {
-            return Ok(true);
+            return true;
         }
     }
-    if let Some(small) = small {
-        if tag.same(small) {
-            return Ok(true);
-        }
-    }
-    stays_small(alloc, tag, steps, most)
-}
-
-/// Intersects `tag` with the steps' tags in turn. Returns whether each product of the nodes of two tags is at most `most`.
-/// If an intersection is `(* set)`, the steps after it are not examined.
-fn stays_small<'a>(
-    alloc: Global,
-    tag: &Tag,
-    steps: &[Step<'a>],
-    most: usize,
-) -> Result<bool, AllocError>
-    requires { most ≤ 1000000 }
-    ensures { IfOk result (λ yes. IsTrue yes → IsSmallFor most (tuples_of steps.now) tag.now) }
-{
-    let run = TagRun::of(tag, steps, most)?;
-    match run.up_to(alloc, steps, steps.len(), most)? {
-        TagRun::Through { .. } => Ok(true),
-        TagRun::Nothing { .. } => Ok(true),
-        TagRun::TooLarge { .. } => Ok(false),
+    match shared.plain {
+        None => false,
+        Some(plain) => !tag.nests_set() && (tag.nodes() + plain.all) * plain.most <= most,
     }
 }
 
@@ -192,9 +164,41 @@ fn nodes_product(steps: &[Step]) -> Option<usize>
     Some(product)
 }
 
+/// The numbers of nodes of the steps' tags, if no tag has a set and all have at most 1,000,000 nodes together.
+fn plain_nodes(steps: &[Step]) -> Option<PlainNodes>
+    ensures { IfSome result (ArePlain (tuples_of steps.now)) }
+{
+    let mut plain = PlainNodes { all: 0, most: 1 };
+    for step in steps {
+        if nests_set(step) {
+            return None;
+        }
+        let nodes = nodes_in(step);
+        plain = PlainNodes {
+            all: plain.all + nodes,
+            most: plain.most.max(nodes),
+        };
+        if plain.all > MOST_NODES {
+            return None;
+        }
+    }
+    Some(plain)
+}
+
+/// Whether the tag of a step has a set. A definition has no tag.
+fn nests_set(step: &Step) -> bool
+    ensures { result ≡ false → some_nests_set (tags (tags_of (step_tuple step.now))) ≡ false }
+{
+    match step {
+        Step::Auth(five) => five.tag.nests_set(),
+        Step::Name(_) => false,
+    }
+}
+
 /// How many nodes the tag of a step has. A definition has none, which counts as `(*)`.
 fn nodes_in(step: &Step) -> usize
     ensures counted { result ≡ nodes_product (tags_of (step_tuple step.now)) }
+    ensures together { nodes_all (tags (tags_of (step_tuple step.now))) ≤ result }
     ensures few { result ≤ 1000000 }
 {
     match step {

@@ -129,7 +129,7 @@ fn first_keys<'a>(
     Ok(first)
 }
 
-/// Adds a key behind others, unless one of them has its digest.
+/// Adds a key after others, unless one of them has its digest.
 fn add_key<'a>(
     first: &mut FirstKeys<'a>,
     alloc: Global,

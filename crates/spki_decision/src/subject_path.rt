@@ -1,6 +1,6 @@
 //! What certificates make of the subject of an entry, whatever their tags and windows are.
 
-ghost use Rattle.std.specs.Prelude.{◌≡◌, List, IsTrue, IfOk, IfErr, OnOk, IfSome};
+ghost use Rattle.std.specs.Prelude.{◌≡◌, List, All, IsTrue, IfOk, IfErr, OnOk};
 ghost use Rattle.std.specs.List.{AllZip, AllByRecursion};
 ghost use Rattle.spki_reduce.specs.Tuples.{Tuple, five};
 ghost use Rattle.spki_reduce.specs.Views.{entry_tuple, five_tuple, step_tuple};
@@ -11,6 +11,12 @@ use crate::bare_steps::bare_entry;
 use spki_cert::{Entry, Names, Policy, Subject};
 use spki_reduce::{Cause, Five, Fold, Joined, ReduceFault, Step, fold_chain};
 use std::alloc::{AllocError, Global};
+
+/// The most tails that are kept.
+const MOST_TAILS: usize = 16;
+
+/// The most names of the subjects of a tail that is kept beside others.
+const MOST_NAMES: usize = 64;
 
 /// What steps make of a subject.
 #[derive(Drop)]
@@ -31,7 +37,7 @@ pub(crate) enum Path<'a> {
     },
 }
 
-/// What the steps behind the first make of what it leads to.
+/// The authorization after the first step, and the result of joining the other steps to it.
 #[derive(Drop)]
 pub(crate) struct Tail<'a> {
     /// An authorization that an entry and the first step become, without restrictions.
@@ -40,8 +46,8 @@ pub(crate) struct Tail<'a> {
     pub(crate) fold: Fold<'a>,
 }
 
-/// What steps make of an entry's subject. `bare` are the steps without restrictions. `tail` is kept from one entry to the next: entries
-/// that the first step leads to the same subject share it.
+/// The subject to which the steps lead from an entry, or the first step that does not join. `bare` are the steps without restrictions.
+/// `tails` are kept from one entry to the next: entries that the first step leads to the same subject share a tail.
 ///
 /// # Errors
 ///
@@ -50,14 +56,14 @@ pub(crate) fn path_of<'a>(
     alloc: Global,
     entry: &Entry<'a>,
     bare: &[Step<'a>],
-    tail: &mut Option<Tail<'a>>,
+    tails: &mut Vec<Tail<'a>>,
     policy: Policy,
 ) -> Result<Path<'a>, ReduceFault>
     requires bare { AllByRecursion IsUnrestricted (tuples_of bare.now) }
-    requires tail { IfSome tail.old (IsTail policy (tuples_of bare.now)) }
+    requires tails { All (IsTail policy (tuples_of bare.now)) tails.old.items }
     ensures path { (tuples : List Tuple) → AllZip AreAlike (tuples_of bare.now) tuples
         → IfOk result (IsPath policy (five (entry_tuple entry.now)) tuples) }
-    ensures kept { IfSome tail.new (IsTail policy (tuples_of bare.now)) }
+    ensures kept { IfOk result (λ path. All (IsTail policy (tuples_of bare.now)) tails.new.items) }
     ensures refused { IfErr result (λ fault. fault ≡ ReduceFault.Memory) }
 {
     let Some((first, others)) = bare.split_first() else {
@@ -69,9 +75,9 @@ pub(crate) fn path_of<'a>(
     match first_joined(alloc, entry, first, policy)? {
         Joined::Stopped(cause) => Ok(Path::Stops { place: 0, cause }),
         Joined::Done(from) => {
-            let found = tail_from(alloc, from, others, tail.take(), policy)?;
-            let path = path_behind(&found)?;
-            *tail = Some(found);
+            let tail = tail_from(alloc, from, others, tails, policy)?;
+            let path = path_behind(&tail)?;
+            keep_tail(tails, tail)?;
             Ok(path)
         }
     }
@@ -95,29 +101,64 @@ fn first_joined<'a>(
     }
 }
 
-/// What the other steps make of what the first leads to: the tail of the entry before, if that led to the same subject.
+/// The result of joining the other steps to an authorization: the tail of an entry before, which is taken out, if that one led to the
+/// same subject.
 fn tail_from<'a>(
     alloc: Global,
     from: Five<'a>,
     others: &[Step<'a>],
-    before: Option<Tail<'a>>,
+    tails: &mut Vec<Tail<'a>>,
     policy: Policy,
 ) -> Result<Tail<'a>, ReduceFault>
     requires { AllByRecursion IsUnrestricted (tuples_of others.now) }
-    ensures tail { (first : Tuple) → IsFrom first from.entry → IfSome before.entry (IsTailOf policy first (tuples_of others.now))
+    ensures tail { (first : Tuple) → IsFrom first from.entry → All (IsTailOf policy first (tuples_of others.now)) tails.old.items
         → IfOk result (λ tail. IsTailOf policy first (tuples_of others.now) tail × Alike (five_tuple tail.from) (five_tuple from.entry)) }
+    ensures kept { (first : Tuple) → All (IsTailOf policy first (tuples_of others.now)) tails.old.items
+        → All (IsTailOf policy first (tuples_of others.now)) tails.new.items }
     ensures refused { (first : Tuple) → IsFrom first from.entry → IfErr result (λ fault. fault ≡ ReduceFault.Memory) }
 {
-    if let Some(before) = before {
-        if is_same_subject(&before.from, &from) {
-            return Ok(before);
+    for place in 0..tails.len() {
+        if is_same_subject(&tails[place].from, &from) {
+            return Ok(tails.remove(place));
         }
     }
     let fold = fold_chain(alloc, &from, others, policy)?;
     Ok(Tail { from, fold })
 }
 
-/// Whether two authorizations for one principal have the same names behind it, and both or none may be delegated.
+/// Adds a tail to those that are kept. They are forgotten first if there are `MOST_TAILS`, or if the last one is long.
+fn keep_tail<'a>(tails: &mut Vec<Tail<'a>>, tail: Tail<'a>) -> Result<(), AllocError>
+    ensures { (policy : Policy) (tuples : List Tuple) → All (IsTail policy tuples) tails.old.items → IsTail policy tuples tail.entry
+        → OnOk result (All (IsTail policy tuples) tails.new.items) }
+{
+    if is_full(tails) {
+        tails.clear();
+    }
+    tails.push(tail)?;
+    Ok(())
+}
+
+/// Whether there are `MOST_TAILS` tails, or the last one is long.
+fn is_full(tails: &[Tail]) -> bool {
+    match tails.last() {
+        None => false,
+        Some(last) => tails.len() >= MOST_TAILS || last.is_long(),
+    }
+}
+
+impl<'a> Tail<'a> {
+    /// Whether its subjects have more than `MOST_NAMES` names.
+    fn is_long(&self) -> bool {
+        match &self.fold {
+            Fold::Done(five) => {
+                five.subject.names.len() > MOST_NAMES || self.from.subject.names.len() > MOST_NAMES
+            }
+            Fold::Stopped { .. } => self.from.subject.names.len() > MOST_NAMES,
+        }
+    }
+}
+
+/// Whether two authorizations for one principal have the same names after it, and both or none may be delegated.
 fn is_same_subject(one: &Five, other: &Five) -> bool
     ensures { IsTrue result → (one.now.subject.names ≡ other.now.subject.names) × (one.now.propagate ≡ other.now.propagate) }
 {

@@ -1,4 +1,5 @@
-//! How far the tags of certificates go with a tag, apart from everything else that stops a chain.
+//! How many steps a tag can be intersected with before nothing is left or a step is too large, apart from everything else that stops
+//! a chain.
 
 ghost use Rattle.std.specs.Prelude.{◌+◌, ◌<◌, ◌≤◌, length, IfOk};
 ghost use Rattle.spki_tag.specs.Tag.{Tag};

@@ -11,7 +11,7 @@ use spki_cert::Window;
 use spki_reduce::Step;
 use std::alloc::{AllocError, Global};
 
-/// The windows of the first step, of the first two, and so on, up to the first of them in which no moment is.
+/// The windows of the first step, of the first two, and so on, up to the first that contains no moment.
 ///
 /// # Errors
 ///
@@ -46,7 +46,8 @@ fn window_of(step: &Step) -> Window
     }
 }
 
-/// Through how many steps some moment is within a window and all of theirs. `meets` are the steps' windows, met one after another.
+/// The largest number of first steps whose windows all share a moment with `window`. `meets` are the intersections of the steps'
+/// windows, one after another.
 /// This takes at most as many comparisons as the number of steps has binary digits.
 pub(crate) fn timely_steps(window: &Window, meets: &[Window]) -> usize
     ensures { (tuples : List Tuple) → AreMeets tuples meets.now → IsTimelyFor window.now tuples result }
@@ -64,7 +65,7 @@ pub(crate) fn timely_steps(window: &Window, meets: &[Window]) -> usize
     timely
 }
 
-/// Whether some moment is within both windows. Takes no memory.
+/// Whether some moment is within both windows. Allocates nothing.
 fn overlap(one: &Window, other: &Window) -> bool
     ensures { MatchBool result (Overlap one.now other.now) (AreApart one.now other.now) }
 {

@@ -1,11 +1,10 @@
-use Rattle.std.proofs.Common.{◌≡◌, Some, slice_get, true, false, refl, sym, ap, ◌∙◌, arith, rules}
+use Rattle.std.proofs.Common.{◌≡◌, Some, slice_get, true, false, sym, ap, ◌∙◌, arith, rules}
 use Rattle.std.proofs.lemmas.Option.{slice_get-get_or, slice_get_within}
 use Rattle.spki_case.specs.View.{model}
 use Rattle.spki_reduce.specs.Chain.{tuples_of}
 use Rattle.spki_decision.specs.Views.{with_entries}
 use Rattle.spki_decision.proofs.Entries.{not_yet, small_yet, found}
 use Rattle.spki_decision.proofs.decision.first_granted.Goals as goal
-use Rattle.spki_decision.proofs.decision.first_granted.Goals.{then-branch, else-branch+in_ok-grants+else-branch-2}
 
 pub returns-in_err-grants-clause-too_large : goal.returns-in_err-grants-clause-too_large
 returns-in_err-grants-clause-too_large c =
@@ -20,15 +19,15 @@ returns-in_err-grants-clause-too_large c =
       at = c.in_err-grants.ensures.too_large (search (rules, h, c.from_residual-in_err-grants.ensures));
     }
 
-pub returns-then-branch-2-clause-named : goal.returns-then-branch-2-clause-named
-returns-then-branch-2-clause-named c =
+pub returns-then-branch-clause-named : goal.returns-then-branch-clause-named
+returns-then-branch-clause-named c =
     let i = c.loop-place.place in
     let here : slice_get c.args.acl.now i ≡ Some c.index-acl-place.result =
     slice_get-get_or c.args.acl.now i c.index-acl-place.result c.loop-place-test.true ∙ ap Some (sym c.index-acl-place.is) in
-    found (with_entries (model c.args.case.now) c.args.acl.now) (tuples_of c.args.steps.now) i c.index-acl-place.result here (c.in_ok-grants.ensures.exact.0 c.if-branch-2.true) c.loop-place.invariant.none_before
+    found (with_entries (model c.args.case.now) c.args.acl.now) (tuples_of c.args.steps.now) i c.index-acl-place.result here (c.in_ok-grants.ensures.exact.0 c.if-branch.true) c.loop-place.invariant.none_before
 
-pub returns-then-branch-2-clause-small : goal.returns-then-branch-2-clause-small
-returns-then-branch-2-clause-small c =
+pub returns-then-branch-clause-small : goal.returns-then-branch-clause-small
+returns-then-branch-clause-small c =
     let i = c.loop-place.place in
     let here : slice_get c.args.acl.now i ≡ Some c.index-acl-place.result =
     slice_get-get_or c.args.acl.now i c.index-acl-place.result c.loop-place-test.true ∙ ap Some (sym c.index-acl-place.is) in
@@ -43,23 +42,13 @@ loop-place-preserved c =
     let steps = tuples_of c.args.steps.now in
     let here : slice_get c.args.acl.now i ≡ Some e =
     slice_get-get_or c.args.acl.now i e c.loop-place-test.true ∙ ap Some (sym c.index-acl-place.is) in
-    elim c.if-branch.branch [
-      | then-branch w ↦
-          let small = c.in_ok-is_passed_over.ensures.small w.if-branch.true in
-          record {
-            none_before = not_yet asked steps i e here (c.in_ok-is_passed_over.ensures.denied w.if-branch.true) c.loop-place.invariant.none_before;
-            small_before = small_yet asked steps i e here (small.none_large e refl c.args.case.now.policy) c.loop-place.invariant.small_before;
-            found = rw w.small-is small;
-          }
-      | else-branch+in_ok-grants+else-branch-2 w ↦
-          record {
-            none_before = not_yet asked steps i e here
-                (λ s. let yes = w.in_ok-grants.ensures.exact.1 s in let no = w.if-branch-2.false in let clash : false ≡ true = sym no ∙ yes in cc)
-                c.loop-place.invariant.none_before;
-            small_before = small_yet asked steps i e here w.in_ok-grants.ensures.small c.loop-place.invariant.small_before;
-            found = rw w.small-is c.loop-place.invariant.found;
-          }
-    ]
+    record {
+      none_before = not_yet asked steps i e here
+          (λ s. let yes = c.in_ok-grants.ensures.exact.1 s in let no = c.if-branch.false in let clash : false ≡ true = sym no ∙ yes in cc)
+          c.loop-place.invariant.none_before;
+      small_before = small_yet asked steps i e here c.in_ok-grants.ensures.small c.loop-place.invariant.small_before;
+      shared = c.in_ok-grants.ensures.kept;
+    }
 
 pub returns-clause-named : goal.returns-clause-named
 returns-clause-named c k e there =

@@ -1,9 +1,9 @@
-use Rattle.std.proofs.Common.{◌∷◌, ap, IfSome}
+use Rattle.std.proofs.Common.{◌∷◌, All, ap}
 use Rattle.std.specs.List.{AllByRecursion}
 use Rattle.spki_cert.specs.declared.entry.Subject.{Subject}
 use Rattle.spki_reduce.specs.Chain.{tuples_of}
 use Rattle.spki_reduce.specs.Views.{step_tuple, five_tuple}
-use Rattle.spki_decision.specs.SharedFolds.{Alike, IsUnrestricted, IsTailOf}
+use Rattle.spki_decision.specs.SharedFolds.{Alike, IsUnrestricted, IsTail, IsTailOf}
 use Rattle.spki_decision.proofs.SubjectPaths.{whole_path, first_path, tail_path, none_left}
 use Rattle.spki_decision.proofs.subject_path.path_of.Goals as goal
 
@@ -17,28 +17,28 @@ returns-in-Stopped-clause-path c tuples alike =
     first_path c.args.policy c.args.entry.now (step_tuple c.in-Some.first.now) (tuples_of c.in-Some.others.now) tuples c.in-Stopped.cause
     (rw c.in-Some.ensures.cases.0 at alike) (rw c.in-Stopped.is at c.in_ok-cause.ensures.joined)
 
-pub returns-in_ok-path-in-Done-clause-path : goal.returns-in_ok-path-in-Done-clause-path
-returns-in_ok-path-in-Done-clause-path c tuples alike =
+pub returns-in_ok-keep_tail-in-Done-clause-path : goal.returns-in_ok-keep_tail-in-Done-clause-path
+returns-in_ok-keep_tail-in-Done-clause-path c tuples alike =
     let some = c.in-Some.ensures.cases.0 in
     let b = step_tuple c.in-Some.first.now in
     let bs = tuples_of c.in-Some.others.now in
     let free : AllByRecursion IsUnrestricted (b ∷ bs) = rw some at c.requires.bare in
     let joins = rw c.in-Done.is at c.in_ok-cause.ensures.joined in
-    let given : IfSome c.args.tail.now (IsTailOf c.args.policy b bs) = rw some at c.requires.tail in
-    let before : IfSome c.take.result (IsTailOf c.args.policy b bs) = rw (← c.take.ensures.value) at given in
-    let tail : IsTailOf c.args.policy b bs c.in_ok-found-in-Done.found × Alike (five_tuple c.in_ok-found-in-Done.found.from) (five_tuple c.in-Done.from) =
-    c.in_ok-found-in-Done.ensures.tail b joins.0 before in
-    tail_path c.args.policy c.args.entry.now b bs tuples c.in_ok-found-in-Done.found c.in-Done.from c.in_ok-path-in-Done.path
+    let given : All (IsTailOf c.args.policy b bs) c.args.tails.now.items = rw some at c.requires.tails in
+    let tail : IsTailOf c.args.policy b bs c.in_ok-tail-in-Done.tail × Alike (five_tuple c.in_ok-tail-in-Done.tail.from) (five_tuple c.in-Done.from) =
+    c.in_ok-tail-in-Done.ensures.tail b joins.0 given in
+    tail_path c.args.policy c.args.entry.now b bs tuples c.in_ok-tail-in-Done.tail c.in-Done.from c.in_ok-path-in-Done.path
     (rw some at alike) free.1 tail.0 tail.1 joins.1.0 joins.1.1 joins.1.2 c.in_ok-path-in-Done.ensures
 
-pub returns-in_ok-path-in-Done-clause-kept : goal.returns-in_ok-path-in-Done-clause-kept
-returns-in_ok-path-in-Done-clause-kept c =
+pub returns-in_ok-keep_tail-in-Done-clause-kept : goal.returns-in_ok-keep_tail-in-Done-clause-kept
+returns-in_ok-keep_tail-in-Done-clause-kept c =
     let some = c.in-Some.ensures.cases.0 in
     let b = step_tuple c.in-Some.first.now in
     let bs = tuples_of c.in-Some.others.now in
     let joins = rw c.in-Done.is at c.in_ok-cause.ensures.joined in
-    let given : IfSome c.args.tail.now (IsTailOf c.args.policy b bs) = rw some at c.requires.tail in
-    let before : IfSome c.take.result (IsTailOf c.args.policy b bs) = rw (← c.take.ensures.value) at given in
-    let tail : IsTailOf c.args.policy b bs c.in_ok-found-in-Done.found × Alike (five_tuple c.in_ok-found-in-Done.found.from) (five_tuple c.in-Done.from) =
-    c.in_ok-found-in-Done.ensures.tail b joins.0 before in
-    rw some tail.0
+    let given : All (IsTailOf c.args.policy b bs) c.args.tails.now.items = rw some at c.requires.tails in
+    let tail : IsTailOf c.args.policy b bs c.in_ok-tail-in-Done.tail × Alike (five_tuple c.in_ok-tail-in-Done.tail.from) (five_tuple c.in-Done.from) =
+    c.in_ok-tail-in-Done.ensures.tail b joins.0 given in
+    let kept : All (IsTail c.args.policy (b ∷ bs)) c.keep_tail.new.tails.items =
+    c.in_ok-keep_tail-in-Done.ensures c.args.policy (b ∷ bs) (c.in_ok-tail-in-Done.ensures.kept b given) tail.0 in
+    rw some kept
