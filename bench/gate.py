@@ -3,7 +3,7 @@
 of the tests, and the wrong bodies. What is not a check (compilers, the tests as they run) is one row.
 
 The processes are looked at each second, so that a process that ends between two looks loses up to a second. Measure on a quiet
-machine: beside other work the same check takes up to half as many processor seconds more.
+machine: beside other work the same check takes up to half as many processor seconds more, and the checks of other commands are counted too.
 
 Usage: bench/gate.py [COMMAND ..]
 """
@@ -36,6 +36,8 @@ def part_of(process, words):
     if "--crate-name" not in words:
         return None
     crate = words[words.index("--crate-name") + 1]
+    if not os.path.isdir(os.path.join(ROOT, "crates", crate)):
+        return None
     if os.path.basename(os.readlink(f"/proc/{process}/cwd")).startswith("rt-edit-"):
         return crate, "edits"
     return crate, "tests" if "--test" in words else "proofs"

@@ -238,8 +238,8 @@ def one_question(driver, what, text):
 
 
 def widest(driver):
-    """The most milliseconds and MiB of one question. Each further entry for the first issuer that has a large tag of its own takes more time:
-    of the list with ten of them the limit holds, and of one with a hundred it need not hold."""
+    """The most milliseconds and MiB of one question. The limits are passed by `explain` and `reduce` on lists whose entries have many or
+    large tags of their own, and by an entry for a very long name: README.md has the figures under "Limits"."""
     shapes = [widest_of(shape) for shape in (*SHAPES, LARGE_TAG, Shape("", ten_entries))]
     shapes += [(f"large tags: {what}", text) for what, text in large_tags()]
     met = [each for what, text in shapes for each in one_question(driver, what, text)]

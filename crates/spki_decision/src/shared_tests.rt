@@ -70,8 +70,8 @@ pub(crate) fn is_denied(entry: &Entry, case: &Case, shared: &SharedTests) -> boo
 }
 
 /// Returns true only if a chain from an entry with this tag intersects no two tags whose product of nodes is over `most`. It tests
-/// whether the product of all nodes is at most `most`, and, if no tag has a set, whether the product with the sum of all nodes is.
-/// Allocates nothing.
+/// whether the product of the nodes of all tags is at most `most`. If no tag has a set, it is enough that the nodes of all tags together,
+/// times those of the largest tag of a certificate, are at most `most`. Allocates nothing.
 pub(crate) fn is_small<'a>(tag: &Tag, shared: &SharedTests, steps: &[Step<'a>], most: usize) -> bool
     requires counted { IfSome shared.now.nodes
         (λ n. (n ≡ nodes_product (all_tags (tuples_of steps.now))) × (n ≤ 1000000)) }

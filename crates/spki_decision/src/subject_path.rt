@@ -5,11 +5,12 @@ ghost use Rattle.std.specs.List.{AllZip, AllByRecursion};
 ghost use Rattle.spki_reduce.specs.Tuples.{Tuple, five};
 ghost use Rattle.spki_reduce.specs.Views.{entry_tuple, five_tuple, step_tuple};
 ghost use Rattle.spki_reduce.specs.Chain.{tuples_of};
+ghost use Rattle.spki_decision.specs.declared.subject_path.Tail.{Tail};
 ghost use Rattle.spki_decision.specs.SharedFolds.{Alike, AreAlike, IsUnrestricted, IsPath, IsFrom, IsTailOf, IsTail, IsPathOf, FirstJoins};
 
 use crate::bare_steps::bare_entry;
 use spki_cert::{Entry, Names, Policy, Subject};
-use spki_reduce::{Cause, Five, Fold, Joined, ReduceFault, Step, fold_chain};
+use spki_reduce::{Cause, Five, Fold, Joined, ReduceFault, Step, fold_chain, fold_owned};
 use std::alloc::{AllocError, Global};
 
 /// The most tails that are kept.
@@ -17,6 +18,12 @@ const MOST_TAILS: usize = 16;
 
 /// The most names of the subjects of a tail that is kept beside others.
 const MOST_NAMES: usize = 64;
+
+/// The most names of a subject that shares a tail. Copies of a longer one would take much more memory than its text.
+const MOST_SHARED_NAMES: usize = 4_096;
+
+/// The limit of the intersections. It excludes nothing here, where each tag is `(*)`.
+const MOST_NODES: usize = 1_000_000;
 
 /// What steps make of a subject.
 #[derive(Drop)]
@@ -75,6 +82,9 @@ pub(crate) fn path_of<'a>(
     match first_joined(alloc, entry, first, policy)? {
         Joined::Stopped(cause) => Ok(Path::Stops { place: 0, cause }),
         Joined::Done(from) => {
+            if from.subject.names.len() > MOST_SHARED_NAMES {
+                return path_alone(alloc, from, others, policy);
+            }
             let tail = tail_from(alloc, from, others, tails, policy)?;
             let path = path_behind(&tail)?;
             keep_tail(tails, tail)?;
@@ -98,6 +108,27 @@ fn first_joined<'a>(
     match first {
         Step::Auth(next) => own.then(alloc, next, policy),
         Step::Name(definition) => own.resolve(alloc, definition, policy),
+    }
+}
+
+/// The path of an entry that the first step makes this authorization, with the other steps. No tail is kept of it.
+fn path_alone<'a>(
+    alloc: Global,
+    from: Five<'a>,
+    others: &[Step<'a>],
+    policy: Policy,
+) -> Result<Path<'a>, ReduceFault>
+    requires { AllByRecursion IsUnrestricted (tuples_of others.now) }
+    ensures path { (first : Tuple) → IsFrom first from.entry → IfOk result (λ path.
+        (tail : Tail) × (tail.from ≡ from.entry) × IsTailOf policy first (tuples_of others.now) tail × IsPathOf tail.fold path) }
+    ensures refused { (first : Tuple) → IsFrom first from.entry → IfErr result (λ fault. fault ≡ ReduceFault.Memory) }
+{
+    match fold_owned(alloc, from, others, policy, MOST_NODES)? {
+        Fold::Done(five) => Ok(Path::Ends {
+            subject: five.subject,
+            propagate: five.propagate,
+        }),
+        Fold::Stopped { step, cause } => Ok(Path::Stops { place: step, cause }),
     }
 }
 

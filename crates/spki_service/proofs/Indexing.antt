@@ -57,20 +57,6 @@ put own other old new value number found longer =
         rw same (longer ∙ ap (λ l. numbers_at old l ++ number ∷ []) ((bytes_eq-Decides own other).0 same))
     by (inr apart) = rw apart refl
 
--- the same, where another value was put there before
-pub put_twice : (own other : List ℕ) (old between new : NumberMap) (first value : Vec ℕ Global) (number : ℕ)
-    → at_digest between other ≡ cond (bytes_eq own other) (Some first) (at_digest old other)
-    → at_digest new other ≡ cond (bytes_eq own other) (Some value) (at_digest between other)
-    → value.items ≡ numbers_at old own ++ number ∷ []
-    → numbers_at new other ≡ cond (bytes_eq own other) (numbers_at old other ++ number ∷ []) (numbers_at old other)
-put_twice own other old between new first value number before found longer =
-    put own other old new value number
-    (found ∙ ap (cond (bytes_eq own other) (Some value)) before ∙ last (bytes_eq own other)) longer
-  where
-    last : (same : Bool) → cond same (Some value) (cond same (Some first) (at_digest old other)) ≡ cond same (Some value) (at_digest old other)
-    last true = refl
-    last false = refl
-
 -- ---- octets from the last to the first
 
 pub turned_eq : (a b : List ℕ) → bytes_eq (reverse a) (reverse b) ≡ bytes_eq a b

@@ -91,17 +91,16 @@ impl EntryIndex {
         match principal {
             Principal::Key(key) => {
                 let octets = reversed(alloc, key.as_slice())?;
-                add_number(&mut self.by_key, alloc, &octets, number)
+                add_number(&mut self.by_key, alloc, octets, number)
             }
-            Principal::Hash { alg, digest } => match alg {
-                HashAlg::Sha1 => add_number(&mut self.by_sha1, alloc, digest.as_slice(), number),
-                HashAlg::Sha256 => {
-                    add_number(&mut self.by_sha256, alloc, digest.as_slice(), number)
+            Principal::Hash { alg, digest } => {
+                let octets = Vec::from_slice(alloc, digest.as_slice())?;
+                match alg {
+                    HashAlg::Sha1 => add_number(&mut self.by_sha1, alloc, octets, number),
+                    HashAlg::Sha256 => add_number(&mut self.by_sha256, alloc, octets, number),
+                    HashAlg::Sha512 => add_number(&mut self.by_sha512, alloc, octets, number),
                 }
-                HashAlg::Sha512 => {
-                    add_number(&mut self.by_sha512, alloc, digest.as_slice(), number)
-                }
-            },
+            }
         }
     }
 
@@ -157,26 +156,20 @@ fn reversed(alloc: Global, octets: &[u8]) -> Result<Vec<u8>, AllocError>
     Ok(turned)
 }
 
-/// Appends a number to those at the octets. If the octets have no number yet, the map is searched only once.
+/// Appends a number to those at the octets.
 fn add_number(
     numbers: &mut Numbers,
     alloc: Global,
-    octets: &[u8],
+    octets: Vec<u8>,
     number: usize,
 ) -> Result<(), AllocError>
     ensures { OnOk result ((other : List ℕ) → numbers_at numbers.new other
-        ≡ (if bytes_eq octets.now other then numbers_at numbers.old other ++ number ∷ [] else numbers_at numbers.old other)) }
+        ≡ (if bytes_eq octets.items other then numbers_at numbers.old other ++ number ∷ [] else numbers_at numbers.old other)) }
 {
-    let mut at = Vec::new(alloc);
-    at.push(number)?;
-    match numbers.insert(Vec::from_slice(alloc, octets)?, at)? {
-        None => {}
-        Some(before) => {
-            let mut all = before;
-            all.push(number)?;
-            numbers.insert(Vec::from_slice(alloc, octets)?, all)?;
-        }
-    }
+    numbers
+        .entry(octets)?
+        .or_insert(Vec::new(alloc))
+        .push(number)?;
     Ok(())
 }
 

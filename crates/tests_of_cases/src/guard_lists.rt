@@ -387,15 +387,3 @@ fn first_of_several(rt: HostRuntime) -> Result<(), Fail> {
     }
     Ok(())
 }
-
-/// Accepts only a value that may be sent to another thread and shared with it.
-fn entries_of_shared<T: Send + Sync>(_shared: &T, entries: usize) -> usize {
-    entries
-}
-
-#[test]
-fn shared(rt: HostRuntime) -> Result<(), Fail> {
-    let guard = guard_within(rt.alloc(), 1_048_576, 1_000_000)?;
-    assert!(rt; entries_of_shared(&guard, guard.entries()) == 1);
-    Ok(())
-}

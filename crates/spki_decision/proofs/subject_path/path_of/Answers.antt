@@ -1,10 +1,12 @@
 use Rattle.std.proofs.Common.{◌∷◌, All, ap}
 use Rattle.std.specs.List.{AllByRecursion}
+use Rattle.std.proofs.lemmas.Result.{IfOk-weaker}
 use Rattle.spki_cert.specs.declared.entry.Subject.{Subject}
 use Rattle.spki_reduce.specs.Chain.{tuples_of}
-use Rattle.spki_reduce.specs.Views.{step_tuple, five_tuple}
-use Rattle.spki_decision.specs.SharedFolds.{Alike, IsUnrestricted, IsTail, IsTailOf}
-use Rattle.spki_decision.proofs.SubjectPaths.{whole_path, first_path, tail_path, none_left}
+use Rattle.spki_reduce.specs.Tuples.{five}
+use Rattle.spki_reduce.specs.Views.{entry_tuple, step_tuple, five_tuple}
+use Rattle.spki_decision.specs.SharedFolds.{Alike, IsUnrestricted, IsPath, IsTail, IsTailOf}
+use Rattle.spki_decision.proofs.SubjectPaths.{alike_itself, whole_path, first_path, tail_path, none_left}
 use Rattle.spki_decision.proofs.subject_path.path_of.Goals as goal
 
 pub returns-in_default-clause-path : goal.returns-in_default-clause-path
@@ -16,6 +18,19 @@ pub returns-in-Stopped-clause-path : goal.returns-in-Stopped-clause-path
 returns-in-Stopped-clause-path c tuples alike =
     first_path c.args.policy c.args.entry.now (step_tuple c.in-Some.first.now) (tuples_of c.in-Some.others.now) tuples c.in-Stopped.cause
     (rw c.in-Some.ensures.cases.0 at alike) (rw c.in-Stopped.is at c.in_ok-cause.ensures.joined)
+
+-- a long subject, of which no tail is kept
+pub returns-then-len-gt-MOST_SHARED_NAMES-clause-path : goal.returns-then-len-gt-MOST_SHARED_NAMES-clause-path
+returns-then-len-gt-MOST_SHARED_NAMES-clause-path c tuples alike =
+    let some = c.in-Some.ensures.cases.0 in
+    let b = step_tuple c.in-Some.first.now in
+    let bs = tuples_of c.in-Some.others.now in
+    let free : AllByRecursion IsUnrestricted (b ∷ bs) = rw some at c.requires.bare in
+    let joins = rw c.in-Done.is at c.in_ok-cause.ensures.joined in
+    IfOk-weaker c.path_alone.result _ (IsPath c.args.policy (five (entry_tuple c.args.entry.now)) tuples)
+    (λ path led. tail_path c.args.policy c.args.entry.now b bs tuples led.0 c.in-Done.from path
+    (rw some at alike) free.1 led.2 (rw led.1 (alike_itself (five_tuple c.in-Done.from))) joins.1.0 joins.1.1 joins.1.2 led.3)
+    (c.path_alone.ensures.path b joins.0)
 
 pub returns-in_ok-keep_tail-in-Done-clause-path : goal.returns-in_ok-keep_tail-in-Done-clause-path
 returns-in_ok-keep_tail-in-Done-clause-path c tuples alike =

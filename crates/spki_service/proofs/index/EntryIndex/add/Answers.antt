@@ -11,7 +11,7 @@ returns-in_ok-octets-in-Key-clause-keys c =
     let old = c.args.self.now.by_key in
     let new = c.add_number.new.numbers in
     let made : c.in_ok-octets-in-Key.octets.items ≡ reverse c.as_slice.result.now = rw c.in_ok-octets-in-Key.was at c.reversed.ensures in
-    let kept : c.deref.result.now ≡ reverse key = c.deref.ensures.value ∙ made ∙ ap (λ k. reverse k) c.as_slice.ensures in
+    let kept : c.in_ok-octets-in-Key.octets.items ≡ reverse key = made ∙ ap (λ k. reverse k) c.as_slice.ensures in
     rw c.in-Key.is (on_ok_weaker c.add_number.result
     (λ put octets. put_key key octets old new c.args.number
     (subst (λ own. numbers_at new (reverse octets)
