@@ -305,17 +305,29 @@ list_record at to size many parts vs a b c =
     ∙ ap (λ k. listed at (at + length (canon (list vs))) k parts) b
     ∙ ap (λ k. listed at (at + length (canon (list vs))) size k) c
 
--- a list's record takes the place that was kept for it
-pub list_read :
-    (room inner : ℕ) (text : List ℕ) (at parts to index many : ℕ) (kept : Record) (old pushed grown : List Record) →
-    room ≡ suc inner → StandsAt text at 40 → index ≡ length old → pushed ≡ old ++ kept ∷ [] →
-    ReadsMembers inner text (at + 1) parts to pushed grown → many ≡ length grown - index →
-    ReadsValue room text at to old (set grown index (listed at to many parts))
-list_read room inner text at parts to index many kept old pushed grown q s i d r m =
+mutual
+  -- a value has no more nodes than its text has octets
+  size_short : (v : Value) → size v ≤ length (canon v)
+  size_short (string hint octets) = omega (arith, canon_some (string hint octets))
+  size_short (list vs) = omega (arith, (many_short vs).1, length-append (canons vs) (41 ∷ []))
+
+  many_short : (vs : Values) → (length (members vs) ≤ length (canons vs)) × (length (nodes_all vs) ≤ length (canons vs))
+  many_short none = (omega arith, omega arith)
+  many_short (more v vs) =
+      let m = many_short vs in
+      let long = length-append (canon v) (canons vs) in
+      ( omega (arith, canon_some v, m.0, long)
+      , omega (arith, size_short v, m.1, long, length-append (nodes v) (nodes_all vs)) )
+
+-- what was read of a list: its text, its records, and how many nodes it has
+list_is :
+    (inner : ℕ) (text : List ℕ) (at parts to index many : ℕ) (kept : Record) (old pushed grown : List Record) →
+    StandsAt text at 40 → index ≡ length old → pushed ≡ old ++ kept ∷ [] →
+    (r : ReadsMembers inner text (at + 1) parts to pushed grown) → many ≡ length grown - index →
+    (drop at text ≡ canon (list r.items) ++ drop to text) × (grown ≡ old ++ (kept ∷ records_all (at + 1) r.items))
+    × (many ≡ size (list r.items)) × (to ≡ at + length (canon (list r.items)))
+list_is inner text at parts to index many kept old pushed grown s i d r m =
     let w : at < length text = s.within in
-    let k : to ≤ length text = r.within in
-    let g : at + 1 < to = r.goes_on in
-    let f : depths r.items ≤ inner = r.fits in
     let e : drop at text ≡ canon (list r.items) ++ drop to text =
     s.spelled ∙ ap (λ t. 40 ∷ t) (r.spelled ∙ sym (append_assoc (canons r.items) (41 ∷ []) (drop to text))) in
     let p : grown ≡ old ++ (kept ∷ records_all (at + 1) r.items) =
@@ -323,13 +335,35 @@ list_read room inner text at parts to index many kept old pushed grown q s i d r
     ∙ append_assoc old (kept ∷ []) (records_all (at + 1) r.items) in
     let n : many ≡ size (list r.items) =
     omega (arith, ap length p, length-append old (kept ∷ records_all (at + 1) r.items), records_all_many (at + 1) r.items) in
-    let is = list_record at to (size (list r.items)) many parts r.items
-    (read_length text (canon (list r.items)) at to (omega arith) k e) n r.counted in
+    (e, p, n, read_length text (canon (list r.items)) at to (omega arith) r.within e)
+
+-- a list's record has room for the numbers of its nodes and members
+pub list_short :
+    (inner : ℕ) (text : List ℕ) (at parts to index many : ℕ) (kept : Record) (old pushed grown : List Record) →
+    StandsAt text at 40 → index ≡ length old → pushed ≡ old ++ kept ∷ [] → ReadsMembers inner text (at + 1) parts to pushed grown →
+    many ≡ length grown - index → (many ≤ length text) × (parts ≤ length text)
+list_short inner text at parts to index many kept old pushed grown s i d r m =
+    let l = list_is inner text at parts to index many kept old pushed grown s i d r m in
+    ( omega (arith, size_short (list r.items), l.2, r.within, l.3)
+    , omega (arith, r.counted, (many_short r.items).0, r.within, l.3, length-append (canons r.items) (41 ∷ [])) )
+
+-- a list's record takes the place that was kept for it
+pub list_read :
+    (room inner : ℕ) (text : List ℕ) (at parts to index many : ℕ) (kept : Record) (old pushed grown : List Record) →
+    room ≡ suc inner → StandsAt text at 40 → index ≡ length old → pushed ≡ old ++ kept ∷ [] →
+    ReadsMembers inner text (at + 1) parts to pushed grown → many ≡ length grown - index →
+    ReadsValue room text at to old (set grown index (listed at to many parts))
+list_read room inner text at parts to index many kept old pushed grown q s i d r m =
+    let k : to ≤ length text = r.within in
+    let g : at + 1 < to = r.goes_on in
+    let f : depths r.items ≤ inner = r.fits in
+    let l = list_is inner text at parts to index many kept old pushed grown s i d r m in
+    let is = list_record at to (size (list r.items)) many parts r.items l.3 l.2 r.counted in
     record {
       value = list r.items;
       fits = omega arith;
-      spelled = e;
-      placed = ap (λ rs. set rs index (listed at to many parts)) p
+      spelled = l.0;
+      placed = ap (λ rs. set rs index (listed at to many parts)) l.1
           ∙ ap (λ n. set (old ++ (kept ∷ records_all (at + 1) r.items)) n (listed at to many parts)) i
           ∙ set-append_seam old kept (records_all (at + 1) r.items) (listed at to many parts)
           ∙ ap (λ k. old ++ (k ∷ records_all (at + 1) r.items)) is;

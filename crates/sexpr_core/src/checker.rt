@@ -27,7 +27,7 @@ fn pass_value(text: &[u8], at: usize, room: usize) -> Result<usize, FormFault>
         return pass_list(text, at, room);
     }
     let read = read_string(text, at, octet)?;
-    Ok(read.end)
+    Ok(read.end as usize)
 }
 
 /// Returns the end of a list. The first octet of its text is its opening parenthesis.

@@ -70,7 +70,7 @@ impl<'d, 'a> Node<'d, 'a> {
         ensures { result.now ≡ canon self.now }
     {
         let record = self.document.record(self.number);
-        piece(self.document.text(), record.start, record.end)
+        piece(self.document.text(), record.start as usize, record.end as usize)
     }
 
     /// What the node is.
@@ -82,15 +82,15 @@ impl<'d, 'a> Node<'d, 'a> {
         match record.shape {
             Shape::Plain { body } => NodeKind::String {
                 hint: None,
-                body: piece(text, body, record.end),
+                body: piece(text, body as usize, record.end as usize),
             },
             Shape::Hinted {
                 hint,
                 hint_end,
                 body,
             } => NodeKind::String {
-                hint: Some(piece(text, hint, hint_end)),
-                body: piece(text, body, record.end),
+                hint: Some(piece(text, hint as usize, hint_end as usize)),
+                body: piece(text, body as usize, record.end as usize),
             },
             Shape::List { .. } => NodeKind::List(Members::of(self.document, self.number)),
         }
@@ -141,7 +141,7 @@ impl<'d, 'a> Node<'d, 'a> {
         match self.document.record(self.number).shape {
             Shape::Plain { .. } => None,
             Shape::Hinted { .. } => None,
-            Shape::List { parts } => Some(parts),
+            Shape::List { parts } => Some(parts as usize),
         }
     }
 }

@@ -1,14 +1,15 @@
 //! Where a node is in a canonical text.
 
-/// A node's place in the text of its document. Offsets are counted from 0 in the whole text.
+/// A node's place in the text of its document. Offsets are counted from 0 in the whole text. A text has at most 1,048,576
+/// octets, so 32 bits hold each of them, and a record has 28 octets.
 #[derive(Clone, Copy, Debug)]
 pub(crate) struct Record {
     /// Where the node's text begins: at the bracket of a hinted string.
-    pub(crate) start: usize,
+    pub(crate) start: u32,
     /// The offset after the node's text.
-    pub(crate) end: usize,
+    pub(crate) end: u32,
     /// The number of nodes in the node, with itself.
-    pub(crate) size: usize,
+    pub(crate) size: u32,
     /// What the node is.
     pub(crate) shape: Shape,
 }
@@ -18,16 +19,16 @@ pub(crate) struct Record {
 pub(crate) enum Shape {
     /// A string without a hint. Its octets are from `body` to the node's end.
     Plain {
-        body: usize,
+        body: u32,
     },
     /// A string with a hint. The octets of the hint are from `hint` to `hint_end`.
     Hinted {
-        hint: usize,
-        hint_end: usize,
-        body: usize,
+        hint: u32,
+        hint_end: u32,
+        body: u32,
     },
     /// A list with this number of members.
     List {
-        parts: usize,
+        parts: u32,
     },
 }

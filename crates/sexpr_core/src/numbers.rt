@@ -50,7 +50,7 @@ impl<'a> Doc<'a> {
         prove!(n < count);
         let mut number = n + 1;
         for _ in 0..i {
-            number += self.record(number).size;
+            number += self.record(number).size as usize;
         }
         number
     }
@@ -90,7 +90,7 @@ impl<'a> Doc<'a> {
         ensures place { IfSome result (λ at. LiesAt (canon self.now) (canon (node_at self.now n.0)) at) }
     {
         if n.0 < self.node_count() {
-            Some(self.record(n.0).start)
+            Some(self.record(n.0).start as usize)
         } else {
             None
         }

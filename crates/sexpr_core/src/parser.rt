@@ -128,13 +128,13 @@ fn read_hinted(text: &[u8], at: usize) -> Result<Record, FormFault>
     let hint = read_verbatim(text, at + 1)?;
     let string = read_closing(text, hint.end)?;
     let shape = Shape::Hinted {
-        hint: hint.body,
-        hint_end: hint.end,
-        body: string.body,
+        hint: hint.body as u32,
+        hint_end: hint.end as u32,
+        body: string.body as u32,
     };
     Ok(Record {
-        start: at,
-        end: string.end,
+        start: at as u32,
+        end: string.end as u32,
         size: 1,
         shape,
     })
@@ -157,10 +157,12 @@ pub(crate) fn read_string(text: &[u8], at: usize, octet: u8) -> Result<Record, F
     }
     let read = read_verbatim(text, at)?;
     Ok(Record {
-        start: at,
-        end: read.end,
+        start: at as u32,
+        end: read.end as u32,
         size: 1,
-        shape: Shape::Plain { body: read.body },
+        shape: Shape::Plain {
+            body: read.body as u32,
+        },
     })
 }
 
@@ -186,7 +188,7 @@ fn read_value(
     }
     let read = read_string(text, at, octet)?;
     nodes.push(read)?;
-    Ok(read.end)
+    Ok(read.end as usize)
 }
 
 /// Reads a list, from its opening parenthesis on.
@@ -208,18 +210,20 @@ fn read_list(
     }
     let index = nodes.len();
     nodes.push(Record {
-        start: at,
-        end: at,
+        start: at as u32,
+        end: at as u32,
         size: 1,
         shape: Shape::List { parts: 0 },
     })?;
     let read = read_members(text, at + 1, room - 1, nodes)?;
     let size = nodes.len() - index;
     nodes[index] = Record {
-        start: at,
-        end: read.end,
-        size,
-        shape: Shape::List { parts: read.parts },
+        start: at as u32,
+        end: read.end as u32,
+        size: size as u32,
+        shape: Shape::List {
+            parts: read.parts as u32,
+        },
     };
     Ok(read.end)
 }

@@ -41,7 +41,7 @@ impl<'d, 'a> Members<'d, 'a> {
         requires listed { IsList (node_at document.now n) }
         ensures { node_at document.now n ≡ list (values result) }
     {
-        let size = document.record(n).size;
+        let size = document.record(n).size as usize;
         Members {
             document,
             from: n + 1,
@@ -64,7 +64,7 @@ impl<'d, 'a> Members<'d, 'a> {
             return None;
         }
         let Members { document, from, to } = self;
-        let size = document.record(from).size;
+        let size = document.record(from).size as usize;
         let first = Node::at(document, from);
         let others = Members {
             document,
@@ -88,7 +88,7 @@ impl<'d, 'a> Iterator for Members<'d, 'a> {
         }
         let document = self.document;
         let from = self.from;
-        let size = document.record(from).size;
+        let size = document.record(from).size as usize;
         self.from = from + size;
         Some(Node::at(document, from))
     }

@@ -1,6 +1,6 @@
-use Rattle.std.proofs.Common.{arith}
+use Rattle.std.proofs.Common.{◌-◌, arith}
 use Rattle.std.proofs.lemmas.Result.{err_from_is_err_and}
-use Rattle.sexpr_core.proofs.Steps.{value_none, string_value, deep_list, in_list, list_read, no_members, more_members, members_end, in_member}
+use Rattle.sexpr_core.proofs.Steps.{value_none, string_value, deep_list, in_list, list_read, list_short, no_members, more_members, members_end, in_member}
 use Rattle.sexpr_core.proofs.parser.+reading.Goals as goal
 
 pub read_list-returns-then-room-eq0 : goal.read_list-returns-then-room-eq0
@@ -10,6 +10,20 @@ pub read_list-returns-in_err-read : goal.read_list-returns-in_err-read
 read_list-returns-in_err-read t c =
     let p = err_from_is_err_and c.from_residual-in_err-read.result c.from_residual-in_err-read.ensures.1 in
     rw (p.1, p.2) (in_list _ _ _ _ _ (omega arith) c.requires.begins c.in_err-read.ensures)
+
+pub read_list-overflow_cast-size : goal.read_list-overflow_cast-size
+read_list-overflow_cast-size t c =
+    let short = list_short _ _ _ _ _ c.len-index.result (c.len.result - c.len-index.result) _ _ _ _ c.requires.begins
+    (omega (arith, c.args.nodes.now.ok.0)) c.in_ok-push.ensures.items c.in_ok-read.ensures
+    (omega (arith, c.read_members.new.nodes.ok.0)) in
+    omega (arith, short.0, c.requires.short)
+
+pub read_list-overflow_cast-read-2 : goal.read_list-overflow_cast-read-2
+read_list-overflow_cast-read-2 t c =
+    let short = list_short _ _ _ _ _ c.len-index.result (c.len.result - c.len-index.result) _ _ _ _ c.requires.begins
+    (omega (arith, c.args.nodes.now.ok.0)) c.in_ok-push.ensures.items c.in_ok-read.ensures
+    (omega (arith, c.read_members.new.nodes.ok.0)) in
+    omega (arith, short.1, c.requires.short)
 
 pub read_list-returns : goal.read_list-returns
 read_list-returns t c =
