@@ -315,9 +315,10 @@ mutual
   many_short none = (omega arith, omega arith)
   many_short (more v vs) =
       let m = many_short vs in
-      let long = length-append (canon v) (canons vs) in
-      ( omega (arith, canon_some v, m.0, long)
-      , omega (arith, size_short v, m.1, long, length-append (nodes v) (nodes_all vs)) )
+      let long = length-append (canon v) (canons vs) in (
+        omega (arith, canon_some v, m.0, long),
+        omega (arith, size_short v, m.1, long, length-append (nodes v) (nodes_all vs)),
+      )
 
 -- what was read of a list: its text, its records, and how many nodes it has
 list_is :
@@ -343,9 +344,10 @@ pub list_short :
     StandsAt text at 40 → index ≡ length old → pushed ≡ old ++ kept ∷ [] → ReadsMembers inner text (at + 1) parts to pushed grown →
     many ≡ length grown - index → (many ≤ length text) × (parts ≤ length text)
 list_short inner text at parts to index many kept old pushed grown s i d r m =
-    let l = list_is inner text at parts to index many kept old pushed grown s i d r m in
-    ( omega (arith, size_short (list r.items), l.2, r.within, l.3)
-    , omega (arith, r.counted, (many_short r.items).0, r.within, l.3, length-append (canons r.items) (41 ∷ [])) )
+    let l = list_is inner text at parts to index many kept old pushed grown s i d r m in (
+      omega (arith, size_short (list r.items), l.2, r.within, l.3),
+      omega (arith, r.counted, (many_short r.items).0, r.within, l.3, length-append (canons r.items) (41 ∷ [])),
+    )
 
 -- a list's record takes the place that was kept for it
 pub list_read :

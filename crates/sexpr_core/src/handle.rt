@@ -70,7 +70,11 @@ impl<'d, 'a> Node<'d, 'a> {
         ensures { result.now ≡ canon self.now }
     {
         let record = self.document.record(self.number);
-        piece(self.document.text(), record.start as usize, record.end as usize)
+        piece(
+            self.document.text(),
+            record.start as usize,
+            record.end as usize,
+        )
     }
 
     /// What the node is.

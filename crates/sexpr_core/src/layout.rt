@@ -18,17 +18,9 @@ pub(crate) struct Record {
 #[derive(Clone, Copy, Debug)]
 pub(crate) enum Shape {
     /// A string without a hint. Its octets are from `body` to the node's end.
-    Plain {
-        body: u32,
-    },
+    Plain { body: u32 },
     /// A string with a hint. The octets of the hint are from `hint` to `hint_end`.
-    Hinted {
-        hint: u32,
-        hint_end: u32,
-        body: u32,
-    },
+    Hinted { hint: u32, hint_end: u32, body: u32 },
     /// A list with this number of members.
-    List {
-        parts: u32,
-    },
+    List { parts: u32 },
 }

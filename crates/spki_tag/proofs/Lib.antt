@@ -13,6 +13,7 @@ pub mod Shown
 pub mod Refusals
 pub mod Found
 pub mod Spelling
+pub mod Staying
 pub mod Requests
 pub mod Weight
 pub mod Limits

@@ -217,12 +217,12 @@ items-tags [] = refl
 items-tags (t ∷ ts) = ap (λ (us : List Tag). t ∷ us) (items-tags ts)
 
 -- past the end of one the members of the other stay
-each_meet-end : (ts us : List Tag) → min (length ts) (length us) ≡ 0 → each_meet (tags ts) (tags us) ≡ ts ++ us
+pub each_meet-end : (ts us : List Tag) → min (length ts) (length us) ≡ 0 → each_meet (tags ts) (tags us) ≡ ts ++ us
 each_meet-end [] us h = items-tags us
 each_meet-end (t ∷ ts) [] h = ap (λ (us : List Tag). t ∷ us) (items-tags ts) ∙ sym (append-nil (t ∷ ts))
 each_meet-end (t ∷ ts) (u ∷ us) h = absurd (omega (arith, h))
 
-normal-none : (ts : List Tag) → each_normal is_nothing (tags ts) ≡ true → has_nothing ts ≡ false
+pub normal-none : (ts : List Tag) → each_normal is_nothing (tags ts) ≡ true → has_nothing ts ≡ false
 normal-none [] h = refl
 normal-none (t ∷ ts) h =
     or_both (is_nothing t) (has_nothing ts) (not_barred (is_nothing t) (is_normal t) (each_normal is_nothing (tags ts)) h)

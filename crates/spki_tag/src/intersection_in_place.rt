@@ -29,20 +29,60 @@ struct Kept {
     nodes: usize,
 }
 
-/// Whether the intersection of a tag with another is known to be the tag itself, from strings and limits alone.
+/// Whether the intersection of a tag with another is known to be the tag itself, without making anything.
+#[cycle(staying)]
 fn stays(one: &Tag, other: &Tag) -> bool
     ensures same { IsTrue result → meet one.now other.now ≡ one.now }
     ensures some { IsTrue result → is_nothing one.now ≡ false }
 {
+    if other.is_everything() {
+        return !one.is_nothing();
+    }
     match &one.node {
         Node::Leaf(leaf) => match &other.node {
             Node::Leaf(second) => leaf.stays(second),
             Node::List(_, _, _) => false,
             Node::Set(_, _) => false,
         },
-        Node::List(_, _, _) => false,
+        Node::List(head, further, _) => match &other.node {
+            Node::Leaf(_) => false,
+            Node::List(second, others, _) => {
+                head.as_slice() == second.as_slice() && all_stay(further, others)
+            }
+            Node::Set(_, _) => false,
+        },
         Node::Set(_, _) => false,
     }
+}
+
+/// Whether the intersections of tags with others, place by place, are known to be the tags themselves.
+#[cycle(staying)]
+fn all_stay(members: &[Tag], others: &[Tag]) -> bool
+    ensures { IsTrue result → each_meet (tags members.now) (tags others.now) ≡ members.now }
+{
+    if members.len() < others.len() {
+        return false;
+    }
+    for i in 0..others.len() {
+        if !stays(&members[i], &others[i]) {
+            return false;
+        }
+    }
+    true
+}
+
+/// How many tags at the front are known to be their own intersections with another tag.
+fn staying_first(members: &[Tag], other: &Tag) -> usize
+    ensures inside { result ≤ length members.now }
+    ensures met { take result members.now ++ pairs (tags (drop result members.now)) (more other.now none)
+        ≡ pairs (tags members.now) (more other.now none) }
+{
+    for place in 0..members.len() {
+        if !stays(&members[place], other) {
+            return place;
+        }
+    }
+    members.len()
 }
 
 /// Takes the tag out of a place, and leaves `(*)` there.
@@ -131,11 +171,12 @@ fn met_in_place(
     ensures counted { IfOk result (λ met. met.nodes ≡ nodes_all (tags met.tags.items)) }
 {
     let mut members = members;
+    let first = staying_first(&members, other);
     let mut kept = Kept {
-        tags: 0,
+        tags: first,
         nodes: count,
     };
-    for place in 0..members.len() {
+    for place in first..members.len() {
         kept = meet_place(alloc, &mut members, kept, place, other)?;
     }
     members.truncate(kept.tags);
@@ -262,7 +303,7 @@ fn meet_owned(alloc: Global, one: Tag, other: &Tag) -> Result<Tag, AllocError>
     requires { nodes one * nodes other.now ≤ most_nodes }
     ensures { IfOk result (λ c. c ≡ meet one other.now) }
 {
-    if other.is_everything() {
+    if other.is_everything() || stays(&one, other) {
         return Ok(one);
     }
     if is_set(other) {

@@ -1,5 +1,5 @@
 use Rattle.std.specs.Arc.{arc_slice_items}
-use Rattle.std.proofs.Common.{◌≡◌, ◌+◌, ◌-◌, ◌*◌, ◌<◌, ◌≤◌, ◌++◌, ◌∷◌, [], List, true, false, length, take, drop, sym, ap, ◌∙◌, subst, le_trans, arith, true≢false, length-drop, length-set, drop-set-lt, take-append-drop, append-nil, slice_index_or}
+use Rattle.std.proofs.Common.{◌≡◌, ◌+◌, ◌-◌, ◌*◌, ◌<◌, ◌≤◌, ◌++◌, ◌∷◌, [], List, true, false, length, take, drop, refl, sym, ap, ◌∙◌, subst, le_trans, arith, true≢false, length-drop, length-set, drop-set-lt, take-append-drop, append-nil, slice_index_or}
 use Rattle.std.proofs.lemmas.List.{take_more_set, take_all}
 use Rattle.std.proofs.lemmas.Nat.{mul-le}
 use Rattle.spki_tag.specs.Tag.{Tag, IsNormalTag, tags, star, list, nodes, nodes_all, most_nodes, is_nothing}
@@ -45,6 +45,17 @@ met_in_place-meet_place-requires t c =
     place_meets c.loop-place.members.items c.args.members.items c.loop-place.place c.loop-place.kept.tags c.loop-place.kept.nodes most_nodes
     c.args.other.now inside rest met counted c.requires.few in
     (omega (arith, c.decreases, m.less), (omega (arith, inside, long), (before, (m.few, (m.counted, m.small)))))
+
+pub met_in_place-loop-place-init : goal.met_in_place-loop-place-init
+met_in_place-loop-place-init t c =
+    let ms = c.args.members.items in
+    let n = c.staying_first-first.result in (
+      omega arith,
+      refl,
+      refl,
+      rw c.deref.ensures.value at c.staying_first-first.ensures.met,
+      c.requires.counted ∙ ap (λ (ts : List Tag). nodes_all (tags ts)) (sym (take-append-drop n ms)) ∙ append-nodes (take n ms) (drop n ms),
+    )
 
 pub met_in_place-loop-place-preserved : goal.met_in_place-loop-place-preserved
 met_in_place-loop-place-preserved t c =
