@@ -1,5 +1,6 @@
 """The table of entries in SQLite, which Python brings along. Each thread and process has a connection of its own."""
 import sqlite3
+import time
 from contextlib import contextmanager
 
 from entries import Unavailable
@@ -28,8 +29,20 @@ class Entries:
     def __init__(self, path):
         with answered():
             self.connection = sqlite3.connect(path, timeout=SECONDS, isolation_level=None)
-            self.connection.execute("PRAGMA journal_mode = WAL")
+            self.log_ahead(time.monotonic() + SECONDS)
             self.connection.executescript(TABLE)
+
+    def log_ahead(self, end):
+        """Sets the write-ahead log as the journal. While another connection sets it or ends, SQLite refuses at once and does not wait
+        as it does for a writer. So this tries again, up to an end."""
+        while True:
+            try:
+                self.connection.execute("PRAGMA journal_mode = WAL")
+                return
+            except sqlite3.OperationalError:
+                if time.monotonic() > end:
+                    raise
+            time.sleep(0.01)
 
     def add(self, entry):
         """Adds an entry behind the others, and returns its number."""

@@ -1,7 +1,7 @@
 //! How many steps a tag can be intersected with before nothing is left or a step is too large, apart from everything else that stops
 //! a chain.
 
-ghost use Rattle.std.specs.Prelude.{◌+◌, ◌<◌, ◌≤◌, length, IfOk};
+ghost use Rattle.std.specs.Prelude.{ℕ, ◌+◌, ◌<◌, ◌≤◌, length, IfOk, IfSome, MatchOption};
 ghost use Rattle.spki_tag.specs.Tag.{Tag};
 ghost use Rattle.spki_reduce.specs.Chain.{tuples_of};
 ghost use Rattle.spki_decision.specs.SharedFolds.{IsRun, ReachesTo};
@@ -91,12 +91,9 @@ fn through<'a>(
     let mut left = tag;
     let mut done = count;
     while done < to {
-        match one_more(alloc, left, done, steps, most)? {
-            TagRun::Through { tag, count } => {
-                left = tag;
-                done = count;
-            }
-            ended => return Ok(ended),
+        match end_at(alloc, &mut left, done, steps, most)? {
+            Some(ended) => return Ok(ended),
+            None => done += 1,
         }
     }
     Ok(TagRun::Through {
@@ -105,37 +102,32 @@ fn through<'a>(
     })
 }
 
-/// Goes on with the tag that the steps before a place leave, through the step at this place.
-fn one_more<'a>(
+/// Narrows the tag that the steps before a place leave by the tag of the step at this place. Returns the run if it ends there.
+fn end_at<'a>(
     alloc: Global,
-    tag: Tag,
+    tag: &mut Tag,
     place: usize,
     steps: &[Step<'a>],
     most: usize,
-) -> Result<TagRun, AllocError>
+) -> Result<Option<TagRun>, AllocError>
     requires limit { most ≤ 1000000 }
     requires within { place < length steps.now }
-    ensures run { (first : Tag) → IsRun most first (tuples_of steps.now) (Through tag place)
-        → IfOk result (IsRun most first (tuples_of steps.now)) }
-    ensures reached { IfOk result (ReachesTo (place + 1)) }
+    ensures run { (first : Tag) → IsRun most first (tuples_of steps.now) (Through tag.old place)
+        → IfOk result (λ end. MatchOption end (IsRun most first (tuples_of steps.now) (Through tag.new (place + 1)))
+        (IsRun most first (tuples_of steps.now))) }
+    ensures ended { (to : ℕ) → IfOk result (λ end. IfSome end (ReachesTo to)) }
 {
     let Step::Auth(five) = &steps[place] else {
-        return Ok(TagRun::Through {
-            tag,
-            count: place + 1,
-        });
+        return Ok(None);
     };
-    match tag.into_meet_within(alloc, &five.tag, most) {
-        Ok(met) => {
-            if met.is_nothing() {
-                return Ok(TagRun::Nothing { place });
+    match tag.narrow_within(alloc, &five.tag, most) {
+        Ok(()) => {
+            if tag.is_nothing() {
+                return Ok(Some(TagRun::Nothing { place }));
             }
-            Ok(TagRun::Through {
-                tag: met,
-                count: place + 1,
-            })
+            Ok(None)
         }
-        Err(MeetFault::TooLarge) => Ok(TagRun::TooLarge { place }),
+        Err(MeetFault::TooLarge) => Ok(Some(TagRun::TooLarge { place })),
         Err(MeetFault::Memory) => Err(AllocError),
     }
 }

@@ -1,13 +1,15 @@
 -- Authorizations in advanced form, member by member.
-use Rattle.std.proofs.Common.{◌≡◌, ℕ, ◌+◌, ◌<◌, List, [], ◌∷◌, ◌++◌, length, map, take, get_or, refl, sym, ap, ◌∙◌, append_assoc, append-nil}
+use Rattle.std.proofs.Common.{◌≡◌, ℕ, ◌+◌, ◌<◌, List, [], ◌∷◌, ◌++◌, length, map, take, get_or, slice_get, Some, refl, sym, ap, ◌∙◌, append_assoc, append-nil}
 use Rattle.std.specs.Prelude.{codes}
 use Rattle.std.proofs.lemmas.List.{take_more}
 use Rattle.sexpr_core.specs.declared.tree.Sexp.{Sexp}
 use Rattle.sexpr_core.specs.Tree.{sexp_value}
-use Rattle.sexpr_core.specs.Value.{Value, values}
+use Rattle.sexpr_core.specs.Value.{Value, values, plain}
 use Rattle.sexpr_text.specs.Printed.{printed_string, adv, adv_all}
 use Rattle.spki_tag.specs.Tag.{Tag, tag_value}
-use Rattle.spki_reduce.specs.Written.{headed, five_value}
+use Rattle.spki_reduce.specs.Written.{headed, named, five_value}
+use Rattle.spki_cert.specs.Subjects.{plains}
+use Rattle.spki_reduce.proofs.WrittenNames.{names_more}
 use Rattle.spki_guard.proofs.PrintedTags.{past_first}
 
 -- members with a space before each
@@ -48,28 +50,80 @@ tag_begins : (v : Value) → spaced (headed (codes "tag") (v ∷ []) ∷ []) ≡
 unfolding printed_string
 tag_begins v = ap (λ s. codes " (tag " ++ s) (append-nil ((adv v ++ []) ++ 41 ∷ []) ∙ ap (λ s. s ++ 41 ∷ []) (append-nil (adv v)))
 
--- one piece behind another, and as they stand in the whole
-regroup : (o a b c d e f : List ℕ) → ((((((o ++ a) ++ b) ++ c) ++ d) ++ e) ++ f) ++ e ≡ o ++ (a ++ ((b ++ ((c ++ (d ++ e)) ++ f)) ++ e))
-regroup o a b c d e f =
-    append_assoc (((((o ++ a) ++ b) ++ c) ++ d) ++ e) f e
-    ∙ append_assoc ((((o ++ a) ++ b) ++ c) ++ d) e (f ++ e)
-    ∙ append_assoc (((o ++ a) ++ b) ++ c) d (e ++ (f ++ e))
-    ∙ append_assoc ((o ++ a) ++ b) c (d ++ (e ++ (f ++ e)))
-    ∙ append_assoc (o ++ a) b (c ++ (d ++ (e ++ (f ++ e))))
-    ∙ append_assoc o a (b ++ (c ++ (d ++ (e ++ (f ++ e)))))
-    ∙ ap (λ s. o ++ (a ++ (b ++ s))) (
-    ap (λ s. c ++ s) (sym (append_assoc d e (f ++ e))) ∙ sym (append_assoc c (d ++ e) (f ++ e)) ∙ sym (append_assoc (c ++ (d ++ e)) f e))
-    ∙ ap (λ s. o ++ (a ++ s)) (sym (append_assoc b ((c ++ (d ++ e)) ++ f) e))
+subject_begins : (v : Value) → spaced (headed (codes "subject") (v ∷ []) ∷ []) ≡ codes " (subject " ++ (adv v ++ 41 ∷ [])
+unfolding printed_string
+subject_begins v = ap (λ s. codes " (subject " ++ s) (append-nil ((adv v ++ []) ++ 41 ∷ []) ∙ ap (λ s. s ++ 41 ∷ []) (append-nil (adv v)))
 
-pub five_printed : (before : List Value) (tag : Tag) (behind : List Value) (out opened led tagged named closed followed new : List ℕ)
-    → opened ≡ out ++ codes "(five" → led ≡ opened ++ spaced before → tagged ≡ led ++ codes " (tag " → named ≡ tagged ++ adv (tag_value tag)
-    → closed ≡ named ++ 41 ∷ [] → followed ≡ closed ++ spaced behind → new ≡ followed ++ 41 ∷ []
-    → new ≡ out ++ adv (five_value before tag behind)
-five_printed before tag behind out opened led tagged named closed followed new a b c d e f g =
+-- members behind others
+spaced_on : (vs ws : List Value) (opened mid new : List ℕ) → mid ≡ opened ++ spaced vs → new ≡ mid ++ spaced ws
+    → new ≡ opened ++ spaced (vs ++ ws)
+spaced_on vs ws opened mid new e f =
+    f ∙ ap (λ s. s ++ spaced ws) e ∙ append_assoc opened (spaced vs) (spaced ws) ∙ ap (λ s. opened ++ s) (sym (spaced_append vs ws))
+
+-- a list of one member, behind others
+around : (led opened middle closed begins inner : List ℕ) → opened ≡ led ++ begins → middle ≡ opened ++ inner → closed ≡ middle ++ 41 ∷ []
+    → closed ≡ led ++ (begins ++ (inner ++ 41 ∷ []))
+around led opened middle closed begins inner e f g =
+    g ∙ ap (λ s. s ++ 41 ∷ []) (f ∙ ap (λ s. s ++ inner) e)
+    ∙ append_assoc (led ++ begins) inner (41 ∷ []) ∙ append_assoc led begins (inner ++ 41 ∷ [])
+
+pub subject_printed : (v : Value) (led opened middle closed : List ℕ) → opened ≡ led ++ codes " (subject " → middle ≡ opened ++ adv v
+    → closed ≡ middle ++ 41 ∷ [] → closed ≡ led ++ spaced (headed (codes "subject") (v ∷ []) ∷ [])
+subject_printed v led opened middle closed e f g =
+    around led opened middle closed (codes " (subject ") (adv v) e f g ∙ ap (λ s. led ++ s) (sym (subject_begins v))
+
+pub tag_printed : (tag : Tag) (led opened middle closed : List ℕ) → opened ≡ led ++ codes " (tag " → middle ≡ opened ++ adv (tag_value tag)
+    → closed ≡ middle ++ 41 ∷ [] → closed ≡ led ++ spaced (headed (codes "tag") (tag_value tag ∷ []) ∷ [])
+tag_printed tag led opened middle closed e f g =
+    around led opened middle closed (codes " (tag ") (adv (tag_value tag)) e f g ∙ ap (λ s. led ++ s) (sym (tag_begins (tag_value tag)))
+
+pub five_printed : (issuer : List Value) (subject : Value) (delegation : List Value) (tag : Tag) (behind : List Value)
+    (out opened led placed followed tagged whole new : List ℕ)
+    → opened ≡ out ++ codes "(five" → led ≡ opened ++ spaced issuer
+    → placed ≡ led ++ spaced (headed (codes "subject") (subject ∷ []) ∷ []) → followed ≡ placed ++ spaced delegation
+    → tagged ≡ followed ++ spaced (headed (codes "tag") (tag_value tag ∷ []) ∷ []) → whole ≡ tagged ++ spaced behind
+    → new ≡ whole ++ 41 ∷ []
+    → new ≡ out ++ adv (five_value ((issuer ++ headed (codes "subject") (subject ∷ []) ∷ []) ++ delegation) tag behind)
+five_printed issuer subject delegation tag behind out opened led placed followed tagged whole new a b c d e f g =
+    let s = headed (codes "subject") (subject ∷ []) ∷ [] in
     let t = headed (codes "tag") (tag_value tag ∷ []) in
-    let inner : spaced (before ++ t ∷ behind) ≡ spaced before ++ ((codes " (tag " ++ (adv (tag_value tag) ++ 41 ∷ [])) ++ spaced behind) =
-    spaced_append before (t ∷ behind) ∙ ap (λ s. spaced before ++ s) (spaced_append (t ∷ []) behind ∙ ap (λ s. s ++ spaced behind) (tag_begins (tag_value tag))) in
-    g ∙ ap (λ s. s ++ 41 ∷ []) (f ∙ ap (λ s. s ++ spaced behind) (e ∙ ap (λ s. s ++ 41 ∷ []) (d ∙ ap (λ s. s ++ adv (tag_value tag)) (c ∙ ap (λ s. s ++ codes " (tag ") (b ∙ ap (λ s. s ++ spaced before) a)))))
-    ∙ regroup out (codes "(five") (spaced before) (codes " (tag ") (adv (tag_value tag)) (41 ∷ []) (spaced behind)
-    ∙ ap (λ s. out ++ (codes "(five" ++ (s ++ 41 ∷ []))) (sym inner)
-    ∙ ap (λ s. out ++ s) (sym (five_begins (before ++ t ∷ behind)))
+    let before = (issuer ++ s) ++ delegation in
+    let all : whole ≡ opened ++ spaced ((before ++ t ∷ []) ++ behind) =
+    spaced_on (before ++ t ∷ []) behind opened tagged whole
+    (spaced_on before (t ∷ []) opened followed tagged
+    (spaced_on (issuer ++ s) delegation opened placed followed (spaced_on issuer s opened led placed b c) d) e) f in
+    let members : (before ++ t ∷ []) ++ behind ≡ before ++ t ∷ behind = append_assoc before (t ∷ []) behind in
+    g ∙ ap (λ w. w ++ 41 ∷ []) (all ∙ ap (λ o. o ++ spaced ((before ++ t ∷ []) ++ behind)) a ∙ ap (λ vs. (out ++ codes "(five") ++ spaced vs) members)
+    ∙ append_assoc (out ++ codes "(five") (spaced (before ++ t ∷ behind)) (41 ∷ [])
+    ∙ append_assoc out (codes "(five") (spaced (before ++ t ∷ behind) ++ 41 ∷ [])
+    ∙ ap (λ w. out ++ w) (sym (five_begins (before ++ t ∷ behind)))
+
+-- ---- names
+
+name_begins : (vs : List Value) → adv (headed (codes "name") vs) ≡ codes "(name" ++ (spaced vs ++ 41 ∷ [])
+unfolding printed_string
+name_begins vs = refl
+
+pub name_printed : (names : List (List ℕ)) (k : ℕ) (name octets : List ℕ) (t : Sexp) (out mid opened new : List ℕ)
+    → slice_get names k ≡ Some name → octets ≡ name → sexp_value t ≡ plain octets
+    → mid ≡ out ++ spaced (plains (take k names)) → opened ≡ mid ++ 32 ∷ [] → new ≡ opened ++ adv (sexp_value t)
+    → new ≡ out ++ spaced (plains (take (k + 1) names))
+name_printed names k name octets t out mid opened new there is written e f g =
+    let one : new ≡ mid ++ spaced (plain name ∷ []) =
+    g ∙ ap (λ s. s ++ adv (sexp_value t)) f ∙ append_assoc mid (32 ∷ []) (adv (sexp_value t))
+    ∙ ap (λ v. mid ++ 32 ∷ adv v) (written ∙ ap plain is) ∙ ap (λ s. mid ++ s) (sym (spaced_one (plain name))) in
+    spaced_on (plains (take k names)) (plain name ∷ []) out mid new e one
+    ∙ ap (λ vs. out ++ spaced vs) (names_more names k name there)
+
+pub named_printed : (owner : Value) (n : List ℕ) (ns : List (List ℕ)) (out opened led listed new : List ℕ)
+    → opened ≡ out ++ codes "(name " → led ≡ opened ++ adv owner → listed ≡ led ++ spaced (plains (n ∷ ns)) → new ≡ listed ++ 41 ∷ []
+    → new ≡ out ++ adv (named owner (n ∷ ns))
+named_printed owner n ns out opened led listed new a b c d =
+    let vs = plains (n ∷ ns) in
+    let inner : codes "(name " ++ ((adv owner ++ spaced vs) ++ 41 ∷ []) ≡ adv (named owner (n ∷ ns)) =
+    ap (λ s. codes "(name " ++ ((adv owner ++ s) ++ 41 ∷ [])) (sym (past_first 1 (values vs))) ∙ sym (name_begins (owner ∷ vs)) in
+    d ∙ ap (λ s. s ++ 41 ∷ []) (c ∙ ap (λ s. s ++ spaced vs) (b ∙ ap (λ s. s ++ adv owner) a))
+    ∙ ap (λ s. s ++ 41 ∷ []) (append_assoc (out ++ codes "(name ") (adv owner) (spaced vs))
+    ∙ append_assoc (out ++ codes "(name ") (adv owner ++ spaced vs) (41 ∷ [])
+    ∙ append_assoc out (codes "(name ") ((adv owner ++ spaced vs) ++ 41 ∷ [])
+    ∙ ap (λ s. out ++ s) inner

@@ -12,28 +12,27 @@ map_push : (ts : List Sexp) (t : Sexp) → map sexp_value (ts ++ t ∷ []) ≡ m
 map_push [] t = refl
 map_push (u ∷ ts) t = ap (λ vs. sexp_value u ∷ vs) (map_push ts t)
 
-name_written : (names : List (List ℕ)) (k : ℕ) (name octets : List ℕ) (t : Sexp) (start before after : List Sexp)
-    → k < length names → name ≡ get_or names k name → octets ≡ name → sexp_value t ≡ plain octets
-    → map sexp_value before ≡ map sexp_value start ++ plains (take k names) → after ≡ before ++ t ∷ []
-    → map sexp_value after ≡ map sexp_value start ++ plains (take (k + 1) names)
-name_written names k name octets t start before after lt at is written e f =
-    ap (map sexp_value) f ∙ map_push before t
-    ∙ ap (λ vs. vs ++ sexp_value t ∷ []) e ∙ append_assoc (map sexp_value start) (plains (take k names)) (sexp_value t ∷ [])
-    ∙ ap (λ v. map sexp_value start ++ (plains (take k names) ++ v ∷ [])) (written ∙ ap plain is)
-    ∙ ap (λ vs. map sexp_value start ++ vs) (sym (plains-push (take k names) name))
-    ∙ ap (λ ns. map sexp_value start ++ plains ns) (ap (λ n. take k names ++ n ∷ []) at ∙ sym (take_more names k name lt))
-
 or_empty : Option (List ℕ) → List ℕ
 or_empty (Some name) = name
 or_empty None = []
 
--- the same, where the name is the one at a place
+-- the names before a place, and the one there
+pub names_more : (names : List (List ℕ)) (k : ℕ) (name : List ℕ) → slice_get names k ≡ Some name
+    → plains (take k names) ++ plain name ∷ [] ≡ plains (take (k + 1) names)
+unfolding or_empty
+names_more names k name there =
+    let lt : k < length names = slice_get_within names k name there in
+    let at : name ≡ get_or names k name = ap or_empty (sym there ∙ slice_get-get_or names k name lt) in
+    sym (plains-push (take k names) name)
+    ∙ ap plains (ap (λ n. take k names ++ n ∷ []) at ∙ sym (take_more names k name lt))
+
+-- one more name is written
 pub name_written_at : (names : List (List ℕ)) (k : ℕ) (name octets : List ℕ) (t : Sexp) (start before after : List Sexp)
     → slice_get names k ≡ Some name → octets ≡ name → sexp_value t ≡ plain octets
     → map sexp_value before ≡ map sexp_value start ++ plains (take k names) → after ≡ before ++ t ∷ []
     → map sexp_value after ≡ map sexp_value start ++ plains (take (k + 1) names)
-unfolding or_empty
 name_written_at names k name octets t start before after there is written e f =
-    let lt : k < length names = slice_get_within names k name there in
-    let at : name ≡ get_or names k name = ap or_empty (sym there ∙ slice_get-get_or names k name lt) in
-    name_written names k name octets t start before after lt at is written e f
+    ap (map sexp_value) f ∙ map_push before t
+    ∙ ap (λ vs. vs ++ sexp_value t ∷ []) e ∙ append_assoc (map sexp_value start) (plains (take k names)) (sexp_value t ∷ [])
+    ∙ ap (λ v. map sexp_value start ++ (plains (take k names) ++ v ∷ [])) (written ∙ ap plain is)
+    ∙ ap (λ vs. map sexp_value start ++ vs) (names_more names k name there)

@@ -22,10 +22,12 @@ IsWrittenPrincipal (principal.Key octets) v = octets ≡ canon v
 IsWrittenPrincipal (principal.Hash alg digest) v = v ≡ headed (codes "hash") (plain (alg_name alg) ∷ plain digest ∷ [])
 
 -- the principal, or (name principal n n ..) if there are names after it
+abbrev pub named : Value → List (List ℕ) → Value
+named owner [] = owner
+named owner (n ∷ ns) = headed (codes "name") (owner ∷ plains (n ∷ ns))
+
 abbrev pub IsWrittenSubject : Principal → List (List ℕ) → Value → Type 0
-IsWrittenSubject p [] v = IsWrittenPrincipal p v
-IsWrittenSubject p (n ∷ ns) v =
-    (owner : Value) × IsWrittenPrincipal p owner × (v ≡ headed (codes "name") (owner ∷ plains (n ∷ ns)))
+IsWrittenSubject p names v = (owner : Value) × IsWrittenPrincipal p owner × (v ≡ named owner names)
 
 -- (issuer K); nothing is written for the owner of the access list
 abbrev pub IsWrittenIssuer : Issuer → List Value → Type 0

@@ -80,7 +80,8 @@ impl<'a> Five<'a> {
         match self.window_with(next, policy) {
             Err(cause) => Ok(Joined::Stopped(cause)),
             Ok(window) => {
-                let tag = self.tag.into_meet_within(alloc, &next.tag, most)?;
+                let mut tag = self.tag;
+                tag.narrow_within(alloc, &next.tag, most)?;
                 Ok(narrowed(self.issuer, tag, next, window)?)
             }
         }

@@ -1,23 +1,27 @@
 //! Writes authorizations as S-expressions.
 
-ghost use Rattle.std.specs.Prelude.{◌≡◌, List, [], ◌∷◌, ◌++◌, IfOk, OnOk, map};
+ghost use Rattle.std.specs.Prelude.{◌≡◌, List, [], ◌∷◌, ◌++◌, IfOk, OnOk, codes, map};
 ghost use Rattle.sexpr_core.specs.Value.{Value, canon, plain};
 ghost use Rattle.sexpr_core.specs.Tree.{sexp_value};
 ghost use Rattle.spki_cert.specs.Readings.{alg_name};
 ghost use Rattle.spki_cert.specs.Subjects.{plains};
-ghost use Rattle.spki_reduce.specs.Written.{headed, IsWrittenPrincipal, IsWrittenSubject, IsWrittenIssuer, delegation_values, limit_values, in_valid, window_limits, five_value, IsWrittenFive};
+ghost use Rattle.spki_reduce.specs.Written.{headed, IsWrittenPrincipal, IsWrittenIssuer, named, delegation_values, limit_values, in_valid, window_limits, five_value, IsWrittenFive};
 
 use crate::tuple::{Five, Issuer};
 use sexpr_core::{Sexp, decode};
-use spki_cert::{Date, HashAlg, Key, Names, Principal, Subject, Window};
+use spki_cert::{Date, HashAlg, Key, Names, Principal, Window};
 use std::alloc::{AllocError, Global};
 
-/// The members of a written authorization, except its head and its tag.
+/// The members of a written authorization, except its head, its tag and the names of its subject.
 #[derive(Drop)]
 pub struct WrittenParts {
-    /// Those before the tag: the issuer, the subject, the delegation.
+    /// Those before the subject: the issuer.
+    pub before_subject: Vec<Sexp>,
+    /// The principal of the subject.
+    pub principal: Sexp,
+    /// Those between the subject and the tag: the delegation.
     pub before_tag: Vec<Sexp>,
-    /// Those after it: the window.
+    /// Those after the tag: the window.
     pub behind_tag: Vec<Sexp>,
 }
 
@@ -32,39 +36,56 @@ impl<'a> Five<'a> {
     pub fn write(&self, alloc: Global) -> Result<Sexp, AllocError>
         ensures { IfOk result (λ s. IsWrittenFive self.now (sexp_value s)) }
     {
-        let mut parts = self.write_parts(alloc)?;
+        let WrittenParts {
+            before_subject,
+            principal,
+            before_tag,
+            behind_tag,
+        } = self.write_parts(alloc)?;
         let mut members = begun(alloc, b"five")?;
-        members.append(&mut parts.before_tag)?;
+        push_all(&mut members, before_subject)?;
+        let subject = with_names(alloc, principal, &self.subject.names)?;
+        push_headed(alloc, &mut members, b"subject", subject)?;
+        push_all(&mut members, before_tag)?;
         push_headed(alloc, &mut members, b"tag", self.tag.write(alloc)?)?;
-        members.append(&mut parts.behind_tag)?;
+        push_all(&mut members, behind_tag)?;
         Ok(Sexp::list(members))
     }
 
-    /// Writes what `write` writes, except the tag. Only the tag may be large.
+    /// Writes what `write` writes, except the tag and the names of the subject. Only these may be large.
     ///
     /// # Errors
     ///
     /// `AllocError` if memory ran out.
     pub fn write_parts(&self, alloc: Global) -> Result<WrittenParts, AllocError>
         ensures { IfOk result (λ parts. IsWrittenFive self.now
-            (five_value (map sexp_value parts.before_tag.items) self.now.tag (map sexp_value parts.behind_tag.items))) }
+            (five_value ((map sexp_value parts.before_subject.items
+            ++ headed (codes "subject") (named (sexp_value parts.principal) self.now.subject.names ∷ []) ∷ [])
+            ++ map sexp_value parts.before_tag.items) self.now.tag (map sexp_value parts.behind_tag.items))) }
     {
+        let mut before_subject = Vec::new(alloc);
+        push_issuer(alloc, &mut before_subject, &self.issuer)?;
+        let principal = write_principal(alloc, &self.subject.principal)?;
         let mut before_tag = Vec::new(alloc);
-        push_issuer(alloc, &mut before_tag, &self.issuer)?;
-        push_headed(
-            alloc,
-            &mut before_tag,
-            b"subject",
-            write_subject(alloc, &self.subject)?,
-        )?;
         push_delegation(alloc, &mut before_tag, self.propagate)?;
         let mut behind_tag = Vec::new(alloc);
         push_window(alloc, &mut behind_tag, &self.window)?;
         Ok(WrittenParts {
+            before_subject,
+            principal,
             before_tag,
             behind_tag,
         })
     }
+}
+
+/// Adds members to others.
+fn push_all(members: &mut Vec<Sexp>, others: Vec<Sexp>) -> Result<(), AllocError>
+    ensures { OnOk result (map sexp_value members.new.items
+        ≡ map sexp_value members.old.items ++ map sexp_value others.items) }
+{
+    let mut others = others;
+    members.append(&mut others)
 }
 
 /// Begins the members of a list with its head.
@@ -129,16 +150,16 @@ fn push_names(alloc: Global, members: &mut Vec<Sexp>, names: &Names) -> Result<(
     Ok(())
 }
 
-fn write_subject(alloc: Global, subject: &Subject) -> Result<Sexp, AllocError>
-    ensures { IfOk result (λ s. IsWrittenSubject subject.now.principal subject.now.names (sexp_value s)) }
+/// Returns the principal, or `(name principal n n ..)` if there are names.
+fn with_names(alloc: Global, principal: Sexp, names: &Names) -> Result<Sexp, AllocError>
+    ensures { IfOk result (λ s. sexp_value s ≡ named (sexp_value principal) names.now) }
 {
-    let principal = write_principal(alloc, &subject.principal)?;
-    if subject.names.is_empty() {
+    if names.is_empty() {
         return Ok(principal);
     }
     let mut members = begun(alloc, b"name")?;
     members.push(principal)?;
-    push_names(alloc, &mut members, &subject.names)?;
+    push_names(alloc, &mut members, names)?;
     Ok(Sexp::list(members))
 }
 

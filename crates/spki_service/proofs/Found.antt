@@ -10,7 +10,7 @@ use Rattle.spki_cert.specs.declared.entry.Entry.{Entry}
 use Rattle.spki_cert.specs.Naming.{names, admits, digest_of}
 use Rattle.spki_service.specs.declared.index.EntryIndex.{EntryIndex}
 use Rattle.spki_service.specs.Kept.{numbers_from}
-use Rattle.spki_service.specs.Merged.{merge}
+use Rattle.spki_tag.specs.Merged.{merge}
 use Rattle.spki_service.specs.Indexed.{is_key, is_hash, numbers_at, numbers_of_key, by_algorithm, IsIndexOf}
 use Rattle.spki_service.proofs.Numbering.{numbers_same, numbers_none, numbers_merged}
 

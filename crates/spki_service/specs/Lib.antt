@@ -1,6 +1,5 @@
 -- The access list that a service has, and the questions that are put to it.
 pub mod Kept
-pub mod Merged
 pub mod Indexed
 pub mod Held
 pub mod Picked

@@ -5,10 +5,11 @@ ghost use Rattle.spki_cert.specs.declared.entry.Entry.{Entry};
 ghost use Rattle.spki_cert.specs.declared.hash.HashAlg.{HashAlg};
 ghost use Rattle.spki_cert.specs.Naming.{names, admits, digest_of};
 ghost use Rattle.spki_service.specs.Kept.{numbers_from};
-ghost use Rattle.spki_service.specs.Merged.{merge};
+ghost use Rattle.spki_tag.specs.Merged.{merge};
 ghost use Rattle.spki_service.specs.Indexed.{is_key, is_hash, numbers_at, numbers_of_key, by_algorithm, IsIndexOf};
 
 use spki_cert::{Algorithms, Entry, HashAlg, Key, Policy, Principal};
+use spki_tag::merged;
 use std::alloc::{AllocError, Global};
 use std::collections::BTreeMap;
 
@@ -74,9 +75,9 @@ impl EntryIndex {
     {
         let octets = reversed(alloc, key.as_slice())?;
         let own = Vec::from_slice(alloc, numbers_at(&self.by_key, &octets))?;
-        let first = merged(alloc, own, self.admitted(HashAlg::Sha1, key, policy))?;
-        let second = merged(alloc, first, self.admitted(HashAlg::Sha256, key, policy))?;
-        merged(alloc, second, self.admitted(HashAlg::Sha512, key, policy))
+        let first = joined(alloc, own, self.admitted(HashAlg::Sha1, key, policy))?;
+        let second = joined(alloc, first, self.admitted(HashAlg::Sha256, key, policy))?;
+        joined(alloc, second, self.admitted(HashAlg::Sha512, key, policy))
     }
 
     /// Adds the number of one more entry, whose subject has this principal.
@@ -184,7 +185,7 @@ fn numbers_at<'i>(numbers: &'i Numbers, octets: &[u8]) -> &'i [usize]
 }
 
 /// Merges two ascending lists. If one is empty, the other is kept or copied without comparisons.
-fn merged(alloc: Global, own: Vec<usize>, more: &[usize]) -> Result<Vec<usize>, AllocError>
+fn joined(alloc: Global, own: Vec<usize>, more: &[usize]) -> Result<Vec<usize>, AllocError>
     ensures { IfOk result (λ numbers. numbers.items ≡ merge own.items more.now) }
 {
     if more.is_empty() {
@@ -192,27 +193,6 @@ fn merged(alloc: Global, own: Vec<usize>, more: &[usize]) -> Result<Vec<usize>, 
     } else if own.is_empty() {
         Vec::from_slice(alloc, more)
     } else {
-        merge_both(alloc, &own, more)
+        merged(alloc, &own, more)
     }
-}
-
-/// Merges two ascending lists.
-fn merge_both(alloc: Global, a: &[usize], b: &[usize]) -> Result<Vec<usize>, AllocError>
-    ensures { IfOk result (λ numbers. numbers.items ≡ merge a.now b.now) }
-{
-    let mut out = Vec::new(alloc);
-    let mut i = 0;
-    let mut j = 0;
-    while i < a.len() && j < b.len() {
-        if a[i] < b[j] {
-            out.push(a[i])?;
-            i += 1;
-        } else {
-            out.push(b[j])?;
-            j += 1;
-        }
-    }
-    out.extend_from_slice(&a[i..])?;
-    out.extend_from_slice(&b[j..])?;
-    Ok(out)
 }

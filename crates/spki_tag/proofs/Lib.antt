@@ -14,6 +14,7 @@ pub mod Refusals
 pub mod Found
 pub mod Spelling
 pub mod Staying
+pub mod Merging
 pub mod Requests
 pub mod Weight
 pub mod Limits

@@ -1,13 +1,14 @@
 -- The places of members that pass a test, and those of two tests joined.
-use Rattle.std.proofs.Common.{◌≡◌, ℕ, suc, ◌+◌, ◌<◌, ◌≤◌, Bool, true, false, ◌||◌, ◌&&◌, List, [], ◌∷◌, ◌++◌, length, take, drop, get_or, refl, sym, ap, ◌∙◌, subst, arith, ◌-◌, append-nil, append_assoc, length-drop, length-take, ◌⊎◌, inl, inr}
-use Rattle.std.proofs.lemmas.Bool.{lt-ltb, le-ltb}
-use Rattle.std.proofs.lemmas.List.{take_all, drop_all, take_more}
+use Rattle.std.proofs.Common.{◌≡◌, ℕ, suc, ◌+◌, ◌<◌, Bool, true, false, ◌||◌, ◌&&◌, List, [], ◌∷◌, ◌++◌, length, take, get_or, refl, sym, ap, ◌∙◌, subst, arith, length-take}
+use Rattle.std.proofs.lemmas.List.{take_more}
 use Rattle.std.specs.Prelude.{if◌then◌else◌}
 use Rattle.std.specs.Str.{bytes_eq}
 use Rattle.spki_tag.specs.Tag.{Tag, tags}
 use Rattle.spki_tag.specs.Meet.{items}
 use Rattle.spki_tag.specs.Index.{Kind, any, strings, one, lists, kind, kinds_share, places_where}
-use Rattle.spki_tag.specs.Places.{is_any, has_many_strings, is_one, is_lists, has_strings, place_if, ArePlacesOf, IsAdded, merge}
+use Rattle.spki_tag.specs.Places.{is_any, has_many_strings, is_one, is_lists, has_strings, place_if, ArePlacesOf, IsAdded}
+use Rattle.spki_tag.specs.Merged.{merge}
+use Rattle.spki_tag.proofs.Merging.{StartsAbove, merge-left, merge-right}
 use Rattle.spki_tag.specs.declared.index.PlacesByKind.{PlacesByKind}
 
 -- ---- one test
@@ -35,11 +36,6 @@ places_where-same p q same n (t ∷ ts) =
 
 -- ---- two tests
 
--- the first of a list, if there is one, is above a number
-abbrev StartsAbove : ℕ → List ℕ → Type 0
-StartsAbove n [] = Unit {0}
-StartsAbove n (x ∷ xs) = n < x
-
 starts_above : (p : Tag → Bool) (n m : ℕ) (ts : List Tag) → n < m → StartsAbove n (places_where p m ts)
 starts_above p n m [] h = tt
 starts_above p n m (t ∷ ts) h = by (p t) (starts_above p n (m + 1) ts (omega arith))
@@ -48,16 +44,6 @@ starts_above p n m (t ∷ ts) h = by (p t) (starts_above p n (m + 1) ts (omega a
         → StartsAbove n (if b then m ∷ places_where p (m + 1) ts else places_where p (m + 1) ts)
     by true k = h
     by false k = k
-
-merge-left : (n : ℕ) (xs ys : List ℕ) → StartsAbove n ys → merge (n ∷ xs) ys ≡ n ∷ merge xs ys
-merge-left n xs [] h = refl
-merge-left n xs (y ∷ ys) h =
-    ap (λ b. if b then n ∷ merge xs (y ∷ ys) else y ∷ merge (n ∷ xs) ys) (lt-ltb n y h)
-
-merge-right : (n : ℕ) (xs ys : List ℕ) → StartsAbove n xs → merge xs (n ∷ ys) ≡ n ∷ merge xs ys
-merge-right n [] ys h = refl
-merge-right n (x ∷ xs) ys h =
-    ap (λ b. if b then x ∷ merge xs (n ∷ ys) else n ∷ merge (x ∷ xs) ys) (le-ltb x n (omega arith))
 
 -- the places of two tests that are never both true, joined
 pub merge-places : (p q : Tag → Bool) → ((t : Tag) → (p t && q t) ≡ false) → (n : ℕ) (ts : List Tag)
@@ -131,31 +117,6 @@ pub places-of_lists : (head : List ℕ) (ts : List Tag)
 places-of_lists head ts =
     merge-places (λ t. is_lists head (kind t)) (λ t. is_any (kind t)) (λ t. lists-apart head (kind t)) 1 ts
     ∙ places_where-same _ _ (λ t. lists-share head (kind t)) 1 ts
-
--- ---- joining, step by step
-
-merge-nil : (xs : List ℕ) → merge xs [] ≡ xs
-merge-nil [] = refl
-merge-nil (x ∷ xs) = ap (λ ys. x ∷ ys) (merge-nil xs)
-
-take-rest : (i : ℕ) (xs : List ℕ) → take (length xs - i) (drop i xs) ≡ drop i xs
-take-rest i xs = take_all (length xs - i) (drop i xs) (omega (arith, length-drop i xs))
-
--- an end is reached
-merge-end : (xs ys : List ℕ) (i j : ℕ) → (length xs ≤ i) ⊎ (length ys ≤ j)
-    → merge (drop i xs) (drop j ys) ≡ drop i xs ++ drop j ys
-merge-end xs ys i j (inl h) = rw (drop_all i xs h) refl
-merge-end xs ys i j (inr h) = rw (drop_all j ys h) (merge-nil (drop i xs) ∙ sym (append-nil (drop i xs)))
-
--- what is left of both goes behind what is joined so far
-pub joined-end : (xs ys so_far with_xs with_both whole : List ℕ) (i j : ℕ) → (length xs ≤ i) ⊎ (length ys ≤ j)
-    → so_far ++ merge (drop i xs) (drop j ys) ≡ whole
-    → with_xs ≡ so_far ++ take (length xs - i) (drop i xs)
-    → with_both ≡ with_xs ++ take (length ys - j) (drop j ys)
-    → with_both ≡ whole
-joined-end xs ys so_far with_xs with_both whole i j h e f g =
-    g ∙ (λ k. (f ∙ ap (λ r. so_far ++ r) (take-rest i xs)) k ++ take-rest j ys k)
-    ∙ append_assoc so_far (drop i xs) (drop j ys) ∙ ap (λ r. so_far ++ r) (sym (merge-end xs ys i j h)) ∙ e
 
 -- ---- members
 

@@ -17,5 +17,6 @@ pub mod NormalForm
 pub mod Normal
 pub mod Index
 pub mod Places
+pub mod Merged
 pub mod TagForms
 pub mod Inner

@@ -1,5 +1,5 @@
 -- What an index of the members of a tag contains.
-use Rattle.std.specs.Prelude.{◌≡◌, ℕ, ◌++◌, nat_lt, Bool, true, false, if◌then◌else◌, List, [], ◌∷◌, Vec}
+use Rattle.std.specs.Prelude.{◌≡◌, ℕ, ◌++◌, Bool, true, false, if◌then◌else◌, List, [], ◌∷◌, Vec}
 use Rattle.std.specs.Borrow.{Bor}
 use Rattle.std.specs.BTreeMap.{BTreeMap, get_by}
 use Rattle.std.specs.Cmp.Lexicographic.{slice_cmp}
@@ -81,15 +81,3 @@ pub record IsAdded (old new : PlacesByKind) (k : Kind) (place : ℕ) : Type 0 wh
   pub with_strings : new.with_strings.items ≡ old.with_strings.items ++ place_if (has_strings k) place
   pub any : new.any.items ≡ old.any.items ++ place_if (is_any k) place
   pub all : new.all.items ≡ old.all.items ++ place ∷ []
-
--- ---- merging
-
--- x before the lists after it, merged with ys
-abbrev weave : ℕ → (List ℕ → List ℕ) → List ℕ → List ℕ
-weave x f [] = x ∷ f []
-weave x f (y ∷ ys) = if nat_lt x y then x ∷ f (y ∷ ys) else y ∷ weave x f ys
-
--- two increasing lists, merged in increasing order
-abbrev pub merge : List ℕ → List ℕ → List ℕ
-merge [] ys = ys
-merge (x ∷ xs) ys = weave x (merge xs) ys

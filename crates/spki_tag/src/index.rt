@@ -4,9 +4,10 @@
 ghost use Rattle.std.specs.Prelude.{◌≡◌, ◌++◌, [], ℕ, List, IfOk, OnOk};
 ghost use Rattle.std.specs.Str.{bytes_eq};
 ghost use Rattle.spki_tag.specs.Index.{kind, may_share, members, places_where};
-ghost use Rattle.spki_tag.specs.Places.{kind_of, found_at, place_if, ArePlacesOf, IsAdded, merge};
+ghost use Rattle.spki_tag.specs.Places.{kind_of, found_at, place_if, ArePlacesOf, IsAdded};
 
 use crate::leaf::Leaf;
+use crate::merge::merged;
 use crate::tag::{Node, Tag};
 use std::alloc::{AllocError, Global};
 use std::collections::BTreeMap;
@@ -76,27 +77,6 @@ fn places_at<'m>(map: &'m PlacesByString<'_>, string: &[u8]) -> &'m [usize]
         None => &[],
         Some(places) => places.as_slice(),
     }
-}
-
-/// Two increasing lists, merged in increasing order.
-fn merged(alloc: Global, xs: &[usize], ys: &[usize]) -> Result<Vec<usize>, AllocError>
-    ensures { IfOk result (λ joined. joined.items ≡ merge xs.now ys.now) }
-{
-    let mut joined = Vec::new(alloc);
-    let mut i = 0;
-    let mut j = 0;
-    while i < xs.len() && j < ys.len() {
-        if xs[i] < ys[j] {
-            joined.push(xs[i])?;
-            i += 1;
-        } else {
-            joined.push(ys[j])?;
-            j += 1;
-        }
-    }
-    joined.extend_from_slice(&xs[i..])?;
-    joined.extend_from_slice(&ys[j..])?;
-    Ok(joined)
 }
 
 /// The places of tags, counted from 1, in increasing order, by what the tags can contain.

@@ -331,26 +331,42 @@ impl Tag {
             × (ldepth c ≤ max (ldepth self) (ldepth other.now))) }
         ensures too_large { IsErrOf result MeetFault.TooLarge ↔ (1000000 < nodes self * nodes other.now) }
     {
-        self.into_meet_within(alloc, other, MOST_NODES)
+        let mut met = self;
+        met.narrow_within(alloc, other, MOST_NODES)?;
+        Ok(met)
     }
 
-    /// Like `into_meet`, with `most` as the limit instead of 1,000,000.
+    /// Narrows the tag to its intersection with another, with `most` as the limit instead of 1,000,000. If the other tag is known
+    /// to contain all of this one, nothing is moved or allocated. After `TooLarge` the tag is as before, and after `Memory` it
+    /// contains nothing.
     ///
     /// # Errors
     ///
     /// `TooLarge` if the product of the numbers of their nodes is over `most`, and `Memory` if memory ran out.
-    pub fn into_meet_within(self, alloc: Global, other: &Tag, most: usize) -> Result<Tag, MeetFault>
+    pub fn narrow_within(
+        &mut self,
+        alloc: Global,
+        other: &Tag,
+        most: usize,
+    ) -> Result<(), MeetFault>
         requires { most ≤ 1000000 }
-        ensures which { IfOk result (λ c. c ≡ meet self other.now) }
-        ensures exact { IfOk result (λ c. (g : Request) → IsRequest g
-            → contains c g ≡ (contains self g && contains other.now g)) }
-        ensures bounds { IfOk result (λ c. (nodes c ≤ nodes self * nodes other.now)
-            × (ldepth c ≤ max (ldepth self) (ldepth other.now))) }
-        ensures too_large { IsErrOf result MeetFault.TooLarge ↔ (most < nodes self * nodes other.now) }
+        ensures which { OnOk result (self.new ≡ meet self.old other.now) }
+        ensures exact { OnOk result ((g : Request) → IsRequest g
+            → contains self.new g ≡ (contains self.old g && contains other.now g)) }
+        ensures bounds { OnOk result ((nodes self.new ≤ nodes self.old * nodes other.now)
+            × (ldepth self.new ≤ max (ldepth self.old) (ldepth other.now))) }
+        ensures too_large { IsErrOf result MeetFault.TooLarge ↔ (most < nodes self.old * nodes other.now) }
+        ensures kept { IsErrOf result MeetFault.TooLarge → self.new ≡ self.old }
+        ensures lost { IsErrOf result MeetFault.Memory → self.new ≡ set none }
     {
         if self.nodes() * other.nodes() > most {
             return Err(MeetFault::TooLarge);
         }
-        Ok(meet_owned(alloc, self, other)?)
+        if stays(self, other) {
+            return Ok(());
+        }
+        let one = mem::replace(self, Tag::nothing(alloc));
+        *self = meet_owned(alloc, one, other)?;
+        Ok(())
     }
 }

@@ -1,7 +1,7 @@
 use Rattle.std.proofs.Common.{◌≡◌, ◌∙◌, ap, reverse}
 use Rattle.std.proofs.lemmas.Result.{IfOk-weaker}
 use Rattle.spki_service.specs.Indexed.{numbers_at, numbers_of_key}
-use Rattle.spki_service.specs.Merged.{merge}
+use Rattle.spki_tag.specs.Merged.{merge}
 use Rattle.spki_service.proofs.Found.{found_all}
 use Rattle.spki_service.proofs.index.EntryIndex.found.Goals as goal
 
@@ -15,6 +15,6 @@ returns c = λ es indexed.
     let first = c.in_ok-first.ensures ∙ ap (λ l. merge l c.admitted.result.now) own in
     let second = c.in_ok-second.ensures ∙ ap (λ l. merge l c.admitted-2.result.now) first in
     let all = found_all c.args.policy c.args.key.now es c.args.self.now indexed in
-    IfOk-weaker c.merged-3.result _ _
+    IfOk-weaker c.joined-3.result _ _
     (λ v is. is ∙ ap (λ l. merge l c.admitted-3.result.now) second ∙ rw (c.admitted.ensures, c.admitted-2.ensures, c.admitted-3.ensures) all)
-    c.merged-3.ensures
+    c.joined-3.ensures

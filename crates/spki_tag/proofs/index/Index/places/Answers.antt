@@ -1,7 +1,7 @@
 use Rattle.std.proofs.Common.{◌≡◌, ◌∙◌, subst}
 use Rattle.std.specs.Prelude.{IfOk}
 use Rattle.spki_tag.specs.Index.{kind, kinds_share, places_where}
-use Rattle.spki_tag.specs.Places.{merge}
+use Rattle.spki_tag.specs.Merged.{merge}
 use Rattle.spki_tag.proofs.Places.{places-of_string, places-of_lists}
 use Rattle.spki_tag.proofs.index.Index.places.Goals as goal
 

@@ -1,6 +1,6 @@
 use Rattle.std.proofs.Common.{◌≡◌, ◌+◌, ◌-◌, ◌≤◌, ◌++◌, length, drop}
-use Rattle.spki_tag.specs.Places.{merge}
-use Rattle.spki_tag.proofs.index.merged.Given as goal
+use Rattle.spki_tag.specs.Merged.{merge}
+use Rattle.spki_tag.proofs.merge.merged.Given as goal
 
 abbrev pub invariant-loop-i : goal.invariant-loop-i
 invariant-loop-i l =

@@ -1,7 +1,7 @@
 use Rattle.std.proofs.Common.{◌≡◌, length, ◌∙◌, rules}
 use Rattle.std.proofs.lemmas.Result.{IfOk-weaker}
 use Rattle.spki_service.proofs.Merging.{merge-empty, empty-merge}
-use Rattle.spki_service.proofs.index.merged.Goals as goal
+use Rattle.spki_service.proofs.index.joined.Goals as goal
 
 -- nothing is added
 pub returns-then-is_empty : goal.returns-then-is_empty

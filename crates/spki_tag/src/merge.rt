@@ -1,0 +1,31 @@
+//! Lists of places, in increasing order.
+
+ghost use Rattle.std.specs.Prelude.{◌≡◌, IfOk};
+ghost use Rattle.spki_tag.specs.Merged.{merge};
+
+use std::alloc::{AllocError, Global};
+
+/// Two increasing lists, merged in increasing order. A number that both have comes twice.
+///
+/// # Errors
+///
+/// `AllocError` if memory ran out.
+pub fn merged(alloc: Global, xs: &[usize], ys: &[usize]) -> Result<Vec<usize>, AllocError>
+    ensures { IfOk result (λ joined. joined.items ≡ merge xs.now ys.now) }
+{
+    let mut joined = Vec::new(alloc);
+    let mut i = 0;
+    let mut j = 0;
+    while i < xs.len() && j < ys.len() {
+        if xs[i] < ys[j] {
+            joined.push(xs[i])?;
+            i += 1;
+        } else {
+            joined.push(ys[j])?;
+            j += 1;
+        }
+    }
+    joined.extend_from_slice(&xs[i..])?;
+    joined.extend_from_slice(&ys[j..])?;
+    Ok(joined)
+}
