@@ -5,7 +5,6 @@ use Rattle.sexpr_core.specs.Value.{Value, canon}
 use Rattle.sexpr_core.proofs.Texts.{canon_one}
 use Rattle.spki_cert.specs.declared.principal.Principal.{Principal}
 use Rattle.spki_cert.specs.declared.principal.Principal.TheVariants as principal
-use Rattle.spki_cert.specs.Subjects.{plains}
 use Rattle.spki_reduce.specs.declared.tuple.Issuer.{Issuer}
 use Rattle.spki_reduce.specs.declared.tuple.Issuer.TheVariants.{Own, Key}
 use Rattle.spki_reduce.specs.declared.tuple.Five.{Five}

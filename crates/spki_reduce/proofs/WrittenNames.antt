@@ -1,10 +1,10 @@
--- Names, written one behind another.
+-- What is written, one member behind another.
 use Rattle.std.proofs.Common.{◌≡◌, ℕ, ◌+◌, ◌<◌, List, [], ◌∷◌, ◌++◌, length, map, take, get_or, slice_get, Option, Some, None, refl, sym, ap, ◌∙◌, append_assoc}
 use Rattle.std.proofs.lemmas.List.{take_more}
 use Rattle.std.proofs.lemmas.Option.{slice_get-get_or, slice_get_within}
 use Rattle.sexpr_core.specs.declared.tree.Sexp.{Sexp}
 use Rattle.sexpr_core.specs.Tree.{sexp_value}
-use Rattle.sexpr_core.specs.Value.{plain}
+use Rattle.sexpr_core.specs.Value.{Value, plain}
 use Rattle.spki_cert.specs.Subjects.{plains}
 use Rattle.spki_cert.proofs.SubjectLaws.{plains-push}
 
@@ -36,3 +36,14 @@ name_written_at names k name octets t start before after there is written e f =
     ∙ ap (λ vs. vs ++ sexp_value t ∷ []) e ∙ append_assoc (map sexp_value start) (plains (take k names)) (sexp_value t ∷ [])
     ∙ ap (λ v. map sexp_value start ++ (plains (take k names) ++ v ∷ [])) (written ∙ ap plain is)
     ∙ ap (λ vs. map sexp_value start ++ vs) (names_more names k name there)
+
+-- ---- an authorization
+
+-- a list's members, piece by piece
+pub five_members : (head subject tag : Value) (issuer delegation window begun issued named_too delegated tagged whole : List Value)
+    → begun ≡ head ∷ [] → issued ≡ begun ++ issuer → named_too ≡ issued ++ subject ∷ [] → delegated ≡ named_too ++ delegation
+    → tagged ≡ delegated ++ tag ∷ [] → whole ≡ tagged ++ window
+    → whole ≡ head ∷ (((issuer ++ subject ∷ []) ++ delegation) ++ tag ∷ window)
+five_members head subject tag issuer delegation window begun issued named_too delegated tagged whole a b c d e f =
+    f ∙ ap (λ vs. vs ++ window) (e ∙ ap (λ vs. vs ++ tag ∷ []) (d ∙ ap (λ vs. vs ++ delegation) (c ∙ ap (λ vs. vs ++ subject ∷ []) (b ∙ ap (λ vs. vs ++ issuer) a))))
+    ∙ ap (λ vs. head ∷ vs) (append_assoc ((issuer ++ subject ∷ []) ++ delegation) (tag ∷ []) window)

@@ -356,7 +356,7 @@ impl Tag {
         ensures bounds { OnOk result ((nodes self.new ≤ nodes self.old * nodes other.now)
             × (ldepth self.new ≤ max (ldepth self.old) (ldepth other.now))) }
         ensures too_large { IsErrOf result MeetFault.TooLarge ↔ (most < nodes self.old * nodes other.now) }
-        ensures kept { IsErrOf result MeetFault.TooLarge → self.new ≡ self.old }
+        ensures unchanged { IsErrOf result MeetFault.TooLarge → self.new ≡ self.old }
         ensures lost { IsErrOf result MeetFault.Memory → self.new ≡ set none }
     {
         if self.nodes() * other.nodes() > most {

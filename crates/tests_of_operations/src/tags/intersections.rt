@@ -135,12 +135,14 @@ fn given_limit(rt: HostRuntime) -> Result<(), Fail> {
     let alloc = rt.alloc();
     let text = list_of(alloc, b"(", b"1:x", 9)?;
     let other = tag_of(&rt, alloc, &text)?;
-    let both = tag_of(&rt, alloc, &text)?.into_meet_within(alloc, &other, 100)?;
+    let mut both = tag_of(&rt, alloc, &text)?;
+    both.narrow_within(alloc, &other, 100)?;
     assert!(rt; text_of(alloc, &both)?.as_slice() == text.as_slice());
-    match tag_of(&rt, alloc, &text)?.into_meet_within(alloc, &other, 99) {
-        Ok(_) => assert!(rt; false),
+    match both.narrow_within(alloc, &other, 99) {
+        Ok(()) => assert!(rt; false),
         Err(fault) => assert!(rt; fault == MeetFault::TooLarge),
     }
+    assert!(rt; text_of(alloc, &both)?.as_slice() == text.as_slice());
     Ok(())
 }
 

@@ -2,7 +2,7 @@
 
 use crate::tags::intersections::{Row, all_meet};
 use crate::tags::texts::tag_of;
-use spki_tag::{Index, Tag};
+use spki_tag::{Index, Tag, merged};
 use std::alloc::{AllocError, Global};
 use std::process::Abort;
 use std::test::Fail;
@@ -71,6 +71,13 @@ fn places(rt: HostRuntime) -> Result<(), Fail> {
             "{asked:?}"
         );
     }
+    Ok(())
+}
+
+#[test]
+fn places_merged(rt: HostRuntime) -> Result<(), Fail> {
+    let joined = merged(rt.alloc(), &[1, 3, 8], &[2, 3, 9])?;
+    assert!(rt; joined.as_slice() == [1, 2, 3, 3, 8, 9]);
     Ok(())
 }
 

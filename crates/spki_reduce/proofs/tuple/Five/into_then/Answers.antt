@@ -7,9 +7,9 @@ returns-clause-joined c =
     let right = c.args.next.now in
     let policy = c.args.policy in
     let window = c.in-Ok.window in
-    let tag = c.in_ok-tag-in-Ok.tag in
-    let exact = c.in_ok-tag-in-Ok.ensures.exact in
+    let tag = c.narrow_within.new.self in
+    let exact = c.in_ok-narrow_within-in-Ok.ensures.exact in
     let (issues, allowed, meets, overlap) = c.in-Ok.ensures.joins in
     along c.in_ok-narrowed-in-Ok.field-0 _ _ _ _ c.in_ok-narrowed-in-Ok.ensures
-    (narrowed_joins policy left right window issues allowed overlap meets tag exact c.in_ok-tag-in-Ok.ensures.bounds)
+    (narrowed_joins policy left right window issues allowed overlap meets tag exact c.in_ok-narrow_within-in-Ok.ensures.bounds)
     (stops_by_tags policy left right window issues allowed overlap tag exact)
