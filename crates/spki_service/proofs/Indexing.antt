@@ -1,5 +1,5 @@
 -- An index, where one entry comes behind others.
-use Rattle.std.proofs.Common.{◌≡◌, ℕ, ◌+◌, Bool, true, false, cond, ◌⊎◌, inl, inr, List, [], ◌∷◌, ◌++◌, length, Vec, Option, Some, None, bytes_eq, reverse, refl, sym, ap, ◌∙◌}
+use Rattle.std.proofs.Common.{◌≡◌, ℕ, ◌+◌, Bool, true, false, cond, ◌⊎◌, inl, inr, List, [], ◌∷◌, ◌++◌, length, Vec, Option, Some, bytes_eq, reverse, refl, sym, ap, ◌∙◌}
 use Rattle.std.specs.Option.{option_map_or}
 use Rattle.std.specs.declared.alloc.Global.{Global}
 use Rattle.std.proofs.lemmas.Bool.{cases_Bool, true≢false}
@@ -32,14 +32,6 @@ module _ (es : List Entry) (e : Entry) (number : ℕ) (counted : 1 + length es �
     hashes = λ alg digest. more_at (λ f. is_hash alg digest f.subject.principal) (numbers_at (by_algorithm old alg) digest)
         (numbers_at (by_algorithm new alg) digest) (stood.hashes alg digest) (hashes alg digest);
   }
-
--- ---- what stands at octets
-
-pub at_some : (m : NumberMap) (octets : List ℕ) (value : Vec ℕ Global) → at_digest m octets ≡ Some value → numbers_at m octets ≡ value.items
-at_some m octets value stands = ap (λ (o : Option (Vec ℕ Global)). option_map_or (λ v. v.items) o []) stands
-
-pub at_none : (m : NumberMap) (octets : List ℕ) → at_digest m octets ≡ None → numbers_at m octets ≡ []
-at_none m octets stands = ap (λ (o : Option (Vec ℕ Global)). option_map_or (λ v. v.items) o []) stands
 
 -- ---- one number more at octets
 
