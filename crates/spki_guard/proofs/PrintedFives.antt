@@ -1,5 +1,5 @@
 -- Authorizations in advanced form, member by member.
-use Rattle.std.proofs.Common.{◌≡◌, ℕ, ◌+◌, ◌<◌, List, [], ◌∷◌, ◌++◌, length, map, take, get_or, slice_get, Some, refl, sym, ap, ◌∙◌, append_assoc, append-nil}
+use Rattle.std.proofs.Common.{◌≡◌, ◌≢◌, ℕ, ◌+◌, ◌<◌, List, [], ◌∷◌, ◌++◌, length, map, take, get_or, slice_get, Some, refl, sym, ap, ◌∙◌, append_assoc, append-nil}
 use Rattle.std.specs.Prelude.{codes}
 use Rattle.std.proofs.lemmas.List.{take_more}
 use Rattle.sexpr_core.specs.declared.tree.Sexp.{Sexp}
@@ -115,10 +115,10 @@ name_printed names k name octets t out mid opened new there is written e f g =
     spaced_on (plains (take k names)) (plain name ∷ []) out mid new e one
     ∙ ap (λ vs. out ++ spaced vs) (names_more names k name there)
 
-pub named_printed : (owner : Value) (n : List ℕ) (ns : List (List ℕ)) (out opened led listed new : List ℕ)
+some_printed : (owner : Value) (n : List ℕ) (ns : List (List ℕ)) (out opened led listed new : List ℕ)
     → opened ≡ out ++ codes "(name " → led ≡ opened ++ adv owner → listed ≡ led ++ spaced (plains (n ∷ ns)) → new ≡ listed ++ 41 ∷ []
     → new ≡ out ++ adv (named owner (n ∷ ns))
-named_printed owner n ns out opened led listed new a b c d =
+some_printed owner n ns out opened led listed new a b c d =
     let vs = plains (n ∷ ns) in
     let inner : codes "(name " ++ ((adv owner ++ spaced vs) ++ 41 ∷ []) ≡ adv (named owner (n ∷ ns)) =
     ap (λ s. codes "(name " ++ ((adv owner ++ s) ++ 41 ∷ [])) (sym (past_first 1 (values vs))) ∙ sym (name_begins (owner ∷ vs)) in
@@ -127,3 +127,9 @@ named_printed owner n ns out opened led listed new a b c d =
     ∙ append_assoc (out ++ codes "(name ") (adv owner ++ spaced vs) (41 ∷ [])
     ∙ append_assoc out (codes "(name ") ((adv owner ++ spaced vs) ++ 41 ∷ [])
     ∙ ap (λ s. out ++ s) inner
+
+pub named_printed : (owner : Value) (names : List (List ℕ)) (out opened led listed new : List ℕ) → names ≢ []
+    → opened ≡ out ++ codes "(name " → led ≡ opened ++ adv owner → listed ≡ led ++ spaced (plains names) → new ≡ listed ++ 41 ∷ []
+    → new ≡ out ++ adv (named owner names)
+named_printed owner [] out opened led listed new some a b c d = absurd (some refl)
+named_printed owner (n ∷ ns) out opened led listed new some a b c d = some_printed owner n ns out opened led listed new a b c d
