@@ -77,7 +77,7 @@ fn places(rt: HostRuntime) -> Result<(), Fail> {
 #[test]
 fn places_merged(rt: HostRuntime) -> Result<(), Fail> {
     let joined = merged(rt.alloc(), &[1, 3, 8], &[2, 3, 9])?;
-    assert!(rt; joined.as_slice() == [1, 2, 3, 3, 8, 9]);
+    assert!(rt; joined.as_slice() == [1, 2, 3, 3, 8, 9].as_slice());
     Ok(())
 }
 
