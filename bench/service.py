@@ -26,7 +26,7 @@ from check import group, key, string
 from counting import counted_by_valgrind, counter, of_one_call
 from macaroons import GUARD, MACAROON, built, measured, written_parts
 from shapes import by_keys, case, certificate, digest, entry, keys_of, parts_of
-from slowest import LARGE_TAG, SHAPES, Shape, large_tag, most
+from slowest import LARGE_TAG, SHAPES, Shape, entries_with_own_tags, large_tag, most
 
 sys.path.append(os.path.join(os.path.dirname(os.path.abspath(__file__)), "..", "tests"))
 from support import BENCH, LIBRARY, TOP, canonical, read  # noqa: E402
@@ -40,7 +40,8 @@ QUESTION_OCTETS, QUESTION_MEMBERS = 65_536, 99
 SECONDS = 600
 MOST = {"10,000 keys, no certificate": 1.5, "10,000 keys, three certificates": 1.5, "10,000 hashes, no certificate": 1.5,
         "10,000 hashes, three certificates": 1.5, "opening 1 MiB": 1.3, "instructions of a case": 96_000, "three caveats": 1.0, "Rust": 1.1,
-        "Python, µs more": 20.0, "a question's ms": 100.0, "a question's MiB": 16.0, "waits of 1,000 decisions": 1.0}
+        "Python, µs more": 20.0, "a question, ms": 100.0, "a question, MiB": 16.0, "a question on tags of their own, ms": 600.0,
+        "a question on tags of their own, MiB": 16.5, "waits of 1,000 decisions": 1.0}
 LEAST = {"threads": 3.5}
 # What the library's statuses say.
 ANSWERS = {0: "yes", 1: "no", 2: "refused", 6: "done"}
@@ -217,7 +218,7 @@ def widest_of(shape):
     return f"{shape.name}, {entries:,} and {certificates:,}", shape.make(entries, certificates, QUESTION_MEMBERS)
 
 
-def ten_entries(entries, certificates, members):
+def ten_large_sets(entries, certificates, members):
     """A large tag, with ten entries for the first issuer, each with a set of its own."""
     value = read(large_tag(1, certificates, members))
     sets = [group(string("*"), string("set"), string(f"b{place}"), *[string("a")] * (members - 1)) for place in range(10)]
@@ -238,13 +239,15 @@ def one_question(driver, what, text):
 
 
 def widest(driver):
-    """The most milliseconds and MiB of one question. The limits are passed by `explain` and `reduce` on lists whose entries have many or
-    large tags of their own, and by an entry for a very long name: README.md has the figures under "Limits"."""
-    shapes = [widest_of(shape) for shape in (*SHAPES, LARGE_TAG, Shape("", ten_entries))]
-    shapes += [(f"large tags: {what}", text) for what, text in large_tags()]
-    met = [each for what, text in shapes for each in one_question(driver, what, text)]
-    yield "a question's ms", max(milliseconds for milliseconds, _ in met)
-    yield "a question's MiB", max(mebibytes for _, mebibytes in met)
+    """The most milliseconds and MiB of one question, and apart from the others those on lists whose entries have many or large tags of their
+    own: each of these is narrowed by each certificate that a stranger shows. README.md has the figures under "Limits"."""
+    shapes = [shape for shape in SHAPES if shape.make is not entries_with_own_tags]
+    known = [widest_of(shape) for shape in (*shapes, LARGE_TAG)] + [(f"large tags: {what}", text) for what, text in large_tags()]
+    own = [widest_of(Shape("", make)) for make in (entries_with_own_tags, ten_large_sets)]
+    for whose, texts in (("a question", known), ("a question on tags of their own", own)):
+        met = [each for what, text in texts for each in one_question(driver, what, text)]
+        yield f"{whose}, ms", max(milliseconds for milliseconds, _ in met)
+        yield f"{whose}, MiB", max(mebibytes for _, mebibytes in met)
 
 
 def threads(driver):
