@@ -1,7 +1,7 @@
 #!/usr/bin/env python3
 """Tests that what the documents name is there: each relative link and its heading, each path of a file or folder of this repository in
 backticks, in a block of commands and in a table, the versions of the manual and of README.md, which are that of the file VERSION, and
-the toolchain that README.md names, which is what `rt --version` prints (left out if `rt` is not in the path).
+the logic of the toolchain that README.md names, which `rt --version` prints (left out if `rt` is not in the path).
 
 A path is what begins with a name at the top of the repository, or in the folder of the document, or with `src`, `specs` or `proofs` in the
 page of a crate; and each word in backticks that ends as a file of a kind that is here. A word in capitals stands for any name, and so
@@ -24,7 +24,7 @@ FENCED = re.compile(r"^```(\w*) ?(\S*)\n(.*?)^```$", re.MULTILINE | re.DOTALL)
 HEADING = re.compile(r"^#+ (.*)$", re.MULTILINE)
 PATH = re.compile(r"^(?:\.ci|[\w*+-][\w.*+-]*)(?:/[\w.*+-]+)*/?$")
 KINDS = (".md", ".py", ".sexp", ".csexp", ".tsexp", ".rt", ".antt", ".h", ".c", ".sh", ".table", ".svg")
-KIT = re.compile(r"rattle-kit-\w+(?: logic [0-9a-f]+)?")
+LOGIC = re.compile(r"rattle-kit-\w+ (logic [0-9a-f]+)")
 ANY = re.compile(r"\b[A-Z]{2,}(?![A-Za-z.])")
 # What pages name that is made by a command, by the reader, or by another program, and the page of each.
 MADE = {"ask.py", "case.sexp", "chain.svg", "chain.sexp", "wrong.sexp", "x.edit", "locate"}
@@ -100,14 +100,13 @@ def other_versions():
 
 
 def other_kits():
-    """Where README.md names another toolchain than `rt --version` prints, or does not have its whole line."""
+    """Where README.md names a toolchain of another logic than `rt --version` prints. Kits of one logic prove the same."""
     if shutil.which("rt") is None:
         print("rt is not in the path: the toolchain that README.md names is left out")
         return
     printed = output_of("rt", "--version")[1].strip()
-    named = KIT.findall(text_of("README.md"))
-    if printed not in named or set(named) - {printed, *printed.split()[:1]}:
-        yield f"only the toolchain {printed}"
+    if set(LOGIC.findall(text_of("README.md"))) != set(LOGIC.findall(printed)):
+        yield f"only the logic of {printed}"
 
 
 def main():
