@@ -53,7 +53,7 @@ UNSAID_FAULT = (3, b"", b"")
 CALLS = (
     "decode", "encode", "read_any", "print_advanced", "wrap", "unwrap_braces", "Doc::open", "read_advanced",
     "Tag::read", "Ground::read", "Tag::meet", "Tag::narrow_within", "Tag::write", "read_acl", "read_sequence", "read_key", "read_hash",
-    "Five::then", "fold_chain", "fold_owned", "Five::resolve", "Four::then", "Five::write",
+    "Five::then", "fold_chain", "fold_owned", "Five::resolve", "Five::into_resolve", "Four::then", "Five::write",
     "Case::read", "decide", "reduce_case", "explain", "run",
     "Guard::read", "Guard::texts", "Guard::ask", "Asked::decide", "Asked::decide_by", "Asked::explain", "Asked::explain_by",
     "Asked::reduce", "Asked::reduce_by", "answer_question", "signed_octets", "refused_list",

@@ -107,7 +107,7 @@ fn first_joined<'a>(
     let own = bare_entry(entry)?;
     match first {
         Step::Auth(next) => own.then(alloc, next, policy),
-        Step::Name(definition) => own.resolve(alloc, definition, policy),
+        Step::Name(definition) => own.into_resolve(definition, policy),
     }
 }
 

@@ -112,8 +112,12 @@ impl<'a> Five<'a> {
         self.copy()?.into_resolve(definition, policy)
     }
 
-    /// Like `resolve`, but consumes `self`.
-    pub(crate) fn into_resolve(
+    /// Like `resolve`, but consumes `self`, so the names of its subject and its tag are not copied.
+    ///
+    /// # Errors
+    ///
+    /// Only `Memory`, if memory ran out.
+    pub fn into_resolve(
         self,
         definition: &Four<'a>,
         policy: Policy,

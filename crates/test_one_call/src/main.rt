@@ -57,6 +57,7 @@ fn of_cases(alloc: Global, name: &str) -> Option<Result<bool, Failure>> {
         "fold_chain" => Some(tuples::fold_chain(alloc)),
         "fold_owned" => Some(tuples::fold_owned(alloc)),
         "Five::resolve" => Some(tuples::five_resolve(alloc)),
+        "Five::into_resolve" => Some(tuples::five_into_resolve(alloc)),
         "Four::then" => Some(tuples::four_then(alloc)),
         "Five::write" => Some(tuples::five_write(alloc)),
         "Case::read" => Some(cases::case_read(alloc)),

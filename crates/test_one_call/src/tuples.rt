@@ -138,6 +138,16 @@ pub(crate) fn five_resolve(alloc: Global) -> Result<bool, Failure> {
     }
 }
 
+/// `linked-names`: the same, and the entry is consumed.
+pub(crate) fn five_into_resolve(alloc: Global) -> Result<bool, Failure> {
+    let friends = definition(alloc, KA, b"friends", subject(alloc, KB, &[])?)?;
+    let first = entry(alloc, KA, &[b"friends", b"bob"], b"(1:*)")?;
+    match first.into_resolve(&friends, Policy::Open)? {
+        Joined::Done(five) => Ok(five.subject.names.len() == 1),
+        Joined::Stopped(_) => Ok(false),
+    }
+}
+
 /// `linked-names`: KA's definition of friends as KB's bob, and KB's definition of bob, become one tuple for KC.
 pub(crate) fn four_then(alloc: Global) -> Result<bool, Failure> {
     let friends = definition(alloc, KA, b"friends", subject(alloc, KB, &[b"bob"])?)?;

@@ -9,4 +9,4 @@ returns-in-Auth-clause-joined c =
 pub returns-clause-joined : goal.returns-clause-joined
 returns-clause-joined c =
     first_name c.args.policy c.args.entry.now c.in_ok-own.own c.in_ok-own.ensures c.args.first.now c.in-Name.definition c.in-Name.is c.requires
-    c.resolve.result c.resolve.ensures.joined
+    c.into_resolve.result c.into_resolve.ensures.joined
