@@ -3,13 +3,13 @@
 ghost use Rattle.std.specs.Prelude.{◌≡◌, ℕ, ◌+◌, ◌*◌, ◌<◌, ◌≤◌, ◌↔◌, ◌++◌, ◌∷◌, ◌&&◌, [], true, false, max, length, take, drop, slice_index_or, IsTrue, IfOk, OnOk, IsErrOf, MatchOption};
 ghost use Rattle.std.specs.Arc.{arc_slice_items};
 ghost use Rattle.spki_tag.specs.Request.{Request, IsRequest};
-ghost use Rattle.spki_tag.specs.Tag.{IsNormalTag, contains, each_normal, is_nothing, is_set, is_star, ldepth, list, more, most_nodes, nodes, nodes_all, none, set, star, tags};
+ghost use Rattle.spki_tag.specs.Tag.{IsNormalTag, contains, each_normal, is_nothing, is_set, is_star, ldepth, list, more, most_nodes, nodes, nodes_all, none, set, star, string, tags};
 ghost use Rattle.spki_tag.specs.Meet.{each_meet, has_nothing, kept, meet, pairs};
 
 use crate::fault::MeetFault;
 use crate::form::is_set;
 use crate::intersection::{MOST_NODES, meet_tags};
-use crate::leaf::SharedOctets;
+use crate::leaf::{Leaf, SharedOctets};
 use crate::parts::push_copies;
 use crate::tag::{Node, Tag, nodes_of};
 use std::alloc::{AllocError, Global};
@@ -71,12 +71,43 @@ fn all_stay(members: &[Tag], others: &[Tag]) -> bool
     true
 }
 
-/// How many tags at the front are known to be their own intersections with another tag.
+/// Whether a tag is the string of these octets.
+fn is_string(tag: &Tag, octets: &[u8]) -> bool
+    ensures { IsTrue result ↔ (tag.now ≡ string octets.now) }
+{
+    match &tag.node {
+        Node::Leaf(Leaf::String(own)) => own.as_slice() == octets,
+        Node::Leaf(_) => false,
+        Node::List(_, _, _) => false,
+        Node::Set(_, _) => false,
+    }
+}
+
+/// How many tags at the front are the string of these octets. The intersection of each of them with the string is the tag
+/// itself.
+fn strings_first(members: &[Tag], octets: &[u8]) -> usize
+    ensures inside { result ≤ length members.now }
+    ensures met { take result members.now ++ pairs (tags (drop result members.now)) (more (string octets.now) none)
+        ≡ pairs (tags members.now) (more (string octets.now) none) }
+{
+    for place in 0..members.len() {
+        if !is_string(&members[place], octets) {
+            return place;
+        }
+    }
+    members.len()
+}
+
+/// How many tags at the front are known to be their own intersections with another tag. For a string, these are the tags that
+/// are equal to it, and a shorter loop counts them.
 fn staying_first(members: &[Tag], other: &Tag) -> usize
     ensures inside { result ≤ length members.now }
     ensures met { take result members.now ++ pairs (tags (drop result members.now)) (more other.now none)
         ≡ pairs (tags members.now) (more other.now none) }
 {
+    if let Node::Leaf(Leaf::String(octets)) = &other.node {
+        return strings_first(members, octets.as_slice());
+    }
     for place in 0..members.len() {
         if !stays(&members[place], other) {
             return place;
