@@ -1,34 +1,80 @@
 //! Chains.
 
+ghost use Rattle.std.specs.Prelude.{◌≤◌};
+
 use crate::reductions::tuples::{
-    CERTIFICATE, DEFINITION, ENTRY, Given, KA, KB, KC, five, five_for, is_subject, steps,
+    CERTIFICATE, DEFINITION, ENTRY, Given, KA, KB, KC, five_for, is_subject, steps,
 };
 use spki_cert::Policy;
-use spki_reduce::{Cause, Five, Fold, ReduceFault, Step, fold_chain, fold_owned};
+use spki_reduce::{Cause, Fold, ReduceFault, Step, fold_chain, fold_owned};
 use std::alloc::{AllocError, Global};
 use std::test::Fail;
 
-/// What a chain becomes.
-fn folded(alloc: Global, first: &Given, others: &[Given]) -> Result<Fold<'static>, Fail> {
-    let first = five(alloc, first)?;
+/// How a chain is to end.
+#[derive(Clone, Copy)]
+enum End<'a> {
+    /// It becomes an authorization of this key.
+    For(&'a [u8]),
+    /// It stops at this step, for this cause.
+    Stopped(usize, Cause),
+    /// It is refused as too large.
+    TooLarge,
+}
+
+/// Whether a chain ended so.
+fn is_end(folded: &Result<Fold, ReduceFault>, end: End) -> bool {
+    match (folded, end) {
+        (Ok(Fold::Done(five)), End::For(key)) => is_subject(&five.subject, key, &[]),
+        (Ok(Fold::Stopped { step, cause }), End::Stopped(place, why)) => {
+            *step == place && *cause == why
+        }
+        (Err(fault), End::TooLarge) => *fault == ReduceFault::TooLarge,
+        (_, _) => false,
+    }
+}
+
+/// Whether a chain ends so, whose first authorization is given, with this tag.
+fn ends_from(
+    alloc: Global,
+    first: &Given,
+    tag: &[u8],
+    others: &[Step],
+    end: End,
+) -> Result<bool, Fail> {
+    let first = five_for(alloc, first, tag)?;
+    Ok(is_end(&fold_chain(alloc, &first, others, Policy::Open), end))
+}
+
+/// The same for a chain as given.
+fn ends_as_given(alloc: Global, first: &Given, others: &[Given], end: End) -> Result<bool, Fail> {
     let others = steps(alloc, others)?;
-    Ok(fold_chain(alloc, &first, &others, Policy::Open)?)
+    ends_from(alloc, first, first.tag, &others, end)
 }
 
-/// Whether a chain became an authorization of a key.
-fn is_for(fold: &Fold, key: &[u8]) -> bool {
-    match fold {
-        Fold::Done(five) => is_subject(&five.subject, key, &[]),
-        Fold::Stopped { .. } => false,
-    }
+/// The same under a limit, if the first authorization is consumed.
+fn ends_consumed(
+    alloc: Global,
+    first: &Given,
+    tag: &[u8],
+    others: &[Step],
+    most: usize,
+    end: End,
+) -> Result<bool, Fail>
+    requires { most ≤ 1000000 }
+{
+    let first = five_for(alloc, first, tag)?;
+    Ok(is_end(&fold_owned(alloc, first, others, Policy::Open, most), end))
 }
 
-/// The step at which a chain stops, and why.
-fn stop(fold: &Fold) -> Option<(usize, Cause)> {
-    match fold {
-        Fold::Done(_) => None,
-        Fold::Stopped { step, cause } => Some((*step, *cause)),
-    }
+/// The same for a chain as given, under the greatest limit.
+fn ends_consumed_as_given(
+    alloc: Global,
+    first: &Given,
+    others: &[Given],
+    end: End,
+) -> Result<bool, Fail> {
+    let others = steps(alloc, others)?;
+    ends_consumed(alloc, first, first.tag, &others, 1_000_000, end)
 }
 
 /// `(cert (issuer KB) (subject KC) (tag (*)))`
@@ -72,79 +118,65 @@ const STOPPED: &[(Given, &[Given], usize, Cause)] = &[
 #[test]
 fn chains(rt: HostRuntime) -> Result<(), Fail> {
     for (first, others, key) in DONE {
-        assert!(rt; is_for(&folded(rt.alloc(), first, others)?, key));
+        assert!(rt; ends_as_given(rt.alloc(), first, others, End::For(key))?);
     }
     for (first, others, step, cause) in STOPPED {
-        assert!(rt; stop(&folded(rt.alloc(), first, others)?) == Some((*step, *cause)));
+        let end = End::Stopped(*step, *cause);
+        assert!(rt; ends_as_given(rt.alloc(), first, others, end)?);
+    }
+    Ok(())
+}
+
+#[test]
+fn consumed_chains(rt: HostRuntime) -> Result<(), Fail> {
+    for (first, others, key) in DONE {
+        assert!(rt; ends_consumed_as_given(rt.alloc(), first, others, End::For(key))?);
+    }
+    for (first, others, step, cause) in STOPPED {
+        let end = End::Stopped(*step, *cause);
+        assert!(rt; ends_consumed_as_given(rt.alloc(), first, others, end)?);
     }
     Ok(())
 }
 
 /// The list of so many strings.
 fn strings(alloc: Global, n: usize) -> Result<Vec<u8>, AllocError> {
-    let mut text = Vec::from_slice(alloc, b"(")?;
-    for _ in 0..n {
-        text.extend_from_slice(b"1:x")?;
-    }
-    text.push(b')')?;
-    Ok(text)
+    let many = b"1:x".repeat(alloc, n)?;
+    [b"(", many.as_slice(), b")"].concat(alloc)
 }
 
-/// Whether a chain of an entry and a certificate is too large, if their tags are lists of so many strings.
-fn is_chain_too_large(alloc: Global, n: usize, m: usize) -> Result<bool, Fail> {
-    let first = five_for(alloc, &ENTRY, &strings(alloc, n)?)?;
-    let second = Step::Auth(five_for(alloc, &CERTIFICATE, &strings(alloc, m)?)?);
-    match fold_chain(alloc, &first, &[second], Policy::Open) {
-        Ok(_) => Ok(false),
-        Err(fault) => Ok(fault == ReduceFault::TooLarge),
-    }
+/// The step of the certificate, with this tag.
+fn certificate(alloc: Global, tag: &[u8]) -> Result<[Step<'static>; 1], Fail> {
+    Ok([Step::Auth(five_for(alloc, &CERTIFICATE, tag)?)])
+}
+
+/// Whether a chain of the entry and the certificate ends so, with these tags.
+fn ends_with_tags(alloc: Global, tag: &[u8], next: &[u8], end: End) -> Result<bool, Fail> {
+    let others = certificate(alloc, next)?;
+    ends_from(alloc, &ENTRY, tag, &others, end)
 }
 
 #[test]
 fn product_limit(rt: HostRuntime) -> Result<(), Fail> {
-    assert!(rt; !is_chain_too_large(rt.alloc(), 999, 999)?);
-    assert!(rt; is_chain_too_large(rt.alloc(), 999, 1000)?);
+    let tag = strings(rt.alloc(), 999)?;
+    assert!(rt; ends_with_tags(rt.alloc(), &tag, &tag, End::For(KB))?);
+    let larger = strings(rt.alloc(), 1000)?;
+    assert!(rt; ends_with_tags(rt.alloc(), &tag, &larger, End::TooLarge)?);
     Ok(())
 }
 
-#[test]
-fn consumed_chains(rt: HostRuntime) -> Result<(), Fail> {
-    let alloc = rt.alloc();
-    for (first, others, key) in DONE {
-        let (first, others) = (five(alloc, first)?, steps(alloc, others)?);
-        assert!(rt;
-            is_for(
-                &fold_owned(alloc, first, &others, Policy::Open, 1_000_000)?,
-                key
-            )
-        );
-    }
-    for (first, others, step, cause) in STOPPED {
-        let (first, others) = (five(alloc, first)?, steps(alloc, others)?);
-        let fold = fold_owned(alloc, first, &others, Policy::Open, 1_000_000)?;
-        assert!(rt; stop(&fold) == Some((*step, *cause)));
-    }
-    Ok(())
-}
-
-/// An entry and a certificate whose tags are lists of nine strings.
-fn nine_strings(alloc: Global) -> Result<(Five<'static>, Step<'static>), Fail> {
-    let tag = strings(alloc, 9)?;
-    Ok((
-        five_for(alloc, &ENTRY, &tag)?,
-        Step::Auth(five_for(alloc, &CERTIFICATE, &tag)?),
-    ))
+/// Whether a chain of the entry and the certificate ends so under a limit, if the entry is consumed. Both have this tag.
+fn ends_within(alloc: Global, tag: &[u8], most: usize, end: End) -> Result<bool, Fail>
+    requires { most ≤ 1000000 }
+{
+    let others = certificate(alloc, tag)?;
+    ends_consumed(alloc, &ENTRY, tag, &others, most, end)
 }
 
 #[test]
 fn given_limit(rt: HostRuntime) -> Result<(), Fail> {
-    let (first, second) = nine_strings(rt.alloc())?;
-    let fold = fold_owned(rt.alloc(), first, &[second], Policy::Open, 100)?;
-    assert!(rt; is_for(&fold, KB));
-    let (first, second) = nine_strings(rt.alloc())?;
-    match fold_owned(rt.alloc(), first, &[second], Policy::Open, 99) {
-        Ok(_) => assert!(rt; false),
-        Err(fault) => assert!(rt; fault == ReduceFault::TooLarge),
-    }
+    let tag = strings(rt.alloc(), 9)?;
+    assert!(rt; ends_within(rt.alloc(), &tag, 100, End::For(KB))?);
+    assert!(rt; ends_within(rt.alloc(), &tag, 99, End::TooLarge)?);
     Ok(())
 }

@@ -1,61 +1,67 @@
 //! Two tuples.
 
 use crate::reductions::tuples::{
-    CERTIFICATE, DEFINITION, ENTRY, Given, KA, KB, KC, five, four, is_subject,
+    CERTIFICATE, DEFINITION, ENTRY, Given, KA, KB, KC, is_subject, steps,
 };
-use sexpr_core::encode;
 use spki_cert::{Date, Policy};
-use spki_reduce::{Cause, Five, Four, Issuer, Joined};
-use spki_tag::Tag;
-use std::alloc::{AllocError, Global};
+use spki_reduce::{Cause, Five, Four, Issuer, Joined, ReduceFault, Step};
+use std::alloc::Global;
 use std::test::Fail;
 
-/// Whether two tuples became an authorization of a key with these names after it.
-fn is_five(joined: &Joined<Five>, key: &[u8], names: &[&[u8]]) -> bool {
-    match joined {
-        Joined::Done(five) => is_subject(&five.subject, key, names),
-        Joined::Stopped(_) => false,
+/// What two tuples are to become.
+#[derive(Clone, Copy)]
+enum End<'a> {
+    /// A tuple whose subject is this key, with these names after it.
+    For(&'a [u8], &'a [&'a [u8]]),
+    /// Nothing, for this cause.
+    Stopped(Cause),
+}
+
+/// Whether two tuples became this, as an authorization.
+fn is_end(joined: &Result<Joined<Five>, ReduceFault>, end: End) -> bool {
+    match (joined, end) {
+        (Ok(Joined::Done(five)), End::For(key, names)) => is_subject(&five.subject, key, names),
+        (Ok(Joined::Stopped(cause)), End::Stopped(wanted)) => *cause == wanted,
+        (_, _) => false,
     }
 }
 
-/// Whether two definitions became one of a key's name, for another key.
-fn is_four(joined: &Joined<Four>, key: &[u8], name: &[u8], subject: &[u8]) -> bool {
-    match joined {
-        Joined::Done(four) => {
-            four.key.as_slice() == key
-                && four.name.as_slice() == name
-                && is_subject(&four.subject, subject, &[])
+/// Whether two definitions became this, as a definition of the name of KA's friends.
+fn is_end_of_friends(joined: &Result<Joined<Four>, ReduceFault>, end: End) -> bool {
+    match (joined, end) {
+        (Ok(Joined::Done(four)), End::For(key, names)) => {
+            four.key.as_slice() == KA
+                && four.name.as_slice() == b"friends".as_slice()
+                && is_subject(&four.subject, key, names)
         }
-        Joined::Stopped(_) => false,
+        (Ok(Joined::Stopped(cause)), End::Stopped(wanted)) => *cause == wanted,
+        (_, _) => false,
     }
 }
 
-fn cause<T>(joined: &Joined<T>) -> Option<Cause> {
-    match joined {
-        Joined::Done(_) => None,
-        Joined::Stopped(cause) => Some(*cause),
+/// Whether two tuples become this.
+fn are_joined(alloc: Global, left: &Step, right: &Step, end: End) -> bool {
+    match (left, right) {
+        (Step::Auth(five), Step::Auth(next)) => {
+            is_end(&five.then(alloc, next, Policy::Open), end)
+        }
+        (Step::Auth(five), Step::Name(four)) => {
+            is_end(&five.resolve(alloc, four, Policy::Open), end)
+        }
+        (Step::Name(four), Step::Name(next)) => {
+            is_end_of_friends(&four.then(alloc, next, Policy::Open), end)
+        }
+        (Step::Name(_), Step::Auth(_)) => false,
     }
 }
 
-/// What two authorizations become.
-fn delegated(alloc: Global, left: &Given, right: &Given) -> Result<Joined<Five<'static>>, Fail> {
-    let left = five(alloc, left)?;
-    let right = five(alloc, right)?;
-    Ok(left.then(alloc, &right, Policy::Open)?)
-}
-
-/// What an authorization and a definition become.
-fn resolved(alloc: Global, left: &Given, right: &Given) -> Result<Joined<Five<'static>>, Fail> {
-    let left = five(alloc, left)?;
-    let right = four(alloc, right)?;
-    Ok(left.resolve(alloc, &right, Policy::Open)?)
-}
-
-/// What two definitions become.
-fn linked(alloc: Global, left: &Given, right: &Given) -> Result<Joined<Four<'static>>, Fail> {
-    let left = four(alloc, left)?;
-    let right = four(alloc, right)?;
-    Ok(left.then(alloc, &right, Policy::Open)?)
+/// The same for two given tuples.
+fn joins(alloc: Global, left: &Given, right: &Given, end: End) -> Result<bool, Fail> {
+    let tuples = steps(alloc, &[*left, *right])?;
+    match tuples.as_slice() {
+        [left, right] => Ok(are_joined(alloc, left, right, end)),
+        _ => Ok(false),
+    }
 }
 
 /// `(cert (issuer KB) (subject KC) (tag (*)))`
@@ -131,9 +137,11 @@ const DELEGATED: &[(Given, Given, Option<Cause>)] = &[
 #[test]
 fn then(rt: HostRuntime) -> Result<(), Fail> {
     for (left, right, why) in DELEGATED {
-        let joined = delegated(rt.alloc(), left, right)?;
-        assert!(rt; cause(&joined) == *why);
-        assert!(rt; why.is_some() || is_five(&joined, KB, &[]));
+        let end = match why {
+            None => End::For(KB, &[]),
+            Some(cause) => End::Stopped(*cause),
+        };
+        assert!(rt; joins(rt.alloc(), left, right, end)?);
     }
     Ok(())
 }
@@ -182,26 +190,19 @@ const RESOLVED: &[(Given, Given, &[u8], &[&[u8]])] = &[
 #[test]
 fn resolve(rt: HostRuntime) -> Result<(), Fail> {
     for (left, right, key, names) in RESOLVED {
-        let joined = resolved(rt.alloc(), left, right)?;
-        assert!(rt; is_five(&joined, key, names));
+        assert!(rt; joins(rt.alloc(), left, right, End::For(key, names))?);
     }
-    let other = resolved(rt.alloc(), &ENTRY, &DEFINITION)?;
-    assert!(rt; cause(&other) == Some(Cause::NotTheName));
+    let other = End::Stopped(Cause::NotTheName);
+    assert!(rt; joins(rt.alloc(), &ENTRY, &DEFINITION, other)?);
     Ok(())
 }
 
 #[test]
 fn linked_names(rt: HostRuntime) -> Result<(), Fail> {
-    let both = linked(rt.alloc(), &FRIENDS, &BOB)?;
-    assert!(rt; is_four(&both, KA, b"friends", KC));
-    let swapped = linked(rt.alloc(), &BOB, &FRIENDS)?;
-    assert!(rt; cause(&swapped) == Some(Cause::NotTheName));
+    assert!(rt; joins(rt.alloc(), &FRIENDS, &BOB, End::For(KC, &[]))?);
+    let swapped = End::Stopped(Cause::NotTheName);
+    assert!(rt; joins(rt.alloc(), &BOB, &FRIENDS, swapped)?);
     Ok(())
-}
-
-/// The text of a tag.
-fn text_of(alloc: Global, tag: &Tag) -> Result<Vec<u8>, AllocError> {
-    encode(alloc, &tag.write(alloc)?)
 }
 
 fn is_same_limit(limit: &Option<Date>, other: &Option<Date>) -> bool {
@@ -213,14 +214,24 @@ fn is_same_limit(limit: &Option<Date>, other: &Option<Date>) -> bool {
 }
 
 /// Whether an authorization of KC by the owner of the access list is equal to another one.
-fn are_same(alloc: Global, five: &Five, other: &Five) -> Result<bool, Fail> {
+fn are_same(five: &Five, other: &Five) -> bool {
     let both_own = matches!((&five.issuer, &other.issuer), (Issuer::Own, Issuer::Own));
     let same_subject = is_subject(&five.subject, KC, &[]) && is_subject(&other.subject, KC, &[]);
     let same_first = is_same_limit(&five.window.not_before, &other.window.not_before);
     let same_last = is_same_limit(&five.window.not_after, &other.window.not_after);
-    let same_tag = text_of(alloc, &five.tag)?.as_slice() == text_of(alloc, &other.tag)?.as_slice();
-    let same_right = five.propagate == other.propagate && same_tag;
-    Ok(both_own && same_subject && same_first && same_last && same_right)
+    let same_right = five.propagate == other.propagate && five.tag.same(&other.tag);
+    both_own && same_subject && same_first && same_last && same_right
+}
+
+/// Whether both results are authorizations, and equal.
+fn are_alike(
+    joined: &Result<Joined<Five>, ReduceFault>,
+    other: &Result<Joined<Five>, ReduceFault>,
+) -> bool {
+    match (joined, other) {
+        (Ok(Joined::Done(five)), Ok(Joined::Done(another))) => are_same(five, another),
+        (_, _) => false,
+    }
 }
 
 /// An entry for KA's friends, and the definitions of this name and of the next, with some limits.
@@ -242,9 +253,14 @@ const BOB_FROM_JUNE: Given = Given {
 };
 
 /// An authorization that is resolved by two definitions, one after another.
-fn one_by_one(alloc: Global, first: &Given, second: &Given) -> Result<Joined<Five<'static>>, Fail> {
-    match resolved(alloc, &FOR_FRIENDS, first)? {
-        Joined::Done(five) => Ok(five.resolve(alloc, &four(alloc, second)?, Policy::Open)?),
+fn one_by_one(
+    alloc: Global,
+    root: &Five<'static>,
+    first: &Four<'static>,
+    second: &Four<'static>,
+) -> Result<Joined<Five<'static>>, ReduceFault> {
+    match root.resolve(alloc, first, Policy::Open)? {
+        Joined::Done(five) => five.resolve(alloc, second, Policy::Open),
         Joined::Stopped(cause) => Ok(Joined::Stopped(cause)),
     }
 }
@@ -252,27 +268,44 @@ fn one_by_one(alloc: Global, first: &Given, second: &Given) -> Result<Joined<Fiv
 /// The same authorization, resolved by the result of joining the two definitions.
 fn both_at_once(
     alloc: Global,
-    first: &Given,
-    second: &Given,
-) -> Result<Joined<Five<'static>>, Fail> {
-    match linked(alloc, first, second)? {
-        Joined::Done(four) => Ok(five(alloc, &FOR_FRIENDS)?.resolve(alloc, &four, Policy::Open)?),
+    root: &Five<'static>,
+    first: &Four<'static>,
+    second: &Four<'static>,
+) -> Result<Joined<Five<'static>>, ReduceFault> {
+    match first.then(alloc, second, Policy::Open)? {
+        Joined::Done(four) => root.resolve(alloc, &four, Policy::Open),
         Joined::Stopped(cause) => Ok(Joined::Stopped(cause)),
     }
 }
 
-/// Whether both results are authorizations, and equal.
-fn join_alike(alloc: Global, joined: &Joined<Five>, other: &Joined<Five>) -> Result<bool, Fail> {
-    match (joined, other) {
-        (Joined::Done(five), Joined::Done(another)) => are_same(alloc, five, another),
-        (_, _) => Ok(false),
+/// Whether both become the same authorization, if the tuples are an authorization and two definitions.
+fn become_alike(
+    alloc: Global,
+    root: &Step<'static>,
+    first: &Step<'static>,
+    second: &Step<'static>,
+) -> bool {
+    match (root, first, second) {
+        (Step::Auth(root), Step::Name(first), Step::Name(second)) => are_alike(
+            &one_by_one(alloc, root, first, second),
+            &both_at_once(alloc, root, first, second),
+        ),
+        (_, _, _) => false,
+    }
+}
+
+/// The same for given tuples.
+fn is_any_bracketing(alloc: Global, given: &[Given]) -> Result<bool, Fail> {
+    let tuples = steps(alloc, given)?;
+    match tuples.as_slice() {
+        [root, first, second] => Ok(become_alike(alloc, root, first, second)),
+        _ => Ok(false),
     }
 }
 
 #[test]
 fn any_bracketing(rt: HostRuntime) -> Result<(), Fail> {
-    let one_by_one = one_by_one(rt.alloc(), &FRIENDS_FROM_MAY, &BOB_FROM_JUNE)?;
-    let at_once = both_at_once(rt.alloc(), &FRIENDS_FROM_MAY, &BOB_FROM_JUNE)?;
-    assert!(rt; join_alike(rt.alloc(), &one_by_one, &at_once)?);
+    let given = [FOR_FRIENDS, FRIENDS_FROM_MAY, BOB_FROM_JUNE];
+    assert!(rt; is_any_bracketing(rt.alloc(), &given)?);
     Ok(())
 }

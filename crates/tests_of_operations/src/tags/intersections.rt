@@ -66,10 +66,16 @@ fn met(rt: &impl Abort, alloc: Global, one: &[u8], other: &[u8]) -> Result<Vec<u
     text_of_both(alloc, &tag_of(rt, alloc, one)?, &tag_of(rt, alloc, other)?)
 }
 
-/// The same, with a call that consumes the first of the tags.
-fn met_in_place(rt: &impl Abort, alloc: Global, one: &[u8], other: &[u8]) -> Result<Vec<u8>, Fail> {
-    let both = tag_of(rt, alloc, one)?.into_meet(alloc, &tag_of(rt, alloc, other)?)?;
+/// The text of the intersection of two tags, with a call that consumes the first of them.
+fn text_in_place(alloc: Global, one: Tag, other: &Tag) -> Result<Vec<u8>, Fail> {
+    let both = one.into_meet(alloc, other)?;
     Ok(text_of(alloc, &both)?)
+}
+
+/// The same for the tags with these texts.
+fn met_in_place(rt: &impl Abort, alloc: Global, one: &[u8], other: &[u8]) -> Result<Vec<u8>, Fail> {
+    let other = tag_of(rt, alloc, other)?;
+    text_in_place(alloc, tag_of(rt, alloc, one)?, &other)
 }
 
 /// Intersects the tags of each row of a table, in both orders.

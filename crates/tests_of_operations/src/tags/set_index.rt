@@ -53,6 +53,12 @@ fn places_for(alloc: Global, set: &Tag, asked: &Tag) -> Result<Vec<usize>, Alloc
     Index::of(alloc, set)?.places(alloc, asked)
 }
 
+/// The same for a set with this text.
+fn places_in(rt: &impl Abort, alloc: Global, set: &[u8], asked: &Tag) -> Result<Vec<usize>, Fail> {
+    let set = tag_of(rt, alloc, set)?;
+    Ok(places_for(alloc, &set, asked)?)
+}
+
 /// The same for tags with these texts.
 fn places_by_texts(
     rt: &impl Abort,
@@ -60,7 +66,8 @@ fn places_by_texts(
     set: &[u8],
     asked: &[u8],
 ) -> Result<Vec<usize>, Fail> {
-    Ok(places_for(alloc, &tag_of(rt, alloc, set)?, &tag_of(rt, alloc, asked)?)?)
+    let asked = tag_of(rt, alloc, asked)?;
+    places_in(rt, alloc, set, &asked)
 }
 
 #[test]
