@@ -26,7 +26,7 @@ from check import group, key, string
 from counting import counted_by_valgrind, counter, of_one_call
 from macaroons import GUARD, MACAROON, built, measured, written_parts
 from shapes import by_keys, case, certificate, digest, entry, keys_of, parts_of
-from slowest import LARGE_TAG, LARGE_TAG_AND_RANGE, SHAPES, Shape, entries_with_own_tags, large_tag, most
+from slowest import LARGE_TAG, LARGE_TAG_AND_RANGE, LARGE_TAG_AND_SET, SHAPES, Shape, entries_with_own_tags, large_tag, most
 
 sys.path.append(os.path.join(os.path.dirname(os.path.abspath(__file__)), "..", "tests"))
 from support import BENCH, LIBRARY, TOP, canonical, read  # noqa: E402
@@ -242,7 +242,8 @@ def widest(driver):
     """The most milliseconds and MiB of one question, and apart from the others those on lists whose entries have many or large tags of their
     own: each of these is narrowed by each certificate that a stranger shows. README.md has the figures under "Limits"."""
     shapes = [shape for shape in SHAPES if shape.make is not entries_with_own_tags]
-    known = [widest_of(shape) for shape in (*shapes, LARGE_TAG, LARGE_TAG_AND_RANGE)] + [(f"large tags: {what}", text) for what, text in large_tags()]
+    known = [widest_of(shape) for shape in (*shapes, LARGE_TAG, LARGE_TAG_AND_RANGE, LARGE_TAG_AND_SET)]
+    known += [(f"large tags: {what}", text) for what, text in large_tags()]
     own = [widest_of(Shape("", make)) for make in (entries_with_own_tags, ten_large_sets)]
     for whose, texts in (("a question", known), ("a question on tags of their own", own)):
         met = [each for what, text in texts for each in one_question(driver, what, text)]
