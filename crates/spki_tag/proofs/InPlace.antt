@@ -6,7 +6,7 @@ use Rattle.std.proofs.lemmas.List.{get_or-drop}
 use Rattle.spki_tag.specs.Tag.{Tag, tags, star, string, prefix, range, list, set, none, more, IsNormalTag, is_star, is_set, is_nothing, nodes, nodes_all, most_nodes}
 use Rattle.spki_tag.specs.Meet.{meet, each_meet, pairs, gather, kept, has_nothing}
 use Rattle.spki_tag.proofs.Bounds.{nodes-some, append-nodes, each-le, pairs-le}
-use Rattle.spki_tag.proofs.MeetSteps.{each_meet-rest, has_nothing-push}
+use Rattle.spki_tag.proofs.MeetSteps.{MembersMeet, members_meet, each_meet-rest, has_nothing-push}
 use Rattle.spki_tag.proofs.NormalTag.{meet-normal_tag}
 use Rattle.spki_tag.proofs.Members.{nodes_le-nodes_all}
 
@@ -130,6 +130,12 @@ pub set-met_normal : (ms : List Tag) (other : Tag) → is_star other ≡ false �
     → IsNormalTag (gather (pairs (tags ms) (more other none)))
 set-met_normal ms other h k n m few =
     subst IsNormalTag (sym (set-met ms other h k)) (meet-normal_tag (set (tags ms)) other n m few)
+
+-- what a set and another tag that is no star need, to be met by their members
+pub sets_meet : (ms : List Tag) (one other : Tag) → one ≡ set (tags ms) → is_star other ≡ false
+    → IsNormalTag (set (tags ms)) → IsNormalTag other → nodes one * nodes other ≤ most_nodes → MembersMeet (set (tags ms)) other
+sets_meet ms one other e h n m few =
+    members_meet (set (tags ms)) other refl h refl n m (subst (λ a. nodes a * nodes other ≤ most_nodes) e few)
 
 -- ---- lists
 

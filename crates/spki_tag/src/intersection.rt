@@ -109,7 +109,7 @@ fn meet_each(alloc: Global, ones: &[Tag], others: &[Tag]) -> Result<Option<Vec<T
 /// Returns the set of the intersections of each tag with each of the others, in the order of the first and then of the
 /// second.
 #[cycle(meet)]
-fn meet_members(alloc: Global, ones: &[Tag], others: &[Tag]) -> Result<Tag, AllocError>
+pub(crate) fn meet_members(alloc: Global, ones: &[Tag], others: &[Tag]) -> Result<Tag, AllocError>
     requires bound { nodes_all (tags ones.now) * nodes_all (tags others.now) ≤ most_nodes }
     requires met { IsNormalTag (gather (pairs (tags ones.now) (tags others.now))) }
     ensures { IfOk result (λ c. c ≡ gather (pairs (tags ones.now) (tags others.now))) }

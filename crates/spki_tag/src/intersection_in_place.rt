@@ -4,11 +4,12 @@ ghost use Rattle.std.specs.Prelude.{◌≡◌, ℕ, ◌+◌, ◌*◌, ◌<◌, �
 ghost use Rattle.std.specs.Arc.{arc_slice_items};
 ghost use Rattle.spki_tag.specs.Request.{Request, IsRequest};
 ghost use Rattle.spki_tag.specs.Tag.{IsNormalTag, contains, each_normal, is_nothing, is_set, is_star, ldepth, list, more, most_nodes, nodes, nodes_all, none, set, star, string, tags};
-ghost use Rattle.spki_tag.specs.Meet.{each_meet, has_nothing, kept, meet, pairs};
+ghost use Rattle.spki_tag.specs.Meet.{each_meet, gather, has_nothing, kept, meet, pairs};
 
 use crate::fault::MeetFault;
+use crate::few_members::meet_few;
 use crate::form::is_set;
-use crate::intersection::{MOST_NODES, meet_tags};
+use crate::intersection::{MOST_NODES, meet_members, meet_tags};
 use crate::leaf::{Leaf, SharedOctets};
 use crate::parts::push_copies;
 use crate::tag::{Node, Tag, nodes_of};
@@ -31,7 +32,7 @@ struct Kept {
 
 /// Whether the intersection of a tag with another is known to be the tag itself, without making anything.
 #[cycle(staying)]
-fn stays(one: &Tag, other: &Tag) -> bool
+pub(crate) fn stays(one: &Tag, other: &Tag) -> bool
     ensures same { IsTrue result → meet one.now other.now ≡ one.now }
     ensures some { IsTrue result → is_nothing one.now ≡ false }
 {
@@ -217,6 +218,29 @@ fn met_in_place(
     })
 }
 
+/// The most members of a set with which each member of another is compared. More are found by an index.
+const FEW: usize = 8;
+
+/// Returns the set of the intersections of each tag with each of the others, in the order of the first and then of the
+/// second. The tags have `count` nodes together.
+fn meet_sets(
+    alloc: Global,
+    members: Vec<Tag>,
+    count: usize,
+    others: &[Tag],
+) -> Result<Tag, AllocError>
+    requires counted { count ≡ nodes_all (tags members.items) }
+    requires bound { nodes_all (tags members.items) * nodes_all (tags others.now) ≤ most_nodes }
+    requires met { IsNormalTag (gather (pairs (tags members.items) (tags others.now))) }
+    ensures { IfOk result (λ c. c ≡ gather (pairs (tags members.items) (tags others.now))) }
+{
+    if others.len() <= FEW {
+        meet_few(alloc, members, count, others)
+    } else {
+        meet_members(alloc, &members, others)
+    }
+}
+
 /// Returns the intersection of a set of these tags with another tag that is neither a set nor `(*)`. The set has `count`
 /// nodes.
 #[cycle(narrowing)]
@@ -337,11 +361,17 @@ fn meet_owned(alloc: Global, one: Tag, other: &Tag) -> Result<Tag, AllocError>
     if other.is_everything() || stays(&one, other) {
         return Ok(one);
     }
-    if is_set(other) {
+    if is_set(other) && !is_set(&one) {
         return meet_tags(alloc, &one, other);
     }
     match one.node {
-        Node::Set(members, count) => meet_set(alloc, members, count, other),
+        Node::Set(members, count) => {
+            if is_set(other) {
+                meet_sets(alloc, members, count - 1, other.members())
+            } else {
+                meet_set(alloc, members, count, other)
+            }
+        }
         Node::Leaf(leaf) => meet_tags(alloc, &Tag::leaf(leaf), other),
         Node::List(head, further, count) => meet_list(alloc, head, further, count, other),
     }

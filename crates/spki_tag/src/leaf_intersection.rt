@@ -4,7 +4,7 @@ ghost use Rattle.std.specs.Prelude.{◌≡◌, Some, IsTrue, IfOk, option_map};
 ghost use Rattle.std.specs.Arc.{arc_slice_items};
 ghost use Rattle.spki_tag.specs.Leaves.{ordering_of, limit_of, leaf_tag, leaf_or_nothing};
 ghost use Rattle.spki_tag.specs.Tag.{range};
-ghost use Rattle.spki_tag.specs.Meet.{greater_low, lesser_up, ordering_meet, ranged, prefixes_meet, string_meet, meet};
+ghost use Rattle.spki_tag.specs.Meet.{greater_low, lesser_up, ordering_meet, ranged, nothing, prefixes_meet, string_meet, meet};
 
 use crate::leaf::{Leaf, Limit, RangeOrdering, SharedOctets, copied_limit};
 use crate::limit_intersection::{exclude, greater_low, lesser_up, low_stays, up_stays};
@@ -115,6 +115,24 @@ fn range_stays(
     !exclude(low, up)
 }
 
+/// Whether two ranges are known to have no string in common, by their orderings and limits.
+fn are_ranges_apart(
+    ordering: RangeOrdering,
+    low: &Option<Limit>,
+    up: &Option<Limit>,
+    other: RangeOrdering,
+    other_low: &Option<Limit>,
+    other_up: &Option<Limit>,
+) -> bool
+    ensures { IsTrue result → ranged (ordering_meet (ordering_of ordering) (ordering_of other))
+        (greater_low (limit_of low.now) (limit_of other_low.now)) (lesser_up (limit_of up.now) (limit_of other_up.now)) ≡ nothing }
+{
+    match common_ordering(ordering, other) {
+        None => true,
+        Some(_) => exclude(greater_low(low, other_low), lesser_up(up, other_up)),
+    }
+}
+
 /// Returns the string if the tag contains it.
 fn meet_string(octets: &SharedOctets, other: &Leaf) -> Result<Option<Leaf>, AllocError>
     ensures { IfOk result (λ r. leaf_or_nothing r ≡ string_meet (arc_slice_items octets.now) (leaf_tag other.now)) }
@@ -137,6 +155,13 @@ fn meet_prefixes(one: &Prefix, other: &Prefix) -> Result<Option<Leaf>, AllocErro
     } else {
         Ok(None)
     }
+}
+
+/// Whether neither of two prefixes starts with the other.
+fn are_prefixes_apart(one: &Prefix, other: &Prefix) -> bool
+    ensures { IsTrue result → prefixes_meet one.now other.now ≡ nothing }
+{
+    !one.octets().starts_with(other.octets()) && !other.octets().starts_with(one.octets())
 }
 
 impl Leaf {
@@ -162,6 +187,30 @@ impl Leaf {
                 Leaf::Prefix(_) => false,
             },
             Leaf::Star => false,
+        }
+    }
+
+    /// Whether the intersection of a tag without members with another is known to be `(* set)`, without making anything.
+    pub(crate) fn is_apart(&self, other: &Leaf) -> bool
+        ensures { IsTrue result → meet (leaf_tag self.now) (leaf_tag other.now) ≡ nothing }
+    {
+        match self {
+            Leaf::Star => false,
+            Leaf::String(octets) => !other.holds(octets.as_slice()),
+            Leaf::Prefix(prefix) => match other {
+                Leaf::Star => false,
+                Leaf::String(octets) => !self.holds(octets.as_slice()),
+                Leaf::Prefix(second) => are_prefixes_apart(prefix, second),
+                Leaf::Range(_, _, _) => false,
+            },
+            Leaf::Range(ordering, low, up) => match other {
+                Leaf::Star => false,
+                Leaf::String(octets) => !self.holds(octets.as_slice()),
+                Leaf::Prefix(_) => false,
+                Leaf::Range(second, second_low, second_up) => {
+                    are_ranges_apart(*ordering, low, up, *second, second_low, second_up)
+                }
+            },
         }
     }
 

@@ -3,6 +3,7 @@
 
 mod equality;
 mod fault;
+mod few_members;
 mod form;
 mod index;
 mod intersection;

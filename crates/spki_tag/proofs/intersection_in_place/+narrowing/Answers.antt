@@ -2,13 +2,13 @@ use Rattle.std.specs.Arc.{arc_slice_items}
 use Rattle.std.proofs.Common.{◌≡◌, ◌+◌, ◌-◌, ◌*◌, ◌<◌, ◌≤◌, ◌++◌, ◌∷◌, [], List, true, false, length, take, drop, refl, sym, ap, ◌∙◌, subst, le_trans, arith, true≢false, length-drop, length-set, drop-set-lt, take-append-drop, append-nil, slice_index_or}
 use Rattle.std.proofs.lemmas.List.{take_more_set, take_all}
 use Rattle.std.proofs.lemmas.Nat.{mul-le}
-use Rattle.spki_tag.specs.Tag.{Tag, IsNormalTag, tags, star, list, nodes, nodes_all, most_nodes, is_nothing}
+use Rattle.spki_tag.specs.Tag.{Tag, IsNormalTag, tags, star, list, set, nodes, nodes_all, most_nodes, is_nothing}
 use Rattle.spki_tag.specs.Nodes.{node_tag}
-use Rattle.spki_tag.specs.Meet.{meet, each_meet, gather, has_nothing}
+use Rattle.spki_tag.specs.Meet.{meet, each_meet, gather, has_nothing, pairs}
 use Rattle.spki_tag.proofs.Members.{nodes_le-of_read}
 use Rattle.spki_tag.proofs.Bounds.{append-nodes}
-use Rattle.spki_tag.proofs.MeetSteps.{ListsMeet, lists_meet, each_meet-rest, each_meet-last, has_nothing-found, nothing-is, nothing-is_not}
-use Rattle.spki_tag.proofs.InPlace.{PlaceMeets, place_meets, place_step, drop_next, drop-nodes, take-nodes, set-met_normal, read_behind, IsEachStep, each_next, kept_none, kept_some}
+use Rattle.spki_tag.proofs.MeetSteps.{MembersMeet, meet-by_members, tags-members, ListsMeet, lists_meet, each_meet-rest, each_meet-last, has_nothing-found, nothing-is, nothing-is_not}
+use Rattle.spki_tag.proofs.InPlace.{PlaceMeets, place_meets, place_step, drop_next, drop-nodes, take-nodes, set-met_normal, read_behind, IsEachStep, each_next, kept_none, kept_some, sets_meet}
 use Rattle.spki_tag.proofs.intersection_in_place.+narrowing.Goals as goal
 
 pub meet_place-returns-then-is_nothing-clause-met : goal.meet_place-returns-then-is_nothing-clause-met
@@ -190,3 +190,33 @@ each_in_place-returns t c =
       ),
       ended.1,
     )
+
+pub meet_owned-meet_sets-requires-clause-bound : goal.meet_owned-meet_sets-requires-clause-bound
+meet_owned-meet_sets-requires-clause-bound t c =
+    let other = c.args.other.now in
+    let m : MembersMeet (set (tags c.in-Set.members.items)) other =
+    sets_meet c.in-Set.members.items c.args.one other (sym c.one.view_is ∙ ap node_tag c.in-Set.is)
+    (sym c.is_everything.ensures.value ∙ c.if-is_everything.false)
+    (subst (λ n. IsNormalTag (node_tag n)) c.in-Set.is c.one.invariant.0) c.is_everything.ensures.normal c.requires in
+    rw (c.in-Set.is, ap tags c.members.ensures ∙ tags-members other) m.bound
+
+pub meet_owned-meet_sets-requires-clause-met : goal.meet_owned-meet_sets-requires-clause-met
+meet_owned-meet_sets-requires-clause-met t c =
+    let other = c.args.other.now in
+    let m : MembersMeet (set (tags c.in-Set.members.items)) other =
+    sets_meet c.in-Set.members.items c.args.one other (sym c.one.view_is ∙ ap node_tag c.in-Set.is)
+    (sym c.is_everything.ensures.value ∙ c.if-is_everything.false)
+    (subst (λ n. IsNormalTag (node_tag n)) c.in-Set.is c.one.invariant.0) c.is_everything.ensures.normal c.requires in
+    rw (c.in-Set.is, ap tags c.members.ensures ∙ tags-members other) m.met
+
+pub meet_owned-returns-then-is_set-2 : goal.meet_owned-returns-then-is_set-2
+meet_owned-returns-then-is_set-2 t c =
+    let ms = c.in-Set.members.items in
+    let other = c.args.other.now in
+    let one_is : c.args.one ≡ set (tags ms) = sym c.one.view_is ∙ ap node_tag c.in-Set.is in
+    let same : gather (pairs (tags ms) (tags c.members.result.now)) ≡ meet c.args.one other =
+    ap (λ us. gather (pairs (tags ms) us)) (ap tags c.members.ensures ∙ tags-members other)
+    ∙ meet-by_members (set (tags ms)) other refl (sym c.is_everything.ensures.value ∙ c.if-is_everything.false) refl
+    c.is_everything.ensures.normal.normal
+    ∙ ap (λ a. meet a other) (sym one_is) in
+    rw (← same) (rw c.in-Set.is at c.meet_sets.ensures)
