@@ -158,3 +158,23 @@ pub exclude-none : (low up : Option Limit) (x : List ℕ) → exclude low up ≡
 exclude-none None up x e h g = e
 exclude-none (Some l) None x e h g = e
 exclude-none (Some l) (Some u) x e h g = not_true _ e (within_chain l.strict u.strict l.octets x u.octets h g)
+
+-- ---- a limit with itself
+
+either : (b : Bool) (l : Option Limit) → (if b then l else l) ≡ l
+either true l = refl
+either false l = refl
+
+pub greater_low_same : (l m : Option Limit) → l ≡ m → greater_low l m ≡ l
+greater_low_same l m e = ap (greater_low l) (sym e) ∙ by l
+  where
+    by : (l : Option Limit) → greater_low l l ≡ l
+    by None = refl
+    by (Some l) = either (is_within (not l.strict) l.octets l.octets) (Some l)
+
+pub lesser_up_same : (l m : Option Limit) → l ≡ m → lesser_up l m ≡ l
+lesser_up_same l m e = ap (lesser_up l) (sym e) ∙ by l
+  where
+    by : (l : Option Limit) → lesser_up l l ≡ l
+    by None = refl
+    by (Some l) = either (is_within (not l.strict) l.octets l.octets) (Some l)
