@@ -16,6 +16,8 @@ RUNS = 30
 LIMIT_SECONDS = 1.0
 # The most seconds of a step behind a tag of 998,001 strings: 15 ns for each string, and nothing for `(*)`.
 LIMIT_STEPS = {"(*)": 0.001, "a": 0.015}
+# So many steps are measured together, since two runs on the same text can differ by 40 ms.
+STEPS = 100
 MOST_OCTETS = 1024 * 1024
 
 
@@ -90,9 +92,10 @@ def large_tags():
 def steps():
     """The seconds that each further certificate takes behind such a tag, and the memory."""
     for what, tag in (("(*)", STAR), ("a", string("a"))):
-        few, many = behind_a_large_tag(1, tag), behind_a_large_tag(21, tag)
-        took = (min(run(many, b"no\n") for _ in range(5)) - min(run(few, b"no\n") for _ in range(5))) / 20
-        yield what, max(took, 0.0), peak(PROGRAM, "check", many)
+        texts = behind_a_large_tag(1, tag), behind_a_large_tag(1 + STEPS, tag)
+        rounds = [[run(text, b"no\n") for text in texts] for _ in range(5)]
+        few, many = (min(taken) for taken in zip(*rounds))
+        yield what, max((many - few) / STEPS, 0.0), peak(PROGRAM, "check", texts[1])
 
 
 def beside_openssl():

@@ -36,6 +36,7 @@ OWNER = key("k")
 FTP = group(string("ftp"))
 RANGE = group(*map(string, ("*", "range", "alpha", "ge", "a", "le", "b")))
 SET_OF_TWO = group(*map(string, ("*", "set", "a", "b")))
+PREFIX = group(*map(string, ("*", "prefix", "a")))
 
 
 def shown(octets, signer):
@@ -143,9 +144,9 @@ def long_name(names, certificates, members):
     return repeated([entry(name(OWNER, *["n"] * names))], definition(first, first), certificates)
 
 
-def large_tag(entries, certificates, members, other=string("a")):
+def large_tag(entries, certificates, members, other=string("a"), member=string("a")):
     """Two sets whose intersection has the most strings, and one certificate many times, each of which goes over them."""
-    large = a_set(string("a"), members)
+    large = a_set(member, members)
     return repeated([entry(OWNER, large)], certificate(OWNER, OWNER, other), certificates, [certificate(OWNER, OWNER, large)])
 
 
@@ -157,6 +158,11 @@ def large_tag_and_range(entries, certificates, members):
 def large_tag_and_set(entries, certificates, members):
     """The same with a certificate for a set of two strings, which has 3 nodes: so there are fewer members."""
     return large_tag(entries, certificates, int(members / 3 ** 0.5), SET_OF_TWO)
+
+
+def large_tag_of_ranges(entries, certificates, members):
+    """Two sets of ranges, and a certificate for a prefix that contains them: its limits are made anew for each range."""
+    return large_tag(entries, certificates, members, PREFIX, RANGE)
 
 
 @dataclass(frozen=True)
