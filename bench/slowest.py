@@ -36,7 +36,6 @@ OWNER = key("k")
 FTP = group(string("ftp"))
 RANGE = group(*map(string, ("*", "range", "alpha", "ge", "a", "le", "b")))
 SET_OF_TWO = group(*map(string, ("*", "set", "a", "b")))
-PREFIX = group(*map(string, ("*", "prefix", "a")))
 
 
 def shown(octets, signer):
@@ -144,9 +143,9 @@ def long_name(names, certificates, members):
     return repeated([entry(name(OWNER, *["n"] * names))], definition(first, first), certificates)
 
 
-def large_tag(entries, certificates, members, other=string("a"), member=string("a")):
+def large_tag(entries, certificates, members, other=string("a")):
     """Two sets whose intersection has the most strings, and one certificate many times, each of which goes over them."""
-    large = a_set(member, members)
+    large = a_set(string("a"), members)
     return repeated([entry(OWNER, large)], certificate(OWNER, OWNER, other), certificates, [certificate(OWNER, OWNER, large)])
 
 
@@ -160,9 +159,13 @@ def large_tag_and_set(entries, certificates, members):
     return large_tag(entries, certificates, int(members / 3 ** 0.5), SET_OF_TWO)
 
 
-def large_tag_of_ranges(entries, certificates, members):
-    """Two sets of ranges, and a certificate for a prefix that contains them: its limits are made anew for each range."""
-    return large_tag(entries, certificates, members, PREFIX, RANGE)
+def narrowed_ranges(entries, certificates, members):
+    """Two sets whose intersection has the most ranges, and certificates for ranges with ever lower upper limits: each of them changes all
+    ranges."""
+    large = a_set(RANGE, members)
+    certs = [certificate(OWNER, OWNER, group(*map(string, ("*", "range", "alpha", "l", f"a{99_999 - place}")))) for place in range(certificates)]
+    return asked([entry(OWNER, large)], [row(cert, OWNER) for cert in (certificate(OWNER, OWNER, large), *certs)],
+                 [shown(cert, OWNER) for cert in (certificate(OWNER, OWNER, large), *certs)])
 
 
 @dataclass(frozen=True)

@@ -5,7 +5,7 @@ use Rattle.std.specs.Cmp.{IsTotalOrder, alike_right}
 use Rattle.std.specs.Ordering.{ordering_reverse}
 use Rattle.std.specs.Cmp.Lexicographic.{slice_cmp, nat_list_cmp_total}
 use Rattle.spki_tag.specs.Tag.{Limit, is_within, is_above, is_below}
-use Rattle.spki_tag.specs.Meet.{greater_low, lesser_up, exclude}
+use Rattle.spki_tag.specs.Meet.{greater_low, lesser_up, exclude, from, strict_limit}
 
 -- ---- truth values
 
@@ -178,3 +178,17 @@ lesser_up_same l m e = ap (lesser_up l) (sym e) ∙ by l
     by : (l : Option Limit) → lesser_up l l ≡ l
     by None = refl
     by (Some l) = either (is_within (not l.strict) l.octets l.octets) (Some l)
+
+abbrev some_limit : Bool → List ℕ → Option Limit
+some_limit s x = Some (record { strict = s; octets = x })
+
+same_limits : (s t : Bool) (x y : List ℕ) → s ≡ t → x ≡ y → some_limit s x ≡ some_limit t y
+same_limits s t x y h e = ap (λ b. some_limit b x) h ∙ ap (some_limit t) e
+
+pub greater_low_at : (s : Bool) (x y : List ℕ) → s ≡ false → x ≡ y
+    → greater_low (Some (record { strict = s; octets = x })) (from y) ≡ Some (record { strict = s; octets = x })
+greater_low_at s x y h e = greater_low_same (some_limit s x) (from y) (same_limits s false x y h e)
+
+pub lesser_up_at : (s : Bool) (x y : List ℕ) → s ≡ true → x ≡ y
+    → lesser_up (Some (record { strict = s; octets = x })) (strict_limit (Some y)) ≡ Some (record { strict = s; octets = x })
+lesser_up_at s x y h e = lesser_up_same (some_limit s x) (strict_limit (Some y)) (same_limits s true x y h e)

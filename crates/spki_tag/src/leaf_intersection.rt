@@ -3,8 +3,8 @@
 ghost use Rattle.std.specs.Prelude.{◌≡◌, Some, IsTrue, IfOk, option_map};
 ghost use Rattle.std.specs.Arc.{arc_slice_items};
 ghost use Rattle.spki_tag.specs.Leaves.{ordering_of, limit_of, leaf_tag, leaf_or_nothing};
-ghost use Rattle.spki_tag.specs.Tag.{range};
-ghost use Rattle.spki_tag.specs.Meet.{greater_low, lesser_up, ordering_meet, ranged, nothing, prefixes_meet, string_meet, meet};
+ghost use Rattle.spki_tag.specs.Tag.{prefix, range};
+ghost use Rattle.spki_tag.specs.Meet.{greater_low, lesser_up, ordering_meet, ranged, nothing, prefixes_meet, range_meet, string_meet, meet};
 
 use crate::leaf::{Leaf, Limit, RangeOrdering, SharedOctets, copied_limit};
 use crate::limit_intersection::{exclude, greater_low, lesser_up, low_stays, up_stays};
@@ -115,6 +115,25 @@ fn range_stays(
     !exclude(low, up)
 }
 
+/// Whether the intersection of a range with a prefix is known to be the range itself.
+fn stays_in_prefix(
+    ordering: RangeOrdering,
+    low: &Option<Limit>,
+    up: &Option<Limit>,
+    within: &Prefix,
+) -> bool
+    ensures { IsTrue result → range_meet (ordering_of ordering) (limit_of low.now) (limit_of up.now) (prefix within.now)
+        ≡ range (ordering_of ordering) (limit_of low.now) (limit_of up.now) }
+{
+    if !within.keeps_low(low) {
+        return false;
+    }
+    if !within.keeps_up(up) {
+        return false;
+    }
+    !exclude(low, up)
+}
+
 /// Whether two ranges are known to have no string in common, by their orderings and limits.
 fn are_ranges_apart(
     ordering: RangeOrdering,
@@ -182,9 +201,9 @@ impl Leaf {
                 Leaf::Range(second, second_low, second_up) => {
                     range_stays(*ordering, low, up, *second, second_low, second_up)
                 }
+                Leaf::Prefix(prefix) => stays_in_prefix(*ordering, low, up, prefix),
                 Leaf::Star => false,
                 Leaf::String(_) => false,
-                Leaf::Prefix(_) => false,
             },
             Leaf::Star => false,
         }

@@ -1,11 +1,11 @@
 //! Prefixes, and the limits of the strings that start with one.
 
-ghost use Rattle.std.specs.Prelude.{◌≡◌, IfOk, option_map};
+ghost use Rattle.std.specs.Prelude.{◌≡◌, IsTrue, IfOk, option_map};
 ghost use Rattle.std.specs.Arc.{arc_slice_items};
 ghost use Rattle.spki_tag.specs.Leaves.{limit_of};
-ghost use Rattle.spki_tag.specs.Meet.{least_above, from, strict_limit};
+ghost use Rattle.spki_tag.specs.Meet.{greater_low, lesser_up, least_above, from, strict_limit};
 
-use crate::leaf::{Limit, SharedOctets};
+use crate::leaf::{Limit, SharedOctets, is_within};
 use std::alloc::{AllocError, Global};
 use std::marker::Model;
 use std::sync::ArcSlice;
@@ -67,6 +67,41 @@ impl Prefix {
                 strict: true,
                 octets: above.clone()?,
             })),
+        }
+    }
+
+    /// Whether a lower limit is known to be the greater one of itself and the prefix.
+    #[tactic(auto, using(crate::proofs::Limits::greater_low_at))]
+    pub(crate) fn keeps_low(&self, low: &Option<Limit>) -> bool
+        ensures { IsTrue result → greater_low (limit_of low.now) (from self.now) ≡ limit_of low.now }
+    {
+        match low {
+            None => false,
+            Some(low) => {
+                if !low.strict && low.octets.as_slice() == self.octets.as_slice() {
+                    return true;
+                }
+                is_within(!low.strict, self.octets.as_slice(), low.octets.as_slice())
+            }
+        }
+    }
+
+    /// Whether an upper limit is known to be the lesser one of itself and the limit above all strings that start with the prefix.
+    #[tactic(auto, using(crate::proofs::Limits::lesser_up_at))]
+    pub(crate) fn keeps_up(&self, up: &Option<Limit>) -> bool
+        ensures { IsTrue result → lesser_up (limit_of up.now) (strict_limit (least_above self.now)) ≡ limit_of up.now }
+    {
+        match &self.above {
+            None => true,
+            Some(above) => match up {
+                None => false,
+                Some(up) => {
+                    if up.strict && up.octets.as_slice() == above.as_slice() {
+                        return true;
+                    }
+                    is_within(!up.strict, up.octets.as_slice(), above.as_slice())
+                }
+            },
         }
     }
 }
