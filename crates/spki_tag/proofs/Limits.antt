@@ -1,10 +1,13 @@
 -- What limits leave together.
-use Rattle.std.proofs.Common.{◌≡◌, ℕ, Bool, true, false, ◌&&◌, ◌||◌, not, List, Option, Some, None, refl, sym, ap, ◌∙◌, true≢false, Ordering as Order, Less, Equal, Greater, is_lt, is_le, nat_cmp}
+use Rattle.std.proofs.Common.{◌≡◌, ℕ, Bool, true, false, ◌&&◌, ◌||◌, not, List, Option, Some, None, refl, sym, ap, ◌∙◌, true≢false, Ordering as Order, Less, Equal, Greater, is_eq, is_lt, is_le, nat_cmp}
 use Rattle.std.specs.Prelude.{if◌then◌else◌}
 use Rattle.std.specs.Cmp.{IsTotalOrder, alike_right}
 use Rattle.std.specs.Ordering.{ordering_reverse}
 use Rattle.std.specs.Cmp.Lexicographic.{slice_cmp, nat_list_cmp_total}
 use Rattle.spki_tag.specs.Tag.{Limit, is_within, is_above, is_below}
+use Rattle.std.specs.Cmp.Lexicographic.{same_text}
+use Rattle.std.proofs.lemmas.Map.Text.{is_eq-slice_cmp}
+use Rattle.spki_tag.specs.Leaves.{some_limit}
 use Rattle.spki_tag.specs.Meet.{greater_low, lesser_up, exclude, from, strict_limit}
 
 -- ---- truth values
@@ -159,6 +162,102 @@ exclude-none None up x e h g = e
 exclude-none (Some l) None x e h g = e
 exclude-none (Some l) (Some u) x e h g = not_true _ e (within_chain l.strict u.strict l.octets x u.octets h g)
 
+-- ---- limits that still exclude each other when they are narrowed
+
+refuted : (b : Bool) → (b ≡ true → false ≡ true) → not b ≡ true
+refuted true f = f refl
+refuted false f = refl
+
+strict_any : (t : Bool) (r : Order) → w true r ≡ true → w t r ≡ true
+strict_any t Less h = w_less t
+strict_any t Equal h = absurd (true≢false (sym h))
+strict_any t Greater h = absurd (true≢false (sym h))
+
+low_kept : (s t b : Bool) (r : Order) → w (not s || (s || b)) r ≡ true → w t r ≡ true
+low_kept true t b r h = strict_any t r h
+low_kept false t b r h = strict_any t r h
+
+low_lost : (s t b : Bool) (r : Order) → w (s || (t || b)) r ≡ true → w (s || b) r ≡ true
+low_lost true t b r h = h
+low_lost false t b r h = weak_second t b r h
+
+up_kept : (a s t : Bool) (r : Order) → w ((a || s) || not s) r ≡ true → w t r ≡ true
+up_kept true true t r h = strict_any t r h
+up_kept true false t r h = strict_any t r h
+up_kept false true t r h = strict_any t r h
+up_kept false false t r h = strict_any t r h
+
+up_lost : (a b c : Bool) (r : Order) → w ((a || b) || c) r ≡ true → w (a || c) r ≡ true
+up_lost true b c r h = h
+up_lost false b c r h = weak_second b c r h
+
+low_excluded : (l m u : Limit) (test : Bool) → is_within (not l.strict) m.octets l.octets ≡ test
+    → exclude (Some m) (Some u) ≡ true → exclude (if test then Some l else Some m) (Some u) ≡ true
+low_excluded l m u true e h =
+    refuted (is_within (l.strict || u.strict) l.octets u.octets) (λ k. not_true _ h
+    (low_kept l.strict (m.strict || u.strict) u.strict (slice_cmp nat_cmp m.octets u.octets)
+    (within_chain (not l.strict) (l.strict || u.strict) m.octets l.octets u.octets e k)))
+low_excluded l m u false e h = h
+
+-- a lower limit that excludes an upper one, and the greater of another lower limit and it
+pub exclude-low_second : (l m u : Option Limit) → exclude m u ≡ true → exclude (greater_low l m) u ≡ true
+exclude-low_second l None u h = absurd (true≢false (sym h))
+exclude-low_second l (Some m) None h = absurd (true≢false (sym h))
+exclude-low_second None (Some m) (Some u) h = h
+exclude-low_second (Some l) (Some m) (Some u) h = low_excluded l m u (is_within (not l.strict) m.octets l.octets) refl h
+
+low_first_excluded : (l m u : Limit) (test : Bool) → is_within (not l.strict) m.octets l.octets ≡ test
+    → exclude (Some l) (Some u) ≡ true → exclude (if test then Some l else Some m) (Some u) ≡ true
+low_first_excluded l m u true e h = h
+low_first_excluded l m u false e h =
+    refuted (is_within (m.strict || u.strict) m.octets u.octets) (λ k. not_true _ h
+    (low_lost l.strict m.strict u.strict (slice_cmp nat_cmp l.octets u.octets)
+    (within_chain l.strict (m.strict || u.strict) l.octets m.octets u.octets
+    (not_flipped _ _ (within_flip l.strict l.octets m.octets) e) k)))
+
+pub exclude-low_first : (l m u : Option Limit) → exclude l u ≡ true → exclude (greater_low l m) u ≡ true
+exclude-low_first None m u h = absurd (true≢false (sym h))
+exclude-low_first (Some l) m None h = absurd (true≢false (sym h))
+exclude-low_first (Some l) None (Some u) h = h
+exclude-low_first (Some l) (Some m) (Some u) h = low_first_excluded l m u (is_within (not l.strict) m.octets l.octets) refl h
+
+up_excluded : (l u v : Limit) (test : Bool) → is_within (not u.strict) u.octets v.octets ≡ test
+    → exclude (Some l) (Some v) ≡ true → exclude (Some l) (if test then Some u else Some v) ≡ true
+up_excluded l u v true e h =
+    refuted (is_within (l.strict || u.strict) l.octets u.octets) (λ k. not_true _ h
+    (up_kept l.strict u.strict (l.strict || v.strict) (slice_cmp nat_cmp l.octets v.octets)
+    (within_chain (l.strict || u.strict) (not u.strict) l.octets u.octets v.octets k e)))
+up_excluded l u v false e h = h
+
+-- the same of upper limits
+pub exclude-up_second : (l u v : Option Limit) → exclude l v ≡ true → exclude l (lesser_up u v) ≡ true
+exclude-up_second None u v h = absurd (true≢false (sym h))
+exclude-up_second (Some l) u None h = absurd (true≢false (sym h))
+exclude-up_second (Some l) None (Some v) h = h
+exclude-up_second (Some l) (Some u) (Some v) h = up_excluded l u v (is_within (not u.strict) u.octets v.octets) refl h
+
+up_first_excluded : (l u v : Limit) (test : Bool) → is_within (not u.strict) u.octets v.octets ≡ test
+    → exclude (Some l) (Some u) ≡ true → exclude (Some l) (if test then Some u else Some v) ≡ true
+up_first_excluded l u v true e h = h
+up_first_excluded l u v false e h =
+    refuted (is_within (l.strict || v.strict) l.octets v.octets) (λ k. not_true _ h
+    (up_lost l.strict v.strict u.strict (slice_cmp nat_cmp l.octets u.octets)
+    (within_chain (l.strict || v.strict) u.strict l.octets v.octets u.octets k
+    (not_flipped _ _ (within_flip u.strict v.octets u.octets) e))))
+
+pub exclude-up_first : (l u v : Option Limit) → exclude l u ≡ true → exclude l (lesser_up u v) ≡ true
+exclude-up_first None u v h = absurd (true≢false (sym h))
+exclude-up_first (Some l) None v h = absurd (true≢false (sym h))
+exclude-up_first (Some l) (Some u) None h = h
+exclude-up_first (Some l) (Some u) (Some v) h = up_first_excluded l u v (is_within (not u.strict) u.octets v.octets) refl h
+
+-- two ranges, of which one ends before the other begins
+pub ended_before : (l u m v : Option Limit) → exclude m u ≡ true → exclude (greater_low l m) (lesser_up u v) ≡ true
+ended_before l u m v h = exclude-low_second l m (lesser_up u v) (exclude-up_first m u v h)
+
+pub begun_behind : (l u m v : Option Limit) → exclude l v ≡ true → exclude (greater_low l m) (lesser_up u v) ≡ true
+begun_behind l u m v h = exclude-low_first l m (lesser_up u v) (exclude-up_second l u v h)
+
 -- ---- a limit with itself
 
 either : (b : Bool) (l : Option Limit) → (if b then l else l) ≡ l
@@ -179,9 +278,6 @@ lesser_up_same l m e = ap (lesser_up l) (sym e) ∙ by l
     by None = refl
     by (Some l) = either (is_within (not l.strict) l.octets l.octets) (Some l)
 
-abbrev some_limit : Bool → List ℕ → Option Limit
-some_limit s x = Some (record { strict = s; octets = x })
-
 same_limits : (s t : Bool) (x y : List ℕ) → s ≡ t → x ≡ y → some_limit s x ≡ some_limit t y
 same_limits s t x y h e = ap (λ b. some_limit b x) h ∙ ap (some_limit t) e
 
@@ -192,3 +288,54 @@ greater_low_at s x y h e = greater_low_same (some_limit s x) (from y) (same_limi
 pub lesser_up_at : (s : Bool) (x y : List ℕ) → s ≡ true → x ≡ y
     → lesser_up (Some (record { strict = s; octets = x })) (strict_limit (Some y)) ≡ Some (record { strict = s; octets = x })
 lesser_up_at s x y h e = lesser_up_same (some_limit s x) (strict_limit (Some y)) (same_limits s true x y h e)
+
+-- ---- limits at the same string
+
+cmp_same : (x y : List ℕ) → slice_cmp nat_cmp x y ≡ Equal → x ≡ y
+cmp_same x y h = same_text x y (sym (ap is_eq h) ∙ is_eq-slice_cmp x y)
+
+low_at_same : (s t : Bool) (x y : List ℕ) → y ≡ x → slice_cmp nat_cmp y x ≡ Equal
+    → greater_low (some_limit s x) (some_limit t y) ≡ some_limit (s || t) x
+low_at_same true t x y e h = ap (λ r. if w false r then some_limit true x else some_limit t y) h
+low_at_same false t x y e h = ap (λ r. if w true r then some_limit false x else some_limit t y) h ∙ ap (some_limit t) e
+
+pub low_made_strict : (s t : Bool) (x y : List ℕ) → slice_cmp nat_cmp y x ≡ Equal → t ≡ true
+    → greater_low (some_limit s x) (some_limit t y) ≡ some_limit true x
+low_made_strict s t x y h k =
+    low_at_same s t x y (cmp_same y x h) h ∙ ap (λ b. some_limit (s || b) x) k ∙ by s
+  where
+    by : (s : Bool) → some_limit (s || true) x ≡ some_limit true x
+    by true = refl
+    by false = refl
+
+pub low_as_strict : (s t : Bool) (x y : List ℕ) → slice_cmp nat_cmp y x ≡ Equal → t ≡ false
+    → greater_low (some_limit s x) (some_limit t y) ≡ some_limit s x
+low_as_strict s t x y h k =
+    low_at_same s t x y (cmp_same y x h) h ∙ ap (λ b. some_limit (s || b) x) k ∙ by s
+  where
+    by : (s : Bool) → some_limit (s || false) x ≡ some_limit s x
+    by true = refl
+    by false = refl
+
+up_at_same : (s t : Bool) (x y : List ℕ) → x ≡ y → slice_cmp nat_cmp x y ≡ Equal
+    → lesser_up (some_limit s x) (some_limit t y) ≡ some_limit (s || t) x
+up_at_same true t x y e h = ap (λ r. if w false r then some_limit true x else some_limit t y) h
+up_at_same false t x y e h = ap (λ r. if w true r then some_limit false x else some_limit t y) h ∙ ap (some_limit t) (sym e)
+
+pub up_made_strict : (s t : Bool) (x y : List ℕ) → slice_cmp nat_cmp x y ≡ Equal → t ≡ true
+    → lesser_up (some_limit s x) (some_limit t y) ≡ some_limit true x
+up_made_strict s t x y h k =
+    up_at_same s t x y (cmp_same x y h) h ∙ ap (λ b. some_limit (s || b) x) k ∙ by s
+  where
+    by : (s : Bool) → some_limit (s || true) x ≡ some_limit true x
+    by true = refl
+    by false = refl
+
+pub up_as_strict : (s t : Bool) (x y : List ℕ) → slice_cmp nat_cmp x y ≡ Equal → t ≡ false
+    → lesser_up (some_limit s x) (some_limit t y) ≡ some_limit s x
+up_as_strict s t x y h k =
+    up_at_same s t x y (cmp_same x y h) h ∙ ap (λ b. some_limit (s || b) x) k ∙ by s
+  where
+    by : (s : Bool) → some_limit (s || false) x ≡ some_limit s x
+    by true = refl
+    by false = refl

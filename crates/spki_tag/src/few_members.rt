@@ -1,60 +1,59 @@
 //! The intersection of a set with a set of few members. What stays is moved and not copied.
 
-ghost use Rattle.std.specs.Prelude.{◌≡◌, ◌+◌, ◌*◌, ◌≤◌, ◌++◌, ◌∷◌, [], IsTrue, IfOk, OnOk, length, take, drop};
+ghost use Rattle.std.specs.Prelude.{◌≡◌, ◌*◌, ◌≤◌, ◌++◌, ◌∷◌, [], IsTrue, IfOk, OnOk, length, take, drop};
 ghost use Rattle.spki_tag.specs.Tag.{IsNormalTag, most_nodes, nodes, nodes_all, tags};
-ghost use Rattle.spki_tag.specs.Meet.{gather, meet, nothing, pairs, row};
+ghost use Rattle.spki_tag.specs.Meet.{gather, kept, meet, pairs, row};
+ghost use Rattle.spki_tag.specs.Rows.{IsRowOf};
 
-use crate::intersection::meet_tags;
-use crate::intersection_in_place::stays;
+use crate::intersection::{meet_members, meet_tags};
+use crate::known_intersection::{is_apart, stays};
+use crate::narrowing::{Narrowed, narrow_leaf};
 use crate::parts::push_kept;
-use crate::tag::{Node, Tag};
+use crate::tag::Tag;
 use std::alloc::{AllocError, Global};
 
+/// The most members of a set with which each member of another is compared. More are found by an index.
+const FEW: usize = 8;
+
 /// What is known of the intersections of a tag with others, without making anything.
-#[derive(Clone, Copy, Debug, PartialEq, Eq)]
+#[derive(Clone, Copy, Debug)]
 enum Row {
     /// All are `(* set)`.
     Empty,
-    /// One is the tag itself, and all others are `(* set)`.
-    Itself,
+    /// All but that with the tag in this place are `(* set)`.
+    One(usize),
     /// Neither is known.
     Unknown,
 }
 
-/// Whether the intersection of two tags is known to be `(* set)`, without making anything.
-fn is_apart(one: &Tag, other: &Tag) -> bool
-    ensures { IsTrue result → meet one.now other.now ≡ nothing }
+/// What is known of the intersections of a tag with others.
+fn row_of(one: &Tag, others: &[Tag]) -> Row
+    ensures { IsRowOf result one.now others.now }
 {
-    match &one.node {
-        Node::Leaf(leaf) => match &other.node {
-            Node::Leaf(second) => leaf.is_apart(second),
-            Node::List(_, _, _) => !one.is_everything(),
-            Node::Set(_, _) => false,
-        },
-        Node::List(head, _, _) => match &other.node {
-            Node::Leaf(_) => !other.is_everything(),
-            Node::List(second, _, _) => head.as_slice() != second.as_slice(),
-            Node::Set(_, _) => false,
-        },
-        Node::Set(_, _) => false,
+    let mut found = None;
+    for place in 0..others.len() {
+        if !is_apart(one, &others[place]) {
+            if found.is_some() {
+                return Row::Unknown;
+            }
+            found = Some(place);
+        }
+    }
+    match found {
+        None => Row::Empty,
+        Some(place) => Row::One(place),
     }
 }
 
-/// What is known of the intersections of a tag with others.
-fn row_of(one: &Tag, others: &[Tag]) -> Row
-    ensures empty { result ≡ Row.Empty → row (meet one.now) (tags others.now) ≡ [] }
-    ensures itself { result ≡ Row.Itself → row (meet one.now) (tags others.now) ≡ one.now ∷ [] }
+/// Whether a tag is known to be its own only intersection with others.
+fn stays_alone(one: &Tag, others: &[Tag]) -> bool
+    ensures { IsTrue result → row (meet one.now) (tags others.now) ≡ one.now ∷ [] }
 {
-    let mut found = false;
-    for other in others {
-        if !is_apart(one, other) {
-            if found || !stays(one, other) {
-                return Row::Unknown;
-            }
-            found = true;
-        }
+    match row_of(one, others) {
+        Row::Empty => false,
+        Row::One(place) => stays(one, &others[place]),
+        Row::Unknown => false,
     }
-    if found { Row::Itself } else { Row::Empty }
 }
 
 /// How many tags at the front are known to be their own only intersections with others.
@@ -64,7 +63,7 @@ fn rows_first(members: &[Tag], others: &[Tag]) -> usize
         ≡ pairs (tags members.now) (tags others.now) }
 {
     for place in 0..members.len() {
-        if row_of(&members[place], others) != Row::Itself {
+        if !stays_alone(&members[place], others) {
             return place;
         }
     }
@@ -83,24 +82,41 @@ fn push_each(alloc: Global, met: &mut Vec<Tag>, one: &Tag, others: &[Tag]) -> Re
     Ok(())
 }
 
-/// The same, and consumes the tag.
+/// Adds the intersection of a tag with another, except `(* set)`, and consumes the tag.
+fn push_narrowed(alloc: Global, met: &mut Vec<Tag>, one: Tag, other: &Tag) -> Result<(), AllocError>
+    requires { nodes one * nodes other.now ≤ most_nodes }
+    ensures { OnOk result (met.new.items ≡ met.old.items ++ kept (meet one other.now) []) }
+{
+    let mut one = one;
+    match narrow_leaf(&mut one, other)? {
+        Narrowed::Left => met.push(one)?,
+        Narrowed::Gone => {}
+        Narrowed::Not => {
+            if stays(&one, other) {
+                met.push(one)?;
+            } else {
+                push_kept(met, meet_tags(alloc, &one, other)?)?;
+            }
+        }
+    }
+    Ok(())
+}
+
+/// Adds the intersections of a tag with each of the others, except `(* set)`, and consumes the tag.
 fn push_row(alloc: Global, met: &mut Vec<Tag>, one: Tag, others: &[Tag]) -> Result<(), AllocError>
     requires { nodes one * nodes_all (tags others.now) ≤ most_nodes }
     ensures { OnOk result (met.new.items ≡ met.old.items ++ row (meet one) (tags others.now)) }
 {
     match row_of(&one, others) {
         Row::Empty => Ok(()),
-        Row::Itself => {
-            met.push(one)?;
-            Ok(())
-        }
+        Row::One(place) => push_narrowed(alloc, met, one, &others[place]),
         Row::Unknown => push_each(alloc, met, &one, others),
     }
 }
 
 /// Returns the set of the intersections of each tag with each of the others, in the order of the first and then of the second.
 /// The tags have `count` nodes together.
-pub(crate) fn meet_few(
+fn meet_few(
     alloc: Global,
     members: Vec<Tag>,
     count: usize,
@@ -121,4 +137,24 @@ pub(crate) fn meet_few(
         push_row(alloc, &mut met, member, others)?;
     }
     Ok(Tag::gathered(met))
+}
+
+/// Returns the set of the intersections of each tag with each of the others, in the order of the first and then of the
+/// second. The tags have `count` nodes together.
+pub(crate) fn meet_sets(
+    alloc: Global,
+    members: Vec<Tag>,
+    count: usize,
+    others: &[Tag],
+) -> Result<Tag, AllocError>
+    requires counted { count ≡ nodes_all (tags members.items) }
+    requires bound { nodes_all (tags members.items) * nodes_all (tags others.now) ≤ most_nodes }
+    requires met { IsNormalTag (gather (pairs (tags members.items) (tags others.now))) }
+    ensures { IfOk result (λ c. c ≡ gather (pairs (tags members.items) (tags others.now))) }
+{
+    if others.len() <= FEW {
+        meet_few(alloc, members, count, others)
+    } else {
+        meet_members(alloc, &members, others)
+    }
 }

@@ -4,13 +4,15 @@ ghost use Rattle.std.specs.Prelude.{◌≡◌, ℕ, ◌+◌, ◌*◌, ◌<◌, �
 ghost use Rattle.std.specs.Arc.{arc_slice_items};
 ghost use Rattle.spki_tag.specs.Request.{Request, IsRequest};
 ghost use Rattle.spki_tag.specs.Tag.{IsNormalTag, contains, each_normal, is_nothing, is_set, is_star, ldepth, list, more, most_nodes, nodes, nodes_all, none, set, star, string, tags};
-ghost use Rattle.spki_tag.specs.Meet.{each_meet, gather, has_nothing, kept, meet, pairs};
+ghost use Rattle.spki_tag.specs.Meet.{each_meet, has_nothing, kept, meet, pairs};
 
 use crate::fault::MeetFault;
-use crate::few_members::meet_few;
+use crate::few_members::meet_sets;
 use crate::form::is_set;
-use crate::intersection::{MOST_NODES, meet_members, meet_tags};
+use crate::intersection::{MOST_NODES, meet_tags};
+use crate::known_intersection::stays;
 use crate::leaf::{Leaf, SharedOctets};
+use crate::narrowing::{Narrowed, narrow_leaf};
 use crate::parts::push_copies;
 use crate::tag::{Node, Tag, nodes_of};
 use std::alloc::{AllocError, Global};
@@ -28,48 +30,6 @@ struct Counted {
 struct Kept {
     tags: usize,
     nodes: usize,
-}
-
-/// Whether the intersection of a tag with another is known to be the tag itself, without making anything.
-#[cycle(staying)]
-pub(crate) fn stays(one: &Tag, other: &Tag) -> bool
-    ensures same { IsTrue result → meet one.now other.now ≡ one.now }
-    ensures some { IsTrue result → is_nothing one.now ≡ false }
-{
-    if other.is_everything() {
-        return !one.is_nothing();
-    }
-    match &one.node {
-        Node::Leaf(leaf) => match &other.node {
-            Node::Leaf(second) => leaf.stays(second),
-            Node::List(_, _, _) => false,
-            Node::Set(_, _) => false,
-        },
-        Node::List(head, further, _) => match &other.node {
-            Node::Leaf(_) => false,
-            Node::List(second, others, _) => {
-                head.as_slice() == second.as_slice() && all_stay(further, others)
-            }
-            Node::Set(_, _) => false,
-        },
-        Node::Set(_, _) => false,
-    }
-}
-
-/// Whether the intersections of tags with others, place by place, are known to be the tags themselves.
-#[cycle(staying)]
-fn all_stay(members: &[Tag], others: &[Tag]) -> bool
-    ensures { IsTrue result → each_meet (tags members.now) (tags others.now) ≡ members.now }
-{
-    if members.len() < others.len() {
-        return false;
-    }
-    for i in 0..others.len() {
-        if !stays(&members[i], &others[i]) {
-            return false;
-        }
-    }
-    true
 }
 
 /// Whether a tag is the string of these octets.
@@ -144,7 +104,7 @@ fn keep(members: &mut Vec<Tag>, to: usize, place: usize)
 
 /// Intersects the tag in a place with another, and puts the result, except `(* set)`, after the tags that are kept.
 #[cycle(narrowing)]
-fn meet_place(
+fn meet_whole(
     alloc: Global,
     members: &mut Vec<Tag>,
     before: Kept,
@@ -188,6 +148,45 @@ fn meet_place(
     })
 }
 
+/// Intersects the tag in a place with another, and puts the result, except `(* set)`, after the tags that are kept. A tag
+/// without members is narrowed where it is.
+#[cycle(narrowing)]
+fn meet_place(
+    alloc: Global,
+    members: &mut Vec<Tag>,
+    before: Kept,
+    place: usize,
+    other: &Tag,
+) -> Result<Kept, AllocError>
+    requires inside { place < length members.old.items }
+    requires earlier { before.tags ≤ place }
+    requires few { nodes (slice_index_or members.old.items place star) * nodes other.now ≤ most_nodes }
+    requires counted { nodes (slice_index_or members.old.items place star) ≤ before.nodes }
+    requires small { before.nodes ≤ 2 * most_nodes }
+    ensures long { OnOk result (length members.new.items ≡ length members.old.items) }
+    ensures behind { OnOk result (drop (place + 1) members.new.items ≡ drop (place + 1) members.old.items) }
+    ensures earlier { IfOk result (λ k. k.tags ≤ place + 1) }
+    ensures met { IfOk result (λ k. take k.tags members.new.items
+        ≡ take before.tags members.old.items ++ kept (meet (slice_index_or members.old.items place star) other.now) []) }
+    ensures counted { IfOk result (λ k. k.nodes + nodes (slice_index_or members.old.items place star)
+        ≡ before.nodes + nodes_all (tags (kept (meet (slice_index_or members.old.items place star) other.now) []))) }
+{
+    match narrow_leaf(&mut members[place], other)? {
+        Narrowed::Left => {
+            keep(members, before.tags, place);
+            Ok(Kept {
+                tags: before.tags + 1,
+                nodes: before.nodes,
+            })
+        }
+        Narrowed::Gone => Ok(Kept {
+            tags: before.tags,
+            nodes: before.nodes - 1,
+        }),
+        Narrowed::Not => meet_whole(alloc, members, before, place, other),
+    }
+}
+
 /// Returns the intersections of each of the tags with another tag, in their places, except `(* set)`. The tags have `count`
 /// nodes together.
 #[cycle(narrowing)]
@@ -216,29 +215,6 @@ fn met_in_place(
         tags: members,
         nodes: kept.nodes,
     })
-}
-
-/// The most members of a set with which each member of another is compared. More are found by an index.
-const FEW: usize = 8;
-
-/// Returns the set of the intersections of each tag with each of the others, in the order of the first and then of the
-/// second. The tags have `count` nodes together.
-fn meet_sets(
-    alloc: Global,
-    members: Vec<Tag>,
-    count: usize,
-    others: &[Tag],
-) -> Result<Tag, AllocError>
-    requires counted { count ≡ nodes_all (tags members.items) }
-    requires bound { nodes_all (tags members.items) * nodes_all (tags others.now) ≤ most_nodes }
-    requires met { IsNormalTag (gather (pairs (tags members.items) (tags others.now))) }
-    ensures { IfOk result (λ c. c ≡ gather (pairs (tags members.items) (tags others.now))) }
-{
-    if others.len() <= FEW {
-        meet_few(alloc, members, count, others)
-    } else {
-        meet_members(alloc, &members, others)
-    }
 }
 
 /// Returns the intersection of a set of these tags with another tag that is neither a set nor `(*)`. The set has `count`

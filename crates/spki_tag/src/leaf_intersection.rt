@@ -1,18 +1,17 @@
 //! The intersection of tags without members.
 
-ghost use Rattle.std.specs.Prelude.{◌≡◌, Some, IsTrue, IfOk, option_map};
+ghost use Rattle.std.specs.Prelude.{◌≡◌, IfOk, option_map};
 ghost use Rattle.std.specs.Arc.{arc_slice_items};
 ghost use Rattle.spki_tag.specs.Leaves.{ordering_of, limit_of, leaf_tag, leaf_or_nothing};
-ghost use Rattle.spki_tag.specs.Tag.{prefix, range};
-ghost use Rattle.spki_tag.specs.Meet.{greater_low, lesser_up, ordering_meet, ranged, nothing, prefixes_meet, range_meet, string_meet, meet};
+ghost use Rattle.spki_tag.specs.Meet.{greater_low, lesser_up, ordering_meet, ranged, prefixes_meet, string_meet, meet};
 
 use crate::leaf::{Leaf, Limit, RangeOrdering, SharedOctets, copied_limit};
-use crate::limit_intersection::{exclude, greater_low, lesser_up, low_stays, up_stays};
+use crate::limit_intersection::{exclude, greater_low, lesser_up};
 use crate::prefix::Prefix;
 use std::alloc::AllocError;
 
 /// The ordering of the strings that are in both orderings. No string is both a time and a date.
-fn common_ordering(one: RangeOrdering, other: RangeOrdering) -> Option<RangeOrdering>
+pub(crate) fn common_ordering(one: RangeOrdering, other: RangeOrdering) -> Option<RangeOrdering>
     ensures { option_map ordering_of result ≡ ordering_meet (ordering_of one) (ordering_of other) }
 {
     match one {
@@ -71,87 +70,6 @@ fn meet_ranges(
     )
 }
 
-/// Whether all strings of one ordering are in another.
-fn ordering_stays(one: RangeOrdering, other: RangeOrdering) -> bool
-    ensures { IsTrue result → ordering_meet (ordering_of one) (ordering_of other) ≡ Some (ordering_of one) }
-{
-    match other {
-        RangeOrdering::Alpha => true,
-        RangeOrdering::Time => match one {
-            RangeOrdering::Alpha => false,
-            RangeOrdering::Time => true,
-            RangeOrdering::Date => false,
-        },
-        RangeOrdering::Date => match one {
-            RangeOrdering::Alpha => false,
-            RangeOrdering::Time => false,
-            RangeOrdering::Date => true,
-        },
-    }
-}
-
-/// Whether the intersection of a range with another is the range itself.
-fn range_stays(
-    ordering: RangeOrdering,
-    low: &Option<Limit>,
-    up: &Option<Limit>,
-    other: RangeOrdering,
-    other_low: &Option<Limit>,
-    other_up: &Option<Limit>,
-) -> bool
-    ensures { IsTrue result → ranged (ordering_meet (ordering_of ordering) (ordering_of other))
-        (greater_low (limit_of low.now) (limit_of other_low.now)) (lesser_up (limit_of up.now) (limit_of other_up.now))
-        ≡ range (ordering_of ordering) (limit_of low.now) (limit_of up.now) }
-{
-    if !ordering_stays(ordering, other) {
-        return false;
-    }
-    if !low_stays(low, other_low) {
-        return false;
-    }
-    if !up_stays(up, other_up) {
-        return false;
-    }
-    !exclude(low, up)
-}
-
-/// Whether the intersection of a range with a prefix is known to be the range itself.
-fn stays_in_prefix(
-    ordering: RangeOrdering,
-    low: &Option<Limit>,
-    up: &Option<Limit>,
-    within: &Prefix,
-) -> bool
-    ensures { IsTrue result → range_meet (ordering_of ordering) (limit_of low.now) (limit_of up.now) (prefix within.now)
-        ≡ range (ordering_of ordering) (limit_of low.now) (limit_of up.now) }
-{
-    if !within.keeps_low(low) {
-        return false;
-    }
-    if !within.keeps_up(up) {
-        return false;
-    }
-    !exclude(low, up)
-}
-
-/// Whether two ranges are known to have no string in common, by their orderings and limits.
-fn are_ranges_apart(
-    ordering: RangeOrdering,
-    low: &Option<Limit>,
-    up: &Option<Limit>,
-    other: RangeOrdering,
-    other_low: &Option<Limit>,
-    other_up: &Option<Limit>,
-) -> bool
-    ensures { IsTrue result → ranged (ordering_meet (ordering_of ordering) (ordering_of other))
-        (greater_low (limit_of low.now) (limit_of other_low.now)) (lesser_up (limit_of up.now) (limit_of other_up.now)) ≡ nothing }
-{
-    match common_ordering(ordering, other) {
-        None => true,
-        Some(_) => exclude(greater_low(low, other_low), lesser_up(up, other_up)),
-    }
-}
-
 /// Returns the string if the tag contains it.
 fn meet_string(octets: &SharedOctets, other: &Leaf) -> Result<Option<Leaf>, AllocError>
     ensures { IfOk result (λ r. leaf_or_nothing r ≡ string_meet (arc_slice_items octets.now) (leaf_tag other.now)) }
@@ -176,63 +94,7 @@ fn meet_prefixes(one: &Prefix, other: &Prefix) -> Result<Option<Leaf>, AllocErro
     }
 }
 
-/// Whether neither of two prefixes starts with the other.
-fn are_prefixes_apart(one: &Prefix, other: &Prefix) -> bool
-    ensures { IsTrue result → prefixes_meet one.now other.now ≡ nothing }
-{
-    !one.octets().starts_with(other.octets()) && !other.octets().starts_with(one.octets())
-}
-
 impl Leaf {
-    /// Whether the intersection of a tag without members with another is known to be the tag itself, without making
-    /// anything.
-    pub(crate) fn stays(&self, other: &Leaf) -> bool
-        ensures { IsTrue result → meet (leaf_tag self.now) (leaf_tag other.now) ≡ leaf_tag self.now }
-    {
-        match self {
-            Leaf::String(octets) => other.holds(octets.as_slice()),
-            Leaf::Prefix(prefix) => match other {
-                Leaf::Prefix(second) => prefix.octets().starts_with(second.octets()),
-                Leaf::Star => false,
-                Leaf::String(_) => false,
-                Leaf::Range(_, _, _) => false,
-            },
-            Leaf::Range(ordering, low, up) => match other {
-                Leaf::Range(second, second_low, second_up) => {
-                    range_stays(*ordering, low, up, *second, second_low, second_up)
-                }
-                Leaf::Prefix(prefix) => stays_in_prefix(*ordering, low, up, prefix),
-                Leaf::Star => false,
-                Leaf::String(_) => false,
-            },
-            Leaf::Star => false,
-        }
-    }
-
-    /// Whether the intersection of a tag without members with another is known to be `(* set)`, without making anything.
-    pub(crate) fn is_apart(&self, other: &Leaf) -> bool
-        ensures { IsTrue result → meet (leaf_tag self.now) (leaf_tag other.now) ≡ nothing }
-    {
-        match self {
-            Leaf::Star => false,
-            Leaf::String(octets) => !other.holds(octets.as_slice()),
-            Leaf::Prefix(prefix) => match other {
-                Leaf::Star => false,
-                Leaf::String(octets) => !self.holds(octets.as_slice()),
-                Leaf::Prefix(second) => are_prefixes_apart(prefix, second),
-                Leaf::Range(_, _, _) => false,
-            },
-            Leaf::Range(ordering, low, up) => match other {
-                Leaf::Star => false,
-                Leaf::String(octets) => !self.holds(octets.as_slice()),
-                Leaf::Prefix(_) => false,
-                Leaf::Range(second, second_low, second_up) => {
-                    are_ranges_apart(*ordering, low, up, *second, second_low, second_up)
-                }
-            },
-        }
-    }
-
     /// Returns the intersection of two tags without members. None if it is `(* set)`. A prefix is treated as the range of
     /// any strings from itself to below the least string above all that start with it.
     pub(crate) fn meet(&self, other: &Leaf) -> Result<Option<Leaf>, AllocError>

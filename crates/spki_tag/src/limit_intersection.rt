@@ -1,10 +1,9 @@
 //! The intersection of limits of ranges.
 
-ghost use Rattle.std.specs.Prelude.{◌≡◌, IsTrue};
+ghost use Rattle.std.specs.Prelude.{◌≡◌};
 ghost use Rattle.spki_tag.specs.Leaves.{limit_of};
 ghost use Rattle.spki_tag.specs.Meet.{greater_low, lesser_up, exclude};
 
-use crate::equality::same_limit;
 use crate::leaf::{Limit, is_within};
 
 /// The greater of two lower limits. For equal strings it is the strict one. If one is missing, it is the other.
@@ -40,50 +39,6 @@ pub(crate) fn lesser_up<'a>(one: &'a Option<Limit>, other: &'a Option<Limit>) ->
                 } else {
                     other
                 }
-            }
-        },
-    }
-}
-
-/// Whether a lower limit is known to be the greater of two.
-#[tactic(auto, using(crate::proofs::Limits::greater_low_same))]
-pub(crate) fn low_stays(one: &Option<Limit>, other: &Option<Limit>) -> bool
-    ensures { IsTrue result → greater_low (limit_of one.now) (limit_of other.now) ≡ limit_of one.now }
-{
-    if same_limit(one, other) {
-        return true;
-    }
-    match one {
-        None => match other {
-            None => true,
-            Some(_) => false,
-        },
-        Some(low) => match other {
-            None => true,
-            Some(second) => {
-                is_within(!low.strict, second.octets.as_slice(), low.octets.as_slice())
-            }
-        },
-    }
-}
-
-/// Whether an upper limit is known to be the lesser of two.
-#[tactic(auto, using(crate::proofs::Limits::lesser_up_same))]
-pub(crate) fn up_stays(one: &Option<Limit>, other: &Option<Limit>) -> bool
-    ensures { IsTrue result → lesser_up (limit_of one.now) (limit_of other.now) ≡ limit_of one.now }
-{
-    if same_limit(one, other) {
-        return true;
-    }
-    match one {
-        None => match other {
-            None => true,
-            Some(_) => false,
-        },
-        Some(up) => match other {
-            None => true,
-            Some(second) => {
-                is_within(!up.strict, up.octets.as_slice(), second.octets.as_slice())
             }
         },
     }

@@ -1,9 +1,10 @@
 //! Prefixes, and the limits of the strings that start with one.
 
-ghost use Rattle.std.specs.Prelude.{◌≡◌, IsTrue, IfOk, option_map};
+ghost use Rattle.std.specs.Prelude.{◌≡◌, true, false, None, Some, IsTrue, IfOk, MatchOption, option_map};
 ghost use Rattle.std.specs.Arc.{arc_slice_items};
 ghost use Rattle.spki_tag.specs.Leaves.{limit_of};
-ghost use Rattle.spki_tag.specs.Meet.{greater_low, lesser_up, least_above, from, strict_limit};
+ghost use Rattle.spki_tag.specs.Meet.{exclude, greater_low, lesser_up, least_above, from, nothing, prefixes_meet, strict_limit};
+ghost use Rattle.spki_tag.specs.Tag.{prefix};
 
 use crate::leaf::{Limit, SharedOctets, is_within};
 use std::alloc::{AllocError, Global};
@@ -47,6 +48,20 @@ impl Prefix {
         self.octets.as_slice()
     }
 
+    /// Its octets, to be shared.
+    pub(crate) fn shared(&self) -> &SharedOctets
+        ensures { arc_slice_items result.now ≡ self.now }
+    {
+        &self.octets
+    }
+
+    /// The least string above all strings that start with the prefix. None if the prefix has no octets other than `FF`.
+    pub(crate) fn above(&self) -> Option<&SharedOctets>
+        ensures { MatchOption result (least_above self.now ≡ None) (λ above. least_above self.now ≡ Some (arc_slice_items above.now)) }
+    {
+        self.above.as_ref()
+    }
+
     /// The limit that includes the least string that starts with the prefix.
     pub(crate) fn lower_limit(&self) -> Result<Option<Limit>, AllocError>
         ensures { IfOk result (λ low. limit_of low ≡ from self.now) }
@@ -67,6 +82,53 @@ impl Prefix {
                 strict: true,
                 octets: above.clone()?,
             })),
+        }
+    }
+
+    /// Narrows the prefix to the longer one of it and another. False if neither starts with the other.
+    pub(crate) fn narrow(&mut self, other: &Prefix) -> Result<bool, AllocError>
+        ensures left { IfOk result (λ left. IsTrue left → prefixes_meet self.old other.now ≡ prefix self.new) }
+        ensures gone { IfOk result (λ left. left ≡ false → prefixes_meet self.old other.now ≡ nothing) }
+    {
+        if self.octets().starts_with(other.octets()) {
+            return Ok(true);
+        }
+        if other.octets().starts_with(self.octets()) {
+            *self = other.clone()?;
+            return Ok(true);
+        }
+        Ok(false)
+    }
+
+    /// Whether two limits are known to exclude each other together with those of the strings that start with the prefix.
+    #[tactic(auto, using(crate::proofs::Limits::ended_before, crate::proofs::Limits::begun_behind))]
+    pub(crate) fn is_outside(&self, low: &Option<Limit>, up: &Option<Limit>) -> bool
+        ensures { IsTrue result → exclude (greater_low (limit_of low.now) (from self.now))
+            (lesser_up (limit_of up.now) (strict_limit (least_above self.now))) ≡ true }
+    {
+        self.is_behind(up) || self.is_before(low)
+    }
+
+    /// Whether an upper limit is below all strings that start with the prefix.
+    fn is_behind(&self, up: &Option<Limit>) -> bool
+        ensures { result ≡ exclude (from self.now) (limit_of up.now) }
+    {
+        match up {
+            None => false,
+            Some(up) => !is_within(up.strict, self.octets.as_slice(), up.octets.as_slice()),
+        }
+    }
+
+    /// Whether a lower limit is above all strings that start with the prefix.
+    fn is_before(&self, low: &Option<Limit>) -> bool
+        ensures { result ≡ exclude (limit_of low.now) (strict_limit (least_above self.now)) }
+    {
+        match low {
+            None => false,
+            Some(low) => match &self.above {
+                None => false,
+                Some(above) => !is_within(true, low.octets.as_slice(), above.as_slice()),
+            },
         }
     }
 

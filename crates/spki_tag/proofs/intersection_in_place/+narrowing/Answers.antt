@@ -11,8 +11,8 @@ use Rattle.spki_tag.proofs.MeetSteps.{MembersMeet, meet-by_members, tags-members
 use Rattle.spki_tag.proofs.InPlace.{PlaceMeets, place_meets, place_step, drop_next, drop-nodes, take-nodes, set-met_normal, read_behind, IsEachStep, each_next, kept_none, kept_some, sets_meet}
 use Rattle.spki_tag.proofs.intersection_in_place.+narrowing.Goals as goal
 
-pub meet_place-returns-then-is_nothing-clause-met : goal.meet_place-returns-then-is_nothing-clause-met
-meet_place-returns-then-is_nothing-clause-met t c =
+pub meet_whole-returns-then-is_nothing-clause-met : goal.meet_whole-returns-then-is_nothing-clause-met
+meet_whole-returns-then-is_nothing-clause-met t c =
     let ms = c.args.members.now.items in
     let n = c.args.before.tags in
     let left : Tag = meet (slice_index_or ms c.args.place star) c.args.other.now in
@@ -22,8 +22,8 @@ meet_place-returns-then-is_nothing-clause-met t c =
     c.taken-member.ensures.before n c.requires.earlier ∙ sym (append-nil (take n ms))
     ∙ ap (λ (ts : List Tag). take n ms ++ ts) (sym (kept_none left void))
 
-pub meet_place-returns-clause-met : goal.meet_place-returns-clause-met
-meet_place-returns-clause-met t c =
+pub meet_whole-returns-clause-met : goal.meet_whole-returns-clause-met
+meet_whole-returns-clause-met t c =
     let ms = c.args.members.now.items in
     let n = c.args.before.tags in
     let out = c.taken-member.new.members.items in

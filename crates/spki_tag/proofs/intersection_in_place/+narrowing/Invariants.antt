@@ -4,11 +4,14 @@ use Rattle.spki_tag.specs.Meet.{pairs, each_meet, has_nothing}
 use Rattle.std.specs.Arc.{arc_slice_items}
 use Rattle.spki_tag.proofs.intersection_in_place.+narrowing.Given as goal
 
+abbrev pub decreases-meet_whole : goal.decreases-meet_whole
+decreases-meet_whole l = 5 * (nodes (slice_index_or l.members.now.items l.place star) + nodes l.other.now) + 2
+
 abbrev pub decreases-meet_place : goal.decreases-meet_place
-decreases-meet_place l = 5 * (nodes (slice_index_or l.members.now.items l.place star) + nodes l.other.now) + 2
+decreases-meet_place l = 5 * (nodes (slice_index_or l.members.now.items l.place star) + nodes l.other.now) + 3
 
 abbrev pub decreases-met_in_place : goal.decreases-met_in_place
-decreases-met_in_place l = 5 * (nodes_all (tags l.members.items) + nodes l.other.now) + 3
+decreases-met_in_place l = 5 * (nodes_all (tags l.members.items) + nodes l.other.now) + 4
 
 abbrev pub decreases-meet_set : goal.decreases-meet_set
 decreases-meet_set l = 5 * (nodes (set (tags l.members.items)) + nodes l.other.now)

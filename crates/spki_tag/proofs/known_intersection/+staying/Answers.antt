@@ -4,7 +4,7 @@ use Rattle.spki_tag.specs.Tag.{IsNormalTag, list, nodes, nodes_all, tags}
 use Rattle.spki_tag.specs.Nodes.{node_tag}
 use Rattle.spki_tag.proofs.Members.{nodes_le-of_read}
 use Rattle.spki_tag.proofs.Staying.{star-stays, list-stays, all-stay}
-use Rattle.spki_tag.proofs.intersection_in_place.+staying.Goals as goal
+use Rattle.spki_tag.proofs.known_intersection.+staying.Goals as goal
 
 pub all_stay-stays-requires : goal.all_stay-stays-requires
 all_stay-stays-requires t c =

@@ -1,7 +1,7 @@
 use Rattle.std.proofs.Common.{◌≡◌, ◌+◌, ◌*◌, ◌++◌, drop, take}
 use Rattle.spki_tag.specs.Tag.{tags, nodes, nodes_all}
 use Rattle.spki_tag.specs.Meet.{each_meet}
-use Rattle.spki_tag.proofs.intersection_in_place.+staying.Given as goal
+use Rattle.spki_tag.proofs.known_intersection.+staying.Given as goal
 
 abbrev pub decreases-stays : goal.decreases-stays
 decreases-stays l = 2 * nodes l.one.now
