@@ -160,10 +160,13 @@ def large_tag_and_set(entries, certificates, members):
 
 
 def narrowed_ranges(entries, certificates, members):
-    """Two sets whose intersection has the most ranges, and certificates for ranges with ever lower upper limits: each of them changes all
-    ranges."""
+    """Two sets whose intersection has the most ranges, and certificates for ranges, each of which lies within the one before it: so each
+    changes both limits of all ranges."""
+    def between(place):
+        return group(*map(string, ("*", "range", "alpha", "g", f"a{10_000 + place}", "l", f"a{99_999 - place}")))
+
     large = a_set(RANGE, members)
-    certs = [certificate(OWNER, OWNER, group(*map(string, ("*", "range", "alpha", "l", f"a{99_999 - place}")))) for place in range(certificates)]
+    certs = [certificate(OWNER, OWNER, between(place)) for place in range(certificates)]
     return asked([entry(OWNER, large)], [row(cert, OWNER) for cert in (certificate(OWNER, OWNER, large), *certs)],
                  [shown(cert, OWNER) for cert in (certificate(OWNER, OWNER, large), *certs)])
 
