@@ -2,8 +2,9 @@
 
 ghost use Rattle.std.specs.Prelude.{◌≡◌, ℕ, ◌+◌, ◌*◌, ◌<◌, ◌≤◌, ◌↔◌, ◌++◌, ◌∷◌, ◌&&◌, [], true, false, max, length, take, drop, slice_index_or, IsTrue, IfOk, OnOk, IsErrOf, MatchOption};
 ghost use Rattle.std.specs.Arc.{arc_slice_items};
+ghost use Rattle.spki_tag.specs.Leaves.{limit_of};
 ghost use Rattle.spki_tag.specs.Request.{Request, IsRequest};
-ghost use Rattle.spki_tag.specs.Tag.{IsNormalTag, contains, each_normal, is_nothing, is_set, is_star, ldepth, list, more, most_nodes, nodes, nodes_all, none, set, star, string, tags};
+ghost use Rattle.spki_tag.specs.Tag.{IsNormalTag, alpha, contains, each_normal, is_nothing, is_set, is_star, ldepth, list, more, most_nodes, nodes, nodes_all, none, range, set, star, string, tags};
 ghost use Rattle.spki_tag.specs.Meet.{each_meet, has_nothing, kept, meet, pairs};
 
 use crate::fault::MeetFault;
@@ -11,7 +12,7 @@ use crate::few_members::meet_sets;
 use crate::form::is_set;
 use crate::intersection::{MOST_NODES, meet_tags};
 use crate::known_intersection::stays;
-use crate::leaf::{Leaf, SharedOctets};
+use crate::leaf::{Leaf, Limit, RangeOrdering, SharedOctets, is_above, is_below};
 use crate::narrowing::{Narrowed, narrow_leaf};
 use crate::parts::push_copies;
 use crate::tag::{Node, Tag, nodes_of};
@@ -59,9 +60,39 @@ fn strings_first(members: &[Tag], octets: &[u8]) -> usize
     members.len()
 }
 
-/// How many tags at the front are known to be their own intersections with another tag. For a string, these are the tags that
-/// are equal to it, and a shorter loop counts them.
-fn staying_first(members: &[Tag], other: &Tag) -> usize
+/// Whether a tag is a string between two limits.
+fn is_string_between(tag: &Tag, low: &Option<Limit>, up: &Option<Limit>) -> bool
+    ensures same { IsTrue result → meet tag.now (range alpha (limit_of low.now) (limit_of up.now)) ≡ tag.now }
+    ensures some { IsTrue result → is_nothing tag.now ≡ false }
+{
+    match &tag.node {
+        Node::Leaf(Leaf::String(octets)) => {
+            is_above(low, octets.as_slice()) && is_below(up, octets.as_slice())
+        }
+        Node::Leaf(_) => false,
+        Node::List(_, _, _) => false,
+        Node::Set(_, _) => false,
+    }
+}
+
+/// How many tags at the front are strings between two limits. The intersection of each of them with the range of these limits
+/// is the tag itself.
+fn strings_between_first(members: &[Tag], low: &Option<Limit>, up: &Option<Limit>) -> usize
+    ensures inside { result ≤ length members.now }
+    ensures met { take result members.now ++ pairs (tags (drop result members.now)) (more (range alpha (limit_of low.now) (limit_of up.now)) none)
+        ≡ pairs (tags members.now) (more (range alpha (limit_of low.now) (limit_of up.now)) none) }
+{
+    for place in 0..members.len() {
+        if !is_string_between(&members[place], low, up) {
+            return place;
+        }
+    }
+    members.len()
+}
+
+/// How many tags at the front are strings that are their own intersections with another tag, where that is a string or a range
+/// of any strings. These have shorter loops than other tags.
+fn plain_first(members: &[Tag], other: &Tag) -> usize
     ensures inside { result ≤ length members.now }
     ensures met { take result members.now ++ pairs (tags (drop result members.now)) (more other.now none)
         ≡ pairs (tags members.now) (more other.now none) }
@@ -69,7 +100,22 @@ fn staying_first(members: &[Tag], other: &Tag) -> usize
     if let Node::Leaf(Leaf::String(octets)) = &other.node {
         return strings_first(members, octets.as_slice());
     }
-    for place in 0..members.len() {
+    if let Node::Leaf(Leaf::Range(ordering, low, up)) = &other.node {
+        if *ordering == RangeOrdering::Alpha {
+            return strings_between_first(members, low, up);
+        }
+    }
+    0
+}
+
+/// How many tags at the front are known to be their own intersections with another tag.
+fn staying_first(members: &[Tag], other: &Tag) -> usize
+    ensures inside { result ≤ length members.now }
+    ensures met { take result members.now ++ pairs (tags (drop result members.now)) (more other.now none)
+        ≡ pairs (tags members.now) (more other.now none) }
+{
+    let first = plain_first(members, other);
+    for place in first..members.len() {
         if !stays(&members[place], other) {
             return place;
         }

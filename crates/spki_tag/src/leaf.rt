@@ -64,7 +64,7 @@ pub(crate) fn is_within(strict: bool, x: &[u8], y: &[u8]) -> bool
 }
 
 /// Whether a string is above the lower limit of a range.
-fn is_above(low: &Option<Limit>, octets: &[u8]) -> bool
+pub(crate) fn is_above(low: &Option<Limit>, octets: &[u8]) -> bool
     ensures { result ≡ is_above (limit_of low.now) octets.now }
 {
     match low {
@@ -74,7 +74,7 @@ fn is_above(low: &Option<Limit>, octets: &[u8]) -> bool
 }
 
 /// Whether a string is below the upper limit of a range.
-fn is_below(up: &Option<Limit>, octets: &[u8]) -> bool
+pub(crate) fn is_below(up: &Option<Limit>, octets: &[u8]) -> bool
     ensures { result ≡ is_below (limit_of up.now) octets.now }
 {
     match up {
