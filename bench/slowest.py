@@ -5,7 +5,7 @@ Each text is made for three lengths. Times are processor times, the least of som
 that of instructions, whichever is less: short times differ by half from run to run, and a comparison of long octets has more instructions than
 its time shows. The limits are:
 
-- At most 5 times for 4 times the octets, and at most 1 second at 1 MiB, for each text except the last three.
+- At most 1 second at 1 MiB for each text except the last three, and where it takes over 0.1 seconds, at most 5 times for 4 times the octets.
 - Many entries with many certificates take at most 1.5 times what the entries take with one certificate and the certificates with one entry.
 - The first of these three, with a certificate for a string, takes at 64 KiB at most a quarter of the time that it took before a member that
   remains was left where it is. The other two, with a range and with a set, are only measured.
@@ -25,7 +25,7 @@ from shapes import a_set, by_hashes, by_keys, certificate, definition, digest, e
 
 SIZES = [64 * 1024, 256 * 1024, 1024 * 1024]
 RUNS, ENOUGH_SECONDS, MOST_SECONDS = 7, 2.0, 120
-LIMIT_SECONDS, LIMIT_RATIO, LIMIT_SUM = 1.0, 5.0, 1.5
+LIMIT_SECONDS, SHORT_SECONDS, LIMIT_RATIO, LIMIT_SUM = 1.0, 0.1, 5.0, 1.5
 # The seconds of the text with a certificate for a string, of 64 KiB, before.
 LARGE_TAG_BEFORE = 17.6
 LIMIT_LARGE_TAG = LARGE_TAG_BEFORE / 4
@@ -270,7 +270,7 @@ def faults_of(shape, count):
     print(f"{'':<9}  {ratio:>8.2f}    times for 4 times the octets", flush=True)
     if times[-1] > LIMIT_SECONDS:
         yield f"{shape.name}: {times[-1]:.2f} s (at most {LIMIT_SECONDS})"
-    if ratio > LIMIT_RATIO:
+    if ratio > LIMIT_RATIO and times[-1] > SHORT_SECONDS:
         yield f"{shape.name}: {ratio:.1f} times for 4 times the octets (at most {LIMIT_RATIO})"
     if shape.is_product:
         entries, certificates = shape.fitting(SIZES[-1])
