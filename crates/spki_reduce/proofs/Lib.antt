@@ -11,3 +11,4 @@ pub mod Lacking
 pub mod OneFive
 pub mod OneFold
 pub mod WrittenNames
+pub mod Untagged

@@ -10,6 +10,7 @@ ghost use Rattle.spki_reduce.specs.Stops.{Stops, TooLargeFor};
 ghost use Rattle.spki_reduce.specs.Reduced.{BecomesFive, MatchJoined};
 ghost use Rattle.spki_reduce.specs.Chain.{tuples_of, all_tags, FoldsTo, StopsAt, HasMet, TooLargeAt, Excludes, SupportsNothing, MatchFold};
 
+use crate::chained::Chained;
 use crate::fault::ReduceFault;
 use crate::fold::{Fold, Joined};
 use crate::tuple::{Five, Step};
@@ -101,7 +102,7 @@ pub fn fold_owned<'a>(
     ensures too_large { IsErrOf result ReduceFault.TooLarge →
         most < nodes_product (all_tags (five (five_tuple first.entry) ∷ tuples_of steps.now)) }
 {
-    let mut folded = first;
+    let mut folded = Chained::of(first);
     for (place, step) in steps.iter().enumerate() {
         match folded.joined(alloc, step, policy, most)? {
             Joined::Done(next) => folded = next,
@@ -113,7 +114,7 @@ pub fn fold_owned<'a>(
             }
         }
     }
-    Ok(Fold::Done(folded))
+    Ok(Fold::Done(folded.into_five(alloc)?))
 }
 
 impl<'a> Five<'a> {
@@ -127,31 +128,5 @@ impl<'a> Five<'a> {
             tag: self.tag.clone()?,
             window: self.window,
         })
-    }
-
-    /// Joins this authorization with a step, and consumes it.
-    fn joined(
-        self,
-        alloc: Global,
-        step: &Step<'a>,
-        policy: Policy,
-        most: usize,
-    ) -> Result<Joined<Five<'a>>, ReduceFault>
-        requires { most ≤ 1000000 }
-        ensures joined { IfOk result (λ joined. MatchJoined joined
-            (λ f. BecomesFive policy (five (five_tuple self.entry)) (step_tuple step.now) f
-            × (f.tag ≡ set none → (self.entry.tag ≡ set none) × (tags_of (step_tuple step.now) ≡ [])))
-            (Stops policy (five (five_tuple self.entry)) (step_tuple step.now))) }
-        ensures which { IfOk result (λ joined. MatchJoined joined
-            (λ f. f.tag ≡ met (self.entry.tag ∷ tags_of (step_tuple step.now)))
-            (λ cause. cause ≡ Cause.NoTag → met (self.entry.tag ∷ tags_of (step_tuple step.now)) ≡ set none)) }
-        ensures too_large { IsErrOf result ReduceFault.TooLarge →
-            TooLargeFor most policy (five_tuple self.entry) (step_tuple step.now) }
-        ensures small { IfOk result (λ joined. ¬ TooLargeFor most policy (five_tuple self.entry) (step_tuple step.now)) }
-    {
-        match step {
-            Step::Auth(next) => self.into_then(alloc, next, policy, most),
-            Step::Name(definition) => self.into_resolve(definition, policy),
-        }
     }
 }

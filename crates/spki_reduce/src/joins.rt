@@ -57,36 +57,6 @@ impl<'a> Five<'a> {
         }
     }
 
-    /// Like `then`, but consumes `self`, so the unchanged part of its tag is not copied. `TooLarge` is for a product over
-    /// `most`.
-    pub(crate) fn into_then(
-        self,
-        alloc: Global,
-        next: &Five<'a>,
-        policy: Policy,
-        most: usize,
-    ) -> Result<Joined<Five<'a>>, ReduceFault>
-        requires { most ≤ 1000000 }
-        ensures joined { IfOk result (λ joined. MatchJoined joined
-            (λ f. BecomesFive policy (five (five_tuple self.entry)) (five (five_tuple next.now)) f × (f.tag ≢ set none))
-            (λ cause. Stops policy (five (five_tuple self.entry)) (five (five_tuple next.now)) cause)) }
-        ensures which { IfOk result (λ joined. MatchJoined joined
-            (λ f. f.tag ≡ meet self.entry.tag next.now.tag)
-            (λ cause. cause ≡ Cause.NoTag → meet self.entry.tag next.now.tag ≡ set none)) }
-        ensures too_large { IsErrOf result ReduceFault.TooLarge ↔
-            (JoinButForTags policy (five_tuple self.entry) (five_tuple next.now)
-            × (most < nodes self.entry.tag * nodes next.now.tag)) }
-    {
-        match self.window_with(next, policy) {
-            Err(cause) => Ok(Joined::Stopped(cause)),
-            Ok(window) => {
-                let mut tag = self.tag;
-                tag.narrow_within(alloc, &next.tag, most)?;
-                Ok(narrowed(self.issuer, tag, next, window)?)
-            }
-        }
-    }
-
     /// Resolves the first name of this authorization's subject by a name's definition (RFC 2693, section 6.4). The result
     /// has the definition's subject, and after its names the names of this one's subject, except the first. Its window is
     /// the intersection of both windows. Everything else is kept.
@@ -146,7 +116,7 @@ impl<'a> Five<'a> {
 
     /// The intersection of the windows of this authorization and the next, or the first cause why they do not join, whatever
     /// their tags are.
-    fn window_with(&self, next: &Five, policy: Policy) -> Result<Window, Cause>
+    pub(crate) fn window_with(&self, next: &Five, policy: Policy) -> Result<Window, Cause>
         ensures joins { IfOk result (λ window. Issues policy (five_tuple self.now) (five_tuple next.now)
             × (self.now.propagate ≡ true) × IsMeet self.now.window next.now.window window
             × Overlap self.now.window next.now.window) }
@@ -180,8 +150,25 @@ impl<'a> Five<'a> {
     }
 }
 
-/// The authorization with this issuer, tag and window, and with the subject and delegation of another, unless the tag is
-/// `(* set)`.
+/// The authorization with this issuer, tag and window, and with the subject and delegation of another.
+pub(crate) fn handed_on<'a>(
+    issuer: Issuer<'a>,
+    tag: Tag,
+    next: &Five<'a>,
+    window: Window,
+) -> Result<Five<'a>, AllocError>
+    ensures { IfOk result (IsHandedOn issuer.entry tag next.now window) }
+{
+    Ok(Five {
+        issuer,
+        subject: next.subject.clone()?,
+        propagate: next.propagate,
+        tag,
+        window,
+    })
+}
+
+/// The same, unless the tag is `(* set)`.
 fn narrowed<'a>(
     issuer: Issuer<'a>,
     tag: Tag,
@@ -195,13 +182,7 @@ fn narrowed<'a>(
     if tag.is_nothing() {
         return Ok(Joined::Stopped(Cause::NoTag));
     }
-    Ok(Joined::Done(Five {
-        issuer,
-        subject: next.subject.clone()?,
-        propagate: next.propagate,
-        tag,
-        window,
-    }))
+    Ok(Joined::Done(handed_on(issuer, tag, next, window)?))
 }
 
 impl<'a> Four<'a> {

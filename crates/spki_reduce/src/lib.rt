@@ -2,6 +2,7 @@
 #![tactic(auto)]
 
 mod chain;
+mod chained;
 mod fault;
 mod fold;
 mod joins;

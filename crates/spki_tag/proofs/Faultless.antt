@@ -216,7 +216,7 @@ each-octet : (octets : List ℕ) → IsBytes octets → AllByRecursion (λ octet
 each-octet [] h = tt
 each-octet (x ∷ xs) h = (h 0, each-octet xs (bytes-behind x xs h))
 
-octets-of : (octets : List ℕ) → IsBytes octets → AreOctets octets
+pub octets-of : (octets : List ℕ) → IsBytes octets → AreOctets octets
 octets-of octets h = All-from_recursion (λ octet. octet < 256) octets (each-octet octets h)
 
 abbrev RequestFor : Value → Type 0

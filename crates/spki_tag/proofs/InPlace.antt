@@ -18,7 +18,7 @@ same_or xs ys i d e =
     ap (λ n. get_or xs n d) (omega arith) ∙ sym (get_or-drop i xs 0 d) ∙ ap (λ ts. get_or ts 0 d) e
     ∙ get_or-drop i ys 0 d ∙ ap (λ n. get_or ys n d) (omega arith)
 
-any_default : (xs : List Tag) (i : ℕ) (d e : Tag) → i < length xs → get_or xs i d ≡ get_or xs i e
+pub any_default : (xs : List Tag) (i : ℕ) (d e : Tag) → i < length xs → get_or xs i d ≡ get_or xs i e
 any_default [] i d e h = absurd (omega arith)
 any_default (x ∷ xs) zero d e h = refl
 any_default (x ∷ xs) (suc i) d e h = any_default xs i d e (omega arith)
@@ -38,7 +38,7 @@ pub drop_next : (xs ys : List Tag) (i : ℕ) → drop i xs ≡ drop i ys → dro
 drop_next xs ys i e =
     ap (λ n. drop n xs) (add-one i) ∙ sym (drop_suc xs i) ∙ ap (drop 1) e ∙ drop_suc ys i ∙ ap (λ n. drop n ys) (sym (add-one i))
 
-drop_here : (xs : List Tag) (i : ℕ) (d : Tag) → i < length xs → drop i xs ≡ get_or xs i d ∷ drop (i + 1) xs
+pub drop_here : (xs : List Tag) (i : ℕ) (d : Tag) → i < length xs → drop i xs ≡ get_or xs i d ∷ drop (i + 1) xs
 drop_here xs i d h = drop-cons xs i d h ∙ ap (λ n. get_or xs i d ∷ drop n xs) (sym (add-one i))
 
 pub drop-nodes : (ts : List Tag) (i : ℕ) → nodes_all (tags (drop i ts)) ≤ nodes_all (tags ts)

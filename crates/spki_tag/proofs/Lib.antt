@@ -33,3 +33,7 @@ pub mod NamedRequests
 pub mod Faultless
 pub mod MeetEquations
 pub mod FaultShows
+pub mod ThreeLimits
+pub mod ThreeStrings
+pub mod ThreeTags
+pub mod TagChains

@@ -27,7 +27,7 @@ and_never true true f = f refl refl
 and_never true false f = refl
 and_never false b f = refl
 
-not_flipped : (a b : Bool) → a ≡ not b → b ≡ false → a ≡ true
+pub not_flipped : (a b : Bool) → a ≡ not b → b ≡ false → a ≡ true
 not_flipped a true e h = absurd (true≢false h)
 not_flipped a false e h = e
 
@@ -78,14 +78,14 @@ within_flip s x y =
     let o : IsTotalOrder (slice_cmp nat_cmp) = nat_list_cmp_total in
     ap (w s) (o.antisymm x y) ∙ flip_by s (slice_cmp nat_cmp y x)
 
-weak_by : (s t : Bool) (r : Order) → w (s || t) r ≡ true → w s r ≡ true
+pub weak_by : (s t : Bool) (r : Order) → w (s || t) r ≡ true → w s r ≡ true
 weak_by true t r h = h
 weak_by false true Less h = refl
 weak_by false true Equal h = refl
 weak_by false true Greater h = h
 weak_by false false r h = h
 
-weak_second : (s t : Bool) (r : Order) → w (s || t) r ≡ true → w t r ≡ true
+pub weak_second : (s t : Bool) (r : Order) → w (s || t) r ≡ true → w t r ≡ true
 weak_second true true r h = h
 weak_second true false Less h = refl
 weak_second true false Equal h = refl
@@ -291,7 +291,7 @@ lesser_up_at s x y h e = lesser_up_same (some_limit s x) (strict_limit (Some y))
 
 -- ---- limits at the same string
 
-cmp_same : (x y : List ℕ) → slice_cmp nat_cmp x y ≡ Equal → x ≡ y
+pub cmp_same : (x y : List ℕ) → slice_cmp nat_cmp x y ≡ Equal → x ≡ y
 cmp_same x y h = same_text x y (sym (ap is_eq h) ∙ is_eq-slice_cmp x y)
 
 low_at_same : (s t : Bool) (x y : List ℕ) → y ≡ x → slice_cmp nat_cmp y x ≡ Equal

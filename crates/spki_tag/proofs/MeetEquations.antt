@@ -64,7 +64,7 @@ set_rule a b h k j n =
 
 -- ---- strings
 
-same_string : (s x : List ℕ)
+pub same_string : (s x : List ℕ)
     → (if bytes_eq s x then string x else nothing) ≡ (if bytes_eq x s then string s else nothing)
 same_string s x = by (bytes_eq s x) (bytes_eq x s) refl refl
   where

@@ -203,7 +203,7 @@ mutual
       (meet-normal t u (its_normal (is_nothing t) (is_normal t) r m) (its_normal (is_nothing u) (is_normal u) s n))
       (each_meet-normal ts us (rest_normal (is_nothing t) (is_normal t) r m) (rest_normal (is_nothing u) (is_normal u) s n))
 
-  pairs-normal : (ms bs : Tags) → each_normal is_set_or_star ms ≡ true → each_normal is_set_or_star bs ≡ true
+  pub pairs-normal : (ms bs : Tags) → each_normal is_set_or_star ms ≡ true → each_normal is_set_or_star bs ≡ true
       → each_normal is_set_or_star (tags (pairs ms bs)) ≡ true
   pairs-normal none bs m n = refl
   pairs-normal (more a ms) bs m n =

@@ -39,10 +39,10 @@ eq_self c = eq-eqb c c refl
 eq_other : (c d : ℕ) → (c ≡ d → ⊥) → nat_eq c d ≡ false
 eq_other c d n = ne_eqb c d n
 
-cmp_self : (c : ℕ) → nat_cmp c c ≡ Equal
+pub cmp_self : (c : ℕ) → nat_cmp c c ≡ Equal
 cmp_self c = sym (nat_cmp_is c c Equal refl)
 
-cmp_less : (c d : ℕ) → c < d → nat_cmp c d ≡ Less
+pub cmp_less : (c d : ℕ) → c < d → nat_cmp c d ≡ Less
 cmp_less c d h = sym (nat_cmp_is c d Less h)
 
 cmp_greater : (c d : ℕ) → d < c → nat_cmp c d ≡ Greater

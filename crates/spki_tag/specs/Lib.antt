@@ -21,3 +21,5 @@ pub mod Merged
 pub mod TagForms
 pub mod Inner
 pub mod Rows
+pub mod OfOctets
+pub mod Chained

@@ -376,7 +376,7 @@ fn meet_list(
 
 /// Returns the intersection of two tags, and consumes the first.
 #[cycle(narrowing)]
-fn meet_owned(alloc: Global, one: Tag, other: &Tag) -> Result<Tag, AllocError>
+pub(crate) fn meet_owned(alloc: Global, one: Tag, other: &Tag) -> Result<Tag, AllocError>
     requires { nodes one * nodes other.now ≤ most_nodes }
     ensures { IfOk result (λ c. c ≡ meet one other.now) }
 {

@@ -119,7 +119,7 @@ fn stays_in_prefix(
     !exclude(low, up)
 }
 
-/// Whether two ranges are known to have no string in common, by their orderings and limits.
+/// Whether the intersection of two ranges is `(* set)`, by their orderings and limits.
 fn are_ranges_apart(
     ordering: RangeOrdering,
     low: &Option<Limit>,
@@ -128,8 +128,8 @@ fn are_ranges_apart(
     other_low: &Option<Limit>,
     other_up: &Option<Limit>,
 ) -> bool
-    ensures { IsTrue result → ranged (ordering_meet (ordering_of ordering) (ordering_of other))
-        (greater_low (limit_of low.now) (limit_of other_low.now)) (lesser_up (limit_of up.now) (limit_of other_up.now)) ≡ nothing }
+    ensures { result ≡ is_nothing (ranged (ordering_meet (ordering_of ordering) (ordering_of other))
+        (greater_low (limit_of low.now) (limit_of other_low.now)) (lesser_up (limit_of up.now) (limit_of other_up.now))) }
 {
     match common_ordering(ordering, other) {
         None => true,
@@ -139,7 +139,7 @@ fn are_ranges_apart(
 
 /// Whether neither of two prefixes starts with the other.
 fn are_prefixes_apart(one: &Prefix, other: &Prefix) -> bool
-    ensures { IsTrue result → prefixes_meet one.now other.now ≡ nothing }
+    ensures { result ≡ is_nothing (prefixes_meet one.now other.now) }
 {
     !one.octets().starts_with(other.octets()) && !other.octets().starts_with(one.octets())
 }
@@ -170,9 +170,9 @@ impl Leaf {
         }
     }
 
-    /// Whether the intersection of a tag without members with another is known to be `(* set)`, without making anything.
+    /// Whether the intersection of a tag without members with another is `(* set)`, without making anything.
     pub(crate) fn is_apart(&self, other: &Leaf) -> bool
-        ensures { IsTrue result → meet (leaf_tag self.now) (leaf_tag other.now) ≡ nothing }
+        ensures { result ≡ is_nothing (meet (leaf_tag self.now) (leaf_tag other.now)) }
     {
         match self {
             Leaf::Star => false,
@@ -181,7 +181,7 @@ impl Leaf {
                 Leaf::Star => false,
                 Leaf::String(octets) => !self.holds(octets.as_slice()),
                 Leaf::Prefix(second) => are_prefixes_apart(prefix, second),
-                Leaf::Range(_, _, _) => false,
+                Leaf::Range(_, low, up) => prefix.is_outside(low, up),
             },
             Leaf::Range(ordering, low, up) => match other {
                 Leaf::Star => false,

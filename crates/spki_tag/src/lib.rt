@@ -25,6 +25,7 @@ mod reader;
 mod request;
 mod sets;
 mod tag;
+mod tag_chain;
 mod writer;
 
 pub use fault::{MeetFault, TagFault};
@@ -35,3 +36,4 @@ pub use merge::merged;
 pub use moment::{is_date, is_time};
 pub use request::Ground;
 pub use tag::Tag;
+pub use tag_chain::TagChain;

@@ -6,7 +6,8 @@ ghost use Rattle.spki_tag.specs.Leaves.{limit_of};
 ghost use Rattle.spki_tag.specs.Meet.{exclude, greater_low, lesser_up, least_above, from, nothing, prefixes_meet, strict_limit};
 ghost use Rattle.spki_tag.specs.Tag.{prefix};
 
-use crate::leaf::{Limit, SharedOctets, is_within};
+use crate::leaf::{Limit, SharedOctets, are_octets, is_within};
+use crate::limit_intersection::exclude;
 use std::alloc::{AllocError, Global};
 use std::marker::Model;
 use std::sync::ArcSlice;
@@ -100,13 +101,21 @@ impl Prefix {
         Ok(false)
     }
 
-    /// Whether two limits are known to exclude each other together with those of the strings that start with the prefix.
-    #[tactic(auto, using(crate::proofs::Limits::ended_before, crate::proofs::Limits::begun_behind))]
+    /// Whether two limits exclude each other together with those of the strings that start with the prefix.
     pub(crate) fn is_outside(&self, low: &Option<Limit>, up: &Option<Limit>) -> bool
-        ensures { IsTrue result → exclude (greater_low (limit_of low.now) (from self.now))
-            (lesser_up (limit_of up.now) (strict_limit (least_above self.now))) ≡ true }
+        ensures behind { result ≡ exclude (greater_low (limit_of low.now) (from self.now))
+            (lesser_up (limit_of up.now) (strict_limit (least_above self.now))) }
+        ensures before { result ≡ exclude (greater_low (from self.now) (limit_of low.now))
+            (lesser_up (strict_limit (least_above self.now)) (limit_of up.now)) }
     {
-        self.is_behind(up) || self.is_before(low)
+        are_octets(self.octets());
+        if self.is_behind(up) {
+            return true;
+        }
+        if self.is_before(low) {
+            return true;
+        }
+        exclude(low, up)
     }
 
     /// Whether an upper limit is below all strings that start with the prefix.

@@ -1,7 +1,7 @@
 //! The intersection of tags.
 
 use crate::tags::texts::{list_of, tag_of, text_of};
-use spki_tag::{MeetFault, Tag};
+use spki_tag::{MeetFault, Tag, TagChain};
 use std::alloc::{AllocError, Global};
 use std::process::Abort;
 use std::test::Fail;
@@ -52,6 +52,39 @@ const MIXTURES: &[Row] = &[
         b"(1:*6:prefix1:1)",
         b"(1:*5:range4:time2:ge8:09:00:002:le8:17:00:00)",
         b"(1:*5:range4:time2:ge1:12:le8:17:00:00)",
+    ),
+];
+
+/// The members of a set that is large enough to wait, each in turn.
+const WAITING: &[u8] = b"1:c(1:*6:prefix1:c)(1:*5:range5:alpha2:ge1:a)";
+
+/// Two tags that such a set is intersected with in turn, and what is left of the members.
+const IN_TURN: &[Row] = &[
+    (
+        b"(1:*5:range5:alpha2:ge1:b)",
+        b"(1:*6:prefix1:c)",
+        b"1:c(1:*5:range5:alpha2:ge1:c1:l1:d)(1:*5:range5:alpha2:ge1:c1:l1:d)",
+    ),
+    (
+        b"(1:*6:prefix1:c)",
+        b"(1:*6:prefix2:cc)",
+        b"(1:*6:prefix2:cc)(1:*5:range5:alpha2:ge2:cc1:l2:cd)",
+    ),
+    (
+        b"(1:*5:range5:alpha2:ge1:b)",
+        b"(1:*)",
+        b"1:c(1:*5:range5:alpha2:ge1:c1:l1:d)(1:*5:range5:alpha2:ge1:b)",
+    ),
+    (b"(1:*5:range5:alpha2:ge1:b)", b"1:c", b"1:c1:c1:c"),
+    (
+        b"(1:*5:range5:alpha2:ge1:b)",
+        b"(1:*3:set1:c1:d)",
+        b"1:c1:c1:c1:d",
+    ),
+    (
+        b"(1:*5:range5:alpha2:ge1:b)",
+        b"(1:*5:range5:alpha1:l1:b)",
+        b"",
     ),
 ];
 
@@ -107,6 +140,38 @@ fn meet_ranges(rt: HostRuntime) -> Result<(), Fail> {
 #[test]
 fn meet_mixtures(rt: HostRuntime) -> Result<(), Fail> {
     all_meet(&rt, rt.alloc(), MIXTURES)
+}
+
+/// The text of the intersection of a tag with two others, one after the other.
+fn text_in_turn(alloc: Global, one: Tag, second: &Tag, third: &Tag) -> Result<Vec<u8>, Fail> {
+    let both = TagChain::of(one).then(alloc, second, 1_000_000)?;
+    let all = both.then(alloc, third, 1_000_000)?;
+    Ok(text_of(alloc, &all.into_tag(alloc)?)?)
+}
+
+/// The same for the tags with these texts.
+fn met_in_turn(
+    rt: &impl Abort,
+    alloc: Global,
+    one: &[u8],
+    second: &[u8],
+    third: &[u8],
+) -> Result<Vec<u8>, Fail> {
+    let second = tag_of(rt, alloc, second)?;
+    let third = tag_of(rt, alloc, third)?;
+    text_in_turn(alloc, tag_of(rt, alloc, one)?, &second, &third)
+}
+
+#[test]
+fn meet_in_turn(rt: HostRuntime) -> Result<(), Fail> {
+    let alloc = rt.alloc();
+    let set = list_of(alloc, b"(1:*3:set", WAITING, 7)?;
+    for (second, third, left) in IN_TURN {
+        let met = met_in_turn(&rt, alloc, &set, second, third)?;
+        let wanted = list_of(alloc, b"(1:*3:set", left, 7)?;
+        assert!(rt; met.as_slice() == wanted.as_slice(), "{second:?} {third:?}");
+    }
+    Ok(())
 }
 
 fn is_intersection_too_large(alloc: Global, one: &Tag, other: &Tag) -> bool {
