@@ -159,16 +159,29 @@ def large_tag_and_set(entries, certificates, members):
     return large_tag(entries, certificates, int(members / 3 ** 0.5), SET_OF_TWO)
 
 
+def between(place):
+    """A range that lies within that of the place before."""
+    return group(*map(string, ("*", "range", "alpha", "g", f"a{10_000 + place}", "l", f"a{99_999 - place}")))
+
+
+def after_large(large, tags):
+    """An entry and a certificate for a large tag, and certificates for these tags."""
+    certs = [certificate(OWNER, OWNER, tag) for tag in (large, *tags)]
+    return asked([entry(OWNER, large)], [row(cert, OWNER) for cert in certs], [shown(cert, OWNER) for cert in certs])
+
+
 def narrowed_ranges(entries, certificates, members):
     """Two sets whose intersection has the most ranges, and certificates for ranges, each of which lies within the one before it: so each
     changes both limits of all ranges."""
-    def between(place):
-        return group(*map(string, ("*", "range", "alpha", "g", f"a{10_000 + place}", "l", f"a{99_999 - place}")))
+    return after_large(a_set(RANGE, members), map(between, range(certificates)))
 
-    large = a_set(RANGE, members)
-    certs = [certificate(OWNER, OWNER, between(place)) for place in range(certificates)]
-    return asked([entry(OWNER, large)], [row(cert, OWNER) for cert in (certificate(OWNER, OWNER, large), *certs)],
-                 [shown(cert, OWNER) for cert in (certificate(OWNER, OWNER, large), *certs)])
+
+def ranges_and_sets_of_two(entries, certificates, members):
+    """The same with certificates for sets of two ranges, of which one has nothing in common with the others. Such a set has 3 nodes: so there
+    are fewer members."""
+    low, high = (group(*map(string, ("*", "range", "alpha", word, "b"))) for word in ("l", "g"))
+    sets = (group(string("*"), string("set"), between(place), high) for place in range(certificates))
+    return after_large(a_set(low, int(members / 3 ** 0.5)), sets)
 
 
 @dataclass(frozen=True)

@@ -1,14 +1,14 @@
 //! How many steps a tag can be intersected with before nothing is left or a step is too large, apart from everything else that stops
 //! a chain.
 
-ghost use Rattle.std.specs.Prelude.{ℕ, ◌+◌, ◌<◌, ◌≤◌, length, IfOk, IfSome, MatchOption};
+ghost use Rattle.std.specs.Prelude.{ℕ, ◌+◌, ◌<◌, ◌≤◌, length, IfErr, IfOk};
 ghost use Rattle.spki_tag.specs.Tag.{Tag};
 ghost use Rattle.spki_reduce.specs.Chain.{tuples_of};
 ghost use Rattle.spki_decision.specs.SharedFolds.{IsRun, ReachesTo};
 ghost use Rattle.spki_decision.specs.declared.tag_run.TagRun.TheVariants.{Through};
 
 use spki_reduce::Step;
-use spki_tag::{MeetFault, Tag};
+use spki_tag::{MeetFault, Tag, TagChain};
 use std::alloc::{AllocError, Global};
 
 /// How far steps go with a tag.
@@ -88,46 +88,50 @@ fn through<'a>(
         → IfOk result (IsRun most first (tuples_of steps.now)) }
     ensures reached { IfOk result (ReachesTo to) }
 {
-    let mut left = tag;
+    let mut left = TagChain::of(tag);
     let mut done = count;
     while done < to {
-        match end_at(alloc, &mut left, done, steps, most)? {
-            Some(ended) => return Ok(ended),
-            None => done += 1,
+        match left_by(alloc, left, done, steps, most)? {
+            Ok(next) => {
+                left = next;
+                done += 1;
+            }
+            Err(ended) => return Ok(ended),
         }
     }
     Ok(TagRun::Through {
-        tag: left,
+        tag: left.into_tag(alloc)?,
         count: done,
     })
 }
 
-/// Narrows the tag that the steps before a place leave by the tag of the step at this place. Returns the run if it ends there.
-fn end_at<'a>(
+/// What the step at a place leaves of the tag that the steps before it leave, or the run if it ends there.
+fn left_by<'a>(
     alloc: Global,
-    tag: &mut Tag,
+    tag: TagChain,
     place: usize,
     steps: &[Step<'a>],
     most: usize,
-) -> Result<Option<TagRun>, AllocError>
+) -> Result<Result<TagChain, TagRun>, AllocError>
     requires limit { most ≤ 1000000 }
     requires within { place < length steps.now }
-    ensures run { (first : Tag) → IsRun most first (tuples_of steps.now) (Through tag.old place)
-        → IfOk result (λ end. MatchOption end (IsRun most first (tuples_of steps.now) (Through tag.new (place + 1)))
-        (IsRun most first (tuples_of steps.now))) }
-    ensures ended { (to : ℕ) → IfOk result (λ end. IfSome end (ReachesTo to)) }
+    ensures left { (first : Tag) → IsRun most first (tuples_of steps.now) (Through tag place)
+        → IfOk result (λ next. IfOk next (λ left. IsRun most first (tuples_of steps.now) (Through left (place + 1)))) }
+    ensures ended { (first : Tag) → IsRun most first (tuples_of steps.now) (Through tag place)
+        → IfOk result (λ next. IfErr next (IsRun most first (tuples_of steps.now))) }
+    ensures reached { (to : ℕ) → IfOk result (λ next. IfErr next (ReachesTo to)) }
 {
     let Step::Auth(five) = &steps[place] else {
-        return Ok(None);
+        return Ok(Ok(tag));
     };
-    match tag.narrow_within(alloc, &five.tag, most) {
-        Ok(()) => {
-            if tag.is_nothing() {
-                return Ok(Some(TagRun::Nothing { place }));
+    match tag.then(alloc, &five.tag, most) {
+        Ok(next) => {
+            if next.is_nothing() {
+                return Ok(Err(TagRun::Nothing { place }));
             }
-            Ok(None)
+            Ok(Ok(next))
         }
-        Err(MeetFault::TooLarge) => Ok(Some(TagRun::TooLarge { place })),
+        Err(MeetFault::TooLarge) => Ok(Err(TagRun::TooLarge { place })),
         Err(MeetFault::Memory) => Err(AllocError),
     }
 }
