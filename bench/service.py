@@ -44,8 +44,7 @@ SECONDS = 600
 MOST = {"10,000 keys, no certificate": 1.5, "10,000 keys, three certificates": 1.5, "10,000 hashes, no certificate": 1.5,
         "10,000 hashes, three certificates": 1.5, "opening 1 MiB": 1.3, "instructions of a case": 96_000, "three caveats": 1.0, "Rust": 1.1,
         "Python, µs more": 20.0, "a question, ms": 100.0, "a question, MiB": 16.0, "a question on tags of their own, ms": 600.0,
-        "a question on tags of their own, MiB": 16.5, "a question on ranges, ms": 250.0, "a question on ranges, MiB": 16.0,
-        "waits of 1,000 decisions": 1.0}
+        "a question on tags of their own, MiB": 16.5, "waits of 1,000 decisions": 1.0}
 LEAST = {"threads": 3.5}
 # What the library's statuses say.
 ANSWERS = {0: "yes", 1: "no", 2: "refused", 6: "done"}
@@ -247,14 +246,13 @@ def one_question(driver, what, text, enough):
 
 def widest(driver):
     """The most milliseconds and MiB of one question. Apart from the others stand those on lists whose entries have many or large tags of
-    their own, each of which is narrowed by each certificate that a stranger shows, and the question whose certificates are for sets that change many
-    ranges each. README.md has the figures under "Limits"."""
+    their own, each of which is narrowed by each certificate that a stranger shows. README.md has the figures under "Limits"."""
     shapes = [shape for shape in SHAPES if shape.make is not entries_with_own_tags]
-    known = [widest_of(shape) for shape in (*shapes, LARGE_TAG, LARGE_TAG_AND_RANGE, LARGE_TAG_AND_SET)]
+    ranges = [Shape("", make) for make in (narrowed_ranges, ranges_and_sets_of_two)]
+    known = [widest_of(shape) for shape in (*shapes, LARGE_TAG, LARGE_TAG_AND_RANGE, LARGE_TAG_AND_SET, *ranges)]
     known += [(f"large tags: {what}", text) for what, text in large_tags()]
     own = [widest_of(Shape("", make)) for make in (entries_with_own_tags, ten_large_sets)]
-    ranges = [widest_of(Shape("", make)) for make in (narrowed_ranges, ranges_and_sets_of_two)]
-    for whose, texts in (("a question", known), ("a question on tags of their own", own), ("a question on ranges", ranges)):
+    for whose, texts in (("a question", known), ("a question on tags of their own", own)):
         met = [each for what, text in texts for each in one_question(driver, what, text, MOST[f"{whose}, ms"])]
         yield f"{whose}, ms", max(milliseconds for milliseconds, _ in met)
         yield f"{whose}, MiB", max(mebibytes for _, mebibytes in met)
