@@ -9,6 +9,7 @@
  * For counting instructions:
  *
  * service repeat FILE CALLS     CALLS decisions through one guard
+ * service ask FILE CALLS        CALLS times the signatures listed and a decision
  * service reopen LIST CALLS     CALLS guards of a list
  * service answer CASE CALLS     CALLS decisions of a case, each from its text */
 #define _GNU_SOURCE
@@ -214,6 +215,14 @@ static void repeat(const char *path, long calls)
             exit(4);
 }
 
+static void ask(const char *path, long calls)
+{
+    struct held held = held_in(path, NULL);
+    for (long i = 0; i < calls; i++)
+        if (list_signed(&held) != SPKI_DONE || decided(&held) != SPKI_YES)
+            exit(4);
+}
+
 static void reopen(const char *path, long calls)
 {
     struct spki_text list = whole_file(path);
@@ -244,6 +253,8 @@ int main(int count, char **words)
         ask_by_threads((size_t)strtoul(words[2], NULL, 10), words[3]);
     else if (!strcmp(way, "repeat") && count > 3)
         repeat(words[2], strtol(words[3], NULL, 10));
+    else if (!strcmp(way, "ask") && count > 3)
+        ask(words[2], strtol(words[3], NULL, 10));
     else if (!strcmp(way, "reopen") && count > 3)
         reopen(words[2], strtol(words[3], NULL, 10));
     else if (!strcmp(way, "answer") && count > 3)

@@ -6,11 +6,12 @@
 - A decision by three certificates from the text of a case, and one through a guard beside libmacaroons' verification of a macaroon with three
   caveats. Where libmacaroons is not there (Debian: libmacaroons-dev) this is left out.
 - With limits of 64 KiB and 10,000 nodes, the time and the memory of the widest questions that are known, with lists of up to 1 MiB.
-- A decision through the bindings for Rust and Python, beside the call in C. Where `cargo` is not there Rust is left out.
+- A decision through the bindings for Rust and Python, beside the calls in C. Where `cargo` is not there Rust is left out.
 - The decisions of 8 threads, each with a guard of its own, beside those of one, as on four free cores: how many cores are free is how far
   8 threads count beside one. A thread that decides must not wait for another one.
 
-The first three are compared by instructions, and where valgrind is not there they are left out; the questions by processor time.
+The first three and Rust are compared by instructions, and where valgrind is not there they are left out; the questions by processor time.
+Other programs only add to a time. So each time is the least of some turns, and while it is over its limit, of more turns with pauses.
 All ratios are taken in one run. Build the library first (crates/spki_c/archive.py).
 Usage: bench/service.py [LIBRARY]
 """
@@ -35,9 +36,9 @@ from support import BENCH, LIBRARY, TOP, canonical, read  # noqa: E402
 FLAGS = ["-std=c11", "-O2", "-Wall", "-Wextra", "-Wpedantic", "-Werror", "-pthread"]
 ENTRIES = 10_000
 THREADS, CORES = 8, 4
-ROUNDS, CALLS, TURNS = 40, 50, 3
-# A question that takes too long is asked up to so often, since the same run can take twice as long while other programs run.
-MOST_TURNS = 10
+ROUNDS, CALLS = 40, 50
+# How often a time is taken, at least and at most, and the seconds of a pause.
+TURNS, MOST_TURNS, PAUSE = 3, 20, 10
 # The limits of a guard for strangers' questions: octets, and the members of two sets or lists whose product of nodes is 10,000.
 QUESTION_OCTETS, QUESTION_MEMBERS = 65_536, 99
 SECONDS = 600
@@ -140,20 +141,8 @@ def beside_macaroons(driver):
     yield "three caveats", decision / verification
 
 
-def by_instructions(driver):
-    """What is compared by instructions, where they can be counted."""
-    if counter() is counted_by_valgrind and shutil.which("valgrind") is None:
-        print("valgrind is not there (Debian: valgrind): what is compared by instructions is left out")
-        return
-    for part in (many_entries, opened, from_text, beside_macaroons):
-        yield from part(driver)
-
-
 def built_in_rust(driver):
-    """The program of service.rs, or None where there is no `cargo`."""
-    if shutil.which("cargo") is None:
-        print("cargo is not there (Debian: cargo): the decision through Rust is left out")
-        return None
+    """The program of service.rs."""
     crate = os.path.join(driver.room, "rust")
     os.makedirs(crate)
     with open(os.path.join(crate, "Cargo.toml"), "w", encoding="utf-8") as file:
@@ -174,7 +163,37 @@ spki = {{ path = "{TOP}/bindings/rust" }}
     return os.path.join(crate, "target", "release", "service")
 
 
-def through_python(driver, text):
+def through_rust(driver):
+    """The ratio of a decision through Rust to the two calls in C, where there is `cargo`."""
+    if shutil.which("cargo") is None:
+        print("cargo is not there (Debian: cargo): the decision through Rust is left out")
+        return
+    path = driver.question("three", with_three(1))
+    calls, rust = driver.instructions("ask", path), of_one_call(counter(), [built_in_rust(driver), path])
+    print(f"signatures listed and a decision: in C {calls:,.0f} instructions, through Rust {rust:,.0f}", flush=True)
+    yield "Rust", rust / calls
+
+
+def by_instructions(driver):
+    """What is compared by instructions, where they can be counted."""
+    if counter() is counted_by_valgrind and shutil.which("valgrind") is None:
+        print("valgrind is not there (Debian: valgrind): what is compared by instructions is left out")
+        return
+    for part in (many_entries, opened, from_text, beside_macaroons, through_rust):
+        yield from part(driver)
+
+
+def turns(is_kept_now):
+    """The numbers of the turns that a time is taken in: some, and more with pauses until its limit is kept."""
+    for turn in range(MOST_TURNS):
+        if turn >= TURNS:
+            if is_kept_now():
+                return
+            time.sleep(PAUSE)
+        yield turn
+
+
+def time_through_python(driver, text):
     """The least µs of a decision through Python."""
     os.environ["SPKI_LIBRARY"] = driver.library.removesuffix(".a") + ".so"
     sys.path.insert(1, os.path.join(TOP, "bindings", "python"))
@@ -192,21 +211,15 @@ def through_python(driver, text):
     return least * 1e6
 
 
-def bindings(driver):
-    """What a decision takes through the bindings, beside the two calls in C. All are timed by turns."""
-    text = with_three(1)
-    path, rust = driver.question("three", text), built_in_rust(driver)
-    met = {"C": [], "Rust": [], "Python": []}
-    for _ in range(TURNS):
-        met["C"].append(sum(driver.run("decide", path)))
-        met["Python"].append(through_python(driver, text))
-        if rust:
-            met["Rust"].append(float(subprocess.run([rust, path], stdout=subprocess.PIPE, check=True, text=True).stdout))
-    least = {name: min(times) for name, times in met.items() if times}
-    print("signatures listed and a decision: " + ", ".join(f"through {name} {took:.1f} µs" for name, took in least.items()))
-    if rust:
-        yield "Rust", least["Rust"] / least["C"]
-    yield "Python, µs more", least["Python"] - least["C"]
+def through_python(driver):
+    """What a decision through Python takes more than the two calls in C."""
+    what, text = "Python, µs more", with_three(1)
+    path, calls, python = driver.question("three", text), [], []
+    for _ in turns(lambda: min(python) - min(calls) <= MOST[what]):
+        calls.append(sum(driver.run("decide", path)))
+        python.append(time_through_python(driver, text))
+    print(f"signatures listed and a decision: in C {min(calls):.1f} µs, through Python {min(python):.1f} µs", flush=True)
+    yield what, min(python) - min(calls)
 
 
 def question_of(text):
@@ -229,17 +242,22 @@ def ten_large_sets(entries, certificates, members):
     return canonical(value)
 
 
+def one_answer(driver, wish, path, enough):
+    """The status, the milliseconds, those of them that list the signatures, and the MiB of an answer to the question of a file: the
+    turn that takes the least time."""
+    runs = []
+    for _ in turns(lambda: min(took for _, took, *_ in runs) <= enough):
+        runs.append(driver.run("widest", wish, path))
+    return min(runs, key=lambda run: run[1])
+
+
 def one_question(driver, what, text, enough):
-    """The milliseconds and the MiB of each kind of answer to one question: the best of some runs, and of more if all of them take over
-    `enough` milliseconds."""
+    """The milliseconds and the MiB of each kind of answer to one question."""
     path = driver.question("wide", text)
     listed, asked = len(parts_of(text)[0]), question_of(text)
     print(f"{what}: list of {listed:,} octets, question of {asked:,}")
     for wish in ("decide", "explain", "reduce"):
-        runs = []
-        while len(runs) < TURNS or len(runs) < MOST_TURNS and min(took for _, took, *_ in runs) > enough:
-            runs.append(driver.run("widest", wish, path))
-        status, milliseconds, listing, mebibytes = min(runs, key=lambda run: run[1])
+        status, milliseconds, listing, mebibytes = one_answer(driver, wish, path, enough)
         print(f"    {wish}: {ANSWERS[status]}, {milliseconds:.1f} ms, of which {listing:.1f} list the signatures, {mebibytes:.1f} MiB", flush=True)
         yield milliseconds, mebibytes
 
@@ -285,7 +303,7 @@ def main():
     library = os.path.abspath(sys.argv[1] if len(sys.argv) > 1 else LIBRARY)
     with tempfile.TemporaryDirectory() as room:
         driver = Driver(room, library)
-        met = [each for part in (by_instructions, bindings, widest, threads) for each in part(driver)]
+        met = [each for part in (by_instructions, through_python, widest, threads) for each in part(driver)]
     if not all([is_kept(*each) for each in met]):
         sys.exit(1)
 

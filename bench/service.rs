@@ -1,10 +1,6 @@
-//! Times a decision through the crate `spki`, as `service.c` times the calls in C, and prints it in microseconds. The file that is given
-//! has the parts of a question, as `question.h` reads them. Every signature counts as verified.
+//! Makes decisions through the crate `spki`, as `service.c` makes them in C by its way `ask`. The file that is given has the parts of a
+//! question, as `question.h` reads them, and then follows how many decisions. Every signature counts as verified.
 use spki::{Guard, Limits, Moment, Policy, Question, Request};
-use std::time::Instant;
-
-const ROUNDS: usize = 40;
-const CALLS: u32 = 50;
 
 /// The texts of a file: of each its number of octets on a line, and the octets.
 fn texts_in(mut rest: &[u8]) -> Vec<&[u8]> {
@@ -20,17 +16,12 @@ fn texts_in(mut rest: &[u8]) -> Vec<&[u8]> {
 
 fn main() {
     let path = std::env::args().nth(1).expect("the name of a file");
+    let calls: u32 = std::env::args().nth(2).and_then(|word| word.parse().ok()).expect("a number");
     let octets = std::fs::read(path).expect("the file");
     let texts = texts_in(&octets);
     let guard = Guard::read(texts[0], Policy::Strict, Limits::default()).expect("an access list");
     let question = Question { sequence: texts[1], key: texts[2], request: Request::Text(texts[3]), moment: Moment::Text(texts[4]) };
-    let mut least = f64::INFINITY;
-    for _ in 0..ROUNDS {
-        let begun = Instant::now();
-        for _ in 0..CALLS {
-            assert!(guard.decide(&question, |_, _, _| true).expect("a question").is_yes());
-        }
-        least = least.min(begun.elapsed().as_secs_f64() * 1e6 / f64::from(CALLS));
+    for _ in 0..calls {
+        assert!(guard.decide(&question, |_, _, _| true).expect("a question").is_yes());
     }
-    println!("{least:.2}");
 }

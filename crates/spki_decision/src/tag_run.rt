@@ -1,7 +1,7 @@
 //! How many steps a tag can be intersected with before nothing is left or a step is too large, apart from everything else that stops
 //! a chain.
 
-ghost use Rattle.std.specs.Prelude.{ℕ, ◌+◌, ◌<◌, ◌≤◌, length, IfErr, IfOk};
+ghost use Rattle.std.specs.Prelude.{ℕ, ◌+◌, ◌<◌, ◌≤◌, length, IfNone, IfOk, IfSome};
 ghost use Rattle.spki_tag.specs.Tag.{Tag};
 ghost use Rattle.spki_reduce.specs.Chain.{tuples_of};
 ghost use Rattle.spki_decision.specs.SharedFolds.{IsRun, ReachesTo};
@@ -91,13 +91,10 @@ fn through<'a>(
     let mut left = TagChain::of(tag);
     let mut done = count;
     while done < to {
-        match left_by(alloc, left, done, steps, most)? {
-            Ok(next) => {
-                left = next;
-                done += 1;
-            }
-            Err(ended) => return Ok(ended),
+        if let Some(ended) = narrow_by(alloc, &mut left, done, steps, most)? {
+            return Ok(ended);
         }
+        done += 1;
     }
     Ok(TagRun::Through {
         tag: left.into_tag(alloc)?,
@@ -105,33 +102,33 @@ fn through<'a>(
     })
 }
 
-/// What the step at a place leaves of the tag that the steps before it leave, or the run if it ends there.
-fn left_by<'a>(
+/// Narrows what the steps before a place leave of a tag to what the step there leaves of it, or returns the run if it ends there.
+fn narrow_by<'a>(
     alloc: Global,
-    tag: TagChain,
+    tag: &mut TagChain,
     place: usize,
     steps: &[Step<'a>],
     most: usize,
-) -> Result<Result<TagChain, TagRun>, AllocError>
+) -> Result<Option<TagRun>, AllocError>
     requires limit { most ≤ 1000000 }
     requires within { place < length steps.now }
-    ensures left { (first : Tag) → IsRun most first (tuples_of steps.now) (Through tag place)
-        → IfOk result (λ next. IfOk next (λ left. IsRun most first (tuples_of steps.now) (Through left (place + 1)))) }
-    ensures ended { (first : Tag) → IsRun most first (tuples_of steps.now) (Through tag place)
-        → IfOk result (λ next. IfErr next (IsRun most first (tuples_of steps.now))) }
-    ensures reached { (to : ℕ) → IfOk result (λ next. IfErr next (ReachesTo to)) }
+    ensures left { (first : Tag) → IsRun most first (tuples_of steps.now) (Through tag.old place)
+        → IfOk result (λ ended. IfNone ended (IsRun most first (tuples_of steps.now) (Through tag.new (place + 1)))) }
+    ensures ended { (first : Tag) → IsRun most first (tuples_of steps.now) (Through tag.old place)
+        → IfOk result (λ ended. IfSome ended (IsRun most first (tuples_of steps.now))) }
+    ensures reached { (to : ℕ) → IfOk result (λ ended. IfSome ended (ReachesTo to)) }
 {
     let Step::Auth(five) = &steps[place] else {
-        return Ok(Ok(tag));
+        return Ok(None);
     };
-    match tag.then(alloc, &five.tag, most) {
-        Ok(next) => {
-            if next.is_nothing() {
-                return Ok(Err(TagRun::Nothing { place }));
+    match tag.narrow_within(alloc, &five.tag, most) {
+        Ok(()) => {
+            if tag.is_nothing() {
+                return Ok(Some(TagRun::Nothing { place }));
             }
-            Ok(Ok(next))
+            Ok(None)
         }
-        Err(MeetFault::TooLarge) => Ok(Err(TagRun::TooLarge { place })),
+        Err(MeetFault::TooLarge) => Ok(Some(TagRun::TooLarge { place })),
         Err(MeetFault::Memory) => Err(AllocError),
     }
 }

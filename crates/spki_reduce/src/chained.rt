@@ -121,11 +121,11 @@ impl<'a> Chained<'a> {
         ensures small { IfOk result (λ joined. ¬ (JoinButForTags policy (five_tuple (whole self.entry)) (five_tuple next.now)
             × (most < nodes (whole self.entry).tag * nodes next.now.tag))) }
     {
-        let bare = self.bare;
+        let Chained { bare, mut tag } = self;
         match bare.window_with(next, policy) {
             Err(cause) => Ok(Joined::Stopped(cause)),
             Ok(window) => {
-                let tag = self.tag.then(alloc, &next.tag, most)?;
+                tag.narrow_within(alloc, &next.tag, most)?;
                 Ok(narrowed(bare.issuer, tag, next, window)?)
             }
         }

@@ -14,6 +14,7 @@ use Rattle.spki_tag.specs.Meet.{nothing, kept, row, gather, meet, pairs}
 use Rattle.spki_tag.proofs.Bounds.{meet-le}
 use Rattle.spki_tag.proofs.Exact.{not_barred, rest_normal, second_true, tags-items}
 use Rattle.spki_tag.proofs.InPlace.{any_default, drop_here, kept_none, set-met}
+use Rattle.spki_tag.proofs.MeetEquations.{star_rule}
 use Rattle.spki_tag.proofs.MeetNormal.{pairs-normal}
 use Rattle.spki_tag.proofs.ThreeStrings.{of_normal, strings_left, then_nothing}
 use Rattle.spki_tag.proofs.ThreeTags.{AreSingle, IsSingle, all-brackets, are_single, meet-brackets, pairs-append, pairs_brackets}
@@ -248,6 +249,15 @@ all_apart tag w ms i same h k past none_before =
 
 pub normal_of : (n t : Tag) → n ≡ t → IsNormalTag n → is_normal t ≡ true
 normal_of n t e h = ap is_normal (sym e) ∙ h.normal
+
+-- a tag that waits for everything waits for nothing
+pub with_everything : (t w : Tag) → is_star w ≡ true → meet t w ≡ t
+with_everything t star h = (star_rule t).1
+with_everything t (string s) h = absurd (true≢false (sym h))
+with_everything t (prefix p) h = absurd (true≢false (sym h))
+with_everything t (range o l u) h = absurd (true≢false (sym h))
+with_everything t (list head ts) h = absurd (true≢false (sym h))
+with_everything t (set ts) h = absurd (true≢false (sym h))
 
 -- ---- tags without members, and nodes
 

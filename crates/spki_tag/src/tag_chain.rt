@@ -1,6 +1,6 @@
 //! The intersection of a tag with others, one after another.
 
-ghost use Rattle.std.specs.Prelude.{◌≡◌, ◌≢◌, ◌*◌, ◌<◌, ◌≤◌, ◌↔◌, ◌&&◌, [], max, not, false, true, IsTrue, IfOk, IsErrOf, length, take};
+ghost use Rattle.std.specs.Prelude.{◌≡◌, ◌≢◌, ◌*◌, ◌<◌, ◌≤◌, ◌↔◌, ◌&&◌, [], max, not, false, true, IsTrue, IfOk, IsErrOf, OnOk, length, take};
 ghost use Rattle.spki_tag.specs.Chained.{IsChained, Waits};
 ghost use Rattle.spki_tag.specs.Index.{members};
 ghost use Rattle.spki_tag.specs.Leaves.{leaf_tag};
@@ -16,6 +16,7 @@ use crate::leaf::Leaf;
 use crate::tag::{Node, Tag};
 use std::alloc::{AllocError, Global};
 use std::marker::Model;
+use std::mem;
 
 /// The most members of a set that are intersected at once.
 const FEW: usize = 16;
@@ -209,29 +210,44 @@ impl TagChain {
         }
     }
 
-    /// The intersection with one more tag, with `most` as the limit instead of 1,000,000.
+    /// Narrows the intersection to that with one more tag, with `most` as the limit instead of 1,000,000. After `TooLarge` it is as
+    /// before, and after `Memory` it contains nothing.
     ///
     /// # Errors
     ///
     /// `TooLarge` if the product of the numbers of their nodes is over `most`, and `Memory` if memory ran out.
-    pub fn then(self, alloc: Global, other: &Tag, most: usize) -> Result<TagChain, MeetFault>
+    pub fn narrow_within(
+        &mut self,
+        alloc: Global,
+        other: &Tag,
+        most: usize,
+    ) -> Result<(), MeetFault>
         requires { most ≤ 1000000 }
-        ensures which { IfOk result (λ c. c ≡ meet self other.now) }
-        ensures exact { IfOk result (λ c. (g : Request) → IsRequest g
-            → contains c g ≡ (contains self g && contains other.now g)) }
-        ensures bounds { IfOk result (λ c. (nodes c ≤ nodes self * nodes other.now)
-            × (ldepth c ≤ max (ldepth self) (ldepth other.now))) }
-        ensures too_large { IsErrOf result MeetFault.TooLarge → most < nodes self * nodes other.now }
-        ensures small { IfOk result (λ c. nodes self * nodes other.now ≤ most) }
+        ensures which { OnOk result (self.new ≡ meet self.old other.now) }
+        ensures exact { OnOk result ((g : Request) → IsRequest g
+            → contains self.new g ≡ (contains self.old g && contains other.now g)) }
+        ensures bounds { OnOk result ((nodes self.new ≤ nodes self.old * nodes other.now)
+            × (ldepth self.new ≤ max (ldepth self.old) (ldepth other.now))) }
+        ensures too_large { IsErrOf result MeetFault.TooLarge → most < nodes self.old * nodes other.now }
+        ensures small { OnOk result (nodes self.old * nodes other.now ≤ most) }
+        ensures unchanged { IsErrOf result MeetFault.TooLarge → self.new ≡ self.old }
+        ensures lost { IsErrOf result MeetFault.Memory → self.new ≡ set none }
     {
+        // a tag that nothing waits for is not moved
+        if self.within.is_everything() && !can_wait(&self.tag, most) {
+            return self.tag.narrow_within(alloc, other, most);
+        }
+        let one = mem::replace(self, TagChain::of(Tag::nothing(alloc)));
         if let Node::Leaf(leaf) = &other.node {
-            if can_wait(&self.tag, most) {
-                return Ok(wait_for(alloc, self.tag, self.within, self.apart, leaf)?);
+            if can_wait(&one.tag, most) {
+                *self = wait_for(alloc, one.tag, one.within, one.apart, leaf)?;
+                return Ok(());
             }
         }
-        let mut tag = settled(alloc, self.tag, self.within)?;
-        tag.narrow_within(alloc, other, most)?;
-        Ok(TagChain::of(tag))
+        let mut tag = settled(alloc, one.tag, one.within)?;
+        let met = tag.narrow_within(alloc, other, most);
+        *self = TagChain::of(tag);
+        met
     }
 
     /// Whether the intersection is `(* set)`.

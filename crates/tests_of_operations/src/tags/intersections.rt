@@ -144,9 +144,10 @@ fn meet_mixtures(rt: HostRuntime) -> Result<(), Fail> {
 
 /// The text of the intersection of a tag with two others, one after the other.
 fn text_in_turn(alloc: Global, one: Tag, second: &Tag, third: &Tag) -> Result<Vec<u8>, Fail> {
-    let both = TagChain::of(one).then(alloc, second, 1_000_000)?;
-    let all = both.then(alloc, third, 1_000_000)?;
-    Ok(text_of(alloc, &all.into_tag(alloc)?)?)
+    let mut met = TagChain::of(one);
+    met.narrow_within(alloc, second, 1_000_000)?;
+    met.narrow_within(alloc, third, 1_000_000)?;
+    Ok(text_of(alloc, &met.into_tag(alloc)?)?)
 }
 
 /// The same for the tags with these texts.
