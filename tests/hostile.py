@@ -57,7 +57,6 @@ CALLS = (
     "Case::read", "decide", "reduce_case", "explain", "run",
     "Guard::read", "Guard::texts", "Guard::ask", "Asked::decide", "Asked::decide_by", "Asked::explain", "Asked::explain_by",
     "Asked::reduce", "Asked::reduce_by", "answer_question", "signed_octets", "refused_list",
-    "decide of nine entries", "explain of nine entries", "reduce of nine entries",
 )
 # What is written of the cases of examples/, and of some of chains.py: the status and the line. A command that the program does not
 # have is passed over.

@@ -135,7 +135,8 @@ enum spki_policy {
 /* Limits of each question. A null pointer means the highest, SPKI_MOST_OCTETS and SPKI_MOST_NODES. */
 struct spki_limits {
     size_t octets; /* the most octets of a question's texts together: more are `refused question TooLong` */
-    size_t nodes;  /* the most nodes of one tag times nodes of another, whose intersection is computed: more are `refused TooLarge` */
+    size_t nodes;  /* for spki_guard_explain and _reduce: the most nodes of one tag times nodes of another, whose intersection is
+                    * computed. More are `refused TooLarge`. A decision computes none. */
 };
 
 /* An access list that is read once and asked often. No question changes it. */
@@ -184,18 +185,20 @@ enum spki_status spki_guard_signed(const spki_guard *guard, const struct spki_qu
 /* Decides a question, if exactly those signatures are valid that spki_guard_signed lists at the places where `verified` is 1. Every
  * other number says that a signature is not valid. `count` must be the count of spki_guard_signed, otherwise the call is SPKI_MISUSED.
  *
- * The time does not grow with the entries for other keys. It grows with the number of entries for the key of the first certificate's
- * issuer, or for the client's key if no certificate is shown.
+ * The time does not grow with the entries for other keys. It is in proportion to the octets of the question and of the entries for the
+ * key of the first certificate's issuer, or for the client's key if no certificate is shown.
  *
- * Returns SPKI_YES with `yes entry N`, or SPKI_NO with `no`, as SPKI_CHECK does for the case of these parts and the guard's list.
+ * Returns SPKI_YES with `yes entry N`, or SPKI_NO with `no`, as SPKI_CHECK does for the case of these parts and the guard's list, if that
+ * case is not `refused TooLarge`.
  * SPKI_REFUSED: the line says which part is refused. `refused sequence Bad 5` is for what is no text of a value, and
  * `refused sequence 3 Shape` for a value that is no sequence. Other lines are `refused key ..`, `refused request ..`,
- * `refused at ..`, `refused question TooLong`, `refused TooLarge` and `refused Memory`. */
+ * `refused at ..`, `refused question TooLong` and `refused Memory`. A decision is never `refused TooLarge`. */
 enum spki_status spki_guard_decide(const spki_guard *guard, const struct spki_question *question, const unsigned char *verified,
                                    size_t count, void *buffer, size_t buffer_length, size_t *needed);
 
-/* Like spki_guard_decide, but write the lines of SPKI_EXPLAIN or SPKI_REDUCE, and return SPKI_DONE in place of yes and no. The time grows
- * with the number of all entries. */
+/* Like spki_guard_decide, but write the lines of SPKI_EXPLAIN or SPKI_REDUCE, and return SPKI_DONE in place of yes and no. The line
+ * `refused TooLarge` says that the tags of an entry and of the certificates exceed the guard's limit of nodes. The time grows with the
+ * number of all entries. */
 enum spki_status spki_guard_explain(const spki_guard *guard, const struct spki_question *question, const unsigned char *verified,
                                     size_t count, void *buffer, size_t buffer_length, size_t *needed);
 enum spki_status spki_guard_reduce(const spki_guard *guard, const struct spki_question *question, const unsigned char *verified,

@@ -151,8 +151,8 @@ def crates():
 STEPS = [
     ("standard input", "any of the three forms", "box"), ("read_whole", "the octets", "box"), ("convert", "the canonical text", "box"),
     ("Doc::open", "a table of its nodes", "box"), ("Case::read", "the case", "box"),
-    ("judge", "the evidence", "box"), ("fold_owned", "each entry's chain", "box"),
-    ("first_lack", "key, request, moment", "box"), ("decide", "the first yes, or no", "own"), ("run", "the line", "good")]
+    ("judge", "the evidence", "box"), ("Membership::of", "what an entry needs", "box"),
+    ("grants", "whether an entry has it", "box"), ("decide", "the first yes, or no", "own"), ("run", "the line", "good")]
 
 
 def octets():

@@ -44,10 +44,13 @@ def guard_question(rng: random.Random) -> GuardQuestion:
     acl, rows, sequence = case[1:4]
     key, request, moment = (part[1] for part in case[4:7] if isinstance(part, tuple))
     strings = strings_of(request, rng)
+    wish = rng.choice(list(WISHES))
+    # with so few nodes the case of one decision in ten is too large, which the guard decides
+    few, chance = (8, 0.4) if wish == "decide" else (60, 0.25)
     return GuardQuestion(
-        "guard " + rng.choice(list(WISHES)), part_text(acl, rng), part_text(sequence, rng), part_text(key, rng), part_text(request, rng),
+        "guard " + wish, part_text(acl, rng), part_text(sequence, rng), part_text(key, rng), part_text(request, rng),
         part_text(moment, rng), canonical(rows), strings, rng.choice(SECONDS) if rng.random() < 0.15 else None, int(len(case) == 8),
-        rng.randrange(1200) if rng.random() < 0.05 else MOST_OCTETS, rng.randrange(60) if rng.random() < 0.25 else MOST_NODES)
+        rng.randrange(1200) if rng.random() < 0.05 else MOST_OCTETS, rng.randrange(few) if rng.random() < chance else MOST_NODES)
 
 
 def odd(question: GuardQuestion, rng: random.Random, oddity: str) -> GuardQuestion:

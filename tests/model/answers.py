@@ -166,6 +166,25 @@ def check(case: Case, rows: list[Row]) -> Answer:
     return NO, b"no\n"
 
 
+def decide(case: Case, rows: list[Row]) -> Answer:
+    """The first entry that is granted, or no, as a guard decides: no tags are intersected, so none are too large for one another."""
+    try:
+        steps = [step for _, step in evidence.shown(case.items, rows, case.strict)]
+    except evidence.Stopped:
+        LINES.used("no: evidence")
+        return NO, b"no\n"
+    for number, entry in enumerate(case.entries, 1):
+        leaves = [reduction.of_entry(entry), *steps]
+        is_granted = derivations.grants_from_left(leaves, case.key, case.request, case.moment, case.strict)
+        if len(steps) <= SHORT_CHAIN:
+            try_brackets(leaves[0], steps, case, is_granted)
+        if is_granted:
+            LINES.used("yes entry")
+            return YES, b"yes entry %d\n" % number
+    LINES.used("no: no entry grants")
+    return NO, b"no\n"
+
+
 def folded(command: str, case: Case, entry: Entry, steps: Steps) -> tuple[Authorization | reduction.Stopped, bool]:
     """What an entry becomes with all certificates, or where it stops; and whether it grants the request, which a short chain must do exactly
     if some bracketing does."""

@@ -26,12 +26,27 @@ class Node:
 
 def grants(leaves: list[Tuple], key: Key, request: Value, moment: bytes, strict: bool) -> bool:
     """Whether a tree over all leaves grants a request of a key at a moment. The first leaf is the entry's."""
-    if not all(leaf.window.holds(moment) for leaf in leaves):
+    return contain(leaves, request, moment) and any(is_for(root, key, strict) for root in roots([leaf_of(leaf) for leaf in leaves], strict))
+
+
+def grants_from_left(leaves: list[Tuple], key: Key, request: Value, moment: bytes, strict: bool) -> bool:
+    """The same by the tree that joins the leaves from the left. It is enough, and quick where there are many leaves."""
+    if not contain(leaves, request, moment):
         return False
-    if not all(contains(leaf.tag, request) for leaf in leaves if isinstance(leaf, Authorization)):
-        return False
-    return any(root.issuer is None and root.name is None and not root.subject.names and names(root.subject.principal, key, strict)
-               for root in roots([leaf_of(leaf) for leaf in leaves], strict))
+    root: Node | None = leaf_of(leaves[0])
+    for leaf in leaves[1:]:
+        root = next(rules(root, leaf_of(leaf), strict), None) if root else None
+    return root is not None and is_for(root, key, strict)
+
+
+def contain(leaves: list[Tuple], request: Value, moment: bytes) -> bool:
+    """Whether the request is in every tag and the moment in every window."""
+    return all(leaf.window.holds(moment) and (not isinstance(leaf, Authorization) or contains(leaf.tag, request)) for leaf in leaves)
+
+
+def is_for(root: Node, key: Key, strict: bool) -> bool:
+    """Whether a root is an authorization of the key by the keeper of the list."""
+    return root.issuer is None and root.name is None and not root.subject.names and names(root.subject.principal, key, strict)
 
 
 def leaf_of(leaf: Tuple) -> Node:

@@ -12,7 +12,7 @@ from .structures import Certificate, Entry, ItemFault, Key, Signature, Structure
 from .tags import TagFault
 from .values import Atom, FormFault, Value, canonical
 
-WISHES = {"decide": answers.check, "explain": answers.explain, "reduce": answers.reduce}
+WISHES = {"decide": answers.decide, "explain": answers.explain, "reduce": answers.reduce}
 PARTS = ("sequence", "key", "request", "at")
 OPEN, STRICT = POLICIES = (0, 1)
 Signed = tuple[bytes, bytes, bytes]
@@ -22,6 +22,7 @@ REFUSED = Rows("question to a guard, refused", [
 GIVEN = Rows("question to a guard, given", [
     "request by no string", "request by one string", "request by strings", "seconds", "seconds before 1970", "limits that are lower"])
 SIGNED = Rows("question to a guard, signatures that are listed", ["none", "of each certificate", "up to one that does not stand"])
+DECIDED = Rows("question to a guard, decided", ["yes where check is TooLarge", "no where check is TooLarge", "as check"])
 STATUSES = Rows("question to a guard, status", [f"{wish}: {status}" for wish in WISHES for status in (0, 1, 2)])
 # what is misuse when a guard is opened, at both calls with a question, only when signatures are listed, only when a question is answered
 OPENED = ("no policy has this number", "a limit of octets above the highest", "a limit of nodes above the highest", "no place for the guard",
@@ -170,6 +171,18 @@ def key_of_standing(number: int, certificate: Certificate, signature: Signature,
     return None
 
 
+def compare(case: Case, decided: Answer) -> None:
+    """The decision is that of `check`, unless check is refused as TooLarge."""
+    try:
+        checked = answers.check(case, case.rows)
+    except Refused:
+        DECIDED.used("no where check is TooLarge" if decided[0] else "yes where check is TooLarge")
+        return
+    DECIDED.used("as check")
+    if checked != decided:
+        raise answers.ModelDisagrees(f"check: {checked}, a guard: {decided}")
+
+
 def misused(row: str) -> tuple[Answer, list[Signed]]:
     """The answer to a call that is misuse."""
     MISUSES.used(row)
@@ -207,6 +220,8 @@ def answer(wish: str, list_text: bytes, asked: Parts, rows: list[Row], policy: i
             return misused(oddity)
         with intersection.limited(guard.nodes):
             status, said = WISHES[wish](case, case.rows)
+            if wish == "decide":
+                compare(case, (status, said))
     except Refused as why:
         status, said = refused(why)
     STATUSES.used(f"{wish}: {status}")

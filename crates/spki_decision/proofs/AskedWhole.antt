@@ -180,7 +180,7 @@ module _ (c : Case) (one other : Verified) (agree : AgreeOn one other (asked c))
   some_large_by : SomeTooLarge c one → SomeTooLarge c other
   some_large_by l = record { tuples = l.tuples; shown = shown_by l.tuples l.shown; large = l.large }
 
-  decision_by : (d : Decision) → IsDecision c one d → IsDecision c other d
+  pub decision_by : (d : Decision) → IsDecision c one d → IsDecision c other d
   decision_by (Yes n) d = record { granted = granted_by n d.granted; none_before = λ m less g. d.none_before m less (granted_back m g) }
   decision_by No d = λ n g. d n (granted_back n g)
 

@@ -1,20 +1,18 @@
 -- The decision of a part of an access list is that of the list, if only entries are missing that are left out.
-use Rattle.std.proofs.Common.{◌≡◌, ℕ, zero, suc, ◌+◌, ◌<◌, ◌≤◌, List, [], ◌∷◌, Some, map, length, slice_get, refl, sym, ap, ◌∙◌, subst, arith, Result, Ok, Err, inl, inr}
-use Rattle.std.proofs.lemmas.Option.{none-some, slice_get_within}
+use Rattle.std.proofs.Common.{◌≡◌, ℕ, zero, suc, ◌+◌, ◌<◌, ◌≤◌, List, [], ◌∷◌, Some, map, slice_get, refl, sym, ap, ◌∙◌, subst, arith, inl, inr}
+use Rattle.std.proofs.lemmas.Option.{none-some}
 use Rattle.spki_cert.specs.declared.entry.Entry.{Entry}
 use Rattle.spki_reduce.specs.Tuples.{Tuple, five}
 use Rattle.spki_reduce.specs.Views.{entry_tuple}
 use Rattle.spki_case.specs.Case.{Case, Verified}
 use Rattle.spki_decision.specs.declared.decision.Decision.{Decision}
 use Rattle.spki_decision.specs.declared.decision.Decision.TheVariants.{Yes, No}
-use Rattle.spki_decision.specs.declared.fault.GuardFault.{GuardFault}
-use Rattle.spki_decision.specs.declared.fault.GuardFault.TheVariants.{TooLarge, Memory}
 use Rattle.spki_decision.specs.Standing.{AreShown}
 use Rattle.spki_decision.specs.Granted.{Granted}
-use Rattle.spki_decision.specs.Supported.{Supported, SmallBefore}
-use Rattle.spki_decision.specs.Answered.{IsDecided}
-use Rattle.spki_decision.specs.LeftOut.{IsLeftOut, IsKept, AreKept, second, kept_case, AreRenumbered}
-use Rattle.spki_decision.proofs.LeftOut.{supported_named, large_named}
+use Rattle.spki_decision.specs.Decision.{IsDecision}
+use Rattle.spki_decision.specs.Supported.{Supported}
+use Rattle.spki_decision.specs.LeftOut.{IsLeftOut, IsKept, AreKept, second, kept_case, IsRenumbered}
+use Rattle.spki_decision.proofs.LeftOut.{supported_named}
 
 some_pair : (a b : ℕ × Entry) → Some a ≡ Some b → a ≡ b
 some_pair a b e = cc
@@ -28,11 +26,6 @@ second_at : (ks : List (ℕ × Entry)) (p n : ℕ) (e : Entry) → slice_get ks 
 second_at [] p n e stands = absurd (none-some (n, e) stands)
 second_at (k ∷ ks) zero n e stands = ap (λ (j : ℕ × Entry). Some j.1) (some_pair k (n, e) stands)
 second_at (k ∷ ks) (suc p) n e stands = second_at ks p n e stands
-
-pair_at : (ks : List (ℕ × Entry)) (p : ℕ) (e : Entry) → slice_get (map second ks) p ≡ Some e → (n : ℕ) × (slice_get ks p ≡ Some (n, e))
-pair_at [] p e stands = absurd (none-some e stands)
-pair_at (k ∷ ks) zero e stands = (k.0, ap (λ (f : Entry). Some (k.0, f)) (some_entry k.1 e stands))
-pair_at (k ∷ ks) (suc p) e stands = pair_at ks p e stands
 
 module _ (Out : Entry → Type 0) where
   -- the number of what is kept is that of its place in the list
@@ -133,14 +126,6 @@ module _ (c : Case) (verified : Verified) (kept : List (ℕ × Entry)) (are_kept
         supports = g.supports;
       }
 
-  -- no chain of the list up to a number is too large, if none of the part's is up to its place
-  small_kept : (tuples : List Tuple) → AreShown c.policy verified c.items tuples → (p bound : ℕ)
-      → ((q m : ℕ) (e : Entry) → m ≤ bound → slice_get kept q ≡ Some (m, e) → q < p)
-      → SmallBefore (kept_case c kept) tuples p → SmallBefore c tuples bound
-  small_kept tuples shown p bound below small k e less stands large =
-      let q = found (IsLeftOut c tuples) 1 c.entries kept k e (are_kept tuples shown) stands (λ out. out (large_named c tuples e large)) in
-      small q.0 e (below q.0 (1 + k) e (omega (arith, less)) q.1) (second_at kept q.0 (1 + k) e q.1) large
-
   -- an earlier number stands at an earlier place
   earlier : (tuples : List Tuple) → AreShown c.policy verified c.items tuples → (p q n m : ℕ) (e f : Entry)
       → slice_get kept p ≡ Some (n, e) → slice_get kept q ≡ Some (m, f) → m ≤ n → q ≤ p
@@ -148,47 +133,18 @@ module _ (c : Case) (verified : Verified) (kept : List (ℕ × Entry)) (are_kept
       let not_more : ¬ (p < q) = λ more. absurd (omega (arith, less, growing (IsLeftOut c tuples) 1 c.entries kept p q n m e f (are_kept tuples shown) more at_p at_q)) in
       omega (arith, not_more)
 
-  pub renumbered : (x y : Result Decision GuardFault) → IsDecided (kept_case c kept) verified x → AreRenumbered kept x y → IsDecided c verified y
-  renumbered (Ok (Yes m)) (Ok (Yes n)) d r =
+  pub renumbered : (x y : Decision) → IsDecision (kept_case c kept) verified x → IsRenumbered kept x y → IsDecision c verified y
+  renumbered (Yes m) (Yes n) d r =
       let place = r.0 in
-      let g : Granted (suc place) (kept_case c kept) verified = subst (λ (j : ℕ). Granted j (kept_case c kept) verified) r.2 d.0.granted in (
-        record {
-          granted = kept_granted place n r.1 r.3 g;
-          none_before = λ k less h.
-              let p = granted_kept k h in
-              let before = earlier h.tuples h.shown place p.0 n k r.1 h.entry r.3 p.1 (omega (arith, less)) in
-              let other : ¬ (p.0 ≡ place) = λ same. absurd (omega (arith, less, ap (λ (j : ℕ × Entry). j.0) (some_pair (k, h.entry) (n, r.1) (sym p.1 ∙ ap (λ (q : ℕ). slice_get kept q) same ∙ r.3)))) in
-              d.0.none_before (suc p.0) (omega (arith, before, other, r.2)) p.2;
-        },
-        λ tuples shown.
-            small_kept tuples shown m n (λ q k e less at. omega (arith, r.2, earlier tuples shown place q n k r.1 e r.3 at less)) (d.1 tuples shown),
-      )
-  renumbered (Ok (Yes m)) (Ok No) d r = absurd r
-  renumbered (Ok No) (Ok (Yes n)) d r = absurd r
-  renumbered (Ok No) (Ok No) d r = (
-    λ n g. let p = granted_kept n g in d.0 (suc p.0) p.2,
-    λ tuples shown.
-        small_kept tuples shown (length (map second kept)) (length c.entries)
-        (λ q k e less at. slice_get_within (map second kept) q e (second_at kept q k e at)) (d.1 tuples shown),
-  )
-  renumbered (Ok d) (Err fault) k r = absurd r
-  renumbered (Err fault) (Ok d) k r = absurd r
-  renumbered (Err TooLarge) (Err TooLarge) large r =
-      let pair = pair_at kept large.place large.entry large.stands in
-      let l = listed (IsLeftOut c large.tuples) 1 c.entries kept large.place pair.0 large.entry (are_kept large.tuples large.shown) pair.1 in
+      let g : Granted (suc place) (kept_case c kept) verified = subst (λ (j : ℕ). Granted j (kept_case c kept) verified) r.2 d.granted in
       record {
-        place = l.0;
-        entry = large.entry;
-        stands = l.2;
-        none_granted = λ n less g.
-            let p = granted_kept n g in
-            let before = earlier g.tuples g.shown large.place p.0 pair.0 n large.entry g.entry pair.1 p.1 (omega (arith, less, l.1)) in
-            let other : ¬ (p.0 ≡ large.place) = λ same. absurd (omega (arith, less, l.1, ap (λ (j : ℕ × Entry). j.0) (some_pair (n, g.entry) (pair.0, large.entry) (sym p.1 ∙ ap (λ (q : ℕ). slice_get kept q) same ∙ pair.1)))) in
-            large.none_granted (suc p.0) (omega (arith, before, other)) p.2;
-        tuples = large.tuples;
-        shown = large.shown;
-        at = large.at;
-        large = large.large;
+        granted = kept_granted place n r.1 r.3 g;
+        none_before = λ k less h.
+            let p = granted_kept k h in
+            let before = earlier h.tuples h.shown place p.0 n k r.1 h.entry r.3 p.1 (omega (arith, less)) in
+            let other : ¬ (p.0 ≡ place) = λ same. absurd (omega (arith, less, ap (λ (j : ℕ × Entry). j.0) (some_pair (k, h.entry) (n, r.1) (sym p.1 ∙ ap (λ (q : ℕ). slice_get kept q) same ∙ r.3)))) in
+            d.none_before (suc p.0) (omega (arith, before, other, r.2)) p.2;
       }
-  renumbered (Err TooLarge) (Err Memory) k r = absurd cc
-  renumbered (Err Memory) y k r = absurd k
+  renumbered (Yes m) No d r = absurd r
+  renumbered No (Yes n) d r = absurd r
+  renumbered No No d r = λ n g. let p = granted_kept n g in d (suc p.0) p.2

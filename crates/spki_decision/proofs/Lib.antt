@@ -6,11 +6,6 @@ pub mod Evident
 pub mod Policies
 pub mod Entries
 pub mod Granting
-pub mod Widening
-pub mod PassedOver
-pub mod PlainChains
-pub mod SubjectPaths
-pub mod SharedChains
 pub mod Stopping
 pub mod Reasons
 pub mod OneExplanation
@@ -22,6 +17,8 @@ pub mod LeftOut
 pub mod KeptEntries
 pub mod AskedWhole
 pub mod Answering
-pub mod Timely
-pub mod TagRuns
-pub mod SmallRuns
+pub mod Leading
+pub mod RequiredSubjects
+pub mod Memberships
+pub mod SmallChains
+pub mod PlainChains

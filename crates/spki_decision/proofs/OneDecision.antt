@@ -1,5 +1,5 @@
 -- A text has one decision, one explanation and one reduction, or is refused as too large.
-use Rattle.std.proofs.Common.{◌≡◌, ℕ, ◌<◌, List, Result, Ok, Err, refl, sym, ap, subst, arith}
+use Rattle.std.proofs.Common.{◌≡◌, ◌⊎◌, inl, inr, ℕ, ◌<◌, List, Result, Ok, Err, refl, sym, ap, subst, arith}
 use Rattle.std.proofs.lemmas.Option.{slice_get_within}
 use Rattle.spki_reduce.specs.Tuples.{Tuple}
 use Rattle.spki_case.specs.Case.{Case, Verified, accepted_by}
@@ -35,7 +35,7 @@ module _ (c : Case) (verified : Verified) where
       let not_more : ¬ (m < n) = λ less. a.none_before m less b.granted in
       omega (arith, not_less, not_more)
 
-  decision_one : (x y : Decision) → IsDecision c verified x → IsDecision c verified y → x ≡ y
+  pub decision_one : (x y : Decision) → IsDecision c verified x → IsDecision c verified y → x ≡ y
   decision_one (Yes n) (Yes m) a b = ap Yes (least_one n m a b)
   decision_one (Yes n) No a b = absurd (b n a.granted)
   decision_one No (Yes m) a b = absurd (a m b.granted)
@@ -49,6 +49,13 @@ module _ (c : Case) (verified : Verified) where
   decided_one (Err TooLarge) (Err TooLarge) a b = refl
   decided_one (Err TooLarge) (Err Memory) a b = absurd b
   decided_one (Err Memory) y a b = absurd a
+
+  -- what is decided is the decision, or the refusal
+  pub decided_or_large : (x : Result Decision GuardFault) (d : Decision) → IsDecided c verified x → IsDecision c verified d
+      → (x ≡ Ok d) ⊎ (x ≡ Err TooLarge)
+  decided_or_large (Ok x) d a b = inl (ap Ok (decision_one x d a.0 b))
+  decided_or_large (Err TooLarge) d a b = inr refl
+  decided_or_large (Err Memory) d a b = absurd a
 
   -- where no chain is too large, none is refused
   all_small : (tuples : List Tuple) → AreShown c.policy verified c.items tuples → AllSmall c tuples → SomeTooLarge c verified → ⊥

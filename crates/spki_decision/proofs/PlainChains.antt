@@ -13,9 +13,9 @@ use Rattle.spki_tag.proofs.PlainMeets.{IsPlain, IsPlainWithin, neither, plain_me
 use Rattle.spki_reduce.specs.Tuples.{Tuple, five, four, tags_of}
 use Rattle.spki_reduce.specs.Restrictions.{met, nodes_product}
 use Rattle.spki_reduce.specs.Chain.{all_tags}
-use Rattle.spki_decision.specs.declared.shared_tests.PlainNodes.{PlainNodes}
-use Rattle.spki_decision.specs.Shared.{ArePlain, IsSmallFor, IsSmallWith}
-use Rattle.spki_decision.proofs.PassedOver.{all_small}
+use Rattle.spki_decision.specs.declared.sizes.PlainNodes.{PlainNodes}
+use Rattle.spki_decision.specs.Sizes.{ArePlain, IsSmallFor, IsSmallWith}
+use Rattle.spki_decision.proofs.SmallChains.{all_small}
 
 pub none_of : (a b : Bool) → a ≡ false → b ≡ false → (a || b) ≡ false
 none_of true b h k = absurd cc

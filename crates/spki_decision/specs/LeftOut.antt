@@ -1,6 +1,6 @@
 -- The entries of an access list that a question is about (RFC 2693, section 6.3). Their subject's principal names the key of
 -- the first issuer, or the client's key if no certificate is shown.
-use Rattle.std.specs.Prelude.{◌≡◌, ℕ, suc, ◌⊎◌, List, [], ◌∷◌, Option, Some, None, Result, Ok, Err, IsTrue, slice_get, map}
+use Rattle.std.specs.Prelude.{◌≡◌, ℕ, suc, ◌⊎◌, List, [], ◌∷◌, Option, Some, None, IsTrue, slice_get, map}
 use Rattle.spki_cert.specs.declared.principal.Policy.{Policy}
 use Rattle.spki_cert.specs.declared.entry.Entry.{Entry}
 use Rattle.spki_cert.specs.Naming.{names}
@@ -10,7 +10,6 @@ use Rattle.spki_decision.specs.Standing.{AreShown}
 use Rattle.spki_decision.specs.Views.{with_entries}
 use Rattle.spki_decision.specs.declared.decision.Decision.{Decision}
 use Rattle.spki_decision.specs.declared.decision.Decision.TheVariants.{Yes, No}
-use Rattle.spki_decision.specs.declared.fault.GuardFault.{GuardFault}
 
 abbrev pub key_of : Issuer → Option (List ℕ)
 key_of own = None
@@ -60,9 +59,3 @@ IsRenumbered kept (Yes m) (Yes n) = (place : ℕ) × (e : Entry) × (m ≡ suc p
 IsRenumbered kept (Yes m) No = ⊥
 IsRenumbered kept No (Yes n) = ⊥
 IsRenumbered kept No No = Unit {0}
-
-abbrev pub AreRenumbered : List (ℕ × Entry) → Result Decision GuardFault → Result Decision GuardFault → Type 0
-AreRenumbered kept (Ok d) (Ok e) = IsRenumbered kept d e
-AreRenumbered kept (Ok d) (Err fault) = ⊥
-AreRenumbered kept (Err fault) (Ok d) = ⊥
-AreRenumbered kept (Err fault) (Err other) = fault ≡ other

@@ -9,9 +9,9 @@ pub mod Granted
 pub mod Decision
 pub mod Refusal
 pub mod Supported
-pub mod Shared
-pub mod SharedFolds
-pub mod SharedWork
+pub mod Membership
+pub mod WholeFold
+pub mod Sizes
 pub mod Reduced
 pub mod Explained
 pub mod Answered

@@ -1,25 +1,24 @@
 //! Deciding a case (RFC 2693, section 6).
 
-ghost use Rattle.std.specs.Prelude.{◌↔◌, List, IsTrue, IfOk, IfSome, IsErrOf};
+ghost use Rattle.std.specs.Prelude.{IfOk, IsErrOf};
 ghost use Rattle.spki_case.specs.View.{model};
 ghost use Rattle.spki_decision.specs.Views.{with_entries};
-ghost use Rattle.spki_cert.specs.declared.entry.Entry.{Entry};
-ghost use Rattle.spki_reduce.specs.Tuples.{Tuple, five};
+ghost use Rattle.spki_reduce.specs.Tuples.{five};
 ghost use Rattle.spki_reduce.specs.Chain.{tuples_of, TooLargeAt};
 ghost use Rattle.spki_reduce.specs.Views.{entry_tuple};
-ghost use Rattle.spki_decision.specs.Supported.{Supported, Names, HasLarge, SmallUpTo};
+ghost use Rattle.spki_decision.specs.Supported.{Names, HasLarge, SmallUpTo};
 ghost use Rattle.spki_decision.specs.Granted.{IsTooLarge};
-ghost use Rattle.spki_decision.specs.SharedFolds.{IsWholeFold};
-ghost use Rattle.spki_decision.specs.SharedWork.{IsSharedWork, IsChain};
 ghost use Rattle.spki_decision.specs.Decision.{IsDecision, IsUnrefused};
+ghost use Rattle.spki_decision.specs.Sizes.{AreSizes};
 
 use crate::entry_chain::fold_entry;
 use crate::evidence::{Evidence, judge};
 use crate::fault::GuardFault;
-use crate::shared_work::SharedWork;
+use crate::membership::Membership;
+use crate::sizes::Sizes;
 use spki_case::{Case, Verifier};
 use spki_cert::Entry;
-use spki_reduce::{Fold, ReduceFault, Step};
+use spki_reduce::{ReduceFault, Step};
 use std::alloc::{AllocError, Global};
 
 /// The answer of a case's access list.
@@ -48,87 +47,76 @@ pub fn decide<V: Verifier>(alloc: Global, case: &Case, verifier: &V) -> Result<D
 {
     match judge(alloc, &case.sequence, case.policy, verifier)? {
         Evidence::Fails { .. } => Ok(Decision::No),
-        Evidence::Stands(steps) => first_granted(alloc, &case.acl, case, &steps),
+        Evidence::Stands(steps) => first_within_limit(alloc, case, &steps),
     }
 }
 
 /// Returns the first entry of an access list that grants the request of a case, if the certificates give these steps. The
-/// case's own access list is not examined.
+/// case's own access list is not examined. No intersection is formed, and the case's limit of nodes does not matter. This takes time in
+/// proportion to the steps and the entries.
 ///
 /// # Errors
 ///
-/// Those of `decide`.
+/// `AllocError` if memory ran out.
 pub fn first_granted<'a>(
     alloc: Global,
     acl: &[Entry<'a>],
     case: &Case<'a>,
     steps: &[Step<'a>],
-) -> Result<Decision, GuardFault>
-    ensures named { IfOk result (Names (with_entries (model case.now) acl.now) (tuples_of steps.now)) }
-    ensures too_large { IsErrOf result GuardFault.TooLarge → HasLarge (with_entries (model case.now) acl.now) (tuples_of steps.now) }
-    ensures small { IfOk result (SmallUpTo (with_entries (model case.now) acl.now) (tuples_of steps.now)) }
+) -> Result<Decision, AllocError>
+    ensures { IfOk result (Names (with_entries (model case.now) acl.now) (tuples_of steps.now)) }
 {
-    let mut shared = SharedWork::of(alloc, acl.len(), case, steps)?;
+    let membership = Membership::of(alloc, case, steps)?;
     for (place, entry) in acl.iter().enumerate() {
-        if grants(alloc, entry, steps, case, &mut shared)? {
+        if membership.grants(entry, case) {
             return Ok(Decision::Yes(place + 1));
         }
     }
     Ok(Decision::No)
 }
 
-/// Whether an entry and the steps after it grant the request. `shared` is what the entries share, if they share anything.
-fn grants<'a>(
+/// The first entry of a case's access list that grants the request, if no step is too large for it or for an entry before it.
+///
+/// # Errors
+///
+/// Those of `decide`.
+fn first_within_limit<'a>(
     alloc: Global,
-    entry: &Entry<'a>,
-    steps: &[Step<'a>],
     case: &Case<'a>,
-    shared: &mut Option<SharedWork<'a>>,
-) -> Result<bool, GuardFault>
-    requires shared { IfSome shared.old (IsSharedWork (model case.now) (tuples_of steps.now)) }
-    ensures exact { IfOk result (λ yes. IsTrue yes ↔ Supported (model case.now) (tuples_of steps.now) entry.now) }
-    ensures too_large { IsErrOf result GuardFault.TooLarge →
-        TooLargeAt case.now.most_nodes case.now.policy (five (entry_tuple entry.now)) (tuples_of steps.now) }
-    ensures small { IfOk result (λ yes. ¬ TooLargeAt case.now.most_nodes case.now.policy (five (entry_tuple entry.now)) (tuples_of steps.now)) }
-    ensures kept { IfOk result (λ yes. IfSome shared.new (IsSharedWork (model case.now) (tuples_of steps.now))) }
-{
-    match chain_of(alloc, entry, steps, case, shared)? {
-        None => Ok(false),
-        Some(fold) => Ok(is_grant(&fold, case)),
-    }
-}
-
-/// What an entry and the steps after it become. None if it is certain that they grant nothing and that no step is too large.
-fn chain_of<'a>(
-    alloc: Global,
-    entry: &Entry<'a>,
     steps: &[Step<'a>],
-    case: &Case<'a>,
-    shared: &mut Option<SharedWork<'a>>,
-) -> Result<Option<Fold<'a>>, ReduceFault>
-    requires shared { IfSome shared.old (IsSharedWork (model case.now) (tuples_of steps.now)) }
-    ensures chain { IfOk result (IsChain (model case.now) (tuples_of steps.now) entry.now) }
-    ensures too_large { IsErrOf result ReduceFault.TooLarge →
-        TooLargeAt case.now.most_nodes case.now.policy (five (entry_tuple entry.now)) (tuples_of steps.now) }
-    ensures kept { IfOk result (λ fold. IfSome shared.new (IsSharedWork (model case.now) (tuples_of steps.now))) }
+) -> Result<Decision, GuardFault>
+    ensures named { IfOk result (Names (model case.now) (tuples_of steps.now)) }
+    ensures too_large { IsErrOf result GuardFault.TooLarge → HasLarge (model case.now) (tuples_of steps.now) }
+    ensures small { IfOk result (SmallUpTo (model case.now) (tuples_of steps.now)) }
 {
-    match shared {
-        None => Ok(Some(fold_entry(alloc, entry, steps, case.policy, case.most_nodes)?)),
-        Some(shared) => shared.fold(alloc, entry, steps, case),
-    }
-}
-
-/// Whether what an entry and steps become grants the request.
-fn is_grant(fold: &Fold, case: &Case) -> bool
-    ensures { (e : Entry) (tuples : List Tuple) → IsWholeFold case.now.policy case.now.most_nodes e tuples fold.now
-        → IsTrue result ↔ Supported (model case.now) tuples e }
-{
-    case.request.known();
-    match fold {
-        Fold::Stopped { .. } => false,
-        Fold::Done(five) => {
-            let lack = five.first_lack(&case.key, &case.request, &case.moment, case.policy);
-            lack.is_none()
+    let membership = Membership::of(alloc, case, steps)?;
+    let sizes = Sizes::of(steps);
+    for (index, entry) in case.acl.iter().enumerate() {
+        require_small(alloc, entry, steps, case, &sizes)?;
+        if membership.grants(entry, case) {
+            return Ok(Decision::Yes(index + 1));
         }
     }
+    Ok(Decision::No)
+}
+
+/// Refuses an entry if some step is too large for it. If the numbers of nodes do not show that none is, the entry and the steps are
+/// folded.
+fn require_small<'a>(
+    alloc: Global,
+    entry: &Entry<'a>,
+    steps: &[Step<'a>],
+    case: &Case<'a>,
+    sizes: &Sizes,
+) -> Result<(), ReduceFault>
+    requires { AreSizes (tuples_of steps.now) sizes.now }
+    ensures too_large { IsErrOf result ReduceFault.TooLarge →
+        TooLargeAt case.now.most_nodes case.now.policy (five (entry_tuple entry.now)) (tuples_of steps.now) }
+    ensures small { IfOk result (λ _. ¬ TooLargeAt case.now.most_nodes case.now.policy (five (entry_tuple entry.now)) (tuples_of steps.now)) }
+{
+    if sizes.are_small(&entry.tag, steps, case.most_nodes) {
+        return Ok(());
+    }
+    fold_entry(alloc, entry, steps, case.policy, case.most_nodes)?;
+    Ok(())
 }

@@ -4,7 +4,7 @@ ghost use Rattle.std.specs.Prelude.{◌≡◌, ◌≤◌, IfOk, IsErrOf};
 ghost use Rattle.spki_reduce.specs.Tuples.{five};
 ghost use Rattle.spki_reduce.specs.Views.{entry_tuple, five_tuple};
 ghost use Rattle.spki_reduce.specs.Chain.{tuples_of, TooLargeAt};
-ghost use Rattle.spki_decision.specs.SharedFolds.{IsWholeFold};
+ghost use Rattle.spki_decision.specs.WholeFold.{IsWholeFold};
 
 use spki_cert::{Entry, Policy};
 use spki_reduce::{Five, Fold, Issuer, ReduceFault, Step, fold_owned};

@@ -11,14 +11,12 @@ ghost use Rattle.spki_reduce.specs.Chain.{tuples_of, TooLargeAt};
 ghost use Rattle.spki_reduce.specs.Views.{entry_tuple};
 ghost use Rattle.spki_decision.specs.Supported.{AllSmall};
 ghost use Rattle.spki_decision.specs.Reduced.{HasLargeTags, SomeTooLarge};
-ghost use Rattle.spki_decision.specs.SharedFolds.{AreSharedFolds};
 ghost use Rattle.spki_decision.specs.Explained.{IsReason, IsExplanation, reason_of};
 
 use crate::certificates::{ShownCert, certificates_of};
 use crate::evidence::{Evidence, Stop, judge};
 use crate::fault::GuardFault;
 use crate::reduction::{EntryFold, entry_fold};
-use crate::shared_folds::SharedFolds;
 use spki_case::{Case, Verifier};
 use spki_cert::Entry;
 use spki_reduce::{Cause, Lack, Step};
@@ -106,34 +104,30 @@ pub fn entry_reasons<'a>(
     ensures small { OnOk result (AllSmall (with_entries (model case.now) acl.now) (tuples_of steps.now)) }
 {
     let shown = certificates_of(alloc, &case.sequence)?;
-    let mut shared = SharedFolds::of(alloc, steps)?;
     let mut reasons = Vec::new(alloc);
     for entry in acl {
-        reasons.push(entry_reason(alloc, case, entry, &shown, steps, &mut shared)?)?;
+        reasons.push(entry_reason(alloc, case, entry, &shown, steps)?)?;
     }
     Ok(reasons)
 }
 
-/// Returns the reason of an entry with the steps of `shown`, the case's certificates, after it. `shared` is what the entries share.
+/// Returns the reason of an entry with the steps of `shown`, the case's certificates, after it.
 fn entry_reason<'a>(
     alloc: Global,
     case: &Case<'a>,
     entry: &Entry<'a>,
     shown: &[ShownCert<'_, 'a>],
     steps: &[Step<'a>],
-    shared: &mut SharedFolds<'a>,
 ) -> Result<Reason, GuardFault>
     requires whole { map shown_of shown.now ≡ certificates case.now.sequence.items }
     requires as_many { length steps.now ≡ length (certificates case.now.sequence.items) }
-    requires shared { AreSharedFolds case.now.policy case.now.most_nodes (tuples_of steps.now) shared.old }
-    ensures shared { IfOk result (λ reason. AreSharedFolds case.now.policy case.now.most_nodes (tuples_of steps.now) shared.new) }
     ensures exact { (es : List Entry) →
         IfOk result (IsReason (with_entries (model case.now) es) (tuples_of steps.now) entry.now) }
     ensures too_large { IsErrOf result GuardFault.TooLarge →
         TooLargeAt case.now.most_nodes case.now.policy (five (entry_tuple entry.now)) (tuples_of steps.now) }
     ensures small { IfOk result (λ reason. ¬ TooLargeAt case.now.most_nodes case.now.policy (five (entry_tuple entry.now)) (tuples_of steps.now)) }
 {
-    match entry_fold(alloc, case, entry, shown, steps, shared)? {
+    match entry_fold(alloc, case, entry, shown, steps)? {
         EntryFold::Stopped { item, cause } => Ok(Reason::Stopped { item, cause }),
         EntryFold::Done(five) => {
             let lack = five.first_lack(&case.key, &case.request, &case.moment, case.policy);

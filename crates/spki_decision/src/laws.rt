@@ -1,6 +1,6 @@
 //! Laws of grants, decisions and explanations.
 
-ghost use Rattle.std.specs.Prelude.{◌≡◌, ℕ, List, Result, Ok, Some, slice_get};
+ghost use Rattle.std.specs.Prelude.{◌≡◌, ◌⊎◌, ℕ, List, Result, Ok, Err, Some, slice_get};
 ghost use Rattle.spki_case.specs.Case.{Case, accepted_by};
 ghost use Rattle.spki_case.specs.CaseForm.{IsCaseText};
 ghost use Rattle.spki_decision.specs.declared.decision.Decision.{Decision};
@@ -14,12 +14,10 @@ ghost use Rattle.spki_decision.specs.Reduced.{IsSameReduction};
 ghost use Rattle.spki_decision.specs.Explained.{IsExplanation, IsSameExplanation, Agrees};
 ghost use Rattle.spki_decision.specs.Answered.{IsDecided, IsExplained, IsReduced, AreSame};
 ghost use Rattle.spki_cert.specs.declared.entry.Entry.{Entry};
-ghost use Rattle.spki_reduce.specs.Tuples.{Tuple, five};
-ghost use Rattle.spki_reduce.specs.Views.{entry_tuple};
-ghost use Rattle.spki_reduce.specs.Chain.{TooLargeAt};
+ghost use Rattle.spki_reduce.specs.Tuples.{Tuple};
 ghost use Rattle.spki_decision.specs.Supported.{Supported};
 ghost use Rattle.spki_decision.specs.Asked.{Signed, asked, IsAccepted, AgreeOn};
-ghost use Rattle.spki_decision.specs.LeftOut.{IsLeftOut, IsKept, kept_case, AreRenumbered};
+ghost use Rattle.spki_decision.specs.LeftOut.{IsLeftOut, IsKept, kept_case, IsRenumbered};
 
 use spki_case::Verifier;
 
@@ -39,7 +37,8 @@ pub fn decided_as_explained<V: Verifier>()
 {}
 
 /// By one verifier, a text or a case has at most one answer of `decide`: a decision, or the refusal `TooLarge`. The same
-/// holds for a text by its own accepted list.
+/// holds for a text by its own accepted list. A case has at most one decision by membership, and `decide` returns it unless the answer is
+/// `TooLarge`.
 pub fn one_decision<V: Verifier>()
     ensures verified { (verifier : V) (text : List ℕ) (c d : Case) (x y : Result Decision GuardFault)
         → IsCaseText text c → IsCaseText text d
@@ -48,6 +47,10 @@ pub fn one_decision<V: Verifier>()
         → IsDecided c (V.accepted verifier) x → IsDecided c (V.accepted verifier) y → x ≡ y }
     ensures own { (text : List ℕ) (c d : Case) (x y : Result Decision GuardFault) → IsCaseText text c → IsCaseText text d
         → IsDecided c (accepted_by c) x → IsDecided d (accepted_by d) y → x ≡ y }
+    ensures members { (verifier : V) (c : Case) (x y : Decision)
+        → IsDecision c (V.accepted verifier) x → IsDecision c (V.accepted verifier) y → x ≡ y }
+    ensures alike { (verifier : V) (c : Case) (x : Result Decision GuardFault) (d : Decision)
+        → IsDecided c (V.accepted verifier) x → IsDecision c (V.accepted verifier) d → (x ≡ Ok d) ⊎ (x ≡ Err GuardFault.TooLarge) }
 {}
 
 /// By one verifier, a text or a case has at most one answer of `explain`: the first certificate that does not stand, with
@@ -84,19 +87,17 @@ pub fn no_refusal<V: Verifier>()
 {}
 
 /// An entry whose subject's principal does not name the key of the first issuer, or the client's key if no certificate is
-/// shown, supports nothing, and no step of its chain is too large.
+/// shown, supports nothing.
 pub fn left_out()
-    ensures nothing { (c : Case) (tuples : List Tuple) (e : Entry) → IsLeftOut c tuples e → ¬ Supported c tuples e }
-    ensures small { (c : Case) (tuples : List Tuple) (e : Entry) → IsLeftOut c tuples e
-        → ¬ TooLargeAt c.most_nodes c.policy (five (entry_tuple e)) tuples }
+    ensures { (c : Case) (tuples : List Tuple) (e : Entry) → IsLeftOut c tuples e → ¬ Supported c tuples e }
 {}
 
-/// So the decision of a list is that of its other entries, with their numbers in the list. Entries may be stored in any way
+/// So the decision of a list by membership is that of its other entries, with their numbers in the list. Entries may be stored in any way
 /// and found by the principal of their subject.
 pub fn decided_by_kept<V: Verifier>()
-    ensures { (verifier : V) (c : Case) (kept : List (ℕ × Entry)) (x y : Result Decision GuardFault)
-        → IsKept c (V.accepted verifier) kept → IsDecided (kept_case c kept) (V.accepted verifier) x
-        → AreRenumbered kept x y → IsDecided c (V.accepted verifier) y }
+    ensures { (verifier : V) (c : Case) (kept : List (ℕ × Entry)) (x y : Decision)
+        → IsKept c (V.accepted verifier) kept → IsDecision (kept_case c kept) (V.accepted verifier) x
+        → IsRenumbered kept x y → IsDecision c (V.accepted verifier) y }
 {}
 
 /// Two verifiers that agree on the signatures that they are asked about give the same answers, whatever else they accept.
@@ -107,6 +108,8 @@ pub fn asks_whole<V: Verifier>()
         → x ≡ Ok No }
     ensures decision { (one other : V) (c : Case) (x : Result Decision GuardFault)
         → AgreeOn (V.accepted one) (V.accepted other) (asked c) → IsDecided c (V.accepted one) x → IsDecided c (V.accepted other) x }
+    ensures members { (one other : V) (c : Case) (d : Decision)
+        → AgreeOn (V.accepted one) (V.accepted other) (asked c) → IsDecision c (V.accepted one) d → IsDecision c (V.accepted other) d }
     ensures explanation { (one other : V) (c : Case) (x : Result Explanation GuardFault)
         → AgreeOn (V.accepted one) (V.accepted other) (asked c) → IsExplained c (V.accepted one) x → IsExplained c (V.accepted other) x }
     ensures reduction { (one other : V) (c : Case) (x : Result Reduction GuardFault)

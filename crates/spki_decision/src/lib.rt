@@ -2,7 +2,6 @@
 //! request or do not (RFC 2693, section 6).
 #![tactic(auto)]
 
-mod bare_steps;
 mod certificates;
 mod decision;
 mod entry_chain;
@@ -11,17 +10,13 @@ mod examination;
 mod explanation;
 mod fault;
 pub mod laws;
+mod membership;
 mod named_key;
-mod recent_runs;
 mod reduction;
-mod shared_folds;
-mod shared_tests;
-mod shared_work;
+mod required_subject;
 mod shown_keys;
 mod signed;
-mod subject_path;
-mod tag_run;
-mod timely_steps;
+mod sizes;
 
 pub use certificates::{Certificate, ShownCert, certificates_of};
 pub use decision::{Decision, decide, first_granted};

@@ -10,13 +10,12 @@ ghost use Rattle.spki_reduce.specs.Tuples.{five};
 ghost use Rattle.spki_reduce.specs.Chain.{tuples_of, TooLargeAt};
 ghost use Rattle.spki_reduce.specs.Views.{entry_tuple};
 ghost use Rattle.spki_decision.specs.Supported.{AllSmall};
-ghost use Rattle.spki_decision.specs.SharedFolds.{AreSharedFolds};
 ghost use Rattle.spki_decision.specs.Reduced.{IsEntryFold, IsOwn, IsReduction, IsDated, EndsAtDate, AreDated, EndAtDates, HasLargeTags, SomeTooLarge};
 
 use crate::certificates::{ShownCert, certificates_of};
+use crate::entry_chain::fold_entry;
 use crate::evidence::{Evidence, Stop, judge};
 use crate::fault::GuardFault;
-use crate::shared_folds::SharedFolds;
 use spki_case::{Case, Verifier};
 use spki_cert::Entry;
 use spki_reduce::{Cause, Five, Fold, Step};
@@ -100,27 +99,23 @@ pub fn entry_folds<'a>(
     ensures small { OnOk result (AllSmall (with_entries (model case.now) acl.now) (tuples_of steps.now)) }
 {
     let shown = certificates_of(alloc, &case.sequence)?;
-    let mut shared = SharedFolds::of(alloc, steps)?;
     let mut folds = Vec::new(alloc);
     for entry in acl {
-        folds.push(entry_fold(alloc, case, entry, &shown, steps, &mut shared)?)?;
+        folds.push(entry_fold(alloc, case, entry, &shown, steps)?)?;
     }
     Ok(folds)
 }
 
-/// Returns what an entry becomes with the steps of `shown`, the case's certificates, after it. `shared` is what the entries share.
+/// Returns what an entry becomes with the steps of `shown`, the case's certificates, after it.
 pub(crate) fn entry_fold<'a>(
     alloc: Global,
     case: &Case<'a>,
     entry: &Entry<'a>,
     shown: &[ShownCert<'_, 'a>],
     steps: &[Step<'a>],
-    shared: &mut SharedFolds<'a>,
 ) -> Result<EntryFold<'a>, GuardFault>
     requires whole { map shown_of shown.now ≡ certificates case.now.sequence.items }
     requires as_many { length steps.now ≡ length (certificates case.now.sequence.items) }
-    requires shared { AreSharedFolds case.now.policy case.now.most_nodes (tuples_of steps.now) shared.old }
-    ensures shared { IfOk result (λ fold. AreSharedFolds case.now.policy case.now.most_nodes (tuples_of steps.now) shared.new) }
     ensures exact { (es : List Entry) →
         IfOk result (IsEntryFold (with_entries (model case.now) es) (tuples_of steps.now) entry.now) }
     ensures issuer { IfOk result IsOwn }
@@ -130,7 +125,7 @@ pub(crate) fn entry_fold<'a>(
         TooLargeAt case.now.most_nodes case.now.policy (five (entry_tuple entry.now)) (tuples_of steps.now) }
     ensures small { IfOk result (λ fold. ¬ TooLargeAt case.now.most_nodes case.now.policy (five (entry_tuple entry.now)) (tuples_of steps.now)) }
 {
-    match shared.fold(alloc, entry, steps, case.policy, case.most_nodes)? {
+    match fold_entry(alloc, entry, steps, case.policy, case.most_nodes)? {
         Fold::Done(five) => {
             five.window.known();
             Ok(EntryFold::Done(five))

@@ -5,8 +5,7 @@ use Rattle.spki_case.specs.Case.{Case, Verified}
 use Rattle.spki_decision.specs.declared.decision.Decision.{Decision}
 use Rattle.spki_decision.specs.Asked.{asked}
 use Rattle.spki_decision.specs.Views.{with_entries}
-use Rattle.spki_decision.proofs.OneDecision.{decided_one, explained_one, explained_small, reduced_one, reduced_small}
-use Rattle.spki_decision.proofs.Unrefused.{not_both}
+use Rattle.spki_decision.proofs.OneDecision.{decision_one, explained_one, explained_small, reduced_one, reduced_small}
 use Rattle.spki_service.specs.Held.{Held, AreEntries}
 use Rattle.spki_service.specs.Asking.{AskedOf}
 use Rattle.spki_service.specs.declared.question.Question.{Question}
@@ -81,8 +80,7 @@ module _ (a : AskedOf) (es : List Entry) (are : AreEntries a.texts es) (verified
   writes_one : (wish : Wish) (x y : Verdict) (output line : List ℕ) → WritesAsked wish a verified x output
       → WritesAsked wish a verified y line → Same x y output line
   writes_one Decide x y output line (d, at, is) (e, also, other) =
-      let both : Ok d ≡ Ok e = decided_one whole verified (Ok d) (Ok e) (at es are) (also es are) in
-      let same : d ≡ e = cc in
+      let same : d ≡ e = decision_one whole verified d e (at es are) (also es are) in
       decision_line e x y output line (subst (λ (f : Decision). IsLineOf f x output) same is) other
   writes_one Explain x y output line (d, at, is) (e, also, other) =
       explanation_line d e x y output line (explained_one whole verified (Ok d) (Ok e) (at es are) (also es are)) is other
@@ -90,8 +88,7 @@ module _ (a : AskedOf) (es : List Entry) (are : AreEntries a.texts es) (verified
       reduction_line d e x y output line (reduced_one whole verified (Ok d) (Ok e) (at es are) (also es are)) is other
 
   writes_or_not : (wish : Wish) (x : Verdict) (output : List ℕ) → WritesAsked wish a verified x output → ¬ IsTooLargeFor wish a verified
-  writes_or_not Decide x output (d, at, is) large =
-      let answer = at es are in not_both whole verified d answer.0 answer.1 (large es are)
+  writes_or_not Decide x output w large = large
   writes_or_not Explain x output (d, at, is) large = explained_small whole verified d (at es are) (large es are)
   writes_or_not Reduce x output (d, at, end, is) large =
       let answer = at es are in reduced_small whole verified d answer.0 (large es are)

@@ -6,11 +6,11 @@ use Rattle.spki_decision.specs.declared.decision.Decision.{Decision}
 use Rattle.spki_decision.specs.declared.explanation.Explanation.{Explanation}
 use Rattle.spki_decision.specs.declared.reduction.Reduction.{Reduction}
 use Rattle.spki_decision.specs.declared.fault.GuardFault.TheVariants.{TooLarge}
-use Rattle.spki_decision.specs.Answered.{IsDecided, IsExplained, IsReduced}
+use Rattle.spki_decision.specs.Answered.{IsExplained, IsReduced}
 use Rattle.spki_decision.specs.Reduced.{EndAtDates}
 use Rattle.spki_decision.specs.Asked.{Signed, asked}
 use Rattle.spki_service.specs.Held.{Held}
-use Rattle.spki_service.specs.Asking.{AskedOf, OfCase, MarksAccept}
+use Rattle.spki_service.specs.Asking.{AskedOf, OfCase, Decides, MarksAccept}
 use Rattle.spki_service.specs.Questions.{IsAskedCase, IsNotAsked, asked_octets}
 use Rattle.spki_service.specs.declared.question.Question.{Question}
 use Rattle.spki_service.specs.declared.question.AskFault.{AskFault}
@@ -45,15 +45,15 @@ beside held c = record { texts = held.texts; case = c }
 -- windows that a reduction writes begin and end at dates.
 abbrev pub WritesAsked : Wish → AskedOf → Verified → Verdict → List ℕ → Type 0
 WritesAsked Decide a verified verdict output =
-    (d : Decision) × OfCase a (λ c. IsDecided c verified (Ok d)) × IsLineOf d verdict output
+    (d : Decision) × Decides verified a d × IsLineOf d verdict output
 WritesAsked Explain a verified verdict output =
     (e : Explanation) × OfCase a (λ c. IsExplained c verified (Ok e)) × IsExplanationReport e verdict output
 WritesAsked Reduce a verified verdict output =
     (r : Reduction) × OfCase a (λ c. IsReduced c verified (Ok r)) × EndAtDates r × IsReductionReport r verdict output
 
--- tags are too large for an answer
+-- tags are too large for an answer; for a decision none are
 abbrev pub IsTooLargeFor : Wish → AskedOf → Verified → Type 0
-IsTooLargeFor Decide a verified = OfCase a (λ c. IsDecided c verified (Err TooLarge))
+IsTooLargeFor Decide a verified = ⊥
 IsTooLargeFor Explain a verified = OfCase a (λ c. IsExplained c verified (Err TooLarge))
 IsTooLargeFor Reduce a verified = OfCase a (λ c. IsReduced c verified (Err TooLarge))
 

@@ -42,7 +42,8 @@ pub struct SignedOctets {
 ///
 /// A question that is not read is refused. The line is `refused question TooLong` exactly if its parts together have more octets
 /// than the guard's limit. Otherwise the line names the first part that has no reading, and its fault, such as `refused sequence
-/// Bad 5`; the word for the moment is `at`. If memory ran out, the line is `refused Memory`.
+/// Bad 5`; the word for the moment is `at`. `refused TooLarge` is an answer of `Explain` and `Reduce` alone. If memory ran out, the
+/// line is `refused Memory`.
 ///
 /// The result is `None` if the question is read and does not have as many signatures as there are marks.
 pub fn answer_question(
@@ -130,19 +131,18 @@ fn answer_wish(
     ensures large { IsErrOf result GuardFault.TooLarge → IsTooLargeFor wish read.now (marked read.now.case marks.now) }
 {
     match wish {
-        Wish::Decide => decided(alloc, read, marks),
+        Wish::Decide => Ok(decided(alloc, read, marks)?),
         Wish::Explain => explained(alloc, read, marks),
         Wish::Reduce => reduced(alloc, read, marks),
     }
 }
 
 /// The line of the decision.
-fn decided(alloc: Global, read: &Asked, marks: &[bool]) -> Result<Answer, GuardFault>
-    ensures written { IfOk result (λ a. WritesAsked Wish.Decide read.now (marked read.now.case marks.now) a.verdict (written_by a)) }
-    ensures large { IsErrOf result GuardFault.TooLarge → IsTooLargeFor Wish.Decide read.now (marked read.now.case marks.now) }
+fn decided(alloc: Global, read: &Asked, marks: &[bool]) -> Result<Answer, AllocError>
+    ensures { IfOk result (λ a. WritesAsked Wish.Decide read.now (marked read.now.case marks.now) a.verdict (written_by a)) }
 {
     let decision = read.decide_by(alloc, marks)?;
-    Ok(decision_line(alloc, decision)?)
+    decision_line(alloc, decision)
 }
 
 /// The lines of the explanation.

@@ -1,6 +1,5 @@
 -- What the entries that are found decide.
-use Rattle.std.proofs.Common.{◌≡◌, ℕ, ◌-◌, ◌<◌, Bool, true, false, List, Option, Some, None, map, length, get_or, slice_get, sym, ap, ◌∙◌, subst, arith, Result, Ok, Err}
-use Rattle.std.specs.Result.{IsErr, IsErrAnd}
+use Rattle.std.proofs.Common.{◌≡◌, ℕ, ◌-◌, ◌<◌, Bool, true, false, List, Option, Some, None, map, length, get_or, slice_get, sym, ap, ◌∙◌, subst, arith}
 use Rattle.std.proofs.lemmas.List.{length-map}
 use Rattle.std.proofs.lemmas.Option.{slice_get_within, slice_get-get_or}
 use Rattle.spki_cert.specs.declared.entry.Entry.{Entry}
@@ -9,9 +8,7 @@ use Rattle.spki_reduce.specs.Tuples.{Tuple}
 use Rattle.spki_case.specs.Case.{Case}
 use Rattle.spki_decision.specs.declared.decision.Decision.{Decision}
 use Rattle.spki_decision.specs.declared.decision.Decision.TheVariants.{Yes, No}
-use Rattle.spki_decision.specs.declared.fault.GuardFault.{GuardFault}
-use Rattle.spki_decision.specs.declared.fault.GuardFault.TheVariants.{TooLarge, Memory}
-use Rattle.spki_decision.specs.Supported.{Names, SmallUpTo, HasLarge}
+use Rattle.spki_decision.specs.Supported.{Names}
 use Rattle.spki_decision.specs.Views.{with_entries}
 use Rattle.spki_decision.specs.LeftOut.{AreKept, IsOf, IsLeftOut, first_key, second}
 use Rattle.spki_service.specs.Kept.{kept_from, first, numbers_from}
@@ -36,22 +33,11 @@ module _ (c : Case) (es : List Entry) (tuples : List Tuple) where
 
   module _ (numbers : List ℕ) (picked : List Entry) (numbers_are : numbers ≡ numbers_from 1 test es)
       (picked_are : picked ≡ map second (kept_from 1 test es)) where
-    partly : (result : Result Decision GuardFault) → DecidesKept (with_entries c es) tuples (kept_from 1 test es) result
-        → DecidesPartly (with_entries c es) tuples result
-    partly result h = (kept_from 1 test es, found_kept, h)
+    partly : (d : Decision) → DecidesKept (with_entries c es) tuples (kept_from 1 test es) d → DecidesPartly (with_entries c es) tuples d
+    partly d h = (kept_from 1 test es, found_kept, h)
 
-    pub large_partly : HasLarge (with_entries c picked) tuples → DecidesPartly (with_entries c es) tuples (Err TooLarge)
-    large_partly h = partly (Err TooLarge) (subst (λ (xs : List Entry). HasLarge (with_entries c xs) tuples) picked_are h)
-
-    pub no_partly : Names (with_entries c picked) tuples No → SmallUpTo (with_entries c picked) tuples No
-        → DecidesPartly (with_entries c es) tuples (Ok No)
-    no_partly named small =
-        partly (Ok No) (
-          No,
-          subst (λ (xs : List Entry). Names (with_entries c xs) tuples No) picked_are named,
-          subst (λ (xs : List Entry). SmallUpTo (with_entries c xs) tuples No) picked_are small,
-          tt,
-        )
+    pub no_partly : Names (with_entries c picked) tuples No → DecidesPartly (with_entries c es) tuples No
+    no_partly named = partly No (No, subst (λ (xs : List Entry). Names (with_entries c xs) tuples No) picked_are named, tt)
 
     long : length picked ≡ length numbers
     long = ap length picked_are ∙ length-map (kept_from 1 test es) second ∙ sym (length-map (kept_from 1 test es) first) ∙ sym (ap length numbers_are)
@@ -61,16 +47,15 @@ module _ (c : Case) (es : List Entry) (tuples : List Tuple) where
         let within = slice_get_within picked named.place named.entry named.stands in
         omega (arith, within, named.numbered, long)
 
-    pub yes_partly : (n d : ℕ) → Names (with_entries c picked) tuples (Yes n) → SmallUpTo (with_entries c picked) tuples (Yes n)
-        → DecidesPartly (with_entries c es) tuples (Ok (Yes (get_or numbers (n - 1) d)))
-    yes_partly n d named small =
+    pub yes_partly : (n d : ℕ) → Names (with_entries c picked) tuples (Yes n)
+        → DecidesPartly (with_entries c es) tuples (Yes (get_or numbers (n - 1) d))
+    yes_partly n d named =
         let there : slice_get numbers (n - 1) ≡ Some (get_or numbers (n - 1) d) = slice_get-get_or numbers (n - 1) d (place_within n named) in
         let at = numbered test es (n - 1) (get_or numbers (n - 1) d)
         (subst (λ (xs : List ℕ). slice_get xs (n - 1) ≡ Some (get_or numbers (n - 1) d)) numbers_are there) in
-        partly (Ok (Yes (get_or numbers (n - 1) d))) (
+        partly (Yes (get_or numbers (n - 1) d)) (
           Yes n,
           subst (λ (xs : List Entry). Names (with_entries c xs) tuples (Yes n)) picked_are named,
-          subst (λ (xs : List Entry). SmallUpTo (with_entries c xs) tuples (Yes n)) picked_are small,
           (n - 1, at.1, omega (arith, named.numbered), at.4),
         )
 
@@ -91,20 +76,3 @@ module _ (c : Case) (es : List Entry) (tuples : List Tuple) where
       → numbers ≡ numbers_from 1 (is_of c.policy (first_key c.key tuples)) es → AreNumbers long other
   numbers_are long numbers other same e are =
       subst (λ (ns : List ℕ). AreNumbers long ns) (sym (e ∙ are)) (numbers_within (is_of c.policy (first_key c.key tuples)) es long same)
-
--- ---- what is refused
-
-module _ (c : Case) (es : List Entry) (tuples : List Tuple) where
-  pub refused_partly : (r : Result Decision GuardFault) (e : GuardFault) → IsErr r → IsErrAnd r (λ f. f ≡ e) → e ≡ Memory
-      → DecidesPartly (with_entries c es) tuples r
-  refused_partly (Ok d) e is same memory = let clash : false ≡ true = is in absurd cc
-  refused_partly (Err TooLarge) e is same memory = let clash : TooLarge ≡ Memory = same ∙ memory in absurd cc
-  refused_partly (Err Memory) e is same memory = (kept_from 1 (test c es tuples) es, found_kept c es tuples, tt)
-
-  pub fault_partly : (numbers : List ℕ) (picked : List Entry) → numbers ≡ numbers_from 1 (test c es tuples) es
-      → picked ≡ map second (kept_from 1 (test c es tuples) es) → (r : Result Decision GuardFault) (e : GuardFault)
-      → IsErr r → IsErrAnd r (λ f. f ≡ e) → (e ≡ TooLarge → HasLarge (with_entries c picked) tuples)
-      → DecidesPartly (with_entries c es) tuples r
-  fault_partly numbers picked n p (Ok d) e is same large = let clash : false ≡ true = is in absurd cc
-  fault_partly numbers picked n p (Err TooLarge) e is same large = large_partly c es tuples numbers picked n p (large (sym same))
-  fault_partly numbers picked n p (Err Memory) e is same large = (kept_from 1 (test c es tuples) es, found_kept c es tuples, tt)

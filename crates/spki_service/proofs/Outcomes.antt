@@ -1,5 +1,6 @@
 -- What a verifier's answers make of a question that was examined.
-use Rattle.std.proofs.Common.{◌≡◌, ℕ, List, [], ◌∷◌, refl, sym, ◌∙◌, subst, Result, Ok, Err}
+use Rattle.std.proofs.Common.{◌≡◌, ℕ, List, [], ◌∷◌, refl, sym, ◌∙◌, subst, Result, Ok, Err, IfOk}
+use Rattle.std.specs.declared.alloc.AllocError.{AllocError}
 use Rattle.std.specs.List.{AllByRecursion}
 use Rattle.spki_cert.specs.declared.entry.Entry.{Entry}
 use Rattle.spki_reduce.specs.Tuples.{Tuple}
@@ -18,16 +19,16 @@ use Rattle.spki_decision.specs.declared.reduction.Reduction.TheVariants as reduc
 use Rattle.spki_decision.specs.Standing.{FailsAt, AreShown}
 use Rattle.spki_decision.specs.LeftOut.{AreKept, IsKept, IsLeftOut, kept_case}
 use Rattle.spki_decision.specs.Reduced.{IsFailure}
-use Rattle.spki_decision.specs.Answered.{IsDecided, IsExplained, IsReduced}
+use Rattle.spki_decision.specs.Answered.{IsExplained, IsReduced}
 use Rattle.spki_decision.specs.Asked.{Signed, asked, every, IsAccepted, AgreeOn, RefusedAt}
 use Rattle.spki_decision.specs.Views.{with_entries}
 use Rattle.spki_decision.proofs.Answering.{not_accepted}
-use Rattle.spki_decision.proofs.AskedWhole.{decided_by, explained_by, reduced_by}
-use Rattle.spki_decision.proofs.Entries.{decided, unrefused, too_large}
+use Rattle.spki_decision.proofs.AskedWhole.{decision_by, explained_by, reduced_by}
+use Rattle.spki_decision.proofs.Entries.{decided}
 use Rattle.spki_decision.proofs.Evident.{none_shown, one_list}
 use Rattle.spki_decision.proofs.KeptEntries.{renumbered}
 use Rattle.spki_decision.proofs.Stopping.{failure}
-use Rattle.spki_service.specs.Asking.{AskedOf, Answers}
+use Rattle.spki_service.specs.Asking.{AskedOf, Answers, Decides}
 use Rattle.spki_service.specs.Held.{AreEntries}
 use Rattle.spki_service.specs.Partly.{DecidesPartly}
 
@@ -42,10 +43,9 @@ module _ (a : AskedOf) (verified : Verified) where
     agree : AgreeOn every verified (asked a.case)
     agree = agrees verified (asked a.case) accepted
 
-    pub decided_all : (r : Result Decision GuardFault) → Answers (λ c x. IsDecided c every x) a r → Answers (λ c x. IsDecided c verified x) a r
-    decided_all (Ok d) h = λ es are. decided_by (with_entries a.case es) every verified agree (Ok d) (h es are)
-    decided_all (Err TooLarge) h = λ es are. decided_by (with_entries a.case es) every verified agree (Err TooLarge) (h es are)
-    decided_all (Err Memory) h = tt
+    pub decided_all : (r : Result Decision AllocError) → IfOk r (Decides every a) → IfOk r (Decides verified a)
+    decided_all (Ok d) h = λ es are. decision_by (with_entries a.case es) every verified agree d (h es are)
+    decided_all (Err fault) h = tt
 
     pub explained_all : (r : Result Explanation GuardFault) → Answers (λ c x. IsExplained c every x) a r
         → Answers (λ c x. IsExplained c verified x) a r
@@ -65,11 +65,8 @@ module _ (a : AskedOf) (verified : Verified) where
     fails : FailsAt a.case.policy verified a.case.items r.refused.item NotAccepted
     fails = not_accepted a.case.policy verified a.case.items (asked a.case) place refl r
 
-    pub decided_none : Answers (λ c x. IsDecided c verified x) a (Ok No)
-    decided_none = λ es are. (
-      λ n g. none_shown a.case.policy verified a.case.items r.refused.item NotAccepted g.tuples fails g.shown,
-      λ tuples shown. absurd (none_shown a.case.policy verified a.case.items r.refused.item NotAccepted tuples fails shown),
-    )
+    pub decided_none : Decides verified a No
+    decided_none = λ es are n g. none_shown a.case.policy verified a.case.items r.refused.item NotAccepted g.tuples fails g.shown
 
     failed : (item : ℕ) → item ≡ r.refused.item → (c : Case) → c.policy ≡ a.case.policy → c.items ≡ a.case.items
         → IsFailure c verified item NotAccepted
@@ -101,11 +98,8 @@ moved verified signed other place r same = record {
 
 module _ (a : AskedOf) where
   module _ (item : ℕ) (stop : Stop) (fails : FailsAt a.case.policy every a.case.items item stop) where
-    pub decided_failed : Answers (λ c x. IsDecided c every x) a (Ok No)
-    decided_failed = λ es are. (
-      λ n g. none_shown a.case.policy every a.case.items item stop g.tuples fails g.shown,
-      λ tuples shown. absurd (none_shown a.case.policy every a.case.items item stop tuples fails shown),
-    )
+    pub decided_failed : Decides every a No
+    decided_failed = λ es are n g. none_shown a.case.policy every a.case.items item stop g.tuples fails g.shown
 
     pub explained_failed : Answers (λ c x. IsExplained c every x) a (Ok (explanation.Evidence item stop))
     explained_failed = λ es are. failure (with_entries a.case es) every item stop fails
@@ -121,16 +115,10 @@ module _ (a : AskedOf) where
         one_list a.case.policy (keys_of a.case.items) every (certificates a.case.items) tuples others shown also in
         subst (λ (ts : List Tuple). AreKept (IsLeftOut (with_entries a.case es) ts) 1 es kept) same are
 
-    pub decided_partly : (r : Result Decision GuardFault)
-        → ((es : List Entry) → AreEntries a.texts es → DecidesPartly (with_entries a.case es) tuples r)
-        → Answers (λ c x. IsDecided c every x) a r
+    pub decided_partly : (r : Result Decision AllocError)
+        → ((es : List Entry) → AreEntries a.texts es → IfOk r (DecidesPartly (with_entries a.case es) tuples)) → IfOk r (Decides every a)
     decided_partly (Ok d) partly = λ es are.
         let h = partly es are in
         let c = with_entries a.case es in
-        renumbered c every h.0 (is_kept es h.0 h.1) (Ok h.2.0) (Ok d)
-        (decided (kept_case c h.0) every tuples shown h.2.0 h.2.1, unrefused (kept_case c h.0) every tuples shown h.2.0 h.2.2) h.2.3
-    decided_partly (Err TooLarge) partly = λ es are.
-        let h = partly es are in
-        let c = with_entries a.case es in
-        renumbered c every h.0 (is_kept es h.0 h.1) (Err TooLarge) (Err TooLarge) (too_large (kept_case c h.0) every tuples shown h.2) refl
-    decided_partly (Err Memory) partly = tt
+        renumbered c every h.0 (is_kept es h.0 h.1) h.2.0 d (decided (kept_case c h.0) every tuples shown h.2.0 h.2.1) h.2.2
+    decided_partly (Err fault) partly = tt

@@ -5,6 +5,8 @@ use Rattle.spki_cert.specs.declared.entry.Entry.{Entry}
 use Rattle.spki_case.specs.Case.{Case, Verified}
 use Rattle.spki_decision.specs.declared.fault.GuardFault.{GuardFault}
 use Rattle.spki_decision.specs.declared.fault.GuardFault.TheVariants.{TooLarge, Memory}
+use Rattle.spki_decision.specs.declared.decision.Decision.{Decision}
+use Rattle.spki_decision.specs.Decision.{IsDecision}
 use Rattle.spki_decision.specs.Views.{with_entries}
 use Rattle.spki_decision.specs.Asked.{Signed}
 use Rattle.spki_service.specs.Held.{AreEntries}
@@ -18,6 +20,10 @@ pub record AskedOf : Type 0 where
 -- a statement is true of the question's case with the guard's entries
 abbrev pub OfCase : AskedOf → (Case → Type 0) → Type 0
 OfCase a said = (es : List Entry) → AreEntries a.texts es → said (with_entries a.case es)
+
+-- a decision of the case with the guard's entries: the first entry that is granted, or no if none is
+abbrev pub Decides : Verified → AskedOf → Decision → Type 0
+Decides verified a d = OfCase a (λ c. IsDecision c verified d)
 
 -- An answer is an answer for the case with the guard's entries. Nothing is claimed if memory ran out.
 abbrev pub Answers : {A : Type 0} → (Case → Result A GuardFault → Type 0) → AskedOf → Result A GuardFault → Type 0

@@ -1,14 +1,12 @@
 -- The decision by the entries that are found for a question.
-use Rattle.std.specs.Prelude.{ℕ, List, Bool, false, Option, Some, None, Result, Ok, Err}
+use Rattle.std.specs.Prelude.{ℕ, List, Bool, false, Option, Some, None}
 use Rattle.spki_cert.specs.declared.entry.Entry.{Entry}
 use Rattle.spki_cert.specs.declared.principal.Policy.{Policy}
 use Rattle.spki_cert.specs.Naming.{names}
 use Rattle.spki_reduce.specs.Tuples.{Tuple}
 use Rattle.spki_case.specs.Case.{Case}
 use Rattle.spki_decision.specs.declared.decision.Decision.{Decision}
-use Rattle.spki_decision.specs.declared.fault.GuardFault.{GuardFault}
-use Rattle.spki_decision.specs.declared.fault.GuardFault.TheVariants.{TooLarge, Memory}
-use Rattle.spki_decision.specs.Supported.{Names, SmallUpTo, HasLarge}
+use Rattle.spki_decision.specs.Supported.{Names}
 use Rattle.spki_decision.specs.LeftOut.{AreKept, IsLeftOut, kept_case, IsRenumbered}
 
 -- whether an entry's principal names a key; false if there is no key
@@ -18,12 +16,9 @@ is_of policy (Some key) e = names policy e.subject.principal key
 
 -- The decision by the entries that are kept, if these are the tuples of the certificates. A decision names an entry by its
 -- number in the whole list.
-abbrev pub DecidesKept : Case → List Tuple → List (ℕ × Entry) → Result Decision GuardFault → Type 0
-DecidesKept c tuples kept (Ok d) =
-    (part : Decision) × Names (kept_case c kept) tuples part × SmallUpTo (kept_case c kept) tuples part × IsRenumbered kept part d
-DecidesKept c tuples kept (Err TooLarge) = HasLarge (kept_case c kept) tuples
-DecidesKept c tuples kept (Err Memory) = Unit {0}
+abbrev pub DecidesKept : Case → List Tuple → List (ℕ × Entry) → Decision → Type 0
+DecidesKept c tuples kept d = (part : Decision) × Names (kept_case c kept) tuples part × IsRenumbered kept part d
 
 -- the decision by some of the list's entries; only entries that may be left out are missing
-abbrev pub DecidesPartly : Case → List Tuple → Result Decision GuardFault → Type 0
-DecidesPartly c tuples result = (kept : List (ℕ × Entry)) × AreKept (IsLeftOut c tuples) 1 c.entries kept × DecidesKept c tuples kept result
+abbrev pub DecidesPartly : Case → List Tuple → Decision → Type 0
+DecidesPartly c tuples d = (kept : List (ℕ × Entry)) × AreKept (IsLeftOut c tuples) 1 c.entries kept × DecidesKept c tuples kept d

@@ -6,12 +6,12 @@ ghost use Rattle.spki_cert.specs.declared.entry.Entry.{Entry};
 ghost use Rattle.spki_reduce.specs.Chain.{tuples_of};
 ghost use Rattle.spki_case.specs.View.{model};
 ghost use Rattle.spki_decision.specs.Asked.{asked, every};
-ghost use Rattle.spki_decision.specs.Answered.{IsDecided, IsExplained, IsReduced};
+ghost use Rattle.spki_decision.specs.Answered.{IsExplained, IsReduced};
 ghost use Rattle.spki_decision.specs.Reduced.{EndAtDates};
 ghost use Rattle.spki_decision.specs.LeftOut.{first_key};
 ghost use Rattle.spki_decision.specs.Views.{signed_of, with_entries};
 ghost use Rattle.spki_service.specs.Held.{AreEntries};
-ghost use Rattle.spki_service.specs.Asking.{Answers, MarksAccept};
+ghost use Rattle.spki_service.specs.Asking.{Answers, Decides, MarksAccept};
 ghost use Rattle.spki_service.specs.Partly.{DecidesPartly};
 
 use crate::asked::Asked;
@@ -24,7 +24,7 @@ use spki_decision::{
     entry_reasons, first_granted, first_refused,
 };
 use spki_reduce::{Issuer, Step};
-use std::alloc::Global;
+use std::alloc::{AllocError, Global};
 
 impl<'a> Asked<'a> {
     /// The signatures that a verifier is asked about, in order (RFC 2693, section 6). They are those of the certificates
@@ -35,17 +35,19 @@ impl<'a> Asked<'a> {
         &self.examined.signed
     }
 
-    /// Decides the question, as `spki_decision::decide` decides the case of the question's parts and the guard's list. The
-    /// answer is yes exactly if both of these hold. Every certificate stands, with signatures that the verifier accepts. An
-    /// entry and all certificates, in their order, reduce to an authorization that grants the request. Only entries whose
-    /// principal names the first issuer's key are examined, or the client's key if no certificate is shown.
+    /// Decides the question (RFC 2693, section 6). The answer is yes exactly if both of these hold. Every certificate stands,
+    /// with signatures that the verifier accepts. An entry and all certificates, in their order, reduce to an authorization
+    /// that grants the request. The first such entry is named. Otherwise the answer is no.
+    ///
+    /// Only entries whose principal names the first issuer's key are examined, or the client's key if no certificate is shown.
+    /// No intersection is formed: the request is looked for in each tag. So no tag is too large, and the time is in proportion
+    /// to the octets of the question and of these entries.
     ///
     /// # Errors
     ///
-    /// `TooLarge` if an intersection exceeds the guard's limit of nodes. `Memory` if memory ran out, here or in the
-    /// verifier.
-    pub fn decide<V: Verifier>(&self, alloc: Global, verifier: &V) -> Result<Decision, GuardFault>
-        ensures { Answers (λ c answer. IsDecided c (V.accepted verifier.now) answer) self.now result }
+    /// `AllocError` if memory ran out, here or in the verifier.
+    pub fn decide<V: Verifier>(&self, alloc: Global, verifier: &V) -> Result<Decision, AllocError>
+        ensures { IfOk result (Decides (V.accepted verifier.now) self.now) }
     {
         match first_refused(alloc, &self.examined.signed, verifier)? {
             None => self.decided(alloc),
@@ -59,8 +61,8 @@ impl<'a> Asked<'a> {
     /// # Errors
     ///
     /// Those of `decide`.
-    pub fn decide_by(&self, alloc: Global, verified: &[bool]) -> Result<Decision, GuardFault>
-        ensures { Answers (λ c answer. IsDecided c (MarksAccept (asked self.now.case) verified.now) answer) self.now result }
+    pub fn decide_by(&self, alloc: Global, verified: &[bool]) -> Result<Decision, AllocError>
+        ensures { IfOk result (Decides (MarksAccept (asked self.now.case) verified.now) self.now) }
     {
         match first_unmarked(&self.examined.signed, verified) {
             None => self.decided(alloc),
@@ -69,8 +71,8 @@ impl<'a> Asked<'a> {
     }
 
     /// The decision if every signature is accepted.
-    fn decided(&self, alloc: Global) -> Result<Decision, GuardFault>
-        ensures { Answers (λ c answer. IsDecided c every answer) self.now result }
+    fn decided(&self, alloc: Global) -> Result<Decision, AllocError>
+        ensures { IfOk result (Decides every self.now) }
     {
         match &self.examined.evidence {
             Evidence::Fails { .. } => Ok(Decision::No),
@@ -79,9 +81,9 @@ impl<'a> Asked<'a> {
     }
 
     /// The decision if the certificates give these steps, by the entries that are found.
-    fn granted<'s>(&'s self, alloc: Global, steps: &'s [Step<'a>]) -> Result<Decision, GuardFault>
+    fn granted<'s>(&'s self, alloc: Global, steps: &'s [Step<'a>]) -> Result<Decision, AllocError>
         ensures { (es : List Entry) → AreEntries self.now.texts es
-            → DecidesPartly (with_entries self.now.case es) (tuples_of steps.now) result }
+            → IfOk result (DecidesPartly (with_entries self.now.case es) (tuples_of steps.now)) }
     {
         let guard = self.guard;
         let numbers = guard.numbers_of(alloc, first_key(&self.case.key, steps))?;

@@ -1,9 +1,8 @@
 //! The canonical texts of an access list's entries, and reading the entries from them.
 
-ghost use Rattle.std.specs.Prelude.{◌≡◌, ◌<◌, ◌∷◌, ◌++◌, [], ℕ, List, codes, length, map, drop, ◌+◌, slice_get, Some, IfOk, IfErr};
+ghost use Rattle.std.specs.Prelude.{◌≡◌, ◌<◌, ◌∷◌, ◌++◌, [], ℕ, List, codes, length, map, drop, ◌+◌, slice_get, Some, IfOk};
 ghost use Rattle.sexpr_core.specs.Value.{Value, canon, group, plain};
 ghost use Rattle.spki_cert.specs.declared.entry.Entry.{Entry};
-ghost use Rattle.spki_decision.specs.declared.fault.GuardFault.{GuardFault};
 ghost use Rattle.spki_cert.specs.Entries.{IsVersion};
 ghost use Rattle.spki_service.specs.Held.{IsEntryText, AreEntries, octets_of_texts};
 ghost use Rattle.spki_service.specs.Picked.{AreNumbers, ArePicked};
@@ -11,7 +10,6 @@ ghost use Rattle.spki_service.specs.Picked.{AreNumbers, ArePicked};
 use sexpr_core::Doc;
 use sexpr_core::syntax::{Members, Node};
 use spki_cert::{Entry, entry_of};
-use spki_decision::GuardFault;
 use std::alloc::{AllocError, Global};
 
 /// Returns the canonical texts of the entries of an access list. It has `count` entries.
@@ -59,18 +57,17 @@ fn member_texts(alloc: Global, members: Members<'_, '_>) -> Result<Vec<Vec<u8>>,
 ///
 /// # Errors
 ///
-/// Only `Memory`, if memory ran out.
-pub(crate) fn entry_in<'a>(alloc: Global, text: &'a [u8]) -> Result<Entry<'a>, GuardFault>
-    ensures entry { (e : Entry) → IsEntryText text.entry.now e → IfOk result (λ found. found ≡ e) }
-    ensures refused { IfErr result (λ fault. fault ≡ GuardFault.Memory) }
+/// `AllocError` if memory ran out.
+pub(crate) fn entry_in<'a>(alloc: Global, text: &'a [u8]) -> Result<Entry<'a>, AllocError>
+    ensures { (e : Entry) → IsEntryText text.entry.now e → IfOk result (λ found. found ≡ e) }
 {
     // The text is that of an entry, so the only fault is Memory.
     let Ok(document) = Doc::open(alloc, text) else {
-        return Err(GuardFault::Memory);
+        return Err(AllocError);
     };
     match entry_of(alloc, &document.top()) {
         Ok(entry) => Ok(entry),
-        Err(_) => Err(GuardFault::Memory),
+        Err(_) => Err(AllocError),
     }
 }
 
@@ -78,16 +75,15 @@ pub(crate) fn entry_in<'a>(alloc: Global, text: &'a [u8]) -> Result<Entry<'a>, G
 ///
 /// # Errors
 ///
-/// Only `Memory`, if memory ran out.
+/// `AllocError` if memory ran out.
 pub(crate) fn entries_at<'a>(
     alloc: Global,
     texts: &'a [Vec<u8>],
     numbers: &[usize],
-) -> Result<Vec<Entry<'a>>, GuardFault>
+) -> Result<Vec<Entry<'a>>, AllocError>
     requires { AreNumbers (length texts.now) numbers.now }
-    ensures picked { (es : List Entry) → AreEntries (octets_of_texts texts.entry.now) es
+    ensures { (es : List Entry) → AreEntries (octets_of_texts texts.entry.now) es
         → IfOk result (λ picked. ArePicked es numbers.now picked.items) }
-    ensures refused { IfErr result (λ fault. fault ≡ GuardFault.Memory) }
 {
     let mut picked = Vec::new(alloc);
     for number in numbers {
@@ -100,13 +96,12 @@ pub(crate) fn entries_at<'a>(
 ///
 /// # Errors
 ///
-/// Only `Memory`, if memory ran out.
+/// `AllocError` if memory ran out.
 pub(crate) fn all_entries<'a>(
     alloc: Global,
     texts: &'a [Vec<u8>],
-) -> Result<Vec<Entry<'a>>, GuardFault>
-    ensures all { (es : List Entry) → AreEntries (octets_of_texts texts.entry.now) es → IfOk result (λ all. all.items ≡ es) }
-    ensures refused { IfErr result (λ fault. fault ≡ GuardFault.Memory) }
+) -> Result<Vec<Entry<'a>>, AllocError>
+    ensures { (es : List Entry) → AreEntries (octets_of_texts texts.entry.now) es → IfOk result (λ all. all.items ≡ es) }
 {
     let mut all = Vec::new(alloc);
     for text in texts {

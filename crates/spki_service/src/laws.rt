@@ -8,11 +8,11 @@ ghost use Rattle.spki_decision.specs.declared.explanation.Explanation.{Explanati
 ghost use Rattle.spki_decision.specs.declared.reduction.Reduction.{Reduction};
 ghost use Rattle.spki_decision.specs.declared.fault.GuardFault.{GuardFault};
 ghost use Rattle.spki_decision.specs.declared.fault.GuardFault.TheVariants.{Memory};
-ghost use Rattle.spki_decision.specs.Answered.{IsDecided, IsExplained, IsReduced, AreSame};
+ghost use Rattle.spki_decision.specs.Answered.{IsExplained, IsReduced, AreSame};
 ghost use Rattle.spki_decision.specs.Asked.{Signed};
 ghost use Rattle.spki_decision.specs.Explained.{IsSameExplanation};
 ghost use Rattle.spki_decision.specs.Reduced.{IsSameReduction};
-ghost use Rattle.spki_service.specs.Asking.{AskedOf, Answers, MarksAccept};
+ghost use Rattle.spki_service.specs.Asking.{AskedOf, Answers, Decides, MarksAccept};
 ghost use Rattle.spki_service.specs.Held.{AreEntries, HoldsList};
 ghost use Rattle.spki_service.specs.Lists.{IsNoAccessList};
 ghost use Rattle.spki_service.specs.Moment.{IsDateAt, IsAtNoDate};
@@ -50,10 +50,8 @@ pub fn one_date()
 /// By one verifier, a question that was read has at most one answer of `Asked::decide`, of `explain` and of `reduce`, unless
 /// memory ran out. The texts are those of a guard's entries.
 pub fn one_answer<V: Verifier>()
-    ensures decision { (verifier : V) (a : AskedOf) (es : List Entry) (x y : Result Decision GuardFault) → AreEntries a.texts es
-        → x ≢ Err Memory → y ≢ Err Memory
-        → Answers (λ c answer. IsDecided c (V.accepted verifier) answer) a x
-        → Answers (λ c answer. IsDecided c (V.accepted verifier) answer) a y → x ≡ y }
+    ensures decision { (verifier : V) (a : AskedOf) (es : List Entry) (x y : Decision) → AreEntries a.texts es
+        → Decides (V.accepted verifier) a x → Decides (V.accepted verifier) a y → x ≡ y }
     ensures explanation { (verifier : V) (a : AskedOf) (es : List Entry) (x y : Result Explanation GuardFault) → AreEntries a.texts es
         → x ≢ Err Memory → y ≢ Err Memory
         → Answers (λ c answer. IsExplained c (V.accepted verifier) answer) a x
@@ -67,10 +65,8 @@ pub fn one_answer<V: Verifier>()
 /// By the same marks, a question that was read has at most one answer of `Asked::decide_by`, of `explain_by` and of `reduce_by`,
 /// unless memory ran out. The texts are those of a guard's entries.
 pub fn one_marked_answer()
-    ensures decision { (signed : List Signed) (marks : List Bool) (a : AskedOf) (es : List Entry) (x y : Result Decision GuardFault)
-        → AreEntries a.texts es → x ≢ Err Memory → y ≢ Err Memory
-        → Answers (λ c answer. IsDecided c (MarksAccept signed marks) answer) a x
-        → Answers (λ c answer. IsDecided c (MarksAccept signed marks) answer) a y → x ≡ y }
+    ensures decision { (signed : List Signed) (marks : List Bool) (a : AskedOf) (es : List Entry) (x y : Decision)
+        → AreEntries a.texts es → Decides (MarksAccept signed marks) a x → Decides (MarksAccept signed marks) a y → x ≡ y }
     ensures explanation { (signed : List Signed) (marks : List Bool) (a : AskedOf) (es : List Entry) (x y : Result Explanation GuardFault)
         → AreEntries a.texts es → x ≢ Err Memory → y ≢ Err Memory
         → Answers (λ c answer. IsExplained c (MarksAccept signed marks) answer) a x

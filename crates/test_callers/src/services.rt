@@ -7,7 +7,7 @@ ghost use Rattle.test_callers.specs.Serving.{AnswersQuestion};
 
 use crate::decisions::Unrevoked;
 use spki_cert::{Key, Policy};
-use spki_guard::{AclFault, AskFault, Decision, Guard, GuardFault, Limits, Question, Verifier};
+use spki_guard::{AclFault, AskFault, Decision, Guard, Limits, Question, Verifier};
 use std::alloc::Global;
 use thiserror::Error;
 
@@ -20,9 +20,9 @@ pub enum ServiceFault {
     /// The question is refused.
     #[error("{0}")]
     Question(AskFault),
-    /// The question is not decided.
-    #[error("{0}")]
-    Decision(GuardFault),
+    /// Memory ran out while the question was decided.
+    #[error("out of memory")]
+    Memory,
 }
 
 /// The answer of a guard to a question, without signatures of revoked keys.
@@ -45,7 +45,7 @@ fn answer<V: Verifier>(
     };
     match asked.decide(alloc, verifier) {
         Ok(decision) => Ok(decision),
-        Err(fault) => Err(ServiceFault::Decision(fault)),
+        Err(_) => Err(ServiceFault::Memory),
     }
 }
 
@@ -54,7 +54,7 @@ fn answer<V: Verifier>(
 ///
 /// # Errors
 ///
-/// `List` if the list is no access list, `Question` if a question is refused, `Decision` if a question is not decided.
+/// `List` if the list is no access list, `Question` if a question is refused, `Memory` if memory ran out.
 pub fn answer_both<V: Verifier>(
     alloc: Global,
     list: &[u8],

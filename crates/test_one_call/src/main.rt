@@ -8,7 +8,6 @@ mod cases;
 mod failure;
 mod forms;
 mod guards;
-mod long_lists;
 mod structures;
 mod tags;
 mod tuples;
@@ -84,9 +83,6 @@ fn of_guards(alloc: Global, name: &str) -> Option<Result<bool, Failure>> {
         "answer_question" => Some(guards::answer_question(alloc)),
         "signed_octets" => Some(guards::signed_octets(alloc)),
         "refused_list" => Some(guards::refused_list(alloc)),
-        "decide of nine entries" => Some(long_lists::decide(alloc)),
-        "explain of nine entries" => Some(long_lists::explain(alloc)),
-        "reduce of nine entries" => Some(long_lists::reduce(alloc)),
         _ => None,
     }
 }

@@ -5,11 +5,11 @@ use sexpr_core::{Doc, encode};
 use sexpr_text::{Form, convert};
 use spki_cert::Policy;
 use spki_guard::{
-    Asked, Case, Command, EntryFold, Explanation, Guard, GuardFault, Instant, Limits, Question,
-    Reduction, Signed, Verifier, Wanted, Wish, answer_question, answer_text, decide, explain,
-    reduce_case, signed_octets,
+    Asked, Case, Command, Decision, EntryFold, Explanation, Guard, GuardFault, Instant, Limits,
+    Question, Reduction, Signed, Verifier, Wanted, Wish, answer_question, answer_text, decide,
+    explain, reduce_case, signed_octets,
 };
-use std::alloc::Global;
+use std::alloc::{AllocError, Global};
 use std::test::Fail;
 
 /// A form of a text.
@@ -115,6 +115,14 @@ fn marks_of<V: Verifier>(
     Ok(marks)
 }
 
+/// Whether a case and a question are decided alike.
+fn same_decision(one: Result<Decision, GuardFault>, other: Result<Decision, AllocError>) -> bool {
+    match (one, other) {
+        (Ok(one), Ok(other)) => one == other,
+        (_, _) => false,
+    }
+}
+
 fn same_explanation(
     one: &Result<Explanation, GuardFault>,
     other: &Result<Explanation, GuardFault>,
@@ -188,7 +196,7 @@ fn same_reduction(
 /// Whether the answers by a verifier are those of the case.
 fn alike_by_verifier(alloc: Global, case: &Case, asked: &Asked) -> Result<bool, Fail> {
     let table = case.accepted();
-    let decision = decide(alloc, case, table) == asked.decide(alloc, table);
+    let decision = same_decision(decide(alloc, case, table), asked.decide(alloc, table));
     let explanation = same_explanation(&explain(alloc, case, table), &asked.explain(alloc, table));
     let reduction = same_reduction(
         alloc,
@@ -202,7 +210,7 @@ fn alike_by_verifier(alloc: Global, case: &Case, asked: &Asked) -> Result<bool, 
 fn alike_by_marks(alloc: Global, case: &Case, asked: &Asked) -> Result<bool, Fail> {
     let table = case.accepted();
     let marks = marks_of(alloc, asked.signed(), table)?;
-    let decision = decide(alloc, case, table) == asked.decide_by(alloc, &marks);
+    let decision = same_decision(decide(alloc, case, table), asked.decide_by(alloc, &marks));
     let explanation = same_explanation(
         &explain(alloc, case, table),
         &asked.explain_by(alloc, &marks),

@@ -14,6 +14,8 @@ use spki_tag::TagFault;
 use std::alloc::Global;
 use std::test::Fail;
 
+const KC: &str = "(public-key (test c))";
+
 /// An entry for KA with a tag for the request and less.
 const HOST: &str = "(entry (public-key (test a)) (tag (ftp host)))";
 
@@ -273,6 +275,64 @@ fn malformed_parts(rt: HostRuntime) -> Result<(), Fail> {
         };
         let answer = answer_question(alloc, Wish::Decide, &guard, &question, &[]).ok_or("marks")?;
         assert!(rt; answer.octets() == line.as_bytes(), "{line}");
+    }
+    Ok(())
+}
+
+/// A set of so many strings `a`.
+fn copies(alloc: Global, count: usize) -> Result<String, Fail> {
+    let mut tag = String::from(alloc, "(tag (* set")?;
+    for _ in 0..count {
+        tag.push_str(" a")?;
+    }
+    tag.push_str("))")?;
+    Ok(tag)
+}
+
+/// A certificate by one key for another, with this field and the signature.
+fn certified(alloc: Global, issuer: &str, subject: &str, fields: &[&str]) -> Result<String, Fail> {
+    let fields = joined(alloc, fields)?;
+    let parts = [
+        "(cert (issuer ",
+        issuer,
+        ") (subject ",
+        subject,
+        ") ",
+        &fields,
+        ")",
+    ];
+    signed(alloc, &joined(alloc, &parts)?, issuer)
+}
+
+/// The decision of a guard on a request of KC, if all signatures are verified. The entry and the first certificate are for 99 strings,
+/// the second certificate for so many.
+fn decided(alloc: Global, third: usize, request: &str) -> Result<Decision, Fail> {
+    let tag = copies(alloc, 99)?;
+    let list = joined(alloc, &["(acl (entry ", KA, " (propagate) ", &tag, "))"])?;
+    let first = certified(alloc, KA, KB, &["(propagate) ", &tag])?;
+    let second = certified(alloc, KB, KC, &[&copies(alloc, third)?])?;
+    let sequence = joined(alloc, &["(sequence ", &first, &second, ")"])?;
+    let guard = Guard::read(alloc, list.as_bytes(), Policy::Open, Limits::default())?;
+    let question = Question {
+        sequence: sequence.as_bytes(),
+        key: KC.as_bytes(),
+        request: Wanted::Text(request.as_bytes()),
+        moment: Instant::Text(NOW.as_bytes()),
+    };
+    let texts = guard.texts(alloc, &question)?;
+    let asked = guard.ask(alloc, &texts)?;
+    Ok(asked.decide_by(alloc, &[true, true])?)
+}
+
+/// The chain of the example, which a case refuses as `TooLarge` with 102 strings. A guard intersects nothing.
+#[test]
+fn limits(rt: HostRuntime) -> Result<(), Fail> {
+    for third in [101, 102, 1_023] {
+        assert!(rt;
+            decided(rt.alloc(), third, "a")? == Decision::Yes(1),
+            "{third}"
+        );
+        assert!(rt; decided(rt.alloc(), third, "b")? == Decision::No, "{third}");
     }
     Ok(())
 }

@@ -40,8 +40,8 @@ returns-in-Stands-clause-small g c =
     rw c.in-Stands.is at c.in_ok-judge.ensures in
     let shown : AreShown c.args.case.now.policy verified c.args.case.now.sequence.items (tuples_of c.in-Stands.steps.items) =
     rw c.deref.ensures.value at evidence in
-    let small = rw (c.deref-in-Stands-2.ensures.value, c.deref-in-Stands.ensures.value) at c.first_granted.ensures.small in
-    kept (model c.args.case.now) verified (tuples_of c.in-Stands.steps.items) shown c.first_granted.result small
+    let small = rw c.deref-in-Stands.ensures.value at c.first_within_limit.ensures.small in
+    kept (model c.args.case.now) verified (tuples_of c.in-Stands.steps.items) shown c.first_within_limit.result small
 
 pub returns-in-Fails-clause-exact : goal.returns-in-Fails-clause-exact
 returns-in-Fails-clause-exact g c n granted =
@@ -59,8 +59,8 @@ returns-in-Stands-clause-exact g c =
     rw c.in-Stands.is at c.in_ok-judge.ensures in
     let shown : AreShown c.args.case.now.policy verified c.args.case.now.sequence.items (tuples_of c.in-Stands.steps.items) =
     rw c.deref.ensures.value at evidence in
-    let named = rw (c.deref-in-Stands-2.ensures.value, c.deref-in-Stands.ensures.value) at c.first_granted.ensures.named in
-    lifted (model c.args.case.now) verified (tuples_of c.in-Stands.steps.items) shown c.first_granted.result named
+    let named = rw c.deref-in-Stands.ensures.value at c.first_within_limit.ensures.named in
+    lifted (model c.args.case.now) verified (tuples_of c.in-Stands.steps.items) shown c.first_within_limit.result named
 
 pub returns-in-Stands-clause-too_large : goal.returns-in-Stands-clause-too_large
 returns-in-Stands-clause-too_large g c h =
@@ -70,5 +70,5 @@ returns-in-Stands-clause-too_large g c h =
     let shown : AreShown c.args.case.now.policy verified c.args.case.now.sequence.items (tuples_of c.in-Stands.steps.items) =
     rw c.deref.ensures.value at evidence in
     let large : HasLarge (model c.args.case.now) (tuples_of c.in-Stands.steps.items) =
-    rw (c.deref-in-Stands-2.ensures.value, c.deref-in-Stands.ensures.value) at (c.first_granted.ensures.too_large h) in
+    rw c.deref-in-Stands.ensures.value at (c.first_within_limit.ensures.too_large h) in
     too_large (model c.args.case.now) verified (tuples_of c.in-Stands.steps.items) shown large

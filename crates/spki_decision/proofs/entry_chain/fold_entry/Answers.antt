@@ -7,7 +7,7 @@ use Rattle.spki_reduce.specs.declared.tuple.Step.{Step}
 use Rattle.spki_reduce.specs.Tuples.{FiveTuple, Tuple, five, own}
 use Rattle.spki_reduce.specs.Views.{entry_tuple, five_tuple, issuer_of}
 use Rattle.spki_reduce.specs.Chain.{tuples_of, FoldsTo, StopsAt, HasMet, TooLargeAt, Excludes, MatchFold}
-use Rattle.spki_decision.specs.SharedFolds.{IsWholeFold}
+use Rattle.spki_decision.specs.WholeFold.{IsWholeFold}
 use Rattle.spki_decision.proofs.entry_chain.fold_entry.Goals as goal
 
 no_steps : (steps : List Step) → tuples_of steps ≡ [] → steps ≡ []

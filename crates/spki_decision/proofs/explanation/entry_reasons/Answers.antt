@@ -21,19 +21,14 @@ loop-entry-preserved c = record {
   small = small_here (with_entries (model c.args.case.now) c.args.acl.now) c.args.acl.now c.loop-entry.entry-index c.entry-item.result
       refl c.loop-entry-test.true c.entry-item.is (tuples_of c.args.steps.now)
       c.in_ok-entry_reason.ensures.small c.loop-entry.invariant.small;
-  shared = c.in_ok-entry_reason.ensures.shared;
 }
 
 pub returns-clause-small : goal.returns-clause-small
 returns-clause-small c k e below there =
     c.loop-entry.invariant.small k e (omega arith) there
 
-pub entry_reason-requires-clause-shared : goal.entry_reason-requires-clause-shared
-entry_reason-requires-clause-shared c = c.loop-entry.invariant.shared
-
 pub loop-entry-init : goal.loop-entry-init
 loop-entry-init c = record {
   each = rw c.new-reasons.ensures.items tt;
   small = λ k e below there. absurd (omega (arith, below));
-  shared = c.in_ok-shared.ensures c.args.case.now.policy c.args.case.now.most_nodes;
 }

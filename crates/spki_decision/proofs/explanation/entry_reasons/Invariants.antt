@@ -4,7 +4,6 @@ use Rattle.spki_case.specs.View.{model}
 use Rattle.spki_reduce.specs.Chain.{tuples_of}
 use Rattle.spki_decision.specs.Views.{with_entries}
 use Rattle.spki_decision.specs.Explained.{IsReason}
-use Rattle.spki_decision.specs.SharedFolds.{AreSharedFolds}
 use Rattle.spki_decision.specs.Supported.{SmallBefore}
 use Rattle.spki_decision.proofs.explanation.entry_reasons.Given as goal
 
@@ -12,5 +11,4 @@ abbrev pub invariant-loop-entry : goal.invariant-loop-entry
 invariant-loop-entry l = record {
   each : AllZip (IsReason (with_entries (model l.case) l.acl) (tuples_of l.steps)) (take l.entry-index l.acl) l.reasons.items;
   small : SmallBefore (with_entries (model l.case) l.acl) (tuples_of l.steps) l.entry-index;
-  shared : AreSharedFolds l.case.policy l.case.most_nodes (tuples_of l.steps) l.shared;
 }

@@ -2,7 +2,7 @@ use Rattle.std.proofs.Common.{◌≡◌, Result}
 use Rattle.spki_decision.specs.declared.decision.Decision.{Decision}
 use Rattle.spki_decision.specs.declared.fault.GuardFault.{GuardFault}
 use Rattle.spki_decision.specs.Answered.{IsDecided}
-use Rattle.spki_decision.proofs.OneDecision.{decided_one, of_text, own_of_text}
+use Rattle.spki_decision.proofs.OneDecision.{decided_one, decided_or_large, decision_one, of_text, own_of_text}
 use Rattle.spki_decision.proofs.laws.one_decision.Goals as goal
 
 pub returns-clause-verified : goal.returns-clause-verified
@@ -14,3 +14,9 @@ returns-clause-own g c = own_of_text IsDecided (λ (x y : Result Decision GuardF
 
 pub returns-clause-same_case : goal.returns-clause-same_case
 returns-clause-same_case g c verifier k = decided_one k (g.V.Verifier.accepted verifier)
+
+pub returns-clause-members : goal.returns-clause-members
+returns-clause-members g c verifier k = decision_one k (g.V.Verifier.accepted verifier)
+
+pub returns-clause-alike : goal.returns-clause-alike
+returns-clause-alike g c verifier k = decided_or_large k (g.V.Verifier.accepted verifier)

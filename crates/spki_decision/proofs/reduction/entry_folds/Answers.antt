@@ -25,15 +25,11 @@ loop-entry-preserved c = record {
   small = small_here (with_entries (model c.args.case.now) c.args.acl.now) c.args.acl.now c.loop-entry.entry-index c.entry-item.result
       refl c.loop-entry-test.true c.entry-item.is (tuples_of c.args.steps.now)
       c.in_ok-entry_fold.ensures.small c.loop-entry.invariant.small;
-  shared = c.in_ok-entry_fold.ensures.shared;
 }
 
 pub returns-clause-small : goal.returns-clause-small
 returns-clause-small c k e below there =
     c.loop-entry.invariant.small k e (omega arith) there
-
-pub entry_fold-requires-clause-shared : goal.entry_fold-requires-clause-shared
-entry_fold-requires-clause-shared c = c.loop-entry.invariant.shared
 
 pub loop-entry-init : goal.loop-entry-init
 loop-entry-init c = record {
@@ -41,5 +37,4 @@ loop-entry-init c = record {
   dated = rw c.new-folds.ensures.items tt;
   end = rw c.new-folds.ensures.items tt;
   small = λ k e below there. absurd (omega (arith, below));
-  shared = c.in_ok-shared.ensures c.args.case.now.policy c.args.case.now.most_nodes;
 }

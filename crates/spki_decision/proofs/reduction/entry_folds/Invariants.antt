@@ -4,7 +4,6 @@ use Rattle.spki_case.specs.View.{model}
 use Rattle.spki_reduce.specs.Chain.{tuples_of}
 use Rattle.spki_decision.specs.Views.{with_entries}
 use Rattle.spki_decision.specs.Reduced.{IsEntryFold, IsDated, EndsAtDate}
-use Rattle.spki_decision.specs.SharedFolds.{AreSharedFolds}
 use Rattle.spki_decision.specs.Supported.{SmallBefore}
 use Rattle.spki_decision.proofs.reduction.entry_folds.Given as goal
 
@@ -14,5 +13,4 @@ invariant-loop-entry l = record {
   dated : AllByRecursion IsDated l.folds.items;
   end : AllByRecursion EndsAtDate l.folds.items;
   small : SmallBefore (with_entries (model l.case) l.acl) (tuples_of l.steps) l.entry-index;
-  shared : AreSharedFolds l.case.policy l.case.most_nodes (tuples_of l.steps) l.shared;
 }

@@ -8,4 +8,4 @@ loop-number-preserved c es are =
     let same = c.deref.ensures.value ∙ ap (λ v. v.items) c.index-texts-number.is in
     one_picked c.args.texts.now es c.args.numbers.now c.loop-number.number-index c.index-texts-number.result number are c.requires
     c.loop-number-test.true refl c.loop-number.picked.items c.push.new.self.items c.in_ok-entry_in.field-0 (c.loop-number.invariant es are)
-    (λ e is. c.in_ok-entry_in.ensures.entry e (rw same is)) c.in_ok-push.ensures.items
+    (λ e is. c.in_ok-entry_in.ensures e (rw same is)) c.in_ok-push.ensures.items

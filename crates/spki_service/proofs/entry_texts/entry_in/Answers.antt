@@ -5,8 +5,8 @@ use Rattle.spki_cert.specs.Entries.{EntryOf}
 use Rattle.spki_cert.proofs.OneReading.{entry-one}
 use Rattle.spki_service.proofs.entry_texts.entry_in.Goals as goal
 
-pub returns-in-Ok-entry_of-clause-entry : goal.returns-in-Ok-entry_of-clause-entry
-returns-in-Ok-entry_of-clause-entry c e is =
+pub returns-in-Ok-entry_of : goal.returns-in-Ok-entry_of
+returns-in-Ok-entry_of c e is =
     let read = c.in-Ok.ensures.read in
     let texts : canon c.in-Ok.document ≡ canon is.value = sym read.0 ∙ is.written in
     let value : c.in-Ok.document ≡ is.value = (canon_one c.in-Ok.document is.value [] [] (ap (λ s. s ++ []) texts)).0 in

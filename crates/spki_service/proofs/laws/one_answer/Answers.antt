@@ -1,16 +1,14 @@
-use Rattle.std.proofs.Common.{◌≡◌, Result}
-use Rattle.spki_decision.specs.declared.decision.Decision.{Decision}
-use Rattle.spki_decision.specs.declared.fault.GuardFault.{GuardFault}
 use Rattle.spki_decision.specs.Explained.{IsSameExplanation}
 use Rattle.spki_decision.specs.Reduced.{IsSameReduction}
-use Rattle.spki_decision.specs.Answered.{IsDecided, IsExplained, IsReduced, AreSame}
-use Rattle.spki_decision.proofs.OneDecision.{decided_one, explained_one, reduced_one}
+use Rattle.spki_decision.specs.Answered.{IsExplained, IsReduced, AreSame}
+use Rattle.spki_decision.proofs.OneDecision.{decision_one, explained_one, reduced_one}
+use Rattle.spki_decision.specs.Views.{with_entries}
 use Rattle.spki_service.proofs.OneAnswer.{answer_one}
 use Rattle.spki_service.proofs.laws.one_answer.Goals as goal
 
 pub returns-clause-decision : goal.returns-clause-decision
-returns-clause-decision g c verifier =
-    answer_one IsDecided (λ (x y : Result Decision GuardFault). x ≡ y) decided_one (g.V.Verifier.accepted verifier)
+returns-clause-decision g c verifier a es x y are h k =
+    decision_one (with_entries a.case es) (g.V.Verifier.accepted verifier) x y (h es are) (k es are)
 
 pub returns-clause-explanation : goal.returns-clause-explanation
 returns-clause-explanation g c verifier =

@@ -1,17 +1,15 @@
-use Rattle.std.proofs.Common.{◌≡◌, Result}
-use Rattle.spki_decision.specs.declared.decision.Decision.{Decision}
-use Rattle.spki_decision.specs.declared.fault.GuardFault.{GuardFault}
 use Rattle.spki_decision.specs.Explained.{IsSameExplanation}
 use Rattle.spki_decision.specs.Reduced.{IsSameReduction}
-use Rattle.spki_decision.specs.Answered.{IsDecided, IsExplained, IsReduced, AreSame}
-use Rattle.spki_decision.proofs.OneDecision.{decided_one, explained_one, reduced_one}
+use Rattle.spki_decision.specs.Answered.{IsExplained, IsReduced, AreSame}
+use Rattle.spki_decision.proofs.OneDecision.{decision_one, explained_one, reduced_one}
 use Rattle.spki_service.specs.Asking.{MarksAccept}
+use Rattle.spki_decision.specs.Views.{with_entries}
 use Rattle.spki_service.proofs.OneAnswer.{answer_one}
 use Rattle.spki_service.proofs.laws.one_marked_answer.Goals as goal
 
 pub returns-clause-decision : goal.returns-clause-decision
-returns-clause-decision c signed marks =
-    answer_one IsDecided (λ (x y : Result Decision GuardFault). x ≡ y) decided_one (MarksAccept signed marks)
+returns-clause-decision c signed marks a es x y are h k =
+    decision_one (with_entries a.case es) (MarksAccept signed marks) x y (h es are) (k es are)
 
 pub returns-clause-explanation : goal.returns-clause-explanation
 returns-clause-explanation c signed marks =

@@ -36,7 +36,7 @@ returns-in_ok-reasons-in-Stands c =
     let inner : (es : List Entry) → AreEntries c.self.inside.guard.now.texts es → AreReasons (with_entries m es) every c.in_ok-reasons-in-Stands.reasons.items =
     λ es are.
     let there : AreEntries (octets_of_texts c.deref.result.now) es = subst (λ (ts : List (List ℕ)). AreEntries ts es) (sym texts) are in
-    let all = c.deref-in-Stands.ensures.value ∙ c.in_ok-entries-in-Stands.ensures.all es there in
+    let all = c.deref-in-Stands.ensures.value ∙ c.in_ok-entries-in-Stands.ensures es there in
     let each = rw (c.deref-in-Stands-2.ensures.value, all) at c.in_ok-reasons-in-Stands.ensures.each in
     let small = rw (c.deref-in-Stands-2.ensures.value, all) at c.in_ok-reasons-in-Stands.ensures.small in
     are_reasons (with_entries m es) every tuples c.in_ok-reasons-in-Stands.reasons.items c.known.ensures stands each small in

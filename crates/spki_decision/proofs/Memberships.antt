@@ -1,0 +1,150 @@
+-- An entry is supported exactly if three tests pass that do not touch each other.
+use Rattle.std.proofs.Common.{◌≡◌, ◌↔◌, ℕ, Bool, true, false, ◌&&◌, List, [], ◌∷◌, ◌++◌, Option, Some, None, refl, sym, ◌∙◌, ap, subst, append-nil, take, drop, length, get_or, ◌<◌, ◌+◌}
+use Rattle.std.proofs.lemmas.List.{map-append, take_more, take-append-drop}
+use Rattle.std.proofs.lemmas.List.Folds.{list_all-append}
+use Rattle.std.proofs.lemmas.Grind.{flat_map-append}
+use Rattle.spki_cert.specs.declared.entry.Entry.{Entry}
+use Rattle.spki_cert.specs.declared.window.Window.{Window}
+use Rattle.spki_cert.specs.Time.{within}
+use Rattle.spki_tag.specs.Tag.{Tag, contains}
+use Rattle.spki_reduce.specs.declared.tuple.Step.{Step}
+use Rattle.spki_reduce.specs.Tuples.{FiveTuple, Tuple, five, own, tags_of, windows_of}
+use Rattle.spki_reduce.specs.Views.{entry_tuple, step_tuple}
+use Rattle.spki_reduce.specs.Derivation.{from_left}
+use Rattle.spki_reduce.specs.Restrictions.{in_each, within_each}
+use Rattle.spki_reduce.specs.Chain.{tuples_of, all_tags, all_windows}
+use Rattle.spki_reduce.proofs.Bracketing.{supported, from_left-leaves}
+use Rattle.spki_reduce.proofs.Chains.{tags_so_far, windows_so_far}
+use Rattle.spki_case.specs.Case.{Case}
+use Rattle.spki_decision.specs.declared.membership.Membership.{Membership}
+use Rattle.spki_decision.specs.declared.required_subject.RequiredSubject.{RequiredSubject}
+use Rattle.spki_decision.specs.Supported.{Supported}
+use Rattle.spki_decision.specs.Membership.{Leads, IsMetBy, IsRequiredBy, IsMembership}
+use Rattle.spki_decision.proofs.Leading.{issuer_kept}
+
+pub both : (a b : Bool) → (a && b) ≡ true → (a ≡ true) × (b ≡ true)
+both true b e = (refl, e)
+both false b e = absurd cc
+
+pub together : (a b : Bool) → a ≡ true → b ≡ true → (a && b) ≡ true
+together a b e f = ap (λ x. x && b) e ∙ f
+
+module _ (c : Case) (tuples : List Tuple) (e : Entry) where
+  abbrev first : Tuple
+  first = five (entry_tuple e)
+
+  -- the three tests
+  pub record Passes : Type 0 where
+    pub leads : Leads c.policy tuples c.key (entry_tuple e)
+    pub asked : (contains e.tag c.request ≡ true) × (in_each c.request (all_tags tuples) ≡ true)
+    pub timely : (within c.moment e.window ≡ true) × (within_each c.moment (all_windows tuples) ≡ true)
+
+  pub passes : Supported c tuples e → Passes
+  passes s =
+      let from = supported c.policy s.tree c.key c.request c.moment first tuples s.supports s.leaves_are in
+      let tags = tags_so_far c.policy first tuples from.root from.derived in
+      let windows = windows_so_far c.policy first tuples from.root from.derived in
+      record {
+        leads = record { root = from.root; derived = from.derived; is_for = record { whole = from.grants.whole; named = from.grants.named } };
+        asked = both (contains e.tag c.request) (in_each c.request (all_tags tuples)) (sym (ap (in_each c.request) tags) ∙ from.grants.asked);
+        timely = both (within c.moment e.window) (within_each c.moment (all_windows tuples))
+            (sym (ap (within_each c.moment) windows) ∙ from.grants.timely);
+      }
+
+  pub supports : Passes → Supported c tuples e
+  supports p =
+      let root = p.leads.root in
+      let tags = tags_so_far c.policy first tuples root p.leads.derived in
+      let windows = windows_so_far c.policy first tuples root p.leads.derived in
+      record {
+        tree = from_left first tuples;
+        leaves_are = from_left-leaves first tuples;
+        supports = record {
+          root = root;
+          derived = p.leads.derived;
+          grants = record {
+            issuer = issuer_kept c.policy tuples (entry_tuple e) root p.leads.derived;
+            whole = p.leads.is_for.whole;
+            named = p.leads.is_for.named;
+            asked = ap (in_each c.request) tags ∙ together (contains e.tag c.request) (in_each c.request (all_tags tuples)) p.asked.0 p.asked.1;
+            timely = ap (within_each c.moment) windows
+                ∙ together (within c.moment e.window) (within_each c.moment (all_windows tuples)) p.timely.0 p.timely.1;
+          };
+        };
+      }
+
+-- ---- memberships
+
+module _ (c : Case) (tuples : List Tuple) where
+  abbrev pub AllContain : Type 0
+  AllContain = (in_each c.request (all_tags tuples) ≡ true) × (within_each c.moment (all_windows tuples) ≡ true)
+
+  pub no_member : ¬ AllContain → (m : Membership) → m.required ≡ None → IsMembership c tuples m
+  no_member not m none e = (
+    λ s. let p = passes c tuples e s in absurd (not (p.asked.1, p.timely.1)),
+    λ h. absurd (subst (λ (r : Option RequiredSubject). IsMetBy c.policy r (entry_tuple e)) none h.0),
+  )
+
+  pub members : AllContain → (m : Membership) → IsRequiredBy c.policy tuples c.key m.required → IsMembership c tuples m
+  members all m required e = (
+    λ s. let p = passes c tuples e s in ((required (entry_tuple e)).0 p.leads, p.asked.0, p.timely.0),
+    λ h. supports c tuples e (record {
+      leads = (required (entry_tuple e)).1 h.0;
+      asked = (h.1, all.0);
+      timely = (h.2, all.1);
+    }),
+  )
+
+-- ---- one step more
+
+module _ (c : Case) (steps : List Step) (i : ℕ) (step : Step) (below : i < length steps) (here : step ≡ get_or steps i step) where
+  more : tuples_of (take (i + 1) steps) ≡ tuples_of (take i steps) ++ step_tuple step ∷ []
+  more = ap tuples_of (rw (← here) at (take_more steps i step below)) ∙ map-append step_tuple (take i steps) (step ∷ [])
+
+  more_tags : all_tags (tuples_of (take (i + 1) steps)) ≡ all_tags (tuples_of (take i steps)) ++ tags_of (step_tuple step)
+  more_tags = ap all_tags more ∙ flat_map-append tags_of (tuples_of (take i steps)) (step_tuple step ∷ [])
+      ∙ ap (λ ts. all_tags (tuples_of (take i steps)) ++ ts) (append-nil (tags_of (step_tuple step)))
+
+  more_windows : all_windows (tuples_of (take (i + 1) steps)) ≡ all_windows (tuples_of (take i steps)) ++ windows_of (step_tuple step)
+  more_windows = ap all_windows more ∙ flat_map-append windows_of (tuples_of (take i steps)) (step_tuple step ∷ [])
+      ∙ ap (λ ws. all_windows (tuples_of (take i steps)) ++ ws) (append-nil (windows_of (step_tuple step)))
+
+  asked_more : in_each c.request (all_tags (tuples_of (take (i + 1) steps)))
+      ≡ (in_each c.request (all_tags (tuples_of (take i steps))) && in_each c.request (tags_of (step_tuple step)))
+  asked_more = ap (in_each c.request) more_tags
+      ∙ list_all-append (λ (t : Tag). contains t c.request) (all_tags (tuples_of (take i steps))) (tags_of (step_tuple step))
+
+  timely_more : within_each c.moment (all_windows (tuples_of (take (i + 1) steps)))
+      ≡ (within_each c.moment (all_windows (tuples_of (take i steps))) && within_each c.moment (windows_of (step_tuple step)))
+  timely_more = ap (within_each c.moment) more_windows
+      ∙ list_all-append (λ (w : Window). within c.moment w) (all_windows (tuples_of (take i steps))) (windows_of (step_tuple step))
+
+  -- the steps up to one contain what is asked if it does and those before it do
+  pub contain_more : AllContain c (tuples_of (take i steps))
+      → (in_each c.request (tags_of (step_tuple step)) ≡ true) × (within_each c.moment (windows_of (step_tuple step)) ≡ true)
+      → AllContain c (tuples_of (take (i + 1) steps))
+  contain_more so_far this = (
+    asked_more ∙ together (in_each c.request (all_tags (tuples_of (take i steps)))) (in_each c.request (tags_of (step_tuple step))) so_far.0 this.0,
+    timely_more ∙ together (within_each c.moment (all_windows (tuples_of (take i steps)))) (within_each c.moment (windows_of (step_tuple step))) so_far.1 this.1,
+  )
+
+  -- all steps contain it only if each does
+  pub contain_each : AllContain c (tuples_of steps)
+      → (in_each c.request (tags_of (step_tuple step)) ≡ true) × (within_each c.moment (windows_of (step_tuple step)) ≡ true)
+  contain_each all =
+      let parted : steps ≡ take (i + 1) steps ++ drop (i + 1) steps = sym (take-append-drop (i + 1) steps) in
+      let tuples : tuples_of steps ≡ tuples_of (take (i + 1) steps) ++ tuples_of (drop (i + 1) steps) =
+      ap tuples_of parted ∙ map-append step_tuple (take (i + 1) steps) (drop (i + 1) steps) in
+      let tags : in_each c.request (all_tags (tuples_of steps))
+      ≡ (in_each c.request (all_tags (tuples_of (take (i + 1) steps))) && in_each c.request (all_tags (tuples_of (drop (i + 1) steps)))) =
+      ap (λ ts. in_each c.request (all_tags ts)) tuples
+      ∙ ap (in_each c.request) (flat_map-append tags_of (tuples_of (take (i + 1) steps)) (tuples_of (drop (i + 1) steps)))
+      ∙ list_all-append (λ (t : Tag). contains t c.request) (all_tags (tuples_of (take (i + 1) steps))) (all_tags (tuples_of (drop (i + 1) steps))) in
+      let windows : within_each c.moment (all_windows (tuples_of steps))
+      ≡ (within_each c.moment (all_windows (tuples_of (take (i + 1) steps))) && within_each c.moment (all_windows (tuples_of (drop (i + 1) steps)))) =
+      ap (λ ts. within_each c.moment (all_windows ts)) tuples
+      ∙ ap (within_each c.moment) (flat_map-append windows_of (tuples_of (take (i + 1) steps)) (tuples_of (drop (i + 1) steps)))
+      ∙ list_all-append (λ (w : Window). within c.moment w) (all_windows (tuples_of (take (i + 1) steps))) (all_windows (tuples_of (drop (i + 1) steps))) in
+      let asked = (both _ _ (sym tags ∙ all.0)).0 in
+      let timely = (both _ _ (sym windows ∙ all.1)).0 in
+      ((both _ _ (sym asked_more ∙ asked)).1, (both _ _ (sym timely_more ∙ timely)).1)

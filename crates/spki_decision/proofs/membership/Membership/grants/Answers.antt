@@ -1,0 +1,40 @@
+use Rattle.std.proofs.Common.{◌≡◌, true, false, sym, ◌∙◌, subst, Option, Some, None, List}
+use Rattle.spki_cert.specs.declared.entry.Entry.{Entry}
+use Rattle.spki_reduce.specs.Tuples.{Tuple}
+use Rattle.spki_reduce.specs.Views.{entry_tuple}
+use Rattle.spki_case.specs.View.{model}
+use Rattle.spki_decision.specs.declared.required_subject.RequiredSubject.{RequiredSubject}
+use Rattle.spki_decision.specs.Supported.{Supported}
+use Rattle.spki_decision.specs.Membership.{IsMembership, IsMetBy}
+use Rattle.spki_decision.proofs.membership.Membership.grants.Goals as goal
+use Rattle.spki_decision.proofs.membership.Membership.grants.Goals.{then-is_met_by, else-is_met_by}
+
+pub returns-in-None : goal.returns-in-None
+returns-in-None c tuples is =
+    let e = c.args.entry.now in
+    let none : Supported (model c.args.case.now) tuples e → ⊥ =
+    λ s. subst (λ (r : Option RequiredSubject). IsMetBy c.args.case.now.policy r (entry_tuple e)) c.in-None.is ((is e).0 s).0 in (
+      λ h. absurd (let clash : false ≡ true = h in cc),
+      λ s. absurd (none s),
+    )
+
+pub returns-else-holds : goal.returns-else-holds
+returns-else-holds c tuples is =
+    let e = c.args.entry.now in
+    let met : Supported (model c.args.case.now) tuples e → IsMetBy c.args.case.now.policy (Some c.in-Some.required) (entry_tuple e) =
+    λ s. subst (λ (r : Option RequiredSubject). IsMetBy c.args.case.now.policy r (entry_tuple e)) c.in-Some.is ((is e).0 s).0 in
+    let none : Supported (model c.args.case.now) tuples e → ⊥ =
+    elim c.if-is_met_by.branch [
+      | then-is_met_by w ↦ λ s.
+          let yes = sym w.value-is ∙ c.if-holds.false in
+          let asked = ((is e).0 s).1 in
+          let holds = w.holds.ensures in
+          let clash : false ≡ true = sym yes ∙ holds ∙ asked in cc
+      | else-is_met_by w ↦ λ s.
+          let no = w.if-is_met_by.false in
+          let yes = c.is_met_by.ensures.1 (met s) in
+          let clash : false ≡ true = sym no ∙ yes in cc
+    ] in (
+      λ h. absurd (let clash : false ≡ true = sym c.if-holds.false ∙ h in cc),
+      λ s. absurd (none s),
+    )

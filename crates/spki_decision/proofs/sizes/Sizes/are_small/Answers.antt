@@ -1,0 +1,37 @@
+use Rattle.std.proofs.Common.{◌≡◌, ◌+◌, ◌*◌, ◌≤◌, false, subst, sym, ◌∙◌, ap, arith}
+use borrow.Author.Tests.{leb-true}
+use Rattle.std.proofs.Math.Nat.{mul-le-mul_left, mul-le-mul_right}
+use Rattle.spki_tag.specs.Tag.{nodes, nests_set}
+use Rattle.spki_reduce.specs.Chain.{tuples_of}
+use Rattle.spki_decision.specs.Sizes.{ArePlain}
+use Rattle.spki_decision.proofs.SmallChains.{small_product}
+use Rattle.spki_decision.proofs.PlainChains.{small_plain}
+use Rattle.spki_decision.proofs.sizes.Sizes.are_small.Goals as goal
+
+pub returns-then-nodes-most : goal.returns-then-nodes-most
+returns-then-nodes-most c _ =
+    let counted = rw c.in-Some.is at c.requires.counted in
+    let small : nodes c.args.tag.now * c.in-Some.nodes ≤ c.args.most =
+    subst (λ n. n * c.in-Some.nodes ≤ c.args.most) c.nodes.ensures.count c.if-nodes-most.true in
+    small_product c.args.most c.args.tag.now (tuples_of c.args.steps.now) c.in-Some.nodes counted.0 small
+
+pub overflow_add-result : goal.overflow_add-result
+overflow_add-result c =
+    let plain : ArePlain (tuples_of c.args.steps.now) c.in-Some-plain.plain = rw c.in-Some-plain.is at c.requires.plain in
+    omega (arith, plain.few.0, c.nodes-then-not-nests_set.ensures.count, c.nodes-then-not-nests_set.ensures.normal.few)
+
+pub overflow_mul-result : goal.overflow_mul-result
+overflow_mul-result c =
+    let plain : ArePlain (tuples_of c.args.steps.now) c.in-Some-plain.plain = rw c.in-Some-plain.is at c.requires.plain in
+    let n = c.nodes-then-not-nests_set.result + c.in-Some-plain.plain.all in
+    let most : n * c.in-Some-plain.plain.most ≤ n * 1000000 = mul-le-mul_left n plain.few.1 in
+    omega (arith, most, plain.few.0, c.nodes-then-not-nests_set.ensures.count, c.nodes-then-not-nests_set.ensures.normal.few)
+
+-- no tag has a set
+pub returns-then-not-nests_set : goal.returns-then-not-nests_set
+returns-then-not-nests_set c small =
+    let plain : ArePlain (tuples_of c.args.steps.now) c.in-Some-plain.plain = rw c.in-Some-plain.is at c.requires.plain in
+    let no_set : nests_set c.args.tag.now ≡ false = sym c.nests_set.ensures ∙ c.if-not-nests_set.true in
+    let within : (nodes c.args.tag.now + c.in-Some-plain.plain.all) * c.in-Some-plain.plain.most ≤ c.args.most =
+    subst (λ n. (n + c.in-Some-plain.plain.all) * c.in-Some-plain.plain.most ≤ c.args.most) c.nodes-then-not-nests_set.ensures.count (leb-true _ _ small) in
+    small_plain c.args.most c.args.tag.now (tuples_of c.args.steps.now) c.in-Some-plain.plain plain no_set within

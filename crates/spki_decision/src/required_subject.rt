@@ -1,0 +1,165 @@
+//! The subject that certificates require of an entry, whatever their tags and windows are (RFC 2693, sections 6.3 and 6.4).
+
+ghost use Rattle.std.specs.Prelude.{◌≡◌, ◌≢◌, ◌↔◌, ◌∷◌, ◌++◌, ℕ, List, drop, IsTrue, IfOk, IfNone, IfSome};
+ghost use Rattle.spki_reduce.specs.Tuples.{five, four};
+ghost use Rattle.spki_reduce.specs.Views.{five_tuple, four_tuple, step_tuple};
+ghost use Rattle.spki_reduce.specs.Chain.{tuples_of};
+ghost use Rattle.spki_decision.specs.Membership.{Meets, IsRequiredBefore, IsRequiredBy};
+
+use spki_cert::{Key, Names, Octets, Policy, Subject};
+use spki_reduce::{Five, Four, Issuer, Step};
+use std::alloc::{AllocError, Global};
+
+/// What an authorization's subject must be so that certificates lead from it to a key.
+#[derive(Drop)]
+pub(crate) struct RequiredSubject<'a> {
+    /// Its principal names this key.
+    pub(crate) key: Key<'a>,
+    /// It has these names.
+    pub(crate) names: Names<'a>,
+    /// If true, it may delegate.
+    pub(crate) delegation: bool,
+}
+
+/// Returns the subject from which steps lead to a key. None if there is no such subject.
+///
+/// From the last step to the first, what is required after a step determines what is required before it. This takes time in
+/// proportion to the names of the steps' subjects.
+///
+/// # Errors
+///
+/// `AllocError` if memory ran out.
+pub(crate) fn required_subject<'a>(
+    alloc: Global,
+    steps: &[Step<'a>],
+    key: &Key<'a>,
+    policy: Policy,
+) -> Result<Option<RequiredSubject<'a>>, AllocError>
+    ensures { IfOk result (IsRequiredBy policy (tuples_of steps.now) key.now) }
+{
+    let mut required = RequiredSubject {
+        key: key.share(),
+        names: Names::of(Vec::new(alloc)),
+        delegation: false,
+    };
+    for done in 0..steps.len() {
+        let step = &steps[steps.len() - 1 - done];
+        match required.before(alloc, step, policy)? {
+            None => return Ok(None),
+            Some(earlier) => required = earlier,
+        }
+    }
+    Ok(Some(required))
+}
+
+impl<'a> RequiredSubject<'a> {
+    /// Whether a subject is as required. `propagate` says whether it may delegate. Allocates nothing.
+    pub(crate) fn is_met_by(&self, subject: &Subject, propagate: bool, policy: Policy) -> bool
+        ensures { IsTrue result ↔ Meets policy self.now subject.now.principal subject.now.names propagate }
+    {
+        (propagate || !self.delegation)
+            && are_same_names(&subject.names, &self.names)
+            && subject.principal.names(&self.key, policy)
+    }
+
+    /// What is required before a step, if this is required after it. None if the step leads to no such subject.
+    fn before(
+        self,
+        alloc: Global,
+        step: &Step<'a>,
+        policy: Policy,
+    ) -> Result<Option<RequiredSubject<'a>>, AllocError>
+        ensures { IfOk result (IsRequiredBefore policy (step_tuple step.now) self.entry) }
+    {
+        match step {
+            Step::Auth(next) => Ok(self.before_delegation(alloc, next, policy)),
+            Step::Name(definition) => self.before_definition(alloc, definition, policy),
+        }
+    }
+
+    /// Before an authorization: its issuer, without names, who may delegate.
+    fn before_delegation(
+        self,
+        alloc: Global,
+        next: &Five<'a>,
+        policy: Policy,
+    ) -> Option<RequiredSubject<'a>>
+        ensures { IsRequiredBefore policy (five (five_tuple next.now)) self.entry result }
+    {
+        if !self.is_met_by(&next.subject, next.propagate, policy) {
+            return None;
+        }
+        match &next.issuer {
+            Issuer::Own => None,
+            Issuer::Key(key) => Some(RequiredSubject {
+                key: key.share(),
+                names: Names::of(Vec::new(alloc)),
+                delegation: true,
+            }),
+        }
+    }
+
+    /// Before a name's definition: the name that it defines, and behind it the names that are required after those of its subject.
+    fn before_definition(
+        self,
+        alloc: Global,
+        definition: &Four<'a>,
+        policy: Policy,
+    ) -> Result<Option<RequiredSubject<'a>>, AllocError>
+        ensures { IfOk result (IsRequiredBefore policy (four (four_tuple definition.now)) self.entry) }
+    {
+        if !definition.subject.principal.names(&self.key, policy) {
+            return Ok(None);
+        }
+        let Some(rest) = names_after(self.names, &definition.subject.names) else {
+            return Ok(None);
+        };
+        let mut name = Vec::new(alloc);
+        name.push(definition.name.share())?;
+        Ok(Some(RequiredSubject {
+            key: definition.key.share(),
+            names: rest.behind(&Names::of(name))?,
+            delegation: self.delegation,
+        }))
+    }
+}
+
+/// The names after those in front. None if the names do not begin with those.
+fn names_after<'a>(names: Names<'a>, front: &Names) -> Option<Names<'a>>
+    ensures some { IfSome result (λ rest. names.entry ≡ front.now ++ rest) }
+    ensures none { IfNone result ((rest : List (List ℕ)) → names.entry ≢ front.now ++ rest) }
+{
+    let mut rest = names;
+    for place in 0..front.len() {
+        if !has_first(&rest, front.at(place)) {
+            return None;
+        }
+        rest = rest.behind_first();
+    }
+    Some(rest)
+}
+
+/// Whether this is the first of some names.
+fn has_first(names: &Names, name: &Octets) -> bool
+    ensures { IsTrue result ↔ (names.now ≡ name.now ∷ drop 1 names.now) }
+{
+    match names.first() {
+        None => false,
+        Some(first) => first.same(name),
+    }
+}
+
+/// Whether these are the same names.
+fn are_same_names(one: &Names, other: &Names) -> bool
+    ensures { IsTrue result ↔ (one.now ≡ other.now) }
+{
+    if one.len() != other.len() {
+        return false;
+    }
+    for place in 0..one.len() {
+        if !one.at(place).same(other.at(place)) {
+            return false;
+        }
+    }
+    true
+}
