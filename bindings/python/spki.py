@@ -117,7 +117,7 @@ class Limits:
     octets: int = 1_048_576
     """The most octets that the texts of a question may have together."""
     nodes: int = 1_000_000
-    """The most nodes of one tag times nodes of another for which their intersection is computed."""
+    """The most nodes of one tag times nodes of another for which `explain` and `reduce` compute their intersection."""
 
     def __post_init__(self) -> None:
         if not (0 <= self.octets <= 1_048_576 and 0 <= self.nodes <= 1_000_000):

@@ -31,7 +31,8 @@ pub struct Limits {
 
 impl Limits {
     /// `octets` is the most octets that the texts of a question may have together, up to 1,048,576. `nodes` is the most nodes of one
-    /// tag times nodes of another for which their intersection is computed, up to 1,000,000. `None` if a limit is higher.
+    /// tag times nodes of another for which `explain` and `reduce` compute their intersection, up to 1,000,000. `None` if a limit is
+    /// higher.
     pub fn new(octets: usize, nodes: usize) -> Option<Limits> {
         let most = Limits::default();
         (octets <= most.octets && nodes <= most.nodes).then_some(Limits { octets, nodes })

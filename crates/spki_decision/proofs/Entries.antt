@@ -44,9 +44,6 @@ module _ (c : Case) (tuples : List Tuple) (place : ℕ) (e : Entry) (stands : sl
   found s before =
       record { place = place; numbered = omega arith; entry = e; stands = stands; supported = s; none_before = before }
 
-pub none_at_all : (c : Case) (tuples : List Tuple) → NoneBefore c tuples (length c.entries) → Names c tuples No
-none_at_all c tuples none k e there = none k e (slice_get_within c.entries k e there) there
-
 -- ---- grants
 
 module _ (c : Case) (verified : Verified) (tuples : List Tuple) (shown : AreShown c.policy verified c.items tuples) where

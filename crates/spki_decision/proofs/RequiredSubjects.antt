@@ -18,75 +18,7 @@ use Rattle.spki_decision.proofs.Leading.{Goes, leads_alone, leads_first, leads_b
 never : (b : Bool) → b ≡ false → b ≡ true → ⊥
 never b e f = let g : false ≡ true = sym e ∙ f in cc
 
-same_key : (a b : List ℕ) → key a ≡ key b → a ≡ b
-same_key a b e = cc
-
-own_key : (a : List ℕ) → own ≡ key a → ⊥
-own_key a e = cc
-
 module _ (policy : Policy) (required : RequiredSubject) where
-  -- ---- an authorization
-
-  delegated_met : (t n m : FiveTuple) → Delegate policy t n m → IsMetBy policy (Some required) m → IsMetBy policy (Some required) n
-  delegated_met t n m j met =
-      subst (λ (r : FiveTuple). IsMetBy policy (Some required) r) j.result_is met
-
-  pub unmet_before : (n : FiveTuple) → ¬ IsMetBy policy (Some required) n → IsRequiredBefore policy (five n) required None
-  unmet_before n not t = (
-    λ b. not (delegated_met t n b.next b.joined b.met),
-    λ none. absurd none,
-  )
-
-  pub own_before : (n : FiveTuple) → n.issuer ≡ own → IsRequiredBefore policy (five n) required None
-  own_before n is t = (
-    λ b. own_key b.joined.issues.holder (sym is ∙ b.joined.issues.issued),
-    λ none. absurd none,
-  )
-
-  pub issuer_before : (n : FiveTuple) (earlier : RequiredSubject) → n.issuer ≡ key earlier.key → earlier.names ≡ [] → earlier.delegation ≡ true
-      → IsMetBy policy (Some required) n → IsRequiredBefore policy (five n) required (Some earlier)
-  issuer_before n earlier issued alone delegates met t = (
-    λ b.
-        let holder = same_key b.joined.issues.holder earlier.key (sym b.joined.issues.issued ∙ issued) in
-        record {
-          named = subst (λ (k : List ℕ). names policy t.principal k ≡ true) holder b.joined.issues.is_for.named;
-          names_are = b.joined.issues.is_for.whole ∙ sym alone;
-          allowed = λ _. b.joined.allowed;
-        },
-    λ m. record {
-      next = delegated t n;
-      joined = record {
-        issues = record {
-          holder = earlier.key;
-          issued = issued;
-          is_for = record { whole = m.names_are ∙ alone; named = m.named };
-        };
-        allowed = m.allowed delegates;
-        result_is = refl;
-      };
-      met = record { named = met.named; names_are = met.names_are; allowed = met.allowed };
-    },
-  )
-
-  -- ---- a definition
-
-  pub unnamed_before : (d : FourTuple) → names policy d.principal required.key ≡ false → IsRequiredBefore policy (four d) required None
-  unnamed_before d not t = (
-    λ b.
-        let same = ap (λ (r : FiveTuple). r.principal) b.joined.result_is in
-        never (names policy d.principal required.key) not
-        (subst (λ (p : Principal). names policy p required.key ≡ true) same b.met.named),
-    λ none. absurd none,
-  )
-
-  pub unbegun_before : (d : FourTuple) → ((rest : List (List ℕ)) → required.names ≢ d.names ++ rest) → IsRequiredBefore policy (four d) required None
-  unbegun_before d not t = (
-    λ b.
-        let same = ap (λ (r : FiveTuple). r.names) b.joined.result_is in
-        not b.joined.begins.rest (sym b.met.names_are ∙ same),
-    λ none. absurd none,
-  )
-
   pub defined_before : (d : FourTuple) (earlier : RequiredSubject) (rest : List (List ℕ)) → names policy d.principal required.key ≡ true
       → required.names ≡ d.names ++ rest → earlier.key ≡ d.key → earlier.names ≡ d.name ∷ rest → earlier.delegation ≡ required.delegation
       → IsRequiredBefore policy (four d) required (Some earlier)

@@ -15,3 +15,4 @@ pub mod DateLaws
 pub mod OneAsking
 pub mod OneList
 pub mod OneAnswer
+pub mod MarkedAlike

@@ -1,6 +1,6 @@
 -- Questions that are put to a guard, and its answers: those for the case of the guard's entries and the question's parts
 -- (RFC 2693, section 6).
-use Rattle.std.specs.Prelude.{◌≡◌, ℕ, List, Some, true, slice_get, Result, Ok, Err, Bool}
+use Rattle.std.specs.Prelude.{◌≡◌, ◌↔◌, ℕ, List, Some, true, slice_get, Result, Ok, Err, Bool}
 use Rattle.spki_cert.specs.declared.entry.Entry.{Entry}
 use Rattle.spki_case.specs.Case.{Case, Verified}
 use Rattle.spki_decision.specs.declared.fault.GuardFault.{GuardFault}
@@ -8,7 +8,7 @@ use Rattle.spki_decision.specs.declared.fault.GuardFault.TheVariants.{TooLarge, 
 use Rattle.spki_decision.specs.declared.decision.Decision.{Decision}
 use Rattle.spki_decision.specs.Decision.{IsDecision}
 use Rattle.spki_decision.specs.Views.{with_entries}
-use Rattle.spki_decision.specs.Asked.{Signed}
+use Rattle.spki_decision.specs.Asked.{Signed, IsAccepted}
 use Rattle.spki_service.specs.Held.{AreEntries}
 
 -- A question that was read. It has the canonical texts of the guard's entries, and the case of the question's parts, which
@@ -36,3 +36,8 @@ abbrev pub MarksAccept : List Signed → List Bool → Verified
 MarksAccept signed marks key message value =
     (place : ℕ) × (item : ℕ) × (slice_get marks place ≡ Some true)
     × (slice_get signed place ≡ Some (record { item = item; key = key; message = message; value = value }))
+
+-- Marks tell what a verifier accepts: the mark at the place of a signature is true exactly if the verifier accepts the signature.
+abbrev pub MarksTell : Verified → List Signed → List Bool → Type 0
+MarksTell verified signed marks =
+    (place : ℕ) (s : Signed) → slice_get signed place ≡ Some s → (slice_get marks place ≡ Some true) ↔ IsAccepted verified s

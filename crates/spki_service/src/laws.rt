@@ -1,6 +1,6 @@
 //! Laws of access lists, questions, answers and dates.
 
-ghost use Rattle.std.specs.Prelude.{◌≡◌, ◌≢◌, ℤ, ℕ, List, Bool, Result, Err};
+ghost use Rattle.std.specs.Prelude.{◌≡◌, ◌≢◌, ◌↔◌, ℤ, ℕ, List, Bool, Result, Err};
 ghost use Rattle.spki_cert.specs.declared.entry.Entry.{Entry};
 ghost use Rattle.spki_case.specs.Case.{Case};
 ghost use Rattle.spki_decision.specs.declared.decision.Decision.{Decision};
@@ -9,10 +9,10 @@ ghost use Rattle.spki_decision.specs.declared.reduction.Reduction.{Reduction};
 ghost use Rattle.spki_decision.specs.declared.fault.GuardFault.{GuardFault};
 ghost use Rattle.spki_decision.specs.declared.fault.GuardFault.TheVariants.{Memory};
 ghost use Rattle.spki_decision.specs.Answered.{IsExplained, IsReduced, AreSame};
-ghost use Rattle.spki_decision.specs.Asked.{Signed};
+ghost use Rattle.spki_decision.specs.Asked.{Signed, asked};
 ghost use Rattle.spki_decision.specs.Explained.{IsSameExplanation};
 ghost use Rattle.spki_decision.specs.Reduced.{IsSameReduction};
-ghost use Rattle.spki_service.specs.Asking.{AskedOf, Answers, Decides, MarksAccept};
+ghost use Rattle.spki_service.specs.Asking.{AskedOf, Answers, Decides, MarksAccept, MarksTell};
 ghost use Rattle.spki_service.specs.Held.{AreEntries, HoldsList};
 ghost use Rattle.spki_service.specs.Lists.{IsNoAccessList};
 ghost use Rattle.spki_service.specs.Moment.{IsDateAt, IsAtNoDate};
@@ -75,4 +75,11 @@ pub fn one_marked_answer()
         → AreEntries a.texts es → x ≢ Err Memory → y ≢ Err Memory
         → Answers (λ c answer. IsReduced c (MarksAccept signed marks) answer) a x
         → Answers (λ c answer. IsReduced c (MarksAccept signed marks) answer) a y → AreSame IsSameReduction x y }
+{}
+
+/// If the mark of each listed signature is true exactly if a verifier accepts the signature, `Asked::decide_by` these marks decides as
+/// `Asked::decide` by the verifier.
+pub fn marked_as_verified<V: Verifier>()
+    ensures { (verifier : V) (marks : List Bool) (a : AskedOf) (d : Decision) → MarksTell (V.accepted verifier) (asked a.case) marks
+        → Decides (MarksAccept (asked a.case) marks) a d ↔ Decides (V.accepted verifier) a d }
 {}

@@ -7,7 +7,8 @@ ghost use Rattle.std.specs.Prelude.{◌≡◌, ◌≤◌, ◌↔◌, IsSome, IfS
 pub struct Limits {
     /// The most octets of the four parts of a question together. At most 1,048,576.
     pub octets: usize,
-    /// The most nodes of two tags whose intersection is formed, as the product of their numbers. At most 1,000,000.
+    /// For `Asked::explain` and `reduce`: the most nodes of two tags whose intersection is formed, as the product of their numbers.
+    /// At most 1,000,000.
     pub nodes: usize,
     ghost octets_within: { octets ≤ 1048576 },
     ghost nodes_within: { nodes ≤ 1000000 },

@@ -283,18 +283,19 @@ fn sets_case(alloc: Global) -> Result<Vec<u8>, Fail> {
     Ok(convert(alloc, Form::Canonical, text.as_bytes())?)
 }
 
-/// The decision of a guard of a case's list with this limit of nodes, if every signature is accepted.
-fn decided_within(
-    alloc: Global,
-    text: &[u8],
-    nodes: usize,
-) -> Result<Result<Decision, GuardFault>, Fail> {
+/// The decision of a guard of a case's list with this limit of nodes, if every signature is accepted, and whether it explains it.
+fn answered_within(alloc: Global, text: &[u8], nodes: usize) -> Result<(Decision, bool), Fail> {
     let parts = parts_of(alloc, text, Spelling::Canonical)?;
     let limits = Limits::new(1_048_576, nodes).ok_or("no limits")?;
     let guard = Guard::read(alloc, &parts.list, parts.policy, limits)?;
     let texts = guard.texts(alloc, &question_of(&parts))?;
     let asked = guard.ask(alloc, &texts)?;
-    Ok(asked.decide_by(alloc, &[true]))
+    let explained = match asked.explain_by(alloc, &[true]) {
+        Ok(_) => true,
+        Err(GuardFault::TooLarge) => false,
+        Err(fault) => return Err(fault.into()),
+    };
+    Ok((asked.decide_by(alloc, &[true])?, explained))
 }
 
 /// The decision of the case itself.
@@ -307,16 +308,14 @@ fn decided_alone(alloc: Global, text: &[u8]) -> Result<Decision, Fail> {
 fn most_nodes(rt: HostRuntime) -> Result<(), Fail> {
     let text = sets_case(rt.alloc())?;
     assert!(rt; decided_alone(rt.alloc(), &text)? == Decision::Yes(1));
-    assert!(rt; decided_within(rt.alloc(), &text, 1_000_000)? == Ok(Decision::Yes(1)));
-    for (nodes, answer) in [
-        (NODES, Ok(Decision::Yes(1))),
-        (NODES - 1, Err(GuardFault::TooLarge)),
-        (0, Err(GuardFault::TooLarge)),
+    for (nodes, explained) in [
+        (1_000_000, true),
+        (NODES, true),
+        (NODES - 1, false),
+        (0, false),
     ] {
-        assert!(rt;
-            decided_within(rt.alloc(), &text, nodes)? == answer,
-            "{nodes}"
-        );
+        let answer = answered_within(rt.alloc(), &text, nodes)?;
+        assert!(rt; answer == (Decision::Yes(1), explained), "{nodes}");
     }
     Ok(())
 }
