@@ -38,7 +38,6 @@ MOST_FAULTS = 20
 VALGRIND_STEP = 9
 MOST_ASKS = 2097152
 # What a service may take from a client.
-SENT_OCTETS = 65536
 MOST_SECONDS, MOST_MEMORY = 10, 256
 STACK = 256 * 1024
 MEMORY = (2, b"refused Memory\n", b"")
@@ -184,7 +183,7 @@ def most_work():
         yield make.__name__, "check", make(long.LENGTHS[-1]), b"yes entry 1\n"
     for shape in slowest.SHAPES:
         yield shape.name, "check", shape.text(MOST_OCTETS)[1], b"no\n"
-    yield slowest.LARGE_TAG.name, "check", slowest.LARGE_TAG.text(SENT_OCTETS)[1], b"no\n"
+    yield slowest.large_tag.__name__, "check", slowest.large_tag(1, slowest.BEHIND_LARGE, slowest.MEMBERS), b"no\n"
     for what, text, answer in long.widest():
         yield what, "check", text, answer
         yield what, "explain", text, b"entry 1 "
