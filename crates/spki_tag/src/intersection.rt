@@ -158,7 +158,24 @@ impl Tag {
             × (ldepth c ≤ max (ldepth self.now) (ldepth other.now))) }
         ensures too_large { IsErrOf result MeetFault.TooLarge ↔ (1000000 < nodes self.now * nodes other.now) }
     {
-        if self.nodes() * other.nodes() > MOST_NODES {
+        self.meet_within(alloc, other, MOST_NODES)
+    }
+
+    /// Like `meet`, with `most` as the limit instead of 1,000,000.
+    ///
+    /// # Errors
+    ///
+    /// `TooLarge` if the product of the numbers of their nodes is over `most`, and `Memory` if memory ran out.
+    pub fn meet_within(&self, alloc: Global, other: &Tag, most: usize) -> Result<Tag, MeetFault>
+        requires { most ≤ 1000000 }
+        ensures which { IfOk result (λ c. c ≡ meet self.now other.now) }
+        ensures exact { IfOk result (λ c. (g : Request) → IsRequest g
+            → contains c g ≡ (contains self.now g && contains other.now g)) }
+        ensures bounds { IfOk result (λ c. (nodes c ≤ nodes self.now * nodes other.now)
+            × (ldepth c ≤ max (ldepth self.now) (ldepth other.now))) }
+        ensures too_large { IsErrOf result MeetFault.TooLarge ↔ (most < nodes self.now * nodes other.now) }
+    {
+        if self.nodes() * other.nodes() > most {
             return Err(MeetFault::TooLarge);
         }
         Ok(meet_tags(alloc, self, other)?)
