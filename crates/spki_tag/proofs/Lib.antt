@@ -7,13 +7,11 @@ pub mod Written
 pub mod Depth
 pub mod NormalTag
 pub mod MeetSteps
-pub mod InPlace
 pub mod OneTag
 pub mod Shown
 pub mod Refusals
 pub mod Found
 pub mod Spelling
-pub mod Staying
 pub mod Merging
 pub mod Requests
 pub mod Weight
@@ -36,4 +34,3 @@ pub mod FaultShows
 pub mod ThreeLimits
 pub mod ThreeStrings
 pub mod ThreeTags
-pub mod TagChains

@@ -7,8 +7,7 @@ use Rattle.std.specs.Cmp.Lexicographic.{slice_cmp, nat_list_cmp_total}
 use Rattle.spki_tag.specs.Tag.{Limit, is_within, is_above, is_below}
 use Rattle.std.specs.Cmp.Lexicographic.{same_text}
 use Rattle.std.proofs.lemmas.Map.Text.{is_eq-slice_cmp}
-use Rattle.spki_tag.specs.Leaves.{some_limit}
-use Rattle.spki_tag.specs.Meet.{greater_low, lesser_up, exclude, from, strict_limit}
+use Rattle.spki_tag.specs.Meet.{greater_low, lesser_up, exclude}
 
 -- ---- truth values
 
@@ -258,84 +257,7 @@ ended_before l u m v h = exclude-low_second l m (lesser_up u v) (exclude-up_firs
 pub begun_behind : (l u m v : Option Limit) → exclude l v ≡ true → exclude (greater_low l m) (lesser_up u v) ≡ true
 begun_behind l u m v h = exclude-low_first l m (lesser_up u v) (exclude-up_second l u v h)
 
--- ---- a limit with itself
-
-either : (b : Bool) (l : Option Limit) → (if b then l else l) ≡ l
-either true l = refl
-either false l = refl
-
-pub greater_low_same : (l m : Option Limit) → l ≡ m → greater_low l m ≡ l
-greater_low_same l m e = ap (greater_low l) (sym e) ∙ by l
-  where
-    by : (l : Option Limit) → greater_low l l ≡ l
-    by None = refl
-    by (Some l) = either (is_within (not l.strict) l.octets l.octets) (Some l)
-
-pub lesser_up_same : (l m : Option Limit) → l ≡ m → lesser_up l m ≡ l
-lesser_up_same l m e = ap (lesser_up l) (sym e) ∙ by l
-  where
-    by : (l : Option Limit) → lesser_up l l ≡ l
-    by None = refl
-    by (Some l) = either (is_within (not l.strict) l.octets l.octets) (Some l)
-
-same_limits : (s t : Bool) (x y : List ℕ) → s ≡ t → x ≡ y → some_limit s x ≡ some_limit t y
-same_limits s t x y h e = ap (λ b. some_limit b x) h ∙ ap (some_limit t) e
-
-pub greater_low_at : (s : Bool) (x y : List ℕ) → s ≡ false → x ≡ y
-    → greater_low (Some (record { strict = s; octets = x })) (from y) ≡ Some (record { strict = s; octets = x })
-greater_low_at s x y h e = greater_low_same (some_limit s x) (from y) (same_limits s false x y h e)
-
-pub lesser_up_at : (s : Bool) (x y : List ℕ) → s ≡ true → x ≡ y
-    → lesser_up (Some (record { strict = s; octets = x })) (strict_limit (Some y)) ≡ Some (record { strict = s; octets = x })
-lesser_up_at s x y h e = lesser_up_same (some_limit s x) (strict_limit (Some y)) (same_limits s true x y h e)
-
 -- ---- limits at the same string
 
 pub cmp_same : (x y : List ℕ) → slice_cmp nat_cmp x y ≡ Equal → x ≡ y
 cmp_same x y h = same_text x y (sym (ap is_eq h) ∙ is_eq-slice_cmp x y)
-
-low_at_same : (s t : Bool) (x y : List ℕ) → y ≡ x → slice_cmp nat_cmp y x ≡ Equal
-    → greater_low (some_limit s x) (some_limit t y) ≡ some_limit (s || t) x
-low_at_same true t x y e h = ap (λ r. if w false r then some_limit true x else some_limit t y) h
-low_at_same false t x y e h = ap (λ r. if w true r then some_limit false x else some_limit t y) h ∙ ap (some_limit t) e
-
-pub low_made_strict : (s t : Bool) (x y : List ℕ) → slice_cmp nat_cmp y x ≡ Equal → t ≡ true
-    → greater_low (some_limit s x) (some_limit t y) ≡ some_limit true x
-low_made_strict s t x y h k =
-    low_at_same s t x y (cmp_same y x h) h ∙ ap (λ b. some_limit (s || b) x) k ∙ by s
-  where
-    by : (s : Bool) → some_limit (s || true) x ≡ some_limit true x
-    by true = refl
-    by false = refl
-
-pub low_as_strict : (s t : Bool) (x y : List ℕ) → slice_cmp nat_cmp y x ≡ Equal → t ≡ false
-    → greater_low (some_limit s x) (some_limit t y) ≡ some_limit s x
-low_as_strict s t x y h k =
-    low_at_same s t x y (cmp_same y x h) h ∙ ap (λ b. some_limit (s || b) x) k ∙ by s
-  where
-    by : (s : Bool) → some_limit (s || false) x ≡ some_limit s x
-    by true = refl
-    by false = refl
-
-up_at_same : (s t : Bool) (x y : List ℕ) → x ≡ y → slice_cmp nat_cmp x y ≡ Equal
-    → lesser_up (some_limit s x) (some_limit t y) ≡ some_limit (s || t) x
-up_at_same true t x y e h = ap (λ r. if w false r then some_limit true x else some_limit t y) h
-up_at_same false t x y e h = ap (λ r. if w true r then some_limit false x else some_limit t y) h ∙ ap (some_limit t) (sym e)
-
-pub up_made_strict : (s t : Bool) (x y : List ℕ) → slice_cmp nat_cmp x y ≡ Equal → t ≡ true
-    → lesser_up (some_limit s x) (some_limit t y) ≡ some_limit true x
-up_made_strict s t x y h k =
-    up_at_same s t x y (cmp_same x y h) h ∙ ap (λ b. some_limit (s || b) x) k ∙ by s
-  where
-    by : (s : Bool) → some_limit (s || true) x ≡ some_limit true x
-    by true = refl
-    by false = refl
-
-pub up_as_strict : (s t : Bool) (x y : List ℕ) → slice_cmp nat_cmp x y ≡ Equal → t ≡ false
-    → lesser_up (some_limit s x) (some_limit t y) ≡ some_limit s x
-up_as_strict s t x y h k =
-    up_at_same s t x y (cmp_same x y h) h ∙ ap (λ b. some_limit (s || b) x) k ∙ by s
-  where
-    by : (s : Bool) → some_limit (s || false) x ≡ some_limit s x
-    by true = refl
-    by false = refl

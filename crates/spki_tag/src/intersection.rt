@@ -16,11 +16,11 @@ use crate::tag::{Node, Tag};
 use std::alloc::{AllocError, Global};
 
 /// The greatest product of the numbers of nodes of two tags that are intersected.
-pub(crate) const MOST_NODES: usize = 1_000_000;
+const MOST_NODES: usize = 1_000_000;
 
 /// Returns the intersection of two tags.
 #[cycle(meet)]
-pub(crate) fn meet_tags(alloc: Global, one: &Tag, other: &Tag) -> Result<Tag, AllocError>
+fn meet_tags(alloc: Global, one: &Tag, other: &Tag) -> Result<Tag, AllocError>
     requires { nodes one.now * nodes other.now ≤ most_nodes }
     ensures { IfOk result (λ c. c ≡ meet one.now other.now) }
 {
@@ -109,7 +109,7 @@ fn meet_each(alloc: Global, ones: &[Tag], others: &[Tag]) -> Result<Option<Vec<T
 /// Returns the set of the intersections of each tag with each of the others, in the order of the first and then of the
 /// second.
 #[cycle(meet)]
-pub(crate) fn meet_members(alloc: Global, ones: &[Tag], others: &[Tag]) -> Result<Tag, AllocError>
+fn meet_members(alloc: Global, ones: &[Tag], others: &[Tag]) -> Result<Tag, AllocError>
     requires bound { nodes_all (tags ones.now) * nodes_all (tags others.now) ≤ most_nodes }
     requires met { IsNormalTag (gather (pairs (tags ones.now) (tags others.now))) }
     ensures { IfOk result (λ c. c ≡ gather (pairs (tags ones.now) (tags others.now))) }
