@@ -31,6 +31,3 @@ pub mod NamedRequests
 pub mod Faultless
 pub mod MeetEquations
 pub mod FaultShows
-pub mod ThreeLimits
-pub mod ThreeStrings
-pub mod ThreeTags

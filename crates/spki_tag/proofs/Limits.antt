@@ -1,12 +1,10 @@
 -- What limits leave together.
-use Rattle.std.proofs.Common.{◌≡◌, ℕ, Bool, true, false, ◌&&◌, ◌||◌, not, List, Option, Some, None, refl, sym, ap, ◌∙◌, true≢false, Ordering as Order, Less, Equal, Greater, is_eq, is_lt, is_le, nat_cmp}
+use Rattle.std.proofs.Common.{◌≡◌, ℕ, Bool, true, false, ◌&&◌, ◌||◌, not, List, Option, Some, None, refl, sym, ap, ◌∙◌, true≢false, Ordering as Order, Less, Equal, Greater, is_lt, is_le, nat_cmp}
 use Rattle.std.specs.Prelude.{if◌then◌else◌}
 use Rattle.std.specs.Cmp.{IsTotalOrder, alike_right}
 use Rattle.std.specs.Ordering.{ordering_reverse}
 use Rattle.std.specs.Cmp.Lexicographic.{slice_cmp, nat_list_cmp_total}
 use Rattle.spki_tag.specs.Tag.{Limit, is_within, is_above, is_below}
-use Rattle.std.specs.Cmp.Lexicographic.{same_text}
-use Rattle.std.proofs.lemmas.Map.Text.{is_eq-slice_cmp}
 use Rattle.spki_tag.specs.Meet.{greater_low, lesser_up, exclude}
 
 -- ---- truth values
@@ -160,104 +158,3 @@ pub exclude-none : (low up : Option Limit) (x : List ℕ) → exclude low up ≡
 exclude-none None up x e h g = e
 exclude-none (Some l) None x e h g = e
 exclude-none (Some l) (Some u) x e h g = not_true _ e (within_chain l.strict u.strict l.octets x u.octets h g)
-
--- ---- limits that still exclude each other when they are narrowed
-
-refuted : (b : Bool) → (b ≡ true → false ≡ true) → not b ≡ true
-refuted true f = f refl
-refuted false f = refl
-
-strict_any : (t : Bool) (r : Order) → w true r ≡ true → w t r ≡ true
-strict_any t Less h = w_less t
-strict_any t Equal h = absurd (true≢false (sym h))
-strict_any t Greater h = absurd (true≢false (sym h))
-
-low_kept : (s t b : Bool) (r : Order) → w (not s || (s || b)) r ≡ true → w t r ≡ true
-low_kept true t b r h = strict_any t r h
-low_kept false t b r h = strict_any t r h
-
-low_lost : (s t b : Bool) (r : Order) → w (s || (t || b)) r ≡ true → w (s || b) r ≡ true
-low_lost true t b r h = h
-low_lost false t b r h = weak_second t b r h
-
-up_kept : (a s t : Bool) (r : Order) → w ((a || s) || not s) r ≡ true → w t r ≡ true
-up_kept true true t r h = strict_any t r h
-up_kept true false t r h = strict_any t r h
-up_kept false true t r h = strict_any t r h
-up_kept false false t r h = strict_any t r h
-
-up_lost : (a b c : Bool) (r : Order) → w ((a || b) || c) r ≡ true → w (a || c) r ≡ true
-up_lost true b c r h = h
-up_lost false b c r h = weak_second b c r h
-
-low_excluded : (l m u : Limit) (test : Bool) → is_within (not l.strict) m.octets l.octets ≡ test
-    → exclude (Some m) (Some u) ≡ true → exclude (if test then Some l else Some m) (Some u) ≡ true
-low_excluded l m u true e h =
-    refuted (is_within (l.strict || u.strict) l.octets u.octets) (λ k. not_true _ h
-    (low_kept l.strict (m.strict || u.strict) u.strict (slice_cmp nat_cmp m.octets u.octets)
-    (within_chain (not l.strict) (l.strict || u.strict) m.octets l.octets u.octets e k)))
-low_excluded l m u false e h = h
-
--- a lower limit that excludes an upper one, and the greater of another lower limit and it
-pub exclude-low_second : (l m u : Option Limit) → exclude m u ≡ true → exclude (greater_low l m) u ≡ true
-exclude-low_second l None u h = absurd (true≢false (sym h))
-exclude-low_second l (Some m) None h = absurd (true≢false (sym h))
-exclude-low_second None (Some m) (Some u) h = h
-exclude-low_second (Some l) (Some m) (Some u) h = low_excluded l m u (is_within (not l.strict) m.octets l.octets) refl h
-
-low_first_excluded : (l m u : Limit) (test : Bool) → is_within (not l.strict) m.octets l.octets ≡ test
-    → exclude (Some l) (Some u) ≡ true → exclude (if test then Some l else Some m) (Some u) ≡ true
-low_first_excluded l m u true e h = h
-low_first_excluded l m u false e h =
-    refuted (is_within (m.strict || u.strict) m.octets u.octets) (λ k. not_true _ h
-    (low_lost l.strict m.strict u.strict (slice_cmp nat_cmp l.octets u.octets)
-    (within_chain l.strict (m.strict || u.strict) l.octets m.octets u.octets
-    (not_flipped _ _ (within_flip l.strict l.octets m.octets) e) k)))
-
-pub exclude-low_first : (l m u : Option Limit) → exclude l u ≡ true → exclude (greater_low l m) u ≡ true
-exclude-low_first None m u h = absurd (true≢false (sym h))
-exclude-low_first (Some l) m None h = absurd (true≢false (sym h))
-exclude-low_first (Some l) None (Some u) h = h
-exclude-low_first (Some l) (Some m) (Some u) h = low_first_excluded l m u (is_within (not l.strict) m.octets l.octets) refl h
-
-up_excluded : (l u v : Limit) (test : Bool) → is_within (not u.strict) u.octets v.octets ≡ test
-    → exclude (Some l) (Some v) ≡ true → exclude (Some l) (if test then Some u else Some v) ≡ true
-up_excluded l u v true e h =
-    refuted (is_within (l.strict || u.strict) l.octets u.octets) (λ k. not_true _ h
-    (up_kept l.strict u.strict (l.strict || v.strict) (slice_cmp nat_cmp l.octets v.octets)
-    (within_chain (l.strict || u.strict) (not u.strict) l.octets u.octets v.octets k e)))
-up_excluded l u v false e h = h
-
--- the same of upper limits
-pub exclude-up_second : (l u v : Option Limit) → exclude l v ≡ true → exclude l (lesser_up u v) ≡ true
-exclude-up_second None u v h = absurd (true≢false (sym h))
-exclude-up_second (Some l) u None h = absurd (true≢false (sym h))
-exclude-up_second (Some l) None (Some v) h = h
-exclude-up_second (Some l) (Some u) (Some v) h = up_excluded l u v (is_within (not u.strict) u.octets v.octets) refl h
-
-up_first_excluded : (l u v : Limit) (test : Bool) → is_within (not u.strict) u.octets v.octets ≡ test
-    → exclude (Some l) (Some u) ≡ true → exclude (Some l) (if test then Some u else Some v) ≡ true
-up_first_excluded l u v true e h = h
-up_first_excluded l u v false e h =
-    refuted (is_within (l.strict || v.strict) l.octets v.octets) (λ k. not_true _ h
-    (up_lost l.strict v.strict u.strict (slice_cmp nat_cmp l.octets u.octets)
-    (within_chain (l.strict || v.strict) u.strict l.octets v.octets u.octets k
-    (not_flipped _ _ (within_flip u.strict v.octets u.octets) e))))
-
-pub exclude-up_first : (l u v : Option Limit) → exclude l u ≡ true → exclude l (lesser_up u v) ≡ true
-exclude-up_first None u v h = absurd (true≢false (sym h))
-exclude-up_first (Some l) None v h = absurd (true≢false (sym h))
-exclude-up_first (Some l) (Some u) None h = h
-exclude-up_first (Some l) (Some u) (Some v) h = up_first_excluded l u v (is_within (not u.strict) u.octets v.octets) refl h
-
--- two ranges, of which one ends before the other begins
-pub ended_before : (l u m v : Option Limit) → exclude m u ≡ true → exclude (greater_low l m) (lesser_up u v) ≡ true
-ended_before l u m v h = exclude-low_second l m (lesser_up u v) (exclude-up_first m u v h)
-
-pub begun_behind : (l u m v : Option Limit) → exclude l v ≡ true → exclude (greater_low l m) (lesser_up u v) ≡ true
-begun_behind l u m v h = exclude-low_first l m (lesser_up u v) (exclude-up_second l u v h)
-
--- ---- limits at the same string
-
-pub cmp_same : (x y : List ℕ) → slice_cmp nat_cmp x y ≡ Equal → x ≡ y
-cmp_same x y h = same_text x y (sym (ap is_eq h) ∙ is_eq-slice_cmp x y)

@@ -20,4 +20,3 @@ pub mod Places
 pub mod Merged
 pub mod TagForms
 pub mod Inner
-pub mod OfOctets
