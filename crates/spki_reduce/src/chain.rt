@@ -62,7 +62,7 @@ pub fn fold_chain<'a>(
     fold_owned(alloc, own, steps, policy, MOST_NODES)
 }
 
-/// Like `fold_chain`, but consumes `first`, so its tag is not copied, and with `most` as the limit instead of 1,000,000.
+/// Like `fold_chain`, but consumes `first`, and with `most` as the limit instead of 1,000,000.
 ///
 /// # Errors
 ///

@@ -19,7 +19,6 @@ pub mod Limits
 pub mod Prefixes
 pub mod Exact
 pub mod Bounds
-pub mod PlainMeets
 pub mod Gathered
 pub mod NormalOf
 pub mod Places
