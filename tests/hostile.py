@@ -51,7 +51,7 @@ UNSAID_FAULT = (3, b"", b"")
 # The calls that may be refused memory. `test_one_call` runs the example of each.
 CALLS = (
     "decode", "encode", "read_any", "print_advanced", "wrap", "unwrap_braces", "Doc::open", "read_advanced",
-    "Tag::read", "Ground::read", "Tag::meet", "Tag::narrow_within", "Tag::write", "read_acl", "read_sequence", "read_key", "read_hash",
+    "Tag::read", "Ground::read", "Tag::meet", "Tag::meet_within", "Tag::write", "read_acl", "read_sequence", "read_key", "read_hash",
     "Five::then", "fold_chain", "fold_owned", "Five::resolve", "Five::into_resolve", "Four::then", "Five::write",
     "Case::read", "decide", "reduce_case", "explain", "run",
     "Guard::read", "Guard::texts", "Guard::ask", "Asked::decide", "Asked::decide_by", "Asked::explain", "Asked::explain_by",

@@ -1,6 +1,5 @@
 -- One more tuple joins a chain as it joins what the chain became.
 use Rattle.std.proofs.Common.{◌≡◌, ℕ, ◌*◌, ◌<◌, ◌≤◌, max, ◌&&◌, List, [], ◌∷◌, ◌++◌, fold, refl, sym, ◌∙◌, ap, subst, arith, append-nil}
-use Rattle.std.proofs.Math.Bool.{and-true}
 use Rattle.std.proofs.Math.Nat.{mul-le-mul_right}
 use Rattle.std.proofs.lemmas.List.Folds.{list_all-append}
 use Rattle.std.proofs.lemmas.List.Sums.{fold-append}
@@ -223,24 +222,6 @@ same_issuer policy f g (four right) h = h.reduced.issuer ∙ ap (λ (t : FiveTup
 -- ---- chains
 
 module _ (policy : Policy) (first : Tuple) where
-  pub begun : (f g : Five) → first ≡ five (five_tuple f) → (five_tuple g ≡ five_tuple f) → FoldsTo policy first [] g
-  begun f g is same = record {
-    root = five_tuple f;
-    derived = sym is;
-    reduced = record {
-      issuer = ap (λ (t : FiveTuple). t.issuer) same;
-      principal = ap (λ (t : FiveTuple). t.principal) same;
-      names = ap (λ (t : FiveTuple). t.names) same;
-      delegation = ap (λ (t : FiveTuple). t.delegation) same;
-      requests = λ q _. sym (and-true (contains g.tag q)) ∙ ap (λ (t : FiveTuple). in_each q t.tags) same;
-      moments = λ t. sym (and-true (within t g.window)) ∙ ap (λ (u : FiveTuple). within_each t u.windows) same;
-      nodes = omega (arith, ap (λ (t : FiveTuple). nodes_product t.tags) same);
-      depth = omega (arith, ap (λ (t : FiveTuple). deepest t.tags) same);
-    };
-    timely = λ some. absurd (some refl);
-    tagged = λ _. refl;
-  }
-
   pub grown : (before : List Tuple) (tuple : Tuple) (f g : Five) → FoldsTo policy first before f
       → BecomesFive policy (five (five_tuple f)) tuple g → (g.tag ≡ set none → (f.tag ≡ set none) × (tags_of tuple ≡ []))
       → FoldsTo policy first (before ++ tuple ∷ []) g

@@ -11,4 +11,3 @@ pub mod Lacking
 pub mod OneFive
 pub mod OneFold
 pub mod WrittenNames
-pub mod Untagged

@@ -1,11 +1,11 @@
 -- What joins of the code are in the model.
-use Rattle.std.proofs.Common.{◌≡◌, ◌≢◌, ℕ, ◌*◌, ◌≤◌, max, Bool, true, false, ◌&&◌, List, [], ◌∷◌, ◌++◌, refl, sym, ◌∙◌, ap, arith, subst, IsTrue, IfOk, Result, Ok, Err}
+use Rattle.std.proofs.Common.{◌≡◌, ◌≢◌, ℕ, ◌*◌, ◌≤◌, max, Bool, true, ◌&&◌, List, [], ◌∷◌, ◌++◌, refl, sym, ◌∙◌, ap, arith, subst, IsTrue, IfOk, Result, Ok, Err}
 use Rattle.spki_cert.specs.declared.principal.Policy.{Policy}
 use Rattle.std.proofs.Math.Bool.{and-true}
 use Rattle.spki_cert.specs.declared.window.Window.{Window}
 use Rattle.spki_cert.specs.declared.entry.Subject.{Subject}
 use Rattle.spki_cert.specs.Naming.{names}
-use Rattle.spki_cert.specs.Time.{within, IsMeet, Overlap, AreApart}
+use Rattle.spki_cert.specs.Time.{within, IsMeet, Overlap}
 use Rattle.spki_tag.specs.Request.{Request, IsRequest}
 use Rattle.spki_tag.specs.Tag.{Tag, contains, nodes, ldepth, set, none}
 use Rattle.spki_reduce.specs.declared.fold.Cause.{Cause}
@@ -15,7 +15,7 @@ use Rattle.spki_reduce.specs.declared.fold.Joined.TheVariants.{Done, Stopped}
 use Rattle.spki_reduce.specs.declared.tuple.Five.{Five}
 use Rattle.spki_reduce.specs.declared.tuple.Four.{Four}
 use Rattle.spki_reduce.specs.Tuples.{five, four}
-use Rattle.spki_reduce.specs.Restrictions.{SomeMoment, NoMoment}
+use Rattle.spki_reduce.specs.Restrictions.{SomeMoment}
 use Rattle.spki_reduce.specs.Rules.{Issues, delegated, resolved, linked}
 use Rattle.spki_reduce.specs.Views.{five_tuple, four_tuple, issuer_of}
 use Rattle.spki_reduce.specs.Stops.{JoinButForTags, Stops}
@@ -29,15 +29,8 @@ both a b = sym (ap (λ x. a && x) (and-true b))
 both_true : (a b : Bool) → a ≡ true → b ≡ true → (a && (b && true)) ≡ true
 both_true a b p q = rw (p, q) refl
 
-apart : (a b : Bool) → (a ≡ true → b ≡ false) → (a && (b && true)) ≡ false
-apart true b h = rw (h refl) refl
-apart false b h = refl
-
 pub overlapping : (v w : Window) → Overlap v w → SomeMoment (v ∷ w ∷ [])
 overlapping v w h = (h.0, h.1, both_true (within h.0 v) (within h.0 w) h.2 h.3)
-
-pub no_overlap : (v w : Window) → AreApart v w → NoMoment (v ∷ w ∷ [])
-no_overlap v w h t = apart (within t v) (within t w) (h t)
 
 pub along : {T : Type 0} (joined : Joined T) (P P' : T → Type 0) (Q Q' : Cause → Type 0)
     → MatchJoined joined P Q → ((f : T) → P f → P' f) → ((cause : Cause) → Q cause → Q' cause) → MatchJoined joined P' Q'

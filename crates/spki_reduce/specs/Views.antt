@@ -6,7 +6,6 @@ use Rattle.spki_cert.specs.declared.entry.Subject.{Subject}
 use Rattle.spki_cert.specs.declared.entry.Entry.{Entry}
 use Rattle.spki_cert.specs.declared.certificate.AuthCert.{AuthCert}
 use Rattle.spki_cert.specs.declared.certificate.NameCert.{NameCert}
-use Rattle.spki_reduce.specs.declared.chained.Chained.{Chained}
 use Rattle.spki_reduce.specs.declared.tuple.Issuer as code
 use Rattle.spki_reduce.specs.declared.tuple.Issuer.TheVariants.{Own, Key}
 use Rattle.spki_reduce.specs.declared.tuple.Five.{Five}
@@ -63,7 +62,3 @@ four_tuple f = definition f.key f.name f.subject f.window
 abbrev pub step_tuple : Step → Tuple
 step_tuple (Auth f) = five (five_tuple f)
 step_tuple (Name f) = four (four_tuple f)
-
--- an authorization with the intersection of its tag with others
-abbrev pub whole : Chained → Five
-whole c = record c.bare { tag = c.tag }

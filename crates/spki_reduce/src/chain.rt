@@ -10,15 +10,12 @@ ghost use Rattle.spki_reduce.specs.Stops.{Stops, TooLargeFor};
 ghost use Rattle.spki_reduce.specs.Reduced.{BecomesFive, MatchJoined};
 ghost use Rattle.spki_reduce.specs.Chain.{tuples_of, all_tags, FoldsTo, StopsAt, HasMet, TooLargeAt, Excludes, SupportsNothing, MatchFold};
 
-use crate::chained::Chained;
 use crate::fault::ReduceFault;
 use crate::fold::{Fold, Joined};
+use crate::joins::MOST_NODES;
 use crate::tuple::{Five, Step};
 use spki_cert::Policy;
 use std::alloc::{AllocError, Global};
-
-/// The greatest product of the numbers of nodes of two tags that `fold_chain` intersects.
-const MOST_NODES: usize = 1_000_000;
 
 /// Joins an authorization with the steps after it, one after another from the left (RFC 2693, sections 6.3 and 6.4). Each
 /// authorization is joined by `Five::then`, and each definition by `Five::resolve`. Without steps the result is a copy of
@@ -65,7 +62,7 @@ pub fn fold_chain<'a>(
     fold_owned(alloc, own, steps, policy, MOST_NODES)
 }
 
-/// Like `fold_chain`, but consumes `first`, so its tag is not copied, and with `most` as the limit instead of 1,000,000.
+/// Like `fold_chain`, but consumes `first`, and with `most` as the limit instead of 1,000,000.
 ///
 /// # Errors
 ///
@@ -102,7 +99,7 @@ pub fn fold_owned<'a>(
     ensures too_large { IsErrOf result ReduceFault.TooLarge →
         most < nodes_product (all_tags (five (five_tuple first.entry) ∷ tuples_of steps.now)) }
 {
-    let mut folded = Chained::of(first);
+    let mut folded = first;
     for (place, step) in steps.iter().enumerate() {
         match folded.joined(alloc, step, policy, most)? {
             Joined::Done(next) => folded = next,
@@ -114,7 +111,7 @@ pub fn fold_owned<'a>(
             }
         }
     }
-    Ok(Fold::Done(folded.into_five(alloc)?))
+    Ok(Fold::Done(folded))
 }
 
 impl<'a> Five<'a> {
@@ -128,5 +125,31 @@ impl<'a> Five<'a> {
             tag: self.tag.clone()?,
             window: self.window,
         })
+    }
+
+    /// Joins this authorization with a step, and consumes it.
+    fn joined(
+        self,
+        alloc: Global,
+        step: &Step<'a>,
+        policy: Policy,
+        most: usize,
+    ) -> Result<Joined<Five<'a>>, ReduceFault>
+        requires { most ≤ 1000000 }
+        ensures joined { IfOk result (λ joined. MatchJoined joined
+            (λ f. BecomesFive policy (five (five_tuple self.entry)) (step_tuple step.now) f
+            × (f.tag ≡ set none → (self.entry.tag ≡ set none) × (tags_of (step_tuple step.now) ≡ [])))
+            (Stops policy (five (five_tuple self.entry)) (step_tuple step.now))) }
+        ensures which { IfOk result (λ joined. MatchJoined joined
+            (λ f. f.tag ≡ met (self.entry.tag ∷ tags_of (step_tuple step.now)))
+            (λ cause. cause ≡ Cause.NoTag → met (self.entry.tag ∷ tags_of (step_tuple step.now)) ≡ set none)) }
+        ensures too_large { IsErrOf result ReduceFault.TooLarge →
+            TooLargeFor most policy (five_tuple self.entry) (step_tuple step.now) }
+        ensures small { IfOk result (λ joined. ¬ TooLargeFor most policy (five_tuple self.entry) (step_tuple step.now)) }
+    {
+        match step {
+            Step::Auth(next) => self.then_within(alloc, next, policy, most),
+            Step::Name(definition) => self.into_resolve(definition, policy),
+        }
     }
 }

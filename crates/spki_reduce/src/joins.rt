@@ -18,6 +18,9 @@ use spki_cert::{Key, Names, Policy, Subject, Window};
 use spki_tag::Tag;
 use std::alloc::{AllocError, Global};
 
+/// The greatest product of the numbers of nodes of two tags that are intersected.
+pub(crate) const MOST_NODES: usize = 1_000_000;
+
 impl<'a> Five<'a> {
     /// Joins this authorization with the next one (RFC 2693, section 6.3). The result is an authorization from this one's
     /// issuer to the next one's subject, with the intersection of both tags and of both windows. It may be delegated if the
@@ -48,10 +51,32 @@ impl<'a> Five<'a> {
             (JoinButForTags policy (five_tuple self.now) (five_tuple next.now)
             × (1000000 < nodes self.now.tag * nodes next.now.tag)) }
     {
+        self.then_within(alloc, next, policy, MOST_NODES)
+    }
+
+    /// Like `then`, with `most` as the limit instead of 1,000,000.
+    pub(crate) fn then_within(
+        &self,
+        alloc: Global,
+        next: &Five<'a>,
+        policy: Policy,
+        most: usize,
+    ) -> Result<Joined<Five<'a>>, ReduceFault>
+        requires { most ≤ 1000000 }
+        ensures joined { IfOk result (λ joined. MatchJoined joined
+            (λ f. BecomesFive policy (five (five_tuple self.now)) (five (five_tuple next.now)) f × (f.tag ≢ set none))
+            (λ cause. Stops policy (five (five_tuple self.now)) (five (five_tuple next.now)) cause)) }
+        ensures which { IfOk result (λ joined. MatchJoined joined
+            (λ f. f.tag ≡ meet self.now.tag next.now.tag)
+            (λ cause. cause ≡ Cause.NoTag → meet self.now.tag next.now.tag ≡ set none)) }
+        ensures too_large { IsErrOf result ReduceFault.TooLarge ↔
+            (JoinButForTags policy (five_tuple self.now) (five_tuple next.now)
+            × (most < nodes self.now.tag * nodes next.now.tag)) }
+    {
         match self.window_with(next, policy) {
             Err(cause) => Ok(Joined::Stopped(cause)),
             Ok(window) => {
-                let tag = self.tag.meet(alloc, &next.tag)?;
+                let tag = self.tag.meet_within(alloc, &next.tag, most)?;
                 Ok(narrowed(self.issuer.share(), tag, next, window)?)
             }
         }
@@ -116,7 +141,7 @@ impl<'a> Five<'a> {
 
     /// The intersection of the windows of this authorization and the next, or the first cause why they do not join, whatever
     /// their tags are.
-    pub(crate) fn window_with(&self, next: &Five, policy: Policy) -> Result<Window, Cause>
+    fn window_with(&self, next: &Five, policy: Policy) -> Result<Window, Cause>
         ensures joins { IfOk result (λ window. Issues policy (five_tuple self.now) (five_tuple next.now)
             × (self.now.propagate ≡ true) × IsMeet self.now.window next.now.window window
             × Overlap self.now.window next.now.window) }
@@ -150,25 +175,8 @@ impl<'a> Five<'a> {
     }
 }
 
-/// The authorization with this issuer, tag and window, and with the subject and delegation of another.
-pub(crate) fn handed_on<'a>(
-    issuer: Issuer<'a>,
-    tag: Tag,
-    next: &Five<'a>,
-    window: Window,
-) -> Result<Five<'a>, AllocError>
-    ensures { IfOk result (IsHandedOn issuer.entry tag next.now window) }
-{
-    Ok(Five {
-        issuer,
-        subject: next.subject.clone()?,
-        propagate: next.propagate,
-        tag,
-        window,
-    })
-}
-
-/// The same, unless the tag is `(* set)`.
+/// The authorization with this issuer, tag and window, and with the subject and delegation of another, unless the tag is
+/// `(* set)`.
 fn narrowed<'a>(
     issuer: Issuer<'a>,
     tag: Tag,
@@ -182,7 +190,13 @@ fn narrowed<'a>(
     if tag.is_nothing() {
         return Ok(Joined::Stopped(Cause::NoTag));
     }
-    Ok(Joined::Done(handed_on(issuer, tag, next, window)?))
+    Ok(Joined::Done(Five {
+        issuer,
+        subject: next.subject.clone()?,
+        propagate: next.propagate,
+        tag,
+        window,
+    }))
 }
 
 impl<'a> Four<'a> {

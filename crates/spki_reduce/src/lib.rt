@@ -2,7 +2,6 @@
 #![tactic(auto)]
 
 mod chain;
-mod chained;
 mod fault;
 mod fold;
 mod joins;

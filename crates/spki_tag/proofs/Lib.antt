@@ -7,13 +7,11 @@ pub mod Written
 pub mod Depth
 pub mod NormalTag
 pub mod MeetSteps
-pub mod InPlace
 pub mod OneTag
 pub mod Shown
 pub mod Refusals
 pub mod Found
 pub mod Spelling
-pub mod Staying
 pub mod Merging
 pub mod Requests
 pub mod Weight
@@ -21,7 +19,6 @@ pub mod Limits
 pub mod Prefixes
 pub mod Exact
 pub mod Bounds
-pub mod PlainMeets
 pub mod Gathered
 pub mod NormalOf
 pub mod Places
@@ -33,7 +30,3 @@ pub mod NamedRequests
 pub mod Faultless
 pub mod MeetEquations
 pub mod FaultShows
-pub mod ThreeLimits
-pub mod ThreeStrings
-pub mod ThreeTags
-pub mod TagChains

@@ -1,13 +1,13 @@
 -- The rules of the intersection.
-use Rattle.std.proofs.Common.{◌≡◌, ℕ, Bool, true, false, not, List, [], ◌∷◌, ◌++◌, length, drop, map, Option, Some, refl, sym, ap, ◌∙◌, arith, nat_eq, length-append, append-nil}
+use Rattle.std.proofs.Common.{◌≡◌, ℕ, Bool, true, false, not, List, [], ◌∷◌, ◌++◌, length, drop, map, refl, sym, ap, ◌∙◌, arith, nat_eq, length-append, append-nil}
 use Rattle.std.specs.Prelude.{if◌then◌else◌}
 use Rattle.std.specs.List.{filter, flat_map, starts_with}
 use Rattle.std.specs.Str.{bytes_eq}
 use Rattle.std.specs.Cmp.Lexicographic.{same_text, other_text}
 use Rattle.std.proofs.lemmas.Slice.Eq.{starts_is}
 use Rattle.std.proofs.lemmas.Bool.Decides.{Decides-eqb}
-use Rattle.spki_tag.specs.Tag.{Tag, Tags, tags, Limit, Ordering, alpha, time, date, star, string, prefix, range, list, set, is_nothing}
-use Rattle.spki_tag.specs.Meet.{meet, each_meet, pairs, row, kept, items, nothing, gather, listed, ranged, exclude}
+use Rattle.spki_tag.specs.Tag.{Tag, Tags, tags, alpha, time, date, star, string, prefix, range, list, set, is_nothing}
+use Rattle.spki_tag.specs.Meet.{meet, each_meet, pairs, row, kept, items, nothing, gather, listed}
 use Rattle.spki_tag.specs.MeetRules.{StarRule, SetRule, StringRule, PrefixRule, PrefixesApart, RangeRule, PrefixAsRange, OrderingRule, TimesAndDates, side_by_side, ListRule, HeadsApart, ListsAndStrings}
 use Rattle.spki_tag.specs.Index.{members}
 use Rattle.spki_tag.proofs.MeetSteps.{tags-members, meet-by_members}
@@ -84,10 +84,6 @@ string_rule s (list head ts) h = absurd h
 string_rule s (set ts) h = absurd h
 
 -- ---- ranges
-
-range_by : (o : Ordering) (low up : Option Limit)
-    → ranged (Some o) low up ≡ (if exclude low up then nothing else range o low up)
-range_by o low up = refl
 
 pub range_rule : RangeRule
 range_rule alpha low up least most = refl

@@ -9,9 +9,6 @@ use Rattle.spki_tag.specs.Request.{AreOctets}
 use Rattle.spki_tag.specs.Tag.{is_above, is_below}
 use Rattle.spki_tag.specs.Meet.{least_above, above_from, strict_limit, from}
 
-starts_cons : (d c : ℕ) (x p : List ℕ) → starts_with nat_eq (d ∷ x) (c ∷ p) ≡ (nat_eq c d && starts_with nat_eq x p)
-starts_cons d c x p = refl
-
 split : (n m : ℕ) → n ≤ m → (m ≡ n) ⊎ (n < m)
 split zero zero h = inl refl
 split zero (suc m) h = inr (omega arith)
@@ -108,10 +105,6 @@ least_above-exact (c ∷ p) (d ∷ x) k = by (three c d) (least_above-exact p x 
         ∙ sym (ap (λ r. is_le (ordering_then r (slice_cmp nat_cmp p x)) && is_below (strict_limit (least_above (c ∷ p))) (d ∷ x)) (cmp_greater c d h))
 
 -- ---- two prefixes
-
-start_self : (x : List ℕ) → starts_with nat_eq x [] ≡ true
-start_self [] = refl
-start_self (d ∷ x) = refl
 
 -- the strings that start with both start with the longer, which starts with the shorter
 pub prefixes-exact : (p q x : List ℕ)

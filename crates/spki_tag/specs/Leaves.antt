@@ -1,5 +1,5 @@
 -- How a tag without members is represented.
-use Rattle.std.specs.Prelude.{ℕ, Bool, List, Option, Some, None}
+use Rattle.std.specs.Prelude.{Option, Some, None}
 use Rattle.std.specs.Arc.{arc_slice_items}
 use Rattle.spki_tag.specs.declared.leaf.RangeOrdering.{RangeOrdering}
 use Rattle.spki_tag.specs.declared.leaf.RangeOrdering.TheVariants as orderings
@@ -17,10 +17,6 @@ ordering_of orderings.Date = date
 abbrev pub limit_of : Option source.Limit → Option Limit
 limit_of None = None
 limit_of (Some limit) = Some (record { strict = limit.strict; octets = arc_slice_items limit.octets })
-
--- a limit of these octets
-abbrev pub some_limit : Bool → List ℕ → Option Limit
-some_limit strict octets = Some (record { strict = strict; octets = octets })
 
 abbrev pub leaf_tag : Leaf → Tag
 leaf_tag leaves.Star = star

@@ -20,6 +20,3 @@ pub mod Places
 pub mod Merged
 pub mod TagForms
 pub mod Inner
-pub mod Rows
-pub mod OfOctets
-pub mod Chained

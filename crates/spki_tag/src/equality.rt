@@ -103,7 +103,7 @@ fn is_ordering(one: RangeOrdering, other: RangeOrdering) -> bool
 }
 
 /// Whether two limits are the same, if there are any.
-pub(crate) fn same_limit(one: &Option<Limit>, other: &Option<Limit>) -> bool
+fn same_limit(one: &Option<Limit>, other: &Option<Limit>) -> bool
     ensures { IsTrue result ↔ (limit_of one.now ≡ limit_of other.now) }
 {
     match one {

@@ -123,7 +123,7 @@ impl Tag {
 }
 
 /// Whether the tag is a set.
-pub(crate) fn is_set(tag: &Tag) -> bool
+fn is_set(tag: &Tag) -> bool
     ensures { result ≡ spec.is_set tag.now }
 {
     match &tag.node {

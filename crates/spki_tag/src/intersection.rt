@@ -16,11 +16,11 @@ use crate::tag::{Node, Tag};
 use std::alloc::{AllocError, Global};
 
 /// The greatest product of the numbers of nodes of two tags that are intersected.
-pub(crate) const MOST_NODES: usize = 1_000_000;
+const MOST_NODES: usize = 1_000_000;
 
 /// Returns the intersection of two tags.
 #[cycle(meet)]
-pub(crate) fn meet_tags(alloc: Global, one: &Tag, other: &Tag) -> Result<Tag, AllocError>
+fn meet_tags(alloc: Global, one: &Tag, other: &Tag) -> Result<Tag, AllocError>
     requires { nodes one.now * nodes other.now ≤ most_nodes }
     ensures { IfOk result (λ c. c ≡ meet one.now other.now) }
 {
@@ -109,7 +109,7 @@ fn meet_each(alloc: Global, ones: &[Tag], others: &[Tag]) -> Result<Option<Vec<T
 /// Returns the set of the intersections of each tag with each of the others, in the order of the first and then of the
 /// second.
 #[cycle(meet)]
-pub(crate) fn meet_members(alloc: Global, ones: &[Tag], others: &[Tag]) -> Result<Tag, AllocError>
+fn meet_members(alloc: Global, ones: &[Tag], others: &[Tag]) -> Result<Tag, AllocError>
     requires bound { nodes_all (tags ones.now) * nodes_all (tags others.now) ≤ most_nodes }
     requires met { IsNormalTag (gather (pairs (tags ones.now) (tags others.now))) }
     ensures { IfOk result (λ c. c ≡ gather (pairs (tags ones.now) (tags others.now))) }
@@ -158,7 +158,24 @@ impl Tag {
             × (ldepth c ≤ max (ldepth self.now) (ldepth other.now))) }
         ensures too_large { IsErrOf result MeetFault.TooLarge ↔ (1000000 < nodes self.now * nodes other.now) }
     {
-        if self.nodes() * other.nodes() > MOST_NODES {
+        self.meet_within(alloc, other, MOST_NODES)
+    }
+
+    /// Like `meet`, with `most` as the limit instead of 1,000,000.
+    ///
+    /// # Errors
+    ///
+    /// `TooLarge` if the product of the numbers of their nodes is over `most`, and `Memory` if memory ran out.
+    pub fn meet_within(&self, alloc: Global, other: &Tag, most: usize) -> Result<Tag, MeetFault>
+        requires { most ≤ 1000000 }
+        ensures which { IfOk result (λ c. c ≡ meet self.now other.now) }
+        ensures exact { IfOk result (λ c. (g : Request) → IsRequest g
+            → contains c g ≡ (contains self.now g && contains other.now g)) }
+        ensures bounds { IfOk result (λ c. (nodes c ≤ nodes self.now * nodes other.now)
+            × (ldepth c ≤ max (ldepth self.now) (ldepth other.now))) }
+        ensures too_large { IsErrOf result MeetFault.TooLarge ↔ (most < nodes self.now * nodes other.now) }
+    {
+        if self.nodes() * other.nodes() > most {
             return Err(MeetFault::TooLarge);
         }
         Ok(meet_tags(alloc, self, other)?)

@@ -90,13 +90,6 @@ pub fn meet_exact()
         → contains (meet a b) g ≡ (contains a g && contains b g) }
 {}
 
-/// The intersection of three tags of octets is the same value, whichever two of them are intersected first.
-pub fn meet_brackets()
-    ensures { (a b c : Tag) → is_normal a ≡ true → is_normal b ≡ true → is_normal c ≡ true
-        → HasOctets (tag_value a) → HasOctets (tag_value b) → HasOctets (tag_value c)
-        → meet (meet a b) c ≡ meet a (meet b c) }
-{}
-
 /// The number of nodes of an intersection is at most the product of those of the two tags.
 pub fn meet_bounded()
     ensures { (a b : Tag) → nodes (meet a b) ≤ nodes a * nodes b }

@@ -2,9 +2,8 @@
 
 ghost use Rattle.std.specs.Prelude.{◌≡◌, ℕ, List, IfOk};
 ghost use Rattle.spki_tag.specs.Leaves.{ordering_of, limit_of, leaf_tag};
-ghost use Rattle.spki_tag.specs.OfOctets.{OfOctets};
-ghost use Rattle.spki_tag.specs.Request.{AreOctets, Requests, string, list};
-ghost use Rattle.spki_tag.specs.Tag.{contains, is_ordered, is_within, is_above, is_below, is_star};
+ghost use Rattle.spki_tag.specs.Request.{Requests, string, list};
+ghost use Rattle.spki_tag.specs.Tag.{contains, is_ordered, is_within, is_above, is_below};
 
 use crate::moment::{is_date, is_time};
 use crate::prefix::Prefix;
@@ -84,13 +83,6 @@ pub(crate) fn is_below(up: &Option<Limit>, octets: &[u8]) -> bool
     }
 }
 
-/// States that the elements of a slice are octets.
-pub(crate) fn are_octets(octets: &[u8])
-    ensures { AreOctets octets.now }
-{
-    let _ = octets;
-}
-
 /// A copy of a limit that shares its octets.
 pub(crate) fn copied_limit(limit: &Option<Limit>) -> Result<Option<Limit>, AllocError>
     ensures { IfOk result (λ copy. limit_of copy ≡ limit_of limit.now) }
@@ -119,18 +111,6 @@ impl Leaf {
         }
     }
 
-    /// Whether this is `(*)`.
-    pub(crate) fn is_everything(&self) -> bool
-        ensures { result ≡ is_star (leaf_tag self.now) }
-    {
-        match self {
-            Leaf::Star => true,
-            Leaf::String(_) => false,
-            Leaf::Prefix(_) => false,
-            Leaf::Range(_, _, _) => false,
-        }
-    }
-
     /// Whether the tag contains lists.
     pub(crate) fn holds_lists(&self) -> bool
         ensures { (head : List ℕ) (further : Requests) → result ≡ contains (leaf_tag self.now) (list head further) }
@@ -140,18 +120,6 @@ impl Leaf {
             Leaf::String(_) => false,
             Leaf::Prefix(_) => false,
             Leaf::Range(_, _, _) => false,
-        }
-    }
-
-    /// States that the string or prefix is of octets.
-    pub(crate) fn of_octets(&self)
-        ensures { OfOctets (leaf_tag self.now) }
-    {
-        match self {
-            Leaf::Star => {}
-            Leaf::String(octets) => are_octets(octets.as_slice()),
-            Leaf::Prefix(prefix) => are_octets(prefix.octets()),
-            Leaf::Range(_, _, _) => {}
         }
     }
 

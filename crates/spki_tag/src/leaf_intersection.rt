@@ -11,7 +11,7 @@ use crate::prefix::Prefix;
 use std::alloc::AllocError;
 
 /// The ordering of the strings that are in both orderings. No string is both a time and a date.
-pub(crate) fn common_ordering(one: RangeOrdering, other: RangeOrdering) -> Option<RangeOrdering>
+fn common_ordering(one: RangeOrdering, other: RangeOrdering) -> Option<RangeOrdering>
     ensures { option_map ordering_of result ≡ ordering_meet (ordering_of one) (ordering_of other) }
 {
     match one {

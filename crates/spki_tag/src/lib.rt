@@ -3,12 +3,9 @@
 
 mod equality;
 mod fault;
-mod few_members;
 mod form;
 mod index;
 mod intersection;
-mod intersection_in_place;
-mod known_intersection;
 pub mod laws;
 mod leaf;
 mod leaf_intersection;
@@ -16,7 +13,6 @@ mod limit_intersection;
 mod membership;
 mod merge;
 mod moment;
-mod narrowing;
 mod normal_forms;
 mod parts;
 mod prefix;
@@ -25,7 +21,6 @@ mod reader;
 mod request;
 mod sets;
 mod tag;
-mod tag_chain;
 mod writer;
 
 pub use fault::{MeetFault, TagFault};
@@ -36,4 +31,3 @@ pub use merge::merged;
 pub use moment::{is_date, is_time};
 pub use request::Ground;
 pub use tag::Tag;
-pub use tag_chain::TagChain;

@@ -92,15 +92,6 @@ impl Tag {
         ensures { result ≡ spec.list (arc_slice_items head) (spec.tags further.items) }
     {
         let nodes = nodes_of(&further);
-        Tag::list_counted(head, further, nodes)
-    }
-
-    /// The same, if the further tags have `nodes` nodes together.
-    pub(crate) fn list_counted(head: SharedOctets, further: Vec<Tag>, nodes: usize) -> Tag
-        requires normal { spec.IsNormalTag (spec.list (arc_slice_items head) (spec.tags further.items)) }
-        requires counted { nodes ≡ spec.nodes_all (spec.tags further.items) }
-        ensures { result ≡ spec.list (arc_slice_items head) (spec.tags further.items) }
-    {
         Tag {
             node: Node::List(head, further, 2 + nodes),
         }
@@ -112,15 +103,6 @@ impl Tag {
         ensures { result ≡ gather members.items }
     {
         let nodes = nodes_of(&members);
-        Tag::gathered_counted(members, nodes)
-    }
-
-    /// The same, if the tags have `nodes` nodes together.
-    pub(crate) fn gathered_counted(members: Vec<Tag>, nodes: usize) -> Tag
-        requires normal { spec.IsNormalTag (gather members.items) }
-        requires counted { nodes ≡ spec.nodes_all (spec.tags members.items) }
-        ensures { result ≡ gather members.items }
-    {
         let mut members = members;
         if members.len() == 1 {
             members.swap_remove(0)
@@ -146,7 +128,7 @@ impl Tag {
 }
 
 /// The number of nodes of some tags together.
-pub(crate) fn nodes_of(members: &[Tag]) -> usize
+fn nodes_of(members: &[Tag]) -> usize
     requires { spec.nodes_all (spec.tags members.now) ≤ spec.most_nodes }
     ensures count { result ≡ spec.nodes_all (spec.tags members.now) }
     ensures few { result ≤ spec.most_nodes }

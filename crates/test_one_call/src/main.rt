@@ -39,7 +39,7 @@ fn of_structures(alloc: Global, name: &str) -> Option<Result<bool, Failure>> {
         "Tag::read" => Some(tags::tag_read(alloc)),
         "Ground::read" => Some(tags::ground_read(alloc)),
         "Tag::meet" => Some(tags::tag_meet(alloc)),
-        "Tag::narrow_within" => Some(tags::tag_narrow_within(alloc)),
+        "Tag::meet_within" => Some(tags::tag_meet_within(alloc)),
         "Tag::write" => Some(tags::tag_write(alloc)),
         "read_acl" => Some(structures::read_acl(alloc)),
         "read_sequence" => Some(structures::read_sequence(alloc)),

@@ -72,11 +72,10 @@ pub(crate) fn tag_meet(alloc: Global) -> Result<bool, Failure> {
 }
 
 /// `reduced-sets`: the intersection of its two sets, within the product of their nodes.
-pub(crate) fn tag_narrow_within(alloc: Global) -> Result<bool, Failure> {
-    let mut both = tag(alloc, SET)?;
+pub(crate) fn tag_meet_within(alloc: Global) -> Result<bool, Failure> {
+    let one = tag(alloc, SET)?;
     let other = tag(alloc, b"(1:*3:set5:write(1:*6:prefix2:re))")?;
-    both.narrow_within(alloc, &other, 9)?;
-    let tree = both.write(alloc)?;
+    let tree = one.meet_within(alloc, &other, 9)?.write(alloc)?;
     Ok(sexpr_core::encode(alloc, &tree)?.as_slice() == SET)
 }
 

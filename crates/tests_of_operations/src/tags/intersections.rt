@@ -1,7 +1,7 @@
 //! The intersection of tags.
 
 use crate::tags::texts::{list_of, tag_of, text_of};
-use spki_tag::{MeetFault, Tag, TagChain};
+use spki_tag::{MeetFault, Tag};
 use std::alloc::{AllocError, Global};
 use std::process::Abort;
 use std::test::Fail;
@@ -55,39 +55,6 @@ const MIXTURES: &[Row] = &[
     ),
 ];
 
-/// The members of a set that is large enough to wait, each in turn.
-const WAITING: &[u8] = b"1:c(1:*6:prefix1:c)(1:*5:range5:alpha2:ge1:a)";
-
-/// Two tags that such a set is intersected with in turn, and what is left of the members.
-const IN_TURN: &[Row] = &[
-    (
-        b"(1:*5:range5:alpha2:ge1:b)",
-        b"(1:*6:prefix1:c)",
-        b"1:c(1:*5:range5:alpha2:ge1:c1:l1:d)(1:*5:range5:alpha2:ge1:c1:l1:d)",
-    ),
-    (
-        b"(1:*6:prefix1:c)",
-        b"(1:*6:prefix2:cc)",
-        b"(1:*6:prefix2:cc)(1:*5:range5:alpha2:ge2:cc1:l2:cd)",
-    ),
-    (
-        b"(1:*5:range5:alpha2:ge1:b)",
-        b"(1:*)",
-        b"1:c(1:*5:range5:alpha2:ge1:c1:l1:d)(1:*5:range5:alpha2:ge1:b)",
-    ),
-    (b"(1:*5:range5:alpha2:ge1:b)", b"1:c", b"1:c1:c1:c"),
-    (
-        b"(1:*5:range5:alpha2:ge1:b)",
-        b"(1:*3:set1:c1:d)",
-        b"1:c1:c1:c1:d",
-    ),
-    (
-        b"(1:*5:range5:alpha2:ge1:b)",
-        b"(1:*5:range5:alpha1:l1:b)",
-        b"",
-    ),
-];
-
 /// The text of the intersection of two tags.
 fn text_of_both(alloc: Global, one: &Tag, other: &Tag) -> Result<Vec<u8>, Fail> {
     let both = one.meet(alloc, other)?;
@@ -99,24 +66,10 @@ fn met(rt: &impl Abort, alloc: Global, one: &[u8], other: &[u8]) -> Result<Vec<u
     text_of_both(alloc, &tag_of(rt, alloc, one)?, &tag_of(rt, alloc, other)?)
 }
 
-/// The text of the intersection of two tags, with a call that consumes the first of them.
-fn text_in_place(alloc: Global, one: Tag, other: &Tag) -> Result<Vec<u8>, Fail> {
-    let both = one.into_meet(alloc, other)?;
-    Ok(text_of(alloc, &both)?)
-}
-
-/// The same for the tags with these texts.
-fn met_in_place(rt: &impl Abort, alloc: Global, one: &[u8], other: &[u8]) -> Result<Vec<u8>, Fail> {
-    let other = tag_of(rt, alloc, other)?;
-    text_in_place(alloc, tag_of(rt, alloc, one)?, &other)
-}
-
-/// Intersects the tags of each row of a table, in both orders.
+/// Intersects the tags of each row of a table.
 pub(crate) fn all_meet(rt: &impl Abort, alloc: Global, rows: &[Row]) -> Result<(), Fail> {
     for (one, other, both) in rows {
         let left = met(rt, alloc, one, other)?;
-        assert!(rt; left.as_slice() == *both, "{one:?} {other:?}");
-        let left = met_in_place(rt, alloc, one, other)?;
         assert!(rt; left.as_slice() == *both, "{one:?} {other:?}");
     }
     Ok(())
@@ -140,39 +93,6 @@ fn meet_ranges(rt: HostRuntime) -> Result<(), Fail> {
 #[test]
 fn meet_mixtures(rt: HostRuntime) -> Result<(), Fail> {
     all_meet(&rt, rt.alloc(), MIXTURES)
-}
-
-/// The text of the intersection of a tag with two others, one after the other.
-fn text_in_turn(alloc: Global, one: Tag, second: &Tag, third: &Tag) -> Result<Vec<u8>, Fail> {
-    let mut met = TagChain::of(one);
-    met.narrow_within(alloc, second, 1_000_000)?;
-    met.narrow_within(alloc, third, 1_000_000)?;
-    Ok(text_of(alloc, &met.into_tag(alloc)?)?)
-}
-
-/// The same for the tags with these texts.
-fn met_in_turn(
-    rt: &impl Abort,
-    alloc: Global,
-    one: &[u8],
-    second: &[u8],
-    third: &[u8],
-) -> Result<Vec<u8>, Fail> {
-    let second = tag_of(rt, alloc, second)?;
-    let third = tag_of(rt, alloc, third)?;
-    text_in_turn(alloc, tag_of(rt, alloc, one)?, &second, &third)
-}
-
-#[test]
-fn meet_in_turn(rt: HostRuntime) -> Result<(), Fail> {
-    let alloc = rt.alloc();
-    let set = list_of(alloc, b"(1:*3:set", WAITING, 7)?;
-    for (second, third, left) in IN_TURN {
-        let met = met_in_turn(&rt, alloc, &set, second, third)?;
-        let wanted = list_of(alloc, b"(1:*3:set", left, 7)?;
-        assert!(rt; met.as_slice() == wanted.as_slice(), "{second:?} {third:?}");
-    }
-    Ok(())
 }
 
 fn is_intersection_too_large(alloc: Global, one: &Tag, other: &Tag) -> bool {
@@ -207,14 +127,13 @@ fn given_limit(rt: HostRuntime) -> Result<(), Fail> {
     let alloc = rt.alloc();
     let text = list_of(alloc, b"(", b"1:x", 9)?;
     let other = tag_of(&rt, alloc, &text)?;
-    let mut both = tag_of(&rt, alloc, &text)?;
-    both.narrow_within(alloc, &other, 100)?;
+    let one = tag_of(&rt, alloc, &text)?;
+    let both = one.meet_within(alloc, &other, 100)?;
     assert!(rt; text_of(alloc, &both)?.as_slice() == text.as_slice());
-    match both.narrow_within(alloc, &other, 99) {
-        Ok(()) => assert!(rt; false),
+    match one.meet_within(alloc, &other, 99) {
+        Ok(_) => assert!(rt; false),
         Err(fault) => assert!(rt; fault == MeetFault::TooLarge),
     }
-    assert!(rt; text_of(alloc, &both)?.as_slice() == text.as_slice());
     Ok(())
 }
 

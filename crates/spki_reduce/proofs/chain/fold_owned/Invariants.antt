@@ -1,15 +1,15 @@
 -- The steps so far became what is kept.
 use Rattle.std.proofs.Common.{◌≡◌, take}
 use Rattle.spki_reduce.specs.Tuples.{five}
-use Rattle.spki_reduce.specs.Views.{five_tuple, issuer_of, whole}
+use Rattle.spki_reduce.specs.Views.{five_tuple, issuer_of}
 use Rattle.spki_reduce.specs.Chain.{tuples_of, FoldsTo, HasMet, TooLargeAt}
 use Rattle.spki_reduce.proofs.chain.fold_owned.Given as goal
 
 abbrev pub invariant-loop-place : goal.invariant-loop-place
 invariant-loop-place l = record {
-  folds : FoldsTo l.policy (five (five_tuple l.fn.first)) (take l.place (tuples_of l.steps)) (whole l.folded);
-  which : HasMet (five (five_tuple l.fn.first)) (take l.place (tuples_of l.steps)) (whole l.folded);
+  folds : FoldsTo l.policy (five (five_tuple l.fn.first)) (take l.place (tuples_of l.steps)) l.folded;
+  which : HasMet (five (five_tuple l.fn.first)) (take l.place (tuples_of l.steps)) l.folded;
   small : TooLargeAt l.most l.policy (five (five_tuple l.fn.first)) (take l.place (tuples_of l.steps)) → ⊥;
-  issuer : issuer_of (whole l.folded).issuer ≡ issuer_of l.fn.first.issuer;
-  alone : l.place ≡ 0 → five_tuple (whole l.folded) ≡ five_tuple l.fn.first;
+  issuer : issuer_of l.folded.issuer ≡ issuer_of l.fn.first.issuer;
+  alone : l.place ≡ 0 → five_tuple l.folded ≡ five_tuple l.fn.first;
 }

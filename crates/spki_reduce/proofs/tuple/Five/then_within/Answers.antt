@@ -1,5 +1,5 @@
 use Rattle.spki_reduce.proofs.Pairs.{along, narrowed_joins, stops_by_tags}
-use Rattle.spki_reduce.proofs.tuple.Five.then.Goals as goal
+use Rattle.spki_reduce.proofs.tuple.Five.then_within.Goals as goal
 
 pub returns-in_ok-narrowed-in-Ok-clause-joined : goal.returns-in_ok-narrowed-in-Ok-clause-joined
 returns-in_ok-narrowed-in-Ok-clause-joined c =

@@ -3,7 +3,7 @@ use Rattle.spki_tag.specs.Tag.{contains}
 use Rattle.spki_tag.proofs.Exact.{meet-exact}
 use Rattle.spki_tag.proofs.Bounds.{meet-le}
 use Rattle.spki_tag.proofs.Depth.{meet-ldepth}
-use Rattle.spki_tag.proofs.tag.Tag.meet.Goals as goal
+use Rattle.spki_tag.proofs.tag.Tag.meet_within.Goals as goal
 
 pub returns-clause-exact : goal.returns-clause-exact
 returns-clause-exact c = λ g h.

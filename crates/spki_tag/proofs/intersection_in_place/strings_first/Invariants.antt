@@ -1,9 +1,0 @@
-use Rattle.std.proofs.Common.{◌≡◌, ◌++◌, drop, take}
-use Rattle.spki_tag.specs.Tag.{tags, string, more, none}
-use Rattle.spki_tag.specs.Meet.{pairs}
-use Rattle.spki_tag.proofs.intersection_in_place.strings_first.Given as goal
-
--- The first are as they were.
-abbrev pub invariant-loop-place : goal.invariant-loop-place
-invariant-loop-place l =
-    take l.place l.members ++ pairs (tags (drop l.place l.members)) (more (string l.octets) none) ≡ pairs (tags l.members) (more (string l.octets) none)
