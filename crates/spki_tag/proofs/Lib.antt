@@ -30,3 +30,4 @@ pub mod NamedRequests
 pub mod Faultless
 pub mod MeetEquations
 pub mod FaultShows
+pub mod PlainMeets
