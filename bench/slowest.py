@@ -7,7 +7,7 @@ its time shows. The limits are:
 
 - At most 1 second at 1 MiB for each text except the last, and where it takes over 0.1 seconds, at most 5 times for 4 times the octets.
 - Many entries with many certificates take at most 1.5 times what the entries take with one certificate and the certificates with one entry.
-- The last text is of the worst kind that is known: each certificate is intersected with a tag of 1,000,000 nodes. It has 16 certificates, and
+- The last text is of the worst kind that is known: each certificate is intersected with a tag of 331,776 strings. It has 16 certificates, and
   is only measured. A guard decides it as quickly as the others, because it forms no intersection.
 
 The exit status is 1 if a limit is exceeded or an answer is wrong.
@@ -26,7 +26,7 @@ from shapes import a_set, by_hashes, by_keys, certificate, definition, digest, e
 SIZES = [64 * 1024, 256 * 1024, 1024 * 1024]
 RUNS, ENOUGH_SECONDS, MOST_SECONDS = 7, 2.0, 120
 LIMIT_SECONDS, SHORT_SECONDS, LIMIT_RATIO, LIMIT_SUM = 1.0, 0.1, 5.0, 1.5
-# The certificates behind a tag of 1,000,000 nodes.
+# The certificates behind a tag of 331,776 strings.
 BEHIND_LARGE = 16
 # The most members of a set or list of which two have 1,000,000 as the product of their nodes.
 MEMBERS = 999
@@ -305,9 +305,8 @@ def main():
     print(f"{'octets':>9}  {'time':>10}  text")
     count = counter()
     over = [fault for shape in SHAPES for fault in faults_of(shape, count)]
-    text = large_tag(1, BEHIND_LARGE, MEMBERS)
-    print(f"{len(text):>9,}  {seconds_of(text):>8.3f} s  two sets whose intersection has 998,001 strings, {BEHIND_LARGE} times a certificate for one",
-          flush=True)
+    text = large_tag_and_set(1, BEHIND_LARGE, MEMBERS)
+    print(f"{len(text):>9,}  {seconds_of(text):>8.3f} s  {LARGE_TAG_AND_SET.what.format(0, BEHIND_LARGE)}", flush=True)
     print("over the limits:", *over or ["none"], sep="\n")
     if over:
         sys.exit(1)

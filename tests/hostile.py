@@ -183,7 +183,7 @@ def most_work():
         yield make.__name__, "check", make(long.LENGTHS[-1]), b"yes entry 1\n"
     for shape in slowest.SHAPES:
         yield shape.name, "check", shape.text(MOST_OCTETS)[1], b"no\n"
-    yield slowest.large_tag.__name__, "check", slowest.large_tag(1, slowest.BEHIND_LARGE, slowest.MEMBERS), b"no\n"
+    yield slowest.large_tag_and_set.__name__, "check", slowest.large_tag_and_set(1, slowest.BEHIND_LARGE, slowest.MEMBERS), b"no\n"
     for what, text, answer in long.widest():
         yield what, "check", text, answer
         yield what, "explain", text, b"entry 1 "

@@ -281,7 +281,7 @@ fn malformed_parts(rt: HostRuntime) -> Result<(), Fail> {
 
 /// A set of so many strings `a`.
 fn copies(alloc: Global, count: usize) -> Result<String, Fail> {
-    let mut tag = String::from(alloc, "(tag (* set")?;
+    let mut tag = String::from_str(alloc, "(tag (* set")?;
     for _ in 0..count {
         tag.push_str(" a")?;
     }

@@ -94,7 +94,10 @@ fn guard_decision<V: Verifier>(
     let guard = Guard::read(alloc, &parts.list, parts.policy, Limits::default())?;
     let texts = guard.texts(alloc, &question_of(&parts))?;
     let asked = guard.ask(alloc, &texts)?;
-    Ok(asked.decide(alloc, verifier))
+    match asked.decide(alloc, verifier) {
+        Ok(decision) => Ok(Ok(decision)),
+        Err(_) => Ok(Err(GuardFault::Memory)),
+    }
 }
 
 /// Whether this is the decision by a verifier both ways.
