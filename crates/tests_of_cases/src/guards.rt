@@ -289,29 +289,44 @@ fn copies(alloc: Global, count: usize) -> Result<String, Fail> {
     Ok(tag)
 }
 
-/// A certificate by one key for another, with this field and the signature.
-fn certified(alloc: Global, issuer: &str, subject: &str, fields: &[&str]) -> Result<String, Fail> {
-    let fields = joined(alloc, fields)?;
+/// A certificate by one key for another, with these fields, and the signature.
+fn certified(alloc: Global, issuer: &str, subject: &str, fields: &str) -> Result<String, Fail> {
     let parts = [
         "(cert (issuer ",
         issuer,
         ") (subject ",
         subject,
         ") ",
-        &fields,
+        fields,
         ")",
     ];
-    signed(alloc, &joined(alloc, &parts)?, issuer)
+    let cert = joined(alloc, &parts)?;
+    signed(alloc, &cert, issuer)
 }
 
-/// The decision of a guard on a request of KC, if all signatures are verified. The entry and the first certificate are for 99 strings,
-/// the second certificate for so many.
-fn decided(alloc: Global, third: usize, request: &str) -> Result<Decision, Fail> {
-    let tag = copies(alloc, 99)?;
-    let list = joined(alloc, &["(acl (entry ", KA, " (propagate) ", &tag, "))"])?;
-    let first = certified(alloc, KA, KB, &["(propagate) ", &tag])?;
-    let second = certified(alloc, KB, KC, &[&copies(alloc, third)?])?;
-    let sequence = joined(alloc, &["(sequence ", &first, &second, ")"])?;
+/// The list of an entry for KA that may delegate this.
+fn list_for(alloc: Global, tag: &str) -> Result<String, Fail> {
+    let parts = ["(acl (entry ", KA, " (propagate) ", tag, "))"];
+    Ok(joined(alloc, &parts)?)
+}
+
+/// The sequence of a certificate by KA for KB with the first of these, who may delegate it, and one by KB for KC with the second.
+fn sequence_for(alloc: Global, first: &str, second: &str) -> Result<String, Fail> {
+    let fields = ["(propagate) ", first];
+    let delegated = joined(alloc, &fields)?;
+    let one = certified(alloc, KA, KB, &delegated)?;
+    let other = certified(alloc, KB, KC, second)?;
+    let parts = ["(sequence ", &one, &other, ")"];
+    Ok(joined(alloc, &parts)?)
+}
+
+/// The decision of a guard of a list on a request of KC, if both signatures are verified.
+fn decided<'x>(
+    alloc: Global,
+    list: &'x str,
+    sequence: &'x str,
+    request: &'x str,
+) -> Result<Decision, Fail> {
     let guard = Guard::read(alloc, list.as_bytes(), Policy::Open, Limits::default())?;
     let question = Question {
         sequence: sequence.as_bytes(),
@@ -327,12 +342,19 @@ fn decided(alloc: Global, third: usize, request: &str) -> Result<Decision, Fail>
 /// The chain of the example, which a case refuses as `TooLarge` with 102 strings. A guard intersects nothing.
 #[test]
 fn limits(rt: HostRuntime) -> Result<(), Fail> {
+    let tag = copies(rt.alloc(), 99)?;
+    let list = list_for(rt.alloc(), &tag)?;
     for third in [101, 102, 1_023] {
+        let last = copies(rt.alloc(), third)?;
+        let sequence = sequence_for(rt.alloc(), &tag, &last)?;
         assert!(rt;
-            decided(rt.alloc(), third, "a")? == Decision::Yes(1),
+            decided(rt.alloc(), &list, &sequence, "a")? == Decision::Yes(1),
             "{third}"
         );
-        assert!(rt; decided(rt.alloc(), third, "b")? == Decision::No, "{third}");
+        assert!(rt;
+            decided(rt.alloc(), &list, &sequence, "b")? == Decision::No,
+            "{third}"
+        );
     }
     Ok(())
 }
