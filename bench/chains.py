@@ -14,10 +14,6 @@ from shapes import a_set, by_hashes, by_keys, case, certificate, entry, keys_of,
 LENGTHS = [94, 375, 1500]
 RUNS = 30
 LIMIT_SECONDS = 1.0
-# The most seconds of a step behind a tag of 998,001 strings: 15 ns for each string, and nothing for `(*)`.
-LIMIT_STEPS = {"(*)": 0.001, "a": 0.015}
-# So many steps are measured together, since two runs on the same text can differ by 40 ms.
-STEPS = 100
 MOST_OCTETS = 1024 * 1024
 
 
@@ -89,15 +85,6 @@ def large_tags():
     yield "lists in lists", made(a_set(group(string("a")), 499), group(string("a"), *[nested] * 8))
 
 
-def steps():
-    """The seconds that each further certificate takes behind such a tag, and the memory."""
-    for what, tag in (("(*)", STAR), ("a", string("a"))):
-        texts = behind_a_large_tag(1, tag), behind_a_large_tag(1 + STEPS, tag)
-        rounds = [[run(text, b"no\n") for text in texts] for _ in range(5)]
-        few, many = (min(taken) for taken in zip(*rounds))
-        yield what, max((many - few) / STEPS, 0.0), peak(PROGRAM, "check", texts[1])
-
-
 def beside_openssl():
     """A decision by three certificates, and the SHA-256 of the same octets by `openssl`, each a process of its own."""
     text = by_keys(3)
@@ -117,12 +104,6 @@ def main():
         slowest, most = max(slowest, took), max(most, memory)
         print(f"{what}, {len(text)} octets: {took:.2f} s, {memory:.1f} MiB")
     print(f"longest: {slowest:.2f} s (at most {LIMIT_SECONDS})")
-    over = []
-    for what, took, memory in steps():
-        print(f"a certificate for {what} behind a tag of 998,001 strings: {took * 1000:.1f} ms (at most {LIMIT_STEPS[what] * 1000:.0f}), "
-              f"{memory:.1f} MiB")
-        most = max(most, memory)
-        over += [what] if took > LIMIT_STEPS[what] else []
     for what, text in large_tags():
         memory = peak(PROGRAM, "check", text)
         print(f"a large tag of {what}, {len(text)} octets: {memory:.1f} MiB")
@@ -130,7 +111,7 @@ def main():
     decided, hashed = beside_openssl()
     print(f"a chain of three certificates: {decided * 1000:.2f} ms, openssl {hashed * 1000:.2f} ms, ratio {decided / hashed:.2f}")
     print(f"most memory: {most:.1f} MiB (at most {LIMIT_MEMORY})")
-    if over or worst > LIMIT_RATIO or slowest > LIMIT_SECONDS or most > LIMIT_MEMORY:
+    if worst > LIMIT_RATIO or slowest > LIMIT_SECONDS or most > LIMIT_MEMORY:
         sys.exit(1)
 
 

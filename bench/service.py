@@ -5,7 +5,8 @@
 - Opening a guard of 1 MiB, beside a decision of a case of the same list.
 - A decision by three certificates from the text of a case, and one through a guard beside libmacaroons' verification of a macaroon with three
   caveats. Where libmacaroons is not there (Debian: libmacaroons-dev) this is left out.
-- With limits of 64 KiB and 10,000 nodes, the time and the memory of the widest questions that are known, with lists of up to 1 MiB.
+- With limits of 64 KiB and 10,000 nodes, the time and the memory of decisions of the widest questions that are known, with lists of up to
+  1 MiB. What `explain` and `reduce` take for the same questions is printed: they have no limit here.
 - A decision through the bindings for Rust and Python, beside the calls in C. Where `cargo` is not there Rust is left out.
 - The decisions of 8 threads, each with a guard of its own, beside those of one, as on four free cores: how many cores are free is how far
   8 threads count beside one. A thread that decides must not wait for another one.
@@ -27,7 +28,7 @@ from check import group, key, string
 from counting import counted_by_valgrind, counter, of_one_call
 from macaroons import GUARD, MACAROON, built, measured, written_parts
 from shapes import by_keys, case, certificate, digest, entry, keys_of, parts_of
-from slowest import (LARGE_TAG, LARGE_TAG_AND_RANGE, LARGE_TAG_AND_SET, SHAPES, Shape, entries_with_own_tags, large_tag, most, narrowed_ranges,
+from slowest import (LARGE_TAG, LARGE_TAG_AND_RANGE, LARGE_TAG_AND_SET, SHAPES, Shape, large_tag, most, narrowed_ranges,
                      ranges_and_sets_of_two)
 
 sys.path.append(os.path.join(os.path.dirname(os.path.abspath(__file__)), "..", "tests"))
@@ -44,8 +45,7 @@ QUESTION_OCTETS, QUESTION_MEMBERS = 65_536, 99
 SECONDS = 600
 MOST = {"10,000 keys, no certificate": 1.5, "10,000 keys, three certificates": 1.5, "10,000 hashes, no certificate": 1.5,
         "10,000 hashes, three certificates": 1.5, "opening 1 MiB": 1.3, "instructions of a case": 96_000, "three caveats": 1.0, "Rust": 1.1,
-        "Python, µs more": 20.0, "a question, ms": 100.0, "a question, MiB": 16.0, "a question on tags of their own, ms": 600.0,
-        "a question on tags of their own, MiB": 16.5, "waits of 1,000 decisions": 1.0}
+        "Python, µs more": 20.0, "a decision, ms": 100.0, "a decision, MiB": 16.0, "waits of 1,000 decisions": 1.0}
 LEAST = {"threads": 3.5}
 # What the library's statuses say.
 ANSWERS = {0: "yes", 1: "no", 2: "refused", 6: "done"}
@@ -251,29 +251,28 @@ def one_answer(driver, wish, path, enough):
     return min(runs, key=lambda run: run[1])
 
 
-def one_question(driver, what, text, enough):
-    """The milliseconds and the MiB of each kind of answer to one question."""
+def one_question(driver, what, text):
+    """The milliseconds and the MiB of the decision of one question. What else can be asked about it is printed."""
     path = driver.question("wide", text)
     listed, asked = len(parts_of(text)[0]), question_of(text)
     print(f"{what}: list of {listed:,} octets, question of {asked:,}")
+    met = None
     for wish in ("decide", "explain", "reduce"):
-        status, milliseconds, listing, mebibytes = one_answer(driver, wish, path, enough)
+        answer = driver.run("widest", wish, path) if met else one_answer(driver, wish, path, MOST["a decision, ms"])
+        met = met or answer
+        status, milliseconds, listing, mebibytes = answer
         print(f"    {wish}: {ANSWERS[status]}, {milliseconds:.1f} ms, of which {listing:.1f} list the signatures, {mebibytes:.1f} MiB", flush=True)
-        yield milliseconds, mebibytes
+    return met[1], met[3]
 
 
 def widest(driver):
-    """The most milliseconds and MiB of one question. Apart from the others stand those on lists whose entries have many or large tags of
-    their own, each of which is narrowed by each certificate that a stranger shows. README.md has the figures under "Limits"."""
-    shapes = [shape for shape in SHAPES if shape.make is not entries_with_own_tags]
-    ranges = [Shape("", make) for make in (narrowed_ranges, ranges_and_sets_of_two)]
-    known = [widest_of(shape) for shape in (*shapes, LARGE_TAG, LARGE_TAG_AND_RANGE, LARGE_TAG_AND_SET, *ranges)]
-    known += [(f"large tags: {what}", text) for what, text in large_tags()]
-    own = [widest_of(Shape("", make)) for make in (entries_with_own_tags, ten_large_sets)]
-    for whose, texts in (("a question", known), ("a question on tags of their own", own)):
-        met = [each for what, text in texts for each in one_question(driver, what, text, MOST[f"{whose}, ms"])]
-        yield f"{whose}, ms", max(milliseconds for milliseconds, _ in met)
-        yield f"{whose}, MiB", max(mebibytes for _, mebibytes in met)
+    """The most milliseconds and MiB of one decision. README.md says under "Limits" what a decision takes."""
+    ranges = [Shape("", make) for make in (narrowed_ranges, ranges_and_sets_of_two, ten_large_sets)]
+    texts = [widest_of(shape) for shape in (*SHAPES, LARGE_TAG, LARGE_TAG_AND_RANGE, LARGE_TAG_AND_SET, *ranges)]
+    texts += [(f"large tags: {what}", text) for what, text in large_tags()]
+    met = [one_question(driver, what, text) for what, text in texts]
+    yield "a decision, ms", max(milliseconds for milliseconds, _ in met)
+    yield "a decision, MiB", max(mebibytes for _, mebibytes in met)
 
 
 def threads(driver):
