@@ -7,7 +7,7 @@ Build the program first (`rt run` in crates/spki). Usage: bench/chains.py [PROGR
 import subprocess
 import sys
 
-from check import LIMIT_MEMORY, LIMIT_RATIO, PROGRAM, STAR, group, key, run, string
+from check import LIMIT_MEMORY, LIMIT_RATIO, PROGRAM, group, key, run, string
 from memory import peak, processor_seconds
 from shapes import a_set, by_hashes, by_keys, case, certificate, entry, keys_of, through_names
 

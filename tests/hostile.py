@@ -188,7 +188,7 @@ def most_work():
         yield what, "check", text, answer
         yield what, "explain", text, b"entry 1 "
         yield what, "reduce", text, b"entry 1 "
-    for what, tag in (("(*)", long.STAR), ("a", check.string("a"))):
+    for what, tag in (("(*)", check.STAR), ("a", check.string("a"))):
         for command, answer in (("check", b"no\n"), ("explain", b"entry 1 NotTheKey\n"), ("reduce", b"entry 1 (five ")):
             yield f"ten {what} behind a large tag", command, long.behind_a_large_tag(10, tag), answer
     for what, text in long.large_tags():
