@@ -266,7 +266,7 @@ def one_question(driver, what, text):
 
 
 def widest(driver):
-    """The most milliseconds and MiB of one decision. README.md says under "Limits" what a decision takes."""
+    """The most milliseconds and MiB of one decision. docs/PERFORMANCE.md says what a decision takes."""
     ranges = [Shape("", make) for make in (narrowed_ranges, ranges_and_sets_of_two, ten_large_sets)]
     texts = [widest_of(shape) for shape in (*SHAPES, LARGE_TAG, LARGE_TAG_AND_RANGE, LARGE_TAG_AND_SET, *ranges)]
     texts += [(f"large tags: {what}", text) for what, text in large_tags()]

@@ -1,5 +1,5 @@
 #!/usr/bin/env python3
-"""Times `spki check` on the texts that are known to take longest for their octets: the table of README.md under "Limits".
+"""Times `spki check` on the texts that are known to take longest for their octets: the table of docs/PERFORMANCE.md.
 
 Each text is made for three lengths. Times are processor times, the least of some runs. The ratio for 4 times the octets is that of times or
 that of instructions, whichever is less: short times differ by half from run to run, and a comparison of long octets has more instructions than
