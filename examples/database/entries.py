@@ -3,7 +3,7 @@
 An access list of one text ends at 1 MiB. Here each entry is a row: its number, its principal, its text. The first certificate of a
 question has one issuer key, and only an entry whose subject begins with this key, or with a hash of it, can grant the request. Where no
 certificate is shown it is the client's key. So a decision reads these rows, in the order of their numbers, and decides by a guard of them.
-The answer is that of the guard of all rows: this is a theorem about access lists (docs/GUIDE.md, "A list of millions").
+The answer is that of the guard of all rows: this is a theorem about access lists (docs/OPERATING.md, "A list of millions").
 
 A table (`sqlite.py`, `postgres.py`) has the calls `add`, `remove` and `found`. Each must be one transaction. They raise `Unavailable` if
 the database does not answer.
