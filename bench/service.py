@@ -44,7 +44,7 @@ TURNS, MOST_TURNS, PAUSE = 3, 20, 10
 QUESTION_OCTETS, QUESTION_MEMBERS = 65_536, 99
 SECONDS = 600
 MOST = {"10,000 keys, no certificate": 1.5, "10,000 keys, three certificates": 1.5, "10,000 hashes, no certificate": 1.5,
-        "10,000 hashes, three certificates": 1.5, "opening 1 MiB": 1.3, "instructions of a case": 96_000, "three caveats": 1.0, "Rust": 1.1,
+        "10,000 hashes, three certificates": 1.5, "opening 1 MiB": 1.9, "instructions of a case": 96_000, "three caveats": 1.0, "Rust": 1.1,
         "Python, µs more": 20.0, "a decision, ms": 100.0, "a decision, MiB": 16.0, "waits of 1,000 decisions": 1.0}
 LEAST = {"threads": 3.5}
 # What the library's statuses say.
@@ -114,7 +114,8 @@ def many_entries(driver):
 
 
 def opened(driver):
-    """The ratio of opening a list of 1 MiB to a decision of a case of it."""
+    """The ratio of opening a list of 1 MiB to a decision of a case of it. The decision denies entries of other keys by their subjects, and
+    makes no index."""
     empty = len(case([], [], asks=key("a")))
     text = case(others((MOST_OCTETS - empty) // len(others(1)[0])), [], asks=key("a"))
     opening = driver.instructions("reopen", driver.file("list", parts_of(text)[0]), 2)
