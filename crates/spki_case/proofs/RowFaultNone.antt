@@ -110,6 +110,7 @@ case-of p octets (acl, rows, sequence, key, request, at) =
         moment = moment.0;
         policy = p.policy;
         most_nodes = 1000000;
+        most_work = None;
       },
       record {
         parts = p;
@@ -122,6 +123,7 @@ case-of p octets (acl, rows, sequence, key, request, at) =
         moment = moment.1;
         policy = refl;
         limit = refl;
+        unbounded = refl;
       },
     )
 

@@ -1,5 +1,5 @@
 -- Cases: what is to be decided, and with what.
-use Rattle.std.specs.Prelude.{ℕ, List, Bool, ◌&&◌, bytes_eq, IsTrue}
+use Rattle.std.specs.Prelude.{ℕ, List, Option, Bool, ◌&&◌, bytes_eq, IsTrue}
 use Rattle.std.specs.List.{list_any}
 use Rattle.spki_tag.specs.Request.{Request}
 use Rattle.spki_cert.specs.declared.hash.HashAlg.TheVariants.{Sha256}
@@ -22,7 +22,8 @@ pub record Row : Type 0 where
 
 -- The access list's entries, the signatures that are accepted, the items of the sequence, and the question. The question is
 -- whether the key may do the request at the moment, under the policy. If two tags are intersected, the product of their
--- nodes is at most `most_nodes`.
+-- nodes is at most `most_nodes`. If there is a `most_work`, all these products of an explanation or a reduction are together at most
+-- this.
 pub record Case : Type 0 where
   pub entries : List Entry
   pub rows : List Row
@@ -32,6 +33,7 @@ pub record Case : Type 0 where
   pub moment : List ℕ
   pub policy : Policy
   pub most_nodes : ℕ
+  pub most_work : Option ℕ
 
 -- whether a row is of this key, message and value
 abbrev pub is_row_of : List ℕ → List ℕ → List ℕ → Row → Bool

@@ -1,5 +1,5 @@
 -- The case of a value: an access list, accepted rows, a sequence, and a question.
-use Rattle.std.specs.Prelude.{◌≡◌, ◌≢◌, ◌⊎◌, ℕ, List, [], ◌∷◌, Some, codes}
+use Rattle.std.specs.Prelude.{◌≡◌, ◌≢◌, ◌⊎◌, ℕ, List, [], ◌∷◌, Some, None, codes}
 use Rattle.std.specs.List.{AllZip}
 use Rattle.sexpr_core.specs.Value.{Value, plain, group}
 use Rattle.spki_tag.specs.Request.{Request, IsRequest, request_value}
@@ -72,7 +72,7 @@ pub record RequestOf (v : Value) (g : Request) : Type 0 where
   pub written : request_value g ≡ v
   pub is_request : IsRequest g
 
--- The value is read as the case. Its limit of nodes is the one of all tags.
+-- The value is read as the case. Its limit of nodes is the one of all tags, and its work has no limit.
 pub record CaseOf (v : Value) (c : Case) : Type 0 where
   pub parts : Parts
   pub written : v ≡ case_value parts
@@ -84,6 +84,7 @@ pub record CaseOf (v : Value) (c : Case) : Type 0 where
   pub moment : DateOf parts.at c.moment
   pub policy : c.policy ≡ parts.policy
   pub limit : c.most_nodes ≡ 1000000
+  pub unbounded : c.most_work ≡ None
 
 -- ---- refusals
 

@@ -25,4 +25,5 @@ model c = record {
   moment = c.moment;
   policy = c.policy;
   most_nodes = c.most_nodes;
+  most_work = c.most_work;
 }

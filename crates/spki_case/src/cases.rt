@@ -1,6 +1,6 @@
 //! Cases: an access list, accepted rows, a sequence, and a question.
 
-ghost use Rattle.std.specs.Prelude.{◌≡◌, ◌≢◌, [], ◌<◌, ◌≤◌, ◌↔◌, length, IfOk, IfErr, IsErrOf};
+ghost use Rattle.std.specs.Prelude.{◌≡◌, ◌≢◌, [], ◌<◌, ◌≤◌, ◌↔◌, Some, length, IfOk, IfErr, IsErrOf};
 ghost use Rattle.spki_case.specs.CaseForm.{CaseOf, ValueRefused, IsCaseText, TextRefused};
 ghost use Rattle.spki_case.specs.Sequence.{AreSigned};
 ghost use Rattle.spki_case.specs.Texts.{IsOuter};
@@ -71,6 +71,9 @@ pub struct Case<'a> {
     pub policy: Policy,
     /// The greatest product of the numbers of nodes of two tags that are intersected.
     pub most_nodes: usize,
+    /// The greatest sum of these products over all certificates and entries, for an explanation or a reduction. None if there is no
+    /// bound.
+    pub most_work: Option<usize>,
     /// Each certificate is followed by its signature.
     ghost signed: { AreSigned sequence.items },
     /// The limit is at most that of all tags.
@@ -146,11 +149,12 @@ impl<'a> Case<'a> {
             moment,
             policy: parts.policy,
             most_nodes: MOST_NODES,
+            most_work: None,
         })
     }
 
-    /// Makes a case without an access list and without an accepted list, with a sequence, a question, and the limit of nodes
-    /// for an intersection. Its keys carry their digests by `algorithms`, those of the hashes in a separate access list, and
+    /// Makes a case without an access list and without an accepted list, with a sequence, a question, the limit of nodes for an
+    /// intersection, and the limit of work. Its keys carry their digests by `algorithms`, those of the hashes in a separate access list, and
     /// by those of the hashes in the sequence.
     ///
     /// # Errors
@@ -164,6 +168,7 @@ impl<'a> Case<'a> {
         moment: Date,
         policy: Policy,
         most_nodes: usize,
+        most_work: usize,
         algorithms: Algorithms,
     ) -> Result<Case<'a>, AllocError>
         requires signed { AreSigned sequence.items }
@@ -175,7 +180,8 @@ impl<'a> Case<'a> {
         ensures request { IfOk result (λ c. c.request ≡ request) }
         ensures moment { IfOk result (λ c. c.moment ≡ moment) }
         ensures policy { IfOk result (λ c. c.policy ≡ policy) }
-        ensures limit { IfOk result (λ c. c.most_nodes ≡ most_nodes) }
+        ensures nodes { IfOk result (λ c. c.most_nodes ≡ most_nodes) }
+        ensures work { IfOk result (λ c. c.most_work ≡ Some most_work) }
     {
         let accepted = AcceptedTable::new(alloc, Vec::new(alloc))?;
         let sequence = digested_items(sequence, algorithms, policy);
@@ -189,6 +195,7 @@ impl<'a> Case<'a> {
             moment,
             policy,
             most_nodes,
+            most_work: Some(most_work),
         })
     }
 

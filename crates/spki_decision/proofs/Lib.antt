@@ -5,6 +5,7 @@ pub mod Finding
 pub mod Evident
 pub mod Policies
 pub mod Entries
+pub mod EntryWork
 pub mod Granting
 pub mod Stopping
 pub mod Reasons

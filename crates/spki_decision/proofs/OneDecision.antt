@@ -19,9 +19,10 @@ use Rattle.spki_decision.specs.Supported.{AllSmall}
 use Rattle.spki_decision.specs.Granted.{IsFirstGranted}
 use Rattle.spki_decision.specs.Decision.{IsDecision}
 use Rattle.spki_decision.specs.Explained.{IsExplanation, IsSameExplanation}
-use Rattle.spki_decision.specs.Reduced.{IsReduction, IsSameReduction, SomeTooLarge}
+use Rattle.spki_decision.specs.Reduced.{IsReduction, IsSameReduction, IsWithinWork, HasLargeTags, HasMuchWork, SomeTooLarge}
 use Rattle.spki_decision.specs.Answered.{IsDecided, IsExplained, IsReduced, AreSame}
 use Rattle.spki_decision.proofs.Evident.{one_list}
+use Rattle.spki_decision.proofs.EntryWork.{much}
 use Rattle.spki_decision.proofs.Unrefused.{not_both}
 use Rattle.spki_decision.proofs.OneExplanation.{one_explanation}
 use Rattle.spki_decision.proofs.OneReduction.{one_reduction}
@@ -57,16 +58,21 @@ module _ (c : Case) (verified : Verified) where
   decided_or_large (Err TooLarge) d a b = inr refl
   decided_or_large (Err Memory) d a b = absurd a
 
-  -- where no chain is too large, none is refused
-  all_small : (tuples : List Tuple) → AreShown c.policy verified c.items tuples → AllSmall c tuples → SomeTooLarge c verified → ⊥
-  all_small tuples shown small some =
+  apart : (tuples : List Tuple) → AllSmall c tuples → IsWithinWork c tuples → HasLargeTags c tuples ⊎ HasMuchWork c tuples → ⊥
+  apart tuples small worked (inl large) =
+      small large.place large.entry (slice_get_within c.entries large.place large.entry large.stands) large.stands large.at
+  apart tuples small worked (inr h) = much c tuples worked h
+
+  -- where no chain is too large, and the work is within its limit, none is refused
+  all_small : (tuples : List Tuple) → AreShown c.policy verified c.items tuples → AllSmall c tuples → IsWithinWork c tuples
+      → SomeTooLarge c verified → ⊥
+  all_small tuples shown small worked some =
       let same : some.tuples ≡ tuples = one_list c.policy (keys_of c.items) verified (certificates c.items) some.tuples tuples some.shown shown in
-      let large = some.large in
-      subst (AllSmall c) (sym same) small large.place large.entry (slice_get_within c.entries large.place large.entry large.stands) large.stands large.at
+      apart some.tuples (subst (AllSmall c) (sym same) small) (subst (IsWithinWork c) (sym same) worked) some.large
 
   pub explained_small : (x : Explanation) → IsExplanation c verified x → SomeTooLarge c verified → ⊥
   explained_small (explanation.Evidence item stop) a some = a.none_shown some.tuples some.shown
-  explained_small (explanation.Entries reasons) a some = all_small a.tuples a.shown a.small some
+  explained_small (explanation.Entries reasons) a some = all_small a.tuples a.shown a.small a.worked some
 
   pub explained_one : (x y : Result Explanation GuardFault) → IsExplained c verified x → IsExplained c verified y
       → AreSame IsSameExplanation x y
@@ -80,7 +86,7 @@ module _ (c : Case) (verified : Verified) where
 
   pub reduced_small : (x : Reduction) → IsReduction c verified x → SomeTooLarge c verified → ⊥
   reduced_small (reduction.Evidence item stop) a some = a.none_shown some.tuples some.shown
-  reduced_small (reduction.Entries folds) a some = all_small a.tuples a.shown a.small some
+  reduced_small (reduction.Entries folds) a some = all_small a.tuples a.shown a.small a.worked some
 
   pub reduced_one : (x y : Result Reduction GuardFault) → IsReduced c verified x → IsReduced c verified y
       → AreSame IsSameReduction x y

@@ -26,6 +26,7 @@ use Rattle.spki_decision.specs.declared.explanation.Reason.TheVariants.{Grants, 
 use Rattle.spki_decision.specs.declared.evidence.Stop.{Stop}
 use Rattle.spki_decision.specs.Standing.{AreShown}
 use Rattle.spki_decision.specs.Supported.{Supported, AllSmall}
+use Rattle.spki_decision.specs.Reduced.{IsWithinWork}
 use Rattle.spki_decision.specs.Granted.{Granted}
 use Rattle.spki_decision.specs.Decision.{IsDecision}
 use Rattle.spki_decision.specs.Reduced.{IsFailure}
@@ -114,12 +115,13 @@ module _ (c : Case) (verified : Verified) (tuples : List Tuple) (shown : AreShow
 
 pub are_reasons : (c : Case) (verified : Verified) (tuples : List Tuple) (reasons : List Reason) → IsRequest c.request
     → AreShown c.policy verified c.items tuples → AllZip (IsReason c tuples) c.entries reasons → AllSmall c tuples
-    → AreReasons c verified reasons
-are_reasons c verified tuples reasons is shown each small = record {
+    → IsWithinWork c tuples → AreReasons c verified reasons
+are_reasons c verified tuples reasons is shown each small worked = record {
   tuples = tuples;
   shown = shown;
   each = each;
   small = small;
+  worked = worked;
   grants = λ place.
       (has_granted c verified tuples shown reasons each place, grants_it c verified tuples shown reasons each place is);
 }

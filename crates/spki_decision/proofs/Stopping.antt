@@ -1,5 +1,5 @@
 -- Where chains stop, what fails, and the answers of one entry more.
-use Rattle.std.proofs.Common.{◌≡◌, ℕ, ◌-◌, ◌<◌, List, [], ◌∷◌, Some, map, length, get_or, take, ◌+◌, ◌++◌, slice_get, sym, ap, ◌∙◌, arith}
+use Rattle.std.proofs.Common.{◌≡◌, ◌⊎◌, inl, inr, Option, ℕ, ◌-◌, ◌<◌, List, [], ◌∷◌, Some, map, length, get_or, take, ◌+◌, ◌++◌, slice_get, sym, ap, ◌∙◌, arith}
 use Rattle.std.specs.List.{AllZip, AllByRecursion}
 use Rattle.std.proofs.lemmas.List.{length-map, take_more}
 use Rattle.std.proofs.lemmas.Option.{slice_get_within, slice_get-get_or}
@@ -12,17 +12,20 @@ use Rattle.spki_reduce.specs.declared.tuple.Step.{Step}
 use Rattle.spki_reduce.specs.Tuples.{Tuple, five}
 use Rattle.spki_reduce.specs.Views.{entry_tuple, step_tuple}
 use Rattle.spki_reduce.specs.Chain.{tuples_of, StopsAt, TooLargeAt, Excludes}
+use Rattle.spki_reduce.specs.Work.{IsWork, Takes, IsOverworked}
 use Rattle.spki_reduce.proofs.Chains.{too_large}
+use Rattle.spki_reduce.proofs.Working.{taken as taken_both}
 use Rattle.spki_case.specs.Case.{Case, Verified}
 use Rattle.spki_case.specs.Sequence.{certificates, keys_of}
 use Rattle.spki_decision.specs.declared.certificates.ShownCert.{ShownCert}
 use Rattle.spki_decision.specs.declared.evidence.Stop.{Stop}
 use Rattle.spki_decision.specs.Standing.{AreShown, StandsAs, FailsAt}
-use Rattle.spki_decision.specs.Reduced.{IsFailure, StopsAtItem, HasLargeTags}
+use Rattle.spki_decision.specs.Reduced.{IsFailure, StopsAtItem, HasLargeTags, HasMuchWork, IsEntryWork}
 use Rattle.spki_decision.specs.Supported.{SmallBefore}
 use Rattle.spki_decision.specs.Views.{shown_of}
 use Rattle.spki_decision.proofs.Chains.{stands_here}
 use Rattle.spki_decision.proofs.Entries.{small_yet}
+use Rattle.spki_decision.proofs.EntryWork.{work_more, too_much}
 use Rattle.spki_decision.proofs.Evident.{none_shown}
 
 -- a chain that stops at a step stops at the item of the step's certificate
@@ -92,7 +95,7 @@ module _ (c : Case) (items : List Entry) (place : ℕ) (e : Entry) (same : items
       → SmallBefore c tuples (place + 1)
   small_here tuples small before = small_yet c tuples place e stands small before
 
-  pub large_here : (tuples : List Tuple) → TooLargeAt c.most_nodes c.policy (five (entry_tuple e)) tuples → HasLargeTags c tuples
+  large_here : (tuples : List Tuple) → TooLargeAt c.most_nodes c.policy (five (entry_tuple e)) tuples → HasLargeTags c tuples
   large_here tuples h = record {
     place = place;
     entry = e;
@@ -100,3 +103,17 @@ module _ (c : Case) (items : List Entry) (place : ℕ) (e : Entry) (same : items
     at = h;
     large = too_large c.most_nodes c.policy (five (entry_tuple e)) tuples h;
   }
+
+  pub too_large_here : (tuples : List Tuple) (left : Option ℕ) (before : ℕ) → IsEntryWork c tuples place before
+      → Takes c.most_work left before
+      → TooLargeAt c.most_nodes c.policy (five (entry_tuple e)) tuples ⊎ IsOverworked left c.policy (five (entry_tuple e)) tuples
+      → HasLargeTags c tuples ⊎ HasMuchWork c tuples
+  too_large_here tuples left before work taken (inl h) = inl (large_here tuples h)
+  too_large_here tuples left before work taken (inr h) = inr (too_much c tuples place e before left stands work taken h)
+
+  -- what the entries up to this one take
+  pub work_here : (tuples : List Tuple) (left new : Option ℕ) (before n : ℕ) → IsEntryWork c tuples place before
+      → Takes c.most_work left before → IsWork c.policy (five (entry_tuple e)) tuples n → Takes left new n
+      → (m : ℕ) × IsEntryWork c tuples (place + 1) m × Takes c.most_work new m
+  work_here tuples left new before n work taken here more =
+      (before + n, work_more c tuples place e before n stands work here, taken_both c.most_work left new before n taken more)

@@ -21,7 +21,7 @@ use Rattle.spki_decision.specs.declared.explanation.Reason.TheVariants.{Grants, 
 use Rattle.spki_decision.specs.Standing.{AreShown}
 use Rattle.spki_decision.specs.Supported.{Supported, AllSmall}
 use Rattle.spki_decision.specs.Granted.{Granted}
-use Rattle.spki_decision.specs.Reduced.{IsFailure, StopsAtItem}
+use Rattle.spki_decision.specs.Reduced.{IsFailure, StopsAtItem, IsWithinWork}
 
 -- The tuples of an entry and of the certificates have a derivation. If there is a certificate, some moment is within all its
 -- windows. The intersection of their tags, one after another, is not (* set), unless no certificate has a tag. `lack` is the
@@ -49,12 +49,13 @@ reason_of (Some lack.TagLacks) = TagLacks
 reason_of (Some lack.WindowLacks) = WindowLacks
 
 -- Every certificate stands, and each entry, in order, has its reason. The reason is Grants exactly if the entry is granted.
--- No chain is too large at a step.
+-- No chain is too large at a step, and the work of all is within the limit.
 pub record AreReasons (c : Case) (verified : Verified) (reasons : List Reason) : Type 0 where
   pub tuples : List Tuple
   pub shown : AreShown c.policy verified c.items tuples
   pub each : AllZip (IsReason c tuples) c.entries reasons
   pub small : AllSmall c tuples
+  pub worked : IsWithinWork c tuples
   pub grants : (place : ℕ) → (slice_get reasons place ≡ Some Grants) ↔ Granted (suc place) c verified
 
 -- the first certificate that does not stand, or the reasons of the entries

@@ -1,5 +1,5 @@
 -- What the entries of a case become, each with all certificates (RFC 2693, section 6.3).
-use Rattle.std.specs.Prelude.{◌≡◌, ℕ, ◌<◌, List, [], ◌∷◌, Some, slice_get}
+use Rattle.std.specs.Prelude.{◌≡◌, ◌⊎◌, ℕ, zero, suc, ◌+◌, ◌<◌, ◌≤◌, List, [], ◌∷◌, Some, length, slice_get}
 use Rattle.std.specs.List.{AllZip, AllByRecursion}
 use Rattle.spki_cert.specs.declared.entry.Entry.{Entry}
 use Rattle.spki_cert.specs.Time.{IsLimit}
@@ -8,6 +8,7 @@ use Rattle.spki_reduce.specs.Tuples.{Tuple, five, own}
 use Rattle.spki_reduce.specs.Views.{entry_tuple, five_tuple, issuer_of}
 use Rattle.spki_reduce.specs.Restrictions.{nodes_product}
 use Rattle.spki_reduce.specs.Chain.{FoldsTo, HasMet, StopsAt, TooLargeAt, Excludes, all_tags}
+use Rattle.spki_reduce.specs.Work.{IsWork, IsWorkOf, IsOver}
 use Rattle.spki_case.specs.Case.{Case, Verified}
 use Rattle.spki_case.specs.Sequence.{Shown, certificates}
 use Rattle.spki_decision.specs.declared.evidence.Stop.{Stop}
@@ -47,13 +48,44 @@ abbrev pub IsOwn : EntryFold → Type 0
 IsOwn (Done f) = issuer_of f.issuer ≡ own
 IsOwn (Stopped item cause) = Unit {0}
 
+-- ---- work
+
+-- the work of so many entries, each with all certificates: the sum of the products of nodes of all tags that are intersected
+abbrev pub IsEntryWork : Case → List Tuple → ℕ → ℕ → Type 0
+IsEntryWork c tuples zero n = n ≡ 0
+IsEntryWork c tuples (suc place) n =
+    (before : ℕ) × (here : ℕ) × (e : Entry) × IsEntryWork c tuples place before × (slice_get c.entries place ≡ Some e)
+    × IsWork c.policy (five (entry_tuple e)) tuples here × (n ≡ before + here)
+
+-- The work of all entries is within the case's limit.
+pub record IsWithinWork (c : Case) (tuples : List Tuple) : Type 0 where
+  pub work : ℕ
+  pub is : IsEntryWork c tuples (length c.entries) work
+  pub within : ¬ IsOver c.most_work work
+
+-- The work of some entries, and of some steps of the chain of the next entry, is over the case's limit.
+pub record HasMuchWork (c : Case) (tuples : List Tuple) : Type 0 where
+  pub place : ℕ
+  pub entry : Entry
+  pub stands : slice_get c.entries place ≡ Some entry
+  pub before : ℕ
+  pub before_is : IsEntryWork c tuples place before
+  pub steps : ℕ
+  pub within : steps ≤ length tuples
+  pub here : ℕ
+  pub here_is : IsWorkOf c.policy (five (entry_tuple entry)) tuples steps here
+  pub over : IsOver c.most_work (before + here)
+
+-- ---- reductions
+
 -- Every certificate stands, and for each entry, in order, this is what it becomes with them. No chain is too large at a
--- step.
+-- step, and the work of all is within the limit.
 pub record AreFolds (c : Case) (verified : Verified) (folds : List EntryFold) : Type 0 where
   pub tuples : List Tuple
   pub shown : AreShown c.policy verified c.items tuples
   pub each : AllZip (IsEntryFold c tuples) c.entries folds
   pub small : AllSmall c tuples
+  pub worked : IsWithinWork c tuples
 
 -- the first certificate that does not stand, or what the entries become
 abbrev pub IsReduction : Case → Verified → Reduction → Type 0
@@ -97,9 +129,9 @@ pub record HasLargeTags (c : Case) (tuples : List Tuple) : Type 0 where
   pub at : TooLargeAt c.most_nodes c.policy (five (entry_tuple entry)) tuples
   pub large : c.most_nodes < nodes_product (all_tags (five (entry_tuple entry) ∷ tuples))
 
--- Every certificate stands, and the chain of some entry is too large at a step. So the product of the nodes of its tag and
--- of the tags of all certificates is over the case's limit.
+-- Every certificate stands. Either the chain of some entry is too large at a step, so the product of the nodes of its tag and of the
+-- tags of all certificates is over the case's limit. Or the work of the entries is over its limit.
 pub record SomeTooLarge (c : Case) (verified : Verified) : Type 0 where
   pub tuples : List Tuple
   pub shown : AreShown c.policy verified c.items tuples
-  pub large : HasLargeTags c tuples
+  pub large : HasLargeTags c tuples ⊎ HasMuchWork c tuples

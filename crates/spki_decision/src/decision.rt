@@ -18,7 +18,7 @@ use crate::membership::Membership;
 use crate::sizes::Sizes;
 use spki_case::{Case, Verifier};
 use spki_cert::Entry;
-use spki_reduce::{ReduceFault, Step};
+use spki_reduce::{ReduceFault, Step, Work};
 use std::alloc::{AllocError, Global};
 
 /// The answer of a case's access list.
@@ -117,6 +117,13 @@ fn require_small<'a>(
     if sizes.are_small(&entry.tag, steps, case.most_nodes) {
         return Ok(());
     }
-    fold_entry(alloc, entry, steps, case.policy, case.most_nodes)?;
+    fold_entry(
+        alloc,
+        entry,
+        steps,
+        case.policy,
+        case.most_nodes,
+        &mut Work::new(None),
+    )?;
     Ok(())
 }

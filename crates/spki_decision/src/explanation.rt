@@ -1,6 +1,6 @@
 //! Why the entries of a case grant the request or do not (RFC 2693, section 6.3).
 
-ghost use Rattle.std.specs.Prelude.{◌≡◌, List, map, length, IfOk, OnOk, IsErrOf};
+ghost use Rattle.std.specs.Prelude.{◌≡◌, List, map, length, IfOk, OnOk, IsErrOf, ◌⊎◌, ℕ};
 ghost use Rattle.std.specs.List.{AllZip};
 ghost use Rattle.spki_case.specs.View.{model};
 ghost use Rattle.spki_decision.specs.Views.{shown_of, with_entries};
@@ -8,9 +8,10 @@ ghost use Rattle.spki_case.specs.Sequence.{certificates};
 ghost use Rattle.spki_cert.specs.declared.entry.Entry.{Entry};
 ghost use Rattle.spki_reduce.specs.Tuples.{five};
 ghost use Rattle.spki_reduce.specs.Chain.{tuples_of, TooLargeAt};
+ghost use Rattle.spki_reduce.specs.Work.{left_of, Takes, IsWork, IsOverworked};
 ghost use Rattle.spki_reduce.specs.Views.{entry_tuple};
 ghost use Rattle.spki_decision.specs.Supported.{AllSmall};
-ghost use Rattle.spki_decision.specs.Reduced.{HasLargeTags, SomeTooLarge};
+ghost use Rattle.spki_decision.specs.Reduced.{IsWithinWork, HasLargeTags, HasMuchWork, SomeTooLarge};
 ghost use Rattle.spki_decision.specs.Explained.{IsReason, IsExplanation, reason_of};
 
 use crate::certificates::{ShownCert, certificates_of};
@@ -19,7 +20,7 @@ use crate::fault::GuardFault;
 use crate::reduction::{EntryFold, entry_fold};
 use spki_case::{Case, Verifier};
 use spki_cert::Entry;
-use spki_reduce::{Cause, Lack, Step};
+use spki_reduce::{Cause, Lack, Step, Work};
 use std::alloc::Global;
 
 /// Why an entry and all certificates grant the request or do not.
@@ -65,8 +66,8 @@ pub enum Explanation {
 /// # Errors
 ///
 /// `TooLarge` only if the certificates stand, and for some entry the tag of a certificate is too large for what the entry
-/// and the certificates before it became: the product of their nodes is over `most_nodes`. `Memory` if memory ran out, here
-/// or in the verifier.
+/// and the certificates before it became: the product of their nodes is over `most_nodes`. Or these products are together over
+/// `most_work`. `Memory` if memory ran out, here or in the verifier.
 pub fn explain<V: Verifier>(
     alloc: Global,
     case: &Case,
@@ -100,13 +101,17 @@ pub fn entry_reasons<'a>(
     requires { length steps.now ≡ length (certificates case.now.sequence.items) }
     ensures each { IfOk result (λ reasons.
         AllZip (IsReason (with_entries (model case.now) acl.now) (tuples_of steps.now)) acl.now reasons.items) }
-    ensures too_large { IsErrOf result GuardFault.TooLarge → HasLargeTags (with_entries (model case.now) acl.now) (tuples_of steps.now) }
+    ensures too_large { IsErrOf result GuardFault.TooLarge →
+        HasLargeTags (with_entries (model case.now) acl.now) (tuples_of steps.now)
+        ⊎ HasMuchWork (with_entries (model case.now) acl.now) (tuples_of steps.now) }
     ensures small { OnOk result (AllSmall (with_entries (model case.now) acl.now) (tuples_of steps.now)) }
+    ensures worked { OnOk result (IsWithinWork (with_entries (model case.now) acl.now) (tuples_of steps.now)) }
 {
     let shown = certificates_of(alloc, &case.sequence)?;
+    let mut work = Work::new(case.most_work);
     let mut reasons = Vec::new(alloc);
     for entry in acl {
-        reasons.push(entry_reason(alloc, case, entry, &shown, steps)?)?;
+        reasons.push(entry_reason(alloc, case, entry, &shown, steps, &mut work)?)?;
     }
     Ok(reasons)
 }
@@ -118,16 +123,20 @@ fn entry_reason<'a>(
     entry: &Entry<'a>,
     shown: &[ShownCert<'_, 'a>],
     steps: &[Step<'a>],
+    work: &mut Work,
 ) -> Result<Reason, GuardFault>
     requires whole { map shown_of shown.now ≡ certificates case.now.sequence.items }
     requires as_many { length steps.now ≡ length (certificates case.now.sequence.items) }
     ensures exact { (es : List Entry) →
         IfOk result (IsReason (with_entries (model case.now) es) (tuples_of steps.now) entry.now) }
     ensures too_large { IsErrOf result GuardFault.TooLarge →
-        TooLargeAt case.now.most_nodes case.now.policy (five (entry_tuple entry.now)) (tuples_of steps.now) }
+        TooLargeAt case.now.most_nodes case.now.policy (five (entry_tuple entry.now)) (tuples_of steps.now)
+        ⊎ IsOverworked (left_of work.old) case.now.policy (five (entry_tuple entry.now)) (tuples_of steps.now) }
+    ensures worked { OnOk result ((n : ℕ) × IsWork case.now.policy (five (entry_tuple entry.now)) (tuples_of steps.now) n
+        × Takes (left_of work.old) (left_of work.new) n) }
     ensures small { IfOk result (λ reason. ¬ TooLargeAt case.now.most_nodes case.now.policy (five (entry_tuple entry.now)) (tuples_of steps.now)) }
 {
-    match entry_fold(alloc, case, entry, shown, steps)? {
+    match entry_fold(alloc, case, entry, shown, steps, work)? {
         EntryFold::Stopped { item, cause } => Ok(Reason::Stopped { item, cause }),
         EntryFold::Done(five) => {
             let lack = five.first_lack(&case.key, &case.request, &case.moment, case.policy);

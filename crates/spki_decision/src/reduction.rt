@@ -1,6 +1,6 @@
 //! What the entries of a case become (RFC 2693, section 6.3).
 
-ghost use Rattle.std.specs.Prelude.{◌≡◌, List, map, length, IfOk, OnOk, IsErrOf};
+ghost use Rattle.std.specs.Prelude.{◌≡◌, List, map, length, IfOk, OnOk, IsErrOf, ◌⊎◌, ℕ};
 ghost use Rattle.std.specs.List.{AllZip, AllByRecursion};
 ghost use Rattle.spki_case.specs.View.{model};
 ghost use Rattle.spki_decision.specs.Views.{shown_of, with_entries};
@@ -8,9 +8,10 @@ ghost use Rattle.spki_case.specs.Sequence.{certificates};
 ghost use Rattle.spki_cert.specs.declared.entry.Entry.{Entry};
 ghost use Rattle.spki_reduce.specs.Tuples.{five};
 ghost use Rattle.spki_reduce.specs.Chain.{tuples_of, TooLargeAt};
+ghost use Rattle.spki_reduce.specs.Work.{left_of, Takes, IsWork, IsOverworked};
 ghost use Rattle.spki_reduce.specs.Views.{entry_tuple};
 ghost use Rattle.spki_decision.specs.Supported.{AllSmall};
-ghost use Rattle.spki_decision.specs.Reduced.{IsEntryFold, IsOwn, IsReduction, IsDated, EndsAtDate, AreDated, EndAtDates, HasLargeTags, SomeTooLarge};
+ghost use Rattle.spki_decision.specs.Reduced.{IsEntryFold, IsOwn, IsReduction, IsDated, EndsAtDate, AreDated, EndAtDates, IsWithinWork, HasLargeTags, HasMuchWork, SomeTooLarge};
 
 use crate::certificates::{ShownCert, certificates_of};
 use crate::entry_chain::fold_entry;
@@ -18,7 +19,7 @@ use crate::evidence::{Evidence, Stop, judge};
 use crate::fault::GuardFault;
 use spki_case::{Case, Verifier};
 use spki_cert::Entry;
-use spki_reduce::{Cause, Five, Fold, Step};
+use spki_reduce::{Cause, Five, Fold, Step, Work};
 use std::alloc::Global;
 
 /// What an entry and all certificates become when they are joined, one after another.
@@ -56,8 +57,8 @@ pub enum Reduction<'a> {
 /// # Errors
 ///
 /// `TooLarge` only if the certificates stand, and for some entry the tag of a certificate is too large for what the entry
-/// and the certificates before it became: the product of their nodes is over `most_nodes`. `Memory` if memory ran out, here
-/// or in the verifier.
+/// and the certificates before it became: the product of their nodes is over `most_nodes`. Or these products are together over
+/// `most_work`. `Memory` if memory ran out, here or in the verifier.
 pub fn reduce_case<'a, V: Verifier>(
     alloc: Global,
     case: &Case<'a>,
@@ -95,13 +96,17 @@ pub fn entry_folds<'a>(
         AllZip (IsEntryFold (with_entries (model case.now) acl.now) (tuples_of steps.now)) acl.now folds.items) }
     ensures dated { IfOk result (λ folds. AllByRecursion IsDated folds.items) }
     ensures end { IfOk result (λ folds. AllByRecursion EndsAtDate folds.items) }
-    ensures too_large { IsErrOf result GuardFault.TooLarge → HasLargeTags (with_entries (model case.now) acl.now) (tuples_of steps.now) }
+    ensures too_large { IsErrOf result GuardFault.TooLarge →
+        HasLargeTags (with_entries (model case.now) acl.now) (tuples_of steps.now)
+        ⊎ HasMuchWork (with_entries (model case.now) acl.now) (tuples_of steps.now) }
     ensures small { OnOk result (AllSmall (with_entries (model case.now) acl.now) (tuples_of steps.now)) }
+    ensures worked { OnOk result (IsWithinWork (with_entries (model case.now) acl.now) (tuples_of steps.now)) }
 {
     let shown = certificates_of(alloc, &case.sequence)?;
+    let mut work = Work::new(case.most_work);
     let mut folds = Vec::new(alloc);
     for entry in acl {
-        folds.push(entry_fold(alloc, case, entry, &shown, steps)?)?;
+        folds.push(entry_fold(alloc, case, entry, &shown, steps, &mut work)?)?;
     }
     Ok(folds)
 }
@@ -113,6 +118,7 @@ pub(crate) fn entry_fold<'a>(
     entry: &Entry<'a>,
     shown: &[ShownCert<'_, 'a>],
     steps: &[Step<'a>],
+    work: &mut Work,
 ) -> Result<EntryFold<'a>, GuardFault>
     requires whole { map shown_of shown.now ≡ certificates case.now.sequence.items }
     requires as_many { length steps.now ≡ length (certificates case.now.sequence.items) }
@@ -122,10 +128,13 @@ pub(crate) fn entry_fold<'a>(
     ensures dated { IfOk result IsDated }
     ensures end { IfOk result EndsAtDate }
     ensures too_large { IsErrOf result GuardFault.TooLarge →
-        TooLargeAt case.now.most_nodes case.now.policy (five (entry_tuple entry.now)) (tuples_of steps.now) }
+        TooLargeAt case.now.most_nodes case.now.policy (five (entry_tuple entry.now)) (tuples_of steps.now)
+        ⊎ IsOverworked (left_of work.old) case.now.policy (five (entry_tuple entry.now)) (tuples_of steps.now) }
+    ensures worked { OnOk result ((n : ℕ) × IsWork case.now.policy (five (entry_tuple entry.now)) (tuples_of steps.now) n
+        × Takes (left_of work.old) (left_of work.new) n) }
     ensures small { IfOk result (λ fold. ¬ TooLargeAt case.now.most_nodes case.now.policy (five (entry_tuple entry.now)) (tuples_of steps.now)) }
 {
-    match fold_entry(alloc, entry, steps, case.policy, case.most_nodes)? {
+    match fold_entry(alloc, entry, steps, case.policy, case.most_nodes, work)? {
         Fold::Done(five) => {
             five.window.known();
             Ok(EntryFold::Done(five))

@@ -217,7 +217,7 @@ module _
     (policy : Policy) (first : Tuple) (steps : List Step) (place : ℕ) (step : Step) (f : Five)
     (within : place < length steps) (read : step ≡ get_or steps place step)
     (so_far : FoldsTo policy first (take place (tuples_of steps)) f) (has_met : HasMet first (take place (tuples_of steps)) f) where
-  step_stands : slice_get (tuples_of steps) place ≡ Some (step_tuple step)
+  pub step_stands : slice_get (tuples_of steps) place ≡ Some (step_tuple step)
   step_stands = slice_get-map step_tuple steps place ∙ ap (option_map step_tuple)
       (slice_get-get_or steps place step within ∙ ap Some (sym read))
 
@@ -238,7 +238,7 @@ module _
   met_here =
       met_more f.tag (all_tags (first ∷ take place (tuples_of steps))) (tags_of (step_tuple step)) has_met ∙ ap met (sym more_tags)
 
-  through : GoesThrough policy first (take place (tuples_of steps)) so_far.root
+  pub through : GoesThrough policy first (take place (tuples_of steps)) so_far.root
   through = record { derived = so_far.derived; timely = so_far.timely; tagged = λ e. so_far.tagged (has_met ∙ e) }
 
   pub stops_here : (cause : Cause) → Stops policy (five (five_tuple f)) (step_tuple step) cause

@@ -7,6 +7,7 @@ pub mod Pairs
 pub mod Folding
 pub mod Chains
 pub mod Through
+pub mod Working
 pub mod Lacking
 pub mod OneFive
 pub mod OneFold

@@ -9,5 +9,6 @@ pub mod Stops
 pub mod Reduced
 pub mod Refusal
 pub mod Chain
+pub mod Work
 pub mod LastTests
 pub mod Written

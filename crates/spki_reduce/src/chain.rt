@@ -1,6 +1,6 @@
 //! Joins chains of tuples from the left (RFC 2693, section 6.3).
 
-ghost use Rattle.std.specs.Prelude.{◌≡◌, ◌∷◌, [], ◌<◌, ◌≤◌, IfOk, IsErrOf};
+ghost use Rattle.std.specs.Prelude.{◌≡◌, ◌∷◌, [], ◌<◌, ◌≤◌, ◌⊎◌, ℕ, IfOk, OnOk, IsErrOf};
 ghost use Rattle.spki_tag.specs.Tag.{set, none};
 ghost use Rattle.spki_reduce.specs.declared.fold.Cause.{Cause};
 ghost use Rattle.spki_reduce.specs.Tuples.{five, tags_of};
@@ -9,11 +9,13 @@ ghost use Rattle.spki_reduce.specs.Restrictions.{nodes_product, met};
 ghost use Rattle.spki_reduce.specs.Stops.{Stops, TooLargeFor};
 ghost use Rattle.spki_reduce.specs.Reduced.{BecomesFive, MatchJoined};
 ghost use Rattle.spki_reduce.specs.Chain.{tuples_of, all_tags, FoldsTo, StopsAt, HasMet, TooLargeAt, Excludes, SupportsNothing, MatchFold};
+ghost use Rattle.spki_reduce.specs.Work.{left_of, Takes, IsWork, IsOverworked, IsCostOf};
 
 use crate::fault::ReduceFault;
 use crate::fold::{Fold, Joined};
 use crate::joins::MOST_NODES;
 use crate::tuple::{Five, Step};
+use crate::work::Work;
 use spki_cert::Policy;
 use std::alloc::{AllocError, Global};
 
@@ -59,21 +61,23 @@ pub fn fold_chain<'a>(
         1000000 < nodes_product (all_tags (five (five_tuple first.now) ∷ tuples_of steps.now)) }
 {
     let own = first.copy()?;
-    fold_owned(alloc, own, steps, policy, MOST_NODES)
+    fold_owned(alloc, own, steps, policy, MOST_NODES, &mut Work::new(None))
 }
 
-/// Like `fold_chain`, but consumes `first`, and with `most` as the limit instead of 1,000,000.
+/// Like `fold_chain`, but consumes `first`, and with `most` as the limit instead of 1,000,000. The products of the numbers of nodes
+/// of all tags that are intersected are taken from `work`.
 ///
 /// # Errors
 ///
-/// `TooLarge` if a step's tag is too large for the result of the steps before it. Then the product of the numbers of their
-/// nodes is over `most`. `Memory` if memory ran out.
+/// `TooLarge` if a step's tag is too large for the result of the steps before it, or if the work of the steps is more than `work`. In
+/// the first case the product of the numbers of their nodes is over `most`. `Memory` if memory ran out.
 pub fn fold_owned<'a>(
     alloc: Global,
     first: Five<'a>,
     steps: &[Step<'a>],
     policy: Policy,
     most: usize,
+    work: &mut Work,
 ) -> Result<Fold<'a>, ReduceFault>
     requires { most ≤ 1000000 }
     ensures fold { IfOk result (λ fold. MatchFold fold
@@ -91,16 +95,17 @@ pub fn fold_owned<'a>(
         (Excludes policy (five (five_tuple first.entry)) (tuples_of steps.now))) }
     ensures unsupported { IfOk result (λ fold. MatchFold fold (λ f. Unit {0})
         (λ step cause. SupportsNothing policy (five (five_tuple first.entry) ∷ tuples_of steps.now))) }
-    // When it is refused: the chain joins up to a step that is too large for the result so far. So the product of all nodes
-    // is over the limit.
-    ensures too_large_at { IsErrOf result ReduceFault.TooLarge →
-        TooLargeAt most policy (five (five_tuple first.entry)) (tuples_of steps.now) }
-    ensures small { IfOk result (λ fold. ¬ TooLargeAt most policy (five (five_tuple first.entry)) (tuples_of steps.now)) }
+    // When it is refused: the chain joins up to a step that is too large for the result so far, or its work is over the bound.
     ensures too_large { IsErrOf result ReduceFault.TooLarge →
-        most < nodes_product (all_tags (five (five_tuple first.entry) ∷ tuples_of steps.now)) }
+        TooLargeAt most policy (five (five_tuple first.entry)) (tuples_of steps.now)
+        ⊎ IsOverworked (left_of work.old) policy (five (five_tuple first.entry)) (tuples_of steps.now) }
+    ensures small { IfOk result (λ fold. ¬ TooLargeAt most policy (five (five_tuple first.entry)) (tuples_of steps.now)) }
+    ensures worked { OnOk result ((n : ℕ) × IsWork policy (five (five_tuple first.entry)) (tuples_of steps.now) n
+        × Takes (left_of work.old) (left_of work.new) n) }
 {
     let mut folded = first;
     for (place, step) in steps.iter().enumerate() {
+        work.take(folded.cost_with(step, policy))?;
         match folded.joined(alloc, step, policy, most)? {
             Joined::Done(next) => folded = next,
             Joined::Stopped(cause) => {
@@ -125,6 +130,23 @@ impl<'a> Five<'a> {
             tag: self.tag.clone()?,
             window: self.window,
         })
+    }
+
+    /// The cost of joining this authorization with a step: the product of the numbers of nodes of both tags, if they join except for
+    /// their tags; otherwise 0.
+    fn cost_with(&self, step: &Step<'a>, policy: Policy) -> usize
+        ensures { IsCostOf policy (five_tuple self.now) self.now.tag (step_tuple step.now) result }
+    {
+        match step {
+            Step::Auth(next) => {
+                if self.window_with(next, policy).is_ok() {
+                    self.tag.nodes() * next.tag.nodes()
+                } else {
+                    0
+                }
+            }
+            Step::Name(_) => 0,
+        }
     }
 
     /// Joins this authorization with a step, and consumes it.

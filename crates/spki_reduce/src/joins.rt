@@ -141,7 +141,7 @@ impl<'a> Five<'a> {
 
     /// The intersection of the windows of this authorization and the next, or the first cause why they do not join, whatever
     /// their tags are.
-    fn window_with(&self, next: &Five, policy: Policy) -> Result<Window, Cause>
+    pub(crate) fn window_with(&self, next: &Five, policy: Policy) -> Result<Window, Cause>
         ensures joins { IfOk result (λ window. Issues policy (five_tuple self.now) (five_tuple next.now)
             × (self.now.propagate ≡ true) × IsMeet self.now.window next.now.window window
             × Overlap self.now.window next.now.window) }

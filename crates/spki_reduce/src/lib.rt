@@ -8,6 +8,7 @@ mod joins;
 mod last_tests;
 pub mod laws;
 mod tuple;
+mod work;
 mod writer;
 
 pub use chain::{fold_chain, fold_owned};
@@ -15,4 +16,5 @@ pub use fault::ReduceFault;
 pub use fold::{Cause, Fold, Joined};
 pub use last_tests::Lack;
 pub use tuple::{Five, Four, Issuer, Step};
+pub use work::Work;
 pub use writer::WrittenParts;

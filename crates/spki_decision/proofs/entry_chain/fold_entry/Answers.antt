@@ -1,4 +1,4 @@
-use Rattle.std.proofs.Common.{◌≡◌, ℕ, List, [], ◌∷◌, Result, Ok, Err, IfOk, refl, ap, subst}
+use Rattle.std.proofs.Common.{◌≡◌, ◌⊎◌, ℕ, List, [], ◌∷◌, Result, Ok, Err, IfOk, refl, ap, subst}
 use Rattle.spki_cert.specs.declared.entry.Entry.{Entry}
 use Rattle.spki_cert.specs.declared.principal.Policy.{Policy}
 use Rattle.spki_reduce.specs.declared.fault.ReduceFault.{ReduceFault}
@@ -7,6 +7,7 @@ use Rattle.spki_reduce.specs.declared.tuple.Step.{Step}
 use Rattle.spki_reduce.specs.Tuples.{FiveTuple, Tuple, five, own}
 use Rattle.spki_reduce.specs.Views.{entry_tuple, five_tuple, issuer_of}
 use Rattle.spki_reduce.specs.Chain.{tuples_of, FoldsTo, StopsAt, HasMet, TooLargeAt, Excludes, MatchFold}
+use Rattle.spki_reduce.specs.Work.{left_of, IsOverworked}
 use Rattle.spki_decision.specs.WholeFold.{IsWholeFold}
 use Rattle.spki_decision.proofs.entry_chain.fold_entry.Goals as goal
 
@@ -39,5 +40,6 @@ returns-clause-exact c =
 
 pub returns-clause-too_large : goal.returns-clause-too_large
 returns-clause-too_large c h =
-    let P : FiveTuple → Type 0 = λ own. TooLargeAt c.args.most c.args.policy (five own) (tuples_of c.args.steps.now) in
-    subst P c.in_ok-own.ensures (c.fold_owned.ensures.too_large_at h)
+    let P : FiveTuple → Type 0 = λ own. TooLargeAt c.args.most c.args.policy (five own) (tuples_of c.args.steps.now)
+    ⊎ IsOverworked (left_of c.args.work.now) c.args.policy (five own) (tuples_of c.args.steps.now) in
+    subst P c.in_ok-own.ensures (c.fold_owned.ensures.too_large h)

@@ -38,5 +38,6 @@ returns-in_ok-reasons-in-Stands-clause-exact g c =
     rw c.deref.ensures.value at evidence in
     let each = rw (c.deref-in-Stands-2.ensures.value, c.deref-in-Stands.ensures.value) at c.in_ok-reasons-in-Stands.ensures.each in
     let small = rw (c.deref-in-Stands-2.ensures.value, c.deref-in-Stands.ensures.value) at c.in_ok-reasons-in-Stands.ensures.small in
+    let worked = rw (c.deref-in-Stands-2.ensures.value, c.deref-in-Stands.ensures.value) at c.in_ok-reasons-in-Stands.ensures.worked in
     are_reasons (model c.args.case.now) verified (tuples_of c.in-Stands.steps.items) c.in_ok-reasons-in-Stands.reasons.items
-    c.known.ensures shown each small
+    c.known.ensures shown each small worked

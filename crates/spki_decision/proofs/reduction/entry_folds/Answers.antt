@@ -1,15 +1,18 @@
 use Rattle.std.proofs.Common.{refl, arith, rules}
 use Rattle.spki_case.specs.View.{model}
 use Rattle.spki_reduce.specs.Chain.{tuples_of}
+use Rattle.spki_reduce.specs.Work.{left_of}
+use Rattle.spki_reduce.proofs.Working.{none_taken}
 use Rattle.spki_decision.specs.Views.{with_entries}
 use Rattle.spki_decision.specs.Reduced.{IsEntryFold, IsDated, EndsAtDate}
-use Rattle.spki_decision.proofs.Stopping.{all_pushed, answered, large_here, small_here}
+use Rattle.spki_decision.proofs.Stopping.{all_pushed, answered, small_here, too_large_here, work_here}
 use Rattle.spki_decision.proofs.reduction.entry_folds.Goals as goal
 
 pub returns-in_err-entry_fold-clause-too_large : goal.returns-in_err-entry_fold-clause-too_large
 returns-in_err-entry_fold-clause-too_large c h =
-    large_here (with_entries (model c.args.case.now) c.args.acl.now) c.args.acl.now c.loop-entry.entry-index c.entry-item.result
-    refl c.loop-entry-test.true c.entry-item.is (tuples_of c.args.steps.now)
+    too_large_here (with_entries (model c.args.case.now) c.args.acl.now) c.args.acl.now c.loop-entry.entry-index c.entry-item.result
+    refl c.loop-entry-test.true c.entry-item.is (tuples_of c.args.steps.now) (left_of c.loop-entry.work)
+    c.loop-entry.invariant.worked.0 c.loop-entry.invariant.worked.1 c.loop-entry.invariant.worked.2
     (c.in_err-entry_fold.ensures.too_large (search (rules, h, c.from_residual-in_err-entry_fold.ensures)))
 
 pub loop-entry-preserved : goal.loop-entry-preserved
@@ -25,6 +28,10 @@ loop-entry-preserved c = record {
   small = small_here (with_entries (model c.args.case.now) c.args.acl.now) c.args.acl.now c.loop-entry.entry-index c.entry-item.result
       refl c.loop-entry-test.true c.entry-item.is (tuples_of c.args.steps.now)
       c.in_ok-entry_fold.ensures.small c.loop-entry.invariant.small;
+  worked = work_here (with_entries (model c.args.case.now) c.args.acl.now) c.args.acl.now c.loop-entry.entry-index c.entry-item.result
+      refl c.loop-entry-test.true c.entry-item.is (tuples_of c.args.steps.now) (left_of c.loop-entry.work) (left_of c.entry_fold.new.work)
+      c.loop-entry.invariant.worked.0 c.in_ok-entry_fold.ensures.worked.0 c.loop-entry.invariant.worked.1 c.loop-entry.invariant.worked.2
+      c.in_ok-entry_fold.ensures.worked.1 c.in_ok-entry_fold.ensures.worked.2;
 }
 
 pub returns-clause-small : goal.returns-clause-small
@@ -37,4 +44,5 @@ loop-entry-init c = record {
   dated = rw c.new-folds.ensures.items tt;
   end = rw c.new-folds.ensures.items tt;
   small = λ k e below there. absurd (omega (arith, below));
+  worked = (0, refl, none_taken c.args.case.now.most_work (left_of c.new-work.result) c.new-work.ensures);
 }

@@ -1,10 +1,11 @@
-use Rattle.std.proofs.Common.{take}
+use Rattle.std.proofs.Common.{ℕ, take}
 use Rattle.std.specs.List.{AllZip, AllByRecursion}
 use Rattle.spki_case.specs.View.{model}
 use Rattle.spki_reduce.specs.Chain.{tuples_of}
 use Rattle.spki_decision.specs.Views.{with_entries}
-use Rattle.spki_decision.specs.Reduced.{IsEntryFold, IsDated, EndsAtDate}
+use Rattle.spki_decision.specs.Reduced.{IsEntryFold, IsDated, EndsAtDate, IsEntryWork}
 use Rattle.spki_decision.specs.Supported.{SmallBefore}
+use Rattle.spki_reduce.specs.Work.{left_of, Takes}
 use Rattle.spki_decision.proofs.reduction.entry_folds.Given as goal
 
 abbrev pub invariant-loop-entry : goal.invariant-loop-entry
@@ -13,4 +14,6 @@ invariant-loop-entry l = record {
   dated : AllByRecursion IsDated l.folds.items;
   end : AllByRecursion EndsAtDate l.folds.items;
   small : SmallBefore (with_entries (model l.case) l.acl) (tuples_of l.steps) l.entry-index;
+  worked : (n : ℕ) × IsEntryWork (with_entries (model l.case) l.acl) (tuples_of l.steps) l.entry-index n
+      × Takes l.case.most_work (left_of l.work) n;
 }

@@ -1,11 +1,13 @@
-use Rattle.std.proofs.Common.{◌≡◌, sym, ◌∙◌, ap, ◌+◌, arith, Result, Ok, Err, IsErrAnd}
+use Rattle.std.proofs.Common.{◌≡◌, inl, inr, sym, ◌∙◌, ap, ◌+◌, ◌<◌, length, arith, Result, Ok, Err, IsErrAnd}
 use Rattle.spki_reduce.specs.declared.fault.ReduceFault.TheVariants.{TooLarge}
 use Rattle.spki_reduce.specs.Tuples.{five}
 use Rattle.spki_reduce.specs.Views.{five_tuple, step_tuple}
 use Rattle.spki_reduce.specs.Chain.{tuples_of}
 use Rattle.spki_reduce.proofs.Folding.{same_issuer}
 use Rattle.spki_reduce.proofs.Chains.{stops_here, goes_on, met_here, too_large, too_large_here, excluded, unsupported}
-use Rattle.spki_reduce.proofs.Through.{small_here, small_stopped}
+use Rattle.std.proofs.lemmas.List.{length-map}
+use Rattle.spki_reduce.proofs.Through.{small_here, small_stopped, steps_tagged}
+use Rattle.spki_reduce.proofs.Working.{work_here, work_stopped, work_all, taken, over}
 use Rattle.spki_reduce.proofs.chain.fold_owned.Goals as goal
 
 -- what the exit of a `?` returns
@@ -13,17 +15,28 @@ same_fault : {T E : Type 0} (r : Result T E) (inner fault : E) → IsErrAnd r (�
 same_fault (Ok x) inner fault h k = absurd h
 same_fault (Err y) inner fault h k = let same : y ≡ fault = cc in sym h ∙ same
 
-pub returns-in_err-next-clause-too_large_at : goal.returns-in_err-next-clause-too_large_at
-returns-in_err-next-clause-too_large_at c e =
-    let same = same_fault c.from_residual.result c.in_err-next.field-0.0 TooLarge c.from_residual.ensures.1 e in
-    too_large_here c.args.policy (five (five_tuple c.args.first)) c.args.steps.now c.loop-place.place
-    c.index-steps-place.result c.loop-place.folded (omega arith) c.index-steps-place.is c.loop-place.invariant.folds
-    c.loop-place.invariant.which c.args.most (c.in_err-next.ensures.too_large (ap Err same))
-
 pub returns-in_err-next-clause-too_large : goal.returns-in_err-next-clause-too_large
 returns-in_err-next-clause-too_large c e =
-    too_large c.args.most c.args.policy (five (five_tuple c.args.first)) (tuples_of c.args.steps.now)
-    (returns-in_err-next-clause-too_large_at c e)
+    let same = same_fault c.from_residual-in_err-next.result c.in_err-next.field-0.0 TooLarge c.from_residual-in_err-next.ensures.1 e in
+    inl (too_large_here c.args.policy (five (five_tuple c.args.first)) c.args.steps.now c.loop-place.place
+    c.index-steps-place.result c.loop-place.folded (omega arith) c.index-steps-place.is c.loop-place.invariant.folds
+    c.loop-place.invariant.which c.args.most (c.in_err-next.ensures.too_large (ap Err same)))
+
+pub returns-in_err-take-clause-too_large : goal.returns-in_err-take-clause-too_large
+returns-in_err-take-clause-too_large c e =
+    let first = five (five_tuple c.args.first) in
+    let so_far = c.loop-place.invariant.worked in
+    let place : c.loop-place.place < length c.args.steps.now = omega arith in
+    let long = length-map c.args.steps.now step_tuple in
+    inr (record {
+      steps = c.loop-place.place + 1;
+      within = omega (arith, place, long);
+      work = so_far.0 + c.cost_with.result;
+      is = work_here c.args.policy first c.args.steps.now c.loop-place.place c.index-steps-place.result c.loop-place.folded place
+          c.index-steps-place.is c.loop-place.invariant.folds c.loop-place.invariant.which so_far.0 c.cost_with.result so_far.1
+          c.cost_with.ensures;
+      over = over _ _ so_far.0 c.cost_with.result so_far.2 c.in_err-take.ensures.over;
+    })
 
 pub returns-in-Stopped-clause-fold : goal.returns-in-Stopped-clause-fold
 returns-in-Stopped-clause-fold c =
@@ -50,6 +63,21 @@ returns-in-Stopped-clause-small c =
     c.loop-place.invariant.which c.loop-place.invariant.small c.in_ok-next.ensures.small c.in-Stopped.cause
     (returns-in-Stopped-clause-fold c)
 
+pub returns-in-Stopped-clause-worked : goal.returns-in-Stopped-clause-worked
+returns-in-Stopped-clause-worked c =
+    let first = five (five_tuple c.args.first) in
+    let so_far = c.loop-place.invariant.worked in
+    let place : c.loop-place.place < length c.args.steps.now = omega arith in
+    let long = length-map c.args.steps.now step_tuple in
+    let here = work_here c.args.policy first c.args.steps.now c.loop-place.place c.index-steps-place.result c.loop-place.folded place
+    c.index-steps-place.is c.loop-place.invariant.folds c.loop-place.invariant.which so_far.0 c.cost_with.result so_far.1
+    c.cost_with.ensures in (
+      so_far.0 + c.cost_with.result,
+      work_stopped c.args.policy first (tuples_of c.args.steps.now) (steps_tagged c.args.steps.now) (c.loop-place.place + 1)
+          c.in-Stopped.cause (returns-in-Stopped-clause-fold c) (so_far.0 + c.cost_with.result) (omega (arith, place, long)) here,
+      taken _ _ _ so_far.0 c.cost_with.result so_far.2 c.in_ok-take.ensures.taken,
+    )
+
 pub loop-place-preserved : goal.loop-place-preserved
 loop-place-preserved c =
     let made = rw c.in-Done.is at c.in_ok-next.ensures.joined in
@@ -64,6 +92,13 @@ loop-place-preserved c =
       small = small_here c.args.most c.args.policy (five (five_tuple c.args.first)) c.args.steps.now c.loop-place.place
           c.index-steps-place.result c.loop-place.folded (omega arith) c.index-steps-place.is c.loop-place.invariant.folds
           c.loop-place.invariant.which c.loop-place.invariant.small c.in_ok-next.ensures.small;
+      worked = (
+        c.loop-place.invariant.worked.0 + c.cost_with.result,
+        work_here c.args.policy (five (five_tuple c.args.first)) c.args.steps.now c.loop-place.place c.index-steps-place.result
+            c.loop-place.folded (omega arith) c.index-steps-place.is c.loop-place.invariant.folds c.loop-place.invariant.which
+            c.loop-place.invariant.worked.0 c.cost_with.result c.loop-place.invariant.worked.1 c.cost_with.ensures,
+        taken _ _ _ c.loop-place.invariant.worked.0 c.cost_with.result c.loop-place.invariant.worked.2 c.in_ok-take.ensures.taken,
+      );
       issuer = same_issuer c.args.policy c.loop-place.folded c.in-Done.next (step_tuple c.index-steps-place.result) made.0
           ∙ c.loop-place.invariant.issuer;
       alone = λ e. absurd (omega arith);

@@ -1,8 +1,9 @@
 -- The steps so far became what is kept.
-use Rattle.std.proofs.Common.{◌≡◌, take}
+use Rattle.std.proofs.Common.{◌≡◌, ℕ, take}
 use Rattle.spki_reduce.specs.Tuples.{five}
 use Rattle.spki_reduce.specs.Views.{five_tuple, issuer_of}
 use Rattle.spki_reduce.specs.Chain.{tuples_of, FoldsTo, HasMet, TooLargeAt}
+use Rattle.spki_reduce.specs.Work.{left_of, Takes, IsWorkOf}
 use Rattle.spki_reduce.proofs.chain.fold_owned.Given as goal
 
 abbrev pub invariant-loop-place : goal.invariant-loop-place
@@ -10,6 +11,8 @@ invariant-loop-place l = record {
   folds : FoldsTo l.policy (five (five_tuple l.fn.first)) (take l.place (tuples_of l.steps)) l.folded;
   which : HasMet (five (five_tuple l.fn.first)) (take l.place (tuples_of l.steps)) l.folded;
   small : TooLargeAt l.most l.policy (five (five_tuple l.fn.first)) (take l.place (tuples_of l.steps)) → ⊥;
+  worked : (n : ℕ) × IsWorkOf l.policy (five (five_tuple l.fn.first)) (tuples_of l.steps) l.place n
+      × Takes (left_of l.fn.work) (left_of l.work) n;
   issuer : issuer_of l.folded.issuer ≡ issuer_of l.fn.first.issuer;
   alone : l.place ≡ 0 → five_tuple l.folded ≡ five_tuple l.fn.first;
 }

@@ -1,0 +1,154 @@
+-- The work of folding a chain: what a step adds to it, and that a chain has one.
+use Rattle.std.proofs.Common.{◌≡◌, ◌⊎◌, inl, inr, ℕ, zero, suc, ◌+◌, ◌≤◌, ◌<◌, List, ◌∷◌, Option, Some, None, refl, sym, ◌∙◌, ap, subst, arith, add-one, length, take, slice_get, get_or}
+use Rattle.std.proofs.lemmas.Bool.{cases_lt}
+use Rattle.std.proofs.lemmas.List.{length-map}
+use Rattle.spki_cert.specs.declared.principal.Policy.{Policy}
+use Rattle.spki_reduce.specs.declared.fold.Cause.{Cause}
+use Rattle.spki_reduce.specs.declared.tuple.Five.{Five}
+use Rattle.spki_reduce.specs.declared.tuple.Step.{Step}
+use Rattle.spki_reduce.specs.Tuples.{FiveTuple, Tuple, five, tags_of}
+use Rattle.spki_reduce.specs.Views.{five_tuple, step_tuple}
+use Rattle.spki_reduce.specs.Derivation.{from_left}
+use Rattle.spki_reduce.specs.Restrictions.{met, nodes_product}
+use Rattle.spki_reduce.specs.Chain.{tuples_of, FoldsTo, HasMet, StopsAt, all_tags}
+use Rattle.spki_reduce.specs.Work.{Intersects, IntersectsAt, IsCost, IsWork, IsWorkOf, IsCostOf, Takes, IsOver, IsOverworked}
+use Rattle.spki_reduce.proofs.Bracketing.{one_root}
+use Rattle.spki_reduce.proofs.Folding.{intersects, intersects_back}
+use Rattle.spki_reduce.proofs.Chains.{step_stands, through}
+use Rattle.spki_reduce.proofs.Through.{AreTagged, steps_tagged, unstopped}
+
+-- ---- the code's steps
+
+module _
+    (policy : Policy) (first : Tuple) (steps : List Step) (place : ℕ) (step : Step) (f : Five)
+    (within : place < length steps) (read : step ≡ get_or steps place step)
+    (folds : FoldsTo policy first (take place (tuples_of steps)) f) (has_met : HasMet first (take place (tuples_of steps)) f) where
+  stands : slice_get (tuples_of steps) place ≡ Some (step_tuple step)
+  stands = step_stands policy first steps place step f within read folds has_met
+
+  back : IntersectsAt policy first (tuples_of steps) place → Intersects policy (five_tuple f) (step_tuple step)
+  back at =
+      let tree = from_left first (take place (tuples_of steps)) in
+      let fives : five at.root ≡ five folds.root =
+      one_root policy tree tree (five at.root) (five folds.root) refl at.before.derived folds.derived in
+      let roots : at.root ≡ folds.root = cc in
+      let both : Some at.tuple ≡ Some (step_tuple step) = sym at.stands ∙ stands in
+      let tuples : at.tuple ≡ step_tuple step = cc in
+      let here : Intersects policy folds.root (step_tuple step) =
+      subst (λ r. Intersects policy r (step_tuple step)) roots (subst (Intersects policy at.root) tuples at.joins) in
+      intersects_back policy folds.root f folds.reduced (step_tuple step) here
+
+  cost_here : (n : ℕ) → IsCostOf policy (five_tuple f) f.tag (step_tuple step) n → IsCost policy first (tuples_of steps) place n
+  cost_here n (inl h) =
+      let at : IntersectsAt policy first (tuples_of steps) place = record {
+        tuple = step_tuple step;
+        stands = stands;
+        root = folds.root;
+        before = through policy first steps place step f within read folds has_met;
+        joins = intersects policy folds.root f folds.reduced (step_tuple step) h.0;
+      } in
+      inl (at, h.1 ∙ ap (λ t. nodes_product (t ∷ tags_of (step_tuple step))) has_met)
+  cost_here n (inr h) = inr (λ at. h.0 (back at), h.1)
+
+  pub work_here : (so_far n : ℕ) → IsWorkOf policy first (tuples_of steps) place so_far
+      → IsCostOf policy (five_tuple f) f.tag (step_tuple step) n → IsWorkOf policy first (tuples_of steps) (place + 1) (so_far + n)
+  work_here so_far n before h =
+      let more : IsWorkOf policy first (tuples_of steps) (suc place) (so_far + n) = (so_far, n, before, cost_here n h, refl) in
+      subst (λ k. IsWorkOf policy first (tuples_of steps) k (so_far + n)) (sym (add-one place)) more
+
+-- what is taken twice is taken at once
+pub taken : (a b c : Option ℕ) (n m : ℕ) → Takes a b n → Takes b c m → Takes a c (n + m)
+taken None None None n m h k = tt
+taken None None (Some c) n m h k = absurd k
+taken None (Some b) c n m h k = absurd h
+taken (Some a) None c n m h k = absurd h
+taken (Some a) (Some b) None n m h k = absurd k
+taken (Some a) (Some b) (Some c) n m h k = omega (arith, h, k)
+
+-- what is over what is left is over what there was, with what was taken
+pub over : (a b : Option ℕ) (n m : ℕ) → Takes a b n → IsOver b m → IsOver a (n + m)
+over None None n m h k = absurd k
+over None (Some b) n m h k = absurd h
+over (Some a) None n m h k = absurd k
+over (Some a) (Some b) n m h k = omega (arith, h, k)
+
+-- ---- behind a stop
+
+module _ (policy : Policy) (first : Tuple) (others : List Tuple) where
+  module _ (tagged : AreTagged others) (step : ℕ) (cause : Cause) (stops : StopsAt policy first others step cause) where
+    unmet : (place : ℕ) → step ≤ place → IntersectsAt policy first others place → ⊥
+    unmet place behind at = unstopped policy first others tagged place at.root at.before step behind cause stops
+
+    -- steps behind the stop add nothing
+    still : (n places : ℕ) → step ≤ places → IsWorkOf policy first others step n → IsWorkOf policy first others places n
+    still n zero behind h = let same : step ≡ 0 = omega arith in subst (λ k. IsWorkOf policy first others k n) same h
+    still n (suc places) behind h = still_by (cases_lt places step) (λ before. still n places before h)
+      where
+        still_by : (places < step) ⊎ (step ≤ places) → (step ≤ places → IsWorkOf policy first others places n)
+            → IsWorkOf policy first others (suc places) n
+        still_by (inl at) so_far =
+            let same : step ≡ suc places = omega arith in subst (λ k. IsWorkOf policy first others k n) same h
+        still_by (inr before) so_far = (n, 0, so_far before, inr (unmet places before, refl), omega arith)
+
+    pub work_stopped : (n : ℕ) → step ≤ length others → IsWorkOf policy first others step n
+        → IsWorkOf policy first others (length others) n
+    work_stopped n = still n (length others)
+
+  -- ---- one work
+
+  one_cost : (place n m : ℕ) → IsCost policy first others place n → IsCost policy first others place m → n ≡ m
+  one_cost place n m (inl h) (inl k) =
+      let both : Some h.0.tuple ≡ Some k.0.tuple = sym h.0.stands ∙ k.0.stands in
+      let tuples : h.0.tuple ≡ k.0.tuple = cc in
+      h.1 ∙ ap (λ t. nodes_product (met (all_tags (first ∷ take place others)) ∷ tags_of t)) tuples ∙ sym k.1
+  one_cost place n m (inl h) (inr k) = absurd (k.0 h.0)
+  one_cost place n m (inr h) (inl k) = absurd (h.0 k.0)
+  one_cost place n m (inr h) (inr k) = h.1 ∙ sym k.1
+
+  pub one_work : (steps n m : ℕ) → IsWorkOf policy first others steps n → IsWorkOf policy first others steps m → n ≡ m
+  one_work zero n m h k = h ∙ sym k
+  one_work (suc steps) n m h k =
+      let before = one_work steps h.0 k.0 h.2 k.2 in
+      let here = one_cost steps h.1 k.1 h.3 k.3 in
+      omega (arith, before, here, h.4, k.4)
+
+  -- the work of fewer steps is at most that of more
+  pub grows : (few many n m : ℕ) → few ≤ many → IsWorkOf policy first others few n → IsWorkOf policy first others many m → n ≤ m
+  grows few zero n m fewer h k =
+      let same : few ≡ 0 = omega arith in
+      let one : n ≡ m = one_work 0 n m (subst (λ s. IsWorkOf policy first others s n) same h) k in
+      omega (arith, one)
+  grows few (suc many) n m fewer h k = grows_by (cases_lt many few) (λ before. grows few many n k.0 before h k.2)
+    where
+      grows_by : (many < few) ⊎ (few ≤ many) → (few ≤ many → n ≤ k.0) → n ≤ m
+      grows_by (inl at) so_far =
+          let same : few ≡ suc many = omega arith in
+          let one : n ≡ m = one_work (suc many) n m (subst (λ s. IsWorkOf policy first others s n) same h) k in
+          omega (arith, one)
+      grows_by (inr before) so_far = let less = so_far before in omega (arith, less, k.4)
+
+-- the work of as many steps as there are
+pub work_all : (policy : Policy) (first : Tuple) (steps : List Step) (place n : ℕ) → place ≡ length steps
+    → IsWorkOf policy first (tuples_of steps) place n → IsWork policy first (tuples_of steps) n
+work_all policy first steps place n all h =
+    let same : place ≡ length (tuples_of steps) = all ∙ sym (length-map steps step_tuple) in
+    subst (λ k. IsWorkOf policy first (tuples_of steps) k n) same h
+
+-- what could be taken is not over what there was
+pub within : (a b : Option ℕ) (n : ℕ) → Takes a b n → IsOver a n → ⊥
+within None b n h k = k
+within (Some a) None n h k = h
+within (Some a) (Some b) n h k = omega (arith, h, k)
+
+-- without a bound no work is over it
+pub unbounded : {A : Type 0} (left : Option ℕ) (policy : Policy) (first : Tuple) (others : List Tuple) → left ≡ None
+    → A ⊎ IsOverworked left policy first others → A
+unbounded left policy first others none (inl h) = h
+unbounded left policy first others none (inr h) = let over : IsOver None h.work = subst (λ l. IsOver l h.work) none h.over in absurd over
+
+-- nothing was taken yet
+pub none_taken : (a b : Option ℕ) → b ≡ a → Takes a b 0
+none_taken None None e = tt
+none_taken None (Some b) e = absurd cc
+none_taken (Some a) None e = absurd cc
+none_taken (Some a) (Some b) e = let same : b ≡ a = cc in omega (arith, same)
