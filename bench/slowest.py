@@ -37,9 +37,9 @@ RANGE = group(*map(string, ("*", "range", "alpha", "ge", "a", "le", "b")))
 SET_OF_TWO = group(*map(string, ("*", "set", "a", "b")))
 
 
-def shown(octets, signer):
+def shown(octets, signer, value=string("sig")):
     """A certificate's octets with its signature behind them."""
-    return octets + group(string("signature"), digest(octets), signer, string("sig"))
+    return octets + group(string("signature"), digest(octets), signer, value)
 
 
 def asked(entries, rows, items, asks=OTHER):
@@ -49,8 +49,8 @@ def asked(entries, rows, items, asks=OTHER):
         group(string("key"), asks), group(string("request"), string("ftp")), group(string("at"), string("2024-01-01_00:00:00")))
 
 
-def row(octets, signer):
-    return group(string("by"), signer, digest(octets), string("sig"))
+def row(octets, signer, value=string("sig")):
+    return group(string("by"), signer, digest(octets), value)
 
 
 def repeated(entries, cert, certificates, before=()):
@@ -77,6 +77,13 @@ def many_rows(entries, certificates, members):
     """Certificates of one key, each with a row."""
     certs = [certificate(OWNER, OWNER, group(string("*"), string("set"), string("ftp"), string(f"x{place:05}"))) for place in range(certificates)]
     return asked([entry(OWNER)], [row(cert, OWNER) for cert in certs], [shown(cert, OWNER) for cert in certs])
+
+
+def rows_of_one_digest(entries, certificates, members):
+    """One certificate many times, each time with another signature, and a row for each of these signatures."""
+    cert = certificate(OWNER, OWNER)
+    values = [string(f"v{place:05}") for place in range(certificates)]
+    return asked([entry(OWNER)], [row(cert, OWNER, value) for value in values], [shown(cert, OWNER, value) for value in values])
 
 
 def wide_lists(entries, certificates, members):
@@ -241,6 +248,7 @@ SHAPES = [
     Shape("1 entry, {1:,} certificates in a chain, by hashes of keys", chain_of_hashes, 0.0),
     Shape("1 entry, {1:,} definitions of names in a chain", chain_of_names, 0.0),
     Shape("1 entry, {1:,} certificates of one key", many_rows, 0.0),
+    Shape("1 entry, {1:,} times one certificate, each time with another signature", rows_of_one_digest, 0.0),
     Shape("1 entry, {1:,} certificates for lists of 1,000 nodes", wide_lists, 0.0),
     Shape("1 entry, {1:,} certificates for sets of 1,000 nodes", wide_sets, 0.0),
     Shape("1 entry for a list of 900 nodes, {1:,} times a certificate for its head", list_of_members, 0.0),

@@ -1,4 +1,3 @@
-pub mod Accepted
 pub mod Building
 pub mod FirstRun
 pub mod RowLaws
@@ -6,7 +5,7 @@ pub mod Signed
 pub mod Lacking
 pub mod OneCase
 pub mod ByDigest
-pub mod FirstRows
+pub mod Searched
 pub mod LackingRow
 pub mod Unrefused
 pub mod RowFaultLaws

@@ -1,6 +1,7 @@
 pub mod Case
 pub mod Texts
 pub mod ByDigest
+pub mod SortedRows
 pub mod View
 pub mod RowFaults
 pub mod Rows

@@ -1,12 +1,9 @@
 -- The model's case for a case of the code, and what its accepted list states.
 use Rattle.std.specs.Prelude.{List, map, IsTrue}
-use Rattle.spki_case.specs.declared.table.Row as code_row
 use Rattle.spki_case.specs.declared.table.AcceptedTable.{AcceptedTable}
 use Rattle.spki_case.specs.declared.cases.Case as code
 use Rattle.spki_case.specs.Case.{Case, Row, Verified, accepts}
-
-abbrev pub row_of : code_row.Row → Row
-row_of row = record { key = row.key; digest = row.digest; value = row.value }
+pub use Rattle.spki_case.specs.SortedRows.{row_of}
 
 abbrev pub rows_of : AcceptedTable → List Row
 rows_of table = map row_of table.rows.items

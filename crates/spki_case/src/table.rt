@@ -1,12 +1,10 @@
-//! Signatures that the service has verified, which are found by the digests of their messages.
+//! Signatures that the service has verified, which are found by their digests, values and keys.
 
-ghost use Rattle.std.specs.Prelude.{◌≡◌, [], ◌∷◌, List, ℕ, IfOk, OnOk, find, bytes_eq};
-ghost use Rattle.std.specs.Option.{option_or};
-ghost use Rattle.spki_case.specs.ByDigest.{at_digest, HasFirstRows};
+ghost use Rattle.std.specs.Prelude.{◌≡◌, IfOk};
+ghost use Rattle.spki_case.specs.SortedRows.{AreSorted};
 
 use spki_cert::{Key, Octets};
 use std::alloc::{AllocError, Global};
-use std::collections::BTreeMap;
 
 /// A signature that the service has verified.
 #[derive(Drop)]
@@ -19,30 +17,17 @@ pub struct Row<'a> {
     pub value: Octets<'a>,
 }
 
-/// For each digest the first row that has it.
-pub(crate) type FirstRows<'a> = BTreeMap<Vec<u8>, Row<'a>>;
+/// A row's digest, value and key. They are compared in this order, so a key is compared only where the others are equal.
+pub(crate) type SortedRow<'a> = (&'a [u8], &'a [u8], &'a [u8]);
 
 /// Signatures that the service has verified. As a verifier it accepts these and no others.
 #[derive(Drop)]
 pub struct AcceptedTable<'a> {
     /// The signatures, in any order.
     pub rows: Vec<Row<'a>>,
-    pub(crate) first: FirstRows<'a>,
-    /// Each digest has the first row with this digest.
-    ghost indexed: { HasFirstRows rows.items first },
-}
-
-impl<'a> Row<'a> {
-    /// Returns the same row again, and allocates nothing.
-    fn share(&self) -> Row<'a>
-        ensures { result ≡ self.now }
-    {
-        Row {
-            key: self.key.share(),
-            digest: self.digest.share(),
-            value: self.value.share(),
-        }
-    }
+    pub(crate) sorted: Vec<SortedRow<'a>>,
+    /// The same signatures, in order.
+    ghost found: { AreSorted rows.items sorted.items },
 }
 
 impl<'a> AcceptedTable<'a> {
@@ -54,29 +39,23 @@ impl<'a> AcceptedTable<'a> {
     pub fn new(alloc: Global, rows: Vec<Row<'a>>) -> Result<AcceptedTable<'a>, AllocError>
         ensures { IfOk result (λ table. table.rows.items ≡ rows.entry.items) }
     {
-        let first = first_rows(alloc, &rows)?;
-        Ok(AcceptedTable { rows, first })
+        let sorted = sorted_rows(alloc, &rows)?;
+        Ok(AcceptedTable { rows, sorted })
     }
 }
 
-/// The first row of each digest.
-fn first_rows<'a>(alloc: Global, rows: &[Row<'a>]) -> Result<FirstRows<'a>, AllocError>
-    ensures { IfOk result (HasFirstRows rows.now) }
+/// The rows in order.
+fn sorted_rows<'a>(alloc: Global, rows: &[Row<'a>]) -> Result<Vec<SortedRow<'a>>, AllocError>
+    ensures { IfOk result (λ sorted. AreSorted rows.now sorted.items) }
 {
-    let mut first = BTreeMap::new(alloc);
+    let mut sorted = Vec::with_capacity(alloc, rows.len())?;
     for row in rows {
-        add_row(&mut first, alloc, row)?;
+        sorted.push((
+            row.digest.as_slice(),
+            row.value.as_slice(),
+            row.key.as_slice(),
+        ))?;
     }
-    Ok(first)
-}
-
-/// Adds a row after others, unless one of them has its digest.
-fn add_row<'a>(first: &mut FirstRows<'a>, alloc: Global, row: &Row<'a>) -> Result<(), AllocError>
-    ensures { OnOk result ((digest : List ℕ) → at_digest first.new digest
-        ≡ option_or (at_digest first.old digest) (find (λ row. bytes_eq row.digest digest) (row.now ∷ []))) }
-{
-    if !first.contains_key(row.digest.as_slice()) {
-        first.insert(Vec::from_slice(alloc, row.digest.as_slice())?, row.share())?;
-    }
-    Ok(())
+    sorted.sort_unstable();
+    Ok(sorted)
 }

@@ -1,12 +1,10 @@
 //! Verifiers of signatures.
 
 ghost use Rattle.std.specs.Prelude.{◌≡◌, ◌↔◌, ℕ, List, IsTrue, IsOk, IfOk};
-ghost use Rattle.std.specs.List.{list_any};
-ghost use Rattle.spki_case.specs.Case.{is_row_of};
 ghost use Rattle.sha2.specs.Sha256.{sha256};
-ghost use Rattle.spki_case.specs.View.{row_of, verified_by};
+ghost use Rattle.spki_case.specs.View.{verified_by};
 
-use crate::table::{AcceptedTable, Row};
+use crate::table::AcceptedTable;
 use sha2::{Digest, Sha256};
 use spki_cert::Key;
 use std::alloc::{AllocError, Global};
@@ -86,37 +84,13 @@ impl<'a> Verifier for AcceptedTable<'a> {
     }
 }
 
-/// Whether some row is of this key, of a message with this SHA-256 digest, and of this value. The first row of the digest is
-/// usually the right one. If it is not, the others are tested.
+/// Whether some row is of this key, of a message with this SHA-256 digest, and of this value.
 fn some_accepts(table: &AcceptedTable, key: &Key, digest: &[u8], value: &[u8]) -> bool
     ensures { (message : List ℕ) → sha256 message ≡ digest.now
-        → result ≡ list_any (λ row. is_row_of key.now message value.now (row_of row)) table.now.rows.items }
+        → IsTrue result ↔ verified_by table.now key.now message value.now }
 {
-    match table.first.get(digest) {
-        None => false,
-        Some(first) => {
-            row_accepts(first, key, digest, value) || any_accepts(&table.rows, key, digest, value)
-        }
-    }
-}
-
-/// Whether one of the rows is.
-fn any_accepts(rows: &[Row], key: &Key, digest: &[u8], value: &[u8]) -> bool
-    ensures { (message : List ℕ) → sha256 message ≡ digest.now
-        → result ≡ list_any (λ row. is_row_of key.now message value.now (row_of row)) rows.now }
-{
-    for row in rows {
-        if row_accepts(row, key, digest, value) {
-            return true;
-        }
-    }
-    false
-}
-
-/// Whether the row is of this key, of a message with this SHA-256 digest, and of this value. The digests are compared first:
-/// those of other rows differ at once, while keys begin alike.
-fn row_accepts(row: &Row, key: &Key, digest: &[u8], value: &[u8]) -> bool
-    ensures { (message : List ℕ) → sha256 message ≡ digest.now → result ≡ is_row_of key.now message value.now (row_of row.now) }
-{
-    digest == row.digest.as_slice() && row.key.same(key) && row.value.as_slice() == value
+    table
+        .sorted
+        .binary_search(&(digest, value, key.as_slice()))
+        .is_ok()
 }
