@@ -1,5 +1,5 @@
 -- What a meter counts of the calls that it passes on.
-use Rattle.std.specs.Prelude.{◌≡◌, ◌≢◌, ℕ, ◌+◌, ◌-◌, ◌^◌, ◌<◌, min, List, length, Option, Result, MatchResult}
+use Rattle.std.specs.Prelude.{◌≡◌, ◌≢◌, ℕ, ◌+◌, ◌-◌, ◌^◌, ◌<◌, min, List, length, Bool, Option, Result, MatchResult}
 use Rattle.std.specs.Io.KnownBytes.{Appends, Consumes, IsAtEnd, Keeps}
 use Rattle.std.specs.IoError.{error_kind}
 use Rattle.std.specs.declared.io.Error.{Error}
@@ -9,6 +9,21 @@ use Rattle.metered_io.specs.declared.meters.Metered.{Metered}
 -- the reader or the writer inside
 abbrev pub inner_of : {T : Type 0} → Metered T → T
 inner_of m = m.inner
+
+-- what it has counted
+abbrev pub asks_of : {T : Type 0} → Metered T → ℕ
+asks_of m = m.asks
+
+abbrev pub faults_of : {T : Type 0} → Metered T → ℕ
+faults_of m = m.faults
+
+-- whether the last read into a buffer with room returned 0 octets
+abbrev pub ended_of : {T : Type 0} → Metered T → Bool
+ended_of m = m.ended
+
+-- whether the last write or flush was a flush that succeeded
+abbrev pub flushed_of : {T : Type 0} → Metered T → Bool
+flushed_of m = m.flushed
 
 -- the reader inside returned these octets, if it exposes them
 abbrev pub Gives : {R : Type 0} → (R → Option (List ℕ)) → Metered R → Metered R → List ℕ → Type 0

@@ -1,6 +1,6 @@
 //! Reads the whole text of a reader, within a limit.
 ghost use Rattle.std.specs.Prelude.{◌≡◌, ℕ, ◌+◌, ◌<◌, ◌≤◌, ◌⊎◌, ◌++◌, List, length, take, max, vec_len, IsTrue, IfOk, OnOk, OnErr, IfSome, IfNone, IsErrOf};
-ghost use Rattle.metered_io.specs.Metered.{counted, Gives, GivesNone, HasGivenAll};
+ghost use Rattle.metered_io.specs.Metered.{counted, asks_of, faults_of, ended_of, Gives, GivesNone, HasGivenAll};
 
 use crate::meters::{Metered, is_interrupted};
 use std::alloc::Global;
@@ -29,15 +29,15 @@ pub enum ReadFault {
 
 /// Reads once. Returns how many octets were read, or None if the read must be repeated.
 fn ask<R: Read>(reader: &mut Metered<R>, buffer: &mut [u8]) -> Result<Option<usize>, ReadFault>
-    ensures asks { reader.new.asks ≡ counted reader.old.asks }
-    ensures fault { IsErrOf result ReadFault.Failed → reader.new.faults ≡ counted reader.old.faults }
+    ensures asks { asks_of reader.new ≡ counted (asks_of reader.old) }
+    ensures fault { IsErrOf result ReadFault.Failed → faults_of reader.new ≡ counted (faults_of reader.old) }
     ensures only_failed { OnErr result (IsErrOf result ReadFault.Failed) }
-    ensures no_fault { OnOk result (reader.new.faults ≡ reader.old.faults) }
+    ensures no_fault { OnOk result (faults_of reader.new ≡ faults_of reader.old) }
     ensures bound { IfOk result (λ o. IfSome o (λ n. n ≤ length buffer.new)) }
     ensures octets { IfOk result (λ o. IfSome o (λ n.
         Gives R.remaining reader.old reader.new (take n buffer.new))) }
     ensures end { IfOk result (λ o. IfSome o (λ n. n ≡ 0 → 0 < length buffer.old
-        → HasGivenAll R.remaining reader.new × IsTrue reader.new.ended)) }
+        → HasGivenAll R.remaining reader.new × IsTrue (ended_of reader.new))) }
     ensures again { IfOk result (λ o. IfNone o (GivesNone R.remaining reader.old reader.new)) }
     ensures err { OnErr result (GivesNone R.remaining reader.old reader.new) }
 {
@@ -63,14 +63,14 @@ fn read_piece<R: Read>(
 ) -> Result<bool, ReadFault>
     requires room { 0 < length buffer.old }
     requires short { vec_len text.old ≤ most }
-    ensures asks { reader.new.asks ≡ counted reader.old.asks }
-    ensures fault { IsErrOf result ReadFault.Failed → reader.new.faults ≡ counted reader.old.faults }
-    ensures no_fault { IsErrOf result ReadFault.Failed ⊎ (reader.new.faults ≡ reader.old.faults) }
+    ensures asks { asks_of reader.new ≡ counted (asks_of reader.old) }
+    ensures fault { IsErrOf result ReadFault.Failed → faults_of reader.new ≡ counted (faults_of reader.old) }
+    ensures no_fault { IsErrOf result ReadFault.Failed ⊎ (faults_of reader.new ≡ faults_of reader.old) }
     ensures short { OnOk result (vec_len text.new ≤ most) }
     ensures octets { OnOk result ((octets : List ℕ) × (text.new.items ≡ text.old.items ++ octets)
         × Gives R.remaining reader.old reader.new octets) }
     ensures end { IfOk result (λ ended. IsTrue ended
-        → HasGivenAll R.remaining reader.new × IsTrue reader.new.ended) }
+        → HasGivenAll R.remaining reader.new × IsTrue (ended_of reader.new)) }
     ensures too_long { IsErrOf result ReadFault.TooLong → ((octets : List ℕ)
         × (length (text.old.items ++ octets) ≡ most + 1)
         × Gives R.remaining reader.old reader.new octets) }
@@ -119,20 +119,20 @@ pub fn read_whole<R: Read>(
     most: usize,
 ) -> Result<Vec<u8>, ReadFault>
     ensures octets { IfOk result (λ text. Gives R.remaining reader.old reader.new text.items) }
-    ensures end { OnOk result (HasGivenAll R.remaining reader.new × IsTrue reader.new.ended) }
+    ensures end { OnOk result (HasGivenAll R.remaining reader.new × IsTrue (ended_of reader.new)) }
     ensures short { IfOk result (λ text. vec_len text ≤ most) }
     ensures too_long { IsErrOf result ReadFault.TooLong → ((octets : List ℕ) × (length octets ≡ most + 1)
         × Gives R.remaining reader.old reader.new octets) }
     ensures no_more { OnErr result ((octets : List ℕ) × (length octets ≤ most + 1)
         × Gives R.remaining reader.old reader.new octets) }
-    ensures asks { reader.new.asks ≤ max reader.old.asks 2097152 }
+    ensures asks { asks_of reader.new ≤ max (asks_of reader.old) 2097152 }
     ensures fault { IsErrOf result ReadFault.Failed
-        → (reader.new.faults ≡ counted reader.old.faults) ⊎ (2097152 ≤ reader.new.asks) }
-    ensures no_fault { IsErrOf result ReadFault.Failed ⊎ (reader.new.faults ≡ reader.old.faults) }
+        → (faults_of reader.new ≡ counted (faults_of reader.old)) ⊎ (2097152 ≤ asks_of reader.new) }
+    ensures no_fault { IsErrOf result ReadFault.Failed ⊎ (faults_of reader.new ≡ faults_of reader.old) }
 {
     let mut text = Vec::new(alloc);
     let mut buffer = [0; PIECE_OCTETS];
-    while reader.asks < READER_ASKS {
+    while reader.asks() < READER_ASKS {
         if read_piece(reader, &mut buffer, &mut text, most)? {
             return Ok(text);
         }

@@ -3,7 +3,7 @@ ghost use Rattle.std.specs.Prelude.{◌≡◌, ◌↔◌, ◌<◌, length, IsTru
 ghost use Rattle.std.specs.IoError.{error_kind};
 ghost use Rattle.std.specs.Io.{ReadsAtMost, WritesAtMost};
 ghost use Rattle.std.specs.Io.KnownBytes.{Keeps, ReadConsumes, WriteAppends};
-ghost use Rattle.metered_io.specs.Metered.{counted, inner_of, CountsIf, IsFault, CountsErrors, CountsWrite};
+ghost use Rattle.metered_io.specs.Metered.{counted, inner_of, asks_of, faults_of, ended_of, flushed_of, CountsIf, IsFault, CountsErrors, CountsWrite};
 
 use std::io;
 use std::io::{Error, ErrorKind, Read, Write};
@@ -11,25 +11,20 @@ use std::io::{Error, ErrorKind, Read, Write};
 /// Passes calls on to a reader or a writer, and counts them.
 #[derive(Drop)]
 pub struct Metered<T> {
-    /// The number of reads, writes and flushes that were passed on. It stops at the greatest `u64`.
-    pub asks: u64,
-    /// The number of them that failed with an error other than `Interrupted`, or wrote 0 octets of a buffer that is not
-    /// empty. It stops at the greatest `u64`.
-    pub faults: u64,
-    /// Whether the last read into a buffer with room returned 0 octets.
-    pub ended: bool,
-    /// Whether the last write or flush was a flush that succeeded.
-    pub flushed: bool,
+    asks: u64,
+    faults: u64,
+    ended: bool,
+    flushed: bool,
     inner: T,
 }
 
 impl<T> Metered<T> {
     /// A meter around `inner` that has counted nothing yet.
     pub fn new(inner: T) -> Metered<T>
-        ensures asks { result.asks ≡ 0 }
-        ensures faults { result.faults ≡ 0 }
-        ensures ended { result.ended ≡ false }
-        ensures flushed { result.flushed ≡ false }
+        ensures asks { asks_of result ≡ 0 }
+        ensures faults { faults_of result ≡ 0 }
+        ensures ended { ended_of result ≡ false }
+        ensures flushed { flushed_of result ≡ false }
         ensures inner { inner_of result ≡ inner }
     {
         Metered {
@@ -43,16 +38,45 @@ impl<T> Metered<T> {
 
     /// Resets the counts to 0 and the flags to false.
     pub fn restart(&mut self)
-        ensures asks { self.new.asks ≡ 0 }
-        ensures faults { self.new.faults ≡ 0 }
-        ensures ended { self.new.ended ≡ false }
-        ensures flushed { self.new.flushed ≡ false }
+        ensures asks { asks_of self.new ≡ 0 }
+        ensures faults { faults_of self.new ≡ 0 }
+        ensures ended { ended_of self.new ≡ false }
+        ensures flushed { flushed_of self.new ≡ false }
         ensures inner { inner_of self.new ≡ inner_of self.old }
     {
         self.asks = 0;
         self.faults = 0;
         self.ended = false;
         self.flushed = false;
+    }
+
+    /// The number of reads, writes and flushes that were passed on. It stops at the greatest `u64`.
+    pub fn asks(&self) -> u64
+        ensures { result ≡ asks_of self.now }
+    {
+        self.asks
+    }
+
+    /// The number of them that failed with an error other than `Interrupted`, or wrote 0 octets of a buffer that is not
+    /// empty. It stops at the greatest `u64`.
+    pub fn faults(&self) -> u64
+        ensures { result ≡ faults_of self.now }
+    {
+        self.faults
+    }
+
+    /// Whether the last read into a buffer with room returned 0 octets.
+    pub fn ended(&self) -> bool
+        ensures { result ≡ ended_of self.now }
+    {
+        self.ended
+    }
+
+    /// Whether the last write or flush was a flush that succeeded.
+    pub fn flushed(&self) -> bool
+        ensures { result ≡ flushed_of self.now }
+    {
+        self.flushed
     }
 
     /// Returns the reader or the writer inside.
@@ -86,11 +110,11 @@ impl<R: Read> Read for Metered<R> {
     fn read(&mut self, buf: &mut [u8]) -> io::Result<usize>
         ensures bound { ReadsAtMost result buf.new }
         ensures bytes { ReadConsumes (R.remaining (inner_of self.old)) (R.remaining (inner_of self.new)) result buf.new }
-        ensures asks { self.new.asks ≡ counted self.old.asks }
-        ensures faults { CountsErrors self.old.faults self.new.faults result }
-        ensures ended { 0 < length buf.old → (IsTrue self.new.ended ↔ (result ≡ Ok 0)) }
-        ensures no_room { length buf.old ≡ 0 → self.new.ended ≡ self.old.ended }
-        ensures flushed { self.new.flushed ≡ self.old.flushed }
+        ensures asks { asks_of self.new ≡ counted (asks_of self.old) }
+        ensures faults { CountsErrors (faults_of self.old) (faults_of self.new) result }
+        ensures ended { 0 < length buf.old → (IsTrue (ended_of self.new) ↔ (result ≡ Ok 0)) }
+        ensures no_room { length buf.old ≡ 0 → ended_of self.new ≡ ended_of self.old }
+        ensures flushed { flushed_of self.new ≡ flushed_of self.old }
     {
         self.asks = self.asks.saturating_add(1);
         let has_room = !buf.is_empty();
@@ -118,10 +142,10 @@ impl<W: Write> Write for Metered<W> {
     fn write(&mut self, buf: &[u8]) -> io::Result<usize>
         ensures bound { WritesAtMost result buf.now }
         ensures bytes { WriteAppends (W.contents (inner_of self.old)) (W.contents (inner_of self.new)) result buf.now }
-        ensures asks { self.new.asks ≡ counted self.old.asks }
-        ensures faults { CountsWrite buf.now self.old.faults self.new.faults result }
-        ensures ended { self.new.ended ≡ self.old.ended }
-        ensures flushed { self.new.flushed ≡ false }
+        ensures asks { asks_of self.new ≡ counted (asks_of self.old) }
+        ensures faults { CountsWrite buf.now (faults_of self.old) (faults_of self.new) result }
+        ensures ended { ended_of self.new ≡ ended_of self.old }
+        ensures flushed { flushed_of self.new ≡ false }
     {
         self.asks = self.asks.saturating_add(1);
         self.flushed = false;
@@ -139,10 +163,10 @@ impl<W: Write> Write for Metered<W> {
 
     fn flush(&mut self) -> io::Result<()>
         ensures bytes { Keeps (W.contents (inner_of self.old)) (W.contents (inner_of self.new)) }
-        ensures asks { self.new.asks ≡ counted self.old.asks }
-        ensures faults { CountsErrors self.old.faults self.new.faults result }
-        ensures ended { self.new.ended ≡ self.old.ended }
-        ensures flushed { IsTrue self.new.flushed ↔ IsOk result }
+        ensures asks { asks_of self.new ≡ counted (asks_of self.old) }
+        ensures faults { CountsErrors (faults_of self.old) (faults_of self.new) result }
+        ensures ended { ended_of self.new ≡ ended_of self.old }
+        ensures flushed { IsTrue (flushed_of self.new) ↔ IsOk result }
     {
         self.asks = self.asks.saturating_add(1);
         let answer = self.inner.flush();

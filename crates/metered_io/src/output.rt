@@ -1,6 +1,6 @@
 //! Writes a whole output to a writer.
 ghost use Rattle.std.specs.Prelude.{◌≡◌, ℕ, ◌+◌, ◌<◌, ◌≤◌, ◌⊎◌, ◌++◌, List, length, take, max, IsTrue, IfOk, OnOk, OnErr};
-ghost use Rattle.metered_io.specs.Metered.{counted, Takes, TakesNone};
+ghost use Rattle.metered_io.specs.Metered.{counted, asks_of, faults_of, flushed_of, Takes, TakesNone};
 ghost use Rattle.metered_io.specs.Sent.{SendsFront};
 
 use crate::meters::{Metered, is_interrupted};
@@ -19,9 +19,9 @@ pub struct WriteFault;
 /// Writes once. Returns how many octets were written, 0 if the write must be repeated.
 fn write_piece<W: Write>(writer: &mut Metered<W>, octets: &[u8]) -> Result<usize, WriteFault>
     requires some { 0 < length octets.now }
-    ensures asks { writer.new.asks ≡ counted writer.old.asks }
-    ensures fault { OnErr result (writer.new.faults ≡ counted writer.old.faults) }
-    ensures no_fault { OnOk result (writer.new.faults ≡ writer.old.faults) }
+    ensures asks { asks_of writer.new ≡ counted (asks_of writer.old) }
+    ensures fault { OnErr result (faults_of writer.new ≡ counted (faults_of writer.old)) }
+    ensures no_fault { OnOk result (faults_of writer.new ≡ faults_of writer.old) }
     ensures bound { IfOk result (λ n. n ≤ length octets.now) }
     ensures octets { IfOk result (λ n. Takes W.contents writer.old writer.new (take n octets.now)) }
     ensures err { OnErr result (TakesNone W.contents writer.old writer.new) }
@@ -41,10 +41,10 @@ fn write_piece<W: Write>(writer: &mut Metered<W>, octets: &[u8]) -> Result<usize
 
 /// Flushes once. Returns true if the flush succeeded, and false if it must be repeated.
 fn flush_once<W: Write>(writer: &mut Metered<W>) -> Result<bool, WriteFault>
-    ensures asks { writer.new.asks ≡ counted writer.old.asks }
-    ensures fault { OnErr result (writer.new.faults ≡ counted writer.old.faults) }
-    ensures no_fault { OnOk result (writer.new.faults ≡ writer.old.faults) }
-    ensures flushed { IfOk result (λ done. IsTrue done → IsTrue writer.new.flushed) }
+    ensures asks { asks_of writer.new ≡ counted (asks_of writer.old) }
+    ensures fault { OnErr result (faults_of writer.new ≡ counted (faults_of writer.old)) }
+    ensures no_fault { OnOk result (faults_of writer.new ≡ faults_of writer.old) }
+    ensures flushed { IfOk result (λ done. IsTrue done → IsTrue (flushed_of writer.new)) }
     ensures octets { TakesNone W.contents writer.old writer.new }
 {
     match writer.flush() {
@@ -68,17 +68,17 @@ fn flush_once<W: Write>(writer: &mut Metered<W>) -> Result<bool, WriteFault>
 /// the octets has been written then.
 pub fn write_whole<W: Write>(writer: &mut Metered<W>, octets: &[u8]) -> Result<(), WriteFault>
     ensures octets { OnOk result (Takes W.contents writer.old writer.new octets.now) }
-    ensures flushed { OnOk result (IsTrue writer.new.flushed) }
+    ensures flushed { OnOk result (IsTrue (flushed_of writer.new)) }
     ensures front { OnErr result ((rest : List ℕ)
         × SendsFront W.contents writer.old writer.new octets.now rest) }
-    ensures asks { writer.new.asks ≤ max writer.old.asks (length octets.now + 2097152) }
-    ensures fault { OnErr result ((writer.new.faults ≡ counted writer.old.faults)
-        ⊎ (length octets.now + 2097152 ≤ writer.new.asks)) }
-    ensures no_fault { OnOk result (writer.new.faults ≡ writer.old.faults) }
+    ensures asks { asks_of writer.new ≤ max (asks_of writer.old) (length octets.now + 2097152) }
+    ensures fault { OnErr result ((faults_of writer.new ≡ counted (faults_of writer.old))
+        ⊎ (length octets.now + 2097152 ≤ asks_of writer.new)) }
+    ensures no_fault { OnOk result (faults_of writer.new ≡ faults_of writer.old) }
 {
     let most = octets.len() as u64 + WRITER_ASKS;
     let mut rest = octets;
-    while writer.asks < most {
+    while writer.asks() < most {
         if rest.is_empty() {
             if flush_once(writer)? {
                 return Ok(());

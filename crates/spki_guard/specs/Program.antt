@@ -3,7 +3,7 @@ use Rattle.std.specs.Prelude.{◌≡◌, ◌≢◌, ◌⊎◌, ℕ, ◌≤◌, L
 use Rattle.std.specs.declared.io.ErrorKind.{ErrorKind}
 use Rattle.std.specs.declared.io.ErrorKind.TheVariants.{InvalidData}
 use Rattle.metered_io.specs.declared.meters.Metered.{Metered}
-use Rattle.metered_io.specs.Metered.{inner_of, Gives, GivesNone, TakesNone}
+use Rattle.metered_io.specs.Metered.{inner_of, asks_of, faults_of, ended_of, Gives, GivesNone, TakesNone}
 use Rattle.spki_words.specs.declared.commands.Command.{Command}
 use Rattle.spki_words.specs.declared.words.WordsFault.{WordsFault}
 use Rattle.spki_words.specs.declared.words.WordsFault.TheVariants as words
@@ -49,12 +49,12 @@ IsSaid contents old new octets = IsWritten contents old new octets ⊎ IsCutOff 
 
 -- the writer was not called, and accepted nothing
 pub record IsSilent {W : Type 0} (contents : W → Option (List ℕ)) (old new : Metered W) : Type 0 where
-  pub unasked : new.asks ≡ 0
+  pub unasked : asks_of new ≡ 0
   pub nothing : TakesNone contents old new
 
 -- the reader was not called, and returned nothing
 pub record IsUntouched {R : Type 0} (remaining : R → Option (List ℕ)) (old new : Metered R) : Type 0 where
-  pub unasked : new.asks ≡ 0
+  pub unasked : asks_of new ≡ 0
   pub nothing : GivesNone remaining old new
 
 -- what a run writes to standard error: why it was cut off, otherwise nothing
@@ -78,19 +78,19 @@ IsRefused contents lines old new before after words.Memory = IsSaid contents old
 -- A command was run, from what was read to what was written, with this status. These are the promises of `run`.
 pub record IsCommandRun {R W : Type 0} (remaining : R → Option (List ℕ)) (contents : W → Option (List ℕ)) (command : Command)
     (reader read : Metered R) (writer written_to : Metered W) (status : Status) : Type 0 where
-  pub reader_asks : read.asks ≤ 2097152
+  pub reader_asks : asks_of read ≤ 2097152
   pub no_more : (octets : List ℕ) × (length octets ≤ 1048577) × Gives remaining reader read octets
-  pub ended_at_done : status ≡ Done → IsTrue read.ended
-  pub ended_at_no : status ≡ No → IsTrue read.ended
+  pub ended_at_done : status ≡ Done → IsTrue (ended_of read)
+  pub ended_at_no : status ≡ No → IsTrue (ended_of read)
   pub read_fault : status ≡ ReadFault → IsFaulty read 2097152
-  pub no_read_fault : (status ≡ ReadFault) ⊎ (read.faults ≡ 0)
-  pub no_write_fault : (status ≡ WriteFault) ⊎ (written_to.faults ≡ 0)
-  pub unwritten : status ≡ ReadFault → (written_to.asks ≡ 0) × TakesNone contents writer written_to
+  pub no_read_fault : (status ≡ ReadFault) ⊎ (faults_of read ≡ 0)
+  pub no_write_fault : (status ≡ WriteFault) ⊎ (faults_of written_to ≡ 0)
+  pub unwritten : status ≡ ReadFault → (asks_of written_to ≡ 0) × TakesNone contents writer written_to
   pub written : (verdict : Verdict) → status ≡ answer_status verdict → (output : List ℕ)
-      × IsReply command (remaining (inner_of reader)) (remaining (inner_of read)) read.ended verdict output
+      × IsReply command (remaining (inner_of reader)) (remaining (inner_of read)) (ended_of read) verdict output
       × IsWritten contents writer written_to output
   pub write_fault : status ≡ WriteFault → (verdict : Verdict) × (output : List ℕ)
-      × IsReply command (remaining (inner_of reader)) (remaining (inner_of read)) read.ended verdict output
+      × IsReply command (remaining (inner_of reader)) (remaining (inner_of read)) (ended_of read) verdict output
       × IsCutOff contents writer written_to output
 
 -- The command was run, the exit status is the one of its end, and standard error says why it was cut off.

@@ -2,7 +2,7 @@
 use Rattle.std.specs.Prelude.{◌≡◌, ℕ, ◌+◌, ◌<◌, ◌≤◌, ◌⊎◌, List, length, Option, IfSome, Bool, IsTrue}
 use Rattle.std.specs.Io.KnownBytes.{Consumes}
 use Rattle.metered_io.specs.declared.meters.Metered.{Metered}
-use Rattle.metered_io.specs.Metered.{Takes}
+use Rattle.metered_io.specs.Metered.{asks_of, faults_of, flushed_of, Takes}
 use Rattle.metered_io.specs.Sent.{SendsFront}
 use Rattle.sexpr_core.specs.declared.fault.FormFault.TheVariants as form
 use Rattle.spki_words.specs.declared.commands.Command.{Command}
@@ -43,17 +43,17 @@ IsReply command known left ended verdict output =
 
 -- Some call failed, or the number of calls reached this limit.
 abbrev pub IsFaulty : {T : Type 0} → Metered T → ℕ → Type 0
-IsFaulty meter most = (0 < meter.faults) ⊎ (meter.asks ≡ most)
+IsFaulty meter most = (0 < faults_of meter) ⊎ (asks_of meter ≡ most)
 
 -- the writer accepted the whole output and a flush
 pub record IsWritten {W : Type 0} (contents : W → Option (List ℕ)) (old new : Metered W) (output : List ℕ) : Type 0 where
   pub whole : Takes contents old new output
-  pub flushed : IsTrue new.flushed
-  pub asks : new.asks ≤ length output + 2097152
+  pub flushed : IsTrue (flushed_of new)
+  pub asks : asks_of new ≤ length output + 2097152
 
 -- the writer failed after a beginning of the output
 pub record IsCutOff {W : Type 0} (contents : W → Option (List ℕ)) (old new : Metered W) (output : List ℕ) : Type 0 where
   pub rest : List ℕ
   pub front : SendsFront contents old new output rest
   pub faulty : IsFaulty new (length output + 2097152)
-  pub asks : new.asks ≤ length output + 2097152
+  pub asks : asks_of new ≤ length output + 2097152

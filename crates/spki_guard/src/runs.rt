@@ -1,6 +1,6 @@
 //! Runs a command, from the octets that are read to those that are written.
 ghost use Rattle.std.specs.Prelude.{◌≡◌, ℕ, ◌<◌, ◌≤◌, ◌⊎◌, List, length, max, IsTrue, IfNone, IfSome, OnSome};
-ghost use Rattle.metered_io.specs.Metered.{inner_of, Gives, TakesNone};
+ghost use Rattle.metered_io.specs.Metered.{inner_of, asks_of, faults_of, ended_of, Gives, TakesNone};
 ghost use Rattle.spki_guard.specs.Answer.{output_octets};
 ghost use Rattle.spki_guard.specs.Status.{answer_status};
 ghost use Rattle.spki_guard.specs.Run.{IsReply, IsFaulty, IsWritten, IsCutOff};
@@ -21,22 +21,22 @@ pub fn run<R: Read, W: Write>(
     reader: &mut Metered<R>,
     writer: &mut Metered<W>,
 ) -> Status
-    ensures reader_asks { reader.new.asks ≤ 2097152 }
+    ensures reader_asks { asks_of reader.new ≤ 2097152 }
     ensures no_more { (octets : List ℕ) × (length octets ≤ 1048577) × Gives R.remaining reader.old reader.new octets }
-    ensures ended_at_done { result ≡ Status.Done → IsTrue reader.new.ended }
-    ensures ended_at_no { result ≡ Status.No → IsTrue reader.new.ended }
+    ensures ended_at_done { result ≡ Status.Done → IsTrue (ended_of reader.new) }
+    ensures ended_at_no { result ≡ Status.No → IsTrue (ended_of reader.new) }
     ensures read_fault { result ≡ Status.ReadFault → IsFaulty reader.new 2097152 }
-    ensures no_read_fault { (result ≡ Status.ReadFault) ⊎ (reader.new.faults ≡ 0) }
-    ensures no_write_fault { (result ≡ Status.WriteFault) ⊎ (writer.new.faults ≡ 0) }
-    ensures unwritten { result ≡ Status.ReadFault → (writer.new.asks ≡ 0)
+    ensures no_read_fault { (result ≡ Status.ReadFault) ⊎ (faults_of reader.new ≡ 0) }
+    ensures no_write_fault { (result ≡ Status.WriteFault) ⊎ (faults_of writer.new ≡ 0) }
+    ensures unwritten { result ≡ Status.ReadFault → (asks_of writer.new ≡ 0)
         × TakesNone W.contents writer.old writer.new }
 
     // With any other status there is a reply, and all of it or a beginning of it was written.
     ensures written { (verdict : Verdict) → result ≡ answer_status verdict → (output : List ℕ)
-        × IsReply command (R.remaining (inner_of reader.old)) (R.remaining (inner_of reader.new)) reader.new.ended verdict output
+        × IsReply command (R.remaining (inner_of reader.old)) (R.remaining (inner_of reader.new)) (ended_of reader.new) verdict output
         × IsWritten W.contents writer.old writer.new output }
     ensures write_fault { result ≡ Status.WriteFault → (verdict : Verdict) × (output : List ℕ)
-        × IsReply command (R.remaining (inner_of reader.old)) (R.remaining (inner_of reader.new)) reader.new.ended verdict output
+        × IsReply command (R.remaining (inner_of reader.old)) (R.remaining (inner_of reader.new)) (ended_of reader.new) verdict output
         × IsCutOff W.contents writer.old writer.new output }
 {
     reader.restart();
@@ -49,12 +49,12 @@ pub fn run<R: Read, W: Write>(
 
 /// Reads a text and makes the reply to it. None if the reader failed.
 fn reply_to<R: Read>(alloc: Global, command: Command, reader: &mut Metered<R>) -> Option<Answer>
-    ensures asks { reader.new.asks ≤ max reader.old.asks 2097152 }
+    ensures asks { asks_of reader.new ≤ max (asks_of reader.old) 2097152 }
     ensures no_more { (octets : List ℕ) × (length octets ≤ 1048577) × Gives R.remaining reader.old reader.new octets }
-    ensures fault { IfNone result ((0 < reader.new.faults) ⊎ (2097152 ≤ reader.new.asks)) }
-    ensures no_fault { OnSome result (reader.new.faults ≡ reader.old.faults) }
+    ensures fault { IfNone result ((0 < faults_of reader.new) ⊎ (2097152 ≤ asks_of reader.new)) }
+    ensures no_fault { OnSome result (faults_of reader.new ≡ faults_of reader.old) }
     ensures reply { IfSome result (λ answer. IsReply command (R.remaining (inner_of reader.old))
-        (R.remaining (inner_of reader.new)) reader.new.ended answer.verdict (output_octets answer.output)) }
+        (R.remaining (inner_of reader.new)) (ended_of reader.new) answer.verdict (output_octets answer.output)) }
 {
     match read_whole(alloc, reader, MOST_OCTETS) {
         Ok(text) => Some(answer_text(alloc, command, &text)),
@@ -69,11 +69,11 @@ fn reply_to<R: Read>(alloc: Global, command: Command, reader: &mut Metered<R>) -
 
 /// Writes an answer.
 fn send<W: Write>(writer: &mut Metered<W>, answer: &Answer) -> Status
-    requires { writer.old.asks ≡ 0 }
+    requires { asks_of writer.old ≡ 0 }
     ensures read_fault { result ≡ Status.ReadFault → ⊥ }
     ensures written { (verdict : Verdict) → result ≡ answer_status verdict → (verdict ≡ answer.now.verdict)
         × IsWritten W.contents writer.old writer.new (output_octets answer.now.output) }
-    ensures no_fault { (result ≡ Status.WriteFault) ⊎ (writer.new.faults ≡ writer.old.faults) }
+    ensures no_fault { (result ≡ Status.WriteFault) ⊎ (faults_of writer.new ≡ faults_of writer.old) }
     ensures write_fault { result ≡ Status.WriteFault
         → IsCutOff W.contents writer.old writer.new (output_octets answer.now.output) }
 {

@@ -1,7 +1,7 @@
 //! A caller of `metered_io`.
 
 ghost use Rattle.std.specs.Prelude.{◌≡◌, ◌<◌, ◌≤◌, length, vec_len, IfOk, IfSome, IsErrOf};
-ghost use Rattle.metered_io.specs.Metered.{inner_of};
+ghost use Rattle.metered_io.specs.Metered.{inner_of, asks_of, faults_of};
 
 use metered_io::{Metered, ReadFault, read_whole};
 use std::alloc::Global;
@@ -37,15 +37,15 @@ pub fn text_from<R: Read>(
 ) -> Result<Vec<u8>, TextFault>
     ensures whole { IfOk result (λ text. IfSome (R.remaining (inner_of client.old)) (λ octets. octets ≡ text.items)) }
     ensures short { IfOk result (λ text. vec_len text ≤ most) }
-    ensures broken { IsErrOf result TextFault.Broken → 0 < client.new.faults }
-    ensures slow { IsErrOf result TextFault.Slow → (client.new.faults ≡ 0) × (client.new.asks ≡ 2097152) }
+    ensures broken { IsErrOf result TextFault.Broken → 0 < faults_of client.new }
+    ensures slow { IsErrOf result TextFault.Slow → (faults_of client.new ≡ 0) × (asks_of client.new ≡ 2097152) }
     ensures too_long { IsErrOf result TextFault.TooLong
         → IfSome (R.remaining (inner_of client.old)) (λ octets. most < length octets) }
 {
     client.restart();
     match read_whole(alloc, client, most) {
         Ok(text) => Ok(text),
-        Err(ReadFault::Failed) if client.faults == 0 => Err(TextFault::Slow),
+        Err(ReadFault::Failed) if client.faults() == 0 => Err(TextFault::Slow),
         Err(ReadFault::Failed) => Err(TextFault::Broken),
         Err(ReadFault::TooLong) => Err(TextFault::TooLong),
         Err(ReadFault::Memory) => Err(TextFault::Memory),

@@ -22,7 +22,7 @@ fn reads_are_passed_on(rt: HostRuntime) -> Result<(), Fail> {
     let mut buffer = [0; 3];
     assert!(rt; meter.read(&mut buffer)? == 1);
     assert!(rt; buffer == [b'x', 0, 0]);
-    assert!(rt; (meter.asks, meter.faults) == (1, 0));
+    assert!(rt; (meter.asks(), meter.faults()) == (1, 0));
     let inner = meter.into_inner();
     assert!(rt; (inner.reads, inner.room) == (1, 3));
     assert!(rt; (inner.writes, inner.flushes) == (0, 0));
@@ -34,7 +34,7 @@ fn writes_are_passed_on(rt: HostRuntime) -> Result<(), Fail> {
     let mut meter = counting(rt.alloc());
     assert!(rt; meter.write(b"abc")? == 3);
     meter.flush()?;
-    assert!(rt; (meter.asks, meter.faults) == (2, 0));
+    assert!(rt; (meter.asks(), meter.faults()) == (2, 0));
     let inner = meter.into_inner();
     assert!(rt; inner.taken.as_slice() == b"abc".as_slice());
     assert!(rt; (inner.writes, inner.flushes, inner.reads) == (1, 1, 0));

@@ -47,7 +47,7 @@ fn reads(
     let ended = run(alloc, command, &mut reader, &mut writer);
     assert!(rt; ended == status, "{command:?}");
     assert!(rt; writer.into_inner().as_slice() == output, "{command:?}");
-    (reader.asks, reader.faults)
+    (reader.asks(), reader.faults())
 }
 
 /// Runs a command with a writer that fails, and compares all that was written. Returns the writer's calls.
@@ -62,7 +62,7 @@ fn writes(
     let mut reader = Metered::new(text);
     let mut writer = Metered::new(writer);
     let ended = run(alloc, command, &mut reader, &mut writer);
-    let asks = writer.asks;
+    let asks = writer.asks();
     assert!(rt; ended == Status::WriteFault, "{command:?}");
     assert!(rt;
         writer.into_inner().taken.as_slice() == output,
@@ -119,7 +119,7 @@ fn endless_reader(rt: HostRuntime) {
     let mut writer = Metered::new(Vec::new(rt.alloc()));
     let status = run(rt.alloc(), Command::Check, &mut reader, &mut writer);
     assert!(rt; status == Status::Refused);
-    assert!(rt; reader.faults == 0);
+    assert!(rt; reader.faults() == 0);
     assert!(rt; reader.into_inner().given == 1_048_577);
     assert!(rt; writer.into_inner().as_slice() == b"refused form TooLong\n".as_slice());
 }
@@ -175,7 +175,7 @@ fn ends_of_first_run(rt: HostRuntime) {
     let mut writer = Metered::new(Vec::new(rt.alloc()));
     let status = run(rt.alloc(), Command::Check, &mut reader, &mut writer);
     assert!(rt; status == Status::Done && status.code() == 0);
-    assert!(rt; reader.ended && reader.faults == 0);
-    assert!(rt; writer.flushed && writer.faults == 0);
+    assert!(rt; reader.ended() && reader.faults() == 0);
+    assert!(rt; writer.flushed() && writer.faults() == 0);
     assert!(rt; writer.into_inner().as_slice() == b"yes entry 1\n".as_slice());
 }

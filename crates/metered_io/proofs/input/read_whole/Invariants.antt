@@ -2,13 +2,13 @@ use Rattle.std.proofs.Common.{◌-◌, ◌≡◌, ◌≤◌, max, vec_len}
 use Rattle.metered_io.specs.Metered.{Gives}
 use Rattle.metered_io.proofs.input.read_whole.Given as goal
 
-abbrev pub invariant-loop-reader : goal.invariant-loop-reader
-invariant-loop-reader g l = record {
+abbrev pub invariant-loop-buffer : goal.invariant-loop-buffer
+invariant-loop-buffer g l = record {
   taken : Gives g.R.Read.remaining l.initial.reader l.reader l.text.items;
   short : vec_len l.text ≤ l.most;
   asked : l.reader.asks ≤ max l.initial.reader.asks 2097152;
   faultless : l.reader.faults ≡ l.initial.reader.faults;
 }
 
-abbrev pub decreases-loop-reader : goal.decreases-loop-reader
-decreases-loop-reader g l = 2097152 - l.reader.asks
+abbrev pub decreases-loop-buffer : goal.decreases-loop-buffer
+decreases-loop-buffer g l = 2097152 - l.reader.asks
