@@ -267,8 +267,8 @@ asked_at_one (moments.Text text) s t a b =
 asked_at_one (moments.Seconds seconds) s t a b = one_date seconds s t a b
 
 pub case-one : (q : Question) (c d : Case) → IsAskedCase q c → IsAskedCase q d → c.policy ≡ d.policy
-    → c.most_nodes ≡ d.most_nodes → c ≡ d
-case-one q c d a b policy most_nodes =
+    → c.most_nodes ≡ d.most_nodes → c.most_work ≡ d.most_work → c ≡ d
+case-one q c d a b policy most_nodes most_work =
     let sequences =
     both (IsTextWithin q.sequence.now) (text_one q.sequence.now) (λ v. SeqOf v c.items) (λ v. SeqOf v d.items) a.sequence b.sequence in
     let items = sequence-one sequences.value c.items d.items sequences.one sequences.other in
@@ -289,4 +289,5 @@ case-one q c d a b policy most_nodes =
       moment = moment i;
       policy = policy i;
       most_nodes = most_nodes i;
+      most_work = most_work i;
     }

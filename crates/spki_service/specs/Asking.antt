@@ -11,11 +11,12 @@ use Rattle.spki_decision.specs.Views.{with_entries}
 use Rattle.spki_decision.specs.Asked.{Signed, IsAccepted}
 use Rattle.spki_service.specs.Held.{AreEntries}
 
--- A question that was read. It has the canonical texts of the guard's entries, and the case of the question's parts, which
--- has no entries of its own.
+-- A question that was read. It has the canonical texts of the guard's entries, the case of the question's parts, which has no entries
+-- of its own, and the guard's limit of the octets of an answer.
 pub record AskedOf : Type 0 where
   pub texts : List (List ℕ)
   pub case : Case
+  pub answer : ℕ
 
 -- a statement is true of the question's case with the guard's entries
 abbrev pub OfCase : AskedOf → (Case → Type 0) → Type 0

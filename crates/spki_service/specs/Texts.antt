@@ -22,7 +22,7 @@ use Rattle.spki_service.specs.declared.texts.MomentText.TheVariants as of_moment
 use Rattle.spki_service.specs.declared.texts.Texts.{Texts}
 use Rattle.spki_service.specs.Form.{RefusesForm, LacksForm}
 use Rattle.spki_service.specs.Moment.{IsDateAt, IsAtNoDate}
-use Rattle.spki_service.specs.Questions.{IsWanted, RefusesWanted, IsNoSequenceFor, IsNoKeyFor, IsNoRequestFor, IsNoDateFor}
+use Rattle.spki_service.specs.Questions.{IsWanted, RefusesWanted, IsNoSequenceFor, IsNoKeyFor, IsNoRequestFor, IsNoDateFor, asked_octets}
 
 -- the text is the canonical text of a value of the part; or the part has none, and this is the fault of its form
 abbrev pub IsReadAs : (means : Value → Type 0) → (refuses : FormFault → Type 0) → PartText → Type 0
@@ -39,12 +39,13 @@ IsMomentText (moments.Seconds seconds) (of_moment.Text part) = ⊥
 IsMomentText (moments.Seconds seconds) (of_moment.At date) = IsDateAt seconds date
 IsMomentText (moments.Seconds seconds) of_moment.Dateless = IsAtNoDate seconds
 
--- The texts are those of the question's parts.
+-- The texts are those of the question's parts, which have so many octets together.
 pub record IsTextsOf (q : Question) (texts : Texts) : Type 0 where
   pub sequence : IsReadAs (IsTextWithin q.sequence.now) (RefusesForm q.sequence.now) texts.sequence
   pub key : IsReadAs (IsTextWithin q.key.now) (RefusesForm q.key.now) texts.key
   pub request : IsReadAs (IsWanted q.request) (RefusesWanted q.request) texts.request
   pub moment : IsMomentText q.moment texts.moment
+  pub octets : texts.octets ≡ asked_octets q
 
 -- ---- the value of a part's text
 

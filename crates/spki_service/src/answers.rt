@@ -100,8 +100,8 @@ impl<'a> Asked<'a> {
     ///
     /// # Errors
     ///
-    /// `TooLarge` if an intersection exceeds the guard's limit of nodes. `Memory` if memory ran out, here or in the
-    /// verifier.
+    /// `TooLarge` if an intersection exceeds the guard's limit of nodes, or all intersections of the question together its limit of
+    /// work. `Memory` if memory ran out, here or in the verifier.
     pub fn explain<V: Verifier>(
         &self,
         alloc: Global,

@@ -1,11 +1,11 @@
 //! Access lists that are read once.
 
-ghost use Rattle.std.specs.Prelude.{◌≡◌, ◌≢◌, ◌↔◌, ◌⊎◌, ◌<◌, ◌≤◌, ℕ, List, length, IfOk, IfErr, IsErrOf};
+ghost use Rattle.std.specs.Prelude.{◌≡◌, ◌≢◌, ◌↔◌, ◌⊎◌, ◌<◌, ◌≤◌, ℕ, List, Some, length, IfOk, IfErr, IsErrOf};
 ghost use Rattle.std.specs.Option.{option_copied};
 ghost use Rattle.sexpr_core.specs.Value.{Value, canon, IsShallow};
 ghost use Rattle.spki_cert.specs.declared.entry.Entry.{Entry};
 ghost use Rattle.spki_case.specs.Texts.{IsOuter};
-ghost use Rattle.spki_service.specs.Held.{AreEntries, HoldsList, HoldsValue};
+ghost use Rattle.spki_service.specs.Held.{AreEntries, HasLimits, HoldsList, HoldsValue};
 ghost use Rattle.spki_service.specs.Kept.{numbers_from};
 ghost use Rattle.spki_service.specs.Lists.{IsNoAccessList, IsNoAcl, ListRefused};
 ghost use Rattle.spki_service.specs.Partly.{is_of};
@@ -54,6 +54,8 @@ impl Model for Guard {
       policy = g.policy;
       octets = g.limits.octets;
       nodes = g.limits.nodes;
+      work = g.limits.work;
+      answer = g.limits.answer;
     } };
 
     ghost invariant = { λ g. (es : List Entry) × AreEntries (octets_of_texts g.texts.items) es × IsIndexOf es g.index };
@@ -76,8 +78,7 @@ impl Guard {
     ) -> Result<Guard, AclFault>
         ensures list { IfOk result (λ g. HoldsList list.now g.texts) }
         ensures policy { IfOk result (λ g. g.policy ≡ policy) }
-        ensures octets { IfOk result (λ g. g.octets ≡ limits.octets) }
-        ensures nodes { IfOk result (λ g. g.nodes ≡ limits.nodes) }
+        ensures limits { IfOk result (λ g. HasLimits g limits) }
         ensures refused { IfErr result (λ fault. fault ≢ AclFault.Memory → IsNoAccessList list.now fault) }
     {
         match Doc::open(alloc, list) {
@@ -92,6 +93,13 @@ impl Guard {
         ensures { result ≡ length self.now.texts }
     {
         self.texts.len()
+    }
+
+    /// The most octets of the lines of an explanation or a reduction.
+    pub(crate) fn most_answer(&self) -> usize
+        ensures { result ≡ self.now.answer }
+    {
+        self.limits.answer
     }
 
     /// Returns the canonical texts of a question's parts, for `ask`. A text that is already canonical is not copied.
@@ -113,16 +121,24 @@ impl Guard {
     ///
     /// # Errors
     ///
-    /// The first part that cannot be read is named: `Form` if its text has no value within the limits, otherwise the fault
-    /// of its value. `Memory` if memory ran out.
+    /// `TooLong` exactly if the texts have more octets than the guard's limit, which `texts` of another guard may allow. Otherwise the
+    /// first part that cannot be read is named: `Form` if its text has no value within the limits, otherwise the fault of its value.
+    /// `Memory` if memory ran out.
     pub fn ask<'a>(&'a self, alloc: Global, texts: &'a Texts<'_>) -> Result<Asked<'a>, AskFault>
         ensures asked { (q : Question) → IsTextsOf q texts.entry.now → IfOk result (λ a. IsAskedCase q a.case) }
         ensures entries { IfOk result (λ a. a.texts ≡ self.entry.now.texts) }
         ensures policy { IfOk result (λ a. a.case.policy ≡ self.entry.now.policy) }
-        ensures limit { IfOk result (λ a. a.case.most_nodes ≡ self.entry.now.nodes) }
+        ensures nodes { IfOk result (λ a. a.case.most_nodes ≡ self.entry.now.nodes) }
+        ensures work { IfOk result (λ a. a.case.most_work ≡ Some self.entry.now.work) }
+        ensures answer { IfOk result (λ a. a.answer ≡ self.entry.now.answer) }
+        ensures too_long { (q : Question) → IsTextsOf q texts.entry.now
+            → IsErrOf result AskFault.TooLong ↔ (self.entry.now.octets < asked_octets q) }
         ensures refused { (q : Question) → IsTextsOf q texts.entry.now
-            → IfErr result (λ fault. fault ≢ AskFault.Memory → IsNotAsked q fault) }
+            → IfErr result (λ fault. fault ≢ AskFault.Memory → fault ≢ AskFault.TooLong → IsNotAsked q fault) }
     {
+        if self.limits.octets < texts.octets {
+            return Err(AskFault::TooLong);
+        }
         let algorithms = self.index.algorithms(self.policy);
         let case = case_of(alloc, texts, self.policy, self.limits, algorithms)?;
         let examined = examine(alloc, &case.sequence, case.policy)?;
@@ -156,7 +172,7 @@ impl Guard {
         limits: Limits,
     ) -> Result<Guard, AclFault>
         ensures list { IfOk result (λ g. HoldsList list.now g.texts) }
-        ensures given { IfOk result (λ g. (g.policy ≡ policy) × (g.octets ≡ limits.octets) × (g.nodes ≡ limits.nodes)) }
+        ensures given { IfOk result (λ g. (g.policy ≡ policy) × HasLimits g limits) }
         ensures refused { IfErr result (λ fault. fault ≢ AclFault.Memory → IsNoAccessList list.now fault) }
     {
         match convert(alloc, Form::Canonical, list) {
@@ -175,7 +191,7 @@ impl Guard {
     ) -> Result<Guard, AclFault>
         ensures list { (v : Value) → octets.now ≡ canon v
             → IfOk result (λ g. (length (canon v) ≤ 1048576) × HoldsValue v g.texts) }
-        ensures given { IfOk result (λ g. (g.policy ≡ policy) × (g.octets ≡ limits.octets) × (g.nodes ≡ limits.nodes)) }
+        ensures given { IfOk result (λ g. (g.policy ≡ policy) × HasLimits g limits) }
         ensures refused { (v : Value) → octets.now ≡ canon v → IsShallow v
             → IfErr result (λ fault. fault ≢ AclFault.Memory → ListRefused v fault) }
     {
@@ -189,7 +205,7 @@ impl Guard {
     /// Reads the access list of a node.
     fn of(alloc: Global, list: &Node, policy: Policy, limits: Limits) -> Result<Guard, AclFault>
         ensures list { IfOk result (λ g. HoldsValue list.now g.texts) }
-        ensures given { IfOk result (λ g. (g.policy ≡ policy) × (g.octets ≡ limits.octets) × (g.nodes ≡ limits.nodes)) }
+        ensures given { IfOk result (λ g. (g.policy ≡ policy) × HasLimits g limits) }
         ensures refused { IfErr result (λ fault. fault ≢ AclFault.Memory
             → (inner : CertFault) × (fault ≡ AclFault.Acl inner) × IsNoAcl inner list.now) }
     {

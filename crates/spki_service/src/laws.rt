@@ -36,7 +36,7 @@ pub fn one_list()
 /// function of its parts: the first part that cannot be read, with its fault.
 pub fn one_asking()
     ensures case { (q : Question) (c d : Case) → IsAskedCase q c → IsAskedCase q d → c.policy ≡ d.policy
-        → c.most_nodes ≡ d.most_nodes → c ≡ d }
+        → c.most_nodes ≡ d.most_nodes → c.most_work ≡ d.most_work → c ≡ d }
     ensures unrefused { (q : Question) (c : Case) (fault : AskFault) → IsAskedCase q c → ¬ IsNotAsked q fault }
     ensures fault { (q : Question) (f g : AskFault) → IsNotAsked q f → IsNotAsked q g → f ≡ g }
 {}

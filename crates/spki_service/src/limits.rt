@@ -7,35 +7,49 @@ ghost use Rattle.std.specs.Prelude.{◌≡◌, ◌≤◌, ◌↔◌, IsSome, IfS
 pub struct Limits {
     /// The most octets of the four parts of a question together. At most 1,048,576.
     pub octets: usize,
-    /// For `Asked::explain` and `reduce`: the most nodes of two tags whose intersection is formed, as the product of their numbers.
-    /// At most 1,000,000.
+    /// For explanations and reductions: the most nodes of two tags whose intersection is formed, as the product of their numbers. At
+    /// most 1,000,000.
     pub nodes: usize,
+    /// For explanations and reductions: the most of these products together, over all certificates and all entries.
+    pub work: usize,
+    /// For explanations and reductions: the most octets of their lines.
+    pub answer: usize,
     ghost octets_within: { octets ≤ 1048576 },
     ghost nodes_within: { nodes ≤ 1000000 },
 }
 
 impl Limits {
     /// These limits, or `None` if `octets` is over 1,048,576 or `nodes` is over 1,000,000.
-    pub fn new(octets: usize, nodes: usize) -> Option<Limits>
+    pub fn new(octets: usize, nodes: usize, work: usize, answer: usize) -> Option<Limits>
         ensures within { IsSome result ↔ ((octets ≤ 1048576) × (nodes ≤ 1000000)) }
-        ensures same { IfSome result (λ limits. (limits.octets ≡ octets) × (limits.nodes ≡ nodes)) }
+        ensures same { IfSome result (λ limits. (limits.octets ≡ octets) × (limits.nodes ≡ nodes)
+            × (limits.work ≡ work) × (limits.answer ≡ answer)) }
     {
         if octets <= 1_048_576 && nodes <= 1_000_000 {
-            Some(Limits { octets, nodes })
+            Some(Limits {
+                octets,
+                nodes,
+                work,
+                answer,
+            })
         } else {
             None
         }
     }
 }
 
-/// The highest limits: 1,048,576 octets and 1,000,000 nodes.
+/// 1,048,576 octets of a question, 1,000,000 nodes of an intersection, 200,000 of all intersections of a question together, and
+/// 1,048,576 octets of an answer.
 impl Default for Limits {
-    ghost is_default = { λ limits. (limits.octets ≡ 1048576) × (limits.nodes ≡ 1000000) };
+    ghost is_default = { λ limits. (limits.octets ≡ 1048576) × (limits.nodes ≡ 1000000)
+        × (limits.work ≡ 200000) × (limits.answer ≡ 1048576) };
 
     fn default() -> Limits {
         Limits {
             octets: 1_048_576,
             nodes: 1_000_000,
+            work: 200_000,
+            answer: 1_048_576,
         }
     }
 }

@@ -1,27 +1,29 @@
 //! The number of octets of a question's texts.
 
-ghost use Rattle.std.specs.Prelude.{◌≡◌, ◌<◌, ◌≤◌, ◌+◌, ◌↔◌, map, length, IsTrue, MatchOption};
+ghost use Rattle.std.specs.Prelude.{◌≡◌, ◌<◌, ◌≤◌, ◌+◌, map, length, MatchOption};
 ghost use Rattle.sexpr_core.specs.Value.{canon, decimal, verbatim};
-ghost use Rattle.spki_service.specs.Questions.{words_value, wanted_octets, asked_octets};
+ghost use Rattle.spki_service.specs.Questions.{words_value, wanted_octets, moment_octets, asked_octets};
 
 use crate::question::{Instant, Question, Wanted};
 
-/// Whether a question's texts together have at most `most_octets` octets. None of them is read.
-pub(crate) fn is_within(question: &Question, most_octets: usize) -> bool
-    ensures { IsTrue result ↔ (asked_octets question.now ≤ most_octets) }
+/// How many octets a question's texts have together. None if they are more than `most_octets`. None of them is read.
+pub(crate) fn octets_within(question: &Question, most_octets: usize) -> Option<usize>
+    ensures { MatchOption result (most_octets < asked_octets question.now) (λ octets. (octets ≡ asked_octets question.now) × (octets ≤ most_octets)) }
 {
-    let Some(left) = left_of(most_octets, question.sequence.len()) else {
-        return false;
-    };
-    let Some(left) = left_of(left, question.key.len()) else {
-        return false;
-    };
-    let Some(left) = left_of_wanted(left, &question.request) else {
-        return false;
-    };
-    match question.moment {
-        Instant::Text(text) => text.len() <= left,
-        Instant::Seconds(_) => 22 <= left,
+    let left = left_of(most_octets, question.sequence.len())?;
+    let left = left_of(left, question.key.len())?;
+    let left = left_of_wanted(left, &question.request)?;
+    let left = left_of_moment(left, &question.moment)?;
+    Some(most_octets - left)
+}
+
+/// The room that is left after a moment. None if there is too little.
+fn left_of_moment(room: usize, moment: &Instant) -> Option<usize>
+    ensures { MatchOption result (room < moment_octets moment.now) (λ left. left + moment_octets moment.now ≡ room) }
+{
+    match moment {
+        Instant::Text(text) => left_of(room, text.len()),
+        Instant::Seconds(_) => left_of(room, 22),
     }
 }
 

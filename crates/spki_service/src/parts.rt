@@ -1,6 +1,6 @@
 //! Reads the parts of a question from their texts.
 
-ghost use Rattle.std.specs.Prelude.{◌≡◌, ◌≢◌, IfOk, IfErr};
+ghost use Rattle.std.specs.Prelude.{◌≡◌, ◌≢◌, Some, IfOk, IfErr};
 ghost use Rattle.sexpr_core.specs.Value.{Value, canon, IsWithinLimits};
 ghost use Rattle.spki_cert.specs.Readings.{KeyOf, DateOf};
 ghost use Rattle.spki_cert.specs.Sequences.{SeqOf};
@@ -24,7 +24,7 @@ use spki_cert::{
 use spki_tag::{Ground, TagFault};
 use std::alloc::Global;
 
-/// Reads the case of a question, without entries, with a guard's policy and limit of nodes. The parts are read in the order
+/// Reads the case of a question, without entries, with a guard's policy and limits of nodes and work. The parts are read in the order
 /// sequence, key, request, moment. Its keys carry their digests by `algorithms`, those of the hashes in the access list, and
 /// by those of the hashes in the sequence.
 ///
@@ -41,7 +41,8 @@ pub(crate) fn case_of<'a>(
 ) -> Result<Case<'a>, AskFault>
     ensures asked { (q : Question) → IsTextsOf q texts.entry.now → IfOk result (λ c. IsAskedCase q (model c)) }
     ensures policy { IfOk result (λ c. c.policy ≡ policy) }
-    ensures limit { IfOk result (λ c. c.most_nodes ≡ limits.nodes) }
+    ensures nodes { IfOk result (λ c. c.most_nodes ≡ limits.nodes) }
+    ensures work { IfOk result (λ c. c.most_work ≡ Some limits.work) }
     ensures refused { (q : Question) → IsTextsOf q texts.entry.now
         → IfErr result (λ fault. fault ≢ AskFault.Memory → IsNotAsked q fault) }
 {
@@ -57,6 +58,7 @@ pub(crate) fn case_of<'a>(
         moment,
         policy,
         limits.nodes,
+        limits.work,
         algorithms,
     )?)
 }

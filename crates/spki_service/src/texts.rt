@@ -8,7 +8,7 @@ ghost use Rattle.spki_service.specs.Questions.{words_value, asked_octets, IsWant
 ghost use Rattle.spki_service.specs.Texts.{IsReadAs, IsTextsOf, IsMomentText, IsMade};
 
 use crate::date::date_at;
-use crate::measure::is_within;
+use crate::measure::octets_within;
 use crate::question::{AskFault, Instant, Question, Wanted};
 use crate::words::words_text;
 use sexpr_core::{Doc, FormFault, MOST_OCTETS};
@@ -45,6 +45,8 @@ pub struct Texts<'q> {
     pub(crate) key: PartText<'q>,
     pub(crate) request: PartText<'q>,
     pub(crate) moment: MomentText<'q>,
+    /// How many octets the question's texts have together.
+    pub(crate) octets: usize,
 }
 
 /// Returns the canonical texts of a question's parts. A text that is already canonical is not copied. A part without a
@@ -63,14 +65,15 @@ pub(crate) fn texts_of<'q>(
     ensures too_long { IsErrOf result AskFault.TooLong ↔ (most_octets < asked_octets question.now) }
     ensures only { IfErr result (λ fault. (fault ≡ AskFault.TooLong) ⊎ (fault ≡ AskFault.Memory)) }
 {
-    if !is_within(question, most_octets) {
+    let Some(octets) = octets_within(question, most_octets) else {
         return Err(AskFault::TooLong);
-    }
+    };
     Ok(Texts {
         sequence: part_text(alloc, question.sequence)?,
         key: part_text(alloc, question.key)?,
         request: wanted_text(alloc, &question.request)?,
         moment: moment_text(alloc, &question.moment)?,
+        octets,
     })
 }
 

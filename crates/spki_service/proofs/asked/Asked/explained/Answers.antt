@@ -39,5 +39,6 @@ returns-in_ok-reasons-in-Stands c =
     let all = c.deref-in-Stands.ensures.value ∙ c.in_ok-entries-in-Stands.ensures es there in
     let each = rw (c.deref-in-Stands-2.ensures.value, all) at c.in_ok-reasons-in-Stands.ensures.each in
     let small = rw (c.deref-in-Stands-2.ensures.value, all) at c.in_ok-reasons-in-Stands.ensures.small in
-    are_reasons (with_entries m es) every tuples c.in_ok-reasons-in-Stands.reasons.items c.known.ensures stands each small in
+    let worked = rw (c.deref-in-Stands-2.ensures.value, all) at c.in_ok-reasons-in-Stands.ensures.worked in
+    are_reasons (with_entries m es) every tuples c.in_ok-reasons-in-Stands.reasons.items c.known.ensures stands each small worked in
     subst (λ (a : AskedOf). (es : List Entry) → AreEntries a.texts es → AreReasons (with_entries a.case es) every c.in_ok-reasons-in-Stands.reasons.items) c.self.view_is inner

@@ -39,5 +39,6 @@ returns-in_ok-folds-in-Stands-clause-reduced c =
     let all = c.deref-in-Stands.ensures.value ∙ c.in_ok-entries-in-Stands.ensures es there in
     let each = rw (c.deref-in-Stands-2.ensures.value, all) at c.in_ok-folds-in-Stands.ensures.each in
     let small = rw (c.deref-in-Stands-2.ensures.value, all) at c.in_ok-folds-in-Stands.ensures.small in
-    (record { tuples = tuples; shown = stands; each = each; small = small }, c.in_ok-folds-in-Stands.ensures.dated) in
+    let worked = rw (c.deref-in-Stands-2.ensures.value, all) at c.in_ok-folds-in-Stands.ensures.worked in
+    (record { tuples = tuples; shown = stands; each = each; small = small; worked = worked }, c.in_ok-folds-in-Stands.ensures.dated) in
     subst (λ (a : AskedOf). (es : List Entry) → AreEntries a.texts es → AreFolds (with_entries a.case es) every c.in_ok-folds-in-Stands.folds.items × AllByRecursion IsDated c.in_ok-folds-in-Stands.folds.items) c.self.view_is inner
