@@ -13,17 +13,19 @@ use Rattle.spki_case.specs.declared.table.Row as code_row
 abbrev pub SortedRow : Type 0
 SortedRow = Bor (List ℕ) × Bor (List ℕ) × Bor (List ℕ)
 
+-- their order
 abbrev pub compared : SortedRow → SortedRow → Ordering
 compared x y =
     ordering_then (ordering_then (slice_cmp nat_cmp x.0.now y.0.now) (slice_cmp nat_cmp x.1.now y.1.now)) (slice_cmp nat_cmp x.2.now y.2.now)
 
+-- the model's row
 abbrev pub sorted_row : SortedRow → Row
 sorted_row x = record { key = x.2.now; digest = x.0.now; value = x.1.now }
 
 abbrev pub row_of : code_row.Row → Row
 row_of row = record { key = row.key; digest = row.digest; value = row.value }
 
--- These are the rows, in order: any test passes on one of the ones exactly if it passes on one of the others.
+-- The sorted rows are the rows, in order: a test is true of some sorted row exactly if it is true of some row.
 pub record AreSorted (rows : List code_row.Row) (sorted : List SortedRow) : Type 0 where
   pub same : (test : Row → Bool) → list_any test (map row_of rows) ≡ list_any test (map sorted_row sorted)
   pub ordered : IsSorted compared sorted
