@@ -109,7 +109,7 @@ static wish *wish_of(const char *word)
 
 static void ask_widest(const char *word, const char *path)
 {
-    const struct spki_limits limits = {65536, 10000};
+    const struct spki_limits limits = {65536, 10000, SPKI_USUAL_WORK, SPKI_USUAL_ANSWER};
     wish *call = wish_of(word);
     struct held held = held_in(path, &limits);
     /* The room for answers is the caller's, and is no part of what the question takes. */

@@ -164,7 +164,7 @@ static void strings(void)
 static void refusals(void)
 {
     spki_guard *guard = (spki_guard *)&until_refusal;
-    struct spki_limits high = {SPKI_MOST_OCTETS + 1, 1}, low = {10, SPKI_MOST_NODES};
+    struct spki_limits high = {SPKI_MOST_OCTETS + 1, 1, 0, 0}, low = {10, SPKI_MOST_NODES, SPKI_USUAL_WORK, SPKI_USUAL_ANSWER};
     struct spki_question question;
     struct spki_signed signature;
     unsigned char buffer[64];

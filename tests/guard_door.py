@@ -2,6 +2,7 @@
 import ctypes
 import hashlib
 from ctypes import POINTER, Structure, byref, c_char_p, c_int64, c_size_t, c_uint32, c_void_p
+from dataclasses import astuple
 from typing import Any
 
 from generators.guards import GuardQuestion
@@ -26,7 +27,7 @@ class Text(Structure):
 class Limits(Structure):
     """`struct spki_limits`."""
 
-    _fields_ = [("octets", c_size_t), ("nodes", c_size_t)]
+    _fields_ = [(name, c_size_t) for name in ("octets", "nodes", "work", "answer")]
 
 
 class Asked(Structure):
@@ -58,7 +59,7 @@ def model_answer(question: GuardQuestion) -> tuple[Answer, list[Signed]]:
     moment = question.moment if question.seconds is None else question.seconds
     wish = question.command.removeprefix("guard ")
     return answer(wish, question.acl, Parts(question.sequence, question.key, request, moment), rows_of(question), question.policy,
-                  (question.octets, question.nodes), question.oddity)
+                  question.limits, question.oddity)
 
 
 class GuardDoor:
@@ -120,7 +121,7 @@ class GuardDoor:
         """What `spki_guard_open` answers, with a buffer of this room."""
         line, needed, odd = ctypes.create_string_buffer(room + 1), c_size_t(), question.oddity
         text, length = (None, 1) if odd == "a list that is null with a length" else (question.acl, len(question.acl))
-        limits = None if odd == "limits" else byref(Limits(question.octets, question.nodes))
+        limits = None if odd == "limits" else byref(Limits(*astuple(question.limits)))
         place = None if odd == "no place for the guard" else byref(handle)
         status = self.open(text, length, question.policy, limits, place, line, room, byref(needed))
         return status, line.raw[:needed.value]

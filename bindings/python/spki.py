@@ -52,7 +52,7 @@ _REASON = re.compile(r"^(?:entry (\d+) )?(?:item (\d+) )?(\w+)$", re.MULTILINE)
 
 
 class _Limits(ctypes.Structure):
-    _fields_ = [("octets", c_size_t), ("nodes", c_size_t)]
+    _fields_ = [(name, c_size_t) for name in ("octets", "nodes", "work", "answer")]
 
 
 def _loaded() -> ctypes.CDLL:
@@ -112,16 +112,22 @@ class Policy(enum.IntEnum):
 
 @dataclass(frozen=True)
 class Limits:
-    """Limits on each question. They begin as the highest."""
+    """Limits on each question. `nodes`, `work` and `answer` are for `explain` and `reduce`."""
 
     octets: int = 1_048_576
     """The most octets that the texts of a question may have together."""
     nodes: int = 1_000_000
-    """The most nodes of one tag times nodes of another for which `explain` and `reduce` compute their intersection."""
+    """The most nodes of one tag times nodes of another whose intersection is computed."""
+    work: int = 200_000
+    """The most of these products together, over all certificates and entries."""
+    answer: int = 1_048_576
+    """The most octets of the lines."""
 
     def __post_init__(self) -> None:
         if not (0 <= self.octets <= 1_048_576 and 0 <= self.nodes <= 1_000_000):
             raise ValueError("the highest limits are 1,048,576 octets and 1,000,000 nodes")
+        if not (0 <= self.work < 2**63 and 0 <= self.answer < 2**63):
+            raise ValueError("the work and the octets of an answer are numbers from 0")
 
 
 @dataclass(frozen=True)
@@ -345,7 +351,7 @@ class _Handle:
     def __init__(self, list_: bytes, policy: Policy, limits: Limits) -> None:
         self.at = c_void_p()
         status, line = _answered(_library.spki_guard_open, _octets(list_), len(list_), policy,
-                                 byref(_Limits(limits.octets, limits.nodes)), byref(self.at))
+                                 byref(_Limits(limits.octets, limits.nodes, limits.work, limits.answer)), byref(self.at))
         if status != _DONE:
             raise _refused(status, line)
 

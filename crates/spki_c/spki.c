@@ -19,8 +19,8 @@ uint32_t spki_c_answer(uint32_t command, const unsigned char *text, size_t text_
 uint32_t spki_c_check_accepted(const unsigned char *text, size_t text_length, const unsigned char *rows, size_t rows_length,
                                unsigned char *buffer, size_t buffer_length, size_t *needed);
 uint32_t spki_c_string(const unsigned char *text, size_t text_length, const size_t *path, size_t depth, size_t *at, size_t *length);
-uint32_t spki_c_guard_open(const unsigned char *list, size_t list_length, uint32_t policy, size_t octets, size_t nodes,
-                           struct handle *handle, unsigned char *buffer, size_t buffer_length, size_t *needed);
+uint32_t spki_c_guard_open(const unsigned char *list, size_t list_length, uint32_t policy, size_t octets, size_t nodes, size_t work,
+                           size_t answer, struct handle *handle, unsigned char *buffer, size_t buffer_length, size_t *needed);
 void spki_c_guard_close(struct handle handle);
 size_t spki_c_guard_entries(struct lent *lent);
 uint32_t spki_c_guard_signed(struct lent *lent, const unsigned char *sequence, size_t sequence_length, const unsigned char *key,
@@ -78,7 +78,7 @@ enum spki_status spki_check_accepted(const void *text, size_t text_length, const
 enum spki_status spki_guard_open(const void *list, size_t list_length, enum spki_policy policy, const struct spki_limits *limits,
                                  spki_guard **guard, void *buffer, size_t buffer_length, size_t *needed)
 {
-    static const struct spki_limits highest = {SPKI_MOST_OCTETS, SPKI_MOST_NODES};
+    static const struct spki_limits usual = {SPKI_MOST_OCTETS, SPKI_MOST_NODES, SPKI_USUAL_WORK, SPKI_USUAL_ANSWER};
     struct handle handle = {0};
     enum spki_status status;
     unsigned char no_buffer;
@@ -90,9 +90,9 @@ enum spki_status spki_guard_open(const void *list, size_t list_length, enum spki
     *guard = 0;
     if (is_misuse(list, list_length) || is_misuse(buffer, buffer_length))
         return SPKI_MISUSED;
-    limits = limits ? limits : &highest;
-    status = spki_c_guard_open(text_at(list), list_length, policy, limits->octets, limits->nodes, &handle,
-                               buffer ? buffer : &no_buffer, buffer_length, needed);
+    limits = limits ? limits : &usual;
+    status = spki_c_guard_open(text_at(list), list_length, policy, limits->octets, limits->nodes, limits->work,
+                               limits->answer, &handle, buffer ? buffer : &no_buffer, buffer_length, needed);
     *guard = handle.at;
     return status;
 }

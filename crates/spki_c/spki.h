@@ -121,6 +121,10 @@ enum spki_status spki_check_accepted(const void *text, size_t text_length, const
 #define SPKI_MOST_OCTETS 1048576
 #define SPKI_MOST_NODES 1000000
 
+/* The work and the octets of an answer that are allowed if no limits are given. */
+#define SPKI_USUAL_WORK 200000
+#define SPKI_USUAL_ANSWER 1048576
+
 /* A text: octets that do not change while a call runs. `octets` may be null if `length` is 0. */
 struct spki_text {
     const void *octets;
@@ -132,11 +136,13 @@ enum spki_policy {
     SPKI_STRICT = 1 /* hashes by SHA-1 name no key, like `(policy strict)` in a case */
 };
 
-/* Limits of each question. A null pointer means the highest, SPKI_MOST_OCTETS and SPKI_MOST_NODES. */
+/* Limits of each question. A null pointer means SPKI_MOST_OCTETS, SPKI_MOST_NODES, SPKI_USUAL_WORK and SPKI_USUAL_ANSWER. The last three
+ * are for spki_guard_explain and _reduce: what exceeds one of them is `refused TooLarge`. A decision computes no intersection. */
 struct spki_limits {
     size_t octets; /* the most octets of a question's texts together: more are `refused question TooLong` */
-    size_t nodes;  /* for spki_guard_explain and _reduce: the most nodes of one tag times nodes of another, whose intersection is
-                    * computed. More are `refused TooLarge`. A decision computes none. */
+    size_t nodes;  /* the most nodes of one tag times nodes of another, whose intersection is computed */
+    size_t work;   /* the most of these products together, over all certificates and entries */
+    size_t answer; /* the most octets of the answer */
 };
 
 /* An access list that is read once and asked often. No question changes it. */
@@ -197,8 +203,8 @@ enum spki_status spki_guard_decide(const spki_guard *guard, const struct spki_qu
                                    size_t count, void *buffer, size_t buffer_length, size_t *needed);
 
 /* Like spki_guard_decide, but write the lines of SPKI_EXPLAIN or SPKI_REDUCE, and return SPKI_DONE in place of yes and no. The line
- * `refused TooLarge` says that the tags of an entry and of the certificates exceed the guard's limit of nodes. The time grows with the
- * number of all entries. */
+ * `refused TooLarge` says that the guard's limit of nodes, of work or of the answer is exceeded. The time grows with the number of all
+ * entries. */
 enum spki_status spki_guard_explain(const spki_guard *guard, const struct spki_question *question, const unsigned char *verified,
                                     size_t count, void *buffer, size_t buffer_length, size_t *needed);
 enum spki_status spki_guard_reduce(const spki_guard *guard, const struct spki_question *question, const unsigned char *verified,

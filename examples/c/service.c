@@ -234,7 +234,7 @@ static bool answer_next(const struct service *service)
 static bool open_list(const char *path, struct service *service)
 {
     static unsigned char list[MOST_LIST + 1];
-    static const struct spki_limits limits = {MOST_OCTETS, MOST_NODES};
+    static const struct spki_limits limits = {MOST_OCTETS, MOST_NODES, SPKI_USUAL_WORK, SPKI_USUAL_ANSWER};
     unsigned char line[LINE_OCTETS];
     size_t length;
     FILE *file = fopen(path, "rb");

@@ -2,13 +2,12 @@
 import random
 from dataclasses import dataclass, replace
 
-from model.guard import ALLOWED, FIRST_SECOND, HIGHEST, LAST_SECOND, MISUSES, OPENED, WISHES
+from model.guard import ALLOWED, FIRST_SECOND, LAST_SECOND, MISUSES, OPENED, USUAL, WISHES, Limits
 from model.values import Atom, Value, canonical
 
 from .cases import Builder
 from .nearly import changed, texts
 
-MOST_OCTETS, MOST_NODES = HIGHEST
 ODDITIES = [*MISUSES.counts, *ALLOWED.counts]
 SECONDS = (0, -1, 1_704_067_199, 1_704_067_200, 1_718_440_200, 951_782_400, -2_203_891_200, FIRST_SECOND, FIRST_SECOND - 1,
            FIRST_SECOND + 31_622_400, LAST_SECOND, LAST_SECOND + 1, -2**63, 2**63 - 1)
@@ -31,8 +30,7 @@ class GuardQuestion:
     strings: tuple[bytes, ...] | None
     seconds: int | None
     policy: int
-    octets: int
-    nodes: int
+    limits: Limits = USUAL
     oddity: str = ""
 
 
@@ -45,20 +43,26 @@ def guard_question(rng: random.Random) -> GuardQuestion:
     key, request, moment = (part[1] for part in case[4:7] if isinstance(part, tuple))
     strings = strings_of(request, rng)
     wish = rng.choice(list(WISHES))
-    # with so few nodes the case of one decision in ten is too large, which the guard decides
-    few, chance = (8, 0.4) if wish == "decide" else (60, 0.25)
     return GuardQuestion(
         "guard " + wish, part_text(acl, rng), part_text(sequence, rng), part_text(key, rng), part_text(request, rng),
         part_text(moment, rng), canonical(rows), strings, rng.choice(SECONDS) if rng.random() < 0.15 else None, int(len(case) == 8),
-        rng.randrange(1200) if rng.random() < 0.05 else MOST_OCTETS, rng.randrange(few) if rng.random() < chance else MOST_NODES)
+        limits_for(wish, rng))
+
+
+def limits_for(wish: str, rng: random.Random) -> Limits:
+    """Limits, by chance some that are low."""
+    # with so few nodes the case of one decision in ten is too large, which the guard decides
+    few, chance = (8, 0.4) if wish == "decide" else (60, 0.15)
+    return Limits(rng.randrange(1200) if rng.random() < 0.05 else USUAL.octets, rng.randrange(few) if rng.random() < chance else USUAL.nodes,
+                  rng.randrange(80) if rng.random() < 0.15 else USUAL.work, rng.randrange(120) if rng.random() < 0.1 else USUAL.answer)
 
 
 def odd(question: GuardQuestion, rng: random.Random, oddity: str) -> GuardQuestion:
     """A question whose calls have an oddity."""
     policy = rng.choice((2, 3, 255, 2**31, 2**32 - 1)) if oddity == OPENED[0] else question.policy
-    octets = rng.choice((MOST_OCTETS + 1, 2**63, 2**64 - 1)) if oddity == OPENED[1] else MOST_OCTETS
-    nodes = rng.choice((MOST_NODES + 1, 2**63, 2**64 - 1)) if oddity == OPENED[2] else MOST_NODES
-    return replace(question, policy=policy, octets=octets, nodes=nodes, oddity=oddity)
+    octets = rng.choice((USUAL.octets + 1, 2**63, 2**64 - 1)) if oddity == OPENED[1] else USUAL.octets
+    nodes = rng.choice((USUAL.nodes + 1, 2**63, 2**64 - 1)) if oddity == OPENED[2] else USUAL.nodes
+    return replace(question, policy=policy, limits=Limits(octets, nodes), oddity=oddity)
 
 
 def part_text(value: Value, rng: random.Random) -> bytes:

@@ -7,12 +7,12 @@ from dataclasses import replace
 from model import advanced
 from model.answers import COMMANDS
 from model.calls import LONGEST_TEXT
-from model.guard import LAST_SECOND, WISHES
+from model.guard import LAST_SECOND, WISHES, Limits
 from model.values import DEEPEST, LONGEST, Atom, Value, canonical, head_of
 
 from . import spellings
 from .asked import Call, Question, StringQuestion
-from .guards import MOST_NODES, MOST_OCTETS, ODDITIES, GuardQuestion, odd
+from .guards import ODDITIES, GuardQuestion, odd
 from .mutations import FIRST, NEARLY, SNIPPETS, part, places, replaced
 from .rare import many_strings
 
@@ -86,12 +86,12 @@ def deep_again() -> Value:
     return (Atom(b"intersect"), lists, sets)
 
 
-def guard_question(case: Value, wish: str, nodes: int = MOST_NODES) -> GuardQuestion:
+def guard_question(case: Value, wish: str) -> GuardQuestion:
     """The question of a case."""
     assert isinstance(case, tuple)
     acl, rows, sequence = map(canonical, case[1:4])
     key, request, moment = (canonical(it[1]) for it in case[4:7] if isinstance(it, tuple))
-    return GuardQuestion(f"guard {wish}", acl, sequence, key, request, moment, rows, None, None, 0, MOST_OCTETS, nodes)
+    return GuardQuestion(f"guard {wish}", acl, sequence, key, request, moment, rows, None, None, 0)
 
 
 # ---- makers
@@ -147,7 +147,9 @@ def of_guards() -> Iterator[Maker]:
     """Questions to guards: tags that are too large for one, parts that are none, and calls with an oddity."""
     for wish in WISHES:
         question = guard_question(joined_lists(4, 4), wish)
-        yield from (given(replace(question, nodes=nodes)) for nodes in (15, 16))
+        yield from (given(replace(question, limits=Limits(nodes=nodes))) for nodes in (15, 16))
+        yield from (given(replace(question, limits=Limits(work=work))) for work in (15, 16))
+        yield from (given(replace(question, limits=Limits(answer=answer))) for answer in (0, 12, 15, 16, 17, 1000))
         yield given(guard_question(joined_lists(1000, 1001), wish))
         yield from (given(replace(question, acl=acl)) for acl in (b"acl", b'(acl (version "1"))', b"(acl (version [0:]1:0))"))
         yield from (given(replace(question, sequence=sequence)) for sequence in (b"sequence", b"(sequences)", b"(sequence x)"))

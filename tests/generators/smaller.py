@@ -5,7 +5,7 @@ from dataclasses import replace
 from typing import Any
 
 from model import forms
-from model.guard import HIGHEST
+from model.guard import USUAL
 from model.printed import printed
 from model.values import FormFault, Value, canonical
 
@@ -55,8 +55,8 @@ def smaller_parts(question: GuardQuestion) -> Iterator[GuardQuestion]:
                 yield replace(question, strings=(*question.strings[:number], text, *question.strings[number + 1:]))
     if question.seconds:
         yield from (replace(question, seconds=seconds) for seconds in (None, 0, int(question.seconds / 2)))
-    if (question.octets, question.nodes) != HIGHEST:
-        yield replace(question, octets=HIGHEST[0], nodes=HIGHEST[1])
+    if question.limits != USUAL:
+        yield replace(question, limits=USUAL)
 
 
 def shorter(members: tuple[Any, ...]) -> Iterator[tuple[Any, ...]]:

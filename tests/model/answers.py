@@ -28,7 +28,8 @@ LINES = Rows("line", [
 REFUSALS = Rows("line, refused", [
     "form TooLong", "form TooDeep", "form Short", "form Bad", "form Trailing", "intersect Shape", "tag 1", "tag 2",
     "TooLarge: intersect", "TooLarge: check", "TooLarge: explain", "TooLarge: reduce", "TooLarge: check, by a guard's product",
-    "TooLarge: explain, by a guard's product", "TooLarge: reduce, by a guard's product", "case",
+    "TooLarge: explain, by a guard's product", "TooLarge: reduce, by a guard's product",
+    "TooLarge: explain, by a guard's work", "TooLarge: reduce, by a guard's work", "case",
     "rows TooLong", "rows TooDeep", "rows Short", "rows Bad", "rows Trailing", "rows Shape", "rows"])
 STATUSES = Rows("status", [f"{command}: {status}" for command in (*COMMANDS, "check_accepted") for status in (YES, NO, REFUSED)
                            if status != NO or COMMANDS.index(command if command in COMMANDS else "check") > 3])
@@ -82,7 +83,8 @@ def refusal(row: str, said: object) -> Refused:
 
 def too_large(command: str, why: TooLarge) -> Refused:
     """The refusal of tags that are too large."""
-    return refusal(f"TooLarge: {command}" + (", by a guard's product" if why.is_of_guard else ""), "TooLarge")
+    by = ", by a guard's work" if why.is_work else ", by a guard's product" if why.is_of_guard else ""
+    return refusal(f"TooLarge: {command}{by}", "TooLarge")
 
 
 def answer_of_text(command: str, text: bytes) -> Answer:

@@ -18,7 +18,7 @@ OPEN, STRICT = POLICIES = (0, 1)
 Signed = tuple[bytes, bytes, bytes]
 REFUSED = Rows("question to a guard, refused", [
     "list, form", "list", "list, item 0", "question TooLong", "at, seconds", *(f"{part}{row}" for part in PARTS for row in (", form", "")),
-    "sequence, item 0"])
+    "sequence, item 0", "explain, octets of the answer", "reduce, octets of the answer"])
 GIVEN = Rows("question to a guard, given", [
     "request by no string", "request by one string", "request by strings", "seconds", "seconds before 1970", "limits that are lower"])
 SIGNED = Rows("question to a guard, signatures that are listed", ["none", "of each certificate", "up to one that does not stand"])
@@ -35,9 +35,21 @@ OTHER_MARKS = "another number of marks"
 MISUSES = Rows("question to a guard, status 5", [*OPENED, *ASKED, *LISTED, *ANSWERED, OTHER_MARKS])
 ALLOWED = Rows("question to a guard, null pointers that are allowed", ["limits", "needed"])
 SMALL = Rows("question to a guard, status 4", ["the line of a refused list", "signatures", "a buffer for signatures", "an answer"])
-HIGHEST = (1_048_576, intersection.MOST_PRODUCT)
 FIRST_SECOND, LAST_SECOND = -62_167_219_200, 253_402_300_799
 DATE_OCTETS = 22
+
+
+@dataclass(frozen=True, slots=True)
+class Limits:
+    """The most octets of a question, nodes of an intersection, nodes of all intersections, and octets of an answer."""
+
+    octets: int = 1_048_576
+    nodes: int = intersection.MOST_PRODUCT
+    work: int = 200_000
+    answer: int = 1_048_576
+
+
+USUAL = Limits()
 
 
 @dataclass(frozen=True, slots=True)
@@ -46,8 +58,7 @@ class Guard:
 
     entries: list[Entry]
     strict: bool
-    octets: int
-    nodes: int
+    limits: Limits
 
 
 @dataclass(frozen=True, slots=True)
@@ -63,7 +74,7 @@ class Parts:
 # ---- what is read
 
 
-def open_guard(text: bytes, strict: bool, octets: int, nodes: int) -> Guard:
+def open_guard(text: bytes, strict: bool, limits: Limits) -> Guard:
     """The guard of a list's text."""
     try:
         entries = structures.read_access_list(forms.read_within_limit(text))
@@ -76,14 +87,14 @@ def open_guard(text: bytes, strict: bool, octets: int, nodes: int) -> Guard:
     except StructureFault as fault:
         REFUSED.used("list, item 0")
         raise Refused(f"acl 0 {fault}") from None
-    if (octets, nodes) != HIGHEST:
+    if limits != USUAL:
         GIVEN.used("limits that are lower")
-    return Guard(entries, strict, octets, nodes)
+    return Guard(entries, strict, limits)
 
 
 def case_of(guard: Guard, asked: Parts, rows: list[Row]) -> Case:
     """The case that a question asks of a guard. Its parts are read in their order."""
-    if octets_of(asked) > guard.octets:
+    if octets_of(asked) > guard.limits.octets:
         REFUSED.used("question TooLong")
         raise Refused("question TooLong")
     items = part("sequence", structures.read_sequence, asked.sequence)
@@ -195,15 +206,15 @@ def kept_back(row: str) -> int:
     return too_small()
 
 
-def misuse_of_opening(policy: int, limits: tuple[int, int], oddity: str) -> str | None:
+def misuse_of_opening(policy: int, limits: Limits, oddity: str) -> str | None:
     """What is misuse when a guard is opened, None if nothing is."""
     if policy not in POLICIES:
         return OPENED[0]
-    above = [row for row, limit, most in zip(OPENED[1:], limits, HIGHEST) if limit > most]
+    above = [row for row, is_above in zip(OPENED[1:], (limits.octets > USUAL.octets, limits.nodes > USUAL.nodes)) if is_above]
     return above[0] if above else oddity if oddity in OPENED else None
 
 
-def answer(wish: str, list_text: bytes, asked: Parts, rows: list[Row], policy: int, limits: tuple[int, int], oddity: str
+def answer(wish: str, list_text: bytes, asked: Parts, rows: list[Row], policy: int, limits: Limits, oddity: str
            ) -> tuple[Answer, list[Signed]]:
     """What the library answers to a question whose verifier accepts what the rows say, and the signatures that it lists. The oddity is
     what is misuse in the calls, or which pointer is null that may be, if one is."""
@@ -211,17 +222,20 @@ def answer(wish: str, list_text: bytes, asked: Parts, rows: list[Row], policy: i
         return misused(row)
     listed: list[Signed] = []
     try:
-        guard = open_guard(list_text, policy == STRICT, *limits)
+        guard = open_guard(list_text, policy == STRICT, limits)
         if oddity in (*ASKED, *LISTED, *ANSWERED):
             return misused(oddity)
         case = case_of(guard, asked, rows)
         listed = signed(case)
         if oddity == OTHER_MARKS:
             return misused(oddity)
-        with intersection.limited(guard.nodes):
+        with intersection.limited(limits.nodes, None if wish == "decide" else limits.work):
             status, said = WISHES[wish](case, case.rows)
             if wish == "decide":
                 compare(case, (status, said))
+            elif len(said) > limits.answer:
+                REFUSED.used(f"{wish}, octets of the answer")
+                raise Refused("TooLarge")
     except Refused as why:
         status, said = refused(why)
     STATUSES.used(f"{wish}: {status}")

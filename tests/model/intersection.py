@@ -22,36 +22,47 @@ REFUSED = Rows("intersection, refused", ["TooLarge", "the product is 1,000,000"]
 
 
 most_product = MOST_PRODUCT
+most_work: int | None = None
 
 
 class TooLarge(Exception):
-    """The product of the nodes is over the limit: that of every case, or the lower one of a guard."""
+    """The product of the nodes is over the limit, that of every case or the lower one of a guard; or all products are over a guard's."""
 
     def __init__(self, product: int) -> None:
         super().__init__(product)
         self.is_of_guard = product <= MOST_PRODUCT
+        self.is_work = product <= most_product
 
 
 @contextmanager
-def limited(most: int) -> Iterator[None]:
-    """Within this the product of the nodes has another limit than 1,000,000."""
-    global most_product
-    before, most_product = most_product, most
+def limited(most: int, work: int | None = None) -> Iterator[None]:
+    """Within this the product of the nodes has another limit than 1,000,000, and the sum of all products may have one."""
+    global most_product, most_work
+    before, most_product, most_work = most_product, most, work
     try:
         yield
     finally:
-        most_product = before
+        most_product, most_work = before, None
 
 
 def intersection(a: Tag, b: Tag) -> Tag:
     """The tag of the requests that both contain. TooLarge if the product of the nodes is over the limit."""
     product = nodes(a) * nodes(b)
-    if product > most_product:
+    if product > most_product or is_overworked(product):
         REFUSED.used("TooLarge")
         raise TooLarge(product)
     if product == MOST_PRODUCT:
         REFUSED.used("the product is 1,000,000")
     return together(a, b)
+
+
+def is_overworked(product: int) -> bool:
+    """Whether the sum of all products is over the limit, if there is one, with this one."""
+    global most_work
+    if most_work is None:
+        return False
+    most_work -= product
+    return most_work < 0
 
 
 def together(a: Tag, b: Tag) -> Tag:

@@ -56,6 +56,8 @@ impl Text {
 pub struct Limits {
     pub octets: usize,
     pub nodes: usize,
+    pub work: usize,
+    pub answer: usize,
 }
 
 /// What a handle points to. Nothing here reads it.

@@ -27,24 +27,42 @@ pub enum Policy {
 pub struct Limits {
     octets: usize,
     nodes: usize,
+    work: usize,
+    answer: usize,
 }
 
 impl Limits {
     /// `octets` is the most octets that the texts of a question may have together, up to 1,048,576. `nodes` is the most nodes of one
     /// tag times nodes of another for which `explain` and `reduce` compute their intersection, up to 1,000,000. `None` if a limit is
-    /// higher.
+    /// higher. The other limits are those of the default.
     pub fn new(octets: usize, nodes: usize) -> Option<Limits> {
-        let most = Limits::default();
-        (octets <= most.octets && nodes <= most.nodes).then_some(Limits { octets, nodes })
+        let usual = Limits::default();
+        (octets <= usual.octets && nodes <= usual.nodes).then_some(Limits {
+            octets,
+            nodes,
+            ..usual
+        })
+    }
+
+    /// These limits with other ones for `explain` and `reduce`. `work` is the most nodes of all intersections together, as the sum of
+    /// their products, over all certificates and entries. `answer` is the most octets of the lines.
+    pub fn with_work(self, work: usize, answer: usize) -> Limits {
+        Limits {
+            work,
+            answer,
+            ..self
+        }
     }
 }
 
 impl Default for Limits {
-    /// The highest limits.
+    /// 1,048,576 octets of a question, 1,000,000 nodes of an intersection, 200,000 of all together, 1,048,576 octets of an answer.
     fn default() -> Limits {
         Limits {
             octets: 1_048_576,
             nodes: 1_000_000,
+            work: 200_000,
+            answer: 1_048_576,
         }
     }
 }
@@ -107,6 +125,8 @@ impl Guard {
         let limits = ffi::Limits {
             octets: limits.octets,
             nodes: limits.nodes,
+            work: limits.work,
+            answer: limits.answer,
         };
         let mut handle = ptr::null_mut();
         let (status, line) = answered(LINE, |buffer, room, needed| {

@@ -64,13 +64,15 @@ pub record HasParts (sequence key request moment : List ℕ) (seconds : List ℤ
 -- ---- opened
 
 -- The list is read, and the handle has its guard.
-pub record IsOpened (list : List ℕ) (p : Policy) (octets nodes : ℕ) (held : Option Held) (old new : List ℕ) (needed status : ℕ) : Type 0 where
+pub record IsOpened (list : List ℕ) (p : Policy) (octets nodes work answer : ℕ) (held : Option Held) (old new : List ℕ) (needed status : ℕ) : Type 0 where
   pub guard : Held
   pub held_is : held ≡ Some guard
   pub list_is : HoldsList list guard.texts
   pub policy_is : guard.policy ≡ p
   pub octets_are : guard.octets ≡ octets
   pub nodes_are : guard.nodes ≡ nodes
+  pub work_is : guard.work ≡ work
+  pub answer_is : guard.answer ≡ answer
   pub unchanged : new ≡ old
   pub needed_is : needed ≡ 0
   pub status_is : status ≡ 6

@@ -26,13 +26,15 @@ pub extern "C" fn spki_c_guard_open(
     policy: u32,
     octets: usize,
     nodes: usize,
+    work: usize,
+    answer: usize,
     handle: &mut Handle,
     buffer: &mut [u8],
     needed: &mut usize,
 ) -> u32
     requires empty { handle.old.held ≡ None }
     ensures opened { (p : Policy) → policy ≡ policy_number p → octets ≤ 1048576 → nodes ≤ 1000000
-        → IsOpened list.now p octets nodes handle.new.held buffer.old buffer.new needed.new result
+        → IsOpened list.now p octets nodes work answer handle.new.held buffer.old buffer.new needed.new result
         ⊎ IsUnopened list.now handle.old handle.new buffer.old buffer.new needed.new result }
     ensures policy { ((p : Policy) → policy ≢ policy_number p)
         → (handle.new ≡ handle.old) × IsMisuse buffer.old buffer.new needed.new result }
@@ -42,7 +44,7 @@ pub extern "C" fn spki_c_guard_open(
     let Some(policy) = policy_of(policy) else {
         return misused(needed);
     };
-    let Some(limits) = Limits::new(octets, nodes) else {
+    let Some(limits) = Limits::new(octets, nodes, work, answer) else {
         return misused(needed);
     };
     match read_guard(alloc, list, policy, limits) {

@@ -1,6 +1,6 @@
 //! Guards on the heap, and what a caller may set for them.
 ghost use Rattle.std.specs.Prelude.{◌≡◌, ◌≢◌, IfOk, IfErr, MatchOption};
-ghost use Rattle.spki_service.specs.Held.{HoldsList};
+ghost use Rattle.spki_service.specs.Held.{HasLimits, HoldsList};
 ghost use Rattle.spki_service.specs.Lists.{IsNoAccessList};
 ghost use Rattle.spki_c.specs.Guards.{policy_number};
 
@@ -16,7 +16,7 @@ pub(crate) fn read_guard(
     limits: Limits,
 ) -> Result<Box<Guard>, AclFault>
     ensures list { IfOk result (λ g. HoldsList list.now g.value.texts) }
-    ensures given { IfOk result (λ g. (g.value.policy ≡ policy) × (g.value.octets ≡ limits.octets) × (g.value.nodes ≡ limits.nodes)) }
+    ensures given { IfOk result (λ g. (g.value.policy ≡ policy) × HasLimits g.value limits) }
     ensures refused { IfErr result (λ fault. fault ≢ AclFault.Memory → IsNoAccessList list.now fault) }
 {
     let guard = Guard::read(alloc, list, policy, limits)?;

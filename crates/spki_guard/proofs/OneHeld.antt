@@ -28,7 +28,7 @@ Same x y output line = (x ≡ y) × (output ≡ line)
 
 module _ (held : Held) (q : Question) where
   case_one : (c d : Case) → ReadsQuestion held q c → ReadsQuestion held q d → c ≡ d
-  case_one c d m n = case-one q c d m.is n.is (m.policy ∙ sym n.policy) (m.nodes ∙ sym n.nodes)
+  case_one c d m n = case-one q c d m.is n.is (m.policy ∙ sym n.policy) (m.nodes ∙ sym n.nodes) (m.work ∙ sym n.work)
 
   read_or_not : (c : Case) (fault : AskFault) → ReadsQuestion held q c → ¬ IsUnreadFor held q fault
   read_or_not c fault m (inl (is, long)) = omega (arith, m.short, long)
@@ -82,16 +82,26 @@ module _ (a : AskedOf) (es : List Entry) (are : AreEntries a.texts es) (verified
   writes_one Decide x y output line (d, at, is) (e, also, other) =
       let same : d ≡ e = decision_one whole verified d e (at es are) (also es are) in
       decision_line e x y output line (subst (λ (f : Decision). IsLineOf f x output) same is) other
-  writes_one Explain x y output line (d, at, is) (e, also, other) =
+  writes_one Explain x y output line (d, at, is, short) (e, also, other, within) =
       explanation_line d e x y output line (explained_one whole verified (Ok d) (Ok e) (at es are) (also es are)) is other
-  writes_one Reduce x y output line (d, at, end, is) (e, also, ends, other) =
+  writes_one Reduce x y output line (d, at, end, is, short) (e, also, ends, other, within) =
       reduction_line d e x y output line (reduced_one whole verified (Ok d) (Ok e) (at es are) (also es are)) is other
 
   writes_or_not : (wish : Wish) (x : Verdict) (output : List ℕ) → WritesAsked wish a verified x output → ¬ IsTooLargeFor wish a verified
   writes_or_not Decide x output w large = large
-  writes_or_not Explain x output (d, at, is) large = explained_small whole verified d (at es are) (large es are)
-  writes_or_not Reduce x output (d, at, end, is) large =
+  writes_or_not Explain x output (d, at, is, short) (inl large) = explained_small whole verified d (at es are) (large es are)
+  writes_or_not Explain x output (d, at, is, short) (inr l) =
+      let same = explanation_line d l.explanation x l.verdict output l.lines
+      (explained_one whole verified (Ok d) (Ok l.explanation) (at es are) (l.is es are)) is l.report in
+      let long = l.long in
+      omega (arith, short, long, ap length same.1)
+  writes_or_not Reduce x output (d, at, end, is, short) (inl large) =
       let answer = at es are in reduced_small whole verified d answer.0 (large es are)
+  writes_or_not Reduce x output (d, at, end, is, short) (inr l) =
+      let same = reduction_line d l.reduction x l.verdict output l.lines
+      (reduced_one whole verified (Ok d) (Ok l.reduction) (at es are) (l.is es are)) is l.report in
+      let long = l.long in
+      omega (arith, short, long, ap length same.1)
 
   answers_one : (wish : Wish) (x y : Verdict) (output line : List ℕ) → AnswersAsked wish a verified x output
       → AnswersAsked wish a verified y line → Same x y output line

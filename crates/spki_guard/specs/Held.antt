@@ -1,6 +1,6 @@
 -- What is answered to a question that is asked of a guard, where a service marks the signatures that it has verified (RFC 2693,
 -- section 6).
-use Rattle.std.specs.Prelude.{◌≡◌, ◌≢◌, ◌⊎◌, ◌<◌, ◌≤◌, ℕ, List, [], ◌∷◌, ◌++◌, length, Bool, Ok, Err}
+use Rattle.std.specs.Prelude.{◌≡◌, ◌≢◌, ◌⊎◌, ◌<◌, ◌≤◌, ℕ, List, [], ◌∷◌, ◌++◌, length, Bool, Some, Ok, Err}
 use Rattle.spki_case.specs.Case.{Case, Verified}
 use Rattle.spki_decision.specs.declared.decision.Decision.{Decision}
 use Rattle.spki_decision.specs.declared.explanation.Explanation.{Explanation}
@@ -28,34 +28,55 @@ use Rattle.spki_guard.specs.Run.{RefusesForMemory}
 -- ---- what is read
 
 -- The question's parts together have no more octets than the guard's limit, and the case is theirs, under the guard's policy and
--- limit of nodes. It has no entries of its own.
+-- limits of nodes and work. It has no entries of its own.
 pub record ReadsQuestion (held : Held) (q : Question) (c : Case) : Type 0 where
   pub short : asked_octets q ≤ held.octets
   pub is : IsAskedCase q c
   pub policy : c.policy ≡ held.policy
   pub nodes : c.most_nodes ≡ held.nodes
+  pub work : c.most_work ≡ Some held.work
 
--- the case beside the guard's entries
+-- the case beside the guard's entries and its limit of the octets of an answer
 abbrev pub beside : Held → Case → AskedOf
-beside held c = record { texts = held.texts; case = c }
+beside held c = record { texts = held.texts; case = c; answer = held.answer }
 
 -- ---- what is written of it
 
--- These are the line or lines of what is answered of the case with the guard's entries, where these signatures are accepted. The
--- windows that a reduction writes begin and end at dates.
+-- These are the line or lines of what is answered of the case with the guard's entries, where these signatures are accepted. Those of
+-- an explanation or a reduction are within the guard's limit. The windows that a reduction writes begin and end at dates.
 abbrev pub WritesAsked : Wish → AskedOf → Verified → Verdict → List ℕ → Type 0
 WritesAsked Decide a verified verdict output =
     (d : Decision) × Decides verified a d × IsLineOf d verdict output
 WritesAsked Explain a verified verdict output =
     (e : Explanation) × OfCase a (λ c. IsExplained c verified (Ok e)) × IsExplanationReport e verdict output
+    × (length output ≤ a.answer)
 WritesAsked Reduce a verified verdict output =
     (r : Reduction) × OfCase a (λ c. IsReduced c verified (Ok r)) × EndAtDates r × IsReductionReport r verdict output
+    × (length output ≤ a.answer)
 
--- tags are too large for an answer; for a decision none are
+-- The lines of what is answered have more octets than the guard's limit.
+pub record ExplainsLong (a : AskedOf) (verified : Verified) : Type 0 where
+  pub explanation : Explanation
+  pub is : OfCase a (λ c. IsExplained c verified (Ok explanation))
+  pub verdict : Verdict
+  pub lines : List ℕ
+  pub report : IsExplanationReport explanation verdict lines
+  pub long : a.answer < length lines
+
+pub record ReducesLong (a : AskedOf) (verified : Verified) : Type 0 where
+  pub reduction : Reduction
+  pub is : OfCase a (λ c. IsReduced c verified (Ok reduction))
+  pub end : EndAtDates reduction
+  pub verdict : Verdict
+  pub lines : List ℕ
+  pub report : IsReductionReport reduction verdict lines
+  pub long : a.answer < length lines
+
+-- Tags are too large for an answer, or its lines are; for a decision none are.
 abbrev pub IsTooLargeFor : Wish → AskedOf → Verified → Type 0
 IsTooLargeFor Decide a verified = ⊥
-IsTooLargeFor Explain a verified = OfCase a (λ c. IsExplained c verified (Err TooLarge))
-IsTooLargeFor Reduce a verified = OfCase a (λ c. IsReduced c verified (Err TooLarge))
+IsTooLargeFor Explain a verified = OfCase a (λ c. IsExplained c verified (Err TooLarge)) ⊎ ExplainsLong a verified
+IsTooLargeFor Reduce a verified = OfCase a (λ c. IsReduced c verified (Err TooLarge)) ⊎ ReducesLong a verified
 
 -- ---- answers
 
@@ -63,7 +84,7 @@ IsTooLargeFor Reduce a verified = OfCase a (λ c. IsReduced c verified (Err TooL
 abbrev pub marked : Case → List Bool → Verified
 marked c marks = MarksAccept (asked c) marks
 
--- Tags are too large for an answer, and the line says so.
+-- Tags or lines are too large for an answer, and the line says so.
 pub record SaysTooLarge (wish : Wish) (a : AskedOf) (verified : Verified) (verdict : Verdict) (output : List ℕ) : Type 0 where
   pub large : IsTooLargeFor wish a verified
   pub verdict_is : verdict ≡ Refused

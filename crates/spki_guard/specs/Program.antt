@@ -8,7 +8,7 @@ use Rattle.spki_words.specs.declared.commands.Command.{Command}
 use Rattle.spki_words.specs.declared.words.WordsFault.{WordsFault}
 use Rattle.spki_words.specs.declared.words.WordsFault.TheVariants as words
 use Rattle.spki_words.specs.Command.{word_of}
-use Rattle.spki_words.specs.Words.{subcommand_in, faults_of, IsFaultOf}
+use Rattle.spki_words.specs.Words.{subcommand_in, IsFaultOf}
 use Rattle.spki_words.specs.Words as of_words
 use Rattle.spki_guard.specs.declared.answers.Verdict.{Verdict}
 use Rattle.spki_guard.specs.declared.statuses.Status.{Status}
@@ -24,7 +24,7 @@ use Rattle.spki_guard.specs.Run.{IsReply, IsFaulty, IsWritten, IsCutOff}
 pub record IsAskedCommand (list : List (List ℕ)) (asked : Result Command WordsFault) : Type 0 where
   pub named : IfOk asked (λ c. subcommand_in list ≡ Some (word_of c))
   pub taken : (program : List ℕ) (c : Command) → list ≡ program ∷ word_of c ∷ [] → (asked ≡ Ok c) ⊎ (asked ≡ Err words.Memory)
-  pub faults : MatchResult asked (λ _. faults_of list ≡ []) (IsFaultOf list)
+  pub faults : MatchResult asked (λ _. of_words.faults_of list ≡ []) (IsFaultOf list)
 
 -- the fault is that the words are not UTF-8, or that memory ran out
 abbrev pub IsNoText : WordsFault → Type 0

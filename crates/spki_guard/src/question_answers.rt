@@ -42,8 +42,9 @@ pub struct SignedOctets {
 ///
 /// A question that is not read is refused. The line is `refused question TooLong` exactly if its parts together have more octets
 /// than the guard's limit. Otherwise the line names the first part that has no reading, and its fault, such as `refused sequence
-/// Bad 5`; the word for the moment is `at`. `refused TooLarge` is an answer of `Explain` and `Reduce` alone. If memory ran out, the
-/// line is `refused Memory`.
+/// Bad 5`; the word for the moment is `at`. `refused TooLarge` is an answer of `Explain` and `Reduce` alone: an intersection exceeds the
+/// guard's limit of nodes, all intersections together its limit of work, or the lines its limit of octets. If memory ran out, the line is
+/// `refused Memory`.
 ///
 /// The result is `None` if the question is read and does not have as many signatures as there are marks.
 pub fn answer_question(
@@ -153,6 +154,9 @@ fn explained(alloc: Global, read: &Asked, marks: &[bool]) -> Result<Answer, Guar
     let explanation = read.explain_by(alloc, marks)?;
     let mut lines = Vec::new(alloc);
     let verdict = push_explanation(alloc, &mut lines, &explanation)?;
+    if lines.len() > read.most_answer() {
+        return Err(GuardFault::TooLarge);
+    }
     Ok(Answer {
         verdict,
         output: Output::Made(lines),
@@ -167,6 +171,9 @@ fn reduced(alloc: Global, read: &Asked, marks: &[bool]) -> Result<Answer, GuardF
     let reduction = read.reduce_by(alloc, marks)?;
     let mut lines = Vec::new(alloc);
     let verdict = push_reduction(alloc, &mut lines, &reduction)?;
+    if lines.len() > read.most_answer() {
+        return Err(GuardFault::TooLarge);
+    }
     Ok(Answer {
         verdict,
         output: Output::Made(lines),
