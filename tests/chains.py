@@ -341,7 +341,7 @@ def rows():
     for examples in (chains, windows_and_tags, moments, policies, order, sizes, long_lists, long_lists_of_tags,
                      malformed):
         for name, text, (status, answer) in examples():
-            yield f"chains.py: {name}", "check", text.encode(), status, answer.encode()
+            yield f"chains:{name}", "check", text.encode(), status, answer.encode()
     for name, text, reduced, why in explained():
         for command, (status, answer) in (("reduce", reduced), ("explain", why), ("check", decided(why[1]))):
-            yield f"chains.py: {name}", command, text.encode(), status, answer.encode()
+            yield f"chains:{name}", command, text.encode(), status, answer.encode()

@@ -3,28 +3,24 @@
 
 The model is a second implementation, in Python: it was written from docs/FORMATS.md and not from the sources of the program. Each case
 is a command and a text of `generators/`; of `check_accepted` also a text with rows. Some cases are questions to a guard, a few ask for a
-string inside a value, and a few are calls of the library that are misuse, or nearly. First the model answers the rows of the tables beside
-this file, whose answers were worked out by hand. The library answers each case, by a few processes that load it, and the program itself at
-least a tenth of them. Status and answer must be those of the model, octet by octet. In some cases the library gets a buffer that is too
-small.
+string inside a value, and a few are calls of the library that are misuse, or nearly. The library answers each case, by a few processes
+that load it, and the program itself at least a tenth of them. Status and answer must be those of the model, octet by octet. In some cases
+the library gets a buffer that is too small.
 
 A case depends on the seed and its number alone. A case that differs is made smaller and printed; `--first NUMBER --cases 1` with the
-same seed repeats it. The tables at the end say how often each row of the document's tables came. Each word of docs/FORMATS.md for a fault,
-a cause, a stop or a status must be in a row. With 20,000 cases or more it is a failure if a row never came, or if the program answered
-less than a tenth of them. With 20,000 cases it is a failure if they take more than a minute of four processors.
+same seed repeats it. The tables at the end say how often each row of the document's tables came. With 20,000 cases or more it is a failure
+if a row never came, or if the program answered less than a tenth of them. `test_model.py` makes these comparisons among the tests.
 
-Needs a C compiler, which makes a shared object of the library in a temporary folder. Build the program by `rt run` in crates/spki, and
-the library by crates/spki_c/archive.py. The last line counts the commands and what is asked of guards, strings and calls that are misuse
-as one each, and each of these tests as one: the tables, the words, the rows that came, the part of the program, the time.
-Usage: tests/differential.py [--cases N] [--seed S] [--first NUMBER] [--jobs J] [PROGRAM [LIBRARY]]
+Needs a C compiler, which makes a shared object of the library in a temporary folder; with --program-alone there is no library, and the
+program answers each text. The last line counts the commands and what is asked of guards, strings and calls that are misuse as one each,
+and the tests of the run as a whole: the rows that came, the part of the program.
+Usage: tests/differential.py [--cases N] [--seed S] [--first NUMBER] [--jobs J] [--program-alone] [PROGRAM [LIBRARY]]
 """
 import argparse
 import ctypes
 import multiprocessing
 import os
 import random
-import re
-import resource
 import secrets
 import signal
 import subprocess
@@ -32,9 +28,10 @@ import sys
 import tempfile
 import time
 from collections import Counter
-from collections.abc import Iterator, MutableSequence
+from collections.abc import MutableSequence
 from dataclasses import dataclass
 from multiprocessing.connection import Connection
+from typing import Any
 
 from generators import tags
 from generators.asked import Call, Question, StringQuestion
@@ -48,24 +45,16 @@ from model import coverage, laws
 from model.answers import COMMANDS, Answer, ModelDisagrees, answer, check_accepted
 from model.calls import DONE, TOO_SMALL, call, of_library, string_at, too_small
 from model.guard import MISUSES, WISHES
-from support import LIBRARY as ARCHIVE, PROGRAM, tables_here, text_of
-from tables import rows_of
+from support import LIBRARY as ARCHIVE, PROGRAM
 
-SECONDS = 60
+# A case that takes so long is taken for one that does not end.
+SECONDS = 600
 SECONDS_QUIET = 300
 # The program answers the texts of each 7th case. Questions to guards, calls and rows apart are no texts, so this is over a tenth of all.
 PROGRAM_EVERY, PROGRAM_SHARE = 7, 0.1
 SMALL_BUFFER_EVERY = 5
 WHOLE_COVERAGE = 20_000
 SHOWN = 5
-# 20,000 cases take at most so many seconds of so many processors, or of all if there are fewer. Other programs on the machine do not count.
-SECONDS_WANTED, PROCESSORS = 60, 4
-# Words of docs/FORMATS.md for faults, causes, stops and statuses. In a line, and in the column for faults of a table, one may be any word.
-WORD = re.compile(r"\b(?:[A-Z][a-z]+(?:[A-Z][a-z]+)+|SPKI_[A-Z_]+)\b")
-LINE, ANY_WORD = re.compile(r"`(refused [^`]*)`"), re.compile(r"\b[A-Z]\w+")
-# The heading of a column is no such word. Allocations fail in tests/hostile.py and tests/clibrary.py.
-ELSEWHERE = {"Fault", "Faults", "Memory", "SPKI_NO_MEMORY"}
-
 
 # ---- who is asked
 
@@ -83,7 +72,7 @@ class Library:
     def __init__(self, path: str) -> None:
         loaded = ctypes.CDLL(path)
         self.guards = GuardDoor(loaded)
-        buffer = [ctypes.c_char_p, ctypes.c_size_t, ctypes.POINTER(ctypes.c_size_t)]
+        buffer: list[Any] = [ctypes.c_char_p, ctypes.c_size_t, ctypes.POINTER(ctypes.c_size_t)]
         self.by_command, self.by_rows = loaded.spki_answer, loaded.spki_check_accepted
         self.by_command.argtypes = [ctypes.c_uint32, ctypes.c_char_p, ctypes.c_size_t, *buffer]
         self.by_rows.argtypes = [ctypes.c_char_p, ctypes.c_size_t, ctypes.c_char_p, ctypes.c_size_t, *buffer]
@@ -162,9 +151,9 @@ def shown(said: Answer) -> str:
 
 @dataclass
 class Comparison:
-    """What is compared: the model, the library, and the program."""
+    """What is compared: the model, the library if there is one, and the program."""
 
-    library: Library
+    library: Library | None
     program: str
     seed: str
     by_program: int = 0
@@ -172,13 +161,15 @@ class Comparison:
 
     def wrong(self, asked: Asked, number: int) -> str | None:
         """What is wrong with the answers to a question, None if nothing is. The number says who is asked beside the library."""
+        if isinstance(asked, Question):
+            return self.wrong_of_text(asked, number)
+        if self.library is None:
+            return None
         if isinstance(asked, Call):
             return self.library.call(asked)
-        if isinstance(asked, StringQuestion):
-            return self.library.finds(asked)
-        return self.wrong_of_guard(asked, number) if isinstance(asked, GuardQuestion) else self.wrong_of_text(asked, number)
+        return self.library.finds(asked) if isinstance(asked, StringQuestion) else self.wrong_of_guard(self.library, asked, number)
 
-    def wrong_of_guard(self, asked: GuardQuestion, number: int) -> str | None:
+    def wrong_of_guard(self, library: Library, asked: GuardQuestion, number: int) -> str | None:
         """What is wrong with the answer of a guard."""
         try:
             wanted = model_guard_answer(asked)
@@ -186,9 +177,9 @@ class Comparison:
             return f"the model disagrees with itself: {why}"
         except Exception as why:
             return f"the model fails: {why!r}"
-        found = self.library.guards.answers(asked, wanted)
+        found = library.guards.answers(asked, wanted)
         if not found and number % SMALL_BUFFER_EVERY == 0 and asked.oddity not in MISUSES.counts:
-            found = self.library.guards.keeps_back(asked)
+            found = library.guards.keeps_back(asked)
         return found and f"{found}, the model {shown(wanted[0])}"
 
     def wrong_of_text(self, asked: Question, number: int) -> str | None:
@@ -202,27 +193,13 @@ class Comparison:
         except Exception as why:
             # an error of the model is shown with its case, and does not end the run
             return f"the model fails: {why!r}"
-        found = self.library.answers(asked, wanted)
-        if not found and number % SMALL_BUFFER_EVERY == 0:
+        found = self.library.answers(asked, wanted) if self.library else None
+        if not found and self.library and number % SMALL_BUFFER_EVERY == 0:
             found = self.library.keeps_back(asked, wanted)
-        if not found and number % PROGRAM_EVERY == 0 and asked.command != "check_accepted":
+        if not found and (not self.library or number % PROGRAM_EVERY == 0) and asked.command != "check_accepted":
             self.by_program += 1
             found = program_answers(self.program, asked, wanted)
         return found and f"{found}, the model {shown(wanted)}"
-
-
-def rows_that_differ() -> list[str]:
-    """Where the model's answer is not that of a row of the tables."""
-    differ = []
-    for table in tables_here():
-        for place, command, text, status, said in rows_of(table):
-            try:
-                met = answer(command, text)
-            except ModelDisagrees as why:
-                met = (0, str(why).encode())
-            if met != (status, said):
-                differ.append(f"{place}: {command}: the model answers {shown(met)}")
-    return differ
 
 
 # ---- many cases
@@ -253,10 +230,12 @@ def compare(comparison: Comparison, first: int, cases: int, jobs: int) -> tuple[
         process.start()
         sender.close()
         workers.append((results, process))
-    differ, ended, rows = [], [], Counter()
+    differ: list[int] = []
+    ended: list[int] = []
+    rows: Counter = Counter()
     for job, (results, process) in enumerate(workers):
         while not results.poll(SECONDS_QUIET):
-            print(f"about {sum(at) // jobs - first} cases so far", flush=True)
+            print(f"about {sum(at.get_obj()) // jobs - first} cases so far", flush=True)
         try:
             numbers, counts, by_program = results.recv()
             differ += numbers
@@ -268,11 +247,15 @@ def compare(comparison: Comparison, first: int, cases: int, jobs: int) -> tuple[
     return sorted(differ), ended, rows
 
 
-def show(comparison: Comparison, number: int) -> None:
-    """Prints a case that differs, after it was made smaller."""
+def told(comparison: Comparison, number: int) -> str:
+    """What is said of a case that differs, after it was made smaller."""
     least = smaller(question(comparison.seed, number), lambda it: comparison.wrong(it, number) is not None)
-    print(f"case {number}: {least!r:.4000}")
-    print(f"    {comparison.wrong(least, number)}")
+    return f"case {number}: {least!r:.4000}\n    {comparison.wrong(least, number)}"
+
+
+def told_of_ended(seed: str, number: int) -> str:
+    """What is said of a case that ends the process that asks."""
+    return f"case {number} ends the process that asks, or takes over {SECONDS} seconds: {question(seed, number)!r:.2000}"
 
 
 def tables(rows: Counter) -> list[str]:
@@ -290,6 +273,12 @@ def shared_object(archive: str, folder: str) -> str:
     return path
 
 
+def compared(program: str, archive: str | None, folder: str, seed: str) -> Comparison:
+    """What is compared: a program and a library, or a program alone."""
+    library = Library(shared_object(os.path.abspath(archive), folder)) if archive else None
+    return Comparison(library, os.path.abspath(program), seed)
+
+
 def arguments() -> argparse.Namespace:
     """What the command line asks for."""
     asked = argparse.ArgumentParser(description="Compares the library and the program with the model on generated texts.")
@@ -297,73 +286,45 @@ def arguments() -> argparse.Namespace:
     asked.add_argument("--seed", default=secrets.token_hex(4))
     asked.add_argument("--first", type=int, default=0, help="the number of the first case")
     asked.add_argument("--jobs", type=int, default=os.cpu_count() or 1)
+    asked.add_argument("--program-alone", action="store_true", help="there is no library")
     asked.add_argument("program", nargs="?", default=PROGRAM)
     asked.add_argument("library", nargs="?", default=ARCHIVE)
     return asked.parse_args()
 
 
-def fault_columns(text: str) -> Iterator[str]:
-    """What is in the columns for faults of the tables in a text."""
-    column: int | None = None
-    for line in text.splitlines():
-        cells = line.split("|") if line.startswith("|") else []
-        if not cells:
-            column = None
-        elif column is None:
-            column = next((place for place, cell in enumerate(cells) if cell.strip().startswith("Fault")), len(cells))
-        yield from cells[column:][:1] if column is not None else []
+def never_came(rows: Counter) -> list[str]:
+    """The rows of the model that no case has reached."""
+    return [f"{title}: {name}" for (title, name), count in rows.items() if not count]
 
 
-def words_without_row() -> list[str]:
-    """The words of docs/FORMATS.md for faults, causes, stops and statuses that no row of the model has."""
-    text = text_of("docs/FORMATS.md")
-    named = {*WORD.findall(text), *(word for part in (*LINE.findall(text), *fault_columns(text)) for word in ANY_WORD.findall(part))}
-    rows = {word for table in coverage.TABLES for row in table.counts for word in re.findall(r"\w+", row)}
-    return sorted(named - rows - ELSEWHERE)
-
-
-def processor_seconds() -> float:
-    """The time that this process and those that it has started and awaited have taken, as of so many processors."""
-    used = [resource.getrusage(whose) for whose in (resource.RUSAGE_SELF, resource.RUSAGE_CHILDREN)]
-    return sum(it.ru_utime + it.ru_stime for it in used) / min(PROCESSORS, len(os.sched_getaffinity(0)))
-
-
-def faults_of_run(cases: int, rows: Counter, by_program: int, took: float) -> list[str]:
+def faults_of_run(cases: int, rows: Counter, by_program: int) -> list[str]:
     """What is wrong with the run as a whole, at most one text for each test."""
-    never = [f"{title}: {name}" for (title, name), count in rows.items() if not count]
-    tests = [("docs/FORMATS.md names words that are in no row", words_without_row()),
-             ("never came", never if cases >= WHOLE_COVERAGE else []),
-             (f"the program answered {by_program} cases, less than a tenth", cases >= WHOLE_COVERAGE and by_program < PROGRAM_SHARE * cases),
-             (f"they took {took:.0f} seconds, more than {SECONDS_WANTED}", cases == WHOLE_COVERAGE and took > SECONDS_WANTED)]
-    return [f"{what}{': ' + '; '.join(found) if isinstance(found, list) else ''}" for what, found in tests if found]
+    never, is_whole = never_came(rows), cases >= WHOLE_COVERAGE
+    tests = [(f"never came: {'; '.join(never)}", is_whole and never),
+             (f"the program answered {by_program} cases, less than a tenth", is_whole and by_program < PROGRAM_SHARE * cases)]
+    return [what for what, is_found in tests if is_found]
 
 
 def main() -> int:
-    asked = arguments()
-    for path in (asked.program, asked.library):
-        if not os.path.exists(path):
-            sys.exit(f"{path} is not there: build the program by rt run in crates/spki, the library by crates/spki_c/archive.py")
+    asked, begun = arguments(), time.monotonic()
+    archive = None if asked.program_alone else asked.library
+    for name in (asked.program, *([archive] if archive else [])):
+        if not os.path.exists(name):
+            sys.exit(f"{name} is not there: tests/run builds it")
     print(f"{asked.cases} cases from {asked.first} on, seed {asked.seed}", flush=True)
-    begun = time.monotonic()
-    by_hand = rows_that_differ()
-    print(*by_hand, sep="\n", end="\n" if by_hand else "")
     with tempfile.TemporaryDirectory() as folder:
-        comparison = Comparison(Library(shared_object(os.path.abspath(asked.library), folder)), os.path.abspath(asked.program), asked.seed)
+        comparison = compared(asked.program, archive, folder, asked.seed)
         differ, ended, rows = compare(comparison, asked.first, asked.cases, min(asked.jobs, asked.cases))
-        took, by_program = processor_seconds(), comparison.by_program
         print(*tables(rows), sep="\n")
-        for number in differ[:SHOWN]:
-            show(comparison, number)
-    for number in ended:
-        print(f"case {number} ends the process that asks, or takes over {SECONDS} seconds: {question(asked.seed, number)!r:.2000}")
-    faults = faults_of_run(asked.cases, rows, by_program, took)
+        print("".join(f"{told(comparison, number)}\n" for number in differ[:SHOWN]), end="")
+    print("".join(f"{told_of_ended(asked.seed, number)}\n" for number in ended), end="")
+    faults = faults_of_run(asked.cases, rows, comparison.by_program)
     print(*faults, sep="\n", end="\n" if faults else "")
-    print(f"{asked.cases} cases, seed {asked.seed}: {len(differ)} differ, {len(ended)} do not end, the program answered {by_program}; "
-          f"{time.monotonic() - begun:.0f} seconds, {took:.0f} by the time of the processors")
-    commands = {question(asked.seed, number).command for number in [*differ, *ended]}
-    failed = len(commands) + bool(by_hand) + len(faults)
-    # (of each command, of rows apart, of each call for guards, of calls and of strings; the tables, and the four tests of the run)
-    print(f"{len(COMMANDS) + 1 + len(WISHES) + 2 + 1 + 4 - failed} passed, {failed} failed")
+    print(f"{asked.cases} cases, seed {asked.seed}: {len(differ)} differ, {len(ended)} do not end, the program answered "
+          f"{comparison.by_program}; {time.monotonic() - begun:.0f} seconds")
+    failed = len({question(asked.seed, number).command for number in [*differ, *ended]}) + len(faults)
+    # (of each command, of rows apart, of each call for guards, of calls and of strings; and the two tests of the run)
+    print(f"{len(COMMANDS) + 1 + len(WISHES) + 2 + 2 - failed} passed, {failed} failed")
     return 1 if failed else 0
 
 

@@ -55,8 +55,8 @@ def rows_of(question: GuardQuestion) -> list[cases.Row]:
 
 def model_answer(question: GuardQuestion) -> tuple[Answer, list[Signed]]:
     """What the model answers."""
-    request = question.request if question.strings is None else question.strings
-    moment = question.moment if question.seconds is None else question.seconds
+    request: bytes | tuple[bytes, ...] = question.request if question.strings is None else question.strings
+    moment: bytes | int = question.moment if question.seconds is None else question.seconds
     wish = question.command.removeprefix("guard ")
     return answer(wish, question.acl, Parts(question.sequence, question.key, request, moment), rows_of(question), question.policy,
                   question.limits, question.oddity)
@@ -135,8 +135,7 @@ class GuardDoor:
             status = self.signed(*at, room, count.value, byref(count), octets, needed.value, byref(needed))
         if status != DONE:
             return status, None
-        pairs = (("key", "key_length"), ("message", "message_length"), ("value", "value_length"))
-        return status, [tuple(ctypes.string_at(getattr(it, place), getattr(it, length)) for place, length in pairs) for it in room[:count.value]]
+        return status, [signed_at(it) for it in room[:count.value]]
 
     def listed_oddly(self, odd: str, at: At) -> int:
         """The status of `spki_guard_signed` where its room or its place for the count is misuse."""
@@ -185,6 +184,12 @@ class GuardDoor:
             if (status, count.value, needed.value) != (guard.kept_back(row), *wanted) or any(bytes(room)) or any(octets.raw):
                 return False
         return True
+
+
+def signed_at(listed: Listed) -> Signed:
+    """The key, the message and the value of a signature that is listed."""
+    return (ctypes.string_at(listed.key, listed.key_length), ctypes.string_at(listed.message, listed.message_length),
+            ctypes.string_at(listed.value, listed.value_length))
 
 
 def asked_of(question: GuardQuestion) -> Asked:

@@ -126,4 +126,4 @@ def octets(words):
 def rows():
     for rows_of in (lengths, longer_in_canonical_form, lists_in_lists, deep_parts, nodes, products):
         for name, command, text, (status, answer) in rows_of():
-            yield f"limits.py: {name}", command, octets(text), status, octets(answer)
+            yield f"limits: {name}", command, octets(text), status, octets(answer)

@@ -32,4 +32,4 @@ def rows(intersected):
     for ones, others in product(sets(), sets()):
         left = tuple(met[pair] for pair in product(ones, others) if met[pair] != NOTHING)
         text = intersection(written(ones), written(others))
-        yield f"pairs.py: {text.decode()}", "intersect", text, 0, gathered(left) + b"\n"
+        yield f"pairs: {text.decode()}", "intersect", text, 0, gathered(left) + b"\n"

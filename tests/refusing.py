@@ -6,7 +6,8 @@ import subprocess
 import tempfile
 from dataclasses import dataclass
 
-SECONDS = 30
+# A run that takes so long is ended.
+SECONDS = 600
 PIPE = 65536
 NAMES = ("memory", "read", "write")
 
@@ -31,7 +32,7 @@ class Ended:
         return f"status {self.status}, {self.out[:80]!r}, {self.err[:80]!r}"
 
 
-def built(folder):
+def compiled(folder):
     """The library that refuses, compiled."""
     library = os.path.join(folder, "refuse.so")
     source = os.path.join(os.path.dirname(os.path.abspath(__file__)), "refuse.c")

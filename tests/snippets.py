@@ -1,7 +1,6 @@
 """The snippets of README.md in C, Rust and Python. Each is put, as it stands on the page, into a program that asks what it says, with the
 library for C. The keys and signatures are words, as in examples/c/decide.c."""
 import os
-import shutil
 import subprocess
 import sys
 import textwrap
@@ -132,9 +131,3 @@ def otherwise(language, snippet, room, program, library):
         if (done.returncode, done.stdout) != (0, wanted):
             return f"the snippet in {language}, of {given[-1]}: status {done.returncode}, {done.stdout!r}, and not {wanted!r}"
     return None
-
-
-def missing(language):
-    """The program that a snippet needs and that is not there, or None."""
-    needs = {"C": "cc", "Rust": "cargo"}.get(language)
-    return needs if needs and not shutil.which(needs) else None

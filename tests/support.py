@@ -72,8 +72,8 @@ def braced(octets):
 
 
 def tables_here():
-    """The tables of tests/, by their paths."""
-    return [os.path.join(TESTS, name) for name in sorted(os.listdir(TESTS)) if name.endswith(".table")]
+    """The tables of tests/tables/, by their paths."""
+    return [os.path.join(TESTS, "tables", name) for name in sorted(os.listdir(os.path.join(TESTS, "tables")))]
 
 
 def loaded(path):

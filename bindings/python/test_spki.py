@@ -1,6 +1,6 @@
 """What the module `spki` does beside the library: the two steps, its buffers, its types and its exceptions.
 
-`tests/bindings.py` compares the answers to many questions with the program's. Usage: SPKI_LIBRARY=../../crates/spki_c/out/libspki_c.so
+`tests/test_bindings.py` compares the answers to many questions with the program's. Usage: SPKI_LIBRARY=../../crates/spki_c/out/libspki_c.so
 python3 -m unittest
 """
 import hashlib

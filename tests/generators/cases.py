@@ -38,7 +38,7 @@ class Builder:
     def __init__(self, rng: random.Random) -> None:
         self.rng = rng
         self.keys = rng.sample(KEYS, 3)
-        self.lengths = (0, 0, 1, 1, 1, 2, 2, 2, 3, 3, 4, 5, 8)
+        self.lengths: tuple[int, ...] = (0, 0, 1, 1, 1, 2, 2, 2, 3, 3, 4, 5, 8)
         self.request = tags.request(rng)
         self.moment = rng.choice(MOMENTS)
         self.hashed: list[Value] = []
@@ -112,8 +112,8 @@ class Builder:
         defines = bool(subject.names) != self.wrong()
         given = self.next_subject(0.15 if defines else 0.35)
         ignored = ("display", "issuer-info", "subject-info", "comment")
-        version = [(word("version"), Atom(b"0"))] if self.wrong(0.08) else []
-        follows = (word("subject"), self.subject(given, issuer))
+        version: list[Value] = [(word("version"), Atom(b"0"))] if self.wrong(0.08) else []
+        follows: Value = (word("subject"), self.subject(given, issuer))
         if defines:
             name = subject.names[0] if subject.names and not self.wrong() else self.rng.choice(NAMES)
             needed = [*version, (word("issuer"), (word("name"), principal, Atom(name))), follows]
@@ -133,7 +133,8 @@ class Builder:
         algorithm = self.rng.choice((b"sha1", b"sha256", b"sha512"))
         digest = DIGESTS[algorithm](octets if not self.wrong(0.015) else b"").digest()
         signer = self.principal(key if not self.wrong(0.015) else self.rng.choice(self.keys), 0.15)
-        value = self.rng.choice((Atom(b"sig"), (Atom(b"rsa"), Atom(b"\x01\xff")), Atom(b"sig", b"h"), ()))
+        values: tuple[Value, ...] = (Atom(b"sig"), (Atom(b"rsa"), Atom(b"\x01\xff")), Atom(b"sig", b"h"), ())
+        value = self.rng.choice(values)
         self.items.append(certificate)
         if self.wrong(0.1):
             self.items.append((word("do"), word("hash"), Atom(algorithm)))

@@ -99,7 +99,8 @@ def deep_tags(rng: random.Random) -> bytes:
         lists = (Atom(b"f"), lists)
     sets: Value = (Atom(b"*"), Atom(b"prefix"), Atom(b"a"))
     for _ in range(rng.choice((rng.randrange(1, 32), 30))):
-        members = [(Atom(b"f"), sets), rng.choice(((Atom(b"f"), (Atom(b"*"),)), (Atom(b"f"),), (Atom(b"*"), Atom(b"set")), Atom(b"f")))]
+        others: tuple[Value, ...] = ((Atom(b"f"), (Atom(b"*"),)), (Atom(b"f"),), (Atom(b"*"), Atom(b"set")), Atom(b"f"))
+        members = [(Atom(b"f"), sets), rng.choice(others)]
         rng.shuffle(members)
         sets = (Atom(b"*"), Atom(b"set"), *members)
     both = [lists, sets]

@@ -53,6 +53,7 @@ def everything_nearly() -> Iterator[Value]:
     """The case with each structure replaced by each form that it may nearly have, and with each member in front that has a fault."""
     for path in places(EVERYTHING):
         structure = part(EVERYTHING, path)
+        assert isinstance(structure, tuple)
         head = head_of(structure) or b""
         yield from (replaced(EVERYTHING, path, (form,)) for form in NEARLY.get(head, ()))
         yield from (replaced(EVERYTHING, path, ((structure[0], member, *structure[1:]),)) for member in FIRST.get(head, ()))

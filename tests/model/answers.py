@@ -132,9 +132,8 @@ def read_rows(text: bytes) -> list[Row]:
 
 def intersect(value: Value) -> bytes:
     """The intersection of the two tags of `(intersect A B)`, as it is printed."""
-    if head_of(value) != b"intersect" or len(value) != 3:
+    if not isinstance(value, tuple) or head_of(value) != b"intersect" or len(value) != 3:
         raise refusal("intersect Shape", "intersect Shape")
-    assert isinstance(value, tuple)
     both = []
     for number, member in enumerate(value[1:], 1):
         try:
@@ -176,10 +175,11 @@ def decide(case: Case, rows: list[Row]) -> Answer:
         LINES.used("no: evidence")
         return NO, b"no\n"
     for number, entry in enumerate(case.entries, 1):
-        leaves = [reduction.of_entry(entry), *steps]
+        own = reduction.of_entry(entry)
+        leaves = [own, *steps]
         is_granted = derivations.grants_from_left(leaves, case.key, case.request, case.moment, case.strict)
         if len(steps) <= SHORT_CHAIN:
-            try_brackets(leaves[0], steps, case, is_granted)
+            try_brackets(own, steps, case, is_granted)
         if is_granted:
             LINES.used("yes entry")
             return YES, b"yes entry %d\n" % number

@@ -47,7 +47,7 @@ def has_outer_structure(value: Value) -> bool:
         return False
     assert isinstance(value, tuple)
     parts, policy = value[1:7], value[7:]
-    return (tuple(map(head_of, parts)) == PARTS and all(len(part) == 2 for part in parts[3:])
+    return (tuple(map(head_of, parts)) == PARTS and all(isinstance(part, tuple) and len(part) == 2 for part in parts[3:])
             and (not policy or len(policy) == 1 and is_policy(policy[0])))
 
 
@@ -63,6 +63,7 @@ def read(value: Value) -> Case:
         raise CaseFault("case Shape")
     assert isinstance(value, tuple)
     acl, accepted, sequence, key, request, at = value[1:7]
+    assert isinstance(key, tuple) and isinstance(request, tuple) and isinstance(at, tuple)
     strict = len(value) == 8
     POLICIES.used("strict" if strict else "none")
     return Case(

@@ -72,8 +72,10 @@ def together(a: Tag, b: Tag) -> Tag:
         return b if isinstance(a, Star) else a
     if isinstance(a, AnyOf) or isinstance(b, AnyOf):
         return of_sets(members_of(a), members_of(b))
-    if isinstance(a, Text) or isinstance(b, Text):
-        return of_string(a, b) if isinstance(a, Text) else of_string(b, a)
+    if isinstance(a, Text):
+        return of_string(a, b)
+    if isinstance(b, Text):
+        return of_string(b, a)
     if isinstance(a, Prefix) and isinstance(b, Prefix):
         return of_prefixes(a, b)
     if isinstance(a, Range) and isinstance(b, Range):

@@ -3,7 +3,7 @@
 A value is a string, which is an `Atom`, or a list, which is a tuple of values.
 """
 from dataclasses import dataclass
-from typing import Union
+from typing import TypeGuard, Union
 
 WHITESPACE = b" \t\n\v\f\r"
 LONGEST = 1_048_576
@@ -58,13 +58,12 @@ def canonical(value: Value) -> bytes:
     return b"(" + b"".join(map(canonical, value)) + b")"
 
 
-def is_plain(value: Value, *words: bytes) -> bool:
+def is_plain(value: Value, *words: bytes) -> TypeGuard[Atom]:
     """Whether a value is a string without a display hint, and one of the words if any are given."""
     return isinstance(value, Atom) and value.hint is None and (not words or value.body in words)
 
 
 def head_of(value: Value) -> bytes | None:
     """The word that a list is headed by: its first member, if that is a string without a display hint. Else None."""
-    if isinstance(value, tuple) and value and is_plain(value[0]):
-        return value[0].body
-    return None
+    first = value[0] if isinstance(value, tuple) and value else None
+    return first.body if first is not None and is_plain(first) else None

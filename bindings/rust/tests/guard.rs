@@ -1,4 +1,4 @@
-//! What the crate does beside the library: the two steps, its buffers and its types. `tests/bindings.py` at the top of the repository
+//! What the crate does beside the library: the two steps, its buffers and its types. `tests/test_bindings.py` at the top of the repository
 //! compares the answers to many questions with the program's.
 
 use spki::{Decision, Guard, Limits, Moment, Policy, Question, Reason, Refusal, Request};

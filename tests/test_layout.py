@@ -1,23 +1,16 @@
-#!/usr/bin/env python3
-"""Tests before anything is proved what else would fail late: that each source file is laid out as `rt fmt` lays it out, that pyflakes
-and pycodestyle find nothing in the scripts in Python (Debian: pyflakes3, pycodestyle; left out if they are not there), that each wrong
+"""Tests before anything is proved what else would fail late: that each source file is laid out as `rt fmt` lays it out, that each wrong
 body can be applied, that CONTRIBUTING.md lists those of must-fail/, and that its line on the last run of `.ci/deep` names a commit of the
-history, no failure, and the seed of 1,000,000 texts or that only wrong bodies were tried.
-
-Prints what fails, and how many wrong bodies were added since that run, which has not tried them; the last line counts.
-Usage: tests/layout.py
-"""
+history, no failure, and the seed of 1,000,000 texts or that only wrong bodies were tried."""
 import glob
 import os
 import re
-import shutil
 import subprocess
-import sys
+import unittest
+from typing import Any
 
 from support import TOP as ROOT
 from support import loaded, text_of, toolchain
 
-CHECKERS = [["pyflakes3"], ["pycodestyle", "--max-line-length", "150"]]
 WRONG_BODIES = ("crates/*/wrong/*.edit", "crates/*/must-fail/*.edit")
 # A line of an edit that the toolchain reads.
 READ = re.compile(r"(file: |old: |new:|$)")
@@ -37,19 +30,6 @@ def misplaced(rattle):
         done = subprocess.run([rattle, "fmt", "--check", *files], stdout=subprocess.PIPE, stderr=subprocess.STDOUT, text=True)
         if done.returncode:
             yield f"{os.path.relpath(crate, ROOT)}: run rt fmt there\n{done.stdout[:600]}"
-
-
-def flawed():
-    """What the checkers say of the scripts."""
-    scripts = [path for path in git("ls-files", "-co", "--exclude-standard").stdout.splitlines()
-               if path.endswith(".py") or path in (".ci/deep", "tools/locate")]
-    for checker in CHECKERS:
-        if shutil.which(checker[0]) is None:
-            print(f"{checker[0]} is not there (Debian: {checker[0]}): the scripts in Python are not checked by it")
-            continue
-        done = subprocess.run([*checker, *scripts], cwd=ROOT, stdout=subprocess.PIPE, stderr=subprocess.STDOUT, text=True)
-        if done.returncode:
-            yield done.stdout
 
 
 def unfit(rt):
@@ -73,29 +53,31 @@ def git(*words):
     return subprocess.run(["git", *words], cwd=ROOT, stdout=subprocess.PIPE, stderr=subprocess.DEVNULL, text=True)
 
 
-def deep_run():
-    """What is wrong with the line on the last run, or None. Prints how many wrong bodies were added since."""
-    found = LINE.findall(text_of("CONTRIBUTING.md"))
-    if len(found) != 1:
-        return "CONTRIBUTING.md has not one line on the last run of .ci/deep, with 0 failed, and the seed of 1,000,000 texts or 'wrong bodies only'"
-    commit = found[0]
-    if git("rev-parse", "--is-shallow-repository").stdout.strip() != "false":
-        print("this is no whole clone, so the commit of the last run is not looked for")
-        return None
-    if git("merge-base", "--is-ancestor", commit, "HEAD").returncode:
-        return f"the last run of .ci/deep was of {commit}, which is not in the history"
-    added = git("diff", "--diff-filter=A", "--find-renames", "--name-only", commit, "--", *WRONG_BODIES).stdout.split()
-    print(f"{len(added)} wrong bodies were added since the last run of .ci/deep, of {commit}")
-    return None
+class Layout(unittest.TestCase):
+    """The sources, the wrong bodies, and the line on the last run of `.ci/deep`."""
 
+    rt: Any
 
-def main():
-    rt = toolchain()
-    faults = [*misplaced(rt.rtlib.RATTLE), *flawed(), *unfit(rt), *filter(None, [deep_run()])]
-    print(*faults, sep="\n", end="\n" if faults else "")
-    print(f"{0 if faults else 1} passed, {len(faults)} failed")
-    return 1 if faults else 0
+    @classmethod
+    def setUpClass(cls) -> None:
+        cls.rt = toolchain()
 
+    def test_sources(self) -> None:
+        faults = list(misplaced(self.rt.rtlib.RATTLE))
+        self.assertEqual(faults, [], "\n".join(faults))
 
-if __name__ == "__main__":
-    sys.exit(main())
+    def test_wrong_bodies(self) -> None:
+        faults = list(unfit(self.rt))
+        self.assertEqual(faults, [], "\n".join(faults))
+
+    def test_last_deep_run(self) -> None:
+        commits = LINE.findall(text_of("CONTRIBUTING.md"))
+        self.assertEqual(len(commits), 1, "CONTRIBUTING.md has not one line on the last run of .ci/deep, with 0 failed, and the seed of 1,000,000 "
+                                          "texts or 'wrong bodies only'")
+        if git("rev-parse", "--is-shallow-repository").stdout.strip() != "false":
+            print("note: this is no whole clone, so the commit of the last run of .ci/deep is not looked for")
+            return
+        is_known = not git("merge-base", "--is-ancestor", commits[0], "HEAD").returncode
+        self.assertTrue(is_known, f"the last run of .ci/deep was of {commits[0]}, which is not in the history")
+        added = git("diff", "--diff-filter=A", "--find-renames", "--name-only", commits[0], "--", *WRONG_BODIES).stdout.split()
+        print(f"note: {len(added)} wrong bodies were added since the last run of .ci/deep, of {commits[0]}")

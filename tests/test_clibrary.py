@@ -1,31 +1,28 @@
-#!/usr/bin/env python3
 """Asks the libraries for C what the program is asked, and compares the answers octet by octet.
 
 `clibrary.c` asks each question with no buffer, with one of no octets, with one octet too few, with enough and with more, between
 canaries, with failing allocations, and then from several threads with 256 KiB of stack each: every command on each file of
-`examples/`, the rows of the tables beside this file, and cases whose rows of accepted signatures stand apart. It asks the static
-library and the shared one, each also under AddressSanitizer and, where it is there, under valgrind.
+`examples/`, the rows of the tables, and cases whose rows of accepted signatures stand apart. It asks the static
+library and the shared one, each also under AddressSanitizer and under valgrind.
 `cguard.c` opens guards and asks them: right and wrong marks, misuse, buffers that are too small, requests by strings, failing
 allocations, and one guard from several threads. It too uses each library, also under AddressSanitizer, valgrind and helgrind. No
 allocation of the shared library fails, since it calls the C library itself.
 
 The symbols of both libraries must be the calls that the header declares and no others, and what they need a few functions of the C
-library. `linked.c` is compiled as C11 and, where there is a compiler, as C++17, with all warnings, and linked with either library; and
-with two copies of the static one. Builds the libraries if they are not there. Needs a C compiler.
-
-Prints what fails; the last line counts.
-Usage: tests/clibrary.py [PROGRAM [LIBRARY]]        the shared library lies beside the static LIBRARY
-"""
+library. `linked.c` is compiled as C11 and as C++17, with all warnings, and linked with either library; and with two copies of the static
+one."""
+import functools
 import os
 import re
 import shutil
 import subprocess
-import sys
 import tempfile
 from concurrent.futures import ThreadPoolExecutor
 
-from support import COMMANDS, EXAMPLES, PROGRAM, TESTS, TOP, canonical, is_compiled, read, run, tables_here
-from tables import rows_of
+import built
+import needs
+from rows import rows_of
+from support import COMMANDS, EXAMPLES, TESTS, TOP, canonical, is_compiled, read, run, tables_here
 
 CRATE = os.path.join(TOP, "crates", "spki_c")
 CHECK_ACCEPTED = 7
@@ -57,7 +54,7 @@ def questions_of_files(program):
     texts = {}
     for folder, _, names in os.walk(EXAMPLES):
         for name in names:
-            if name.endswith(("sexp", ".table")):
+            if name.endswith("sexp"):
                 with open(os.path.join(folder, name), "rb") as file:
                     texts[name] = file.read()
     asked = [(f"{command} {name}", number, text, b"") for name, text in sorted(texts.items()) for number, command in enumerate(COMMANDS)]
@@ -139,22 +136,14 @@ def answers_of(words, questions):
     return done.returncode, done.stderr.decode(errors="replace"), answers
 
 
-def agree(words, questions):
+def otherwise(words, questions):
+    """What is wrong with the answers of `clibrary.c`, or nothing."""
     status, said, answers = answers_of(words, questions)
     if status or len(answers) != len(questions):
-        print(f"status {status} after {len(answers)} of {len(questions)} answers: {said[-2000:]}")
-        return False
-    faults = [(place, met, wanted) for ((place, *_), wanted), met in zip(questions, answers) if met != wanted]
-    for place, met, wanted in faults:
-        print(f"{place}: status {met[0]} and {met[1][:200]!r}, and not {wanted[0]} and {wanted[1][:200]!r}")
-    return not faults
-
-
-def has_compiler(words):
-    """Whether a compiler is there; says so if not."""
-    if not shutil.which(words[0]):
-        print(f"{words[0]} is not there: what it compiles is left out")
-    return bool(shutil.which(words[0]))
+        return f"status {status} after {len(answers)} of {len(questions)} answers: {said[-2000:]}"
+    faults = [(asked, met, wanted) for (asked, wanted), met in zip(questions, answers) if met != wanted]
+    return "\n".join(f"{place}\ntext   {text[:1000]!r} {rows[:500]!r}\nwanted {wanted[0]} {wanted[1][:300]!r}\ncame   {met[0]} {met[1][:300]!r}"
+                     for (place, _, text, rows), met, wanted in faults)
 
 
 def symbols(library, *words):
@@ -175,35 +164,6 @@ def calls_of_header():
         return set(CALL.findall(header.read()))
 
 
-def has_its_symbols(library, *words):
-    """Whether a library gives the calls of the header and no other symbol, and needs only what is known."""
-    calls = calls_of_header()
-    given = symbols(library, *words, "--defined-only", "--extern-only")
-    # (the weak ones are those that the C compiler puts into each shared object)
-    needed = {name for name in symbols(library, *words, "--undefined-only") if not name.startswith(("_ITM_", "__cxa_finalize", "__gmon_start__"))}
-    if given != calls or not needed <= NEEDED:
-        print(f"{library}: gives {sorted(given)} and not {sorted(calls)}, and needs {sorted(needed - NEEDED)} beside what is known")
-    return given == calls and needed <= NEEDED
-
-
-def links(room, archive, shared):
-    """By name, whether `linked.c` is compiled and linked in each way and ends with 0."""
-    source, other = os.path.join(TESTS, "linked.c"), os.path.join(room, "libother.a")
-    renamed = [f"--redefine-sym={name}=other_{name}" for name in calls_of_header()]
-    subprocess.run(["objcopy", *renamed, archive, other], check=True)
-    by_name = ["-L", os.path.dirname(shared), "-lspki_c", beside(shared)]
-    results = {}
-    for language, words in {"C11": ["cc", "-std=c11"], "C++17": ["g++", "-std=c++17", "-x", "c++"]}.items():
-        if not has_compiler(words):
-            continue
-        for way, more in {"static": [archive], "shared": by_name, "two archives": ["-DOTHER", archive, other]}.items():
-            to = os.path.join(room, "linked")
-            flags = [it for it in more if it.startswith("-D")]
-            made = is_compiled(*words, *WARNINGS, *flags, "-o", to, source, "-x", "none", *(it for it in more if it not in flags))
-            results[f"linked.c as {language}, {way}"] = made and subprocess.run([to], timeout=SECONDS).returncode == 0
-    return results
-
-
 def worked_question():
     """The list, the sequence and the key of the case of the first certificate."""
     with open(os.path.join(EXAMPLES, "delegation.sexp"), encoding="ascii") as file:
@@ -212,94 +172,159 @@ def worked_question():
     return [case[at[0]:at[1]].strip(), case[at[2]:at[3]].strip(), case[at[3]:at[4]].strip()[len("(key "):-1]]
 
 
-def holds_guards(words, threads, refusals):
-    """Whether `cguard.c` finds that guards do as the header says."""
-    done = subprocess.run([*words, str(threads), str(refusals), *worked_question()], capture_output=True, text=True, timeout=SECONDS)
-    if done.returncode:
-        print(f"{' '.join(words)}: status {done.returncode}: {done.stderr[-2000:]}")
-    return not done.returncode
-
-
 def beside(shared):
     """The word for the linker that lets a program find a shared object in its folder."""
     return f"-Wl,-rpath,{os.path.dirname(shared)}"
 
 
-def guards_held(archive, shared, room):
-    """By name, whether guards that are held do as the header says, with each library and under what looks for faults of memory."""
-    source = os.path.join(TESTS, "cguard.c")
-    libraries = {"static": ([archive], REFUSALS), "shared": ([shared, beside(shared)], 0)}
-    has_valgrind = has_compiler(VALGRIND)
-    results = {}
-    for name, (library, refusals) in libraries.items():
-        for way, more in {name: [], f"{name}, AddressSanitizer": SANITIZED}.items():
-            to = os.path.join(room, f"cguard-{way}")
-            made = is_compiled(*STRICT, *more, "-o", to, source, *library, *REFUSING)
-            results[f"guards held, {way}"] = made and holds_guards([to], THREADS, refusals)
-        if has_valgrind:
-            to = os.path.join(room, f"cguard-{name}")
-            results[f"guards held, {name}, valgrind"] = holds_guards([*VALGRIND, to], 2, refusals)
-            results[f"guards held, {name}, helgrind"] = holds_guards([*HELGRIND, to], THREADS, 0)
-    return results
-
-
-def asks_all(program, asker, ways):
-    """By name, whether the library answers all questions as it should; those in `ways`, which begin with the words to run it by, only
-    the short ones."""
+@functools.cache
+def asked_of(program):
+    """The questions of the files, of the tables and of rows apart, each with what is wanted."""
     files, tables = questions_of_files(program), list(questions_of_tables())
-    apart = list(rows_apart(program, files + tables))
-    results = {}
-    for name, questions in {"files": files, "tables": tables, "rows apart": apart, "worked rows": list(worked_rows())}.items():
-        print(f"{name}: {len(questions)} questions")
-        results[name] = agree([asker, str(THREADS), str(REFUSALS)], questions)
-    short = [each for each in files + apart if len(each[0][2]) + len(each[0][3]) <= SHORT] + list(worked_rows())[:8]
-    for name, words in ways.items():
-        print(f"{name}: {len(short)} questions")
-        results[name] = agree(words, short)
-    return results
+    return files, tables, list(rows_apart(program, files + tables))
 
 
-def results_of(program, archive, shared, room):
-    """By name, what passed."""
-    source = os.path.join(TESTS, "clibrary.c")
-    libraries = {"static": [archive], "shared": [shared, beside(shared)]}
-    askers = {name: os.path.join(room, f"clibrary-{name}") for name in libraries}
-    sanitized = {name: f"{asker}-sanitized" for name, asker in askers.items()}
-    results = {"symbols of the archive": has_its_symbols(archive), "symbols of the shared object": has_its_symbols(shared, "--dynamic"),
-               "compiling": all(is_compiled(*STRICT, "-o", askers[name], source, *library, *REFUSING)
-                                and is_compiled(*STRICT, *SANITIZED, "-o", sanitized[name], source, *library, *REFUSING)
-                                for name, library in libraries.items()),
-               **links(room, archive, shared)}
-    if not results["compiling"]:
-        return results
-    # (of the shared object no request for memory is refused: it calls the C library itself)
-    refused = {"static": str(REFUSALS), "shared": "0"}
-    ways = {"shared": [askers["shared"], "2", "0"]}
-    ways.update({f"{name}, under AddressSanitizer": [sanitized[name], "0", refused[name]] for name in libraries})
-    if has_compiler(VALGRIND):
-        ways.update({f"{name}, under valgrind": [*VALGRIND, askers[name], "2", refused[name]] for name in libraries})
-    results.update(guards_held(archive, shared, room))
-    results.update(asks_all(program, askers["static"], ways))
-    return results
+def short_of(program):
+    """The short questions, which slow ways are asked."""
+    files, _, apart = asked_of(program)
+    return [each for each in files + apart if len(each[0][2]) + len(each[0][3]) <= SHORT] + list(worked_rows())[:8]
 
 
-def main():
-    program = os.path.abspath(sys.argv[1] if len(sys.argv) > 1 else PROGRAM)
-    archive = os.path.abspath(sys.argv[2] if len(sys.argv) > 2 else os.path.join(CRATE, "out", "libspki_c.a"))
-    shared = archive.removesuffix(".a") + ".so"
-    if not os.path.exists(archive) or not os.path.exists(shared):
-        subprocess.run([os.path.join(CRATE, "archive.py")], check=True)
-    with tempfile.TemporaryDirectory() as room:
-        # (programs ask for the shared object by its own name)
-        link = os.path.join(room, os.path.basename(shared))
-        shutil.copy(shared, link)
-        os.symlink(link, os.path.join(room, soname_of(shared)))
-        results = results_of(program, archive, link, room)
-    failed = [name for name, passed in results.items() if not passed]
-    print("".join(f"failed: {name}\n" for name in failed), end="")
-    print(f"{len(results) - len(failed)} passed, {len(failed)} failed")
-    return 1 if failed else 0
+# ---- the tests
 
 
-if __name__ == "__main__":
-    sys.exit(main())
+@needs.needs(*needs.LIBRARY)
+class OfC(built.OfLibrary):
+    """A test of the libraries for C, in a folder of its own. Programs ask for the shared one by its own name."""
+
+    @classmethod
+    def setUpClass(cls):
+        super().setUpClass()
+        room = tempfile.TemporaryDirectory()
+        cls.addClassCleanup(room.cleanup)
+        cls.room, link = room.name, os.path.join(room.name, os.path.basename(cls.shared))
+        shutil.copy(cls.shared, link)
+        os.symlink(link, os.path.join(cls.room, soname_of(cls.shared)))
+        cls.shared = link
+        cls.linking = {"static": [cls.library], "shared": [cls.shared, beside(cls.shared)]}
+
+    def compiled(self, source, library, *more):
+        """A program in C, compiled with a library."""
+        to = os.path.join(self.room, f"{source}-{library}-{len(more)}")
+        if not os.path.exists(to):
+            words = [*STRICT, *more, "-o", to, os.path.join(TESTS, source), *self.linking[library], *REFUSING]
+            self.assertTrue(is_compiled(*words), f"{source} is not compiled")
+        return to
+
+    def answers(self, questions, library, *more, by=(), threads=2, refusals=0):
+        """The answers to questions must be those that are wanted."""
+        print(f"{len(questions)} questions")
+        fault = otherwise([*by, self.compiled("clibrary.c", library, *more), str(threads), str(refusals)], questions)
+        self.assertEqual(fault, "", fault)
+
+
+class Links(OfC):
+    """The symbols, and how programs link."""
+
+    def has_its_symbols(self, library, *words):
+        """A library must give the calls of the header and no other symbol, and need only what is known."""
+        given = symbols(library, *words, "--defined-only", "--extern-only")
+        self.assertEqual(given, calls_of_header())
+        # (the weak ones are those that the C compiler puts into each shared object)
+        needed = {name for name in symbols(library, *words, "--undefined-only") if not name.startswith(("_ITM_", "__cxa_finalize", "__gmon_start__"))}
+        self.assertLessEqual(needed, NEEDED)
+
+    def test_symbols_of_the_archive(self):
+        self.has_its_symbols(self.library)
+
+    def test_symbols_of_the_shared_object(self):
+        self.has_its_symbols(self.shared, "--dynamic")
+
+    def links(self, *words):
+        """`linked.c` must be compiled and linked in each way, and end with 0."""
+        other, to = os.path.join(self.room, "libother.a"), os.path.join(self.room, "linked")
+        renamed = [f"--redefine-sym={name}=other_{name}" for name in calls_of_header()]
+        subprocess.run(["objcopy", *renamed, self.library, other], check=True)
+        by_name = ["-L", os.path.dirname(self.shared), "-lspki_c", beside(self.shared)]
+        for way, flags, more in (("static", [], [self.library]), ("shared", [], by_name), ("two archives", ["-DOTHER"], [self.library, other])):
+            with self.subTest(way):
+                made = is_compiled(*words, *WARNINGS, *flags, "-o", to, os.path.join(TESTS, "linked.c"), "-x", "none", *more)
+                self.assertTrue(made and subprocess.run([to], timeout=SECONDS).returncode == 0)
+
+    def test_c11(self):
+        self.links("cc", "-std=c11")
+
+    @needs.needs("g++")
+    def test_cpp17(self):
+        self.links("g++", "-std=c++17", "-x", "c++")
+
+
+class Answers(OfC):
+    """`clibrary.c`: the answers to texts."""
+
+    def test_files(self):
+        self.answers(asked_of(self.program)[0], "static", threads=THREADS, refusals=REFUSALS)
+
+    def test_tables(self):
+        self.answers(asked_of(self.program)[1], "static", threads=THREADS, refusals=REFUSALS)
+
+    def test_rows_apart(self):
+        self.answers(asked_of(self.program)[2], "static", threads=THREADS, refusals=REFUSALS)
+
+    def test_worked_rows(self):
+        self.answers(list(worked_rows()), "static", threads=THREADS, refusals=REFUSALS)
+
+    def test_shared(self):
+        self.answers(short_of(self.program), "shared")
+
+
+class UnderAddressSanitizer(OfC):
+    """The answers to short questions of each library, under AddressSanitizer."""
+
+    def test_static(self):
+        self.answers(short_of(self.program), "static", *SANITIZED, threads=0, refusals=REFUSALS)
+
+    def test_shared(self):
+        self.answers(short_of(self.program), "shared", *SANITIZED, threads=0)
+
+
+@needs.needs("valgrind")
+class StaticUnderValgrind(OfC):
+    """The answers of the static library to short questions, under valgrind."""
+
+    def test_answers(self):
+        self.answers(short_of(self.program), "static", by=VALGRIND, refusals=REFUSALS)
+
+
+@needs.needs("valgrind")
+class SharedUnderValgrind(OfC):
+    """The answers of the shared library to short questions, under valgrind."""
+
+    def test_answers(self):
+        self.answers(short_of(self.program), "shared", by=VALGRIND)
+
+
+class Guards(OfC):
+    """`cguard.c`: guards that are held do as the header says, with each library and under what looks for faults of memory."""
+
+    def held(self, library, *more, by=(), threads=THREADS, refusals=0):
+        """Guards must do so with a library."""
+        words = [*by, self.compiled("cguard.c", library, *more), str(threads), str(refusals), *worked_question()]
+        done = subprocess.run(words, capture_output=True, text=True, timeout=SECONDS)
+        self.assertEqual(done.returncode, 0, f"{' '.join(words[:-3])}: {done.stderr[-2000:]}")
+
+
+def add_ways():
+    """Adds the tests of guards with each library in each way. Of the shared library no request for memory is refused: it calls the C
+    library itself."""
+    valgrind = needs.needs("valgrind")
+    for library, refused in (("static", REFUSALS), ("shared", 0)):
+        ways = {"": lambda self, it=library, refused=refused: self.held(it, refusals=refused),
+                "_under_address_sanitizer": lambda self, it=library, refused=refused: self.held(it, *SANITIZED, refusals=refused),
+                "_under_valgrind": valgrind(lambda self, it=library, refused=refused: self.held(it, by=VALGRIND, threads=2, refusals=refused)),
+                "_under_helgrind": valgrind(lambda self, it=library: self.held(it, by=HELGRIND))}
+        for way, test in ways.items():
+            setattr(Guards, f"test_{library}{way}", test)
+
+
+add_ways()

@@ -1,16 +1,14 @@
-#!/usr/bin/env python3
 """Compares the pages for callers, crates/*/CALLING.md, with the sources.
 
 The paragraph before a block of code ends with the block's file: the block stands word for word in that file of crates/test_callers, which
 the gate proves. Each call that the library's lib.rt passes on is named in the row of its file in the table of calls, or is a law of a file
-that has a row. Nothing else is named in a row. Prints what is otherwise; the last line counts blocks and calls.
-
-Usage: tests/calling.py
-"""
+that has a row. Nothing else is named in a row. Each block and each call is a test."""
+import functools
 import glob
 import os
 import re
-import sys
+import unittest
+from collections.abc import Callable
 
 from support import TOP as ROOT, text_of
 
@@ -51,15 +49,20 @@ def calls_in(source):
             yield owner, found[1]
 
 
+@functools.cache
+def calls_at(crate):
+    """The public calls of a crate's sources: each one's file, its type or trait, where it has one, and its name."""
+    paths = [os.path.relpath(file, ROOT) for file in glob.glob(os.path.join(ROOT, "crates", crate, "src", "*.rt"))]
+    return [(path, owner, name) for path in paths for owner, name in calls_in(text_of(path))]
+
+
 def calls_of(crate, item):
     """The calls of an item of a crate: those of a type or a trait, wherever they stand, or the function."""
-    for file in glob.glob(os.path.join(ROOT, "crates", crate, "src", "*.rt")):
-        path = os.path.relpath(file, ROOT)
-        for owner, name in calls_in(text_of(path)):
-            if owner == item:
-                yield path, f"{owner}::{name}", f"{owner}::{name}"
-            elif owner is None and name == item:
-                yield path, name, name
+    for path, owner, name in calls_at(crate):
+        if owner == item:
+            yield path, f"{owner}::{name}", f"{owner}::{name}"
+        elif owner is None and name == item:
+            yield path, name, name
 
 
 def calls(crate, module="lib"):
@@ -104,17 +107,20 @@ def checks(crate):
         yield f"{path}: {shown}", None if (path, shown) in passed_on else "is not passed on"
 
 
-def main():
-    passed, failed = 0, 0
-    for crate in sorted(CRATES):
-        if page_of(crate):
-            for about, fault in checks(crate):
-                passed, failed = passed + (fault is None), failed + (fault is not None)
-                if fault is not None:
-                    print(f"crates/{crate}/CALLING.md: {about}: {fault}")
-    print(f"{passed} passed, {failed} failed")
-    return 1 if failed else 0
+class Pages(unittest.TestCase):
+    """The pages for callers."""
 
 
-if __name__ == "__main__":
-    sys.exit(main())
+def test_of(crate: str, about: str, fault: str | None) -> Callable[[Pages], None]:
+    """The test of something on a page."""
+    return lambda self: self.assertIsNone(fault, f"crates/{crate}/CALLING.md: {about} {fault}")
+
+
+def add_tests() -> None:
+    """Adds the tests of all pages."""
+    for crate in sorted(filter(page_of, CRATES)):
+        for number, (about, fault) in enumerate(checks(crate), 1):
+            setattr(Pages, f"test_calling:{crate}:{number}:{about}", test_of(crate, about, fault))
+
+
+add_tests()

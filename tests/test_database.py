@@ -1,4 +1,3 @@
-#!/usr/bin/env python3
 """Compares decisions by entries in a table, as examples/database/ makes them, with those of a guard of all entries.
 
 - Random lists with entries for keys, hashes and names, and questions with up to three certificates: the answer, the number of the entry
@@ -10,11 +9,7 @@
   are those of a guard of all entries.
 
 The table is in SQLite, and in PostgreSQL where libpq is and a server can be started in a temporary folder, or where the environment variable
-SPKI_POSTGRES has the settings of one: it is not killed then, and the tests use a schema of their own in it, which they drop.
-
-Prints what fails; the last line counts.
-Usage: tests/database.py [LIBRARY]        the shared library lies beside the static LIBRARY
-"""
+SPKI_POSTGRES has the settings of one: it is not killed then, and the tests use a schema of their own in it, which they drop."""
 import hashlib
 import os
 import random
@@ -24,10 +19,12 @@ import tempfile
 import threading
 from concurrent.futures import ThreadPoolExecutor
 
-from support import EXAMPLES, LIBRARY, TOP, canonical
+import built
+import needs
+from support import EXAMPLES, TOP, canonical
 
-SHARED = os.path.abspath(sys.argv[1] if len(sys.argv) > 1 else LIBRARY).removesuffix(".a") + ".so"
-os.environ["SPKI_LIBRARY"] = SHARED
+needs.required(*needs.LIBRARY)
+os.environ["SPKI_LIBRARY"] = built.shared()
 sys.path[1:1] = [os.path.join(EXAMPLES, "database"), os.path.join(TOP, "bindings", "python")]
 import entries  # noqa: E402
 import postgres  # noqa: E402
@@ -37,7 +34,7 @@ import sqlite  # noqa: E402
 KEYS, ENTRIES, QUESTIONS = 12, 150, 1500
 CLIENTS, ROUNDS, TURNS = 4, 25, 20
 # How long clients may take for so many turns.
-SECONDS = 120
+SECONDS = 900
 NOON = b"19:2026-03-01_12:00:00"
 TAG = b"(tag (packages read))"
 REQUEST = (b"packages", b"read", b"/a")
@@ -331,71 +328,76 @@ def entries_refused():
             "a digest of another length": is_refused(entries.entry, b"(hash sha256 abc)", TAG)}
 
 
-def tested(name, opened, empty):
-    """By name, what passed with a table. `empty` makes a new one."""
-    results = {}
-    for seed, policy in enumerate((spki.Policy.STRICT, spki.Policy.OPEN)):
-        empty()
-        results[f"{name}, {policy.name}"] = is_that_of_the_whole(opened(), seed, policy)
-    empty()
-    results[f"{name}, several clients"] = clients_agree(opened)
-    return results
+class Entries(built.OfLibrary):
+    """What makes no entry is refused before it is in a table."""
+
+    def test_entries_refused(self):
+        for name, is_right_so in entries_refused().items():
+            with self.subTest(name):
+                self.assertTrue(is_right_so)
 
 
-def with_sqlite(room):
-    path = os.path.join(room, "entries")
+class Table:
+    """The tests of a table."""
 
-    def empty():
-        for name in (path, path + "-wal", path + "-shm"):
-            if os.path.exists(name):
-                os.remove(name)
+    def opened(self):
+        """The table, opened."""
+        raise NotImplementedError
 
-    results = tested("SQLite", lambda: sqlite.Entries(path), empty)
-    table = sqlite.Entries(path)
-    own = key_of(b"held")
-    table.add(entries.entry(canonical(own), TAG))
-    sqlite.Entries(path).connection.execute("DROP TABLE entries")
-    results["SQLite, the table is gone"] = is_unavailable(entries.Service(table), question(b"(sequence)", own))
-    return results
+    def test_strict(self):
+        self.assertTrue(is_that_of_the_whole(self.opened(), 0, spki.Policy.STRICT))
+
+    def test_open(self):
+        self.assertTrue(is_that_of_the_whole(self.opened(), 1, spki.Policy.OPEN))
+
+    def test_several_clients(self):
+        self.assertTrue(clients_agree(self.opened))
 
 
-def with_postgres(settings, server=None):
-    schema = f"spki_tests_{secrets.token_hex(8)}"
+class Sqlite(Table, built.OfLibrary):
+    """Entries in SQLite."""
 
-    def opened():
-        return postgres.Entries(settings, schema)
+    def setUp(self):
+        room = tempfile.TemporaryDirectory()
+        self.addCleanup(room.cleanup)
+        self.path = os.path.join(room.name, "entries")
 
-    def empty():
-        table = opened()
-        table.drop()
+    def opened(self):
+        return sqlite.Entries(self.path)
+
+    def test_table_that_is_gone(self):
+        table, own = self.opened(), key_of(b"held")
+        table.add(entries.entry(canonical(own), TAG))
+        self.opened().connection.execute("DROP TABLE entries")
+        self.assertTrue(is_unavailable(entries.Service(table), question(b"(sequence)", own)))
+
+
+@needs.needs(*([] if os.environ.get("SPKI_POSTGRES") else [needs.INITDB]))
+class Postgres(Table, built.OfLibrary):
+    """Entries in PostgreSQL. Each test has a schema of its own."""
+
+    @classmethod
+    def setUpClass(cls):
+        super().setUpClass()
+        cls.settings, cls.server = os.environ.get("SPKI_POSTGRES"), None
+        if not cls.settings:
+            cls.server = postgres.Server().__enter__()
+            cls.addClassCleanup(cls.server.__exit__, None, None, None)
+            cls.settings = cls.server.settings
+
+    def setUp(self):
+        self.schema = f"spki_tests_{secrets.token_hex(8)}"
+        table = self.opened()
         table.make()
         table.close()
+        self.addCleanup(lambda: self.opened().drop())
 
-    try:
-        results = tested("PostgreSQL", opened, empty)
-        if server is not None:
-            results.update({f"PostgreSQL, {what}": passed for what, passed in killed(server, opened).items()})
-        return results
-    finally:
-        opened().drop()
+    def opened(self):
+        return postgres.Entries(self.settings, self.schema)
 
-
-def main():
-    results = entries_refused()
-    with tempfile.TemporaryDirectory() as room:
-        results.update(with_sqlite(room))
-    if given := os.environ.get("SPKI_POSTGRES"):
-        results.update(with_postgres(given))
-    elif missing := postgres.missing():
-        print(f"{missing} is not there: PostgreSQL is left out")
-    else:
-        with postgres.Server() as server:
-            results.update(with_postgres(server.settings, server))
-    failed = [name for name, passed in results.items() if not passed]
-    print("".join(f"failed: {name}\n" for name in failed), end="")
-    print(f"{len(results) - len(failed)} passed, {len(failed)} failed")
-    return 1 if failed else 0
-
-
-if __name__ == "__main__":
-    sys.exit(main())
+    def test_server_that_is_killed(self):
+        if self.server is None:
+            return  # (the server of SPKI_POSTGRES is not ours to kill)
+        for name, is_right_so in killed(self.server, self.opened).items():
+            with self.subTest(name):
+                self.assertTrue(is_right_so)

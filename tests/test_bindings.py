@@ -1,41 +1,39 @@
-#!/usr/bin/env python3
 """Asks the bindings of bindings/, in Rust and in Python, what the program is asked, and compares the lines.
 
-Each case of the tables beside this file and of `chains.py` is taken apart, into the access list, the sequence, the key, the request and the
+Each case of the tables and of `chains.py` is taken apart, into the access list, the sequence, the key, the request and the
 moment. A guard is asked of them in two ways: as texts, and, where the request and the moment allow it, with the request by its strings
 and the moment in seconds. The verifier accepts what the case's rows do. `decide`, `explain` and `reduce` must give the lines of `check`,
 `explain` and `reduce` on the case. A case that is refused is asked without its rows: a guard takes none, so it has no fault of them.
 
 Runs the tests of the Python module, mypy over its types, and of the crate its tests, those in its documents, clippy and the formatter. The
 examples `decide.c`, `decide.rs` and `decide.py`, which docs/GUIDE.md quotes, must grant and deny. All must have the version of the file
-VERSION. What needs mypy, cargo or a C compiler is left out if it is not there. Builds the libraries if they are not there.
-
-Prints what fails; the last line counts.
-Usage: tests/bindings.py [PROGRAM [LIBRARY]]        the shared library lies beside the static LIBRARY
-"""
+VERSION."""
+import functools
 import hashlib
 import importlib
 import os
 import re
-import shutil
 import subprocess
 import sys
 import tempfile
+import unittest
 from collections.abc import Iterator
 from concurrent.futures import ThreadPoolExecutor
 from datetime import datetime, timezone
 from typing import NamedTuple
 
+import built
 import chains
+import needs
 from model import answers as model
-from support import EXAMPLES, LIBRARY, TOP, canonical, given_program, on_one_line, read, run, string, tables_here, text_of
-from tables import rows_of
+from rows import rows_of
+from support import EXAMPLES, TOP, canonical, on_one_line, read, run, string, tables_here, text_of
 
 CRATE, RUST, PYTHON = (os.path.join(TOP, *words) for words in (["crates", "spki_c"], ["bindings", "rust"], ["bindings", "python"]))
 COMMANDS = {"decide": "check", "explain": "explain", "reduce": "reduce"}
 NO_CASE = (b"refused form", b"refused case")
 TOO_LARGE = b"refused TooLarge\n"
-SECONDS = 600
+SECONDS = 1800
 
 
 class Asked(NamedTuple):
@@ -115,16 +113,13 @@ def decided(text):
     return model.decide(case, case.rows)[1]
 
 
-def agree(name, asked, answers):
-    """Whether these are the answers that are wanted."""
+def otherwise(asked, answers):
+    """What is wrong with the answers to questions, or nothing."""
     if len(answers) != len(asked):
-        print(f"{name}: {len(answers)} answers to {len(asked)} questions")
-        return False
+        return f"{len(answers)} answers to {len(asked)} questions"
     faults = [(each, met) for each, met in zip(asked, answers) if met != each.wanted]
-    for each, met in faults:
-        print(f"{name}, {each.command}, {each.name}: {met[:200]!r}, and not {each.wanted[:200]!r}")
-    print(f"{name}: {len(asked)} questions, {len(faults)} failed")
-    return not faults
+    return "\n".join(f"{each.command}, {each.name}\ntext   {each.access_list[:300]!r} {each.sequence[:500]!r} {each.key[:200]!r} {each.request!r} "
+                     f"{each.moment!r}\nwanted {each.wanted[:300]!r}\ncame   {met[:300]!r}" for each, met in faults)
 
 
 # ---- Python
@@ -150,25 +145,6 @@ def answered_by_python(spki, asked):
     if asked.command == "decide":
         return f"yes entry {answer.entry}\n".encode() if answer else b"no\n"
     return f"{spelled(answer.reasons()) if asked.command == 'explain' else answer}\n".encode()
-
-
-def python_typed():
-    """By name, whether mypy accepts the types of the module and of its example. Empty if mypy is not there."""
-    if not shutil.which("mypy"):
-        print("mypy is not there (Debian: mypy): the types of the Python module are left out")
-        return {}
-    words = ["mypy", "--strict", "--cache-dir", os.devnull, "spki.py", os.path.join("examples", "decide.py")]
-    return {"the types of the Python module": subprocess.run(words, cwd=PYTHON, timeout=SECONDS).returncode == 0}
-
-
-def python_answers(shared, asked):
-    """By name, whether the tests of the module pass and it answers as it should."""
-    os.environ["SPKI_LIBRARY"] = shared
-    sys.path.append(PYTHON)
-    spki = importlib.import_module("spki")
-    tests = subprocess.run([sys.executable, "-m", "unittest", "--quiet"], cwd=PYTHON, timeout=SECONDS)
-    return {"the tests of the Python module": tests.returncode == 0,
-            "questions through Python": agree("Python", asked, [answered_by_python(spki, each) for each in asked])}
 
 
 # ---- Rust
@@ -198,96 +174,124 @@ def strings_in(octets):
 
 
 def cargo(folder, words, given=None):
-    """What cargo does in the crate, offline and with the libraries of a folder. Prints what it says if it fails."""
+    """What cargo does in the crate, offline and with the libraries of a folder."""
     settings = {**os.environ, "SPKI_LIB_DIR": folder, "RUSTDOCFLAGS": "-D warnings", "CARGO_NET_OFFLINE": "true"}
-    done = subprocess.run(["cargo", *words], cwd=RUST, input=given, capture_output=True, env=settings, timeout=SECONDS)
-    if done.returncode:
-        print(f"cargo {' '.join(words)}: {done.stdout.decode(errors='replace')[-2000:]}{done.stderr.decode(errors='replace')[-2000:]}")
-    return done
+    return subprocess.run(["cargo", *words], cwd=RUST, input=given, capture_output=True, env=settings, timeout=SECONDS)
 
 
-def rust_answers(folder, asked):
-    """By name, whether the crate is well made, its tests pass and it answers as it should."""
-    ways = {"the tests of the crate": ["test", "--quiet"], "its documents": ["doc", "--quiet", "--no-deps"]}
-    tools = {"clippy": ("cargo-clippy", "rust-clippy", ["clippy", "--quiet", "--all-targets", "--", "-D", "warnings"]),
-             "its layout": ("cargo-fmt", "rustfmt", ["fmt", "--check"])}
-    for name, (tool, package, words) in tools.items():
-        if shutil.which(tool):
-            ways[name] = words
-        else:
-            print(f"{tool} is not there (Debian: {package}): {name} is left out")
-    results = {name: cargo(folder, words).returncode == 0 for name, words in ways.items()}
-    done = cargo(folder, ["run", "--quiet", "--example", "asked"], given=b"".join(map(framed, asked)))
-    results["questions through Rust"] = agree("Rust", asked, [line + b"\n" for line in strings_in(done.stdout)])
-    return results
+# ---- the tests
 
 
-# ---- the examples of the guide, and the versions
+class Version(unittest.TestCase):
+    """The version of the bindings."""
+
+    def test_version(self):
+        """The crate, the module and the header have the version of the file VERSION."""
+        met = {"bindings/rust/Cargo.toml": r'^version = "(.*)"$', "bindings/python/spki.py": r'^__version__ = "(.*)"$',
+               "crates/spki_c/spki.h": r'^#define SPKI_VERSION "(.*)"$'}
+        found = {path: re.search(line, text_of(path), re.MULTILINE)[1] for path, line in met.items()}
+        self.assertEqual(found, dict.fromkeys(met, text_of("VERSION").strip()))
 
 
-def examples_of(room, archive, folder):
-    """The words by which each example is run that can be run here."""
-    yield "decide.py", [sys.executable, os.path.join(PYTHON, "examples", "decide.py")]
-    if shutil.which("cc"):
-        to = os.path.join(room, "decide")
-        source = os.path.join(EXAMPLES, "c", "decide.c")
-        flags = ["-std=c11", "-Wall", "-Wextra", "-Wpedantic", "-Werror", "-I", CRATE]
-        made = subprocess.run(["cc", *flags, "-o", to, source, archive], timeout=SECONDS)
-        yield "decide.c", [to if made.returncode == 0 else "false"]
-    if shutil.which("cargo"):
-        cargo(folder, ["build", "--quiet", "--example", "decide"])
-        yield "decide.rs", [os.path.join(RUST, "out", "debug", "examples", "decide")]
+@functools.cache
+def asked_of(program):
+    """The questions, which two tests ask."""
+    return questions(program)
 
 
-def example_decides(room, name, words, shared):
-    """Whether an example grants the request of `delegation.sexp` to its key, and to no other."""
-    with open(os.path.join(EXAMPLES, "delegation.sexp"), "rb") as file:
-        case = chains.canonical(file.read().decode())
-    _, access_list, _, sequence, (_, key), *_ = read(case)
-    paths = [os.path.join(room, part) for part in ("acl", "sequence", "key")]
-    settings = {**os.environ, "PYTHONPATH": PYTHON, "SPKI_LIBRARY": shared}
-    well = True
-    for holder, wanted in [(key, "granted\n"), ([b"public-key", [b"test", b"c"]], "denied\n")]:
-        for path, value in zip(paths, (access_list, sequence, holder)):
-            with open(path, "wb") as file:
-                file.write(canonical(value))
-        done = subprocess.run([*words, *paths, "ftp", "host"], capture_output=True, text=True, env=settings, timeout=SECONDS)
-        if done.stdout != wanted:
-            print(f"{name} of {on_one_line(holder)}: {done.stdout!r} {done.stderr[-500:]!r}, and not {wanted!r}")
-            well = False
-    return well
+@needs.needs(*needs.LIBRARY)
+class Binding(built.OfLibrary):
+    """A test of a binding, which finds the library by its folder."""
+
+    @classmethod
+    def setUpClass(cls):
+        super().setUpClass()
+        os.environ["SPKI_LIBRARY"] = cls.shared
+        cls.folder = os.path.dirname(cls.library)
+
+    def decides(self, *words):
+        """An example must grant the request of `delegation.sexp` to its key, and to no other."""
+        with open(os.path.join(EXAMPLES, "delegation.sexp"), "rb") as file:
+            case = chains.canonical(file.read().decode())
+        _, access_list, _, sequence, (_, key), *_ = read(case)
+        with tempfile.TemporaryDirectory() as room:
+            paths = [os.path.join(room, part) for part in ("acl", "sequence", "key")]
+            for holder, wanted in [(key, "granted\n"), ([b"public-key", [b"test", b"c"]], "denied\n")]:
+                for path, value in zip(paths, (access_list, sequence, holder)):
+                    with open(path, "wb") as file:
+                        file.write(canonical(value))
+                done = subprocess.run([*words, *paths, "ftp", "host"], capture_output=True, text=True, timeout=SECONDS,
+                                      env={**os.environ, "PYTHONPATH": PYTHON})
+                self.assertEqual(done.stdout, wanted, f"{on_one_line(holder)}: {done.stderr[-500:]}")
 
 
-def is_one_version():
-    """Whether the crate, the module and the header have the version of the file VERSION."""
-    version = text_of("VERSION").strip()
-    met = {"bindings/rust/Cargo.toml": r'^version = "(.*)"$', "bindings/python/spki.py": r'^__version__ = "(.*)"$',
-           "crates/spki_c/spki.h": r'^#define SPKI_VERSION "(.*)"$'}
-    wrong = [path for path, line in met.items() if re.search(line, text_of(path), re.MULTILINE)[1] != version]
-    print("".join(f"{path} has not the version {version}\n" for path in wrong), end="")
-    return not wrong
+class InPython(Binding):
+    """The module in Python."""
+
+    def test_module(self):
+        """The tests of the module pass."""
+        done = subprocess.run([sys.executable, "-m", "unittest", "--quiet"], cwd=PYTHON, timeout=SECONDS, capture_output=True, text=True)
+        self.assertEqual(done.returncode, 0, done.stderr)
+
+    @needs.needs("mypy")
+    def test_types(self):
+        words = ["mypy", "--strict", "--cache-dir", os.devnull, "spki.py", os.path.join("examples", "decide.py")]
+        done = subprocess.run(words, cwd=PYTHON, timeout=SECONDS, capture_output=True, text=True)
+        self.assertEqual(done.returncode, 0, done.stdout)
+
+    def test_questions(self):
+        sys.path.append(PYTHON)
+        spki = importlib.import_module("spki")
+        asked = asked_of(self.program)
+        fault = otherwise(asked, [answered_by_python(spki, each) for each in asked])
+        self.assertEqual(fault, "", fault)
+
+    def test_example(self):
+        self.decides(sys.executable, os.path.join(PYTHON, "examples", "decide.py"))
 
 
-def main():
-    program = given_program()
-    archive = os.path.abspath(sys.argv[2] if len(sys.argv) > 2 else LIBRARY)
-    shared = archive.removesuffix(".a") + ".so"
-    if not os.path.exists(archive) or not os.path.exists(shared):
-        subprocess.run([os.path.join(CRATE, "archive.py")], check=True)
-    asked = questions(program)
-    results = {"the version": is_one_version(), **python_typed(), **python_answers(shared, asked)}
-    if shutil.which("cargo"):
-        results.update(rust_answers(os.path.dirname(archive), asked))
-    else:
-        print("cargo is not there (Debian: cargo): the crate of bindings/rust is left out")
-    with tempfile.TemporaryDirectory() as room:
-        for name, words in examples_of(room, archive, os.path.dirname(archive)):
-            results[name] = example_decides(room, name, words, shared)
-    failed = [name for name, passed in results.items() if not passed]
-    print("".join(f"failed: {name}\n" for name in failed), end="")
-    print(f"{len(results) - len(failed)} passed, {len(failed)} failed")
-    return 1 if failed else 0
+class InC(Binding):
+    """The example in C."""
+
+    def test_example(self):
+        with tempfile.TemporaryDirectory() as room:
+            to, source = os.path.join(room, "decide"), os.path.join(EXAMPLES, "c", "decide.c")
+            flags = ["-std=c11", "-Wall", "-Wextra", "-Wpedantic", "-Werror", "-I", CRATE]
+            subprocess.run(["cc", *flags, "-o", to, source, self.library], timeout=SECONDS, check=True)
+            self.decides(to)
 
 
-if __name__ == "__main__":
-    sys.exit(main())
+@needs.needs("cargo")
+class InRust(Binding):
+    """The crate in Rust."""
+
+    def does(self, *words, given=None):
+        """What cargo writes, which must end well."""
+        done = cargo(self.folder, words, given)
+        self.assertEqual(done.returncode, 0, f"cargo {' '.join(words)}: {(done.stdout + done.stderr).decode(errors='replace')[-4000:]}")
+        return done.stdout
+
+    def test_crate(self):
+        """The tests of the crate pass."""
+        self.does("test", "--quiet")
+
+    def test_documents(self):
+        self.does("doc", "--quiet", "--no-deps")
+
+    @needs.needs("cargo-clippy")
+    def test_lints(self):
+        self.does("clippy", "--quiet", "--all-targets", "--", "-D", "warnings")
+
+    @needs.needs("cargo-fmt")
+    def test_layout(self):
+        self.does("fmt", "--check")
+
+    def test_questions(self):
+        asked = asked_of(self.program)
+        lines = strings_in(self.does("run", "--quiet", "--example", "asked", given=b"".join(map(framed, asked))))
+        fault = otherwise(asked, [line + b"\n" for line in lines])
+        self.assertEqual(fault, "", fault)
+
+    def test_example(self):
+        self.does("build", "--quiet", "--example", "decide")
+        self.decides(os.path.join(RUST, "out", "debug", "examples", "decide"))

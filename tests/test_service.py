@@ -1,21 +1,17 @@
-#!/usr/bin/env python3
 """Drives examples/c/service.c, the service in C, with keys and certificates that `openssl` makes, and compares what it answers.
 
 The keys, the list and the certificates are those of examples/signed/run.py. Each question is sent to one process of the service: right
 ones, certificates with a wrong signature, another key at the login, certificates that have expired, a nonce that was used, requests and
 sequences that try to run into the next part, and more than the limits allow. The service is compiled without warnings, and driven again
-under AddressSanitizer and, where it is there, under valgrind. Needs a C compiler, `openssl` and libcrypto's header.
-
-Prints what fails; the last line counts.
-Usage: tests/service.py [PROGRAM [LIBRARY]]
-"""
+under AddressSanitizer and under valgrind."""
 import os
-import shutil
 import subprocess
 import sys
 import tempfile
 
-from support import EXAMPLES, LIBRARY, given_program, is_compiled
+import built
+import needs
+from support import EXAMPLES, is_compiled
 
 # (examples/signed/ has a module of this file's name)
 sys.path.insert(0, os.path.join(EXAMPLES, "signed"))
@@ -117,14 +113,8 @@ class Client:
         return self.process.wait(SECONDS)
 
 
-def is_answered(remark, met, wanted):
-    if met != wanted:
-        print(f"{remark}: {met!r}, and not {wanted!r}")
-    return met == wanted
-
-
 def logins(story, client):
-    """By remark, whether a login that is not right is refused: the signatures are right, and of something else."""
+    """By remark, the answer to a login and the one that is wanted: the signatures are right, and of something else."""
     carol, right = story.carol, story.sequence(signed(story.to_carol, story.bob))
     seen = carol.sign(message(SERVICE, client.nonce))
     answers = {"the nonce is signed": (client.ask(right, carol.text, seen, READ), YES),
@@ -134,29 +124,29 @@ def logins(story, client):
         answers[remark] = client.ask(right, carol.text, carol.sign(made(client.nonce)), READ), NO_LOGIN
     answers["a bit is changed"] = client.ask(right, carol.text, changed_bit(carol.sign(message(SERVICE, client.nonce))), READ), NO_LOGIN
     answers["there is no signature"] = client.ask(right, carol.text, b"", READ), NO_LOGIN
-    return {remark: is_answered(remark, *each) for remark, each in answers.items()}
+    return answers
 
 
 def driven(words, story, path):
-    """By remark, what the service answers as it should."""
+    """By remark, what the service answers and what is wanted."""
     client = Client([*words, path])
     results = {}
     for remark, sequence, key, signer, request, wanted in questions(story):
         signature = signer.sign(message(SERVICE, client.nonce))
-        results[remark] = is_answered(remark, client.ask(sequence, key, signature, request), wanted)
+        results[remark] = client.ask(sequence, key, signature, request), wanted
     results.update(logins(story, client))
-    results["the end of the input"] = is_answered("the end of the input", client.end(), 0)
+    results["the end of the input"] = client.end(), 0
     for remark, sent in {"no number": b"x\n", "too many strings": b"17\n", "too many octets": b"1\n65537\n",
                          "a number below 0": b"-1\n"}.items():
         client = Client([*words, path])
         client.process.stdin.write(sent)
         client.process.stdin.flush()
-        results[remark] = is_answered(remark, (client.answer(), client.end()), ("", 3))
+        results[remark] = (client.answer(), client.end()), ("", 3)
     return results
 
 
 def lists_refused(words, room):
-    """By name, whether a list that is none ends the service."""
+    """By name, how the service ends on a list that is none, and how it should."""
     path = os.path.join(room, "wrong")
     results = {}
     for name, text, wanted in [("an entry without a tag", "(acl (entry (public-key (test a))))", f"{path}: refused acl 1 Shape\n"),
@@ -167,38 +157,42 @@ def lists_refused(words, room):
             with open(path, "w", encoding="ascii") as file:
                 file.write(text)
         done = subprocess.run([*words, path if text is not None else room], input="", capture_output=True, text=True, timeout=SECONDS)
-        results[name] = is_answered(name, (done.returncode, done.stdout, wanted and done.stderr), (2, "", wanted))
+        results[name] = (done.returncode, done.stdout, wanted and done.stderr), (2, "", wanted)
     return results
 
 
-def results_of(library, room):
-    """By name, what passed."""
-    service, sanitized = os.path.join(room, "service"), os.path.join(room, "sanitized")
-    results = {"compiling": is_compiled(*STRICT, "-o", service, SOURCE, library, "-lcrypto")
-               and is_compiled(*STRICT, *SANITIZED, "-o", sanitized, SOURCE, library, "-lcrypto")}
-    if not results["compiling"]:
-        return results
-    story, path = LastingStory(room), os.path.join(room, "acl")
-    with open(path, "w", encoding="ascii") as file:
-        file.write(story.access_list)
-    ways = {"": [service], "under AddressSanitizer: ": [sanitized]}
-    if shutil.which("valgrind"):
-        ways["under valgrind: "] = [*VALGRIND, service]
-    for way, words in ways.items():
-        results.update({way + name: passed for name, passed in {**driven(words, story, path), **lists_refused(words, room)}.items()})
-    return results
+@needs.needs("openssl", "openssl/evp.h", *needs.LIBRARY)
+class Service(built.OfLibrary):
+    """The service as it is, under AddressSanitizer, and under valgrind."""
 
+    @classmethod
+    def setUpClass(cls):
+        super().setUpClass()
+        room = tempfile.TemporaryDirectory()
+        cls.addClassCleanup(room.cleanup)
+        cls.room, tools.SPKI = room.name, cls.program
+        cls.story, cls.path = LastingStory(cls.room), os.path.join(cls.room, "acl")
+        with open(cls.path, "w", encoding="ascii") as file:
+            file.write(cls.story.access_list)
 
-def main():
-    tools.SPKI = given_program()
-    library = os.path.abspath(sys.argv[2] if len(sys.argv) > 2 else LIBRARY)
-    with tempfile.TemporaryDirectory() as room:
-        results = results_of(library, room)
-    failed = [name for name, passed in results.items() if not passed]
-    print("".join(f"failed: {name}\n" for name in failed), end="")
-    print(f"{len(results) - len(failed)} passed, {len(failed)} failed")
-    return 1 if failed else 0
+    def compiled(self, *more):
+        """The service, compiled without warnings."""
+        service = os.path.join(self.room, self.id())
+        self.assertTrue(is_compiled(*STRICT, *more, "-o", service, SOURCE, self.library, "-lcrypto"), "service.c is not compiled")
+        return service
 
+    def answers(self, *words):
+        """The service must answer each question as it should, and end on lists that are none."""
+        for remark, (met, wanted) in {**driven(words, self.story, self.path), **lists_refused(words, self.room)}.items():
+            with self.subTest(remark):
+                self.assertEqual(met, wanted, f"{remark}: wanted {wanted!r}, came {met!r}")
 
-if __name__ == "__main__":
-    sys.exit(main())
+    def test_service(self):
+        self.answers(self.compiled())
+
+    def test_under_address_sanitizer(self):
+        self.answers(self.compiled(*SANITIZED))
+
+    @needs.needs("valgrind")
+    def test_under_valgrind(self):
+        self.answers(*VALGRIND, self.compiled())

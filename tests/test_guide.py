@@ -1,4 +1,3 @@
-#!/usr/bin/env python3
 """Does what README.md, docs/GUIDE.md and the examples of docs/spki.1 say, each in an empty folder, and compares the answers.
 
 A fenced block `sexp NAME`, `sh NAME` or `python NAME` of README.md and the guide is a file. It is written at its place on the page, and
@@ -7,41 +6,39 @@ cannot be run until a command permits it. If examples/ has a file of this name, 
 
 In a block `console`, and in the manual's blocks, a line that begins with `$ ` is a command of the shell. A line with `> ` continues it.
 The lines up to the next command are what it should write. The commands of a page run unchanged, one after the other in one shell, with
-the program as `spki` and tools/locate as `locate`. They run once in `sh`, and once in `bash` if it is there.
+the program as `spki` and tools/locate as `locate`. They run once in `sh`, and once in `bash`.
 
 An indented block below a paragraph that begins with `**C.**`, `**Rust.**` or `**Python.**` is a snippet: snippets.py compiles it and runs
 it. The lines of another indented block are commands, which must succeed and print what INDENTED says. They run in a copy of what they
-name. The command of the toolchain, `rt try`, runs in this repository, where it takes about a minute.
+name. The command of the toolchain, `rt try`, runs in this repository, where it takes about a minute. It is not run again while the crates
+below the program, the toolchain and what it reads are the same.
 
 These commands are left out:
 
 - `crates/spki_c/archive.py`, since it builds the library that this test is given.
-- `./decide ..`, which is the usage of three programs. tests/bindings.py runs them.
-- Those in tables. They build, install, prove or test, and most take minutes to hours. `.ci/run` runs tests/installed.py and
-  tests/packaged.py, which install. The scripts of the other rows are parts of `.ci/run` or `.ci/deep`.
-- Those of other pages, such as examples/README.md, which this test does not read.
-
-Snippets and indented commands, except `rt try`, need the library, and those in C and Rust their compilers. What is not there is named.
-Prints each command that answers otherwise; the last line counts.
-
-Build the program first (`rt run` in crates/spki), and the library by crates/spki_c/archive.py.
-Usage: tests/guide.py [PROGRAM [LIBRARY]]
-"""
+- `./decide ..`, which is the usage of three programs. tests/test_bindings.py runs them.
+- Those in tables. They build, install, prove or test, and most take minutes to hours. tests/test_installed.py and tests/test_packaged.py
+  install. The scripts of the other rows are parts of `.ci/run` or `.ci/deep`.
+- Those of other pages, such as examples/README.md, which this test does not read."""
 import itertools
 import os
 import re
 import shlex
 import shutil
 import subprocess
-import sys
 import tempfile
 import textwrap
+import unittest
+from collections.abc import Callable, Iterator
 
+import built
+import building
+import needs
 import snippets
-from support import LIBRARY, TOP, given_program
+from support import TOP, text_of
 
 BLOCK = re.compile(r"^```(\w+)(?: (\S+))?\n(.*?)^```$", re.MULTILINE | re.DOTALL)
-SECONDS = 60
+SECONDS = 900
 END = "---- end of command ----"
 # The folders of the examples that pages quote. tests/bindings.py runs them.
 PROGRAMS = ("examples/c", "bindings/rust/examples", "bindings/python/examples")
@@ -56,7 +53,8 @@ INDENTED = {
     "cd examples/c && cc -std=c11 -o service -I ../../crates/spki_c service.c ../../crates/spki_c/out/libspki_c.a -lcrypto": "",
     "./service acl.sexp": r"nonce [0-9a-f]{64}\n",
     "./decide acl.sexp sequence key.sexp packages read /builds/web/index.html": None}
-HEADER = "openssl/evp.h"
+PAGES = ("README.md", "docs/GUIDE.md", "docs/spki.1")
+SHELLS = ("sh", "bash")
 
 
 def commands(text):
@@ -87,11 +85,8 @@ def program_of(name):
 
 
 def steps_of_manual(page):
-    """The manual's commands, from its blocks without filling. Those with `openssl` are left out if it is not there."""
+    """The manual's commands, from its blocks without filling."""
     for block in re.findall(r"^\.nf\n(.*?)^\.fi$", page, re.MULTILINE | re.DOTALL):
-        if "openssl" in block and not shutil.which("openssl"):
-            print("openssl is not there (Debian: openssl): the manual's example with it is left out")
-            continue
         yield from commands(textwrap.dedent(block).replace("\\-", "-").replace("\\(aq", "'"))
 
 
@@ -127,23 +122,6 @@ def is_as_in_examples(kind, name, text):
     return text in whole if kind == "quotation" else text == whole
 
 
-def run_page(shell, name, steps, program):
-    """How many of a page's commands answer as it says, and how many otherwise."""
-    with open(os.path.join(TOP, name), encoding="utf-8") as page:
-        found = list(steps(page.read()))
-    wanted = [(command, answer) for kind, command, answer in found if kind == "command"]
-    others = [file for kind, file, text in found if kind != "command" and not is_as_in_examples(kind, file, text)]
-    print("".join(f"{name}: {file} is not as in examples/\n" for file in others), end="")
-    answers = outputs_of(shell, found, program)
-    failed = len(others)
-    answers += ["nothing"] * (len(wanted) + 1 - len(answers))
-    for (command, answer), met in zip(wanted, answers):
-        if met.strip("\n") != answer.strip("\n"):
-            failed += 1
-            print(f"{name}, {shell}: $ {command}\nwrote\n{met}\nand not\n{answer}\n")
-    return len(wanted) + len(others) - failed, failed
-
-
 # ---- indented blocks
 
 
@@ -165,81 +143,120 @@ def commands_of(page):
     return [line for above, block in indented(page) if not SNIPPET_BELOW.match(above) for line in block.splitlines()]
 
 
-def of_commands(found, library):
-    """What each indented command that is run does otherwise than it should, or None; and of each that is not known that it is not."""
-    known = {*INDENTED, *OF_TOOLCHAIN}
-    yield from (f"$ {line}\nis not known: write into {__file__} what it prints" for line in found if line not in known)
-    tried = [line for line in found if INDENTED.get(line) is not None]
-    if not tried or not can_compile():
-        return
+def printed_by(lines: list[str], library: str) -> list[str]:
+    """What each indented command writes, in a copy of what it names."""
     with tempfile.TemporaryDirectory() as room:
         crate = os.path.join(room, "crates", "spki_c")
         os.makedirs(os.path.join(crate, "out"))
         shutil.copytree(os.path.join(TOP, "examples", "c"), os.path.join(room, "examples", "c"))
         shutil.copy(os.path.join(TOP, "crates", "spki_c", "spki.h"), crate)
         os.symlink(library, os.path.join(crate, "out", "libspki_c.a"))
-        lines = "".join(f"{line} < /dev/null || echo status $?\necho '{END}'\n" for line in tried)
-        done = subprocess.run(["sh"], input=lines, cwd=room, text=True, stdout=subprocess.PIPE, stderr=subprocess.STDOUT, timeout=SECONDS)
-    for line, met in zip(tried, done.stdout.split(f"{END}\n")):
-        yield None if re.fullmatch(INDENTED[line], met) else f"$ {line}\nwrote\n{met}\nand not\n{INDENTED[line]}"
+        script_of_all = "".join(f"{line} < /dev/null || echo status $?\necho '{END}'\n" for line in lines)
+        done = subprocess.run(["sh"], input=script_of_all, cwd=room, text=True, stdout=subprocess.PIPE, stderr=subprocess.STDOUT, timeout=SECONDS)
+    return done.stdout.split(f"{END}\n")
 
 
-def of_toolchain(found):
-    """What each command of the toolchain does otherwise than it should, or None. It runs in this repository."""
-    for line in filter(OF_TOOLCHAIN.get, found):
-        if shutil.which("rt") is None:
-            print(f"rt is not in the path: `{line}` is left out")
-            continue
-        done = subprocess.run(["sh", "-c", line], cwd=TOP, text=True, stdout=subprocess.PIPE, stderr=subprocess.PIPE,
-                              timeout=SECONDS_OF_TOOLCHAIN)
-        wanted = OF_TOOLCHAIN[line]
-        yield None if done.stdout == wanted else f"$ {line}\nwrote\n{done.stdout}{done.stderr[-1000:]}\nand not\n{wanted}"
+def sum_of_tried() -> str:
+    """The checksum of all that `rt try` reads for the command of README.md, and of the command."""
+    of_crates = building.checksum([*building.sources("spki", ("src", "specs")), os.path.join("examples", "delegation.sexp")])
+    return f"{of_crates} {sorted(OF_TOOLCHAIN.items())}"
 
 
-def of_snippets(found, program, library):
-    """What each snippet does otherwise than it should, or None."""
-    with tempfile.TemporaryDirectory() as room:
-        for language, text in found:
-            if missing := snippets.missing(language):
-                print(f"{missing} is not there: the snippet in {language} is left out")
-            else:
-                yield snippets.otherwise(language, text, room, program, library)
+# ---- the pages
 
 
-def can_compile():
-    """Whether there is what examples/c/service.c needs. Prints what is missing."""
-    found = shutil.which("cc") and subprocess.run(["cc", "-E", "-include", HEADER, "-x", "c", "/dev/null"], stdout=subprocess.DEVNULL,
-                                                  stderr=subprocess.DEVNULL).returncode == 0
-    if not found:
-        print(f"cc or {HEADER} is not there (Debian: gcc, libssl-dev): the service in C of the pages is left out")
-    return found
+class Pages(built.OfProgram):
+    """The commands, files and quotations of the pages."""
+
+    def steps(self, page: str) -> list[tuple[str, str, str]]:
+        """The steps of a page."""
+        return list((steps_of_manual if page.endswith(".1") else steps_of_markdown)(text_of(page)))
+
+    def is_run(self, page: str, shell: str) -> None:
+        """Each command of a page must write what the page says."""
+        found = self.steps(page)
+        wanted = [(command, answer) for kind, command, answer in found if kind == "command"]
+        answers = outputs_of(shell, found, self.program)
+        answers += ["nothing"] * (len(wanted) + 1 - len(answers))
+        faults = [f"$ {command}\nwanted\n{answer}\ncame\n{met}" for (command, answer), met in zip(wanted, answers)
+                  if met.strip("\n") != answer.strip("\n")]
+        self.assertEqual(faults, [], f"{page}, {shell}:\n" + "\n".join(faults))
+
+    def is_quoted(self, page: str) -> None:
+        """The files of a page must be those of examples/, and its quotations parts of programs."""
+        others = [file for kind, file, text in self.steps(page) if kind != "command" and not is_as_in_examples(kind, file, text)]
+        self.assertEqual(others, [], f"{page}: these are not as in examples/")
 
 
-def run_indented(name, program, library):
-    """How many of a page's snippets and indented commands do what they should, and how many do not."""
-    with open(os.path.join(TOP, name), encoding="utf-8") as file:
-        page = file.read()
-    results = list(of_toolchain(commands_of(page)))
-    if os.path.exists(library):
-        results += [*of_commands(commands_of(page), library), *of_snippets(snippets_of(page), program, library)]
-    else:
-        print(f"{library} is not there: the snippets of {name}, and its commands that need the library, are left out")
-    faults = [fault for fault in results if fault]
-    print("".join(f"{name}: {fault}\n" for fault in faults), end="")
-    return len(results) - len(faults), len(faults)
+def test_of_files(page: str) -> Callable[[Pages], None]:
+    """The test of a page's files and quotations."""
+    return lambda self: self.is_quoted(page)
 
 
-def main():
-    program = given_program()
-    library = os.path.abspath(sys.argv[2] if len(sys.argv) > 2 else LIBRARY)
-    pages = {"README.md": steps_of_markdown, "docs/GUIDE.md": steps_of_markdown, "docs/spki.1": steps_of_manual}
-    shells = [shell for shell in ("sh", "bash") if shutil.which(shell)]
-    counts = [run_page(shell, name, steps, program) for shell in shells for name, steps in pages.items()]
-    counts += [run_indented(name, program, library) for name, steps in pages.items() if steps == steps_of_markdown]
-    passed, failed = (sum(count) for count in zip(*counts))
-    print(f"{passed} passed, {failed} failed")
-    return 1 if failed else 0
+def test_of_commands(page: str, shell: str) -> Callable[[Pages], None]:
+    """The test of a page's commands in a shell."""
+    test: Callable[[Pages], None] = lambda self: self.is_run(page, shell)
+    return needs.needs(*(["openssl"] if "openssl" in text_of(page) else []))(test)
 
 
-if __name__ == "__main__":
-    sys.exit(main())
+def add_pages() -> None:
+    """Adds the tests of each page in each shell."""
+    for page in PAGES:
+        setattr(Pages, f"test_guide:{page}:files", test_of_files(page))
+        for shell in SHELLS:
+            setattr(Pages, f"test_guide:{page}:{shell}", test_of_commands(page, shell))
+
+
+add_pages()
+
+
+class Indented(unittest.TestCase):
+    """The indented commands of README.md and of the guide."""
+
+    def commands(self) -> Iterator[str]:
+        """The commands of both pages."""
+        return (line for page in PAGES[:2] for line in commands_of(text_of(page)))
+
+    def test_all_are_known(self) -> None:
+        """Each has its answer in this file."""
+        self.assertEqual([line for line in self.commands() if line not in {*INDENTED, *OF_TOOLCHAIN}], [])
+
+    @needs.needs("openssl/evp.h", *needs.LIBRARY)
+    def test_commands(self) -> None:
+        tried = [line for line in self.commands() if INDENTED.get(line) is not None]
+        for line, met in zip(tried, printed_by(tried, built.library())):
+            with self.subTest(line):
+                self.assertRegex(met, rf"\A{INDENTED[line]}\Z", f"$ {line}")
+
+    def test_toolchain(self) -> None:
+        """`rt try` prints what the page says. It is not run again on the same sources."""
+        if building.kept().get("README.md's rt try") == sum_of_tried() and not built.IS_ANEW:
+            return
+        for line in filter(OF_TOOLCHAIN.get, self.commands()):
+            done = subprocess.run(["sh", "-c", line], cwd=TOP, text=True, stdout=subprocess.PIPE, stderr=subprocess.PIPE,
+                                  timeout=SECONDS_OF_TOOLCHAIN)
+            self.assertEqual(done.stdout, OF_TOOLCHAIN[line], f"$ {line}\n{done.stderr[-1000:]}")
+        building.keep("README.md's rt try", sum_of_tried())
+
+
+@needs.needs(*needs.LIBRARY)
+class Snippets(built.OfLibrary):
+    """The snippets of README.md and of the guide, by their languages."""
+
+    def is_right(self, language: str) -> None:
+        """Each snippet in a language must grant and deny."""
+        texts = [text for page in PAGES[:2] for kind, text in snippets_of(text_of(page)) if kind == language]
+        self.assertTrue(texts, f"the pages have no snippet in {language}")
+        with tempfile.TemporaryDirectory() as room:
+            for text in texts:
+                self.assertIsNone(snippets.otherwise(language, text, room, self.program, self.library))
+
+    def test_c(self) -> None:
+        self.is_right("C")
+
+    @needs.needs("cargo")
+    def test_rust(self) -> None:
+        self.is_right("Rust")
+
+    def test_python(self) -> None:
+        self.is_right("Python")

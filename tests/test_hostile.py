@@ -1,17 +1,12 @@
-#!/usr/bin/env python3
-"""Runs the built program under hostile conditions: each allocation, each read and each write fails in turn, texts are cut short, ends
+"""Runs the program under hostile conditions: each allocation, each read and each write fails in turn, texts are cut short, ends
 fail, limits are tried from both sides, the stack is small, and texts need the most work. `test_one_call` runs each call of the libraries by
 itself in the same way, on its worked example.
 
-`refuse.c` beside this file is compiled by `cc` and preloaded, and lets the chosen calls fail. Build the programs first (`rt run` in
-crates/spki and crates/test_one_call). Prints each fault, and for each part the examples, runs, failures that were met and faults; then the
-time and memory of the largest texts. The last line counts the parts. --short leaves out the longest parts, which `.ci/deep` runs.
-Usage: tests/hostile.py [--short] [PROGRAM]
-"""
+`refuse.c` beside this file is compiled by `cc` and preloaded, and lets the chosen calls fail. Each part is a test. It prints the examples,
+runs, failures that were met and faults. The longest parts are tests only of `tests/run --long`, which `.ci/deep` runs."""
 import importlib.util
 import os
 import resource
-import shutil
 import sys
 import tempfile
 import time
@@ -20,14 +15,15 @@ from dataclasses import dataclass
 from errno import EINTR, EIO
 from itertools import count
 
+import built
 import chains
 import limits
-import tables
+import needs
+import rows
 from limits import MOST_OCTETS
-from refusing import PIPE, Program, built
-from support import BENCH, COMMANDS, EXAMPLES, PROGRAM, TOP, braced, tables_here
+from refusing import PIPE, Program, compiled
+from support import BENCH, COMMANDS, EXAMPLES, braced, tables_here
 
-ONE_CALL = os.path.join(TOP, "crates", "test_one_call", "out", "test_one_call")
 sys.path.append(BENCH)
 import memory  # noqa: E402
 
@@ -128,14 +124,14 @@ def of_chains():
     """The cases with certificates, and what other commands write of some."""
     for name, command, text, status, answer in chains.rows():
         yield Example(name, command, text, (status, answer, b""))
-        for other, line in CHAINS.get(name.removeprefix("chains.py: "), {}).items():
+        for other, line in CHAINS.get(name.removeprefix("chains:"), {}).items():
             yield Example(name, other, text, answered(line))
 
 
 def of_tables():
-    """The rows of the tables beside this file."""
+    """The rows of the tables."""
     for table in tables_here():
-        for place, command, text, status, answer in tables.rows_of(table):
+        for place, command, text, status, answer in rows.rows_of(table):
             yield Example(place, command, text, (status, answer, b""))
 
 
@@ -226,7 +222,8 @@ def refused_in_turn(program, example, behind):
 
 def call_refused(program, name, behind):
     """The same for a call by itself."""
-    return refused_in_turn(Program(ONE_CALL, program.library), Example("its example", name, b"", answered("0 as promised")), behind)
+    one_call = Program(built.there(built.ONE_CALL), program.library)
+    return refused_in_turn(one_call, Example("its example", name, b"", answered("0 as promised")), behind)
 
 
 def cut_short(program, command, text, places):
@@ -404,54 +401,57 @@ def work():
 
 
 def under_valgrind():
-    for example in known(of_files, of_chains)[::VALGRIND_STEP] if shutil.which("valgrind") else ():
+    for example in known(of_files, of_chains)[::VALGRIND_STEP]:
         for number in ("0", "5", "40.."):
             yield checked, example, {"memory": number}
 
 
 PARTS = {
-    "a request for memory refused": lambda: memory_refused(""),
-    "all requests from one on refused": lambda: memory_refused(".."),
-    "the same, call by call": calls_refused,
-    "less and less memory": less_memory,
-    "texts cut short": truncation,
-    "reads and writes refused": ends_failing,
-    "pipes and files that fail": pipes_and_files,
-    "limits from both sides": at_limits,
-    "a small stack": in_small_stack,
-    "under valgrind": under_valgrind,
-    "the most work": work,
+    "request_refused": lambda: memory_refused(""),
+    "all_requests_refused_from_one_on": lambda: memory_refused(".."),
+    "call_by_call": calls_refused,
+    "less_and_less_memory": less_memory,
+    "texts_cut_short": truncation,
+    "reads_and_writes_refused": ends_failing,
+    "pipes_and_files_that_fail": pipes_and_files,
+    "limits_from_both_sides": at_limits,
+    "small_stack": in_small_stack,
+    "under_valgrind": under_valgrind,
+    "most_work": work,
 }
-LONGEST = ("less and less memory", "a small stack", "under valgrind", "the most work")
+LONGEST = ("less_and_less_memory", "small_stack", "under_valgrind", "most_work")
 
 
-def main():
-    short = sys.argv[1:2] == ["--short"]
-    words = sys.argv[2 if short else 1:]
-    path = os.path.abspath(words[0] if words else PROGRAM)
-    parts = {part: tasks for part, tasks in PARTS.items() if not (short and part in LONGEST)}
-    if not os.access(path, os.X_OK):
-        sys.exit(f"{path} is not there: build it by rt run in crates/spki")
-    if not os.access(ONE_CALL, os.X_OK):
-        sys.exit(f"{ONE_CALL} is not there: build it by rt run in crates/test_one_call")
-    lines, failed = [], 0
-    with tempfile.TemporaryDirectory() as folder, ProcessPoolExecutor() as pool:
-        program = Program(path, built(folder))
-        for part, tasks in parts.items():
-            begun = time.perf_counter()
-            started = [pool.submit(attempted, do, program, *words) for do, *words in tasks()]
+@needs.needs("cc")
+class Hostile(built.OfProgram):
+    """The parts, each with several processes."""
+
+    @classmethod
+    def setUpClass(cls):
+        super().setUpClass()
+        cls.room = tempfile.TemporaryDirectory()
+        cls.addClassCleanup(cls.room.cleanup)
+        cls.refusing = Program(cls.program, compiled(cls.room.name))
+
+    def is_met(self, part, tasks):
+        """No task of a part may find a fault."""
+        begun = time.perf_counter()
+        with ProcessPoolExecutor() as pool:
+            started = [pool.submit(attempted, do, self.refusing, *words) for do, *words in tasks()]
             results = [task.result() for task in started]
-            faults = [fault for *_, found in results for fault in found]
-            print("".join(f"{part}: {fault}\n" for fault in faults[:MOST_FAULTS]), end="", flush=True)
-            runs, refusals = (sum(result[place] for result in results) for place in (0, 1))
-            lines.append(f"{part:<36}{len(results):>9}{runs:>9}{refusals:>11}{len(faults):>8}{time.perf_counter() - begun:>9.1f} s")
-            failed += bool(faults)
-    print(f"{'part':<36}{'examples':>9}{'runs':>9}{'refusals':>11}{'faults':>8}{'time':>11}", *lines, sep="\n")
-    if short:
-        print(f"left to .ci/deep: {', '.join(LONGEST)}")
-    print(f"{len(parts) - failed} passed, {failed} failed")
-    return 1 if failed else 0
+        faults = [fault for *_, found in results for fault in found]
+        runs, refusals = (sum(result[place] for result in results) for place in (0, 1))
+        print(f"{part:<36}{len(results):>9}{runs:>9}{refusals:>11}{len(faults):>8}{time.perf_counter() - begun:>9.1f} s")
+        if faults:
+            self.fail("\n".join(faults[:MOST_FAULTS]))
 
 
-if __name__ == "__main__":
-    sys.exit(main())
+def test_of(part):
+    """The test of a part."""
+    test = needs.needs("valgrind") if part == "under_valgrind" else lambda it: it
+    return test(lambda self: self.is_met(part, PARTS[part]))
+
+
+for name in PARTS:
+    if built.IS_LONG or name not in LONGEST:
+        setattr(Hostile, f"test_{name}", test_of(name))

@@ -1,29 +1,26 @@
-#!/usr/bin/env python3
 """Runs tools/locate on texts that are refused, and compares what it shows.
 
 First on texts with one mistake each: whole texts, and parts of a question to a guard. They are written out here with the place, by line
-and column, and with words of the remark that it should show. It must show each place once. Then on each row of the tables beside this
-file, and on generated texts and parts, whose answers the model has. It must find the refusal that is the answer there, and none if there
-is another answer. Refusals of tags that are too large are left out, since they have no place.
-Prints each text for which it shows something else; the last line counts.
-Usage: tests/locating.py
-"""
+and column, and with words of the remark that it should show. It must show each place once. Then on each row of the tables in `tables/`,
+and on generated texts and parts, whose answers the model has. It must find the refusal that is the answer there, and none if there
+is another answer. Refusals of tags that are too large are left out, since they have no place."""
 import contextlib
-import importlib.machinery
-import importlib.util
 import io
 import os
 import random
 import re
 import sys
 import tempfile
+import unittest
+from collections.abc import Callable, Iterator
 
+from generators.asked import Question
 from generators.guards import guard_question
 from generators.questions import question
 from model import guard, structures, tags
 from model.answers import Refused, answer
-from support import COMMANDS, TOP, tables_here
-from tables import rows_of
+from rows import Row, rows_of
+from support import COMMANDS, TOP, loaded, tables_here
 
 PATH = os.path.join(TOP, "tools", "locate")
 GENERATED, SEED = 150, "locate"
@@ -120,70 +117,28 @@ GUARD_QUESTIONS = 600
 PLACE = re.compile(r"^(?:line \d+, column \d+, )?octet (\d+)", re.MULTILINE)
 
 
-def tool():
-    """The tool as a module, so that a thousand texts need no thousand programs."""
-    loader = importlib.machinery.SourceFileLoader("locate", PATH)
-    sys.dont_write_bytecode = True
-    made = importlib.util.module_from_spec(importlib.util.spec_from_loader("locate", loader))
-    sys.modules["locate"] = made
-    loader.exec_module(made)
-    return made
+LOCATE = loaded(PATH)
 
 
-def printed(locate, text, *words):
+def printed(text, *words):
     """The exit status of the tool and what it prints of a text, with the words of a refusal."""
     with tempfile.NamedTemporaryFile() as file:
         file.write(text)
         file.flush()
         out, sys.argv = io.StringIO(), ["locate", file.name, *words]
         with contextlib.redirect_stdout(out):
-            status = locate.main()
+            status = LOCATE.main()
     return status, out.getvalue()
-
-
-def otherwise_of_mistakes(locate):
-    for text, given, wanted, (line, column), words in [*((text, "", *rest) for text, *rest in MISTAKES), *OF_PARTS]:
-        _, said = printed(locate, text.encode(), *(["refused", *given.split()] if given else []))
-        first = said.split("\n")[1] if "\n" in said else ""
-        offsets = PLACE.findall(said)
-        is_right = f"refused {wanted}\n" in said and first.startswith(f"line {line}, column {column},") and words in said
-        if not is_right or len(set(offsets)) < len(offsets):
-            yield f"{text!r}, given {given!r}\nwanted {wanted} at line {line}, column {column}, {words}, and not\n{said}"
-
-
-def otherwise_of_statuses(locate):
-    for text, given, wanted, words in STATUSES:
-        status, said = printed(locate, text.encode(), *(["refused", *given.split()] if given else []))
-        if status != wanted or words not in said:
-            yield f"{text!r}, given {given!r}: status {status}, and not {wanted}: {said}"
 
 
 def has_no_place(answer):
     return answer in (b"refused TooLarge\n", b"refused Memory\n")
 
 
-def otherwise(locate, place, command, text, wanted):
-    """What is wrong with the refusal that the tool finds, where the answer is wanted, or None."""
-    wrong, inner, places = locate.fault_of(text, READ_AS.get(command, "refused form"))
-    found = f"{locate.refusal(wrong, places)}\n".encode() if wrong else b""
+def show_places(wrong, inner, places):
+    """Shows each place of a fault, which must go well."""
     for at, _ in [(wrong.at, wrong.why), *wrong.others] if wrong else []:
-        locate.place_shown(inner, places, at)
-    status, answer = wanted
-    refused = answer if status == 2 and not has_no_place(answer) else b""
-    return None if found == refused else f"{place}: {command}: found {found!r}, and not {refused!r}"
-
-
-def otherwise_of_rows(locate):
-    for table in tables_here():
-        for place, command, text, status, said in rows_of(table):
-            yield otherwise(locate, place, command, text, (status, said))
-
-
-def otherwise_of_generated(locate):
-    for number in range(GENERATED):
-        asked = question(SEED, number)
-        if asked.command in COMMANDS:
-            yield otherwise(locate, f"case {number}", asked.command, asked.text, answer(asked.command, asked.text))
+        LOCATE.place_shown(inner, places, at)
 
 
 def refusal_of_part(name, text):
@@ -198,32 +153,77 @@ def refusal_of_part(name, text):
     return None
 
 
-def otherwise_of_parts(locate):
-    """The parts of questions to a guard, each given with its refusal, or if it has none with its name."""
-    for number in range(GUARD_QUESTIONS):
-        asked = guard_question(random.Random(f"{SEED}/{number}"))
-        parts = {"acl": asked.acl, "sequence": asked.sequence, "key": asked.key, "request": asked.request, "at": asked.moment}
-        for name, text in parts.items():
-            wanted = refusal_of_part(name, text)
-            wrong, inner, places = locate.fault_of(text, wanted or f"refused {name}")
-            found = locate.refusal(wrong, places) if wrong else None
-            for at, _ in [(wrong.at, wrong.why), *wrong.others] if wrong else []:
-                locate.place_shown(inner, places, at)
-            if found != wanted:
-                yield f"question {number}, {name} {text!r}: found {found!r}, and not {wanted!r}"
+class Refusals(unittest.TestCase):
+    """What the tool finds in texts."""
+
+    def shows(self, text: str, given: str, wanted: str, place: tuple[int, int], words: str) -> None:
+        """The tool must show a refusal at a place, with these words, and each place once."""
+        said = printed(text.encode(), *(["refused", *given.split()] if given else []))[1]
+        first, offsets = said.split("\n")[1] if "\n" in said else "", PLACE.findall(said)
+        is_right = f"refused {wanted}\n" in said and first.startswith(f"line {place[0]}, column {place[1]},") and words in said
+        if not is_right or len(set(offsets)) < len(offsets):
+            self.fail(f"text   {text!r}, given {given!r}\nwanted {wanted} at line {place[0]}, column {place[1]}, {words}\ncame   {said}")
+
+    def finds(self, place: str, command: str, text: bytes, wanted: tuple[int, bytes]) -> None:
+        """The tool must find the refusal where the answer is wanted."""
+        wrong, inner, places = LOCATE.fault_of(text, READ_AS.get(command, "refused form"))
+        found = f"{LOCATE.refusal(wrong, places)}\n".encode() if wrong else b""
+        show_places(wrong, inner, places)
+        status, answer = wanted
+        refused = answer if status == 2 and not has_no_place(answer) else b""
+        self.assertEqual(found, refused, f"{place}: {command}\ntext   {text[:1000]!r}\nwanted {refused!r}\ncame   {found!r}")
+
+    def test_statuses(self) -> None:
+        for text, given, wanted, words in STATUSES:
+            with self.subTest(text):
+                status, said = printed(text.encode(), *(["refused", *given.split()] if given else []))
+                self.assertTrue(status == wanted and words in said, f"{text!r}, given {given!r}: status {status}, wanted {wanted}: {said}")
+
+    def test_generated_texts(self) -> None:
+        for number in range(GENERATED):
+            asked = question(SEED, number)
+            if isinstance(asked, Question) and asked.command in COMMANDS:
+                with self.subTest(number):
+                    self.finds(f"case {number}", asked.command, asked.text, answer(asked.command, asked.text))
+
+    def test_generated_parts(self) -> None:
+        """The parts of questions to a guard, each given with its refusal, or if it has none with its name."""
+        for number in range(GUARD_QUESTIONS):
+            asked = guard_question(random.Random(f"{SEED}/{number}"))
+            parts = {"acl": asked.acl, "sequence": asked.sequence, "key": asked.key, "request": asked.request, "at": asked.moment}
+            for name, text in parts.items():
+                with self.subTest(number, part=name):
+                    wanted = refusal_of_part(name, text)
+                    wrong, inner, places = LOCATE.fault_of(text, wanted or f"refused {name}")
+                    found = LOCATE.refusal(wrong, places) if wrong else None
+                    show_places(wrong, inner, places)
+                    self.assertEqual(found, wanted, f"question {number}, {name}: {text!r}")
 
 
-def main():
-    locate = tool()
-    results = {"mistakes": list(otherwise_of_mistakes(locate)), "statuses": list(otherwise_of_statuses(locate)),
-               "rows": list(filter(None, otherwise_of_rows(locate))), "generated": list(filter(None, otherwise_of_generated(locate))),
-               "parts": list(otherwise_of_parts(locate))}
-    for faults in results.values():
-        print(*faults[:20], sep="\n", end="\n" if faults else "")
-    failed = sum(map(bool, results.values()))
-    print(f"{len(results) - failed} passed, {failed} failed")
-    return 1 if failed else 0
+def test_of_mistake(text: str, given: str, wanted: str, place: tuple[int, int], words: str) -> Callable[[Refusals], None]:
+    """The test of a text with a mistake."""
+    return lambda self: self.shows(text, given, wanted, place, words)
 
 
-if __name__ == "__main__":
-    sys.exit(main())
+def test_of_row(row: Row) -> Callable[[Refusals], None]:
+    """The test of a row."""
+    return lambda self: self.finds(row.place, row.command, row.text, (row.status, row.answer))
+
+
+def mistakes() -> Iterator[tuple[str, Callable[[Refusals], None]]]:
+    """A test for each text with a mistake."""
+    for number, (text, wanted, place, words) in enumerate(MISTAKES, 1):
+        yield f"test_mistake:text:{number}", test_of_mistake(text, "", wanted, place, words)
+    for number, part in enumerate(OF_PARTS, 1):
+        yield f"test_mistake:part:{number}", test_of_mistake(*part)
+
+
+def of_tables() -> Iterator[tuple[str, Callable[[Refusals], None]]]:
+    """A test for each row of the tables."""
+    for table in tables_here():
+        for row in rows_of(table):
+            yield f"test_locate:{row.place}:{row.command}", test_of_row(row)
+
+
+for name, each in [*mistakes(), *of_tables()]:
+    setattr(Refusals, name, each)

@@ -1,19 +1,15 @@
-#!/usr/bin/env python3
 """Tests that what the documents name is there: each relative link and its heading, each path of a file or folder of this repository in
 backticks, in a block of commands and in a table, the versions of the manual and of README.md, which are that of the file VERSION, and
-the logic of the toolchain that README.md names, which `rt --version` prints (left out if `rt` is not in the path).
+the logic of the toolchain that README.md names, which `rt --version` prints.
 
 A path is what begins with a name at the top of the repository, or in the folder of the document, or with `src`, `specs` or `proofs` in the
 page of a crate; and each word in backticks that ends as a file of a kind that is here. A word in capitals stands for any name, and so
-does `*`. What is built, in `out/`, is left out.
-Prints what is missing; the last line counts documents.
-Usage: tests/documents.py
-"""
+does `*`. What is built, in `out/`, is left out. Each page is a test."""
 import glob
 import os
 import re
-import shutil
-import sys
+import unittest
+from collections.abc import Callable
 
 from support import TOP, output_of, text_of
 
@@ -23,7 +19,7 @@ TICKS = re.compile(r"`([^`\n]+)`")
 FENCED = re.compile(r"^```(\w*) ?(\S*)\n(.*?)^```$", re.MULTILINE | re.DOTALL)
 HEADING = re.compile(r"^#+ (.*)$", re.MULTILINE)
 PATH = re.compile(r"^(?:\.ci|[\w*+-][\w.*+-]*)(?:/[\w.*+-]+)*/?$")
-KINDS = (".md", ".py", ".sexp", ".csexp", ".tsexp", ".rt", ".antt", ".h", ".c", ".sh", ".table", ".svg")
+KINDS = (".md", ".py", ".sexp", ".csexp", ".tsexp", ".rt", ".antt", ".h", ".c", ".sh", ".svg")
 LOGIC = re.compile(r"rattle-kit-\w+ (logic [0-9a-f]+)")
 ANY = re.compile(r"\b[A-Z]{2,}(?![A-Za-z.])")
 # What pages name that is made by a command, by the reader, or by another program, and the page of each.
@@ -88,39 +84,30 @@ def dead_paths(page, names):
             yield f"the path {word}"
 
 
-def other_versions():
-    """Where the manual has another version than the file VERSION."""
-    if not os.path.exists(os.path.join(TOP, "VERSION")):
-        return
-    version = text_of("VERSION").strip()
-    if f'"Conguraki {version}"' not in text_of("docs/spki.1").splitlines()[0]:
-        yield f"the version {version} in the first line"
-    if f"The version is {version}." not in text_of("README.md"):
-        yield f"the version {version} in README.md"
+class Documents(unittest.TestCase):
+    """What the documents name."""
+
+    def test_versions(self) -> None:
+        version = text_of("VERSION").strip()
+        self.assertIn(f'"Conguraki {version}"', text_of("docs/spki.1").splitlines()[0])
+        self.assertIn(f"The version is {version}.", text_of("README.md"))
+
+    def test_toolchain(self) -> None:
+        """README.md names a toolchain of the logic that `rt --version` prints. Kits of one logic prove the same."""
+        self.assertEqual(set(LOGIC.findall(text_of("README.md"))), set(LOGIC.findall(output_of("rt", "--version")[1])))
+
+    def is_whole(self, page: str) -> None:
+        """All that a page names must be there."""
+        missing = sorted({*dead_links(page), *dead_paths(page, NAMES)})
+        self.assertEqual(missing, [], f"{page}: these are not there")
 
 
-def other_kits():
-    """Where README.md names a toolchain of another logic than `rt --version` prints. Kits of one logic prove the same."""
-    if shutil.which("rt") is None:
-        print("rt is not in the path: the toolchain that README.md names is left out")
-        return
-    printed = output_of("rt", "--version")[1].strip()
-    if set(LOGIC.findall(text_of("README.md"))) != set(LOGIC.findall(printed)):
-        yield f"only the logic of {printed}"
+def test_of(page: str) -> Callable[[Documents], None]:
+    """The test of a page."""
+    return lambda self: self.is_whole(page)
 
 
-def main():
-    names, passed, failed = names_here(), 0, 0
-    pages = sorted(os.path.relpath(path, TOP) for pattern in PAGES for path in glob.glob(os.path.join(TOP, pattern)))
-    for page in [*pages, "docs/spki.1"]:
-        missing = other_versions() if page.endswith(".1") else [*dead_links(page), *dead_paths(page, names)]
-        missing = [*missing, *(other_kits() if page == "README.md" else ())]
-        missing = sorted(set(missing))
-        print("".join(f"{page}: {it} is not there\n" for it in missing), end="")
-        passed, failed = passed + (not missing), failed + bool(missing)
-    print(f"{passed} passed, {failed} failed")
-    return 1 if failed else 0
-
-
-if __name__ == "__main__":
-    sys.exit(main())
+NAMES = names_here()
+for path in sorted(path for pattern in PAGES for path in glob.glob(os.path.join(TOP, pattern))):
+    each = os.path.relpath(path, TOP)
+    setattr(Documents, f"test_page:{each}", test_of(each))

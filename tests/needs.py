@@ -1,0 +1,103 @@
+"""What the tests use beyond the toolchain and Python, in one list: the table of CONTRIBUTING.md, the skipped tests and the line that
+`tests/run --needs` prints come from it."""
+import functools
+import glob
+import shutil
+import subprocess
+import unittest
+from collections.abc import Callable, Iterator
+from dataclasses import dataclass
+from typing import Any
+
+
+@dataclass(frozen=True)
+class Need:
+    """A command, a header of C or a file, its Debian package, and what is left out without it."""
+
+    name: str
+    package: str
+    without: str
+
+    @property
+    def is_there(self) -> bool:
+        """Whether this machine has it."""
+        if self.name.endswith(".h"):
+            return has_header(self.name)
+        return bool(glob.glob(self.name) if "/" in self.name else shutil.which(self.name))
+
+    @property
+    def reason(self) -> str:
+        """Why a test that needs it is skipped."""
+        return f"there is no {self.name}; Debian: {self.package}"
+
+
+NEEDS = [Need(*words) for words in [
+    ("cc", "gcc", "the library for C, what calls it, generated texts on it, failing allocations, reads and writes"),
+    ("ld", "binutils", "the library for C and what calls it"),
+    ("objcopy", "binutils", "the library for C and what calls it"),
+    ("g++", "g++", "linking from C++"),
+    ("valgrind", "valgrind", "runs of the library and of the service in C under valgrind and helgrind; most benches"),
+    ("pkg-config", "pkgconf", "what pkg-config says of the installed library"),
+    ("cargo", "cargo", "the Rust crate, from Rust 1.76 on, tested with 1.95: Debian 12 has 1.63, which is too old"),
+    ("cargo-clippy", "rust-clippy", "the lints of the Rust crate"),
+    ("cargo-fmt", "rustfmt", "the layout of the Rust crate"),
+    ("openssl", "openssl", "the examples and the services with real keys and signatures, from OpenSSL 3.0 on"),
+    ("openssl/evp.h", "libssl-dev", "the service in C"),
+    ("/usr/lib/postgresql/*/bin/initdb", "postgresql", "entries in PostgreSQL"),
+    ("dpkg-deb", "dpkg", "the Debian packages"),
+    ("man", "man-db", "the warnings of the manual"),
+    ("dot", "graphviz", "reading the pictures that are drawn"),
+    ("sexp-conv", "nettle-bin", "the keys of lsh; in `.ci/deep` the comparison with nettle"),
+    ("lsh-keygen", "lsh-utils", "the keys of lsh"),
+    ("pyflakes3", "pyflakes3", "faults in the scripts in Python"),
+    ("pycodestyle", "pycodestyle", "the layout of the scripts in Python"),
+    ("mypy", "mypy", "the types of the scripts and of the Python module"),
+    ("codespell", "codespell", "the spelling, which only `.ci/deep` checks"),
+]]
+BY_NAME = {need.name: need for need in NEEDS}
+# What the library for C is built with.
+LIBRARY = ("cc", "ld", "objcopy")
+INITDB = "/usr/lib/postgresql/*/bin/initdb"
+
+
+@functools.cache
+def has_header(name: str) -> bool:
+    """Whether the C compiler finds a header."""
+    words = ["cc", "-E", "-include", name, "-x", "c", "/dev/null"]
+    return bool(shutil.which("cc")) and not subprocess.run(words, stdout=subprocess.DEVNULL, stderr=subprocess.DEVNULL).returncode
+
+
+def has(*names: str) -> bool:
+    """Whether this machine has all of these."""
+    return all(BY_NAME[name].is_there for name in names)
+
+
+def needs(*names: str) -> Callable[[Any], Any]:
+    """Skips a test, or all tests of a class, where one of these is not there."""
+    gone = [need.reason for need in map(BY_NAME.__getitem__, names) if not need.is_there]
+    return unittest.skipIf(bool(gone), ", ".join(gone))
+
+
+def required(*names: str) -> None:
+    """Skips a module whose tests need all of these where one is not there."""
+    gone = [need.reason for need in map(BY_NAME.__getitem__, names) if not need.is_there]
+    if gone:
+        raise unittest.SkipTest(", ".join(gone))
+
+
+def is_honest(reason: str) -> bool:
+    """Whether a test was skipped for what the list says and this machine does not have."""
+    gone = {need.reason for need in NEEDS if not need.is_there}
+    return all(part in gone for part in reason.split(", "))
+
+
+def table() -> Iterator[str]:
+    """The lines of the table in CONTRIBUTING.md."""
+    yield "| Command, header or file | Debian package | Left out without it |"
+    yield "|---|---|---|"
+    yield from (f"| `{need.name}` | `{need.package}` | {need.without} |" for need in NEEDS)
+
+
+def install_line() -> str:
+    """The line that installs all packages of the list."""
+    return "apt-get install " + " ".join(dict.fromkeys(need.package for need in NEEDS))

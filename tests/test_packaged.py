@@ -1,0 +1,56 @@
+"""Makes the Debian packages in an empty folder, unpacks them, asks the program of the one, and looks for the files of the other."""
+import os
+import tempfile
+
+import built
+import needs
+from support import EXAMPLES, TOP, output_of, run, text_of
+
+# The files that each package must have.
+FILES = {
+    "spki": ["usr/bin/spki", "usr/share/man/man1/spki.1.gz", "usr/share/doc/spki/copyright"],
+    "libspki-dev": ["usr/include/spki.h", "usr/lib/libspki_c.a", "usr/lib/libspki_c.so", "usr/share/doc/libspki-dev/copyright"]}
+
+
+@needs.needs("dpkg-deb", *needs.LIBRARY)
+class Packages(built.OfLibrary):
+    """What is in the packages."""
+
+    folder: str
+    made: dict[str, str]
+
+    @classmethod
+    def setUpClass(cls) -> None:
+        super().setUpClass()
+        room = tempfile.TemporaryDirectory()
+        cls.addClassCleanup(room.cleanup)
+        cls.folder = room.name
+        status, said = output_of(os.path.join(TOP, "packages.sh"), cls.folder, cls.program, cls.library)
+        if status:
+            raise AssertionError(f"packages.sh ended with status {status}: {said}")
+        cls.made = {name.split("_")[0]: os.path.join(cls.folder, name) for name in os.listdir(cls.folder) if name.endswith(".deb")}
+        for name, path in cls.made.items():
+            output_of("dpkg-deb", "-x", path, os.path.join(cls.folder, name))
+
+    def test_packages(self) -> None:
+        self.assertEqual(set(self.made), set(FILES))
+
+    def test_files(self) -> None:
+        missing = [f"{name}: {file}" for name, files in FILES.items() for file in files
+                   if not os.path.exists(os.path.join(self.folder, name, file))]
+        self.assertEqual(missing, [])
+
+    def test_version(self) -> None:
+        for name, path in self.made.items():
+            self.assertEqual(output_of("dpkg-deb", "-f", path, "Version"), (0, text_of("VERSION").strip() + "\n"), name)
+
+    def test_prefix(self) -> None:
+        """The files for pkg-config name the folder that packages are unpacked to."""
+        found = [os.path.join(at, name) for at, _, names in os.walk(self.folder) for name in names if name.endswith(".pc")]
+        self.assertNotEqual(found, [])
+        self.assertEqual([path for path in found if not text_of(path).startswith("prefix=/usr\n")], [])
+
+    def test_program(self) -> None:
+        with open(os.path.join(EXAMPLES, "delegation.sexp"), "rb") as case:
+            answer = run(os.path.join(self.folder, "spki", "usr", "bin", "spki"), "check", case.read())
+        self.assertEqual(answer, (0, b"yes entry 1\n"))

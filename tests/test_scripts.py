@@ -1,0 +1,59 @@
+"""Checks the scripts in Python, those without a suffix too: pyflakes and pycodestyle find nothing in them, and mypy accepts their types."""
+import os
+import subprocess
+import unittest
+
+import needs
+from support import TESTS, TOP
+
+# A script without a suffix begins with this line.
+MARK = "#!/usr/bin/env python3"
+LINE_LENGTH = 150
+# The folders whose modules are imported by their names alone.
+MODULES = ("tests", "examples", "examples/signed", "examples/database", "bindings/python", "bench")
+
+
+def scripts() -> list[str]:
+    """The scripts of the repository, by their paths from the top."""
+    listed = subprocess.run(["git", "ls-files", "-co", "--exclude-standard"], cwd=TOP, stdout=subprocess.PIPE, text=True, check=True)
+    return [path for path in listed.stdout.splitlines() if path.endswith(".py") or is_script(path)]
+
+
+def is_script(path: str) -> bool:
+    """Whether a file without a suffix is a script in Python."""
+    if "." in path.rpartition("/")[2]:
+        return False
+    with open(f"{TOP}/{path}", encoding="utf-8", errors="replace") as file:
+        return file.readline().rstrip("\n") == MARK
+
+
+class Scripts(unittest.TestCase):
+    """All scripts in Python."""
+
+    def finds_nothing(self, *words: str) -> None:
+        """A program that checks scripts must find nothing in all of them."""
+        done = subprocess.run([*words, *scripts()], cwd=TOP, stdout=subprocess.PIPE, stderr=subprocess.STDOUT, text=True)
+        self.assertEqual(done.returncode, 0, done.stdout)
+
+    @needs.needs("mypy")
+    def test_types(self) -> None:
+        """mypy accepts the types: in groups, since folders have modules of one name, and of each script without a suffix alone."""
+        groups: dict[str, list[str]] = {}
+        for path in scripts():
+            folder = path.split("/")[0]
+            group = path if not path.endswith(".py") else folder if folder in ("tests", "bench") else "others"
+            groups.setdefault(group, []).append(path)
+        settings = {**os.environ, "MYPYPATH": ":".join(MODULES)}
+        for name, paths in groups.items():
+            with self.subTest(name):
+                done = subprocess.run(["mypy", "--cache-dir", os.path.join(TESTS, "out", "mypy"), *paths], cwd=TOP, stdout=subprocess.PIPE,
+                                      stderr=subprocess.STDOUT, text=True, env=settings)
+                self.assertEqual(done.returncode, 0, done.stdout)
+
+    @needs.needs("pyflakes3")
+    def test_faults(self) -> None:
+        self.finds_nothing("pyflakes3")
+
+    @needs.needs("pycodestyle")
+    def test_layout(self) -> None:
+        self.finds_nothing("pycodestyle", "--max-line-length", str(LINE_LENGTH))
