@@ -5,6 +5,10 @@ of the tests, and the wrong bodies. What is not a check (compilers, the tests as
 The processes are looked at each second, so that a process that ends between two looks loses up to a second. Measure on a quiet
 machine: beside other work the same check takes up to half as many processor seconds more, and the checks of other commands are counted too.
 
+The same check takes 1.0 to 2.5 times as long from machine to machine. So a fixed check is measured before the command, `rt selftest`: the
+toolchain proves, builds and runs an example of its own, which does not change with this repository. The last row is the whole cost as a
+multiple of it.
+
 Usage: bench/gate.py [COMMAND ..]
 """
 import os
@@ -17,6 +21,7 @@ from collections import defaultdict
 ROOT = os.path.realpath(os.path.join(os.path.dirname(__file__), ".."))
 TICKS = os.sysconf("SC_CLK_TCK")
 PARTS = ("proofs", "tests", "edits")
+FIXED = ["rt", "selftest"]
 
 
 def words_of(process):
@@ -66,8 +71,16 @@ class Sampled:
         return totals
 
 
-def table(totals, whole, clock):
-    """The rows of the crates, and those of what is left and of all."""
+def processor_minutes(command):
+    """The status of a command, and the processor minutes that it takes with all that it starts."""
+    before = os.times()
+    status = subprocess.run(command).returncode
+    after = os.times()
+    return status, (after.children_user + after.children_system - before.children_user - before.children_system) / 60
+
+
+def table(totals, whole, clock, fixed):
+    """The rows of the crates, and those of what is left, of all, and of all as a multiple of the fixed check."""
     yield f"{'processor minutes':<24}" + "".join(f"{part:>9}" for part in PARTS) + f"{'all':>9}"
     for crate in sorted({crate for crate, _ in totals}):
         row = [totals.get((crate, part), 0.0) for part in PARTS]
@@ -77,10 +90,15 @@ def table(totals, whole, clock):
     yield f"{'all else':<24}" + " " * 27 + f"{whole - sum(sums):>9.1f}"
     yield f"{'all':<24}" + " " * 27 + f"{whole:>9.1f}"
     yield f"{'minutes on the clock':<24}" + " " * 27 + f"{clock:>9.1f}"
+    yield f"{'the fixed check':<24}" + " " * 27 + f"{fixed:>9.1f}"
+    yield f"{'all, as a multiple of it':<24}" + " " * 27 + f"{whole / fixed:>9.1f}"
 
 
 def main():
     command = sys.argv[1:] or [os.path.join(ROOT, ".ci", "run")]
+    status, fixed = processor_minutes(FIXED)
+    if status:
+        sys.exit(f"{' '.join(FIXED)} fails, so there is nothing to compare with")
     sampled, ended, begun = Sampled(), threading.Event(), time.monotonic()
 
     def watch():
@@ -89,12 +107,10 @@ def main():
 
     watching = threading.Thread(target=watch)
     watching.start()
-    status = subprocess.run(command).returncode
+    status, whole = processor_minutes(command)
     ended.set()
     watching.join()
-    used = os.times()
-    whole = (used.children_user + used.children_system) / 60
-    print(*table(sampled.minutes(), whole, (time.monotonic() - begun) / 60), sep="\n")
+    print(*table(sampled.minutes(), whole, (time.monotonic() - begun) / 60, fixed), sep="\n")
     return status
 
 

@@ -111,7 +111,7 @@ class Pages(unittest.TestCase):
     """The pages for callers."""
 
 
-def test_of(crate: str, about: str, fault: str | None) -> Callable[[Pages], None]:
+def made_test(crate: str, about: str, fault: str | None) -> Callable[[Pages], None]:
     """The test of something on a page."""
     return lambda self: self.assertIsNone(fault, f"crates/{crate}/CALLING.md: {about} {fault}")
 
@@ -120,7 +120,7 @@ def add_tests() -> None:
     """Adds the tests of all pages."""
     for crate in sorted(filter(page_of, CRATES)):
         for number, (about, fault) in enumerate(checks(crate), 1):
-            setattr(Pages, f"test_calling:{crate}:{number}:{about}", test_of(crate, about, fault))
+            setattr(Pages, f"test_calling:{crate}:{number}:{about}", made_test(crate, about, fault))
 
 
 add_tests()

@@ -102,7 +102,7 @@ class Documents(unittest.TestCase):
         self.assertEqual(missing, [], f"{page}: these are not there")
 
 
-def test_of(page: str) -> Callable[[Documents], None]:
+def made_test(page: str) -> Callable[[Documents], None]:
     """The test of a page."""
     return lambda self: self.is_whole(page)
 
@@ -110,4 +110,4 @@ def test_of(page: str) -> Callable[[Documents], None]:
 NAMES = names_here()
 for path in sorted(path for pattern in PAGES for path in glob.glob(os.path.join(TOP, pattern))):
     each = os.path.relpath(path, TOP)
-    setattr(Documents, f"test_page:{each}", test_of(each))
+    setattr(Documents, f"test_page:{each}", made_test(each))

@@ -188,12 +188,12 @@ class Pages(built.OfProgram):
         self.assertEqual(others, [], f"{page}: these are not as in examples/")
 
 
-def test_of_files(page: str) -> Callable[[Pages], None]:
+def files_test(page: str) -> Callable[[Pages], None]:
     """The test of a page's files and quotations."""
     return lambda self: self.is_quoted(page)
 
 
-def test_of_commands(page: str, shell: str) -> Callable[[Pages], None]:
+def commands_test(page: str, shell: str) -> Callable[[Pages], None]:
     """The test of a page's commands in a shell."""
     test: Callable[[Pages], None] = lambda self: self.is_run(page, shell)
     return needs.needs(*(["openssl"] if "openssl" in text_of(page) else []))(test)
@@ -202,9 +202,9 @@ def test_of_commands(page: str, shell: str) -> Callable[[Pages], None]:
 def add_pages() -> None:
     """Adds the tests of each page in each shell."""
     for page in PAGES:
-        setattr(Pages, f"test_guide:{page}:files", test_of_files(page))
+        setattr(Pages, f"test_guide:{page}:files", files_test(page))
         for shell in SHELLS:
-            setattr(Pages, f"test_guide:{page}:{shell}", test_of_commands(page, shell))
+            setattr(Pages, f"test_guide:{page}:{shell}", commands_test(page, shell))
 
 
 add_pages()

@@ -446,7 +446,7 @@ class Hostile(built.OfProgram):
             self.fail("\n".join(faults[:MOST_FAULTS]))
 
 
-def test_of(part):
+def made_test(part):
     """The test of a part."""
     test = needs.needs("valgrind") if part == "under_valgrind" else lambda it: it
     return test(lambda self: self.is_met(part, PARTS[part]))
@@ -454,4 +454,4 @@ def test_of(part):
 
 for name in PARTS:
     if built.IS_LONG or name not in LONGEST:
-        setattr(Hostile, f"test_{name}", test_of(name))
+        setattr(Hostile, f"test_{name}", made_test(name))

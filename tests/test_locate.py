@@ -200,12 +200,12 @@ class Refusals(unittest.TestCase):
                     self.assertEqual(found, wanted, f"question {number}, {name}: {text!r}")
 
 
-def test_of_mistake(text: str, given: str, wanted: str, place: tuple[int, int], words: str) -> Callable[[Refusals], None]:
+def mistake_test(text: str, given: str, wanted: str, place: tuple[int, int], words: str) -> Callable[[Refusals], None]:
     """The test of a text with a mistake."""
     return lambda self: self.shows(text, given, wanted, place, words)
 
 
-def test_of_row(row: Row) -> Callable[[Refusals], None]:
+def row_test(row: Row) -> Callable[[Refusals], None]:
     """The test of a row."""
     return lambda self: self.finds(row.place, row.command, row.text, (row.status, row.answer))
 
@@ -213,16 +213,16 @@ def test_of_row(row: Row) -> Callable[[Refusals], None]:
 def mistakes() -> Iterator[tuple[str, Callable[[Refusals], None]]]:
     """A test for each text with a mistake."""
     for number, (text, wanted, place, words) in enumerate(MISTAKES, 1):
-        yield f"test_mistake:text:{number}", test_of_mistake(text, "", wanted, place, words)
+        yield f"test_mistake:text:{number}", mistake_test(text, "", wanted, place, words)
     for number, part in enumerate(OF_PARTS, 1):
-        yield f"test_mistake:part:{number}", test_of_mistake(*part)
+        yield f"test_mistake:part:{number}", mistake_test(*part)
 
 
 def of_tables() -> Iterator[tuple[str, Callable[[Refusals], None]]]:
     """A test for each row of the tables."""
     for table in tables_here():
         for row in rows_of(table):
-            yield f"test_locate:{row.place}:{row.command}", test_of_row(row)
+            yield f"test_locate:{row.place}:{row.command}", row_test(row)
 
 
 for name, each in [*mistakes(), *of_tables()]:

@@ -98,26 +98,25 @@ class Generated(built.OfProgram):
         self.assertEqual(others, set())
 
 
-def test_of(command: str) -> Callable[[Generated], None]:
+def made_test(command: str) -> Callable[[Generated], None]:
     """The test of the cases of a command."""
     return lambda self: self.agrees_on(command)
 
 
-def test_rows_that_came(self: Generated) -> None:
+def rows_that_came(self: Generated) -> None:
     """With 20,000 cases each row of the model comes."""
     never = differential.never_came(self.rows) if built.CASES >= differential.WHOLE_COVERAGE else []
     self.assertEqual(never, [], f"never came, seed {self.seed}")
 
 
-def test_part_of_the_program(self: Generated) -> None:
+def part_of_the_program(self: Generated) -> None:
     """With 20,000 cases the program answers a tenth of them."""
     wanted = differential.PROGRAM_SHARE * built.CASES if built.CASES >= differential.WHOLE_COVERAGE else 0
     self.assertGreaterEqual(self.by_program, wanted)
 
 
 for name in COMMANDS if built.IS_ALONE else ASKED:
-    setattr(Generated, f"test_{name.replace(' ', '_')}", test_of(name))
+    setattr(Generated, f"test_{name.replace(' ', '_')}", made_test(name))
 if not built.IS_ALONE:
-    setattr(Generated, "test_rows_that_came", test_rows_that_came)
-    setattr(Generated, "test_part_of_the_program", test_part_of_the_program)
-del name, test_rows_that_came, test_part_of_the_program
+    setattr(Generated, "test_rows_that_came", rows_that_came)
+    setattr(Generated, "test_part_of_the_program", part_of_the_program)

@@ -29,7 +29,7 @@ class BySecondCompiler(built.OfProgram):
 # ---- rows
 
 
-def test_of(row: Row) -> Test:
+def made_test(row: Row) -> Test:
     """The test of a row."""
     def test(self: built.OfProgram) -> None:
         fault = fault_of(self.program, row)
@@ -38,14 +38,14 @@ def test_of(row: Row) -> Test:
     return test
 
 
-def tests_of(rows: Iterable[Row]) -> Iterator[tuple[str, Test]]:
+def named_tests(rows: Iterable[Row]) -> Iterator[tuple[str, Test]]:
     """The tests of rows with their names: where a row stands; where there are several rows, the command; and again, a number."""
     listed = list(rows)
     places, named = Counter(row.place for row in listed), Counter[str]()
     for row in listed:
         name = f"test_{row.place}{f':{row.command}' if places[row.place] > 1 else ''}"
         named[name] += 1
-        yield f"{name}{f':{named[name]}' if named[name] > 1 else ''}", test_of(row)
+        yield f"{name}{f':{named[name]}' if named[name] > 1 else ''}", made_test(row)
 
 
 # ---- pairs
@@ -58,7 +58,7 @@ def faults_of_pairs(program: str) -> list[str | None]:
         return list(pool.map(lambda row: fault_of(program, row), rows))
 
 
-def test_of_pairs(number: int) -> Test:
+def pairs_test(number: int) -> Test:
     """The test of the pairs of one first set. The first of these tests asks the program about all pairs."""
     def test(self: built.OfProgram) -> None:
         own = type(self)
@@ -78,8 +78,8 @@ def classes(base: type[built.OfProgram]) -> Iterator[tuple[str, type]]:
     tables = {os.path.basename(path).capitalize(): rows_of(path) for path in tables_here()}
     for name, rows in {**tables, "Chains": map(Row._make, chains.rows())}.items():
         asked = (row for row in rows if not (built.IS_ALONE and row.place in SLOW_WITHOUT_PROOFS))
-        yield name, type(name, (base,), dict(tests_of(asked)))
-    yield "Pairs", type("Pairs", (base,), {f"test_pairs:{number + 1}": test_of_pairs(number) for number in range(SETS)})
+        yield name, type(name, (base,), dict(named_tests(asked)))
+    yield "Pairs", type("Pairs", (base,), {f"test_pairs:{number + 1}": pairs_test(number) for number in range(SETS)})
 
 
 def add_classes() -> None:

@@ -53,10 +53,10 @@ def everything_nearly() -> Iterator[Value]:
     """The case with each structure replaced by each form that it may nearly have, and with each member in front that has a fault."""
     for path in places(EVERYTHING):
         structure = part(EVERYTHING, path)
-        assert isinstance(structure, tuple)
+        members = structure if isinstance(structure, tuple) else ()
         head = head_of(structure) or b""
         yield from (replaced(EVERYTHING, path, (form,)) for form in NEARLY.get(head, ()))
-        yield from (replaced(EVERYTHING, path, ((structure[0], member, *structure[1:]),)) for member in FIRST.get(head, ()))
+        yield from (replaced(EVERYTHING, path, ((*members[:1], member, *members[1:]),)) for member in FIRST.get(head, ()))
     yield replaced(EVERYTHING, (1, 2, 3, 1), (many_strings(b"set", 1025),))
     yield replaced(EVERYTHING, (1,), ((Atom(b"acl"),),))
 
