@@ -157,6 +157,12 @@ class Guards(unittest.TestCase):
         with self.assertRaises(spki.Refused) as met:
             guard.decide(asked(), right)
         self.assertEqual(met.exception.line, "refused question TooLong")
+        for limits in (spki.Limits(nodes=0), spki.Limits(work=0), spki.Limits(answer=5)):
+            guard = spki.Guard(LIST, limits=limits)
+            self.assertTrue(guard.decide(asked(), right))
+            with self.assertRaises(spki.Refused) as met:
+                guard.explain(asked(), right)
+            self.assertEqual(met.exception.line, "refused TooLarge")
 
     def test_closing(self):
         with spki.Guard(LIST) as guard:

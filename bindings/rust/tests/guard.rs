@@ -201,6 +201,12 @@ fn lists_have_limits() {
         line(guard.decide(&question, right)),
         "refused question TooLong"
     );
+    for (work, answer) in [(0, 1_048_576), (200_000, 5)] {
+        let limits = Limits::default().with_work(work, answer);
+        let guard = Guard::read(LIST, Policy::Open, limits).expect("a list");
+        assert!(guard.decide(&question, right).expect("a decision").is_yes());
+        assert_eq!(line(guard.explain(&question, right)), "refused TooLarge");
+    }
     let refused = Guard::read(b"(acl (entry))", Policy::Open, Limits::default());
     assert_eq!(line(refused), "refused acl 1 Shape");
 }
