@@ -60,5 +60,6 @@ pub fn case_of<'a>(
         moment,
         policy: Policy::Strict,
         most_nodes: 1_000_000,
+        most_work: None,
     })
 }

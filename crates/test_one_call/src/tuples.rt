@@ -4,7 +4,7 @@ use crate::failure::Failure;
 use crate::structures::KA;
 use sexpr_core::Doc;
 use spki_cert::{Key, Names, Octets, Policy, Principal, Subject, Window, key_of};
-use spki_reduce::{Cause, Five, Fold, Four, Issuer, Joined, Step};
+use spki_reduce::{Cause, Five, Fold, Four, Issuer, Joined, Step, Work};
 use spki_tag::Tag;
 use std::alloc::Global;
 
@@ -122,7 +122,8 @@ pub(crate) fn fold_owned(alloc: Global) -> Result<bool, Failure> {
     second.tag = Tag::of(alloc, &document.top())?;
     let mut steps = Vec::new(alloc);
     steps.push(Step::Auth(second))?;
-    match spki_reduce::fold_owned(alloc, first, &steps, Policy::Open, 9)? {
+    let mut work = Work::new(Some(9));
+    match spki_reduce::fold_owned(alloc, first, &steps, Policy::Open, 9, &mut work)? {
         Fold::Done(five) => Ok(is_key(&five.subject, KB) && five.tag.nodes() == 3),
         Fold::Stopped { .. } => Ok(false),
     }

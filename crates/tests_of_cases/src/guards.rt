@@ -264,7 +264,7 @@ const MALFORMED: &[([&str; 4], &str)] = &[
 #[test]
 fn malformed_parts(rt: HostRuntime) -> Result<(), Fail> {
     let alloc = rt.alloc();
-    let limits = Limits::new(90, 1_000_000).ok_or("limits")?;
+    let limits = Limits::new(90, 1_000_000, 200_000, 1_048_576).ok_or("limits")?;
     let guard = Guard::read(alloc, MANY.as_bytes(), Policy::Open, limits)?;
     for ([sequence, key, request, moment], line) in MALFORMED {
         let question = Question {

@@ -6,7 +6,7 @@ use crate::reductions::tuples::{
     CERTIFICATE, DEFINITION, ENTRY, Given, KA, KB, KC, five_for, is_subject, steps,
 };
 use spki_cert::Policy;
-use spki_reduce::{Cause, Fold, ReduceFault, Step, fold_chain, fold_owned};
+use spki_reduce::{Cause, Fold, ReduceFault, Step, Work, fold_chain, fold_owned};
 use std::alloc::{AllocError, Global};
 use std::test::Fail;
 
@@ -63,7 +63,9 @@ fn ends_consumed(
     requires { most ≤ 1000000 }
 {
     let first = five_for(alloc, first, tag)?;
-    Ok(is_end(&fold_owned(alloc, first, others, Policy::Open, most), end))
+    let mut work = Work::new(None);
+    let fold = fold_owned(alloc, first, others, Policy::Open, most, &mut work);
+    Ok(is_end(&fold, end))
 }
 
 /// The same for a chain as given, under the greatest limit.
