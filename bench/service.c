@@ -1,7 +1,7 @@
 /* Times what a service does with the library, and prints numbers that `service.py` compares.
  *
  * service decide FILE           the µs of listing the signatures and of a decision
- * service widest WISH FILE      with limits of 64 KiB and 10,000 nodes, of one question whose answer is `decide`, `explain` or `reduce`: the
+ * service widest WISH FILE      with a limit of 64 KiB, of one question whose answer is `decide`, `explain` or `reduce`: the
  *                               status, the ms of the processor, those of listing the signatures, and the MiB that the library takes
  * service threads N FILE        of one thread and of N, each with a guard of its own, the decisions in a second; how many times as far N
  *                               threads count as one; and how often the N threads waited for each 1,000 decisions
@@ -109,7 +109,7 @@ static wish *wish_of(const char *word)
 
 static void ask_widest(const char *word, const char *path)
 {
-    const struct spki_limits limits = {65536, 10000, SPKI_USUAL_WORK, SPKI_USUAL_ANSWER};
+    const struct spki_limits limits = {65536, SPKI_MOST_NODES, SPKI_USUAL_WORK, SPKI_USUAL_ANSWER};
     wish *call = wish_of(word);
     struct held held = held_in(path, &limits);
     /* The room for answers is the caller's, and is no part of what the question takes. */

@@ -5,8 +5,8 @@
 - Opening a guard of 1 MiB, beside a decision of a case of the same list.
 - A decision by three certificates from the text of a case, and one through a guard beside libmacaroons' verification of a macaroon with three
   caveats. Where libmacaroons is not there (Debian: libmacaroons-dev) this is left out.
-- With limits of 64 KiB and 10,000 nodes, the time and the memory of decisions of the widest questions that are known, with lists of up to
-  1 MiB. What `explain` and `reduce` take for the same questions is printed: they have no limit here.
+- With a limit of 64 KiB for a question, the time and the memory of decisions, explanations and reductions of the widest questions that are
+  known, with lists of up to 1 MiB. The limits on nodes, work and answers are those that a guard without limits has.
 - A decision through the bindings for Rust and Python, beside the calls in C. Where `cargo` is not there Rust is left out.
 - The decisions of 8 threads, each with a guard of its own, beside those of one, as on four free cores: how many cores are free is how far
   8 threads count beside one. A thread that decides must not wait for another one.
@@ -45,7 +45,8 @@ QUESTION_OCTETS, QUESTION_MEMBERS = 65_536, 99
 SECONDS = 600
 MOST = {"10,000 keys, no certificate": 1.5, "10,000 keys, three certificates": 1.5, "10,000 hashes, no certificate": 1.5,
         "10,000 hashes, three certificates": 1.5, "opening 1 MiB": 1.9, "instructions of a case": 96_000, "three caveats": 1.0, "Rust": 1.1,
-        "Python, µs more": 20.0, "a decision, ms": 100.0, "a decision, MiB": 16.0, "waits of 1,000 decisions": 1.0}
+        "Python, µs more": 20.0, "a decision, ms": 100.0, "a decision, MiB": 16.0,
+        "an explanation or a reduction, ms": 300.0, "an explanation or a reduction, MiB": 24.0, "waits of 1,000 decisions": 1.0}
 LEAST = {"threads": 3.5}
 # What the library's statuses say.
 ANSWERS = {0: "yes", 1: "no", 2: "refused", 6: "done"}
@@ -253,27 +254,29 @@ def one_answer(driver, wish, path, enough):
 
 
 def one_question(driver, what, text):
-    """The milliseconds and the MiB of the decision of one question. What else can be asked about it is printed."""
+    """The milliseconds and the MiB of the decision, the explanation and the reduction of one question."""
     path = driver.question("wide", text)
     listed, asked = len(parts_of(text)[0]), question_of(text)
     print(f"{what}: list of {listed:,} octets, question of {asked:,}")
-    met = None
+    met = {}
     for wish in ("decide", "explain", "reduce"):
-        answer = driver.run("widest", wish, path) if met else one_answer(driver, wish, path, MOST["a decision, ms"])
-        met = met or answer
-        status, milliseconds, listing, mebibytes = answer
+        limit = MOST["a decision, ms" if wish == "decide" else "an explanation or a reduction, ms"]
+        status, milliseconds, listing, mebibytes = one_answer(driver, wish, path, limit)
+        met[wish] = milliseconds, mebibytes
         print(f"    {wish}: {ANSWERS[status]}, {milliseconds:.1f} ms, of which {listing:.1f} list the signatures, {mebibytes:.1f} MiB", flush=True)
-    return met[1], met[3]
+    return met
 
 
 def widest(driver):
-    """The most milliseconds and MiB of one decision. docs/PERFORMANCE.md says what a decision takes."""
+    """The most milliseconds and MiB of one answer. docs/PERFORMANCE.md says what a decision takes."""
     ranges = [Shape("", make) for make in (narrowed_ranges, ranges_and_sets_of_two, ten_large_sets)]
     texts = [widest_of(shape) for shape in (*SHAPES, LARGE_TAG, LARGE_TAG_AND_RANGE, LARGE_TAG_AND_SET, *ranges)]
     texts += [(f"large tags: {what}", text) for what, text in large_tags()]
     met = [one_question(driver, what, text) for what, text in texts]
-    yield "a decision, ms", max(milliseconds for milliseconds, _ in met)
-    yield "a decision, MiB", max(mebibytes for _, mebibytes in met)
+    yield "a decision, ms", max(each["decide"][0] for each in met)
+    yield "a decision, MiB", max(each["decide"][1] for each in met)
+    for place, unit in enumerate(("ms", "MiB")):
+        yield f"an explanation or a reduction, {unit}", max(each[wish][place] for each in met for wish in ("explain", "reduce"))
 
 
 def threads(driver):

@@ -28,10 +28,10 @@ most_work: int | None = None
 class TooLarge(Exception):
     """The product of the nodes is over the limit, that of every case or the lower one of a guard; or all products are over a guard's."""
 
-    def __init__(self, product: int) -> None:
+    def __init__(self, product: int, is_work: bool = False) -> None:
         super().__init__(product)
         self.is_of_guard = product <= MOST_PRODUCT
-        self.is_work = product <= most_product
+        self.is_work = is_work
 
 
 @contextmanager
@@ -48,21 +48,23 @@ def limited(most: int, work: int | None = None) -> Iterator[None]:
 def intersection(a: Tag, b: Tag) -> Tag:
     """The tag of the requests that both contain. TooLarge if the product of the nodes is over the limit."""
     product = nodes(a) * nodes(b)
-    if product > most_product or is_overworked(product):
+    if product > most_product:
         REFUSED.used("TooLarge")
         raise TooLarge(product)
+    work_on(product)
     if product == MOST_PRODUCT:
         REFUSED.used("the product is 1,000,000")
     return together(a, b)
 
 
-def is_overworked(product: int) -> bool:
-    """Whether the sum of all products is over the limit, if there is one, with this one."""
+def work_on(product: int) -> None:
+    """Counts a step. TooLarge if the sum of all is over the limit, if there is one."""
     global most_work
     if most_work is None:
-        return False
+        return
     most_work -= product
-    return most_work < 0
+    if most_work < 0:
+        raise TooLarge(product, is_work=True)
 
 
 def together(a: Tag, b: Tag) -> Tag:

@@ -1,9 +1,9 @@
 """What an entry and the certificates become, joined from the left (section "Evidence and decision"; RFC 2693, 6.3 and 6.4)."""
 from .coverage import Rows
 from .evidence import Authorization, Definition, Tuple, names
-from .intersection import intersection
+from .intersection import intersection, work_on
 from .structures import Entry, Subject, Window
-from .tags import NOTHING
+from .tags import NOTHING, nodes
 
 CAUSES = Rows("reduction, cause", [
     "NotIssuer: names left", "NotIssuer: another key", "NotTheName: no name left", "NotTheName: another key", "NotTheName: another name",
@@ -76,6 +76,7 @@ def resolved(left: Authorization, name: Definition, strict: bool) -> Authorizati
     window = both(left.window, name.window)
     if window is None:
         raise no_join("NoValidity: a name")
+    work_on(nodes(left.tag))
     rest = left.subject.names[1:]
     JOINS.used("a name, more left" if rest else "a name, none left")
     subject = Subject(name.subject.principal, name.subject.names + rest)

@@ -18,7 +18,7 @@ use Rattle.spki_reduce.specs.Tuples.{FiveTuple, FourTuple, Tuple, five, four, ta
 use Rattle.spki_reduce.specs.Rules.{IsFor, Issues, Begins, Joins, Delegate, Resolve, delegated, resolved}
 use Rattle.spki_reduce.specs.Restrictions.{in_each, within_each, SomeMoment, NoMoment, met, nodes_product, deepest}
 use Rattle.spki_reduce.specs.Views.{five_tuple, issuer_of}
-use Rattle.spki_reduce.specs.Work.{Intersects}
+use Rattle.spki_reduce.specs.Work.{Reaches}
 use Rattle.spki_reduce.specs.Stops.{Stops, TooLargeFor}
 use Rattle.spki_reduce.specs.Reduced.{ReducesToFive, BecomesFive}
 use Rattle.spki_reduce.specs.Chain.{FoldsTo}
@@ -191,32 +191,34 @@ module _ (policy : Policy) (root : FiveTuple) (f : Five) (reduced : ReducesToFiv
   )
   stops (four right) NoTag h = h
 
-  -- ---- intersections
+  -- ---- steps that are reached
 
-  pub intersects : (right : Tuple) → Intersects policy (five_tuple f) right → Intersects policy root right
-  intersects (five right) h = record {
+  pub reaches : (right : Tuple) → Reaches policy (five_tuple f) right → Reaches policy root right
+  reaches (five right) h = record {
     issues = issues right h.issues;
     allowed = sym reduced.delegation ∙ h.allowed;
     timely = some_more f.window root.windows right.windows reduced.moments h.timely;
   }
-  intersects (four right) h = h
+  reaches (four right) h =
+      record { begins = begins right h.begins; timely = some_more f.window root.windows right.windows reduced.moments h.timely }
 
-  pub intersects_back : (right : Tuple) → Intersects policy root right → Intersects policy (five_tuple f) right
-  intersects_back (five right) h = record {
+  pub reaches_back : (right : Tuple) → Reaches policy root right → Reaches policy (five_tuple f) right
+  reaches_back (five right) h = record {
     issues = issues_back right h.issues;
     allowed = reduced.delegation ∙ h.allowed;
     timely = some_fewer f.window root.windows right.windows reduced.moments h.timely;
   }
-  intersects_back (four right) h = h
+  reaches_back (four right) h =
+      record { begins = begins_back right h.begins; timely = some_fewer f.window root.windows right.windows reduced.moments h.timely }
 
   pub too_large : (most : ℕ) (right : Tuple) → TooLargeFor most policy (five_tuple f) right → TooLargeFor most policy root right
   too_large most (five right) h =
-      (intersects (five right) h.0, more_nodes f.tag root.tags right.tags reduced.nodes most h.1)
+      (reaches (five right) h.0, more_nodes f.tag root.tags right.tags reduced.nodes most h.1)
   too_large most (four right) h = h
 
   pub too_large_back : (most : ℕ) (right : Tuple) → TooLargeFor most policy root right
       → most < nodes_product (f.tag ∷ tags_of right) → TooLargeFor most policy (five_tuple f) right
-  too_large_back most (five right) h large = (intersects_back (five right) h.0, large)
+  too_large_back most (five right) h large = (reaches_back (five right) h.0, large)
   too_large_back most (four right) h large = h
 
 -- what two tuples become is from the left issuer

@@ -11,9 +11,9 @@ use Rattle.spki_reduce.specs.Views.{five_tuple, step_tuple}
 use Rattle.spki_reduce.specs.Derivation.{from_left}
 use Rattle.spki_reduce.specs.Restrictions.{met, nodes_product}
 use Rattle.spki_reduce.specs.Chain.{tuples_of, FoldsTo, HasMet, StopsAt, all_tags}
-use Rattle.spki_reduce.specs.Work.{Intersects, IntersectsAt, IsCost, IsWork, IsWorkOf, IsCostOf, Takes, IsOver, IsOverworked}
+use Rattle.spki_reduce.specs.Work.{Reaches, ReachedAt, IsCost, IsWork, IsWorkOf, IsCostOf, Takes, IsOver, IsOverworked}
 use Rattle.spki_reduce.proofs.Bracketing.{one_root}
-use Rattle.spki_reduce.proofs.Folding.{intersects, intersects_back}
+use Rattle.spki_reduce.proofs.Folding.{reaches, reaches_back}
 use Rattle.spki_reduce.proofs.Chains.{step_stands, through}
 use Rattle.spki_reduce.proofs.Through.{AreTagged, steps_tagged, unstopped}
 
@@ -26,7 +26,7 @@ module _
   stands : slice_get (tuples_of steps) place ≡ Some (step_tuple step)
   stands = step_stands policy first steps place step f within read folds has_met
 
-  back : IntersectsAt policy first (tuples_of steps) place → Intersects policy (five_tuple f) (step_tuple step)
+  back : ReachedAt policy first (tuples_of steps) place → Reaches policy (five_tuple f) (step_tuple step)
   back at =
       let tree = from_left first (take place (tuples_of steps)) in
       let fives : five at.root ≡ five folds.root =
@@ -34,18 +34,18 @@ module _
       let roots : at.root ≡ folds.root = cc in
       let both : Some at.tuple ≡ Some (step_tuple step) = sym at.stands ∙ stands in
       let tuples : at.tuple ≡ step_tuple step = cc in
-      let here : Intersects policy folds.root (step_tuple step) =
-      subst (λ r. Intersects policy r (step_tuple step)) roots (subst (Intersects policy at.root) tuples at.joins) in
-      intersects_back policy folds.root f folds.reduced (step_tuple step) here
+      let here : Reaches policy folds.root (step_tuple step) =
+      subst (λ r. Reaches policy r (step_tuple step)) roots (subst (Reaches policy at.root) tuples at.joins) in
+      reaches_back policy folds.root f folds.reduced (step_tuple step) here
 
   cost_here : (n : ℕ) → IsCostOf policy (five_tuple f) f.tag (step_tuple step) n → IsCost policy first (tuples_of steps) place n
   cost_here n (inl h) =
-      let at : IntersectsAt policy first (tuples_of steps) place = record {
+      let at : ReachedAt policy first (tuples_of steps) place = record {
         tuple = step_tuple step;
         stands = stands;
         root = folds.root;
         before = through policy first steps place step f within read folds has_met;
-        joins = intersects policy folds.root f folds.reduced (step_tuple step) h.0;
+        joins = reaches policy folds.root f folds.reduced (step_tuple step) h.0;
       } in
       inl (at, h.1 ∙ ap (λ t. nodes_product (t ∷ tags_of (step_tuple step))) has_met)
   cost_here n (inr h) = inr (λ at. h.0 (back at), h.1)
@@ -76,7 +76,7 @@ over (Some a) (Some b) n m h k = omega (arith, h, k)
 
 module _ (policy : Policy) (first : Tuple) (others : List Tuple) where
   module _ (tagged : AreTagged others) (step : ℕ) (cause : Cause) (stops : StopsAt policy first others step cause) where
-    unmet : (place : ℕ) → step ≤ place → IntersectsAt policy first others place → ⊥
+    unmet : (place : ℕ) → step ≤ place → ReachedAt policy first others place → ⊥
     unmet place behind at = unstopped policy first others tagged place at.root at.before step behind cause stops
 
     -- steps behind the stop add nothing

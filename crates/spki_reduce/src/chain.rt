@@ -132,8 +132,8 @@ impl<'a> Five<'a> {
         })
     }
 
-    /// The cost of joining this authorization with a step: the product of the numbers of nodes of both tags, if they join except for
-    /// their tags; otherwise 0.
+    /// The cost of joining this authorization with a step: the product of the numbers of nodes of both tags, if they join whatever their
+    /// tags are; otherwise 0. A definition has no tag.
     fn cost_with(&self, step: &Step<'a>, policy: Policy) -> usize
         ensures { IsCostOf policy (five_tuple self.now) self.now.tag (step_tuple step.now) result }
     {
@@ -145,7 +145,13 @@ impl<'a> Five<'a> {
                     0
                 }
             }
-            Step::Name(_) => 0,
+            Step::Name(definition) => {
+                if self.is_resolved_by(definition, policy) {
+                    self.tag.nodes()
+                } else {
+                    0
+                }
+            }
         }
     }
 

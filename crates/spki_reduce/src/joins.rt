@@ -9,6 +9,7 @@ ghost use Rattle.spki_reduce.specs.Tuples.{five, four};
 ghost use Rattle.spki_reduce.specs.Views.{five_tuple, four_tuple};
 ghost use Rattle.spki_reduce.specs.Rules.{IsFor, Issues, Begins};
 ghost use Rattle.spki_reduce.specs.Stops.{Stops, JoinButForTags};
+ghost use Rattle.spki_reduce.specs.Work.{ResolvesTimely};
 ghost use Rattle.spki_reduce.specs.Reduced.{BecomesFive, BecomesFour, IsHandedOn, MatchJoined};
 
 use crate::fault::ReduceFault;
@@ -155,6 +156,13 @@ impl<'a> Five<'a> {
             return Err(Cause::NoDelegation);
         }
         self.window.meet(&next.window).ok_or(Cause::NoValidity)
+    }
+
+    /// Whether the subject begins with the name that is defined, and some moment is within both windows.
+    pub(crate) fn is_resolved_by(&self, definition: &Four, policy: Policy) -> bool
+        ensures { IsTrue result ↔ ResolvesTimely policy (five_tuple self.now) (four_tuple definition.now) }
+    {
+        begins(&self.subject, definition, policy) && self.window.meet(&definition.window).is_some()
     }
 
     /// Whether the subject issued another authorization: this one is for the issuer's key.
