@@ -214,6 +214,6 @@ def run_all(tests: list[unittest.TestCase], jobs: int, is_fast: bool, command: s
 
 def skipped_lines(outcomes: Iterable[Outcome]) -> Iterator[str]:
     """A line for each reason by which tests were skipped."""
-    reasons = Counter((reason, name.split(".")[0]) for outcome in outcomes for name, reason in outcome.skipped)
-    for (reason, module), count in sorted(reasons.items()):
-        yield f"skipped: {count} of {module} ({reason})"
+    reasons = Counter((outcome.name, reason) for outcome in outcomes for _, reason in outcome.skipped)
+    for (name, reason), count in sorted(reasons.items()):
+        yield f"skipped: {count} of {name} ({reason})"
