@@ -145,7 +145,7 @@ def refusal_of_part(name, text):
     """The line of the model's refusal of a part, or None."""
     try:
         if name == "acl":
-            guard.open_guard(text, False, 1_048_576, 1_000_000)
+            guard.open_guard(text, False, guard.USUAL)
         else:
             guard.part(name, MODEL[name], text)
     except Refused as why:
