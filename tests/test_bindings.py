@@ -34,6 +34,8 @@ COMMANDS = {"decide": "check", "explain": "explain", "reduce": "reduce"}
 NO_CASE = (b"refused form", b"refused case")
 TOO_LARGE = b"refused TooLarge\n"
 SECONDS = 1800
+# A limit of a guard that no question exceeds: the program has none on the work and the answer.
+UNBOUNDED = 2**62
 
 
 class Asked(NamedTuple):
@@ -137,8 +139,9 @@ def answered_by_python(spki, asked):
         return signed in asked.accepted
 
     question = spki.Question(asked.sequence, asked.key, asked.request, asked.moment)
+    policy, limits = spki.Policy.STRICT if asked.is_strict else spki.Policy.OPEN, spki.Limits(work=UNBOUNDED, answer=UNBOUNDED)
     try:
-        with spki.Guard(asked.access_list, spki.Policy.STRICT if asked.is_strict else spki.Policy.OPEN) as guard:
+        with spki.Guard(asked.access_list, policy, limits) as guard:
             answer = getattr(guard, asked.command)(question, verify)
     except spki.Refused as refused:
         return f"{refused.line}\n".encode()

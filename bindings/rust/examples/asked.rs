@@ -91,7 +91,8 @@ fn answer_to(
     let verify = |key: &[u8], message: &[u8], value: &[u8]| {
         accepted.chunks(3).any(|row| row == [key, message, value])
     };
-    let guard = Guard::read(list, policy, Limits::default())?;
+    let limits = Limits::default().with_work(usize::MAX, usize::MAX);
+    let guard = Guard::read(list, policy, limits)?;
     match command {
         "reduce" => guard.reduce(question, verify),
         "explain" => {
