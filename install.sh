@@ -1,6 +1,6 @@
 #!/usr/bin/env bash
 # Builds the proved program and the libraries for C programs, and installs them under a prefix, with the header of the libraries, the file
-# for pkg-config and the manual page. Needs the toolchain's `rt` in the path and a C compiler, unless PROGRAM and LIBRARY are given.
+# for pkg-config, the manual page and `spki-cert`, the command for those who hold keys. Needs the toolchain's `rt` in the path and a C compiler, unless PROGRAM and LIBRARY are given.
 # --uninstall removes the files that this version installs, and leaves the folders.
 # Usage: ./install.sh [PREFIX [PROGRAM [LIBRARY]]]        the default prefix is /usr/local; libspki_c.so is beside the LIBRARY
 #        ./install.sh --uninstall [PREFIX]
@@ -17,13 +17,17 @@ cd "$(dirname "$0")"
 version=$(< VERSION)
 soname=libspki_c.so.${version%.*}
 
+modules=(cert/spki.py cert/spki_cert_tool/*.py cert/spki_cert_tool/py.typed)
+
 if [[ $uninstalls ]]; then
-    for place in bin/spki lib/libspki_c.a "lib/$soname" lib/libspki_c.so lib/pkgconfig/spki.pc include/spki.h share/man/man1/spki.1; do
+    for place in bin/spki lib/libspki_c.a "lib/$soname" lib/libspki_c.so lib/pkgconfig/spki.pc include/spki.h share/man/man1/spki.1 \
+        bin/spki-cert "${modules[@]/#cert/share/spki-cert}"; do
         if [[ -e $prefix/$place || -L $prefix/$place ]]; then
             rm "$prefix/$place"
             echo "removed $prefix/$place"
         fi
     done
+    rm -rf "$prefix/share/spki-cert/__pycache__" "$prefix/share/spki-cert/spki_cert_tool/__pycache__"
     exit
 fi
 
@@ -61,3 +65,7 @@ END
 ) lib/pkgconfig/spki.pc
 placed 644 crates/spki_c/spki.h include/spki.h
 placed 644 docs/spki.1 share/man/man1/spki.1
+placed 755 cert/spki-cert bin/spki-cert
+for module in "${modules[@]}"; do
+    placed 644 "$module" "share/spki-cert${module#cert}"
+done

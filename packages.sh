@@ -1,5 +1,6 @@
 #!/usr/bin/env bash
-# Makes two Debian packages of what install.sh installs: `spki`, the program and its manual, and `libspki-dev`, the library for C programs.
+# Makes three Debian packages of what install.sh installs: `spki`, the program and its manual, `libspki-dev`, the library for C programs,
+# and `spki-cert`, the command for those who hold keys.
 # A machine without the toolchain can install them: `apt-get install ./spki_*.deb`. Needs dpkg-deb, and the file VERSION at the top.
 # There is no package with the shared library alone: a program that is linked with it needs libspki-dev where it runs.
 # DEBFULLNAME and DEBEMAIL name the maintainer.
@@ -18,9 +19,10 @@ libc_of() {
     grep -aoE 'GLIBC_2\.[0-9]+' "$1" | sort -uV | tail -n 1 | cut -d _ -f 2
 }
 
-# Makes a package of a folder: its name, what else it depends on, its section, and its descriptions, the short one first.
+# Makes a package of a folder: its name, what else it depends on, its section, its descriptions, the short one first, and if it is for all
+# architectures, `all` and what it recommends.
 package() {
-    local name=$1 depends=$2 section=$3 short=$4 long=$5 folder=$room/$1
+    local name=$1 depends=$2 section=$3 short=$4 long=$5 architecture=${6:-$architecture} recommends=${7:-} folder=$room/$1
     install -D -m 644 "$room/copyright" "$folder/usr/share/doc/$name/copyright"
     gzip -9nc "$here/CHANGELOG.md" > "$folder/usr/share/doc/$name/changelog.gz"
     mkdir "$folder/DEBIAN"
@@ -31,7 +33,8 @@ Architecture: $architecture
 Maintainer: ${DEBFULLNAME:-nobody} <${DEBEMAIL:-nobody@localhost}>
 Section: $section
 Priority: optional
-Depends: $depends
+Depends: $depends${recommends:+
+Recommends: $recommends}
 Installed-Size: $(du -sk --exclude=DEBIAN "$folder" | cut -f 1)
 Description: $short
  $long
@@ -45,7 +48,9 @@ echo "No license is given yet: it is for the owner to choose." > "$room/copyrigh
 for file in "$room"/all/usr/lib/pkgconfig/*.pc; do
     [[ ! -e $file ]] || sed -i 's|^prefix=.*|prefix=/usr|' "$file"
 done
-mkdir -p "$target" "$room/spki/usr" "$room/libspki-dev/usr"
+mkdir -p "$target" "$room/spki/usr" "$room/libspki-dev/usr" "$room"/spki-cert/usr/{bin,share}
+mv "$room/all/usr/bin/spki-cert" "$room/spki-cert/usr/bin"
+mv "$room/all/usr/share/spki-cert" "$room/spki-cert/usr/share"
 mv "$room"/all/usr/{bin,share} "$room/spki/usr"
 mv "$room"/all/usr/{include,lib} "$room/libspki-dev/usr"
 gzip -9n "$room"/spki/usr/share/man/man1/*.1
@@ -53,3 +58,6 @@ package spki "libc6 (>= $(libc_of "$room/spki/usr/bin/spki"))" utils "decide req
     "The program reads one question and answers yes or no by the rules of RFC 2693."
 package libspki-dev "libc6-dev" libdevel "decide requests by access lists and certificates, from C" \
     "The library answers what the program spki answers, from memory to memory."
+package spki-cert "python3 (>= 3.10), python3-cryptography" utils "make, sign, show and explain certificates (SPKI)" \
+    "The command spki-cert makes certificates with the keys of OpenSSH and PEM, and says why a request is granted or not." \
+    all "libspki-dev, python3-bcrypt"

@@ -2,6 +2,7 @@
 `tests/run --needs` prints come from it."""
 import functools
 import glob
+import importlib.util
 import shutil
 import subprocess
 import unittest
@@ -12,7 +13,7 @@ from typing import Any
 
 @dataclass(frozen=True)
 class Need:
-    """A command, a header of C or a file, its Debian package, and what is left out without it."""
+    """A command, a header of C, a file or a module of Python, its Debian package, and what is left out without it."""
 
     name: str
     package: str
@@ -23,6 +24,8 @@ class Need:
         """Whether this machine has it."""
         if self.name.endswith(".h"):
             return has_header(self.name)
+        if self.name.startswith("import "):
+            return importlib.util.find_spec(self.name.removeprefix("import ")) is not None
         return bool(glob.glob(self.name) if "/" in self.name else shutil.which(self.name))
 
     @property
@@ -41,7 +44,14 @@ NEEDS = [Need(*words) for words in [
     ("cargo", "cargo", "the Rust crate, from Rust 1.76 on, tested with 1.95: Debian 12 has 1.63, which is too old"),
     ("cargo-clippy", "rust-clippy", "the lints of the Rust crate"),
     ("cargo-fmt", "rustfmt", "the layout of the Rust crate"),
-    ("openssl", "openssl", "the examples and the services with real keys and signatures, from OpenSSL 3.0 on"),
+    ("import cryptography", "python3-cryptography", "`spki-cert`, the examples and the services with real keys and signatures"),
+    ("import bcrypt", "python3-bcrypt", "encrypted keys of OpenSSH in `spki-cert`"),
+    ("import pip", "python3-pip", "`pip install` of `spki-cert`"),
+    ("import setuptools", "python3-setuptools", "`pip install` of `spki-cert`"),
+    ("import wheel", "python3-wheel", "`pip install` of `spki-cert`"),
+    ("ssh-keygen", "openssh-client", "keys of OpenSSH in `spki-cert`"),
+    ("/usr/include/gcrypt.h", "libgcrypt20-dev", "verifying the signatures of `spki-cert` by libgcrypt"),
+    ("openssl", "openssl", "the keys of OpenSSL in `spki-cert`, and the manual's example with real keys, from OpenSSL 3.0 on"),
     ("openssl/evp.h", "libssl-dev", "the service in C"),
     ("/usr/lib/postgresql/*/bin/initdb", "postgresql", "entries in PostgreSQL"),
     ("dpkg-deb", "dpkg", "the Debian packages"),

@@ -1,6 +1,6 @@
 """What the scripts of tests/, bench/ and examples/ share: where the programs are, how one is run, and how S-expressions are written.
 
-A service that takes over `examples/signed/` does not need this module: `sexp.py` and `tools.py` there stand by themselves.
+A service that takes over `examples/signed/` does not need this module: `tools.py` there and `cert/spki_cert_tool/` stand by themselves.
 """
 import base64
 import importlib.machinery
@@ -12,8 +12,8 @@ import sys
 
 TOP = os.path.realpath(os.path.join(os.path.dirname(os.path.abspath(__file__)), ".."))
 TESTS, BENCH, EXAMPLES = (os.path.join(TOP, name) for name in ("tests", "bench", "examples"))
-sys.path.append(os.path.join(EXAMPLES, "signed"))
-from sexp import canonical, on_one_line, read  # noqa: E402
+sys.path.append(os.path.join(TOP, "cert"))
+from spki_cert_tool.sexp import canonical, on_one_line, read  # noqa: E402
 
 PROGRAM = os.path.join(TOP, "crates", "spki", "out", "spki")
 LIBRARY = os.path.join(TOP, "crates", "spki_c", "out", "libspki_c.a")

@@ -1,4 +1,4 @@
-"""Runs the examples that are programs: those with keys and signatures of OpenSSL, those with a database, and those with keys of lsh. Each ends
+"""Runs the examples that are programs: those with real keys and signatures, those with a database, and those with keys of lsh. Each ends
 with a line 'N passed, M failed', and must pass."""
 import os
 import unittest
@@ -23,7 +23,7 @@ class Example(unittest.TestCase):
 class OfProgram(Example):
     """The examples that need the program alone."""
 
-    @needs.needs("openssl")
+    @needs.needs("import cryptography")
     def test_signed(self) -> None:
         self.passes("signed/run.py", built.program())
 
@@ -32,7 +32,7 @@ class OfProgram(Example):
         self.passes("lsh.py", built.program())
 
 
-@needs.needs("openssl", *needs.LIBRARY)
+@needs.needs("import cryptography", *needs.LIBRARY)
 class OfDatabase(Example):
     """The story of a service with a database."""
 

@@ -48,7 +48,7 @@ MISTAKES = [
     ("#616#", "form Bad 4", (1, 5), "odd"),
     ("(a)\n(b)", "form Trailing 4", (2, 1), "a text is one value"),
     ("(a\n (b c", "form Short", (2, 6), "not closed"),
-    ('(a "b', "form Short", (1, 6), "string is not whole"),
+    ('(a "b', "form Short", (1, 4), "string is not whole"),
     ("(9:abc)", "form Short", (1, 8), "9 octets"),
     ("", "form Short", (1, 1), "no value"),
     ("(" * 65, "form TooDeep", (1, 65), "65th list"),
@@ -60,7 +60,8 @@ MISTAKES = [
     (with_field("(propagate yes)"), "sequence 3 Shape", (8, 13), "too many"),
     (with_field('(not-after "2024-01-01_00:00:00") (valid)'), "sequence 3 Shape", (8, 2), "`(valid ..)` too"),
     (with_certificate(f"(cert (issuer (name {KEY} n)) (subject {KEY}) (tag x))"), "sequence 3 Shape", (4, 80), "defines a name"),
-    (with_certificate(f"(cert (issuer (key a)) (subject {KEY}) (tag x))"), "sequence 3 Shape", (4, 16), "a principal is"),
+    (with_certificate(f"(cert (issuer (key a)) (subject {KEY}) (tag x))"), "sequence 3 Shape", (4, 16),
+     "must be `(public-key ..)` or `(hash ..)`, but is `(key ..)`"),
     (CASE.replace("(tag ftp)", "(taag ftp)", 1).replace("CERT", KEY), "acl 1 Shape", (1, 41), "`tag` meant"),
     (with_certificate(KEY).replace("(accepted)", f"(accepted (by {KEY} {HASH}))"), "accepted 1 Shape", (2, 118), "is missing"),
     (with_certificate(KEY).replace('"2024-01-01_00:00:00"', '"2024-13-01_00:00:00"'), "sequence 4 StraySignature", (4, 24), "no certificate"),
@@ -81,18 +82,18 @@ OF_PARTS = [
     (f"(acl\n (entry {KEY} (tag a))\n (entry {KEY}\n (taag a)))", "", "acl 2 Shape", (4, 2), "`tag` meant"),
     ('(acl (version "1"))', "", "acl 0 UnknownVersion", (1, 15), "version is 0"),
     ("(acl\n ~)", "form Bad 6", "form Bad 6", (2, 2), "a member or `)`"),
-    ("(ack)", "acl 0 Shape", "acl 0 Shape", (1, 1), "headed by `acl`"),
+    ("(ack)", "acl 0 Shape", "acl 0 Shape", (1, 1), "must be `(acl ..)`, but is `(ack ..)`; is `acl` meant?"),
     (f"(sequence {KEY}\n (cert (issuer {KEY}) (subject {KEY}) (tag ())))", "", "sequence 2 Tag EmptyList", (2, 76), "has members"),
     (f"(sequence {SIGNED})", "sequence 1 StraySignature", "sequence 1 StraySignature", (1, 11), "no certificate"),
     (f"(sequence\n (cert (issuer {KEY}) (subject {KEY}) (tag a)))", "", "sequence 1 UnsignedCert", (2, 2), "no signature"),
     ("(sequence (do hash sha265))", "", "sequence 1 HashAlg", (1, 20), "is `sha256` meant?"),
-    ("(sequenze)", "sequence 0 Shape", "sequence 0 Shape", (1, 1), "headed by `sequence`"),
-    (KEY, "sequence 0 Shape", "sequence 0 Shape", (1, 1), "headed by `sequence`"),
+    ("(sequenze)", "sequence 0 Shape", "sequence 0 Shape", (1, 1), "must be `(sequence ..)`, but is"),
+    (KEY, "sequence 0 Shape", "sequence 0 Shape", (1, 1), "must be `(sequence ..)`, but is"),
     ("(seq ~)", "sequence Bad 5", "sequence Bad 5", (1, 6), "a member or `)`"),
     ("{KDE6YQ", "sequence Short", "sequence Short", (1, 8), "before `}`"),
     ("(public-key (test a)\n (uri))", "", "key KeyUris", (2, 2), "no `(uri ..)`"),
     ("(public-key test)", "key Shape", "key Shape", (1, 13), "name of an algorithm"),
-    ("(hash sha1 x)", "key Shape", "key Shape", (1, 1), "headed by `public-key`"),
+    ("(hash sha1 x)", "key Shape", "key Shape", (1, 1), "must be `(public-key ..)`, but is `(hash ..)`"),
     ("(public-key (test a)", "key Short", "key Short", (1, 21), "not closed"),
     ("(ftp\n ())", "request EmptyList", "request EmptyList", (2, 2), "has members"),
     ("(ftp (* a))", "request StarInRequest", "request StarInRequest", (1, 7), "does not begin with `*`"),
@@ -127,7 +128,7 @@ def printed(text, *words):
         file.flush()
         out, sys.argv = io.StringIO(), ["locate", file.name, *words]
         with contextlib.redirect_stdout(out):
-            status = LOCATE.main()
+            status = LOCATE.main(LOCATE.__doc__ or "")
     return status, out.getvalue()
 
 

@@ -9,7 +9,8 @@ from support import EXAMPLES, TOP, output_of
 
 # A case of examples/, and what its picture has.
 CASES = {
-    "guide/granted.sexp": ["yes entry 1", "left: (tag (packages read (* prefix "], "guide/no-delegation.sexp": ["item 3 NoDelegation", "color=red"],
+    "guide/granted.sexp": ["yes entry 1", "left: (tag (packages read (* prefix\\n/builds/web/)))"],
+    "guide/no-delegation.sexp": ["item 3 NoDelegation", "color=red"],
     "delegation.sexp": ["yes entry 1"], "first-run.csexp": ["yes entry 1"], "shorter-request.csexp": ["TagLacks", "color=red"],
     "second-entry.csexp": ["yes entry 2"], "no-entries.csexp": ["digraph chain"], "signed/cases/granted.sexp": ["yes entry 1", "builders of"],
     "signed/cases/changed-octet.sexp": ["item 6 DigestDiffers", "color=red"], "signed/cases/other-key.sexp": ["item 6 NotAccepted"],

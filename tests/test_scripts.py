@@ -10,13 +10,13 @@ from support import TESTS, TOP
 MARK = "#!/usr/bin/env python3"
 LINE_LENGTH = 150
 # The folders whose modules are imported by their names alone.
-MODULES = ("tests", "examples", "examples/signed", "examples/database", "bindings/python", "bench")
+MODULES = ("tests", "examples", "examples/signed", "examples/database", "bindings/python", "bench", "cert")
 
 
 def scripts() -> list[str]:
     """The scripts of the repository, by their paths from the top."""
     listed = subprocess.run(["git", "ls-files", "-co", "--exclude-standard"], cwd=TOP, stdout=subprocess.PIPE, text=True, check=True)
-    return [path for path in listed.stdout.splitlines() if path.endswith(".py") or is_script(path)]
+    return [path for path in listed.stdout.splitlines() if not os.path.islink(f"{TOP}/{path}") and (path.endswith(".py") or is_script(path))]
 
 
 def is_script(path: str) -> bool:

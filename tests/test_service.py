@@ -1,4 +1,4 @@
-"""Drives examples/c/service.c, the service in C, with keys and certificates that `openssl` makes, and compares what it answers.
+"""Drives examples/c/service.c, the service in C, with keys and certificates that are made for it, and compares what it answers.
 
 The keys, the list and the certificates are those of examples/signed/run.py. Each question is sent to one process of the service: right
 ones, certificates with a wrong signature, another key at the login, certificates that have expired, a nonce that was used, requests and
@@ -14,10 +14,11 @@ import needs
 from support import EXAMPLES, is_compiled
 
 # (examples/signed/ has a module of this file's name)
+needs.required("import cryptography")
 sys.path.insert(0, os.path.join(EXAMPLES, "signed"))
 import tools  # noqa: E402
-from login import message  # noqa: E402
-from run import PASTED, READ, SERVICE, WRITE, Story, changed_bit, signed, with_digest_of  # noqa: E402
+from run import PASTED, READ, SERVICE, WRITE, Story, changed_bit, signed, with_changed_bit, with_digest_of  # noqa: E402
+from spki_cert_tool.login import message  # noqa: E402
 
 SOURCE = os.path.join(EXAMPLES, "c", "service.c")
 STRICT = ["cc", "-std=c11", "-Wall", "-Wextra", "-Wpedantic", "-Werror", "-O1", "-g"]
@@ -32,8 +33,8 @@ OVER_LIMITS = "refused: the answer or the number of certificates is over the lim
 class LastingStory(Story):
     """The story with certificates that last, since the service asks by its own clock, and one that has expired."""
 
-    def __init__(self, room):
-        super().__init__(room)
+    def __init__(self):
+        super().__init__()
         self.to_builders = self.to_builders.replace("2026-01-01", "2000-01-01")
         self.bob_is_builder = self.bob_is_builder.replace("2026-12-31", "9999-12-31")
         self.ended = self.to_carol.replace("2026-06-30", "2020-06-30")
@@ -51,7 +52,7 @@ def questions(story):
     good = signed(story.to_carol, bob)
     longer = story.to_carol.replace("9999-06-30", "9999-07-31")
     changed = signed(story.to_carol, bob, changed=longer)
-    wrong = good[:-3] + ("0" if good[-3] != "0" else "1") + good[-2:]
+    wrong = with_changed_bit(good)
     right = story.sequence(good)
     yield "all is right", right, carol.text, carol, READ, YES
     yield "an entry alone, by RSA", "(sequence)", alice.text, alice, WRITE, "yes entry 1\n"
@@ -161,7 +162,7 @@ def lists_refused(words, room):
     return results
 
 
-@needs.needs("openssl", "openssl/evp.h", *needs.LIBRARY)
+@needs.needs("import cryptography", "openssl/evp.h", *needs.LIBRARY)
 class Service(built.OfLibrary):
     """The service as it is, under AddressSanitizer, and under valgrind."""
 
@@ -171,7 +172,7 @@ class Service(built.OfLibrary):
         room = tempfile.TemporaryDirectory()
         cls.addClassCleanup(room.cleanup)
         cls.room, tools.SPKI = room.name, cls.program
-        cls.story, cls.path = LastingStory(cls.room), os.path.join(cls.room, "acl")
+        cls.story, cls.path = LastingStory(), os.path.join(cls.room, "acl")
         with open(cls.path, "w", encoding="ascii") as file:
             file.write(cls.story.access_list)
 

@@ -430,7 +430,7 @@ def string_at(text: bytes, *path: int) -> bytes | None:
     of a list is member 0.
 
     `None` if no string is there, or the text is no value in canonical form. Raises `Refused` if an allocation failed. Of
-    `(public-key (rsa-pkcs1-sha256 (e #010001#) (n ..)))` the path 1, 2, 1 is that of the modulus.
+    `(public-key (rsa (n ..) (e #010001#)))` the path 1, 1, 1 is that of the modulus.
     """
     octets, length = c_void_p(), c_size_t()
     if any(place not in range(len(text)) for place in path):

@@ -213,7 +213,7 @@ enum spki_status spki_guard_reduce(const spki_guard *guard, const struct spki_qu
 /* ---- strings */
 
 /* Finds the octets of a string inside a value in canonical form. They are in the text. Each number of the path is that of the list
- * member to enter, from 0. In `(public-key (rsa-pkcs1-sha256 (e #010001#) (n |..|)))` the path {1, 2, 1} leads to the modulus.
+ * member to enter, from 0. In `(public-key (rsa (n |..|) (e #010001#)))` the path {1, 1, 1} leads to the modulus.
  * With a depth of 0 the text itself is the string.
  *
  * SPKI_DONE: `*octets` and `*length` are set. With every other status they are null and 0. SPKI_NONE: no string is there.

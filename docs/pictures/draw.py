@@ -12,92 +12,22 @@ program first (`rt run` in crates/spki).
 Usage: docs/pictures/draw.py [--check] [PROGRAM]        --check writes nothing, and fails if a picture is not as it is drawn
 """
 import os
-import re
 import sys
 from html import escape
 
 HERE = os.path.dirname(os.path.abspath(__file__))
 sys.path.append(os.path.join(HERE, "..", "..", "examples"))
-import picture  # noqa: E402
-from picture import given_program  # noqa: E402
+from picture import drawn, given_program  # noqa: E402
+from spki_cert_tool.drawing import PICTURE_WIDTH, box, page, said, svg_of_lines  # noqa: E402
 
 CASES = {"granted": "The chain of a request that is granted", "no-delegation": "A chain that stops at a certificate"}
-STRING = r'"((?:[^"\\]|\\.)*)"'
-NODE = re.compile(rf"  (\w+) \[(?:shape=box, color=(\w+), )?label={STRING}(?:, shape=box, color=(\w+))?\];")
-ARROW = re.compile(rf"  (\w+) -> (\w+) \[label={STRING}, color=(\w+),")
-STYLE = """
-  .page { fill: #ffffff; stroke: #d0d7de }
-  .box { fill: #f6f8fa; stroke: #57606a }
-  .good { fill: #dafbe1; stroke: #1a7f37 }
-  .own { fill: #ddf4ff; stroke: #0969da }
-  text { font-family: sans-serif; font-size: 14px; fill: #1f2328; text-anchor: middle }
-  .title { font-weight: bold }
-  .small { font-size: 12px; fill: #57606a }
-  .left { text-anchor: start }
-  .line { stroke: #57606a; fill: none; stroke-width: 1.5 }
-  .head { fill: #57606a }
-  @media (prefers-color-scheme: dark) {
-    .page { fill: #0d1117; stroke: #30363d }
-    .box { fill: #161b22; stroke: #8b949e }
-    .good { fill: #12261e; stroke: #3fb950 }
-    .own { fill: #0c2d6b; stroke: #58a6ff }
-    text { fill: #e6edf3 }
-    .small { fill: #8b949e }
-    .line { stroke: #8b949e }
-    .head { fill: #8b949e }
-  }
-"""
 
 
-# What the pictures of cases have in addition.
-COLOURS = """
-  .bad { fill: #ffebe9; stroke: #cf222e }
-  .line.red { stroke: #cf222e }
-  .line.darkgreen { stroke: #1a7f37 }
-  text.red { fill: #cf222e }
-  text.darkgreen { fill: #1a7f37 }
-  @media (prefers-color-scheme: dark) {
-    .bad { fill: #3c1618; stroke: #ff7b72 }
-    .line.red { stroke: #ff7b72 }
-    .line.darkgreen { stroke: #3fb950 }
-    text.red { fill: #ff7b72 }
-    text.darkgreen { fill: #3fb950 }
-  }
-"""
-
-
-def box(x, y, width, height, lines, kind="box"):
-    """A box with lines of text in its middle, of which the first is its title."""
-    yield f'<rect class="{kind}" x="{x}" y="{y}" width="{width}" height="{height}" rx="6"/>'
-    top = y + height / 2 - 18 * (len(lines) - 1) / 2 + 5
-    for place, line in enumerate(lines):
-        of_class = ' class="title"' if place == 0 else ' class="small"'
-        yield f'<text{of_class} x="{x + width / 2:g}" y="{top + 18 * place:g}">{escape(line)}</text>'
-
-
-def arrow(x1, y1, x2, y2, *said):
+def arrow(x1, y1, x2, y2, *beside):
     """An arrow with lines of text beside its middle."""
     yield f'<path class="line" marker-end="url(#end)" d="M{x1:g} {y1:g} L{x2:g} {y2:g}"/>'
-    for place, line in enumerate(said):
-        yield f'<text class="small" x="{(x1 + x2) / 2:g}" y="{(y1 + y2) / 2 - 8 - 16 * (len(said) - 1 - place):g}">{escape(line)}</text>'
-
-
-def said(x, y, text, of_class="small left"):
-    yield f'<text class="{of_class}" x="{x}" y="{y}">{escape(text)}</text>'
-
-
-def page(width, height, title, *parts, style=STYLE):
-    """A picture of some parts."""
-    yield (f'<svg xmlns="http://www.w3.org/2000/svg" viewBox="0 0 {width} {height}" width="{width}" height="{height}" role="img" '
-           f'aria-label="{escape(title)}">')
-    yield f"<title>{escape(title)}</title>"
-    yield f"<style>{style}</style>"
-    yield ('<defs><marker id="end" viewBox="0 0 8 8" refX="7" refY="4" markerWidth="8" markerHeight="8" orient="auto">'
-           '<path class="head" d="M0 0 L8 4 L0 8 z"/></marker></defs>')
-    yield f'<rect class="page" x="0.5" y="0.5" width="{width - 1}" height="{height - 1}" rx="8"/>'
-    for part in parts:
-        yield from part
-    yield "</svg>"
+    for place, line in enumerate(beside):
+        yield f'<text class="small" x="{(x1 + x2) / 2:g}" y="{(y1 + y2) / 2 - 8 - 16 * (len(beside) - 1 - place):g}">{escape(line)}</text>'
 
 
 def chain():
@@ -175,39 +105,9 @@ def octets():
 # ---- the chain of a case
 
 
-def lines_of(string):
-    """The lines of a string of Graphviz."""
-    return [re.sub(r"\\(.)", r"\1", line) for line in re.split(r"(?<!\\)\\n", string)]
-
-
 def of_case(name, program):
-    """The chain of a case, from top to bottom: each of its arrows begins where the one before ends."""
-    picture.WIDTH = 70
-    text = picture.drawn(program, os.path.join(HERE, "..", "..", "examples", "guide", f"{name}.sexp"))
-    nodes = {found[1]: (lines_of(found[3]), found[2] or found[4]) for found in map(NODE.fullmatch, text) if found}
-    arrows = [found.groups() for found in map(ARROW.match, text) if found]
-    assert all(end == begin for (_, end, *_), (begin, *_) in zip(arrows, arrows[1:])), f"{name} is no chain without branches"
-    x, y, width, parts = 20, 20, 420, []
-    for place, node in enumerate([arrows[0][0], *(end for _, end, *_ in arrows)]):
-        lines, colour = nodes[node]
-        kind = {"blue": "own", "darkgreen": "good", "red": "bad"}.get(colour, "box")
-        height = 22 + 18 * len(lines)
-        if place:
-            _, _, label, colour = arrows[place - 1]
-            beside = lines_of(label)
-            ends = y + 24 + 16 * len(beside)
-            parts += coloured_arrow(x + width / 2, y, ends - 2, beside, colour)
-            y = ends
-        parts += box(x, y, width, height, lines, kind)
-        y += height
-    return page(620, y + 20, CASES[name], parts, style=STYLE + COLOURS)
-
-
-def coloured_arrow(x, y1, y2, beside, colour):
-    """An arrow downwards with lines of text to the right of it."""
-    yield f'<path class="line {colour}" marker-end="url(#end)" d="M{x:g} {y1:g} L{x:g} {y2:g}"/>'
-    for place, line in enumerate(beside):
-        yield from said(f"{x + 14:g}", y1 + 24 + 16 * place, line, f"small left {colour}")
+    """The chain of a case, from top to bottom."""
+    return svg_of_lines(drawn(program, os.path.join(HERE, "..", "..", "examples", "guide", f"{name}.sexp"), PICTURE_WIDTH), CASES[name])
 
 
 def main():

@@ -16,8 +16,9 @@
  * The service writes `yes entry N`, or `no` and the lines that explain why, or a line that begins with `refused`. ONLY `yes` IS A YES. A
  * service that must not tell strangers about its access list writes the explanation to a log.
  *
- * A key is `(public-key (ed25519 #..#))` or `(public-key (rsa-pkcs1-sha256 (e #..#) (n #..#)))`. A signature is one string, by Ed25519 or
- * by RSASSA-PKCS1-v1_5 with SHA-256, of the octets of the certificate's canonical form.
+ * Keys and signatures have the forms of docs/FORMATS.md, "Keys and signatures of services", which libgcrypt reads and `spki-cert` writes:
+ * those of Ed25519, of RSASSA-PKCS1-v1_5 with SHA-256, and of ECDSA with P-256 and SHA-256. A signature is of the octets of the
+ * certificate's canonical form.
  *
  * The library parses all texts that come from outside. The code below reads no S-expression and writes none, except the constant text
  * around the nonce. Exit status: 0 at the end of the input, 2 if the list or the words are wrong, 3 if the input is.
@@ -25,6 +26,7 @@
  *     cc -std=c11 -Wall -Wextra -o service service.c $(pkg-config --cflags --libs spki libcrypto)
  */
 #include <openssl/core_names.h>
+#include <openssl/ec.h>
 #include <openssl/evp.h>
 #include <openssl/param_build.h>
 #include <openssl/rand.h>
@@ -37,7 +39,8 @@
 
 /* The limits of a question: octets, certificates, strings of the request, and the work of one intersection of tags. */
 enum { MOST_OCTETS = 65536, MOST_CERTIFICATES = 16, MOST_WORDS = 16, MOST_NODES = 10000 };
-enum { MOST_LIST = 1048576, LINE_OCTETS = 64, NONCE_OCTETS = 32, ED25519_OCTETS = 32, LEAST_MODULUS = 256, MOST_MODULUS = 513 };
+enum { MOST_LIST = 1048576, LINE_OCTETS = 64, NONCE_OCTETS = 32, HALF_OCTETS = 32, POINT_OCTETS = 65, LEAST_BITS = 2048, MOST_MODULUS = 513,
+       MOST_EXPONENT = 8 };
 enum { BAD_LIST = 2, BAD_INPUT = 3 };
 
 /* The parts of a question, in the order in which they are sent. */
@@ -97,34 +100,45 @@ static struct spki_text string_at(struct spki_text value, const size_t *path, si
     return string;
 }
 
-/* The string at member `member` of part `part` of a key's parameters: `(public-key (ALGORITHM (NAME STRING) (NAME STRING)))`. */
-static struct spki_text parameter(struct spki_text key, size_t part, size_t member)
-{
-    return string_at(key, (const size_t[]){1, part, member}, 3);
-}
-
 static bool is(struct spki_text string, const char *wanted)
 {
     return string.octets && string.length == strlen(wanted) && memcmp(string.octets, wanted, string.length) == 0;
 }
 
+/* The string of part `part` of the parameters of a key or of a signature: `(public-key (ALGORITHM (NAME STRING) (NAME STRING)))`. Its
+ * octets are null if the part has another name. */
+static struct spki_text parameter(struct spki_text value, size_t part, const char *name)
+{
+    struct spki_text found = string_at(value, (const size_t[]){1, part, 0}, 3);
+    if (!is(found, name))
+        return (struct spki_text){NULL, 0};
+    return string_at(value, (const size_t[]){1, part, 1}, 3);
+}
+
+/* OpenSSL's public key of this kind, or null. */
+static EVP_PKEY *made_of(const char *kind, OSSL_PARAM *parameters)
+{
+    EVP_PKEY *key = NULL;
+    EVP_PKEY_CTX *context = EVP_PKEY_CTX_new_from_name(NULL, kind, NULL);
+    if (!context || !parameters || EVP_PKEY_fromdata_init(context) != 1
+        || EVP_PKEY_fromdata(context, &key, EVP_PKEY_PUBLIC_KEY, parameters) != 1)
+        key = NULL;
+    EVP_PKEY_CTX_free(context);
+    return key;
+}
+
 /* OpenSSL's key of an exponent and a modulus, or null. */
 static EVP_PKEY *rsa_key(struct spki_text exponent, struct spki_text modulus)
 {
-    if (!exponent.octets || exponent.length > MOST_MODULUS || !modulus.octets || modulus.length < LEAST_MODULUS
-        || modulus.length > MOST_MODULUS)
+    if (!exponent.octets || exponent.length > MOST_EXPONENT || !modulus.octets || modulus.length > MOST_MODULUS)
         return NULL;
-    EVP_PKEY *key = NULL;
-    OSSL_PARAM *parameters = NULL;
     BIGNUM *e = BN_bin2bn(exponent.octets, (int)exponent.length, NULL), *n = BN_bin2bn(modulus.octets, (int)modulus.length, NULL);
     OSSL_PARAM_BLD *builder = OSSL_PARAM_BLD_new();
-    EVP_PKEY_CTX *context = EVP_PKEY_CTX_new_from_name(NULL, "RSA", NULL);
-    if (e && n && builder && context && OSSL_PARAM_BLD_push_BN(builder, OSSL_PKEY_PARAM_RSA_E, e)
+    OSSL_PARAM *parameters = NULL;
+    if (e && n && BN_num_bits(n) >= LEAST_BITS && builder && OSSL_PARAM_BLD_push_BN(builder, OSSL_PKEY_PARAM_RSA_E, e)
         && OSSL_PARAM_BLD_push_BN(builder, OSSL_PKEY_PARAM_RSA_N, n))
         parameters = OSSL_PARAM_BLD_to_param(builder);
-    if (parameters && EVP_PKEY_fromdata_init(context) == 1 && EVP_PKEY_fromdata(context, &key, EVP_PKEY_PUBLIC_KEY, parameters) != 1)
-        key = NULL;
-    EVP_PKEY_CTX_free(context);
+    EVP_PKEY *key = made_of("RSA", parameters);
     OSSL_PARAM_free(parameters);
     OSSL_PARAM_BLD_free(builder);
     BN_free(n);
@@ -132,41 +146,110 @@ static EVP_PKEY *rsa_key(struct spki_text exponent, struct spki_text modulus)
     return key;
 }
 
-/* OpenSSL's key of a key in canonical form, and the digest that its signatures use. Null for a key of another kind. */
-static EVP_PKEY *key_of(struct spki_text key, const EVP_MD **digest)
+/* OpenSSL's key of a point of P-256, or null. */
+static EVP_PKEY *p256_key(struct spki_text point)
 {
-    struct spki_text algorithm = string_at(key, (const size_t[]){1, 0}, 2), only = string_at(key, (const size_t[]){1, 1}, 2);
-    *digest = NULL;
-    if (is(algorithm, "ed25519") && only.octets && only.length == ED25519_OCTETS)
-        return EVP_PKEY_new_raw_public_key(EVP_PKEY_ED25519, NULL, only.octets, only.length);
-    *digest = EVP_sha256();
-    if (is(algorithm, "rsa-pkcs1-sha256") && is(parameter(key, 1, 0), "e") && is(parameter(key, 2, 0), "n"))
-        return rsa_key(parameter(key, 1, 1), parameter(key, 2, 1));
+    char curve[] = "prime256v1";
+    unsigned char octets[POINT_OCTETS];
+    if (!point.octets || point.length != sizeof octets)
+        return NULL;
+    memcpy(octets, point.octets, sizeof octets);
+    OSSL_PARAM parameters[] = {OSSL_PARAM_construct_utf8_string(OSSL_PKEY_PARAM_GROUP_NAME, curve, 0),
+                               OSSL_PARAM_construct_octet_string(OSSL_PKEY_PARAM_PUB_KEY, octets, sizeof octets),
+                               OSSL_PARAM_construct_end()};
+    return made_of("EC", parameters);
+}
+
+/* OpenSSL's key of a key in canonical form, and the word of its signatures. Null for a key of another kind. */
+static EVP_PKEY *key_of(struct spki_text key, const char **word)
+{
+    struct spki_text algorithm = string_at(key, (const size_t[]){1, 0}, 2), curve = parameter(key, 1, "curve");
+    struct spki_text point = parameter(key, 3, "q");
+    *word = is(algorithm, "rsa") ? "rsa" : is(curve, "Ed25519") ? "eddsa" : "ecdsa";
+    if (is(algorithm, "rsa"))
+        return rsa_key(parameter(key, 2, "e"), parameter(key, 1, "n"));
+    if (is(algorithm, "ecc") && is(curve, "NIST P-256"))
+        return p256_key(parameter(key, 2, "q"));
+    if (is(algorithm, "ecc") && is(curve, "Ed25519") && is(parameter(key, 2, "flags"), "eddsa") && point.octets
+        && point.length == HALF_OCTETS)
+        return EVP_PKEY_new_raw_public_key(EVP_PKEY_ED25519, NULL, point.octets, point.length);
     return NULL;
 }
 
-/* Whether a string is a signature of a message by a key in canonical form. */
-static bool verifies(struct spki_text key, struct spki_text message, struct spki_text signature)
+/* Writes the two numbers of a signature by ECDSA as OpenSSL has them. Returns the count of the octets, or 0. */
+static size_t ecdsa_signature(struct spki_text r, struct spki_text s, unsigned char *octets)
 {
-    const EVP_MD *digest;
-    EVP_PKEY *public = key_of(key, &digest);
+    ECDSA_SIG *pair = ECDSA_SIG_new();
+    BIGNUM *first = BN_bin2bn(r.octets, (int)r.length, NULL), *second = BN_bin2bn(s.octets, (int)s.length, NULL);
+    int length = 0;
+    if (pair && first && second && ECDSA_SIG_set0(pair, first, second) == 1)
+        length = i2d_ECDSA_SIG(pair, &octets);
+    else {
+        BN_free(first);
+        BN_free(second);
+    }
+    ECDSA_SIG_free(pair);
+    return length > 0 ? (size_t)length : 0;
+}
+
+/* Writes the octets that OpenSSL verifies: of a signature by Ed25519 both halves, of one by RSA its number, of one by ECDSA both
+ * numbers. Returns their count, or 0. */
+static size_t signature_of(struct spki_text value, const char *word, unsigned char octets[MOST_MODULUS])
+{
+    bool is_rsa = strcmp(word, "rsa") == 0;
+    struct spki_text first = parameter(value, 1, is_rsa ? "s" : "r"), second = parameter(value, 2, "s");
+    if (!is(string_at(value, (const size_t[]){0}, 1), "sig-val") || !is(string_at(value, (const size_t[]){1, 0}, 2), word) || !first.octets
+        || first.length > (is_rsa ? MOST_MODULUS : HALF_OCTETS))
+        return 0;
+    if (is_rsa) {
+        memcpy(octets, first.octets, first.length);
+        return first.length;
+    }
+    if (!second.octets || second.length > HALF_OCTETS)
+        return 0;
+    if (strcmp(word, "ecdsa") == 0)
+        return ecdsa_signature(first, second, octets);
+    if (first.length != HALF_OCTETS || second.length != HALF_OCTETS)
+        return 0;
+    memcpy(octets, first.octets, HALF_OCTETS);
+    memcpy(octets + HALF_OCTETS, second.octets, HALF_OCTETS);
+    return 2 * HALF_OCTETS;
+}
+
+/* Whether a value is a signature of a message by a key, all in canonical form. */
+static bool verifies(struct spki_text key, struct spki_text message, struct spki_text value)
+{
+    const char *word;
+    unsigned char signature[MOST_MODULUS];
+    EVP_PKEY *public = key_of(key, &word);
+    const EVP_MD *digest = strcmp(word, "eddsa") == 0 ? NULL : EVP_sha256();
+    size_t length = public ? signature_of(value, word, signature) : 0;
     EVP_MD_CTX *context = EVP_MD_CTX_new();
-    bool right = public && context && signature.octets && EVP_DigestVerifyInit(context, NULL, digest, NULL, public) == 1
-                 && EVP_DigestVerify(context, signature.octets, signature.length, message.octets, message.length) == 1;
+    bool right = length > 0 && context && EVP_DigestVerifyInit(context, NULL, digest, NULL, public) == 1
+                 && EVP_DigestVerify(context, signature, length, message.octets, message.length) == 1;
     EVP_MD_CTX_free(context);
     EVP_PKEY_free(public);
     return right;
 }
 
-/* Whether the client holds the key that it shows. Brings the key into canonical form, which is one value and no more. */
+/* Brings a part of a question into canonical form, which is one value and no more. Returns whether it is one. */
+static bool is_one_value(struct spki_text *part, unsigned char room[MOST_OCTETS])
+{
+    size_t length;
+    if (spki_answer(SPKI_CANONICAL, part->octets, part->length, room, MOST_OCTETS, &length) != SPKI_DONE)
+        return false;
+    *part = (struct spki_text){room, length};
+    return true;
+}
+
+/* Whether the client holds the key that it shows. */
 static bool holds_key(struct spki_text parts[MOST_PARTS], const unsigned char nonce[NONCE_OCTETS])
 {
-    static unsigned char key[MOST_OCTETS];
+    static unsigned char key[MOST_OCTETS], signature[MOST_OCTETS];
     unsigned char message[sizeof before_nonce + NONCE_OCTETS];
-    size_t front = sizeof before_nonce - 1, length;
-    if (spki_answer(SPKI_CANONICAL, parts[KEY].octets, parts[KEY].length, key, sizeof key, &length) != SPKI_DONE)
+    size_t front = sizeof before_nonce - 1;
+    if (!is_one_value(&parts[KEY], key) || !is_one_value(&parts[SIGNATURE], signature))
         return false;
-    parts[KEY] = (struct spki_text){key, length};
     memcpy(message, before_nonce, front);
     memcpy(message + front, nonce, NONCE_OCTETS);
     message[front + NONCE_OCTETS] = ')';
@@ -197,7 +280,7 @@ static void decide(const struct service *service, const struct spki_question *qu
         return;
     }
     for (size_t i = 0; i < count; i++)
-        verified[i] = verifies(certificates[i].key, certificates[i].message, string_at(certificates[i].value, NULL, 0));
+        verified[i] = verifies(certificates[i].key, certificates[i].message, certificates[i].value);
     status = spki_guard_decide(service->guard, question, verified, count, answer, room, &length);
     put(status, answer, length);
     if (status == SPKI_NO) {

@@ -2,7 +2,8 @@
 """A service whose access list is a table of a database: its entries come and go while it answers.
 
 Alice has an entry, by the hash of her key, and passes a part of her right on to Bob. Bob logs in by a signed nonce and asks. Then the same
-after the entry is removed, and after it is added again. The keys are made by `openssl`, as in examples/signed/.
+after the entry is removed, and after it is added again. The keys are made as in examples/signed/, and need `cryptography`
+(Debian: python3-cryptography).
 
 The table is in SQLite, in a temporary file. With `--postgres` it is in PostgreSQL: of the server with these settings of libpq, or of one
 that is started in a temporary folder. If none can be started, the script says so and ends. Build the program and the library first
@@ -25,25 +26,20 @@ import entries  # noqa: E402
 import postgres  # noqa: E402
 import spki  # noqa: E402
 import sqlite  # noqa: E402
-from keys import ED25519, RSA, Pair, verifies  # noqa: E402
-from login import Login, message  # noqa: E402
-from run import signed  # noqa: E402
-from sexp import canonical, read  # noqa: E402
+from run import Pair, signed  # noqa: E402
+from spki_cert_tool.keys import ED25519, RSA, verify  # noqa: E402
+from spki_cert_tool.login import Login, message  # noqa: E402
+from spki_cert_tool.sexp import canonical  # noqa: E402
 
 SERVICE = b"packages.example"
 READ, WRITE = (b"packages", b"read", b"/builds/x"), (b"packages", b"write", b"/builds/x")
 RIGHTS = b"(tag (packages (* set read write)))"
 
 
-def verify(key, octets, value):
-    """Whether `openssl` says that a value is a signature."""
-    return verifies(read(key), octets, read(value))
-
-
 def logged_in(pair):
     """The key that the holder of a pair has shown to hold."""
     login = Login(SERVICE)
-    login.answer(pair.text, pair.sign(message(SERVICE, login.nonce)))
+    login.answer(pair.text.encode(), pair.sign(message(SERVICE, login.nonce)))
     return canonical(login.key)
 
 
@@ -60,9 +56,9 @@ def opened(words):
         yield table
 
 
-def told(table, room):
+def told(table):
     """Tells the story, and yields of each answer whether it is as wanted."""
-    alice, bob, carol = (Pair(room, name, kind) for name, kind in (("alice", RSA), ("bob", ED25519), ("carol", ED25519)))
+    alice, bob, carol = map(Pair, (RSA, ED25519, ED25519))
     to_bob = f'(cert (issuer {alice.principal}) (subject {bob.principal}) (tag (packages read)) (not-after "9999-12-31_23:59:59"))'
     sequence = f"(sequence {alice.text} {signed(to_bob, alice)})".encode()
     service = entries.Service(table)
@@ -90,8 +86,8 @@ def main():
     if sys.argv[1:] == ["--postgres"] and (missing := postgres.missing()):
         print(f"{missing} is not there: PostgreSQL is left out\n0 passed, 0 failed")
         return 0
-    with opened(sys.argv[1:]) as table, tempfile.TemporaryDirectory() as room:
-        results = list(told(table, room))
+    with opened(sys.argv[1:]) as table:
+        results = list(told(table))
     print(f"{sum(results)} passed, {len(results) - sum(results)} failed")
     return 0 if all(results) else 1
 

@@ -1,13 +1,13 @@
 #!/usr/bin/env python3
-"""From keys made by OpenSSL to decisions by `spki`, and the reason of each decision.
+"""From new keys to decisions by `spki`, and the reason of each decision.
 
 A service keeps packages. Alice may read and write all builds, and may delegate that. Bob may read manuals. Alice delegates the web
 builds to her builders, and certifies that Bob is one. Bob lets Carol read. Carol logs in by a signed nonce, and asks. Then the same with
 something wrong: logins that the service refuses, and cases with another answer.
 
-Needs `openssl` (3.0) and Python's standard library (3.10). New keys are made at each run, and the private ones are thrown away.
-Prints what it does. The last line counts the logins and answers that are as wanted. With a folder, which must exist, it keeps the
-texts of the cases there.
+Needs Python (3.10) and `cryptography` (Debian: python3-cryptography). New keys are made at each run, and the private ones are thrown
+away. The keys and signatures are those of `spki-cert`, whose code this example uses. Prints what it does. The last line counts the logins
+and answers that are as wanted. With a folder, which must exist, it keeps the texts of the cases there.
 
 Build the program first (`rt run` in crates/spki).
 Usage: examples/signed/run.py [PROGRAM [FOLDER]]
@@ -18,10 +18,11 @@ import sys
 import tempfile
 
 import tools
-from keys import ED25519, RSA, Pair, hash_of
-from login import Login, message
-from sexp import laid_out, read
 from service import MOST_CERTIFICATES, MOST_SHOWN, ask
+from spki_cert_tool import sexp
+from spki_cert_tool.keys import ED25519, P256, RSA, FileSigner, hash_of, new_private, principal_of
+from spki_cert_tool.login import Login, message
+from spki_cert_tool.sexp import laid_out, on_one_line, read
 from tools import canonical, spki
 
 SERVICE = b"packages.example"
@@ -32,11 +33,23 @@ WRITE = ("packages", "write", "/builds/web/index.html")
 PASTED = ("packages", "read", '/manuals/cook.pdf")) (request (packages read "/builds/web/index.html')
 
 
+class Pair(FileSigner):
+    """A new key pair. The private key stays in memory."""
+
+    def __init__(self, kind):
+        super().__init__(new_private(kind))
+        self.text, self.principal = laid_out(self.key), laid_out(principal_of(self.key))
+
+    def sign(self, message):
+        """The value of a signature of these octets, in canonical form."""
+        return sexp.canonical(super().sign(message))
+
+
 class Story:
     """The three key pairs, and the texts that their holders write."""
 
-    def __init__(self, room):
-        self.alice, self.bob, self.carol = (Pair(room, name, kind) for name, kind in (("alice", RSA), ("bob", ED25519), ("carol", ED25519)))
+    def __init__(self):
+        self.alice, self.bob, self.carol = Pair(RSA), Pair(ED25519), Pair(P256)
         alice, bob, carol = self.alice.principal, self.bob.principal, self.carol.principal
         self.access_list = f"""(acl
             (entry {alice} (propagate) (tag (packages (* set read write) (* prefix "/builds/"))))
@@ -53,13 +66,13 @@ class Story:
 
 
 def signed(certificate, pair, named=None, changed=None):
-    """A certificate and its signature by a pair: the octets that `openssl` signs are those of `spki canonical`.
+    """A certificate and its signature by a pair: the octets that are signed are those of `spki canonical`.
 
     A forger says that it is by another (`named`), or shows another certificate than the one that was signed (`changed`).
     """
     octets = canonical(certificate)
     digest, signer = laid_out(hash_of(read(octets))), (named or pair).principal
-    return f"{changed or certificate} (signature {digest} {signer} #{pair.sign(octets).hex()}#)"
+    return f"{changed or certificate} (signature {digest} {signer} {on_one_line(read(pair.sign(octets)))})"
 
 
 def with_digest_of(other, item):
@@ -74,8 +87,16 @@ def answered(pair, login, service=SERVICE):
     return pair.sign(message(service, login.nonce))
 
 
-def changed_bit(octets):
-    return octets[:-1] + bytes([octets[-1] ^ 1])
+def changed_bit(value):
+    """The value of a signature, of whose last octet one bit is changed. Three lists end behind it."""
+    return value[:-4] + bytes([value[-4] ^ 1]) + value[-3:]
+
+
+def with_changed_bit(item):
+    """A certificate with its signature, of which one bit is changed."""
+    certificate, signature = read(canonical(f"({item})"))
+    signature[3] = read(changed_bit(sexp.canonical(signature[3])))
+    return f"{laid_out(certificate)} {laid_out(signature)}"
 
 
 def logins(story):
@@ -97,7 +118,7 @@ def logins(story):
 def login_passed(remark, login, key, value, wanted):
     """Tries a login, prints, and says whether it passes or is refused as wanted. The service knows a key then, or none."""
     before = login.key
-    passed = login.answer(key, value)
+    passed = login.answer(key.encode(), value)
     known = login.key == read(canonical(key)) if passed else login.key == before
     print(f"  {'passes' if passed else 'refused'}: {remark}{'' if passed == wanted and known else '; WANTED OTHERWISE'}")
     return passed == wanted and known
@@ -106,7 +127,7 @@ def login_passed(remark, login, key, value, wanted):
 def logged_in(pair):
     """A connection in which the holder of a pair has logged in."""
     login = Login(SERVICE)
-    login.answer(pair.text, answered(pair, login))
+    login.answer(pair.text.encode(), answered(pair, login))
     return login
 
 
@@ -172,7 +193,7 @@ def attempt(story, folder, name, remark, sequence, holder, words, moment, wrong)
     with open(os.path.join(folder, f"{name}.sexp"), "w", encoding="ascii") as file:
         file.write(text)
     print(f"\n{name}: {remark}")
-    print(f"  openssl: {', '.join('verifies' if good else 'does not verify' for good in verdicts)}")
+    print(f"  signatures: {', '.join('valid' if good else 'not valid' for good in verdicts)}")
     print(f"  spki check: {answer.strip()}")
     print("".join(f"  spki explain: {line}\n" for line in explained.splitlines()), end="")
     wanted = (1, "no\n", wanted_lines(wrong)) if wrong else (0, "yes entry 1\n", wanted_lines(wrong))
@@ -184,7 +205,7 @@ def attempt(story, folder, name, remark, sequence, holder, words, moment, wrong)
 def tell(story):
     """The keys, the list and the certificates."""
     for name, pair in (("Alice", story.alice), ("Bob", story.bob), ("Carol", story.carol)):
-        print(f"{name}'s key, made by openssl:\n{pair.text}\n")
+        print(f"{name}'s key:\n{pair.text}\n")
     print("The access list of the service, and the three certificates:")
     for text in (story.access_list, story.to_builders, story.bob_is_builder, story.to_carol):
         print(laid_out(read(canonical(text))))
@@ -193,14 +214,14 @@ def tell(story):
 def main():
     if len(sys.argv) > 1:
         tools.SPKI = os.path.abspath(sys.argv[1])
-    missing = [program for program in (tools.SPKI, "openssl") if shutil.which(program) is None]
+    missing = [tools.SPKI] * (shutil.which(tools.SPKI) is None)
     missing += [folder for folder in sys.argv[2:3] if not os.path.isdir(folder)]
     if missing:
         print(f"{missing[0]} is not there", file=sys.stderr)
         return 2
     with tempfile.TemporaryDirectory() as room:
         folder = sys.argv[2] if len(sys.argv) > 2 else room
-        story = Story(room)
+        story = Story()
         tell(story)
         print("\nLogins:")
         results = [login_passed(*each) for each in logins(story)]

@@ -7,35 +7,26 @@ What comes from outside is written into a case in two ways, and never pasted int
 - A whole value, as the sequence, is read by `spki canonical`, which accepts one value and no more.
 - A string, as a path in a request, is written as LENGTH:OCTETS. Then it is one string, whatever it holds.
 """
-import hashlib
-
-from keys import hash_of, verifies
-from sexp import canonical, read
 from tools import canonical as canonical_of, spki
+from spki_cert_tool.certificates import Keys
+from spki_cert_tool.keys import hash_of, verifies
+from spki_cert_tool.sexp import canonical, read
 
 # The most octets and certificates of a sequence. README.md, "Limits", says why a service bounds them, and the time.
 MOST_SHOWN = 65536
 MOST_CERTIFICATES = 16
 
 
-def key_named(principal, items):
-    """The key that a principal names: the key itself, or the first one shown that has the hash."""
-    if principal[0] == b"public-key":
-        return principal
-    _, algorithm, digest, *_ = principal
-    keys = (item for item in items if item[0] == b"public-key")
-    return next((key for key in keys if hashlib.new(algorithm.decode(), canonical(key)).digest() == digest), None)
-
-
 def verified(items):
     """A row for each signature that verifies as one of the certificate before it; and of each whether it does."""
     rows, verdicts, certificate = [], [], None
+    keys = Keys(item for item in items if item[0] == b"public-key")
     for item in items:
         if item[0] == b"cert":
             certificate = item
         elif item[0] == b"signature":
             _, _, signer, value = item
-            key = key_named(signer, items)
+            key = keys.named(signer)
             verdicts.append(key is not None and verifies(key, canonical(certificate), value))
             if verdicts[-1]:
                 rows.append([b"by", key, hash_of(certificate), value])
@@ -54,7 +45,7 @@ def ask(access_list, sequence, login, words, moment):
     ONLY STATUS 0 IS A YES. The access list and the moment are the service's own. The sequence, which is octets, and each word of
     the request may be from outside.
 
-    THE KEY IS THE ONE THAT THE ASKER HAS SHOWN TO HOLD, BY A LOGIN (login.py). NEVER TAKE A KEY THAT WAS ONLY SENT: whoever sends
+    THE KEY IS THE ONE THAT THE ASKER HAS SHOWN TO HOLD, BY A LOGIN (spki_cert_tool/login.py). NEVER TAKE A KEY THAT WAS ONLY SENT: whoever sends
     Alice's key would have Alice's rights.
 
     The case is asked without rows first. If the sequence is none, this is the refusal, and its signatures are not looked at. An

@@ -15,9 +15,9 @@ use std::ptr;
 /// An allocation failed.
 ///
 /// ```
-/// let key = spki::canonical(b"(public-key (rsa-pkcs1-sha256 (e #010001#) (n #c0ffee#)))")?;
-/// assert_eq!(spki::string_at(&key, &[1, 0])?, Some(&b"rsa-pkcs1-sha256"[..]));
-/// assert_eq!(spki::string_at(&key, &[1, 2, 1])?, Some(&b"\xc0\xff\xee"[..]));
+/// let key = spki::canonical(b"(public-key (rsa (n #00c0ffee#) (e #010001#)))")?;
+/// assert_eq!(spki::string_at(&key, &[1, 0])?, Some(&b"rsa"[..]));
+/// assert_eq!(spki::string_at(&key, &[1, 1, 1])?, Some(&b"\x00\xc0\xff\xee"[..]));
 /// assert_eq!(spki::string_at(&key, &[1, 3, 1])?, None);
 /// # Ok::<(), spki::Refusal>(())
 /// ```

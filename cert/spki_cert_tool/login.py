@@ -11,16 +11,19 @@ The message is `(login SERVICE NONCE)` in canonical form:
 
 A login counts for its connection alone. The connection must be one that nobody else can write into, as by TLS.
 """
+from __future__ import annotations
+
 import secrets
 
-from keys import verifies
-from sexp import canonical, read
-from tools import canonical as canonical_of
+from .forms import Wrong
+from .keys import key_of_text, verifies
+from .places import value_in
+from .sexp import Value, canonical
 
 NONCE_OCTETS = 32
 
 
-def message(service, nonce):
+def message(service: bytes, nonce: bytes) -> bytes:
     """The octets that the client signs. It names the service that it wants to log in at, and signs nothing else for a login."""
     return canonical([b"login", service, nonce])
 
@@ -28,24 +31,24 @@ def message(service, nonce):
 class Login:
     """The login in one connection: its nonce until it is used, and the key that the client holds once it has shown that."""
 
-    def __init__(self, service):
+    def __init__(self, service: bytes) -> None:
         self.service = service
-        self.nonce = secrets.token_bytes(NONCE_OCTETS)
-        self.key = None
+        self.nonce: bytes | None = secrets.token_bytes(NONCE_OCTETS)
+        self.key: Value | None = None
 
-    def answer(self, key, value):
+    def answer(self, key: bytes, value: bytes) -> bool:
         """Whether the client logs in: `value` is a signature, by the key of this text, of the message with the nonce.
 
-        Either way the nonce is used up. The key's text is from outside, so it must be one whole value.
+        Either way the nonce is used up. Both texts are from outside, so each must be one whole value.
         """
         nonce, self.nonce = self.nonce, None
         if nonce is None:
             return False
         try:
-            shown = read(canonical_of(key))
-        except ValueError:
-            return False
-        if not verifies(shown, message(self.service, nonce), value):
+            shown = key_of_text(key)
+            if not verifies(shown, message(self.service, nonce), value_in(value).value):
+                return False
+        except Wrong:
             return False
         self.key = shown
         return True

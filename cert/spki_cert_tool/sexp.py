@@ -1,15 +1,21 @@
 """S-expressions as Python has them: a string is `bytes`, a string with a display hint a pair of `bytes`, a list a `list`."""
+from __future__ import annotations
+
 import base64
 import re
+from typing import Union
+
+Value = Union[bytes, "tuple[bytes, bytes]", "list[Value]"]
 
 WIDTH = 120
 TOKEN = re.compile(rb"[A-Za-z./_:*+=-][A-Za-z0-9./_:*+=-]*\Z")
 PRINTED = re.compile(rb"[ -~]*\Z")
 
 
-def read(octets):
+def read(octets: bytes) -> Value:
     """The value of a canonical text. The text is one that `spki canonical` wrote, so it is whole."""
-    lists, hint, at = [[]], None, 0
+    lists: list[list[Value]] = [[]]
+    hint, at = None, 0
     while at < len(octets):
         mark = octets[at:at + 1]
         if mark in (b"(", b"[", b"]"):
@@ -19,28 +25,28 @@ def read(octets):
             if mark == b"]":
                 hint = lists[-1].pop()
             continue
+        done: Value
         if mark == b")":
             done, at = lists.pop(), at + 1
         else:
             colon = octets.index(b":", at)
             at = colon + 1 + int(octets[at:colon])
-            done = octets[colon + 1:at] if hint is None else (hint, octets[colon + 1:at])
+            done = (hint, octets[colon + 1:at]) if isinstance(hint, bytes) else octets[colon + 1:at]
             hint = None
         lists[-1].append(done)
     return lists[0][0]
 
 
-def canonical(value):
+def canonical(value: Value) -> bytes:
     """The canonical text of a value."""
-    match value:
-        case list():
-            return b"(" + b"".join(map(canonical, value)) + b")"
-        case (hint, body):
-            return b"[" + canonical(hint) + b"]" + canonical(body)
+    if isinstance(value, list):
+        return b"(" + b"".join(map(canonical, value)) + b")"
+    if isinstance(value, tuple):
+        return b"[" + canonical(value[0]) + b"]" + canonical(value[1])
     return b"%d:%s" % (len(value), value)
 
 
-def spelled(octets):
+def spelled(octets: bytes) -> str:
     """A string on one line: a token, in quotes, in hexadecimal up to 64 octets, else in base64."""
     if TOKEN.match(octets):
         return octets.decode()
@@ -49,16 +55,15 @@ def spelled(octets):
     return f"#{octets.hex()}#" if len(octets) <= 64 else f"|{base64.b64encode(octets).decode()}|"
 
 
-def on_one_line(value):
-    match value:
-        case list():
-            return f"({' '.join(map(on_one_line, value))})"
-        case (hint, body):
-            return f"[{spelled(hint)}]{spelled(body)}"
+def on_one_line(value: Value) -> str:
+    if isinstance(value, list):
+        return f"({' '.join(map(on_one_line, value))})"
+    if isinstance(value, tuple):
+        return f"[{spelled(value[0])}]{spelled(value[1])}"
     return spelled(value)
 
 
-def laid_out(value, indent=0):
+def laid_out(value: Value, indent: int = 0) -> str:
     """A text of a value with line breaks, for people to read. Whitespace is ignored in base64 and hexadecimal."""
     line, margin, room = on_one_line(value), "\n" + " " * (indent + 1), WIDTH - indent
     if len(line) > room and isinstance(value, list):

@@ -1,0 +1,95 @@
+"""A client of ssh-agent (draft-ietf-sshm-ssh-agent): lists its keys and lets it sign, so that a key on a token can sign a certificate."""
+from __future__ import annotations
+
+import base64
+import os
+import socket
+import struct
+
+from .keys import ED25519, RSA, BadKey, openssh_line, public_of, value_of_numbers, value_of_octets
+from .sexp import Value
+
+REQUEST_IDENTITIES, IDENTITIES, SIGN_REQUEST, SIGN_RESPONSE = 11, 12, 13, 14
+RSA_SHA2_256 = 2
+MOST_OCTETS, SECONDS = 262144, 60
+
+
+def string(octets: bytes) -> bytes:
+    """A string with its length, as SSH has it."""
+    return struct.pack(">I", len(octets)) + octets
+
+
+def taken(octets: bytes) -> tuple[bytes, bytes]:
+    """The first string of some octets, and what follows it."""
+    if len(octets) < 4 or len(octets) - 4 < int.from_bytes(octets[:4], "big"):
+        raise BadKey("ssh-agent sent an answer that is not whole")
+    end = 4 + int.from_bytes(octets[:4], "big")
+    return octets[4:end], octets[end:]
+
+
+def asked(kind: int, body: bytes, wanted: int) -> bytes:
+    """The answer of the agent to a message."""
+    path = os.environ.get("SSH_AUTH_SOCK")
+    if not path:
+        raise BadKey("this is a public key, and there is no ssh-agent to sign by it: SSH_AUTH_SOCK is not set. Give the private key's file")
+    try:
+        with socket.socket(socket.AF_UNIX, socket.SOCK_STREAM) as agent:
+            agent.settimeout(SECONDS)
+            agent.connect(path)
+            agent.sendall(string(bytes([kind]) + body))
+            answer, _ = taken(whole_answer(agent))
+    except OSError as why:
+        raise BadKey(f"ssh-agent at {path} does not answer: {why}") from None
+    if answer[:1] != bytes([wanted]):
+        raise BadKey("ssh-agent refuses to sign by this key")
+    return answer[1:]
+
+
+def whole_answer(agent: socket.socket) -> bytes:
+    """One message with its length."""
+    octets = b""
+    while len(octets) < 4 or len(octets) < 4 + min(int.from_bytes(octets[:4], "big"), MOST_OCTETS):
+        more = agent.recv(65536)
+        if not more:
+            break
+        octets += more
+    return octets
+
+
+def keys_held() -> list[bytes]:
+    """The public keys that the agent holds, as SSH encodes them."""
+    body = asked(REQUEST_IDENTITIES, b"", IDENTITIES)
+    count, body, held = int.from_bytes(body[:4], "big"), body[4:], []
+    for _ in range(count):
+        blob, body = taken(body)
+        _, body = taken(body)
+        held.append(blob)
+    return held
+
+
+class AgentSigner:
+    """A key that the agent holds."""
+
+    def __init__(self, key: Value) -> None:
+        public = public_of(key)
+        if public is None:
+            raise BadKey("a key in a form that ssh-agent does not know")
+        self.key, self.blob = key, base64.b64decode(openssh_line(public).split()[1])
+        if self.blob not in keys_held():
+            raise BadKey("this is a public key, and ssh-agent does not hold it: add the private key by ssh-add, or give its file")
+
+    def sign(self, message: bytes) -> Value:
+        """The value of a signature of these octets."""
+        flags = struct.pack(">I", RSA_SHA2_256)
+        answer, _ = taken(asked(SIGN_REQUEST, string(self.blob) + string(message) + flags, SIGN_RESPONSE))
+        name, rest = taken(answer)
+        octets, _ = taken(rest)
+        if name == b"ssh-ed25519":
+            return value_of_octets(ED25519, octets)
+        if name == b"rsa-sha2-256":
+            return value_of_octets(RSA, octets)
+        if name == b"ecdsa-sha2-nistp256":
+            r, rest = taken(octets)
+            s, _ = taken(rest)
+            return value_of_numbers(int.from_bytes(r, "big"), int.from_bytes(s, "big"))
+        raise BadKey(f"ssh-agent signs by {name.decode(errors='replace')}, which is not used")

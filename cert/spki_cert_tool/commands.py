@@ -1,0 +1,255 @@
+"""The commands of `spki-cert`, and its exit statuses."""
+from __future__ import annotations
+
+import argparse
+import json
+import os
+import sys
+from collections.abc import Callable
+
+from .arguments import NEW_KEY, completion, parser_of_commands
+from .certificates import DATE_FORMAT
+from .files import DAY_ENDS, Refused, in_days, is_text, key_at, moment_of, node_of, now, octets_of, passphrase_for, signer_at, value_of, write
+from .forms import Node, Wrong
+from .keys import BadKey, hash_of, kind_of, new_private, openssh_line, openssh_of, principal_of
+from .labels import Labels
+from .making import Wish, certificate_of, named, relative_name, signed_sequence, text_of, warnings_of
+from .places import BY_HEAD, read_text, told, value_in
+from .sexp import Value, on_one_line
+from .structures import read_certificate, read_subject
+from .tags import read_tag
+
+DONE, NO, REFUSED, FAILED, UNCONFIRMED = 0, 1, 2, 3, 4
+Command = Callable[[argparse.Namespace], int]
+
+
+# ---- key
+
+
+def key(given: argparse.Namespace) -> int:
+    keys = [(path, key_at(path)) for path in given.files]
+    if given.json:
+        rows = [{"file": path, "key": on_one_line(it), "hash": on_one_line(hash_of(it)), "algorithm": kind_of(it)} for path, it in keys]
+        write(given.output, json.dumps(rows, indent=1).encode() + b"\n")
+    else:
+        write(given.output, b"".join(text_of(hash_of(it) if given.hash else it) for _, it in keys))
+    return DONE
+
+
+def new_key(given: argparse.Namespace) -> int:
+    """Makes a key pair, as two files."""
+    path = given.file
+    there = [it for it in (path, f"{path}.pub") if os.path.lexists(it)]
+    if there:
+        raise Refused(f"{there[0]} is there already, and a key is not written over")
+    passphrase = b"" if given.no_passphrase else new_passphrase(path)
+    private = new_private(given.type)
+    octets = openssh_of(private, passphrase)
+    comment = given.comment or os.path.basename(path)
+    write(path, octets, 0o600, replaces=False)
+    write(f"{path}.pub", openssh_line(private.public_key()) + f" {comment}\n".encode(), replaces=False)
+    print(f"made {path}, which is secret, and {path}.pub")
+    return DONE
+
+
+def new_passphrase(path: str) -> bytes:
+    """Asks twice for a passphrase on the terminal."""
+    first = passphrase_for(f"the new {path} (empty: none)")
+    if passphrase_for(f"the new {path} again") != first:
+        raise Refused("the passphrases differ; nothing was written")
+    return first
+
+
+# ---- sign, name
+
+
+def sign(given: argparse.Namespace) -> int:
+    tag = node_of(given.tag, "--tag", lambda node: read_tag(node, [0])) if given.command == "sign" else None
+    tries = [request_of(words) for words in given.tries] if given.command == "sign" else []
+    wish = wish_of(given, tag)
+    chain = value_of(given.chain, "sequence") if given.chain else None
+    signer = signer_at(given.by)
+    warnings = list(warnings_of(wish, signer.key, chain, tries))
+    for warning in warnings:
+        print(f"spki-cert: {warning}", file=sys.stderr)
+    if warnings and not given.yes:
+        print("spki-cert: nothing was written; --yes makes the certificate as it is", file=sys.stderr)
+        return UNCONFIRMED
+    write(given.output, text_of(signed_sequence(certificate_of(wish, signer.key), signer, chain)))
+    return DONE
+
+
+def wish_of(given: argparse.Namespace, tag: Node | None) -> Wish:
+    """What the certificate is to say."""
+    ends = None
+    if given.days is not None:
+        ends = in_days(given.days)
+    elif given.until:
+        ends = moment_of(given.until, DAY_ENDS)
+    is_right = given.command == "sign"
+    return Wish(subject_of(given), None if is_right else os.fsencode(given.name), tag, given.tag if is_right else "",
+                moment_of(given.begins) if given.begins else None, ends, is_right and given.propagate, given.comment)
+
+
+def subject_of(given: argparse.Namespace) -> Value:
+    """The subject of the words: a key, a hash, or a name."""
+    if given.to is None:
+        if not given.named:
+            raise Refused("a certificate needs --to, or --named for a name of the issuer")
+        return relative_name(given.named)
+    if is_text(given.to):
+        return named(node_of(given.to, "--to", read_subject).value, given.named)
+    return named(principal_of(key_at(given.to)), given.named)
+
+
+def request_of(words: list[str]) -> Value:
+    """The request of some words: the list of them, or the string if there is one."""
+    strings: list[Value] = [os.fsencode(word) for word in words]
+    return strings[0] if len(strings) == 1 else strings
+
+
+# ---- show, ask, check
+
+
+def labels_of(given: argparse.Namespace, *paths: str) -> Labels:
+    """What keys are called: by the paths that are given, and by SPKI_LABELS."""
+    labels = Labels()
+    more = os.environ.get("SPKI_LABELS")
+    for path in [*given.labels, *([more] if more else []), *paths]:
+        try:
+            labels.add_path(path)
+        except OSError as why:
+            raise Refused(f"{path}: {why.strerror}") from None
+    return labels
+
+
+def moment_given(given: argparse.Namespace) -> bytes:
+    """The moment that is given, or now."""
+    return moment_of(given.at) if given.at else now().strftime(DATE_FORMAT).encode()
+
+
+def shown_value(path: str) -> Value:
+    """The value of a file that can be shown."""
+    octets = octets_of(path)
+    found, node = read_text(octets)
+    if found[0] is not None:
+        raise Refused(*told(path, found))
+    if node.head == b"cert":
+        node_of(octets.decode(errors="surrogateescape"), path, read_certificate)
+    elif BY_HEAD.get(node.head or b"") not in ("acl", "sequence", "case"):
+        raise Refused(f"{path}: only an access list, a certificate, a sequence or a case is shown; for a key there is `spki-cert key`")
+    return node.value
+
+
+def show(given: argparse.Namespace) -> int:
+    from .showing import lines_of, rows_of, what_is
+    labels, moment = labels_of(given), moment_given(given)
+    values = [(path, shown_value(path)) for path in given.files]
+    if given.svg:
+        from .drawing import svg_of
+        write(given.svg, svg_of(values[0][1], labels))
+    if given.json:
+        print(json.dumps([{"file": path, "shows": rows_of(value, moment, labels)} for path, value in values], indent=1))
+        return DONE
+    for path, value in values:
+        print(f"{path}: {what_is(value)}", *(f"  {line}" for line in lines_of(value, moment, labels)), sep="\n")
+    return DONE
+
+
+def ask(given: argparse.Namespace) -> int:
+    from .asking import Asked, Words, answered, asked_of_case, case_of
+    if given.case:
+        asked = asked_of_case(value_of(given.case, "case"), labels_of(given))
+    elif not (given.acl and given.key and given.words):
+        raise Refused("ask needs --acl, --key and the words of a request, or --case")
+    else:
+        labels = labels_of(given, given.key, *(path for path in given.cert if os.path.isdir(path)))
+        asked = Asked(value_of(given.acl, "acl"), key_at(given.key), request_of(given.words), moment_given(given), labels,
+                      [value_of(path, "sequence") for path in sequences_below(given.cert)], not given.open)
+    answer = answered(asked)
+    lines = list(Words(asked, answer).lines())
+    if answer.entry is not None and answer.sequence not in [*asked.sequences, [b"sequence"]] and not given.sequence:
+        lines.append("  these certificates are picked and put in order: --sequence FILE writes them for the service")
+    if given.sequence:
+        write(given.sequence, text_of(answer.sequence))
+    if given.save:
+        write(given.save, text_of(case_of(asked, answer.sequence)))
+    if given.svg:
+        from .drawing import svg_of_answer
+        write(given.svg, svg_of_answer(asked, answer))
+    if given.json:
+        reasons = [it._asdict() for it in answer.reasons]
+        print(json.dumps({"granted": answer.entry is not None, "entry": answer.entry, "reasons": reasons, "words": lines}, indent=1))
+    else:
+        print(*lines, sep="\n")
+    return DONE if answer.entry is not None else NO
+
+
+def sequences_below(paths: list[str]) -> list[str]:
+    """The files that are given, and those of folders that are sequences."""
+    from .checking import files_below
+    found = []
+    for path in paths:
+        is_folder = os.path.isdir(path)
+        found += [it for it in files_below([path]) if not is_folder or begins_as_sequence(it)]
+    return found
+
+
+def begins_as_sequence(path: str) -> bool:
+    try:
+        return value_in(octets_of(path)).head == b"sequence"
+    except Wrong:
+        return False
+
+
+def check(given: argparse.Namespace) -> int:
+    from .checking import files_below, remarks_on
+    moment, remarks, read, left_out = now().strftime(DATE_FORMAT).encode(), [], 0, 0
+    for path in files_below(given.paths):
+        said = remarks_on(path, moment)
+        read, left_out = read + (said is not None), left_out + (said is None)
+        remarks += said or []
+    refused = len({it.path for it in remarks if it.is_refused})
+    if given.json:
+        rows = [{"file": it.path, "line": it.line, "column": it.column, "refused": it.is_refused, "text": it.text} for it in remarks]
+        print(json.dumps({"files": read, "left_out": left_out, "remarks": rows}, indent=1))
+    else:
+        print(*remarks, sep="\n", end="\n" if remarks else "")
+        print(f"{read} files, {refused} refused, {len(remarks)} remarks; {left_out} other files left out", file=sys.stderr)
+    return REFUSED if refused else NO if remarks else DONE
+
+
+def write_completion(given: argparse.Namespace) -> int:
+    print(completion())
+    return DONE
+
+
+COMMANDS: dict[str, Command] = {"key": key, NEW_KEY: new_key, "sign": sign, "name": sign, "show": show, "ask": ask, "check": check,
+                                "completion": write_completion}
+
+
+def main() -> int:
+    """Runs the command of the command line."""
+    words = sys.argv[1:]
+    given = parser_of_commands().parse_args([NEW_KEY, *words[2:]] if words[:2] == ["key", "new"] else words)
+    try:
+        return COMMANDS[given.command](given)
+    except (Refused, BadKey) as why:
+        print(*(f"spki-cert: {line}" if place == 0 else line for place, line in enumerate(getattr(why, "lines", why.args))), sep="\n",
+              file=sys.stderr)
+        return REFUSED
+    except ModuleNotFoundError as why:
+        print(f"spki-cert: the module {why.name} is not there (Debian: python3-{why.name})", file=sys.stderr)
+        return FAILED
+    except BrokenPipeError:
+        os.dup2(os.open(os.devnull, os.O_WRONLY), sys.stdout.fileno())
+        return FAILED
+    except OSError as why:
+        print(f"spki-cert: {why.filename or ''}: {why.strerror}", file=sys.stderr)
+        return FAILED
+    except KeyboardInterrupt:
+        return FAILED
+
+
+if __name__ == "__main__":
+    sys.exit(main())

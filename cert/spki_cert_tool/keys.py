@@ -1,0 +1,313 @@
+"""Keys that people have, as keys of SPKI, and back; signing and verifying. The forms are those of docs/FORMATS.md, "Keys and signatures
+of services":
+
+    (public-key (ecc (curve Ed25519) (flags eddsa) (q #..#)))     (sig-val (eddsa (r #..#) (s #..#)))
+    (public-key (rsa (n #..#) (e #..#)))                          (sig-val (rsa (s #..#)))
+    (public-key (ecc (curve "NIST P-256") (q #04..#)))            (sig-val (ecdsa (r #..#) (s #..#)))
+
+libgcrypt and GnuPG read the same. `cryptography` reads the files, signs and verifies. It is imported where it is used, because that takes
+a tenth of a second.
+"""
+from __future__ import annotations
+
+import hashlib
+import re
+from collections.abc import Callable
+from typing import TYPE_CHECKING, Any, Protocol, Union, cast
+
+from .forms import Parser
+from .sexp import Value, canonical, read
+
+if TYPE_CHECKING:
+    from cryptography.hazmat.primitives.asymmetric.ec import EllipticCurvePrivateKey, EllipticCurvePublicKey
+    from cryptography.hazmat.primitives.asymmetric.ed25519 import Ed25519PrivateKey, Ed25519PublicKey
+    from cryptography.hazmat.primitives.asymmetric.rsa import RSAPrivateKey, RSAPublicKey
+    Private = Union[Ed25519PrivateKey, RSAPrivateKey, EllipticCurvePrivateKey]
+    Public = Union[Ed25519PublicKey, RSAPublicKey, EllipticCurvePublicKey]
+
+ED25519, RSA, P256 = "ed25519", "rsa", "p256"
+KINDS = (ED25519, RSA, P256)
+LEAST_BITS, MOST_BITS, MOST_EXPONENT_BITS, NEW_BITS = 2048, 16384, 64, 3072
+HALF = 32
+PEM = re.compile(rb"-----BEGIN ([A-Z0-9 ]+)-----")
+OPENSSH = re.compile(rb"(?:^|[ \t])((?:ssh-|ecdsa-|sk-)[\w@.-]+[ \t]+AAAA[A-Za-z0-9+/=]+)[ \t]*([^\r\n]*)", re.MULTILINE)
+# Asks for the passphrase of a file.
+Asking = Callable[[], bytes]
+
+
+class BadKey(Exception):
+    """What is said of a file that has no key that can be used."""
+
+
+class Signer(Protocol):
+    """Who holds a private key, in a file or in an agent."""
+
+    @property
+    def key(self) -> Value:
+        """The public key."""
+
+    def sign(self, message: bytes) -> Value:
+        """The value of a signature of these octets."""
+
+
+def number(value: int) -> bytes:
+    """A number of a key, big-endian, with a zero octet in front where the first bit is set."""
+    return value.to_bytes(value.bit_length() // 8 + 1, "big")
+
+
+def digest_of(value: Value) -> bytes:
+    """The SHA-256 digest of a value's canonical form."""
+    return hashlib.sha256(canonical(value)).digest()
+
+
+def hash_of(value: Value) -> Value:
+    """The hash that names a key, or that a signature has of its certificate."""
+    return [b"hash", b"sha256", digest_of(value)]
+
+
+def is_named_by_itself(key: Value) -> bool:
+    """Whether certificates have the key itself and not its hash: one of RSA is long."""
+    return not (isinstance(key, list) and isinstance(key[1], list) and key[1][0] == b"rsa")
+
+
+def principal_of(key: Value) -> Value:
+    """How certificates name a key."""
+    return key if is_named_by_itself(key) else hash_of(key)
+
+
+def key_of(public: object) -> Value:
+    """The SPKI key of a public key of `cryptography`."""
+    from cryptography.hazmat.primitives.asymmetric import ec, ed25519, rsa
+    from cryptography.hazmat.primitives.serialization import Encoding, PublicFormat
+    if isinstance(public, ed25519.Ed25519PublicKey):
+        octets = public.public_bytes(Encoding.Raw, PublicFormat.Raw)
+        return [b"public-key", [b"ecc", [b"curve", b"Ed25519"], [b"flags", b"eddsa"], [b"q", octets]]]
+    if isinstance(public, rsa.RSAPublicKey):
+        numbers = public.public_numbers()
+        if not LEAST_BITS <= numbers.n.bit_length() <= MOST_BITS or numbers.e.bit_length() > MOST_EXPONENT_BITS:
+            raise BadKey(f"a key of RSA with {numbers.n.bit_length()} bits; it must have {LEAST_BITS} to {MOST_BITS}, "
+                         f"and an exponent of at most {MOST_EXPONENT_BITS}")
+        return [b"public-key", [b"rsa", [b"n", number(numbers.n)], [b"e", number(numbers.e)]]]
+    if isinstance(public, ec.EllipticCurvePublicKey) and isinstance(public.curve, ec.SECP256R1):
+        octets = public.public_bytes(Encoding.X962, PublicFormat.UncompressedPoint)
+        return [b"public-key", [b"ecc", [b"curve", b"NIST P-256"], [b"q", octets]]]
+    kind = type(public).__name__.strip("_").removesuffix("PublicKey")
+    raise BadKey(f"a key of the kind {kind}, and only Ed25519, RSA and ECDSA with the curve P-256 are used")
+
+
+def public_of(key: Value) -> Public | None:
+    """The public key of `cryptography` for a key in exactly the form of `key_of`. None for any other."""
+    try:
+        public = public_of_parts(key)
+        return public if public is not None and key_of(public) == key else None
+    except (ValueError, BadKey):
+        return None
+
+
+def public_of_parts(key: Value) -> Public | None:
+    """The public key of an SPKI key's parts."""
+    from cryptography.hazmat.primitives.asymmetric import ec, ed25519, rsa
+    match key:
+        case [b"public-key", [b"ecc", [b"curve", b"Ed25519"], [b"flags", b"eddsa"], [b"q", bytes() as octets]]]:
+            return ed25519.Ed25519PublicKey.from_public_bytes(octets)
+        case [b"public-key", [b"rsa", [b"n", bytes() as modulus], [b"e", bytes() as exponent]]] if len(modulus) <= MOST_BITS // 8 + 1:
+            return rsa.RSAPublicNumbers(int.from_bytes(exponent, "big"), int.from_bytes(modulus, "big")).public_key()
+        case [b"public-key", [b"ecc", [b"curve", b"NIST P-256"], [b"q", bytes() as octets]]]:
+            return ec.EllipticCurvePublicKey.from_encoded_point(ec.SECP256R1(), octets)
+    return None
+
+
+def kind_of(key: Value) -> str:
+    """What a key is, for people to read."""
+    match key:
+        case [_, [b"ecc", [b"curve", b"Ed25519"], *_]]:
+            return "Ed25519"
+        case [_, [b"ecc", [b"curve", bytes() as curve], *_]]:
+            return f"ECDSA {curve.decode(errors='replace')}"
+        case [_, [b"rsa", [b"n", bytes() as modulus], *_]]:
+            return f"RSA {int.from_bytes(modulus, 'big').bit_length()}"
+        case [_, [bytes() as algorithm, *_]]:
+            return f"of the algorithm {algorithm.decode(errors='replace')}"
+    return "of no kind that is known"
+
+
+# ---- signatures
+
+
+def value_of_octets(kind: str, octets: bytes) -> Value:
+    """The value of a signature of Ed25519, or of RSA."""
+    if kind == ED25519:
+        return [b"sig-val", [b"eddsa", [b"r", octets[:HALF]], [b"s", octets[HALF:]]]]
+    return [b"sig-val", [b"rsa", [b"s", octets]]]
+
+
+def value_of_numbers(r: int, s: int) -> Value:
+    """The value of a signature of ECDSA."""
+    return [b"sig-val", [b"ecdsa", [b"r", r.to_bytes(HALF, "big")], [b"s", s.to_bytes(HALF, "big")]]]
+
+
+class FileSigner:
+    """A private key of a file."""
+
+    def __init__(self, private: Private) -> None:
+        self.private, self.key = private, key_of(private.public_key())
+
+    def sign(self, message: bytes) -> Value:
+        """The value of a signature of these octets."""
+        from cryptography.hazmat.primitives.asymmetric import ec, ed25519, padding, utils
+        from cryptography.hazmat.primitives.hashes import SHA256
+        if isinstance(self.private, ed25519.Ed25519PrivateKey):
+            return value_of_octets(ED25519, self.private.sign(message))
+        if isinstance(self.private, ec.EllipticCurvePrivateKey):
+            return value_of_numbers(*utils.decode_dss_signature(self.private.sign(message, ec.ECDSA(SHA256()))))
+        return value_of_octets(RSA, self.private.sign(message, padding.PKCS1v15(), SHA256()))
+
+
+def verifies(key: Value, message: bytes, value: Value) -> bool:
+    """Whether a value is a signature of a message by an SPKI key."""
+    from cryptography.exceptions import InvalidSignature
+    public = public_of(key)
+    if public is None:
+        return False
+    try:
+        return verified_by(public, message, value)
+    except (InvalidSignature, OverflowError, ValueError):
+        return False
+
+
+def verified_by(public: Public, message: bytes, value: Value) -> bool:
+    """True if a value is a signature by a public key. Otherwise False or an exception."""
+    from cryptography.hazmat.primitives.asymmetric import ec, ed25519, padding, rsa, utils
+    from cryptography.hazmat.primitives.hashes import SHA256
+    match value:
+        case [b"sig-val", [b"eddsa", [b"r", bytes() as r], [b"s", bytes() as s]]] if isinstance(public, ed25519.Ed25519PublicKey):
+            if len(r) != HALF or len(s) != HALF:
+                return False
+            public.verify(r + s, message)
+        case [b"sig-val", [b"rsa", [b"s", bytes() as s]]] if isinstance(public, rsa.RSAPublicKey):
+            octets = int.from_bytes(s, "big").to_bytes((public.key_size + 7) // 8, "big")
+            public.verify(octets, message, padding.PKCS1v15(), SHA256())
+        case [b"sig-val", [b"ecdsa", [b"r", bytes() as r], [b"s", bytes() as s]]] if isinstance(public, ec.EllipticCurvePublicKey):
+            octets = utils.encode_dss_signature(int.from_bytes(r, "big"), int.from_bytes(s, "big"))
+            public.verify(octets, message, ec.ECDSA(SHA256()))
+        case _:
+            return False
+    return True
+
+
+def verify(key: bytes, message: bytes, value: bytes) -> bool:
+    """The same of canonical forms, as a guard of the module `spki` asks for it."""
+    return verifies(read(key), message, read(value))
+
+
+# ---- files
+
+
+def is_private(octets: bytes) -> bool:
+    """Whether the octets of a file are a private key."""
+    found = PEM.search(octets)
+    return found is not None and found[1].endswith(b"PRIVATE KEY") or octets.lstrip().startswith((b"(private-key", b"(11:private-key"))
+
+
+def is_key_file(octets: bytes) -> bool:
+    """Whether the octets of a file are a key in another form than an S-expression."""
+    return PEM.search(octets[:4096]) is not None or OPENSSH.match(octets.lstrip()[:20000]) is not None
+
+
+def read_public(octets: bytes, asking: Asking) -> Value:
+    """The public key of the octets of a file: OpenSSH, PEM or S-expression, public or private. Raises BadKey or Wrong."""
+    if is_private(octets):
+        return key_of(read_private(octets, asking).public_key())
+    from cryptography.exceptions import UnsupportedAlgorithm
+    from cryptography.hazmat.primitives.serialization import load_pem_public_key
+    from cryptography.hazmat.primitives.serialization.ssh import load_ssh_public_key
+    try:
+        if PEM.search(octets):
+            return key_of(load_pem_public_key(octets))
+        if found := OPENSSH.match(octets.lstrip()):
+            return key_of(load_ssh_public_key(found[1]))
+    except (ValueError, UnsupportedAlgorithm) as why:
+        raise BadKey(f"no public key that can be read: {why}") from None
+    return key_of_text(octets)
+
+
+def key_of_text(octets: bytes) -> Value:
+    """The key of an S-expression. Raises Wrong if it is none."""
+    from .places import value_in
+    from .structures import read_key
+    node = value_in(octets)
+    read_key(node)
+    return node.value
+
+
+def read_private(octets: bytes, asking: Asking) -> Private:
+    """The private key of the octets of a file. `asking` gives the passphrase if it is encrypted. Raises BadKey."""
+    from cryptography.exceptions import UnsupportedAlgorithm
+    if octets.lstrip().startswith(b"("):
+        return private_of_text(octets)
+    try:
+        private = loaded(octets, asking() if is_encrypted(octets) else None)
+    except (ValueError, TypeError, UnsupportedAlgorithm) as why:
+        needed = " (Debian: python3-bcrypt)" if "bcrypt" in str(why) else ""
+        raise BadKey(f"no private key that can be read, or another passphrase: {why}{needed}") from None
+    key_of(private.public_key())
+    return private
+
+
+def is_encrypted(octets: bytes) -> bool:
+    """Whether a private key needs a passphrase."""
+    try:
+        loaded(octets, None)
+    except (TypeError, ValueError) as why:
+        return isinstance(why, TypeError) or "password" in str(why)
+    return False
+
+
+def loaded(octets: bytes, passphrase: bytes | None) -> Private:
+    """The private key of PEM or of OpenSSH."""
+    from cryptography.hazmat.primitives.serialization import load_pem_private_key
+    from cryptography.hazmat.primitives.serialization.ssh import load_ssh_private_key
+    load: Any = load_ssh_private_key if b"BEGIN OPENSSH" in octets else load_pem_private_key
+    return cast("Private", load(octets, passphrase))
+
+
+def private_of_text(octets: bytes) -> Private:
+    """The private key of an S-expression, as libgcrypt has it. Raises BadKey or Wrong."""
+    from cryptography.hazmat.primitives.asymmetric import ec, ed25519, rsa
+    parts = Parser(octets).whole().value
+    match parts:
+        case [b"private-key", [b"ecc", [b"curve", b"Ed25519"], [b"flags", b"eddsa"], [b"q", _], [b"d", bytes() as secret]]]:
+            return ed25519.Ed25519PrivateKey.from_private_bytes(secret)
+        case [b"private-key", [b"ecc", [b"curve", b"NIST P-256"], [b"q", _], [b"d", bytes() as secret]]]:
+            return ec.derive_private_key(int.from_bytes(secret, "big"), ec.SECP256R1())
+        case [b"private-key", [b"rsa", [b"n", bytes() as modulus], [b"e", bytes() as exponent], [b"d", bytes() as secret],
+                               [b"p", bytes() as first], [b"q", bytes() as second], *_]]:
+            n, e, d, p, q = (int.from_bytes(it, "big") for it in (modulus, exponent, secret, first, second))
+            public = rsa.RSAPublicNumbers(e, n)
+            return rsa.RSAPrivateNumbers(p, q, d, d % (p - 1), d % (q - 1), rsa.rsa_crt_iqmp(p, q), public).private_key()
+    raise BadKey("a private key in a form that is not known")
+
+
+def new_private(kind: str) -> Private:
+    """A new private key."""
+    from cryptography.hazmat.primitives.asymmetric import ec, ed25519, rsa
+    if kind == ED25519:
+        return ed25519.Ed25519PrivateKey.generate()
+    return rsa.generate_private_key(65537, NEW_BITS) if kind == RSA else ec.generate_private_key(ec.SECP256R1())
+
+
+def openssh_of(private: Private, passphrase: bytes) -> bytes:
+    """The file of a private key, as OpenSSH has it. It is encrypted unless the passphrase is empty."""
+    from cryptography.exceptions import UnsupportedAlgorithm
+    from cryptography.hazmat.primitives.serialization import BestAvailableEncryption, Encoding, NoEncryption, PrivateFormat
+    encryption = BestAvailableEncryption(passphrase) if passphrase else NoEncryption()
+    try:
+        return cast(bytes, cast(Any, private).private_bytes(Encoding.PEM, PrivateFormat.OpenSSH, encryption))
+    except UnsupportedAlgorithm as why:
+        raise BadKey(f"the key cannot be encrypted: {why} (Debian: python3-bcrypt)") from None
+
+
+def openssh_line(public: Public) -> bytes:
+    """A public key, as OpenSSH has it, without a comment."""
+    from cryptography.hazmat.primitives.serialization import Encoding, PublicFormat
+    return public.public_bytes(Encoding.OpenSSH, PublicFormat.OpenSSH)

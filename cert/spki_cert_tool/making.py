@@ -1,0 +1,143 @@
+"""Makes keys and certificates: what is asked for, what is hardly meant, and the signed sequence."""
+from __future__ import annotations
+
+from collections.abc import Iterable, Iterator
+from dataclasses import dataclass
+
+from .certificates import Keys, Signed, Terms, certificates_in, headed, keys_in, members, terms_of_certificate
+from .files import Refused, now
+from .certificates import DATE_FORMAT
+from .forms import Node
+from .keys import Signer, hash_of, is_named_by_itself, principal_of, verifies
+from .places import fault_of, place_shown, told
+from .sexp import Value, canonical, laid_out, on_one_line
+from .tag_words import is_everything, lacks, remarks
+
+
+@dataclass(frozen=True)
+class Wish:
+    """What a certificate is to say."""
+
+    subject: Value
+    """A principal, or a name, which may be one of the issuer."""
+    name: bytes | None
+    """The name that the certificate defines, or None if it gives a right."""
+    tag: Node | None
+    tag_text: str
+    begins: bytes | None
+    ends: bytes | None
+    delegates: bool
+    comment: str
+
+
+def certificate_of(wish: Wish, key: Value) -> Value:
+    """The certificate of a wish by the holder of a key."""
+    issuer = principal_of(key)
+    fields: list[Value] = [[b"issuer", [b"name", issuer, wish.name] if wish.name is not None else issuer], [b"subject", wish.subject]]
+    if wish.delegates:
+        fields.append([b"propagate"])
+    if wish.tag is not None:
+        fields.append([b"tag", wish.tag.value])
+    fields += [[head, moment] for head, moment in ((b"not-before", wish.begins), (b"not-after", wish.ends)) if moment is not None]
+    if wish.comment:
+        fields.append([b"comment", wish.comment.encode()])
+    return [b"cert", *fields]
+
+
+def signed_sequence(certificate: Value, signer: Signer, chain: Value | None) -> Value:
+    """The sequence of a chain and a certificate with its signature. A key that the certificate names by its hash is in it."""
+    octets = canonical(certificate)
+    value = signer.sign(octets)
+    if not verifies(signer.key, octets, value):
+        raise Refused("the signature that was made does not verify; nothing was written")
+    before = members(chain) if chain is not None else []
+    key = [] if is_named_by_itself(signer.key) or signer.key in before else [signer.key]
+    sequence: Value = [b"sequence", *before, *key, certificate, [b"signature", hash_of(certificate), principal_of(signer.key), value]]
+    text = canonical(sequence)
+    found = fault_of(text, "refused sequence")
+    if found[0] is not None:
+        raise Refused("a service would refuse this:", *told("the sequence", found))
+    return sequence
+
+
+# ---- what is hardly meant
+
+
+def warnings_of(wish: Wish, key: Value, chain: Value | None, tries: list[Value]) -> Iterator[str]:
+    """What is hardly meant with a certificate, so that it is made only if that is confirmed."""
+    moment = now().strftime(DATE_FORMAT).encode()
+    if wish.ends is None:
+        yield "it has no end, and a certificate cannot be revoked: give --days or --until"
+    elif wish.ends < moment:
+        yield f"it has ended: {wish.ends.decode()}"
+    if wish.begins is not None and wish.ends is not None and wish.ends < wish.begins:
+        yield "it ends before it begins, so it is never valid"
+    if wish.tag is not None:
+        yield from of_tag(wish.tag, wish.tag_text, tries)
+    if chain is not None:
+        yield from of_chain(wish, key, certificates_in(chain), Keys([key, *keys_in(chain)]), tries)
+
+
+def of_tag(tag: Node, text: str, tries: list[Value]) -> Iterator[str]:
+    """What is hardly meant with a tag."""
+    if is_everything(tag.value):
+        yield "its tag is `(*)`, which contains every request"
+    for at, why in remarks(tag):
+        where, around = place_shown(text.encode(), None, at)
+        yield f"--tag, {where}: {why}\n{around}"
+    for request in tries:
+        why_not = lacks(tag.value, request)
+        if why_not:
+            yield f"its tag does not contain the request `{on_one_line(request)}`: {why_not}"
+
+
+def of_chain(wish: Wish, key: Value, chain: list[Signed], keys: Keys, tries: list[Value]) -> Iterator[str]:
+    """What of a certificate its issuer cannot give, by the chain that leads to the issuer."""
+    if not chain:
+        yield "the chain has no certificate"
+        return
+    principal, names, delegates = subject_of_chain([it.terms for it in chain])
+    if names or not keys.are_one(principal, key):
+        yield "the chain does not lead to the key that signs"
+    if not delegates and wish.name is None:
+        yield "the last right of the chain has no (propagate), so its holder cannot delegate it"
+    for each in chain:
+        ends = each.terms.ends
+        if ends is not None and (wish.ends is None or wish.ends > ends):
+            yield f"item {each.number} of the chain ends earlier, on {ends.decode()}, and the right ends with it"
+        for request in tries:
+            why_not = lacks(each.terms.tag, request) if each.terms.tag is not None else None
+            if why_not:
+                yield f"item {each.number} of the chain does not contain the request `{on_one_line(request)}`: {why_not}"
+
+
+def subject_of_chain(chain: Iterable[Terms]) -> tuple[Value, list[Value], bool]:
+    """Where a chain leads, if its certificates join: the principal, the names that are left, and whether the right may be delegated."""
+    principal: Value = b""
+    names: list[Value] = []
+    delegates = True
+    for terms in chain:
+        names = [*terms.names, *(names[1:] if terms.name is not None else [])]
+        principal, delegates = terms.principal, delegates if terms.name is not None else terms.delegates
+    return principal, names, delegates
+
+
+def text_of(value: Value) -> bytes:
+    """A text of a value for people to read."""
+    return laid_out(value).encode() + b"\n"
+
+
+def summary(certificate: Value) -> Terms:
+    return terms_of_certificate(certificate)
+
+
+def relative_name(names: list[str]) -> Value:
+    """A name of the issuer."""
+    return [b"name", *(name.encode() for name in names)]
+
+
+def named(principal: Value, names: list[str]) -> Value:
+    """A name of another key, or the principal if there is no name."""
+    if headed(principal, b"name") and names:
+        raise Refused("--to is a name already, so --named is one too many")
+    return [b"name", principal, *(name.encode() for name in names)] if names else principal
