@@ -9,12 +9,17 @@ import os
 import shutil
 import subprocess
 import sys
+from collections.abc import Callable
+from typing import Any
 
 TOP = os.path.realpath(os.path.join(os.path.dirname(os.path.abspath(__file__)), ".."))
 TESTS, BENCH, EXAMPLES = (os.path.join(TOP, name) for name in ("tests", "bench", "examples"))
 sys.path.append(os.path.join(TOP, "cert"))
-from spki_cert_tool.sexp import canonical, on_one_line, read  # noqa: E402
+from spki_cert_tool import sexp  # noqa: E402
+from spki_cert_tool.sexp import canonical, on_one_line  # noqa: E402
 
+# (tests take values apart without looking at their types)
+read: Callable[[bytes], Any] = sexp.read
 PROGRAM = os.path.join(TOP, "crates", "spki", "out", "spki")
 LIBRARY = os.path.join(TOP, "crates", "spki_c", "out", "libspki_c.a")
 COMMANDS = ("canonical", "advanced", "transport", "intersect", "reduce", "check", "explain")
