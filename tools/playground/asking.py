@@ -1,0 +1,270 @@
+"""What the page asks, and the answers as it shows them. Each job yields its answer in parts, the decision first.
+
+A job that takes too long is ended by the one who asked for it, who keeps the parts that were yielded.
+"""
+import moments
+from chain import chain
+from completion import completed
+from engine import MOST_OCTETS, Question, Refused, case_text, request_text, string
+from labels import Labels
+from place import places, shown
+from sentences import REFUSED, right_left, said, title
+from spki_cert_tool.sexp import canonical, laid_out, on_one_line, read
+from story import Story, reasons_of
+
+MOST_REASONS, MOST_LEFT, MOST_LETTERS = 100, 20, 4000
+BOXES = ("acl", "sequence", "key", "request", "at")
+# A key that no question of the page has, with which a guard is asked what one tag contains.
+ANYBODY = b"(10:public-key(4:test7:anybody))"
+SOME_DATE = b"19:2000-01-01_00:00:00"
+
+
+class Given:
+    """A question of separate boxes, as octets."""
+
+    def __init__(self, engine, given):
+        self.engine, self.box = engine, {name: text(given, name).encode(errors="replace") for name in ("acl", "sequence", "key", "at")}
+        words = [it for it in given.get("request") or [] if isinstance(it, str)]
+        self.words = tuple(word.encode(errors="replace") for word in words)
+        self.sequence = completed(engine, self.box["sequence"])
+        refused = tuple(it for it in given.get("refused") or [] if isinstance(it, int))
+        self.question = Question(self.box["acl"], self.sequence.text, self.box["key"], self.words, string(self.box["at"]),
+                                 given.get("strict") is not False, refused)
+
+    def values(self):
+        """The access list, the sequence, the key, the request and the moment."""
+        value, question = self.engine.value, self.question
+        request = self.words[0] if len(self.words) == 1 else list(self.words)
+        return value(question.acl), value(question.sequence), value(question.key), request, self.box["at"]
+
+    def check(self):
+        return self.engine.lines(self.question, "check")[0]
+
+    def lines(self, command):
+        return self.engine.lines(self.question, command)
+
+    def cut(self, items):
+        """The lines of `reduce` with these items only."""
+        return self.engine.lines(self.question._replace(sequence=canonical([b"sequence", *items])), "reduce")
+
+    def signatures(self, labels):
+        """The signatures on which the decision depends, each with whether it counts."""
+        listed = []
+        for place, signed in enumerate(self.engine.signed(self.question)):
+            story = read(signed.message)
+            labels.learn(story)
+            listed.append({"by": labels.of(read(signed.key)), "says": on_one_line(story)[:MOST_LETTERS],
+                           "madeUp": signed.value == b"20:made-up-by-this-page", "counts": place not in self.question.refused_signatures})
+        return listed
+
+    def fault(self, line):
+        """The box that a refusal is about, and its places there."""
+        word = line.split()[1]
+        name = "acl" if word == "form" else word
+        if name not in BOXES:
+            return {}
+        if name in ("request", "at"):
+            return {name: self.fault_of_words(name, line)}
+        octets = self.question.sequence if name == "sequence" else self.box[name]
+        found = places(octets, line)
+        if name == "sequence":
+            found = [(self.sequence.typed(at), why) for at, why in found]
+        return {name: {"line": line, "places": shown(self.box[name], found)}}
+
+    def fault_of_words(self, name, line):
+        """The same of a box whose text is no S-expression, and is written as one."""
+        typed, written = self.box["at"], self.question.at
+        if name == "request":
+            typed, written = b"\n".join(self.words), request_text(self.words)
+        why = "a request has at least one string" if not self.words and name == "request" else next((it for _, it in places(written, line)), "")
+        first = typed.split(b"\n")[0]
+        place = {"begin": 0, "end": len(first.decode(errors="replace")), "line": 1, "column": 1, "why": why}
+        return {"line": line, "places": [place]}
+
+    def case(self):
+        """The same question as one text for the program."""
+        value, question = self.engine.value, self.question
+        listed = [it for place, it in enumerate(self.engine.signed(question)) if place not in question.refused_signatures]
+        parts = [canonical(value(it)) for it in (question.acl, question.sequence, question.key)]
+        return case_text(*parts, request_text(self.words), question.at, listed, question.is_strict)
+
+
+class GivenCase:
+    """A whole case in one box."""
+
+    def __init__(self, engine, given):
+        self.engine, self.octets = engine, text(given, "text").encode(errors="replace")
+
+    def values(self):
+        case = self.engine.value(self.octets)
+        return case[1], case[3], case[4][1], case[5][1], case[6][1]
+
+    def check(self):
+        return self.lines("check")[0]
+
+    def lines(self, command):
+        return self.engine.command(command, self.octets).decode().split("\n")
+
+    def cut(self, items):
+        case = self.engine.value(self.octets)
+        return self.engine.command("reduce", canonical([*case[:3], [b"sequence", *items], *case[4:]])).decode().split("\n")
+
+    def fault(self, line):
+        return {"case": {"line": line, "places": shown(self.octets, places(self.octets, line))}}
+
+
+def text(given, name):
+    """A string that the page sent, or an empty one."""
+    value = given.get(name)
+    return value if isinstance(value, str) else ""
+
+
+def refused(given, line):
+    """The answer where a text is refused."""
+    return {"kind": "refused", "line": line, "title": REFUSED.get(line, ""), "faults": given.fault(line)}
+
+
+def labels_of(engine, given):
+    return Labels(engine, text(given, "labels"))
+
+
+# ---- the jobs
+
+
+def question(engine, sent):
+    """A question in boxes."""
+    given, labels = Given(engine, sent), labels_of(engine, sent)
+    yield {"labelFaults": labels.faults}
+    try:
+        signatures = given.signatures(labels)
+        yield from explained(given, labels)
+        yield {"signatures": signatures, "case": laid_out(read(given.case()))}
+    except Refused as why:
+        yield refused(given, why.line)
+
+
+def case(engine, sent):
+    """A whole case in one box."""
+    given, labels = GivenCase(engine, sent), labels_of(engine, sent)
+    yield {"labelFaults": labels.faults}
+    try:
+        yield from explained(given, labels)
+    except Refused as why:
+        yield refused(given, why.line)
+
+
+def explained(given, labels):
+    """The decision, then the explanation and the picture, then the same with what right remains."""
+    line = given.check()
+    yield {"kind": "yes" if line.startswith("yes") else "no", "line": line}
+    acl, sequence, key, request, at = given.values()
+    for value in (key, acl, sequence):
+        labels.learn(value)
+    entries = [member for member in acl[1:] if member[0] == b"entry"]
+    story = Story(labels, entries, sequence[1:], key, request, at)
+    lines = given.lines("explain")
+    reasons = sorted(reasons_of(lines), key=lambda reason: reason.rank)
+    yield shown_reasons(story, reasons, line)
+    reduced = given.lines("reduce")
+    add_lefts(given, story, reasons, reduced)
+    rights = [right_left(story, number, left) for (number, item), left in story.lefts.items() if item is None]
+    yield {"rights": rights, **shown_reasons(story, reasons, line)}
+
+
+def shown_reasons(story, reasons, line):
+    """The sentences, the ones that matter first, and the picture of the first."""
+    sentences = [said(story, reason) for reason in reasons[:MOST_REASONS]]
+    return {"reasons": sentences, "more": max(0, len(reasons) - MOST_REASONS), "title": title(sentences, line),
+            "chain": chain(story, reasons[0] if reasons else None)}
+
+
+def add_lefts(given, story, reasons, reduced):
+    """Reads the rights that remain, and the one right before the item that stops the first chain."""
+    value = given.engine.value
+    for reason in reasons[:MOST_LEFT]:
+        if reason.entry and "(five" in reduced[reason.entry - 1]:
+            story.lefts[reason.entry, None] = value(five_of(reduced[reason.entry - 1]))
+    first = reasons[0] if reasons else None
+    if first and first.entry and first.item:
+        keys = [it for it in story.items[first.item:] if it[0] == b"public-key"]
+        before = given.cut([*story.items[:first.item - 1], *keys])[first.entry - 1]
+        if "(five" in before:
+            story.lefts[first.entry, first.item] = value(five_of(before))
+
+
+def five_of(line):
+    """The right in a line of `reduce`."""
+    return line.split(" ", 2)[2].encode()
+
+
+def times(engine, sent):
+    """When the answer is yes."""
+    given = Given(engine, sent)
+    try:
+        acl, sequence, *_ = given.values()
+        yield moments.spans((acl, sequence), lambda date: engine.lines(given.question._replace(at=string(date)), "check")[0])
+    except Refused as why:
+        yield {"refused": why.line}
+
+
+def tags(engine, sent):
+    """Two tags and a request: which of them contains it, and their intersection."""
+    words = tuple(it.encode(errors="replace") for it in sent.get("request") or [] if isinstance(it, str))
+    octets = {name: text(sent, name).encode(errors="replace") for name in ("first", "second")}
+    done = {name: contains(engine, octets[name], words) for name in octets}
+    yield dict(done)
+    if all("line" not in it for it in done.values()):
+        yield {"both": intersection(engine, octets, words)}
+
+
+def contains(engine, tag, words):
+    """Whether a tag contains a request, which a guard with one entry says."""
+    try:
+        acl = b"(3:acl(5:entry" + ANYBODY + b"(3:tag" + engine.canonical(tag) + b")))"
+    except Refused as why:
+        return {"line": why.line, "places": shown(tag, places(tag, why.line))}
+    try:
+        answer = engine.lines(Question(acl, b"(8:sequence)", ANYBODY, words, SOME_DATE), "check")[0]
+        return {"contains": answer != "no"}
+    except Refused as why:
+        return fault_of_tag(engine, tag, why.line)
+
+
+def fault_of_tag(engine, tag, line):
+    """The places of a fault in a tag, which `intersect` names."""
+    if line.split()[1] != "acl":
+        return {"requestLine": line}
+    line = line.replace("acl 1 Tag", "tag 1").replace("acl 1", "tag 1")
+    front = b"(intersect "
+    found = [(at - len(front), why) for at, why in places(front + tag + b" a)", line)]
+    return {"line": line, "places": shown(tag, [(at, why) for at, why in found if 0 <= at <= len(tag)])}
+
+
+def intersection(engine, octets, words):
+    try:
+        both = engine.command("intersect", b"(9:intersect" + b"".join(map(engine.canonical, octets.values())) + b")")
+        return {"text": both.decode()[:MOST_LETTERS], "isWhole": len(both) <= MOST_LETTERS, **contains(engine, both, words)}
+    except Refused as why:
+        return {"line": why.line}
+
+
+def forms(engine, sent):
+    """The three forms of a value."""
+    octets = text(sent, "text").encode(errors="replace")
+    try:
+        for name in ("canonical", "advanced", "transport"):
+            yield {name: printable(engine.command(name, octets))}
+    except Refused as why:
+        yield {"line": why.line, "places": shown(octets, places(octets, why.line))}
+
+
+def printable(octets):
+    """Octets for people to read: what is no printable character is written as in advanced form."""
+    try:
+        return "".join(it if it.isprintable() else "".join(f"\\x{octet:02x}" for octet in it.encode()) for it in octets.decode())
+    except UnicodeDecodeError:
+        return "".join(chr(octet) if 32 <= octet < 127 else f"\\x{octet:02x}" for octet in octets)
+
+
+JOBS = {"question": question, "case": case, "times": times, "tags": tags, "forms": forms}
+__all__ = ["JOBS", "MOST_OCTETS"]

@@ -1,0 +1,112 @@
+"""The chain of an answer as boxes and arrows from the access list to the request, which the page draws as SVG."""
+from labels import field
+from spki_cert_tool.sexp import on_one_line
+from story import issuer_of, joined, moment_of, subject_of, tag_of, window
+
+SHORT = {
+    "KeyNotShown": "the key of its issuer is not shown", "DigestDiffers": "its signature has another digest",
+    "SignerDiffers": "it is signed by another key than its issuer's", "NotAccepted": "its signature does not count",
+    "NotIssuer": "the next certificate is issued by another key", "NotTheName": "the next certificate defines another name",
+    "NoDelegation": "the right must not be passed on", "NoValidity": "no moment is left", "NoTag": "no request is left",
+    "NotTheKey": "the right ends at another key", "TagLacks": "the right does not contain the request",
+    "WindowLacks": "the moment is not in the validity"}
+APART = ("NotIssuer", "NotTheName", "NotTheKey")
+MOST_STEPS = 60
+
+
+def arrow(state, *lines, whole=""):
+    return {"kind": "arrow", "state": state, "lines": [line for line in lines if line], "whole": whole}
+
+
+def terms(name, value):
+    """What an entry or a certificate gives, by lines."""
+    passes = "may be passed on" if field(value, b"propagate") else None
+    return [name, tag_of(value), passes, window(value)]
+
+
+class Chain:
+    """The boxes and arrows, from above."""
+
+    def __init__(self, story):
+        self.story, self.steps, self.subject = story, [], None
+
+    def box(self, shape, label, whole, note="", state="plain"):
+        self.steps.append({"kind": "box", "shape": shape, "label": label, "note": note, "whole": whole, "state": state})
+
+    def person(self, subject, state="plain"):
+        """The box of a subject, if it is not the one that was drawn last."""
+        named = self.story.labels.of(subject)
+        if subject != self.subject:
+            self.box("subject", named, on_one_line(subject), state=state)
+        self.subject = subject
+
+    def begin(self, number):
+        """The access list and one of its entries."""
+        entry = self.story.entries[number - 1]
+        self.box("list", "Access list", f"{len(self.story.entries)} entries")
+        self.steps.append(arrow("plain", *terms(f"entry {number}", entry), whole=on_one_line(entry)))
+        self.person(entry[1])
+
+    def follow(self, reason):
+        """The certificates up to the one that stops the chain."""
+        for number, item in enumerate(self.story.items, 1):
+            if item[0] != b"cert" or (reason.item and number > reason.item):
+                continue
+            is_last = number == reason.item
+            self.certificate(number, item, reason.word if is_last else None, self.story.left(reason) if is_last else None)
+
+    def certificate(self, number, item, word, before):
+        """One certificate: an arrow to its subject, which is red where it stops the chain. Then the right before it may explain that."""
+        issuer = issuer_of(item)
+        if word in APART:
+            self.steps.append(arrow("gap", word, SHORT[word]))
+        if word in APART or self.subject is None:
+            self.person(issuer)
+        lines = terms(f"certificate, item {number}", item)
+        if issuer[0] == b"name":
+            lines[1] = f"defines {self.story.labels.of(issuer)}"
+        state = "faint" if word in APART else "bad" if word else "plain"
+        why = [f"{word}: {SHORT[word]}"] if state == "bad" else []
+        if before and word in ("NoTag", "NoValidity"):
+            lines.append(f"left before: {tag_of(before) if word == 'NoTag' else window(before)}")
+        self.steps.append(arrow(state, *why, *lines, whole=on_one_line(item)))
+        self.person(joined(self.subject or issuer, item) if state == "plain" else subject_of(item), "faint" if word else "plain")
+
+    def end(self, reason, left):
+        """The request, and whether what is left contains it."""
+        story, word = self.story, reason.word
+        good = word == "grants"
+        if word == "NotTheKey":
+            self.steps.append(arrow("gap", word, SHORT[word]))
+            self.person(story.key)
+            self.steps.append(arrow("plain", "requests"))
+        else:
+            remains = [] if left is None else [f"left: {tag_of(left)}", window(left)]
+            why = f"yes, entry {reason.entry}" if good else f"{word}: {SHORT[word]}"
+            self.steps.append(arrow("good" if good else "bad", why, *remains, whole=on_one_line(left) if left else ""))
+        state = "good" if good else "plain" if word == "NotTheKey" else "bad"
+        self.box("request", on_one_line(story.request), on_one_line(story.request), moment_of(story.at), state)
+
+
+def chain(story, reason):
+    """The steps of the chain that a line of `explain` is about, and how many certificates are not drawn."""
+    drawn = Chain(story)
+    if reason is None:
+        drawn.box("list", "Access list", "0 entries", "no entries", "bad")
+        return {"steps": drawn.steps, "behind": 0}
+    if reason.entry:
+        drawn.begin(reason.entry)
+    drawn.follow(reason)
+    if reason.item is None:
+        drawn.end(reason, story.left(reason))
+    behind = sum(item[0] == b"cert" for item in story.items[reason.item:]) if reason.item else 0
+    return shortened(drawn.steps, behind)
+
+
+def shortened(steps, behind):
+    """The steps, where the middle of a chain that is very long is left out."""
+    if len(steps) > MOST_STEPS:
+        half = MOST_STEPS // 2
+        left_out = arrow("faint", f"{(len(steps) - MOST_STEPS) // 2} certificates are not drawn")
+        steps = [*steps[:half], left_out, *steps[-half:]]
+    return {"steps": steps, "behind": behind}

@@ -1,0 +1,85 @@
+"""What keys are called on the page: by a list of labels, by a comment of an entry or a certificate, or by a short form of the key."""
+import hashlib
+import re
+
+from engine import Refused
+from spki_cert_tool.sexp import canonical, on_one_line
+
+LINE = re.compile(r"\s*(.*?)\s*=?\s*(\(.*)", re.DOTALL)
+MOST_LABELS, MOST_LETTERS = 64, 40
+PLAIN = re.compile(rb"[ -~]{1,40}\Z")
+
+
+class Labels:
+    """The labels of keys and hashes, by their canonical texts."""
+
+    def __init__(self, engine, lines):
+        self.of_values, self.hashes, self.faults = {}, {}, []
+        for number, line in enumerate(lines.split("\n")[:MOST_LABELS], 1):
+            if line.strip():
+                self.add_line(engine, number, line)
+
+    def add_line(self, engine, number, line):
+        """Reads a line `LABEL KEY`."""
+        found = LINE.fullmatch(line)
+        try:
+            if not found or not found[1]:
+                raise Refused("write a label and then a key, as in: Alice (public-key (test alice))")
+            self.of_values[engine.canonical(found[2].strip().encode())] = found[1][:MOST_LETTERS]
+        except Refused as why:
+            self.faults.append({"line": number, "why": why.line})
+
+    def learn(self, value):
+        """Takes the keys of a value, so that their hashes are known, and the comments of entries and certificates."""
+        waiting = [value]
+        while waiting:
+            part = waiting.pop()
+            if not isinstance(part, list) or not part:
+                continue
+            waiting += part[1:]
+            if part[0] == b"public-key":
+                self.hashes.setdefault((b"sha256", hashlib.sha256(canonical(part)).digest()), part)
+                self.hashes.setdefault((b"sha512", hashlib.sha512(canonical(part)).digest()), part)
+                self.hashes.setdefault((b"sha1", hashlib.sha1(canonical(part)).digest()), part)
+            elif part[0] in (b"entry", b"cert"):
+                self.learn_comment(part)
+
+    def learn_comment(self, part):
+        """A comment of an entry or a certificate is a label of its subject."""
+        comment = field(part, b"comment")
+        subject = part[1] if part[0] == b"entry" else (field(part, b"subject") or [None, None])[1]
+        if comment and len(comment) == 2 and isinstance(comment[1], bytes) and isinstance(subject, list):
+            self.of_values.setdefault(canonical(subject), comment[1].decode(errors="replace")[:MOST_LETTERS])
+
+    def key(self, principal):
+        """The key that a principal names, if it is known, else the principal."""
+        return self.hashes.get((principal[1], principal[2]), principal) if principal[0] == b"hash" else principal
+
+    def of(self, subject):
+        """What a principal or a name is called."""
+        given = self.of_values.get(canonical(subject))
+        if given:
+            return given
+        if subject[0] == b"name":
+            *names, = (it.decode(errors="replace") for it in subject[2:])
+            return f"{' '.join(names)} of {self.of(subject[1])}"
+        key = self.key(subject)
+        if key is not subject:
+            return self.of(key)
+        return short(subject)
+
+
+def field(value, head):
+    """The field of a certificate or an entry with a head, or None."""
+    return next((it for it in value[1:] if isinstance(it, list) and it[:1] == [head]), None)
+
+
+def short(principal):
+    """A short form of a key or a hash."""
+    if principal[0] == b"hash":
+        return f"{principal[1].decode()} {principal[2].hex()[:8]}.."
+    parts = principal[1][1:]
+    if len(parts) == 1 and isinstance(parts[0], bytes) and PLAIN.match(parts[0]):
+        return parts[0].decode()
+    algorithm = on_one_line(principal[1][0])[:MOST_LETTERS]
+    return f"{algorithm} key {hashlib.sha256(canonical(principal)).hexdigest()[:8]}.."

@@ -1,0 +1,69 @@
+"""The moments at which an answer can change, which are the limits in the texts, and the answer between them.
+
+A limit is included: a right that is valid from a moment on holds at this moment, and one that is valid until a moment holds at it too.
+So an answer can change at each not-before, and right after each not-after. Dates are compared as strings, without a calendar.
+"""
+import re
+
+DATE = re.compile(rb"(\d{4})-(\d\d)-(\d\d)_(\d\d):(\d\d):(\d\d)\Z")
+FIRST, LAST = (0, 1, 1, 0, 0, 0), (9999, 12, 31, 23, 59, 60)
+MOST_LIMITS = 100
+
+
+def parts_of(date):
+    """The numbers of a date."""
+    return tuple(map(int, DATE.match(date).groups()))
+
+
+def date_of(parts):
+    return b"%04d-%02d-%02d_%02d:%02d:%02d" % parts
+
+
+def after(parts):
+    """The next date as a string: there is no calendar, and a minute has a second 60. None after the last one."""
+    for place in reversed(range(len(parts))):
+        if parts[place] < LAST[place]:
+            return (*parts[:place], parts[place] + 1, *FIRST[place + 1:])
+    return None
+
+
+def limits_of(value):
+    """The limits in a value: the moments of `not-before` and of `not-after`."""
+    found, waiting = {b"not-before": set(), b"not-after": set()}, [value]
+    while waiting:
+        part = waiting.pop()
+        if not isinstance(part, list):
+            continue
+        if len(part) == 2 and part[0] in (b"not-before", b"not-after") and isinstance(part[1], bytes) and DATE.match(part[1]):
+            found[part[0]].add(parts_of(part[1]))
+        waiting += part
+    return found
+
+
+def spans(values, answer):
+    """The times between two changes, in their order: the answer, the first moment and the last one, each with the limit that it is.
+
+    Asks `answer` at the first moment of each. Neighbours with the same answer are one.
+    """
+    limits = [limits_of(value) for value in values]
+    begins = {moment: ("from", moment) for it in limits for moment in it[b"not-before"]}
+    ends = {after(moment): ("after", moment) for it in limits for moment in it[b"not-after"] if after(moment)}
+    changes = dict(sorted({**ends, **begins}.items())[:MOST_LIMITS])
+    found = []
+    for moment, limit in [(FIRST, None), *changes.items()]:
+        said = answer(date_of(moment))
+        if not found or found[-1]["answer"] != said:
+            found.append({"answer": said, "begin": limit and shown_limit(limit)})
+    for span, following in zip(found, found[1:]):
+        span["end"] = following["begin"]
+    return {"spans": found, "limits": sorted({shown(moment) for _, moment in changes.values()}), "isWhole": len(begins) + len(ends) <= MOST_LIMITS}
+
+
+def shown(parts):
+    return date_of(parts).decode().replace("_", " ")
+
+
+def shown_limit(limit):
+    """A limit for the page: whether the span begins with this moment or after it."""
+    word, moment = limit
+    return {"word": word, "moment": shown(moment)}

@@ -1,0 +1,109 @@
+// The picture of a chain: boxes from above, and arrows with what they give beside them.
+import { drawn, made } from "./dom.js";
+
+const GAP = 10, LINE = 17, PAD = 10, SHAFT = 22, BESIDE = 42, MOST_LINES = 3, MOST_LETTERS = 1200;
+const FONTS = { name: "600 13px", plain: "13px", mono: "12px", why: "650 13px" };
+const measuring = document.createElement("canvas").getContext("2d");
+
+/** Draws steps for a width. */
+export function picture(chain, width, summary) {
+  const svg = drawn("svg", { width, role: "img", "aria-label": summary });
+  let y = 1;
+  for (const step of chain.steps) {
+    const part = step.kind === "box" ? box(step, width) : arrow(step, width);
+    part.element.setAttribute("transform", `translate(0 ${y})`);
+    svg.append(part.element);
+    y += part.height;
+  }
+  if (chain.behind) {
+    const count = chain.behind === 1 ? "1 certificate" : `${chain.behind} certificates`;
+    svg.append(drawn("text", { x: 0, y: y + LINE + 2, class: "quiet" }, `${count} behind this one: not looked at`));
+    y += LINE + 8;
+  }
+  svg.setAttribute("height", y + 2);
+  svg.setAttribute("viewBox", `0 0 ${width} ${y + 2}`);
+  return svg;
+}
+
+/** The same in words, for a list. */
+export function words(chain) {
+  return chain.steps.map((step) => {
+    const says = step.kind === "box" ? [step.label, step.note].filter(Boolean).join(", ") : step.lines.join(", ");
+    return made("li", {}, says, step.whole && step.whole !== says ? made("code", {}, step.whole) : "");
+  });
+}
+
+function box(step, width) {
+  const lines = wrapped(step.label, width - 2 * PAD - 2, step.shape === "request" ? "mono" : "name", 12);
+  const notes = step.note ? [step.note] : step.shape === "list" ? [step.whole] : [];
+  const widest = Math.max(...lines.map((it) => measure(it, step.shape === "request" ? "mono" : "name")), ...notes.map((it) => measure(it, "plain")));
+  const height = (lines.length + notes.length) * LINE + 2 * PAD - 4;
+  const group = drawn("g", { class: `${step.shape} ${step.state}` }, title(step.whole),
+    drawn("rect", { class: "frame", x: 1, y: 0, rx: step.shape === "subject" ? 17 : 7, width: Math.min(width - 2, Math.max(widest + 2 * PAD + 8, 92)), height }));
+  const kind = step.shape === "request" ? "mono" : "name";
+  lines.forEach((text, place) => group.append(drawn("text", { x: PAD + 5, y: PAD + 10 + place * LINE, class: kind }, text)));
+  notes.forEach((text, place) => group.append(drawn("text", { x: PAD + 5, y: PAD + 10 + (lines.length + place) * LINE, class: "quiet" }, text)));
+  return { element: group, height };
+}
+
+function arrow(step, width) {
+  const stops = step.state !== "plain" && step.state !== "faint";
+  const group = drawn("g", { class: step.state }, title(step.whole));
+  let lines = 0;
+  step.lines.forEach((text, place) => {
+    const isTag = /^(left( before)?: )?[([{|#"]/.test(text);
+    const kind = place === 0 && stops ? "why" : isTag ? "mono" : "plain";
+    for (const piece of wrapped(text, width - BESIDE - 4, kind, stops ? 40 : MOST_LINES)) {
+      const quiet = kind === "plain" ? "quiet" : "";
+      group.append(drawn("text", { x: BESIDE, y: GAP + 11 + lines * LINE, class: `${kind} ${quiet}` }, piece));
+      lines += 1;
+    }
+  });
+  const height = Math.max(lines, 1) * LINE + 2 * GAP;
+  group.prepend(drawn("path", { class: "shaft", d: `M${SHAFT} 2V${height - (step.state === "gap" ? 2 : 8)}` }));
+  if (step.state === "gap" || step.state === "bad") {
+    const middle = height / 2 - 2;
+    group.append(drawn("path", { class: "cross", d: `M${SHAFT - 5} ${middle - 5}l10 10m0-10l-10 10` }));
+  }
+  if (step.state !== "gap") {
+    group.append(drawn("path", { class: "head", d: `M${SHAFT - 5} ${height - 9}h10l-5 8z` }));
+  }
+  return { element: group, height };
+}
+
+const title = (text) => (text ? drawn("title", {}, text) : "");
+
+function measure(text, kind) {
+  const family = getComputedStyle(document.documentElement).getPropertyValue(kind === "mono" ? "--mono" : "--sans");
+  measuring.font = `${FONTS[kind]} ${family}`;
+  return measuring.measureText(text).width;
+}
+
+/** A text in lines that fit a width. A line breaks at a space, else anywhere. What is too long ends in dots. */
+function wrapped(text, width, kind, most) {
+  const lines = [];
+  let rest = text.slice(0, MOST_LETTERS);
+  while (rest && lines.length < most) {
+    const end = fitting(rest, width, kind);
+    lines.push(rest.slice(0, end).trimEnd());
+    rest = rest.slice(end).trimStart();
+  }
+  if (rest || text.length > MOST_LETTERS) {
+    lines[lines.length - 1] = `${lines[lines.length - 1].slice(0, -2)}..`;
+  }
+  return lines.length ? lines : [""];
+}
+
+/** How many letters of a text fit a width: up to a space, if there is one that is not too far in front. */
+function fitting(text, width, kind) {
+  if (measure(text, kind) <= width) {
+    return text.length;
+  }
+  let low = 1, high = text.length;
+  while (low + 1 < high) {
+    const middle = (low + high) >> 1;
+    [low, high] = measure(text.slice(0, middle), kind) <= width ? [middle, high] : [low, middle];
+  }
+  const space = text.lastIndexOf(" ", low);
+  return space > low / 2 ? space : low;
+}

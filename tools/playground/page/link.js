@@ -1,0 +1,20 @@
+// A link that holds the whole question in its fragment, which a browser never sends.
+
+/** The address of this page with the state behind it. */
+export function linked(state) {
+  const octets = new TextEncoder().encode(JSON.stringify(state));
+  const letters = btoa(Array.from(octets, (it) => String.fromCharCode(it)).join(""));
+  return `${location.origin}${location.pathname}#q=${letters.replaceAll("+", "-").replaceAll("/", "_").replaceAll("=", "")}`;
+}
+
+/** The state in the fragment of this page's address, or null. */
+export function inFragment() {
+  const found = /^#q=([\w-]+)$/.exec(location.hash);
+  try {
+    const letters = atob(found[1].replaceAll("-", "+").replaceAll("_", "/"));
+    const state = JSON.parse(new TextDecoder().decode(Uint8Array.from(letters, (it) => it.charCodeAt(0))));
+    return typeof state === "object" ? state : null;
+  } catch {
+    return null;
+  }
+}

@@ -1,0 +1,164 @@
+"""The page over HTTP, on loopback only.
+
+A request is answered only if it comes to this host and port, and has the token in its path. A request that asks something must also come
+from the page itself: its origin is this host and port. So no other page of the browser can ask, also not by a name that leads here.
+"""
+import hmac
+import http
+import http.server
+import json
+import os
+import secrets
+import threading
+
+HERE = os.path.dirname(os.path.abspath(__file__))
+PAGE = os.path.join(HERE, "page")
+MOST_BODY, MOST_CONNECTIONS, SECONDS = 1 << 20, 64, 20
+KINDS = {".html": "text/html; charset=utf-8", ".css": "text/css; charset=utf-8", ".js": "text/javascript; charset=utf-8",
+         ".json": "application/json", ".svg": "image/svg+xml"}
+POLICY = ("default-src 'none'; script-src 'self'; style-src 'self'; connect-src 'self'; img-src 'self'; base-uri 'none'; form-action 'none'; "
+          "frame-ancestors 'none'; require-trusted-types-for 'script'; trusted-types 'none'")
+HEADERS = {"Content-Security-Policy": POLICY, "X-Content-Type-Options": "nosniff", "Referrer-Policy": "same-origin", "Cache-Control": "no-store",
+           "Cross-Origin-Opener-Policy": "same-origin", "Cross-Origin-Resource-Policy": "same-origin", "X-Frame-Options": "DENY",
+           "Permissions-Policy": "camera=(), microphone=(), geolocation=()"}
+
+
+def files():
+    """The files of the page by their names: kinds and octets."""
+    found = {}
+    for name in sorted(os.listdir(PAGE)):
+        kind = KINDS.get(os.path.splitext(name)[1])
+        if kind:
+            with open(os.path.join(PAGE, name), "rb") as file:
+                found[name] = kind, file.read()
+    return found
+
+
+class Handler(http.server.BaseHTTPRequestHandler):
+    """One connection."""
+
+    protocol_version = "HTTP/1.1"
+    server_version, sys_version = "playground", ""
+    timeout = SECONDS
+    # (an answer is two writes, and the second must not wait for the first to be acknowledged)
+    disable_nagle_algorithm = True
+    wbufsize = -1
+
+    def do_GET(self):
+        """A file of the page."""
+        name = self.name_asked("index.html")
+        if name is None:
+            return
+        if name not in self.server.files:
+            self.refuse(http.HTTPStatus.NOT_FOUND)
+            return
+        kind, octets = self.server.files[name]
+        self.reply(http.HTTPStatus.OK, kind, octets)
+
+    do_HEAD = do_GET
+
+    def do_POST(self):
+        """A job."""
+        name = self.name_asked("")
+        if name is None:
+            return
+        if self.headers.get("Origin") not in self.server.origins or self.headers.get("Sec-Fetch-Site", "same-origin") != "same-origin":
+            self.refuse(http.HTTPStatus.FORBIDDEN)
+            return
+        if name not in self.server.jobs:
+            self.refuse(http.HTTPStatus.NOT_FOUND)
+            return
+        sent = self.body()
+        if sent is not None:
+            page = sent.get("page")
+            answer = self.server.workers.answer(page if isinstance(page, str) else "", name, sent)
+            self.reply(http.HTTPStatus.OK, KINDS[".json"], json.dumps(answer).encode())
+
+    def name_asked(self, none):
+        """What is asked for behind the token. None if the host or the token is wrong, which is answered."""
+        if self.headers.get_all("Host") not in self.server.hosts:
+            self.refuse(http.HTTPStatus.MISDIRECTED_REQUEST)
+            return None
+        token, slash, name = self.path.split("?")[0].removeprefix("/").partition("/")
+        if not slash or not hmac.compare_digest(token.encode(), self.server.token.encode()):
+            self.refuse(http.HTTPStatus.FORBIDDEN)
+            return None
+        return name or none
+
+    def body(self):
+        """The object that was sent. None if it is too large or no object, which is answered."""
+        length = self.headers.get("Content-Length", "")
+        if not length.isascii() or not length.isdigit() or "Transfer-Encoding" in self.headers:
+            self.refuse(http.HTTPStatus.LENGTH_REQUIRED)
+            return None
+        if len(length) > 9 or int(length) > MOST_BODY:
+            self.refuse(http.HTTPStatus.REQUEST_ENTITY_TOO_LARGE)
+            return None
+        if self.headers.get_content_type() != "application/json":
+            self.refuse(http.HTTPStatus.UNSUPPORTED_MEDIA_TYPE)
+            return None
+        try:
+            sent = json.loads(self.rfile.read(int(length)))
+        except (ValueError, RecursionError):
+            sent = None
+        if not isinstance(sent, dict):
+            self.refuse(http.HTTPStatus.BAD_REQUEST)
+            return None
+        return sent
+
+    def refuse(self, status):
+        """An answer without contents. The connection ends, because a body may be left in it."""
+        self.close_connection = True
+        self.reply(status, "text/plain; charset=utf-8", status.phrase.encode())
+
+    def reply(self, status, kind, octets):
+        self.send_response(status)
+        for name, value in {**HEADERS, "Content-Type": kind, "Content-Length": str(len(octets))}.items():
+            self.send_header(name, value)
+        if self.close_connection:
+            self.send_header("Connection", "close")
+        self.end_headers()
+        if self.command != "HEAD":
+            self.wfile.write(octets)
+        self.wfile.flush()
+
+    def version_string(self):
+        return self.server_version
+
+    def log_message(self, *_):
+        """Nothing is logged: the token is in each path."""
+
+
+class Server(http.server.ThreadingHTTPServer):
+    """The server, with a bound on the connections at once."""
+
+    daemon_threads = True
+    request_queue_size = 32
+
+    def __init__(self, port, workers, jobs, start):
+        super().__init__(("127.0.0.1", port), Handler)
+        self.token, self.workers, self.jobs = secrets.token_urlsafe(24), workers, jobs
+        self.files = {**files(), "start.json": (KINDS[".json"], start)}
+        self.room = threading.BoundedSemaphore(MOST_CONNECTIONS)
+        self.origins = [f"http://{name}:{self.server_port}" for name in ("127.0.0.1", "localhost")]
+        self.hosts = [[origin.removeprefix("http://")] for origin in self.origins]
+
+    @property
+    def address(self):
+        """The address of the page."""
+        return f"{self.origins[0]}/{self.token}/"
+
+    def process_request(self, request, client_address):
+        if not self.room.acquire(blocking=False):
+            self.shutdown_request(request)
+            return
+        super().process_request(request, client_address)
+
+    def process_request_thread(self, request, client_address):
+        try:
+            super().process_request_thread(request, client_address)
+        finally:
+            self.room.release()
+
+    def handle_error(self, request, client_address):
+        """A connection that breaks is no news."""
