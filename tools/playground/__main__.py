@@ -11,13 +11,11 @@ import os
 import sys
 import webbrowser
 
+from asking import JOBS
 from engine import TOP, engine
 from examples import EXAMPLES, OTHERS
 from server import Server
 from workers import Workers
-
-JOBS = ("question", "case", "times", "tags", "forms")
-
 
 def options():
     parser = argparse.ArgumentParser(prog="tools/playground", description=__doc__.split("\n")[0])

@@ -162,12 +162,14 @@ def explained(given, labels):
         labels.learn(value)
     entries = [member for member in acl[1:] if member[0] == b"entry"]
     story = Story(labels, entries, sequence[1:], key, request, at)
-    lines = given.lines("explain")
-    reasons = sorted(reasons_of(lines), key=lambda reason: reason.rank)
-    yield shown_reasons(story, reasons, line)
-    reduced = given.lines("reduce")
-    add_lefts(given, story, reasons, reduced)
-    rights = [right_left(story, number, left) for (number, item), left in story.lefts.items() if item is None]
+    try:
+        reasons = sorted(reasons_of(given.lines("explain")), key=lambda reason: reason.rank)
+        yield shown_reasons(story, reasons, line)
+        add_lefts(given, story, reasons, given.lines("reduce"))
+    except Refused as why:
+        yield {"notice": f"The decision has no explanation here: {why.line}."}
+        return
+    rights = [right_left(story, number, item, left) for (number, item), left in story.lefts.items()]
     yield {"rights": rights, **shown_reasons(story, reasons, line)}
 
 

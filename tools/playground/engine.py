@@ -4,6 +4,7 @@ Both give the same lines. The library takes the parts of a question as separate 
 canonical forms, so that no part can become another one.
 """
 import ctypes
+import ctypes.util
 import functools
 import hashlib
 import os
@@ -21,7 +22,7 @@ from spki_cert_tool.sexp import canonical, read  # noqa: E402
 COMMANDS = ("canonical", "advanced", "transport", "intersect", "reduce", "check", "explain")
 # The limits of a guard on each question. A list is bounded by what the server takes.
 MOST_OCTETS, MOST_NODES = 65_536, 1_000_000
-KEPT = 256
+KEPT = 64
 PARTS = ("sequence", "key", "request", "at")
 
 
@@ -44,6 +45,10 @@ class Refused(Exception):
     def __init__(self, line):
         super().__init__(line)
         self.line = line
+
+
+class Failed(Exception):
+    """The program ended without an answer."""
 
 
 class Signed(NamedTuple):
@@ -83,9 +88,9 @@ class Engine:
 
 
 class ByLibrary(Engine):
-    """The library for C, in this process."""
+    """The library for C, in this process. So the memory of this process can be limited."""
 
-    name = "libspki_c.so"
+    name, limits_memory = "libspki_c.so", True
 
     def __init__(self):
         super().__init__()
@@ -100,7 +105,7 @@ class ByLibrary(Engine):
 
     def answer(self, name, text):
         """The octets that the program writes for a text."""
-        needed, room = ctypes.c_size_t(4096), b""
+        needed, room = ctypes.c_size_t(MOST_OCTETS), b""
         while len(room) < needed.value:
             room = ctypes.create_string_buffer(needed.value)
             self.call(COMMANDS.index(name), text, len(text), room, len(room), ctypes.byref(needed))
@@ -137,15 +142,18 @@ class ByLibrary(Engine):
 class ByProgram(Engine):
     """The program, which is run for each answer."""
 
-    name = "spki"
+    name, limits_memory = "spki", False
 
     def __init__(self, program):
         super().__init__()
         self.program = program
 
     def answer(self, name, text):
-        """The octets that the program writes for a text."""
-        return subprocess.run([self.program, name], input=text, stdout=subprocess.PIPE, stderr=subprocess.DEVNULL).stdout
+        """The octets that the program writes for a text. Raises `Failed`."""
+        done = subprocess.run([self.program, name], input=text, stdout=subprocess.PIPE, stderr=subprocess.DEVNULL)
+        if done.returncode not in (0, 1, 2) or not done.stdout:
+            raise Failed(f"The program ended with status {done.returncode} and no answer.")
+        return done.stdout
 
     def parts(self, question):
         """The canonical forms of the parts. A fault of the form is named after its part, as a guard names it."""
@@ -221,8 +229,9 @@ def case_text(acl, sequence, key, request, at, listed, is_strict):
 
 
 def program():
-    """The path of the program, or None."""
-    return PROGRAM if os.access(PROGRAM, os.X_OK) else shutil.which("spki")
+    """The path of the program, or None. The variable SPKI_PROGRAM of the environment names another than the built one."""
+    built = os.environ.get("SPKI_PROGRAM", PROGRAM)
+    return built if os.access(built, os.X_OK) else shutil.which("spki")
 
 
 def engine(wanted=None):

@@ -1,6 +1,5 @@
 """The answer in words: a sentence for each line of `explain`, and what can be done about it."""
 from story import issuer_of, moment_of, tag_of, window
-from spki_cert_tool.sexp import on_one_line
 
 # For each cause what it says, and what to do.
 WORDS = {
@@ -44,7 +43,7 @@ def said(story, reason):
 
 def shown(story):
     count = sum(item[0] == b"cert" for item in story.items)
-    return "" if not count else f" and one certificate" if count == 1 else f" and {count} certificates"
+    return "" if not count else " and one certificate" if count == 1 else f" and {count} certificates"
 
 
 def title(reasons, line):
@@ -54,10 +53,10 @@ def title(reasons, line):
     return reasons[0]["says"] if reasons else "The access list is empty."
 
 
-def right_left(story, number, left):
-    """A right that remains, in words."""
-    return {"entry": number, "holder": story.labels.of(field_of(left, b"subject")), "tag": tag_of(left), "window": window(left) or "at all times",
-            "passes": any(it == [b"propagate"] for it in left), "whole": on_one_line(left)}
+def right_left(story, number, item, left):
+    """A right that remains of an entry, or that it was before an item, in words."""
+    return {"entry": number, "item": item, "holder": story.labels.of(field_of(left, b"subject")), "tag": tag_of(left),
+            "window": window(left) or "at all times", "passes": any(it == [b"propagate"] for it in left)}
 
 
 def field_of(value, head):

@@ -11,6 +11,9 @@ import signal
 import threading
 import time
 
+from asking import JOBS
+from engine import Failed, engine
+
 SECONDS, MOST_WORKERS, MEMORY = 2.0, 6, 2 << 30
 TOO_LONG = "The rest took longer than 2 seconds and was stopped."
 
@@ -19,10 +22,9 @@ def serve(pipe, wanted):
     """The life of a process: a job comes, and its parts go back."""
     os.setsid()
     signal.signal(signal.SIGINT, signal.SIG_IGN)
-    resource.setrlimit(resource.RLIMIT_AS, (MEMORY, MEMORY))
-    from asking import JOBS
-    from engine import engine
     decides = engine(wanted)
+    if decides.limits_memory:
+        resource.setrlimit(resource.RLIMIT_AS, (MEMORY, MEMORY))
     while True:
         try:
             name, sent = pipe.recv()
@@ -34,8 +36,8 @@ def serve(pipe, wanted):
             for part in JOBS[name](decides, sent):
                 pipe.send(part)
             pipe.send(None)
-        except (RecursionError, MemoryError):
-            pipe.send({"notice": "The text is too large for this page."})
+        except (RecursionError, MemoryError, Failed) as why:
+            pipe.send({"notice": str(why) or "The text is too large for this page."})
             pipe.send(None)
         signal.alarm(0)
 

@@ -2,6 +2,8 @@
 import { at, made, say } from "./dom.js";
 
 const DAY = 86400, STEPS = 1000;
+// The seconds of the first and the last moment of a calendar.
+const FIRST = Date.UTC(1000, 0, 1) / 1000, LAST = Date.UTC(9999, 11, 31, 23, 59, 59) / 1000;
 
 /** The seconds of `YYYY-MM-DD HH:MM:SS` in UTC. A date that the calendar does not have is a near one. */
 function seconds(moment) {
@@ -53,7 +55,8 @@ export class Times {
       return;
     }
     const room = Math.max((high - low) * 0.25, 30 * DAY);
-    [this.key, this.low, this.high] = [key, Math.floor((low - room) / DAY) * DAY, Math.ceil((high + room) / DAY) * DAY];
+    const within = (time) => Math.min(LAST, Math.max(FIRST, time));
+    [this.key, this.low, this.high] = [key, within(Math.floor((low - room) / DAY) * DAY), within(Math.ceil((high + room) / DAY) * DAY)];
   }
 
   draw() {
