@@ -22,7 +22,7 @@ from spki_cert_tool.sexp import canonical, read  # noqa: E402
 COMMANDS = ("canonical", "advanced", "transport", "intersect", "reduce", "check", "explain")
 # The limits of a guard on each question. A list is bounded by what the server takes.
 MOST_OCTETS, MOST_NODES = 65_536, 1_000_000
-KEPT = 64
+KEPT = 32
 PARTS = ("sequence", "key", "request", "at")
 
 
@@ -74,6 +74,7 @@ class Engine:
 
     def __init__(self):
         self.canonical = functools.lru_cache(KEPT)(lambda text: self.command("canonical", text))
+        self.value = functools.lru_cache(KEPT)(lambda text: read(self.canonical(text)))
 
     def command(self, name, text):
         """The answer of a command to a text, without the line feed at its end. Raises `Refused`."""
@@ -81,10 +82,6 @@ class Engine:
         if answer.startswith(b"refused "):
             raise Refused(answer.decode().rstrip("\n"))
         return answer if name == "canonical" else answer.removesuffix(b"\n")
-
-    def value(self, text):
-        """The value of a text. Raises `Refused`."""
-        return read(self.canonical(text))
 
 
 class ByLibrary(Engine):

@@ -18,7 +18,7 @@ WORDS = {
     "KeyNotShown": ("The certificate at item {item} names its issuer, {issuer}, by a hash, and no key shown has it.",
                     "Show the key, as an item of the sequence."),
     "DigestDiffers": ("The digest in the signature of item {item} is not that of the certificate.",
-                      "The certificate was changed, or the digest was not made of its canonical form."),
+                      "The certificate was changed after it was signed. Without its signature, the page makes one up."),
     "SignerDiffers": ("The certificate at item {item} is issued by {issuer}. Its signature names another key.", "Let the issuer sign it."),
     "NotAccepted": ("The signature of the certificate at item {item} does not count.",
                     "A service accepts a signature that it has verified. Here a tick, or a row of the case, stands for that."),

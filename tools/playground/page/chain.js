@@ -94,7 +94,7 @@ function wrapped(text, width, kind, most) {
   return lines.length ? lines : [""];
 }
 
-/** How many letters of a text fit a width: up to a space, if there is one that is not too far in front. */
+/** How many letters of a text fit a width: up to a space or a slash, if there is one that is not too far in front. */
 function fitting(text, width, kind) {
   if (measure(text, kind) <= width) {
     return text.length;
@@ -104,6 +104,6 @@ function fitting(text, width, kind) {
     const middle = (low + high) >> 1;
     [low, high] = measure(text.slice(0, middle), kind) <= width ? [middle, high] : [low, middle];
   }
-  const space = text.lastIndexOf(" ", low);
-  return space > low / 2 ? space : low;
+  const ends = [text.lastIndexOf(" ", low), text.lastIndexOf("/", low - 1) + 1];
+  return ends.find((it) => it > low / 2) ?? low;
 }
