@@ -17,6 +17,7 @@ from examples import EXAMPLES, OTHERS
 from server import Server
 from workers import Workers
 
+
 def options():
     parser = argparse.ArgumentParser(prog="tools/playground", description=__doc__.split("\n")[0])
     parser.add_argument("--port", type=int, default=0, help="the port; the default is one that is free")

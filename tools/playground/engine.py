@@ -144,6 +144,7 @@ class ByProgram(Engine):
     def __init__(self, program):
         super().__init__()
         self.program = program
+        self.signed = functools.lru_cache(KEPT)(self.listed)
 
     def answer(self, name, text):
         """The octets that the program writes for a text. Raises `Failed`."""
@@ -166,8 +167,8 @@ class ByProgram(Engine):
                 raise Refused(why.line.replace(" form ", f" {name} ", 1)) from None
         return acl, *done
 
-    def signed(self, question):
-        """The signatures of all certificates, up to the first whose key is not shown. Raises `Refused`."""
+    def listed(self, question):
+        """The signatures on which the decision depends: up to the first that is not right. Raises `Refused`."""
         self.decided(question, ())
         items, listed = [item for item in self.value(question.sequence)[1:] if item[0] != b"do"], []
         keys = [item for item in items if item[0] == b"public-key"]
@@ -191,10 +192,12 @@ class ByProgram(Engine):
 
 
 def signed_by(certificate, signature, keys, is_strict):
-    """The signature of a certificate, or None if its key is not shown. A row of a wrong digest or signer has no effect."""
+    """The signature of a certificate, if it passes the first three tests: its key is shown, and the digest and the signer are right."""
     issuer = next(field[1] for field in certificate[1:] if field[0] == b"issuer")
-    key = key_of(issuer[1] if issuer[0] == b"name" else issuer, keys, is_strict)
-    return None if key is None else Signed(canonical(key), canonical(certificate), canonical(signature[3]))
+    key, message = key_of(issuer[1] if issuer[0] == b"name" else issuer, keys, is_strict), canonical(certificate)
+    _, (_, algorithm, digest, *_), signer, value = signature
+    is_right = key is not None and hashlib.new(algorithm.decode(), message).digest() == digest and names(signer, key, is_strict)
+    return Signed(canonical(key), message, canonical(value)) if is_right else None
 
 
 def key_of(principal, keys, is_strict):
