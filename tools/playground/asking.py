@@ -4,119 +4,15 @@ A job that takes too long is ended by the one who asked for it, who keeps the pa
 """
 import moments
 from chain import chain
-from completion import completed
-from engine import MOST_OCTETS, Question, Refused, case_text, request_text, string
+from engine import PARTS, Question, Refused, string
+from given import MOST_LETTERS, Given, GivenCase, text
 from labels import Labels
 from place import places, shown
 from sentences import REFUSED, right_left, said, title
-from spki_cert_tool.sexp import canonical, laid_out, on_one_line, read
+from spki_cert_tool.sexp import laid_out, read
 from story import Story, reasons_of
 
-MOST_REASONS, MOST_LEFT, MOST_LETTERS = 100, 20, 4000
-BOXES = ("acl", "sequence", "key", "request", "at")
-# A key that no question of the page has, with which a guard is asked what one tag contains.
-ANYBODY = b"(10:public-key(4:test7:anybody))"
-SOME_DATE = b"19:2000-01-01_00:00:00"
-
-
-class Given:
-    """A question of separate boxes, as octets."""
-
-    def __init__(self, engine, given):
-        self.engine, self.box = engine, {name: text(given, name).encode(errors="replace") for name in ("acl", "sequence", "key", "at")}
-        words = [it for it in given.get("request") or [] if isinstance(it, str)]
-        self.words = tuple(word.encode(errors="replace") for word in words)
-        self.sequence = completed(engine, self.box["sequence"])
-        refused = tuple(it for it in given.get("refused") or [] if isinstance(it, int))
-        self.question = Question(self.box["acl"], self.sequence.text, self.box["key"], self.words, string(self.box["at"]),
-                                 given.get("strict") is not False, refused)
-
-    def values(self):
-        """The access list, the sequence, the key, the request and the moment."""
-        value, question = self.engine.value, self.question
-        request = self.words[0] if len(self.words) == 1 else list(self.words)
-        return value(question.acl), value(question.sequence), value(question.key), request, self.box["at"]
-
-    def check(self):
-        return self.engine.lines(self.question, "check")[0]
-
-    def lines(self, command):
-        return self.engine.lines(self.question, command)
-
-    def cut(self, items):
-        """The lines of `reduce` with these items only."""
-        return self.engine.lines(self.question._replace(sequence=canonical([b"sequence", *items])), "reduce")
-
-    def signatures(self, labels):
-        """The signatures on which the decision depends, each with whether it counts."""
-        listed = []
-        for place, signed in enumerate(self.engine.signed(self.question)):
-            story = read(signed.message)
-            labels.learn(story)
-            listed.append({"by": labels.of(read(signed.key)), "says": on_one_line(story)[:MOST_LETTERS],
-                           "madeUp": signed.value == b"20:made-up-by-this-page", "counts": place not in self.question.refused_signatures})
-        return listed
-
-    def fault(self, line):
-        """The box that a refusal is about, and its places there."""
-        word = line.split()[1]
-        name = "acl" if word == "form" else word
-        if name not in BOXES:
-            return {}
-        if name in ("request", "at"):
-            return {name: self.fault_of_words(name, line)}
-        octets = self.question.sequence if name == "sequence" else self.box[name]
-        found = places(octets, line)
-        if name == "sequence":
-            found = [(self.sequence.typed(at), why) for at, why in found]
-        return {name: {"line": line, "places": shown(self.box[name], found)}}
-
-    def fault_of_words(self, name, line):
-        """The same of a box whose text is no S-expression, and is written as one."""
-        typed, written = self.box["at"], self.question.at
-        if name == "request":
-            typed, written = b"\n".join(self.words), request_text(self.words)
-        why = "a request has at least one string" if not self.words and name == "request" else next((it for _, it in places(written, line)), "")
-        first = typed.split(b"\n")[0]
-        place = {"begin": 0, "end": len(first.decode(errors="replace")), "line": 1, "column": 1, "why": why}
-        return {"line": line, "places": [place]}
-
-    def case(self):
-        """The same question as one text for the program."""
-        value, question = self.engine.value, self.question
-        listed = [it for place, it in enumerate(self.engine.signed(question)) if place not in question.refused_signatures]
-        parts = [canonical(value(it)) for it in (question.acl, question.sequence, question.key)]
-        return case_text(*parts, request_text(self.words), question.at, listed, question.is_strict)
-
-
-class GivenCase:
-    """A whole case in one box."""
-
-    def __init__(self, engine, given):
-        self.engine, self.octets = engine, text(given, "text").encode(errors="replace")
-
-    def values(self):
-        case = self.engine.value(self.octets)
-        return case[1], case[3], case[4][1], case[5][1], case[6][1]
-
-    def check(self):
-        return self.lines("check")[0]
-
-    def lines(self, command):
-        return self.engine.command(command, self.octets).decode().split("\n")
-
-    def cut(self, items):
-        case = self.engine.value(self.octets)
-        return self.engine.command("reduce", canonical([*case[:3], [b"sequence", *items], *case[4:]])).decode().split("\n")
-
-    def fault(self, line):
-        return {"case": {"line": line, "places": shown(self.octets, places(self.octets, line))}}
-
-
-def text(given, name):
-    """A string that the page sent, or an empty one."""
-    value = given.get(name)
-    return value if isinstance(value, str) else ""
+MOST_REASONS, MOST_LEFT = 100, 20
 
 
 def refused(given, line):
@@ -222,11 +118,11 @@ def tags(engine, sent):
 def contains(engine, tag, words):
     """Whether a tag contains a request, which a guard with one entry says."""
     try:
-        acl = b"(3:acl(5:entry" + ANYBODY + b"(3:tag" + engine.canonical(tag) + b")))"
+        acl = b"(3:acl(5:entry" + PARTS["key"] + b"(3:tag" + engine.canonical(tag) + b")))"
     except Refused as why:
         return {"line": why.line, "places": shown(tag, places(tag, why.line))}
     try:
-        answer = engine.lines(Question(acl, b"(8:sequence)", ANYBODY, words, SOME_DATE), "check")[0]
+        answer = engine.lines(Question(acl, PARTS["sequence"], PARTS["key"], words, PARTS["at"]), "check")[0]
         return {"contains": answer != "no"}
     except Refused as why:
         return fault_of_tag(engine, tag, why.line)
@@ -269,4 +165,3 @@ def printable(octets):
 
 
 JOBS = {"question": question, "case": case, "times": times, "tags": tags, "forms": forms}
-__all__ = ["JOBS", "MOST_OCTETS"]

@@ -23,7 +23,8 @@ COMMANDS = ("canonical", "advanced", "transport", "intersect", "reduce", "check"
 # The limits of a guard on each question. A list is bounded by what the server takes.
 MOST_OCTETS, MOST_NODES = 65_536, 1_000_000
 KEPT = 32
-PARTS = ("sequence", "key", "request", "at")
+# The parts in the order in which they are read, each with a text that can be read.
+PARTS = {"sequence": b"(8:sequence)", "key": b"(10:public-key(4:test7:anybody))", "request": b"1:a", "at": b"19:2000-01-01_00:00:00"}
 
 
 class Question(NamedTuple):
@@ -164,6 +165,8 @@ class ByProgram(Engine):
             try:
                 done.append(self.canonical(text))
             except Refused as why:
+                # (a part before this one is refused first)
+                self.command("check", case_text(acl, *done, *list(PARTS.values())[len(done):], (), question.is_strict))
                 raise Refused(why.line.replace(" form ", f" {name} ", 1)) from None
         return acl, *done
 

@@ -41,22 +41,24 @@ def limits_of(value):
 
 
 def spans(values, answer):
-    """The times between two changes, in their order: the answer, the first moment and the last one, each with the limit that it is.
-
-    Asks `answer` at the first moment of each. Neighbours with the same answer are one.
-    """
+    """The times between two changes, in their order: the answer, and the limits at both ends. The later changes of many are left out."""
     limits = [limits_of(value) for value in values]
     begins = {moment: ("from", moment) for it in limits for moment in it[b"not-before"]}
     ends = {after(moment): ("after", moment) for it in limits for moment in it[b"not-after"] if after(moment)}
     changes = dict(sorted({**ends, **begins}.items())[:MOST_LIMITS])
+    found = answered(changes, answer)
+    ended = [{**span, "end": following["begin"]} for span, following in zip(found, found[1:])] + found[-1:]
+    return {"spans": ended, "limits": sorted({shown(moment) for _, moment in changes.values()}), "isWhole": len(begins) + len(ends) <= MOST_LIMITS}
+
+
+def answered(changes, answer):
+    """The answers at the first moment of each time. Neighbours with the same answer are one."""
     found = []
     for moment, limit in [(FIRST, None), *changes.items()]:
         said = answer(date_of(moment))
         if not found or found[-1]["answer"] != said:
             found.append({"answer": said, "begin": limit and shown_limit(limit)})
-    for span, following in zip(found, found[1:]):
-        span["end"] = following["begin"]
-    return {"spans": found, "limits": sorted({shown(moment) for _, moment in changes.values()}), "isWhole": len(begins) + len(ends) <= MOST_LIMITS}
+    return found
 
 
 def shown(parts):
