@@ -32,8 +32,12 @@ ANSWER_SECONDS, LONG_SECONDS, PAINT_SECONDS, STOPPED_SECONDS = 0.05, 0.3, 0.2, 4
 # How many times as long a time may be before it is a failure: the processors may be busy.
 BUSY = 5
 RUNS = 15
-HAS_CHROMIUM = all(map(shutil.which, ("chromium", "chromedriver"))) and importlib.util.find_spec("selenium") is not None
-WITHOUT_CHROMIUM = "there is no chromium, chromedriver or selenium; Debian: chromium, chromium-driver, python3-selenium"
+# The program that is tested; SPKI_TEST_PROGRAM names another than the built one.
+TESTED = os.environ.get("SPKI_TEST_PROGRAM", PROGRAM)
+# What the tests in a browser need, and its Debian package.
+NEEDED = {"chromium": "chromium", "chromedriver": "chromium-driver", "selenium": "python3-selenium"}
+GONE = [f"there is no {name}; Debian: {package}" for name, package in NEEDED.items()
+        if not (importlib.util.find_spec(name) if name == "selenium" else shutil.which(name))]
 
 
 def loaded_examples():
@@ -52,7 +56,8 @@ class Page:
     """A playground that runs."""
 
     def __init__(self, engine):
-        self.process = subprocess.Popen([sys.executable, FOLDER, "--no-browser", "--engine", engine], stdout=subprocess.PIPE, text=True)
+        words = [sys.executable, FOLDER, "--no-browser", "--engine", engine]
+        self.process = subprocess.Popen(words, stdout=subprocess.PIPE, text=True, env={**os.environ, "SPKI_PROGRAM": TESTED})
         self.address = urlsplit(self.process.stdout.readline().strip())
         self.origin = f"http://{self.address.netloc}"
 
@@ -86,7 +91,7 @@ def where(reason):
 
 def lines_of(command, case):
     """The lines of the program."""
-    return run(PROGRAM, command, case.encode())[1].decode().splitlines()
+    return run(TESTED, command, case.encode())[1].decode().splitlines()
 
 
 def hostile():
@@ -107,7 +112,7 @@ def long_question():
     return {**STORY, "acl": STORY["acl"].rstrip()[:-1] + entries + ")", "sequence": sequence}
 
 
-@unittest.skipUnless(os.access(PROGRAM, os.X_OK), "the program is not built: rt run in crates/spki")
+@unittest.skipUnless(os.access(TESTED, os.X_OK), "the program is not built: rt run in crates/spki")
 class OfPage(unittest.TestCase):
     """Tests of a page that runs. Each class has one."""
 
@@ -143,8 +148,8 @@ class Answers(OfPage):
         for example in EXAMPLES[:14]:
             question = example["question"]
             answer = self.page.ask("question", **question)
-            case = read(run(PROGRAM, "canonical", answer["case"].encode())[1])
-            typed = {name: read(run(PROGRAM, "canonical", question[name].encode())[1]) for name in ("acl", "sequence", "key")}
+            case = read(run(TESTED, "canonical", answer["case"].encode())[1])
+            typed = {name: read(run(TESTED, "canonical", question[name].encode())[1]) for name in ("acl", "sequence", "key")}
             shown = [item for item in case[3] if item[0] != b"signature" or item in typed["sequence"]]
             self.assertEqual((case[1], shown, case[4][1], case[5][1], case[6][1]),
                              (typed["acl"], typed["sequence"], typed["key"], [it.encode() for it in question["request"]], question["at"].encode()))
@@ -219,7 +224,7 @@ class Answers(OfPage):
         text = '(a "b c" #6 4# |ZQ==| [x]3:fgh)'
         answer = self.page.ask("forms", text=text)
         self.assertEqual([answer[name] for name in ("canonical", "advanced", "transport")],
-                         [run(PROGRAM, name, text.encode())[1].decode().rstrip("\n") for name in ("canonical", "advanced", "transport")])
+                         [run(TESTED, name, text.encode())[1].decode().rstrip("\n") for name in ("canonical", "advanced", "transport")])
 
     def test_labels_and_comments(self) -> None:
         text = STORY["acl"].replace("(entry (public-key (test bob))", '(entry (public-key (test bob)) (comment "The cook")')
@@ -325,7 +330,7 @@ class Doors(OfPage):
                 self.assertNotIn(word, text, name)
 
 
-@unittest.skipUnless(HAS_CHROMIUM, WITHOUT_CHROMIUM)
+@unittest.skipIf(GONE, ", ".join(GONE))
 class InChromium(OfPage):
     """The page as people use it."""
 
@@ -337,7 +342,7 @@ class InChromium(OfPage):
         from selenium import webdriver
         from selenium.webdriver.chrome.service import Service
         options = webdriver.ChromeOptions()
-        for word in ("--headless=new", "--no-sandbox", "--disable-dev-shm-usage", "--window-size=1280,1000"):
+        for word in ("--headless=new", "--no-sandbox", "--disable-dev-shm-usage", "--window-size=1280,1000", "--hide-scrollbars"):
             options.add_argument(word)
         options.set_capability("goog:loggingPrefs", {"browser": "ALL"})
         cls.browser = webdriver.Chrome(options=options, service=Service(shutil.which("chromedriver")))

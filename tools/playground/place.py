@@ -41,7 +41,7 @@ def shown(text, found):
 
 def shown_place(text, at, why):
     if text[at:at + 1] == b";":
-        why += "; there are no comments: write (comment ..) into an entry or a certificate, or use the box for labels"
+        why = "there are no comments here; write (comment ..) into an entry or a certificate, or use the box for labels"
     before = text[:at].decode(errors="ignore")
     word = WORD.match(text[at:at + 200].decode(errors="ignore"))[0]
     begin = units(before)

@@ -1,0 +1,54 @@
+#!/usr/bin/env python3
+"""Takes the pictures of the page `tools/playground`, as docs/GUIDE.md shows them:
+
+playground.png           the story of the guide
+playground-denial.png    Carol passes her right on to Bob
+
+Build the program first (`rt run` in crates/spki). Needs Chromium with Selenium, and pngquant, which makes the files small (Debian: chromium,
+chromium-driver, python3-selenium, pngquant).
+Usage: docs/pictures/photograph.py
+"""
+import os
+import shutil
+import subprocess
+import sys
+
+HERE = os.path.dirname(os.path.abspath(__file__))
+sys.path.append(os.path.join(HERE, "..", "..", "tests"))
+from test_playground import InChromium  # noqa: E402
+
+# By their names: width and height, and the number of the example on the page.
+PICTURES = {"playground": (1120, 1110, 0), "playground-denial": (1120, 760, 5)}
+
+
+class Camera(InChromium):
+    """The browser of the tests."""
+
+    def take(self, name, width, height, example):
+        """Takes one picture."""
+        size = {"width": width, "height": height, "deviceScaleFactor": 1, "mobile": False}
+        self.browser.execute_cdp_cmd("Emulation.setDeviceMetricsOverride", size)
+        self.setUp()
+        self.browser.execute_script("const it = document.getElementById('example'); it.value = arguments[0];"
+                                    "it.dispatchEvent(new Event('change'))", str(example))
+        self.until("return document.getElementById('span').textContent && document.getElementById('kind').textContent === arguments[0]",
+                   "No" if example else "Yes")
+        path = os.path.join(HERE, f"{name}.png")
+        self.browser.save_screenshot(path)
+        subprocess.run(["pngquant", "--speed", "1", "--nofs", "--force", "--output", path, "48", path], check=True)
+
+
+def main():
+    if not shutil.which("pngquant"):
+        sys.exit("there is no pngquant; Debian: pngquant")
+    Camera.setUpClass()
+    try:
+        for name, settings in PICTURES.items():
+            Camera().take(name, *settings)
+    finally:
+        Camera.doClassCleanups()
+    return 0
+
+
+if __name__ == "__main__":
+    sys.exit(main())
