@@ -28,7 +28,9 @@ FOLDER = os.path.join(TOP, "tools", "playground")
 SHARED = os.path.join(TOP, "crates", "spki_c", "out", "libspki_c.so")
 BOXES = ("acl", "sequence", "key", "labels")
 MARKUP = '<img src="x" onerror="attacked=1"><script>attacked=1</script>'
-ANSWER_SECONDS, LONG_SECONDS, PAINT_SECONDS, STOPPED_SECONDS = 0.05, 0.3, 0.2, 4
+ANSWER_SECONDS, LONG_SECONDS, PAINT_SECONDS = 0.05, 0.3, 0.2
+# How long a question may take on the page that is tested: longer than by default, because other programs may run beside the tests.
+SECONDS = 6
 # How many times as long a time may be before it is a failure: the processors may be busy.
 BUSY = 5
 RUNS = 15
@@ -56,7 +58,7 @@ class Page:
     """A playground that runs."""
 
     def __init__(self, engine):
-        words = [sys.executable, FOLDER, "--no-browser", "--engine", engine]
+        words = [sys.executable, FOLDER, "--no-browser", "--engine", engine, "--seconds", str(SECONDS)]
         self.process = subprocess.Popen(words, stdout=subprocess.PIPE, text=True, env={**os.environ, "SPKI_PROGRAM": TESTED})
         self.address = urlsplit(self.process.stdout.readline().strip())
         self.origin = f"http://{self.address.netloc}"
@@ -247,7 +249,7 @@ class Answers(OfPage):
     def test_a_hostile_text_is_stopped(self) -> None:
         begins = time.monotonic()
         answer = self.page.ask("question", **hostile(), page="a")
-        self.assertLess(time.monotonic() - begins, STOPPED_SECONDS)
+        self.assertLess(time.monotonic() - begins, SECONDS + 3)
         self.assertIn("stopped", answer.get("notice", ""))
         self.assertEqual(self.page.ask("question", **STORY, page="a")["line"], "yes entry 1")
 
@@ -495,7 +497,7 @@ class InChromium(OfPage):
         time.sleep(0.5)
         self.put("acl", STORY["acl"])
         self.put("sequence", STORY["sequence"])
-        self.until("return document.getElementById('kind').textContent === 'Yes'", seconds=5)
+        self.until("return document.getElementById('kind').textContent === 'Yes'", seconds=2 * SECONDS)
 
     def seconds_to_answer(self, question):
         """The median time from a keystroke to the answer, and its shown picture."""

@@ -3,7 +3,7 @@
 Serves the page on 127.0.0.1, prints its address and opens it in the browser. Nothing is sent to any other host. The library for C decides,
 or the program `spki` where the library is not built.
 
-Usage: python3 tools/playground [--port N] [--no-browser] [--engine library|program]
+Usage: python3 tools/playground [--port N] [--no-browser] [--engine library|program] [--seconds N]
 """
 import argparse
 import json
@@ -15,7 +15,7 @@ from asking import JOBS
 from engine import TOP, engine
 from examples import EXAMPLES, OTHERS
 from server import Server
-from workers import Workers
+from workers import SECONDS, Workers
 
 
 def options():
@@ -23,6 +23,7 @@ def options():
     parser.add_argument("--port", type=int, default=0, help="the port; the default is one that is free")
     parser.add_argument("--no-browser", action="store_true", help="print the address only")
     parser.add_argument("--engine", choices=("library", "program"), help="who decides; the default is the library where it is built")
+    parser.add_argument("--seconds", type=int, default=SECONDS, help=f"how long a question may take; the default is {SECONDS}")
     return parser.parse_args()
 
 
@@ -40,7 +41,7 @@ def main():
     except LookupError as why:
         print(why, file=sys.stderr)
         return 2
-    workers = Workers(given.engine)
+    workers = Workers(given.engine, given.seconds)
     with Server(given.port, workers, JOBS, start(decides.name)) as server:
         print(f"{server.address}\n{decides.name} decides; ctrl-c ends the page", flush=True)
         if not given.no_browser:

@@ -14,11 +14,10 @@ import time
 from asking import JOBS
 from engine import Failed, engine
 
-SECONDS, MOST_WORKERS, MEMORY = 2.0, 6, 2 << 30
-TOO_LONG = "The rest took longer than 2 seconds and was stopped."
+SECONDS, MOST_WORKERS, MEMORY = 2, 6, 2 << 30
 
 
-def serve(pipe, wanted):
+def serve(pipe, wanted, seconds):
     """The life of a process: a job comes, and its parts go back."""
     os.setsid()
     signal.signal(signal.SIGINT, signal.SIG_IGN)
@@ -31,7 +30,7 @@ def serve(pipe, wanted):
         except EOFError:
             return
         # (a process whose server is gone ends by itself)
-        signal.alarm(int(SECONDS) + 3)
+        signal.alarm(seconds + 3)
         try:
             for part in JOBS[name](decides, sent):
                 pipe.send(part)
@@ -45,16 +44,16 @@ def serve(pipe, wanted):
 class Worker:
     """One process, and the pipe to it."""
 
-    def __init__(self, wanted):
+    def __init__(self, wanted, seconds):
         here, there = multiprocessing.get_context("spawn").Pipe()
-        self.pipe = here
-        self.process = multiprocessing.get_context("spawn").Process(target=serve, args=(there, wanted), daemon=True)
+        self.pipe, self.seconds = here, seconds
+        self.process = multiprocessing.get_context("spawn").Process(target=serve, args=(there, wanted, seconds), daemon=True)
         self.process.start()
         there.close()
 
     def answer(self, name, sent):
         """The parts of an answer together, and whether the process can be asked again."""
-        whole, ends = {}, time.monotonic() + SECONDS
+        whole, ends = {}, time.monotonic() + self.seconds
         try:
             self.pipe.send((name, sent))
             while self.pipe.poll(max(0, ends - time.monotonic())):
@@ -64,7 +63,7 @@ class Worker:
                 whole |= part
         except (EOFError, OSError):
             return whole | {"notice": "The answer was stopped."}, False
-        return whole | {"notice": TOO_LONG}, False
+        return whole | {"notice": f"The rest took longer than {self.seconds} seconds and was stopped."}, False
 
     def end(self):
         """Ends the process, and the programs that it runs."""
@@ -77,10 +76,10 @@ class Worker:
 class Workers:
     """All processes: those that wait for a job, and for each page those that have one."""
 
-    def __init__(self, wanted, spare=2):
-        self.wanted, self.lock, self.room = wanted, threading.Lock(), threading.BoundedSemaphore(MOST_WORKERS)
-        self.busy, self.idle = {}, [Worker(wanted) for _ in range(spare)]
-        self.spare = spare
+    def __init__(self, wanted, seconds, spare=2):
+        self.given, self.seconds, self.spare = (wanted, seconds), seconds, spare
+        self.lock, self.room = threading.Lock(), threading.BoundedSemaphore(MOST_WORKERS)
+        self.busy, self.idle = {}, [Worker(*self.given) for _ in range(spare)]
 
     def answer(self, page, name, sent):
         """The answer to a job of a page."""
@@ -88,7 +87,7 @@ class Workers:
             before = self.busy.pop((page, name), None)
             if before is not None:
                 before.end()
-        if not self.room.acquire(timeout=SECONDS):
+        if not self.room.acquire(timeout=self.seconds):
             return {"notice": "The page is busy."}
         try:
             return self.answered_by(self.taken(page, name), page, name, sent)
@@ -97,7 +96,7 @@ class Workers:
 
     def taken(self, page, name):
         with self.lock:
-            worker = self.idle.pop() if self.idle else Worker(self.wanted)
+            worker = self.idle.pop() if self.idle else Worker(*self.given)
             self.busy[page, name] = worker
         return worker
 
@@ -119,7 +118,7 @@ class Workers:
         """Starts a process ahead of the next job."""
         with self.lock:
             if len(self.idle) < self.spare:
-                self.idle.append(Worker(self.wanted))
+                self.idle.append(Worker(*self.given))
 
     def end(self):
         with self.lock:
