@@ -62,7 +62,7 @@ class Chain:
             self.steps.append(arrow("gap", word, SHORT[word]))
         if word in APART or self.subject is None:
             self.person(issuer)
-        lines = terms(f"certificate, item {number}", item)
+        lines = terms(f"certificate {self.story.number(number)}", item)
         if issuer[0] == b"name":
             lines[1] = f"defines {self.story.labels.of(issuer)}"
         state = "faint" if word in APART else "bad" if word else "plain"

@@ -8,19 +8,19 @@ WORDS = {
                   "Show the certificate for the client's key, or the one that defines the name."),
     "TagLacks": ("{holder} has a right, but it does not contain this request.", "Request less, or get a wider tag."),
     "WindowLacks": ("{holder} has the right {window}. The moment is {moment}.", "Renew what has ended, or choose another moment."),
-    "NotIssuer": ("The right is with {holder}. The certificate at item {item} is issued by {issuer}.",
+    "NotIssuer": ("The right is with {holder}. Certificate {number} is issued by {issuer}.",
                   "A certificate is missing, the order is wrong, or it is meant for another entry."),
-    "NotTheName": ("The name to resolve is {holder}. The certificate at item {item} defines {issuer}.",
+    "NotTheName": ("The name to resolve is {holder}. Certificate {number} defines {issuer}.",
                    "A certificate is missing, or the order is wrong."),
     "NoDelegation": ("{holder} has the right, but must not pass it on.", "The entry or certificate before needs (propagate)."),
-    "NoValidity": ("No moment is in the validity of the certificate at item {item} and in all validities before it.", "Renew them."),
-    "NoTag": ("The certificate at item {item} grants nothing that {holder} has.", "Its issuer must have the right that it grants."),
-    "KeyNotShown": ("The certificate at item {item} names its issuer, {issuer}, by a hash, and no key shown has it.",
+    "NoValidity": ("No moment is in the validity of certificate {number} and in all validities before it.", "Renew them."),
+    "NoTag": ("Certificate {number} grants nothing that {holder} has.", "Its issuer must have the right that it grants."),
+    "KeyNotShown": ("Certificate {number} names its issuer, {issuer}, by a hash, and no key shown has it.",
                     "Show the key, as an item of the sequence."),
-    "DigestDiffers": ("The digest in the signature of item {item} is not that of the certificate.",
+    "DigestDiffers": ("The signature of certificate {number} has another digest than the certificate.",
                       "The certificate was changed after it was signed. Without its signature, the page makes one up."),
-    "SignerDiffers": ("The certificate at item {item} is issued by {issuer}. Its signature names another key.", "Let the issuer sign it."),
-    "NotAccepted": ("The signature of the certificate at item {item} does not count.",
+    "SignerDiffers": ("Certificate {number} is issued by {issuer}. Its signature names another key.", "Let the issuer sign it."),
+    "NotAccepted": ("The signature of certificate {number} does not count.",
                     "A service accepts a signature that it has verified. Here a tick, or a row of the case, stands for that."),
 }
 REFUSED = {
@@ -31,7 +31,8 @@ REFUSED = {
 def said(story, reason):
     """A line of `explain` in words."""
     says, hint = WORDS[reason.word]
-    fields = {"entry": reason.entry, "item": reason.item, "client": story.labels.of(story.key), "moment": moment_of(story.at),
+    fields = {"entry": reason.entry, "number": story.number(reason.item) if reason.item else 0,
+              "client": story.labels.of(story.key), "moment": moment_of(story.at),
               "holder": story.labels.of(story.holder(reason)) if reason.entry else "",
               "issuer": story.labels.of(issuer_of(story.certificate(reason.item))) if reason.item else "",
               "shown": shown(story), "window": "in another time"}
@@ -55,8 +56,8 @@ def title(reasons, line):
 
 def right_left(story, number, item, left):
     """A right that remains of an entry, or that it was before an item, in words."""
-    return {"entry": number, "item": item, "holder": story.labels.of(field_of(left, b"subject")), "tag": tag_of(left),
-            "window": window(left) or "at all times", "passes": any(it == [b"propagate"] for it in left)}
+    return {"entry": number, "before": story.number(item) if item else 0, "holder": story.labels.of(field_of(left, b"subject")),
+            "tag": tag_of(left), "window": window(left) or "at all times", "passes": any(it == [b"propagate"] for it in left)}
 
 
 def field_of(value, head):

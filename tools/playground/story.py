@@ -49,6 +49,10 @@ class Story:
     def certificate(self, item):
         return self.items[item - 1]
 
+    def number(self, item):
+        """The number of a certificate among the certificates, where keys and signatures are not counted."""
+        return sum(it[0] == b"cert" for it in self.items[:item])
+
     def holder(self, reason):
         """The subject that has the right where the chain of an entry ends, or stops."""
         subject = self.entries[reason.entry - 1][1]

@@ -85,8 +85,8 @@ export class Answer {
     const rights = answer.rights ?? [];
     at("rights-card").hidden = !answer.rights;
     at("rights").replaceChildren(...rights.map((right) => made("li", {}, made("strong", {}, right.holder),
-      `${right.item ? ` before item ${right.item}` : ""} by entry ${right.entry}, ${right.window}${right.passes ? ", may be passed on" : ""}`,
-      made("code", {}, right.tag))), rights.some((right) => !right.item) ? "" : made("li", {}, "Nothing remains at the end."));
+      `${right.before ? ` before certificate ${right.before}` : ""} by entry ${right.entry}, ${right.window}${right.passes ? ", may be passed on" : ""}`,
+      made("code", {}, right.tag))), rights.some((right) => !right.before) ? "" : made("li", {}, "Nothing remains at the end."));
   }
 
   showSignatures(answer) {
