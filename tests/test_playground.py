@@ -77,7 +77,8 @@ class Page:
             return got.status, got.headers, got.read()
 
     def ask(self, name, **question):
-        """The answer to a job, as the page gets it."""
+        """The answer to a job, as the page gets it, with the case."""
+        question = {"withCase": True, **question}
         headers = {"Origin": self.origin, "Content-Type": "application/json"}
         status, _, octets = self.reply("POST", self.address.path + name, json.dumps(question), **headers)
         if status != 200:

@@ -34,7 +34,9 @@ def question(engine, sent):
     try:
         signatures = given.signatures(labels)
         yield from explained(given, labels)
-        yield {"signatures": signatures, "case": laid_out(read(given.case()))}
+        yield {"signatures": signatures}
+        if sent.get("withCase") is True:
+            yield {"case": laid_out(read(given.case()))}
     except Refused as why:
         yield refused(given, why.line)
 

@@ -78,9 +78,9 @@ class Given:
 
     def case(self):
         """The same question as one text for the program."""
-        value, question = self.engine.value, self.question
+        question = self.question
         listed = [it for place, it in enumerate(self.engine.signed(question)) if place not in question.refused_signatures]
-        parts = [canonical(value(it)) for it in (question.acl, question.sequence, question.key)]
+        parts = map(self.engine.canonical, (question.acl, question.sequence, question.key))
         return case_text(*parts, request_text(self.words), question.at, listed, question.is_strict)
 
 

@@ -41,7 +41,7 @@ export class Answer {
     this.showRights(answer);
     this.showSignatures(answer);
     this.showPicture(answer);
-    at("text-card").hidden = !answer.case;
+    at("text-card").hidden = !answer.signatures;
     say(at("text"), answer.case ?? "");
   }
 

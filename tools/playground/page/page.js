@@ -31,12 +31,15 @@ function moment() {
 
 function question() {
   return { acl: boxes.acl.value, sequence: boxes.sequence.value, key: boxes.key.value, request: lines(boxes.request.value), at: moment(),
-    labels: boxes.labels.value, refused: answer.refused, strict: at("strict").checked };
+    labels: boxes.labels.value, refused: answer.refused, strict: at("strict").checked, withCase: at("text-card").open };
 }
 
 function shown(got) {
   clearTimeout(waits);
   answer.show(got);
+  if (chosen === "question") {
+    askers.times();
+  }
 }
 
 const askers = {
@@ -51,9 +54,6 @@ function changed() {
   clearTimeout(waits);
   waits = setTimeout(() => at("verdict").classList.add("waiting"), WAITING);
   askers[chosen]();
-  if (chosen === "question") {
-    askers.times();
-  }
 }
 
 // ---- what is chosen
@@ -166,5 +166,6 @@ at("now").addEventListener("click", () => {
 });
 at("link").addEventListener("click", copyLink);
 at("edit").addEventListener("click", editCase);
+at("text-card").addEventListener("toggle", () => changed());
 addEventListener("hashchange", restore);
 start();
