@@ -63,11 +63,17 @@ NEEDS = [Need(*words) for words in [
     ("pycodestyle", "pycodestyle", "the layout of the scripts in Python"),
     ("mypy", "mypy", "the types of the scripts and of the Python module"),
     ("codespell", "codespell", "the spelling, which only `.ci/deep` checks"),
+    ("chromium", "chromium", "the page `tools/playground` in a browser"),
+    ("chromedriver", "chromium-driver", "the page `tools/playground` in a browser"),
+    ("/usr/lib/python3/dist-packages/selenium", "python3-selenium", "the page `tools/playground` in a browser"),
 ]]
 BY_NAME = {need.name: need for need in NEEDS}
 # What the library for C is built with.
 LIBRARY = ("cc", "ld", "objcopy")
 INITDB = "/usr/lib/postgresql/*/bin/initdb"
+# Where Debian has its modules for Python, which another Python than Debian's does not look through.
+DEBIAN = "/usr/lib/python3/dist-packages"
+BROWSER = ("chromium", "chromedriver", f"{DEBIAN}/selenium")
 
 
 @functools.cache
@@ -103,7 +109,7 @@ def is_honest(reason: str) -> bool:
 
 def table() -> Iterator[str]:
     """The lines of the table in CONTRIBUTING.md."""
-    yield "| Command, header or file | Debian package | Left out without it |"
+    yield "| Command, header, file or module | Debian package | Left out without it |"
     yield "|---|---|---|"
     yield from (f"| `{need.name}` | `{need.package}` | {need.without} |" for need in NEEDS)
 

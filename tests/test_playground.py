@@ -1,12 +1,9 @@
-#!/usr/bin/env python3
-"""Tests tools/playground over HTTP, and in Chromium where it is there (Debian: chromium, chromium-driver, python3-selenium).
+"""Tests tools/playground over HTTP, and in Chromium.
 
-Each example's answer must be that of the program on the case that the page shows for it, whichever of library and program decides. A mistake must
-be found at its place. Questions from another origin, with another host or without the token, and too long bodies are refused. Text stays
-text in every box. A hostile text is stopped, and the page goes on. In Chromium also: typing, the keyboard alone, a link, 360 pixels, times.
-
-Needs the built program (`rt run` in crates/spki). The library is asked too, where crates/spki_c/out has it.
-Usage: python3 -m unittest tests.test_playground, or tests/test_playground.py [TEST ..]
+Each example's answer must be that of the program on the case that the page shows for it, whichever of library and program decides. A mistake
+must be found at its place. Questions from another origin, with another host or without the token, and too long bodies are refused. Text
+stays text in every box. A hostile text is stopped, and the page goes on. In Chromium also: typing, the keyboard alone, a link, 360 pixels.
+`bench/playground.py` measures its times.
 """
 import contextlib
 import http.client
@@ -14,32 +11,22 @@ import importlib.util
 import json
 import os
 import shutil
-import statistics
 import subprocess
 import sys
 import time
-import unittest
+from concurrent.futures import ThreadPoolExecutor
+from typing import Any
 from urllib.parse import urlsplit
 
-sys.path.append(os.path.dirname(os.path.abspath(__file__)))
-from support import PROGRAM, TOP, read, run, text_of  # noqa: E402
+import built
+import needs
+from support import TOP, read, run, text_of
 
 FOLDER = os.path.join(TOP, "tools", "playground")
-SHARED = os.path.join(TOP, "crates", "spki_c", "out", "libspki_c.so")
 BOXES = ("acl", "sequence", "key", "labels")
 MARKUP = '<img src="x" onerror="attacked=1"><script>attacked=1</script>'
-ANSWER_SECONDS, LONG_SECONDS, PAINT_SECONDS = 0.05, 0.3, 0.2
-# How long a question may take on the page that is tested: longer than by default, because other programs may run beside the tests.
-SECONDS = 6
-# How many times as long a time may be before it is a failure: the processors may be busy.
-BUSY = 5
-RUNS = 15
-# The program that is tested; SPKI_TEST_PROGRAM names another than the built one.
-TESTED = os.environ.get("SPKI_TEST_PROGRAM", PROGRAM)
-# What the tests in a browser need, and its Debian package.
-NEEDED = {"chromium": "chromium", "chromedriver": "chromium-driver", "selenium": "python3-selenium"}
-GONE = [f"there is no {name}; Debian: {package}" for name, package in NEEDED.items()
-        if not (importlib.util.find_spec(name) if name == "selenium" else shutil.which(name))]
+# How long a question may take on a page whose answers are compared, and on one that is given a hostile text. The first ends what hangs.
+SECONDS, HOSTILE_SECONDS = 600, 2
 
 
 def loaded_examples():
@@ -57,9 +44,10 @@ STORY = EXAMPLES[0]["question"]
 class Page:
     """A playground that runs."""
 
-    def __init__(self, engine):
-        words = [sys.executable, FOLDER, "--no-browser", "--engine", engine, "--seconds", str(SECONDS)]
-        self.process = subprocess.Popen(words, stdout=subprocess.PIPE, text=True, env={**os.environ, "SPKI_PROGRAM": TESTED})
+    def __init__(self, engine, seconds):
+        words = [sys.executable, FOLDER, "--no-browser", "--engine", engine, "--seconds", str(seconds)]
+        tested = {"SPKI_PROGRAM": built.program(), **({"SPKI_LIBRARY": built.shared()} if engine == "library" else {})}
+        self.process: Any = subprocess.Popen(words, stdout=subprocess.PIPE, text=True, env={**os.environ, **tested})
         self.address = urlsplit(self.process.stdout.readline().strip())
         self.origin = f"http://{self.address.netloc}"
 
@@ -70,7 +58,7 @@ class Page:
 
     def reply(self, method, path, body=None, **headers):
         """The status, the headers and the octets of a reply."""
-        connection = http.client.HTTPConnection(self.address.hostname, self.address.port, timeout=30)
+        connection = http.client.HTTPConnection(self.address.hostname, self.address.port, timeout=SECONDS)
         with contextlib.closing(connection):
             connection.request(method, path, body, headers)
             got = connection.getresponse()
@@ -94,7 +82,7 @@ def where(reason):
 
 def lines_of(command, case):
     """The lines of the program."""
-    return run(TESTED, command, case.encode())[1].decode().splitlines()
+    return run(built.program(), command, case.encode())[1].decode().splitlines()
 
 
 def hostile():
@@ -115,15 +103,16 @@ def long_question():
     return {**STORY, "acl": STORY["acl"].rstrip()[:-1] + entries + ")", "sequence": sequence}
 
 
-@unittest.skipUnless(os.access(TESTED, os.X_OK), "the program is not built: rt run in crates/spki")
-class OfPage(unittest.TestCase):
+class OfPage(built.OfProgram):
     """Tests of a page that runs. Each class has one."""
 
-    engine = "program"
+    engine, seconds = "program", SECONDS
+    page: Any
 
     @classmethod
     def setUpClass(cls) -> None:
-        cls.page = Page(cls.engine)
+        super().setUpClass()
+        cls.page = Page(cls.engine, cls.seconds)
         cls.addClassCleanup(cls.page.end)
 
 
@@ -151,8 +140,8 @@ class Answers(OfPage):
         for example in EXAMPLES[:14]:
             question = example["question"]
             answer = self.page.ask("question", **question)
-            case = read(run(TESTED, "canonical", answer["case"].encode())[1])
-            typed = {name: read(run(TESTED, "canonical", question[name].encode())[1]) for name in ("acl", "sequence", "key")}
+            case = read(run(built.program(), "canonical", answer["case"].encode())[1])
+            typed = {name: read(run(built.program(), "canonical", question[name].encode())[1]) for name in ("acl", "sequence", "key")}
             shown = [item for item in case[3] if item[0] != b"signature" or item in typed["sequence"]]
             self.assertEqual((case[1], shown, case[4][1], case[5][1], case[6][1]),
                              (typed["acl"], typed["sequence"], typed["key"], [it.encode() for it in question["request"]], question["at"].encode()))
@@ -196,8 +185,10 @@ class Answers(OfPage):
         self.assertEqual(units.decode("utf-16-le"), "(taag")
 
     def test_a_request_and_a_moment_that_are_refused(self) -> None:
-        for change, line in (({"request": []}, "refused request EmptyList"), ({"request": ["*", "a"]}, "refused request StarInRequest"),
-                             ({"at": "2026-13-01_00:00:00"}, "refused at BadDate")):
+        changes: list[tuple[dict[str, Any], str]] = [
+            ({"request": []}, "refused request EmptyList"), ({"request": ["*", "a"]}, "refused request StarInRequest"),
+            ({"at": "2026-13-01_00:00:00"}, "refused at BadDate")]
+        for change, line in changes:
             answer = self.page.ask("question", **{**STORY, **change})
             self.assertEqual(answer["line"], line)
             self.assertTrue(next(iter(answer["faults"].values()))["places"][0]["why"])
@@ -227,7 +218,7 @@ class Answers(OfPage):
         text = '(a "b c" #6 4# |ZQ==| [x]3:fgh)'
         answer = self.page.ask("forms", text=text)
         self.assertEqual([answer[name] for name in ("canonical", "advanced", "transport")],
-                         [run(TESTED, name, text.encode())[1].decode().rstrip("\n") for name in ("canonical", "advanced", "transport")])
+                         [run(built.program(), name, text.encode())[1].decode().rstrip("\n") for name in ("canonical", "advanced", "transport")])
 
     def test_labels_and_comments(self) -> None:
         text = STORY["acl"].replace("(entry (public-key (test bob))", '(entry (public-key (test bob)) (comment "The cook")')
@@ -247,13 +238,6 @@ class Answers(OfPage):
         for job in ("case", "tags", "forms", "times"):
             self.assertIsInstance(self.page.ask(job), dict)
 
-    def test_a_hostile_text_is_stopped(self) -> None:
-        begins = time.monotonic()
-        answer = self.page.ask("question", **hostile(), page="a")
-        self.assertLess(time.monotonic() - begins, SECONDS + 3)
-        self.assertIn("stopped", answer.get("notice", ""))
-        self.assertEqual(self.page.ask("question", **STORY, page="a")["line"], "yes entry 1")
-
     def test_text_stays_text(self) -> None:
         for name in (*BOXES, "at"):
             answer = self.page.reply("POST", self.page.address.path + "question", json.dumps({**STORY, name: MARKUP}), Origin=self.page.origin,
@@ -261,16 +245,44 @@ class Answers(OfPage):
             self.assertEqual((answer[0], answer[1].get_content_type()), (200, "application/json"))
 
 
-@unittest.skipUnless(os.path.exists(SHARED), "the library is not built: crates/spki_c/archive.py")
+@needs.needs(*needs.LIBRARY)
 class AnswersOfLibrary(Answers):
     """The same where the library decides."""
 
     engine = "library"
 
-    def test_a_hostile_text_has_a_decision(self) -> None:
-        """A guard intersects nothing, so the decision is there although the explanation is stopped."""
-        answer = self.page.ask("question", **hostile())
-        self.assertIn(answer.get("kind"), ("yes", "no"))
+
+class Hostile(OfPage):
+    """A text whose explanation takes minutes."""
+
+    seconds = HOSTILE_SECONDS
+
+    def answered(self, page):
+        """The line of the answer to the story. On a slow machine it may take some questions."""
+        while "line" not in (answer := self.page.ask("question", **STORY, page=page)):
+            pass
+        return answer["line"]
+
+    def test_is_stopped(self) -> None:
+        self.assertIn("notice", self.page.ask("question", **hostile(), page="a"))
+        self.assertEqual(self.answered("a"), "yes entry 1")
+
+    def test_gives_way_to_the_next_question(self) -> None:
+        """Another thread asks for the explanation meanwhile."""
+        with ThreadPoolExecutor(1) as pool:
+            before = pool.submit(self.page.ask, "question", **hostile(), page="b")
+            self.assertEqual(self.answered("b"), "yes entry 1")
+            self.assertIsInstance(before.result(), dict)
+
+
+@needs.needs(*needs.LIBRARY)
+class HostileToLibrary(Hostile):
+    """The same where the library decides. A guard intersects nothing, so the decision is there without an explanation."""
+
+    engine = "library"
+
+    def test_has_a_decision(self) -> None:
+        self.assertIn(self.page.ask("question", **hostile()).get("kind"), ("yes", "no"))
 
 
 class Doors(OfPage):
@@ -333,22 +345,23 @@ class Doors(OfPage):
                 self.assertNotIn(word, text, name)
 
 
-@unittest.skipIf(GONE, ", ".join(GONE))
+@needs.needs(*needs.BROWSER)
 class InChromium(OfPage):
     """The page as people use it."""
 
-    engine = "library" if os.path.exists(SHARED) else "program"
+    browser: Any
 
     @classmethod
     def setUpClass(cls) -> None:
         super().setUpClass()
+        sys.path.append(needs.DEBIAN)
         from selenium import webdriver
         from selenium.webdriver.chrome.service import Service
         options = webdriver.ChromeOptions()
         for word in ("--headless=new", "--no-sandbox", "--disable-dev-shm-usage", "--window-size=1280,1000", "--hide-scrollbars"):
             options.add_argument(word)
         options.set_capability("goog:loggingPrefs", {"browser": "ALL"})
-        cls.browser = webdriver.Chrome(options=options, service=Service(shutil.which("chromedriver")))
+        cls.browser = webdriver.Chrome(options=options, service=Service(str(shutil.which("chromedriver"))))
         cls.addClassCleanup(cls.browser.quit)
 
     def setUp(self) -> None:
@@ -360,7 +373,7 @@ class InChromium(OfPage):
         faults = [entry["message"] for entry in self.browser.get_log("browser") if entry["level"] == "SEVERE"]
         self.assertEqual(faults, [])
 
-    def until(self, script, *given, seconds=10):
+    def until(self, script, *given, seconds=SECONDS):
         """Waits until a script returns something true, and returns it."""
         ends = time.monotonic() + seconds
         while not (got := self.browser.execute_script(script, *given)):
@@ -429,7 +442,7 @@ class InChromium(OfPage):
     def test_by_the_keyboard_alone(self) -> None:
         from selenium.webdriver.common.action_chains import ActionChains
         from selenium.webdriver.common.keys import Keys
-        met = []
+        met: list[str] = []
         while "slider" not in met and len(met) < 60:
             self.keys(Keys.TAB)
             met.append(self.focused())
@@ -498,43 +511,4 @@ class InChromium(OfPage):
         time.sleep(0.5)
         self.put("acl", STORY["acl"])
         self.put("sequence", STORY["sequence"])
-        self.until("return document.getElementById('kind').textContent === 'Yes'", seconds=2 * SECONDS)
-
-    def seconds_to_answer(self, question):
-        """The median time from a keystroke to the answer, and its shown picture."""
-        for name in ("acl", "sequence"):
-            self.put(name, question[name])
-        self.until("return document.getElementById('acl').value.length === arguments[0] && !document.querySelector('.waiting')", len(question["acl"]))
-        time.sleep(1)
-        took = [self.browser.execute_async_script("""
-            const done = arguments[arguments.length - 1], box = document.getElementById('request'), kind = document.getElementById('line');
-            const wanted = box.value.includes('read') ? 'no' : 'yes', begins = performance.now();
-            box.value = wanted === 'no' ? 'packages\\nrear' : 'packages\\nread\\n/builds/web/index.html';
-            const seen = (_, it) => kind.textContent.startsWith(wanted) && (it.disconnect(),
-              requestAnimationFrame(() => done((performance.now() - begins) / 1000)));
-            new MutationObserver(seen).observe(kind, {childList: true, characterData: true, subtree: true});
-            box.dispatchEvent(new Event('input', {bubbles: true}));""") for _ in range(RUNS)]
-        return statistics.median(took)
-
-    def test_times_from_a_keystroke_to_the_answer(self) -> None:
-        """Other programs may run beside the test, so a time is only a failure where it is several times too long, and the library decides."""
-        questions = {"the guide's story": (STORY, ANSWER_SECONDS), "a long question": (long_question(), LONG_SECONDS)}
-        for name, (question, wanted) in questions.items():
-            if self.engine == "program" and name != "the guide's story":
-                continue
-            took = self.seconds_to_answer(question)
-            octets = sum(len(question[part]) for part in ("acl", "sequence"))
-            print(f"{self.engine}: {took * 1000:.0f} ms to the answer to {name}, {octets:,} octets; wanted {wanted * 1000:.0f} ms")
-            self.assertTrue(took < BUSY * wanted or self.engine == "program")
-
-    def test_first_paint(self) -> None:
-        took = []
-        for _ in range(7):
-            self.browser.refresh()
-            took.append(self.until("return performance.getEntriesByName('first-contentful-paint')[0]?.startTime") / 1000)
-        print(f"first paint after {statistics.median(took) * 1000:.0f} ms; wanted {PAINT_SECONDS * 1000:.0f} ms")
-        self.assertLess(statistics.median(took), BUSY * PAINT_SECONDS)
-
-
-if __name__ == "__main__":
-    unittest.main()
+        self.until("return document.getElementById('kind').textContent === 'Yes'")

@@ -9,14 +9,18 @@ from support import TESTS, TOP
 # A script without a suffix begins with this line.
 MARK = "#!/usr/bin/env python3"
 LINE_LENGTH = 150
-# The folders whose modules are imported by their names alone.
+# The folders whose modules are imported by their names alone, and the one whose modules have names that others have too.
 MODULES = ("tests", "examples", "examples/signed", "examples/database", "bindings/python", "bench", "cert")
+PAGE = "tools/playground"
+# The folders whose modules mypy reads apart from those of other folders.
+APART = ("tests", "bench", "tools", "cert")
 
 
 def scripts() -> list[str]:
-    """The scripts of the repository, by their paths from the top."""
+    """The scripts of the repository, by their paths from the top, without links."""
     listed = subprocess.run(["git", "ls-files", "-co", "--exclude-standard"], cwd=TOP, stdout=subprocess.PIPE, text=True, check=True)
-    return [path for path in listed.stdout.splitlines() if not os.path.islink(f"{TOP}/{path}") and (path.endswith(".py") or is_script(path))]
+    paths = [path for path in listed.stdout.splitlines() if not os.path.islink(f"{TOP}/{path}")]
+    return [path for path in paths if path.endswith(".py") or is_script(path)]
 
 
 def is_script(path: str) -> bool:
@@ -41,10 +45,10 @@ class Scripts(unittest.TestCase):
         groups: dict[str, list[str]] = {}
         for path in scripts():
             folder = path.split("/")[0]
-            group = path if not path.endswith(".py") else folder if folder in ("tests", "bench") else "others"
+            group = path if not path.endswith(".py") else folder if folder in APART else "others"
             groups.setdefault(group, []).append(path)
-        settings = {**os.environ, "MYPYPATH": ":".join(MODULES)}
         for name, paths in groups.items():
+            settings = {**os.environ, "MYPYPATH": ":".join([*[PAGE] * (name == "tools"), *MODULES])}
             with self.subTest(name):
                 done = subprocess.run(["mypy", "--cache-dir", os.path.join(TESTS, "out", "mypy"), *paths], cwd=TOP, stdout=subprocess.PIPE,
                                       stderr=subprocess.STDOUT, text=True, env=settings)

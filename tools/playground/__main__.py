@@ -8,6 +8,7 @@ Usage: python3 tools/playground [--port N] [--no-browser] [--engine library|prog
 import argparse
 import json
 import os
+import signal
 import sys
 import webbrowser
 
@@ -46,6 +47,7 @@ def main():
         print(f"{server.address}\n{decides.name} decides; ctrl-c ends the page", flush=True)
         if not given.no_browser:
             webbrowser.open(server.address)
+        signal.signal(signal.SIGTERM, lambda *_: sys.exit(0))
         try:
             server.serve_forever()
         except KeyboardInterrupt:

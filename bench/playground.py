@@ -1,0 +1,66 @@
+#!/usr/bin/env python3
+"""Times the page `tools/playground` in Chromium: from a keystroke to the answer on the page, for the story of the guide and for a question of
+about 50,000 octets, and the first paint. The exit status is 1 if a limit is exceeded.
+
+Build the program first (`rt run` in crates/spki). The library decides where crates/spki_c/out has it. Needs Chromium with Selenium (Debian:
+chromium, chromium-driver, python3-selenium). Usage: bench/playground.py
+"""
+import os
+import statistics
+import sys
+import time
+
+HERE = os.path.dirname(os.path.abspath(__file__))
+sys.path.append(os.path.join(HERE, "..", "tests"))
+from support import LIBRARY  # noqa: E402
+from test_playground import STORY, InChromium, long_question  # noqa: E402
+
+STORY_SECONDS, LONG_SECONDS, PAINT_SECONDS = 0.05, 0.3, 0.2
+RUNS = 15
+# Changes the request, and returns the seconds until the answer to it is drawn.
+KEYSTROKE = """
+    const done = arguments[arguments.length - 1], box = document.getElementById('request'), line = document.getElementById('line');
+    const wanted = box.value.includes('read') ? 'no' : 'yes', begins = performance.now();
+    box.value = wanted === 'no' ? 'packages\\nrear' : 'packages\\nread\\n/builds/web/index.html';
+    const seen = (_, it) => line.textContent.startsWith(wanted) && (it.disconnect(),
+      requestAnimationFrame(() => done((performance.now() - begins) / 1000)));
+    new MutationObserver(seen).observe(line, {childList: true, characterData: true, subtree: true});
+    box.dispatchEvent(new Event('input', {bubbles: true}));"""
+
+
+class Timed(InChromium):
+    """The browser of the tests."""
+
+    engine = "library" if os.path.exists(f"{LIBRARY[:-2]}.so") else "program"
+
+    def to_the_answer(self, question):
+        """The median of the seconds from a keystroke to the answer."""
+        for name in ("acl", "sequence"):
+            self.put(name, question[name])
+        time.sleep(2)
+        return statistics.median(self.browser.execute_async_script(KEYSTROKE) for _ in range(RUNS))
+
+    def to_the_first_paint(self):
+        took = []
+        for _ in range(RUNS):
+            self.browser.refresh()
+            took.append(self.until("return performance.getEntriesByName('first-contentful-paint')[0]?.startTime") / 1000)
+        return statistics.median(took)
+
+
+def main():
+    Timed.setUpClass()
+    try:
+        timed = Timed()
+        timed.setUp()
+        took = [("the first paint", timed.to_the_first_paint(), PAINT_SECONDS), ("the story", timed.to_the_answer(STORY), STORY_SECONDS),
+                ("a long question", timed.to_the_answer(long_question()), LONG_SECONDS)]
+    finally:
+        Timed.doClassCleanups()
+    for name, seconds, limit in took:
+        print(f"{name}: {seconds * 1000:.0f} ms (at most {limit * 1000:.0f}), {Timed.engine}")
+    return 1 if any(seconds > limit for _, seconds, limit in took) else 0
+
+
+if __name__ == "__main__":
+    sys.exit(main())
