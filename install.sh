@@ -1,6 +1,7 @@
 #!/usr/bin/env bash
 # Builds the proved program and the libraries for C programs, and installs them under a prefix, with the header of the libraries, the file
-# for pkg-config, the manual page and `spki-cert`, the command for those who hold keys. Needs the toolchain's `rt` in the path and a C compiler, unless PROGRAM and LIBRARY are given.
+# for pkg-config, the manual page and `spki-cert`, the command for those who hold keys. Needs the toolchain's `rt` in the path and a C
+# compiler, unless PROGRAM and LIBRARY are given.
 # --uninstall removes the files that this version installs, and leaves the folders.
 # Usage: ./install.sh [PREFIX [PROGRAM [LIBRARY]]]        the default prefix is /usr/local; libspki_c.so is beside the LIBRARY
 #        ./install.sh --uninstall [PREFIX]

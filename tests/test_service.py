@@ -13,8 +13,8 @@ import built
 import needs
 from support import EXAMPLES, is_compiled
 
-# (examples/signed/ has a module of this file's name)
 needs.required("import cryptography")
+# (examples/signed/ has a module of this file's name)
 sys.path.insert(0, os.path.join(EXAMPLES, "signed"))
 import tools  # noqa: E402
 from run import PASTED, READ, SERVICE, WRITE, Story, changed_bit, signed, with_changed_bit, with_digest_of  # noqa: E402
@@ -162,7 +162,7 @@ def lists_refused(words, room):
     return results
 
 
-@needs.needs("import cryptography", "openssl/evp.h", *needs.LIBRARY)
+@needs.needs("openssl/evp.h", *needs.LIBRARY)
 class Service(built.OfLibrary):
     """The service as it is, under AddressSanitizer, and under valgrind."""
 
