@@ -20,7 +20,7 @@ from unittest import mock
 
 import built
 import needs
-from support import TOP, output_of
+from support import TESTS, TOP, output_of
 from generators import tags as made_tags
 from generators.questions import question
 from mistakes import MISTAKES
@@ -38,6 +38,8 @@ PEM_TYPES = {"ed25519": ["ed25519"], "rsa": ["RSA", "-pkeyopt", "rsa_keygen_bits
 TAG = "(packages (* set read write) (* prefix /web/))"
 Reason = collections.namedtuple("Reason", "entry item word")
 FILES, SECONDS_TO_CHECK, SECONDS_TO_START = 1000, 5, 0.3
+# What a program takes that hangs.
+SECONDS = 1800
 
 
 needs_ssh = needs.needs("ssh-keygen")
@@ -469,7 +471,7 @@ class OfAnswers(Case):
         page = text_in(os.path.join(TOP, "docs", "CERTIFICATES.md")).decode()
         lines = re.findall(r"^    (.*)$", page, re.MULTILINE)
         self.assertEqual(len(lines), 6)
-        status, said = output_of("sh", "-e", text="\n".join(lines), cwd=self.room, env=self.in_the_path())
+        status, said = output_of("sh", "-e", text="\n".join(lines), cwd=self.room, env=self.in_the_path(), seconds=SECONDS)
         self.assertEqual(status, 0, said)
         self.assertIn("so entry 1 grants it", said)
 
@@ -478,7 +480,7 @@ class OfAnswers(Case):
         os.mkdir(folder)
         path = os.path.join(TOP, "examples", "builds", "story.sh")
         self.assertLessEqual(len(text_in(path).splitlines()), 40)
-        status, said = output_of(path, folder, env=self.in_the_path())
+        status, said = output_of(path, folder, env=self.in_the_path(), seconds=SECONDS)
         self.assertEqual(status, 0, said)
         answers = [line.split(":")[0] for line in said.splitlines() if line.startswith(("yes:", "no:"))]
         self.assertEqual(answers, ["yes", "yes", "no", "yes", "no", "no"], said)
@@ -595,7 +597,8 @@ int main(int count, char **words)
 
     @needs.needs("mypy")
     def test_types(self):
-        self.assertEqual(output_of("mypy", "--strict", "-p", "spki_cert_tool", "--cache-dir", self.room, cwd=os.path.join(TOP, "cert"))[0], 0)
+        words = ("mypy", "--strict", "-p", "spki_cert_tool", "--cache-dir", os.path.join(TESTS, "out", "mypy-strict"))
+        self.assertEqual(output_of(*words, cwd=os.path.join(TOP, "cert"), seconds=SECONDS)[0], 0)
 
     def test_it_is_installed(self):
         for name in ("prog", "lib.a", "lib.so"):
