@@ -46,7 +46,7 @@ SECONDS = 600
 MOST = {"10,000 keys, no certificate": 1.5, "10,000 keys, three certificates": 1.5, "10,000 hashes, no certificate": 1.5,
         "10,000 hashes, three certificates": 1.5, "opening 1 MiB": 1.9, "instructions of a case": 96_000, "three caveats": 1.0, "Rust": 1.1,
         "Python, µs more": 20.0, "a decision, ms": 100.0, "a decision, MiB": 16.0,
-        "an explanation or a reduction, ms": 300.0, "an explanation or a reduction, MiB": 24.0, "waits of 1,000 decisions": 1.0}
+        "an explanation or a reduction, ms": 200.0, "an explanation or a reduction, MiB": 16.0, "waits of 1,000 decisions": 1.0}
 LEAST = {"threads": 3.5}
 # What the library's statuses say.
 ANSWERS = {0: "yes", 1: "no", 2: "refused", 6: "done"}
