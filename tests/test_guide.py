@@ -40,7 +40,7 @@ from support import TOP, text_of
 BLOCK = re.compile(r"^```(\w+)(?: (\S+))?\n(.*?)^```$", re.MULTILINE | re.DOTALL)
 SECONDS = 900
 END = "---- end of command ----"
-# The folders of the examples that pages quote. tests/bindings.py runs them.
+# The folders of the examples that pages quote. tests/test_bindings.py runs them.
 PROGRAMS = ("examples/c", "bindings/rust/examples", "bindings/python/examples")
 FENCED = re.compile(r"^```.*?^```$", re.MULTILINE | re.DOTALL)
 SNIPPET_BELOW = re.compile(r"\*\*(C|Rust|Python)\.\*\*")
