@@ -18,11 +18,11 @@ cd "$(dirname "$0")"
 version=$(< VERSION)
 soname=libspki_c.so.${version%.*}
 
-modules=(cert/spki.py cert/spki_cert_tool/*.py cert/spki_cert_tool/py.typed)
+modules=(cert/spki_cert_tool/*.py cert/spki_cert_tool/py.typed)
 
 if [[ $uninstalls ]]; then
     for place in bin/spki lib/libspki_c.a "lib/$soname" lib/libspki_c.so lib/pkgconfig/spki.pc include/spki.h share/man/man1/spki.1 \
-        bin/spki-cert "${modules[@]/#cert/share/spki-cert}"; do
+        bin/spki-cert share/spki-cert/spki.py "${modules[@]/#cert/share/spki-cert}"; do
         if [[ -e $prefix/$place || -L $prefix/$place ]]; then
             rm "$prefix/$place"
             echo "removed $prefix/$place"
@@ -67,6 +67,7 @@ END
 placed 644 crates/spki_c/spki.h include/spki.h
 placed 644 docs/spki.1 share/man/man1/spki.1
 placed 755 cert/spki-cert bin/spki-cert
+placed 644 bindings/python/spki.py share/spki-cert/spki.py
 for module in "${modules[@]}"; do
     placed 644 "$module" "share/spki-cert${module#cert}"
 done

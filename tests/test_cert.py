@@ -614,7 +614,8 @@ int main(int count, char **words)
 
     @needs.needs("import pip", "import setuptools", "import wheel")
     def test_pip_installs_it_offline(self):
-        shutil.copytree(os.path.join(TOP, "cert"), self.at("cert"), ignore=shutil.ignore_patterns("build", "*.egg-info"))
+        for folder in ("cert", "bindings/python"):
+            shutil.copytree(os.path.join(TOP, folder), self.at(folder), ignore=shutil.ignore_patterns("build", "*.egg-info"))
         quiet(sys.executable, "-m", "pip", "install", "-q", "--no-build-isolation", "--no-deps", "--no-index", "--target", self.at("target"),
               self.at("cert"))
         status, said = output_of(sys.executable, "-m", "spki_cert_tool", "--version", env={**self.settings, "PYTHONPATH": self.at("target")})

@@ -17,10 +17,9 @@ APART = ("tests", "bench", "tools", "cert")
 
 
 def scripts() -> list[str]:
-    """The scripts of the repository, by their paths from the top, without links."""
+    """The scripts of the repository, by their paths from the top."""
     listed = subprocess.run(["git", "ls-files", "-co", "--exclude-standard"], cwd=TOP, stdout=subprocess.PIPE, text=True, check=True)
-    paths = [path for path in listed.stdout.splitlines() if not os.path.islink(f"{TOP}/{path}")]
-    return [path for path in paths if path.endswith(".py") or is_script(path)]
+    return [path for path in listed.stdout.splitlines() if path.endswith(".py") or is_script(path)]
 
 
 def is_script(path: str) -> bool:
