@@ -1,6 +1,6 @@
 """Tests before anything is proved what else would fail late: that each source file is laid out as `rt fmt` lays it out, that each wrong
-body can be applied, that CONTRIBUTING.md lists those of must-fail/, and that its line on the last run of `.ci/deep` names a commit of the
-history, no failure, and the seed of 1,000,000 texts or that only wrong bodies were tried."""
+body can be applied, that CONTRIBUTING.md lists those of must-fail/, that no file is a link, and that CONTRIBUTING.md's line on the last run
+of `.ci/deep` names a commit of the history, no failure, and the seed of 1,000,000 texts or that only wrong bodies were tried."""
 import glob
 import os
 import re
@@ -69,6 +69,10 @@ class Layout(unittest.TestCase):
     def test_wrong_bodies(self) -> None:
         faults = list(unfit(self.rt))
         self.assertEqual(faults, [], "\n".join(faults))
+
+    def test_links(self) -> None:
+        """`rt ci` refuses links in the repository."""
+        self.assertEqual([line for line in git("ls-files", "-s").stdout.splitlines() if line.startswith("120000")], [])
 
     def test_last_deep_run(self) -> None:
         commits = LINE.findall(text_of("CONTRIBUTING.md"))

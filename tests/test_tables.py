@@ -73,23 +73,23 @@ def pairs_test(number: int) -> Test:
 # ---- a class of tests for each table, on each program
 
 
-def classes(base: type[built.OfProgram]) -> Iterator[tuple[str, type]]:
-    """The classes of tests of a program, by their names."""
+def classes(base: type[built.OfProgram], ending: str = "") -> Iterator[type]:
+    """The classes of tests of a program. Their names end so."""
     tables = {os.path.basename(path).capitalize(): rows_of(path) for path in tables_here()}
     for name, rows in {**tables, "Chains": map(Row._make, chains.rows())}.items():
         asked = (row for row in rows if not (built.IS_ALONE and row.place in SLOW_WITHOUT_PROOFS))
-        yield name, type(name, (base,), dict(named_tests(asked)))
-    yield "Pairs", type("Pairs", (base,), {f"test_pairs:{number + 1}": pairs_test(number) for number in range(SETS)})
+        yield type(name + ending, (base,), dict(named_tests(asked)))
+    yield type(f"Pairs{ending}", (base,), {f"test_pairs:{number + 1}": pairs_test(number) for number in range(SETS)})
 
 
 def add_classes() -> None:
     """Adds the classes to this module, those of the second compiler's program where it is there."""
-    found = dict(classes(built.OfProgram))
+    found = list(classes(built.OfProgram))
     if os.path.exists(built.BY_RATTLE) and not built.IS_ALONE:
-        found.update((f"{name}BySecondCompiler", made) for name, made in classes(BySecondCompiler))
-    for made in found.values():
+        found += classes(BySecondCompiler, "BySecondCompiler")
+    for made in found:
         made.__module__ = __name__
-    globals().update(found)
+        globals()[made.__name__] = made
 
 
 add_classes()
