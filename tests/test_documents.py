@@ -23,7 +23,7 @@ KINDS = (".md", ".py", ".sexp", ".csexp", ".tsexp", ".rt", ".antt", ".h", ".c", 
 LOGIC = re.compile(r"rattle-kit-\w+ (logic [0-9a-f]+)")
 ANY = re.compile(r"\b[A-Z]{2,}(?![A-Za-z.])")
 # What pages name that is made by a command, by the reader, or by another program, and the page of each.
-MADE = {"ask.py", "case.sexp", "chain.svg", "chain.sexp", "wrong.sexp", "x.edit", "locate"}
+MADE = {"ask.py", "builders.sexp", "to-bob.sexp", "to-carol.sexp", "case.sexp", "chain.svg", "chain.sexp", "wrong.sexp", "x.edit", "locate"}
 
 
 def names_here():

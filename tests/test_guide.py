@@ -6,7 +6,8 @@ cannot be run until a command permits it. If examples/ has a file of this name, 
 
 In a block `console`, and in the manual's blocks, a line that begins with `$ ` is a command of the shell. A line with `> ` continues it.
 The lines up to the next command are what it should write. The commands of a page run unchanged, one after the other in one shell, with
-the program as `spki` and tools/locate as `locate`. They run once in `sh`, and once in `bash`.
+the program as `spki`, tools/locate as `locate` and cert/spki-cert as `spki-cert`, which has the built library. They run once in `sh`, and
+once in `bash`.
 
 An indented block below a paragraph that begins with `**C.**`, `**Rust.**` or `**Python.**` is a snippet: snippets.py compiles it and runs
 it. The lines of another indented block are commands, which must succeed and print what INDENTED says. They run in a copy of what they
@@ -29,7 +30,7 @@ import subprocess
 import tempfile
 import textwrap
 import unittest
-from collections.abc import Callable, Iterator
+from collections.abc import Callable, Iterable, Iterator
 
 import built
 import building
@@ -105,11 +106,25 @@ def outputs_of(shell, found, program):
         for folder in ("bin", "work"):
             os.mkdir(os.path.join(room, folder))
         os.symlink(program, os.path.join(room, "bin", "spki"))
-        os.symlink(os.path.abspath(os.path.join(TOP, "tools", "locate")), os.path.join(room, "bin", "locate"))
+        for folder, name in (("tools", "locate"), ("cert", "spki-cert")):
+            os.symlink(os.path.abspath(os.path.join(TOP, folder, name)), os.path.join(room, "bin", name))
         path = os.path.join(room, "bin") + os.pathsep + os.environ["PATH"]
-        done = subprocess.run([shell], input="".join(script(found)), cwd=os.path.join(room, "work"), env={**os.environ, "PATH": path},
+        done = subprocess.run([shell], input="".join(script(found)), cwd=os.path.join(room, "work"),
+                              env={**os.environ, **of_library(found), "PATH": path},
                               text=True, stdout=subprocess.PIPE, stderr=subprocess.STDOUT, timeout=SECONDS)
     return done.stdout.split(f"{END}\n")
+
+
+def needs_library(commands_of_page: Iterable[str]) -> bool:
+    """Whether commands make certificates and ask the library."""
+    return any("spki-cert" in command for command in commands_of_page)
+
+
+def of_library(found: Iterable[tuple[str, str, str]]) -> dict[str, str]:
+    """The settings by which the commands of a page find the library and its module."""
+    if not needs_library(first for kind, first, _ in found if kind == "command"):
+        return {}
+    return {"SPKI_LIBRARY": built.shared(), "PYTHONPATH": os.path.join(TOP, "bindings", "python")}
 
 
 def is_as_in_examples(kind, name, text):
@@ -196,7 +211,9 @@ def files_test(page: str) -> Callable[[Pages], None]:
 def commands_test(page: str, shell: str) -> Callable[[Pages], None]:
     """The test of a page's commands in a shell."""
     test: Callable[[Pages], None] = lambda self: self.is_run(page, shell)
-    return needs.needs(*(["openssl"] if "openssl" in text_of(page) else []))(test)
+    text = text_of(page)
+    of_guide = ["import cryptography", "ssh-keygen", *needs.LIBRARY] if needs_library(re.findall(r"^[$] .*$", text, re.MULTILINE)) else []
+    return needs.needs(*(["openssl"] if "openssl" in text else []), *of_guide)(test)
 
 
 def add_pages() -> None:
