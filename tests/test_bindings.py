@@ -6,7 +6,7 @@ and the moment in seconds. The verifier accepts what the case's rows do. `decide
 `explain` and `reduce` on the case. A case that is refused is asked without its rows: a guard takes none, so it has no fault of them.
 
 Runs the tests of the Python module, mypy over its types, and of the crate its tests, those in its documents, clippy and the formatter. The
-examples `decide.c`, `decide.rs` and `decide.py`, which docs/GUIDE.md quotes, must grant and deny. All must have the version of the file
+examples `decide.c` and `decide.rs`, which docs/GUIDE.md quotes, and `decide.py` must grant and deny. All must have the version of the file
 VERSION."""
 import functools
 import hashlib

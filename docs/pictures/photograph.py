@@ -1,5 +1,5 @@
 #!/usr/bin/env python3
-"""Takes the pictures of the page `tools/playground`, as docs/GUIDE.md shows them:
+"""Takes the pictures of the page `tools/playground`, as docs/GUIDE.md and README.md show them:
 
 playground.png           the story of the guide
 playground-denial.png    Carol passes her right on to Bob
