@@ -1,6 +1,6 @@
 #!/usr/bin/env bash
 # Builds the proved program and the libraries for C programs, and installs them under a prefix, with the header of the libraries, the file
-# for pkg-config, the manual page and `spki-cert`, the command for those who hold keys. Needs the toolchain's `rt` in the path and a C
+# for pkg-config, the manual pages and `spki-cert`, the command for those who hold keys. Needs the toolchain's `rt` in the path and a C
 # compiler, unless PROGRAM and LIBRARY are given.
 # --uninstall removes the files that this version installs, and leaves the folders.
 # Usage: ./install.sh [PREFIX [PROGRAM [LIBRARY]]]        the default prefix is /usr/local; libspki_c.so is beside the LIBRARY
@@ -22,7 +22,7 @@ modules=(cert/spki_cert_tool/*.py cert/spki_cert_tool/py.typed)
 
 if [[ $uninstalls ]]; then
     for place in bin/spki lib/libspki_c.a "lib/$soname" lib/libspki_c.so lib/pkgconfig/spki.pc include/spki.h share/man/man1/spki.1 \
-        bin/spki-cert share/spki-cert/spki.py "${modules[@]/#cert/share/spki-cert}"; do
+        bin/spki-cert share/man/man1/spki-cert.1 share/spki-cert/spki.py "${modules[@]/#cert/share/spki-cert}"; do
         if [[ -e $prefix/$place || -L $prefix/$place ]]; then
             rm "$prefix/$place"
             echo "removed $prefix/$place"
@@ -66,6 +66,7 @@ END
 ) lib/pkgconfig/spki.pc
 placed 644 crates/spki_c/spki.h include/spki.h
 placed 644 docs/spki.1 share/man/man1/spki.1
+placed 644 docs/spki-cert.1 share/man/man1/spki-cert.1
 placed 755 cert/spki-cert bin/spki-cert
 placed 644 bindings/python/spki.py share/spki-cert/spki.py
 for module in "${modules[@]}"; do

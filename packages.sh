@@ -1,5 +1,5 @@
 #!/usr/bin/env bash
-# Makes three Debian packages of what install.sh installs: `spki`, the program and its manual, `libspki-dev`, the library for C programs,
+# Makes three Debian packages of what install.sh installs: `spki`, the program and its manual page, `libspki-dev`, the library for C programs,
 # and `spki-cert`, the command for those who hold keys.
 # A machine without the toolchain can install them: `apt-get install ./spki_*.deb`. Needs dpkg-deb, and the file VERSION at the top.
 # There is no package with the shared library alone: a program that is linked with it needs libspki-dev where it runs.
@@ -48,12 +48,13 @@ echo "No license is given yet: it is for the owner to choose." > "$room/copyrigh
 for file in "$room"/all/usr/lib/pkgconfig/*.pc; do
     [[ ! -e $file ]] || sed -i 's|^prefix=.*|prefix=/usr|' "$file"
 done
-mkdir -p "$target" "$room/spki/usr" "$room/libspki-dev/usr" "$room"/spki-cert/usr/{bin,share}
+mkdir -p "$target" "$room/spki/usr" "$room/libspki-dev/usr" "$room"/spki-cert/usr/{bin,share/man/man1}
 mv "$room/all/usr/bin/spki-cert" "$room/spki-cert/usr/bin"
 mv "$room/all/usr/share/spki-cert" "$room/spki-cert/usr/share"
+mv "$room/all/usr/share/man/man1/spki-cert.1" "$room/spki-cert/usr/share/man/man1"
 mv "$room"/all/usr/{bin,share} "$room/spki/usr"
 mv "$room"/all/usr/{include,lib} "$room/libspki-dev/usr"
-gzip -9n "$room"/spki/usr/share/man/man1/*.1
+gzip -9n "$room"/{spki,spki-cert}/usr/share/man/man1/*.1
 package spki "libc6 (>= $(libc_of "$room/spki/usr/bin/spki"))" utils "decide requests by access lists and certificates (SPKI)" \
     "The program reads one question and answers yes or no by the rules of RFC 2693."
 package libspki-dev "libc6-dev" libdevel "decide requests by access lists and certificates, from C" \

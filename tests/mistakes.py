@@ -24,7 +24,7 @@ def hash_of(text):
 MISTAKES = [
     # what a service refuses
     ("a date without its time", "c.sexp", certificate('(tag read) (not-after "2099")'), (2, 24), True, "YYYY-MM-DD_HH:MM:SS"),
-    ("a date without quotes", "c.sexp", certificate("(tag read) (not-after 2099-02-01_00:00:00)"), (2, 28), True, "put quotes around"),
+    ("a date without quotes", "c.sexp", certificate("(tag read) (not-after 2099-02-01_00:00:00)"), (2, 24), True, "put quotes around"),
     ("a misspelled field", "acl.sexp", entry('(tag read) (not-afer "2099-01-01_00:00:00")'), (3, 14), True, "is `not-after` meant?"),
     ("a field twice", "acl.sexp", entry("(tag read)\n  (tag write)"), (4, 3), True, "a second time"),
     ("no tag", "acl.sexp", entry("(propagate)"), (2, 2), True, "`(tag ..)` is missing"),
@@ -46,16 +46,16 @@ MISTAKES = [
     ("a misspelled sequence", "s.sexp", f"(sequenze {KEY})\n", (1, 1), True, "is `sequence` meant?"),
     ("a certificate without its signature", "s.sexp", f"(sequence {KEY}\n {certificate('(tag read)').strip()})\n", (2, 2), True,
      "no signature follows"),
-    ("a hash without marks", "acl.sexp", hash_of(f"sha256 {DIGITS}"), (2, 23), True, "between two `#`"),
+    ("a hash without marks", "acl.sexp", hash_of(f"sha256 {DIGITS}"), (2, 22), True, "between two `#`"),
     ("a hash that is cut off", "acl.sexp", hash_of(f"sha256 #{DIGITS[:-2]}#"), (2, 22), True, "32 octets, and this has 31"),
     ("an algorithm with a hyphen", "acl.sexp", hash_of(f"sha-256 #{DIGITS}#"), (2, 15), True, "is `sha256` meant?"),
-    ("a name of nobody in an entry", "acl.sexp", "(acl\n (entry (name builders)\n  (tag read)))\n", (2, 9), True, "has a principal"),
+    ("a name of nobody in an entry", "acl.sexp", "(acl\n (entry (name builders)\n  (tag read)))\n", (2, 9), True, "needs the key"),
     ("a tag in a certificate for a name", "c.sexp", f"(cert (issuer (name {KEY} builders)) (subject {OTHER})\n (tag read))\n", (2, 2), True,
      "defines a name has no `tag`"),
     ("a comment", "acl.sexp", "; the list of builds\n(acl)\n", (1, 1), True, "there are no comments"),
     ("two lists in one file", "acl.sexp", "(acl)\n(acl)\n", (2, 1), True, "a text is one value"),
-    ("a pattern with a question mark", "t.sexp", "(packages read /web/?)\n", (1, 21), True, "put quotes around"),
-    # what is legal and hardly meant
+    ("a pattern with a question mark", "t.sexp", "(packages read /web/?)\n", (1, 21), True, "`?` needs quotes"),
+    # what is legal and probably a mistake
     ("strings for a set", "acl.sexp", entry("(tag (packages (read write)))"), (3, 18), False, "`(* set read write)`"),
     ("actions for a set", "t.sexp", "(tag (read write))\n", (1, 6), False, "`(* set read write)`"),
     ("a set without its star", "acl.sexp", entry("(tag (packages (set read write)))"), (3, 18), False, "with a star it is `(* set ..)`"),

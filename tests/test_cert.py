@@ -2,6 +2,7 @@
 pictures, what is written where, and how it is installed.
 
 What is not there is skipped, with the Debian package that has it."""
+import base64
 import collections
 import contextlib
 import io
@@ -20,12 +21,13 @@ from unittest import mock
 
 import built
 import needs
-from support import TESTS, TOP, output_of
+import test_guide
+from support import TESTS, TOP, output_of, text_of
 from generators import tags as made_tags
 from generators.questions import question
 from mistakes import MISTAKES
 from model import answers, guard, tags as model_tags, values as model_values
-from spki_cert_tool import asking, commands, keys, sexp, tag_words
+from spki_cert_tool import arguments, asking, commands, keys, sexp, tag_words
 from spki_cert_tool.certificates import Keys, certificates_in, fault_of_signature, keys_in
 from spki_cert_tool.checking import remarks_on
 from spki_cert_tool.labels import Labels
@@ -40,6 +42,7 @@ Reason = collections.namedtuple("Reason", "entry item word")
 FILES, SECONDS_TO_CHECK, SECONDS_TO_START = 1000, 5, 0.3
 # What a program takes that hangs.
 SECONDS = 1800
+MANUAL = text_of("docs/spki-cert.1")
 
 
 needs_ssh = needs.needs("ssh-keygen")
@@ -292,11 +295,11 @@ class OfCertificates(Case):
         each, = self.verified("c.sexp")
         self.assertEqual((each.terms.name, each.terms.tag), (b"builders", None))
 
-    def test_what_is_hardly_meant_needs_yes(self):
+    def test_what_is_probably_a_mistake_needs_yes(self):
         for words, tag, said in [
                 ((), TAG, "it has no end"), (("--days", "1"), "(*)", "every request"),
                 (("--days", "1"), "(packages (read write))", "(* set read write)"),
-                (("--days", "1"), "(packages read /web/*)", "(* prefix /web/)"), (("--until", "2020-01-01"), TAG, "it has ended"),
+                (("--days", "1"), "(packages read /web/*)", "(* prefix /web/)"), (("--until", "2020-01-01"), TAG, "it ended on 2020"),
                 (("--from", "2099-01-02", "--until", "2099-01-01"), TAG, "never valid"),
                 (("--days", "1", "--try", "packages", "delete", "/web/x"), TAG, "member 2 of the request is `delete`")]:
             with self.subTest(said):
@@ -325,6 +328,39 @@ class OfCertificates(Case):
         for words in (("--until", "2026"), ("--until", "2026-02-31"), ("--until", "2026-1-1_0:0:0"), ("--days", "9999999")):
             self.assertIn("spki-cert: ", self.sign(*words, wanted=2))
         self.assertIn("No such file", self.sign("--days", "1", to="nobody.pub", wanted=2))
+
+    def test_entries_are_written(self):
+        """An entry alone, in a new list, and at the end of one whose text stays."""
+        self.assertTrue(self.done("entry", "--to", "bob.pub", "--tag", TAG).startswith("(entry"))
+        self.done("entry", "--to", "alice.pub", "--tag", TAG, "--propagate", "--acl", "acl.sexp")
+        before = text_in(self.at("acl.sexp")).replace(b"(tag", b"\n\n  (tag")
+        self.write("acl.sexp", before)
+        self.done("entry", "--to", "bob.pub", "--named", "team", "--tag", TAG, "--days", "9", "--comment", "the team", "--acl", "acl.sexp")
+        self.assertTrue(text_in(self.at("acl.sexp")).startswith(before.rstrip()[:-1]))
+        self.done("check", "acl.sexp")
+        said = self.done("show", "--labels", ".", "acl.sexp")
+        for words in ("entry 1  the list -> alice, may delegate", "entry 2  the list -> team of bob, may not delegate", "comment: 'the team'"):
+            self.assertIn(words, said)
+        self.write("acl.tsexp", "{" + base64.b64encode(sexp.canonical(value_in(before).value)).decode() + "}")
+        self.done("entry", "--to", self.done("key", "--hash", "bob.pub"), "--tag", TAG, "--acl", "acl.tsexp")
+        self.assertEqual(len(value_in(text_in(self.at("acl.tsexp"))).value), 3)
+
+    def test_entries_need_yes_and_are_refused(self):
+        self.write("acl.sexp", "(acl)")
+        to, into = ("entry", "--to", "bob.pub"), ("--acl", "acl.sexp")
+        sha1 = f"(hash sha1 #{'00' * 20}#)"
+        for words, status, said in [
+                ((*to, "--tag", "(*)"), 4, "every request"), ((*to, "--tag", "(packages /web/*)"), 4, "(* prefix /web/)"),
+                ((*to, "--tag", TAG, "--until", "2020-01-01"), 4, "it ended on 2020"),
+                ((*to, "--tag", TAG, "--try", "packages", "delete", "x"), 4, "does not contain"),
+                (("entry", "--to", sha1, "--tag", TAG), 4, "names no key"),
+                (("entry", "--to", "(name team)", "--tag", TAG), 2, "RelativeInEntry"), ((*to, "--tag", "(a"), 2, "a `)` is missing")]:
+            with self.subTest(said):
+                self.assertIn(said, self.done(*words, *into, wanted=status))
+                self.assertEqual(text_in(self.at("acl.sexp")), b"(acl)")
+        self.done(*to, "--tag", "(*)", "--yes", *into)
+        self.write("acl.sexp", "(acl")
+        self.assertIn("acl.sexp: refused", self.done(*to, "--tag", TAG, *into, wanted=2))
 
     def test_no_file_is_half_written(self):
         self.write("c.sexp", "before")
@@ -466,14 +502,26 @@ class OfAnswers(Case):
         return {**self.settings, "PATH": f"{self.at('bin')}:{os.environ['PATH']}"}
 
     def test_the_first_certificate_of_the_page(self):
-        for name in ("alice", "bob"):
-            self.ssh_key(name)
+        """From a clone, by somebody who has a key of OpenSSH. The library is the one that is tested."""
+        for folder in (".ssh", "clone"):
+            os.mkdir(self.at(folder))
+        self.ssh_key(".ssh/id_ed25519")
+        os.symlink(os.path.join(TOP, "cert"), self.at("clone/cert"))
         page = text_in(os.path.join(TOP, "docs", "CERTIFICATES.md")).decode()
         lines = re.findall(r"^    (.*)$", page, re.MULTILINE)
-        self.assertEqual(len(lines), 6)
-        status, said = output_of("sh", "-e", text="\n".join(lines), cwd=self.room, env=self.in_the_path(), seconds=SECONDS)
+        self.assertEqual(len(lines), 8)
+        settings = {**self.settings, "HOME": self.room}
+        status, said = output_of("sh", "-e", text="\n".join(lines), cwd=self.at("clone"), env=settings, seconds=SECONDS)
         self.assertEqual(status, 0, said)
         self.assertIn("so entry 1 grants it", said)
+
+    def test_the_examples_of_the_manual(self):
+        """Each command writes what the manual says."""
+        steps = list(test_guide.steps_of_manual(MANUAL.replace("\\(ga", "`")))
+        settings = {**self.in_the_path(), "PS1": ""}
+        said = output_of("sh", text="".join(test_guide.script(steps)), cwd=self.room, env=settings, seconds=SECONDS)[1]
+        met = [each.strip("\n") for each in said.split(f"{test_guide.END}\n")]
+        self.assertEqual(met, [*(answer.strip("\n") for _, _, answer in steps), ""])
 
     def test_the_story_of_three_teams(self):
         folder = self.at("story")
@@ -590,10 +638,15 @@ int main(int count, char **words)
         self.assertLess(min(used), SECONDS_TO_START)
 
     def test_help_and_completion(self):
-        for command in ("", "key", "sign", "name", "show", "ask", "check"):
+        for command in ("", "key", "sign", "name", "entry", "show", "ask", "check"):
             self.assertIn("example" if command else "exit status", self.done(*filter(None, [command]), "--help"))
         self.assertIn("--propagate", self.done("completion"))
         self.done("nothing", wanted=2)
+
+    def test_the_manual_has_each_option(self):
+        commands_of, plain = arguments.commands_with_options(), MANUAL.replace("\\-", "-")
+        self.assertEqual([word for name, options in commands_of.items() for word in (f".B {name}\n", *options)
+                          if word not in ("-h", "--help") and word not in plain], [])
 
     @needs.needs("mypy")
     def test_types(self):

@@ -130,7 +130,8 @@ class Documents(unittest.TestCase):
 
     def test_versions(self) -> None:
         version = text_of("VERSION").strip()
-        self.assertIn(f'"Conguraki {version}"', text_of("docs/spki.1").splitlines()[0])
+        for page in ("docs/spki.1", "docs/spki-cert.1"):
+            self.assertIn(f'"Conguraki {version}"', text_of(page).splitlines()[0])
         self.assertIn(f"The version is {version}.", text_of("README.md"))
 
     def test_toolchain(self) -> None:

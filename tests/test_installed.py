@@ -91,9 +91,10 @@ class Installed(built.OfLibrary):
     @needs.needs("man")
     def test_warnings_of_the_manual(self) -> None:
         settings = {**os.environ, "LC_ALL": "C.UTF-8", "MANPAGER": "cat", "MANWIDTH": "80"}
-        done = subprocess.run(["man", "--warnings", "-l", self.page], stdout=subprocess.DEVNULL, stderr=subprocess.PIPE, text=True, env=settings,
-                              timeout=SECONDS)
-        self.assertEqual((done.returncode, done.stderr), (0, ""))
+        for page in (self.page, os.path.join(os.path.dirname(self.page), "spki-cert.1")):
+            done = subprocess.run(["man", "--warnings", "-l", page], stdout=subprocess.DEVNULL, stderr=subprocess.PIPE, text=True, env=settings,
+                                  timeout=SECONDS)
+            self.assertEqual((done.returncode, done.stderr), (0, ""), page)
 
     def test_faults_in_the_manual(self) -> None:
         """The manual names every fault that a refusal in the tables names."""

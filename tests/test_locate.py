@@ -43,7 +43,7 @@ def with_field(field):
 # A text, the refusal, the place as line and column, and words of the remark.
 MISTAKES = [
     ("(a\n ~)", "form Bad 4", (2, 2), "a member or `)`"),
-    ("(a 2024-01-01)", "form Bad 7", (1, 8), "put quotes around"),
+    ("(a 2024-01-01)", "form Bad 7", (1, 4), "put quotes around"),
     ('(a "\\q")', "form Bad 5", (1, 6), "no escape"),
     ("#616#", "form Bad 4", (1, 5), "odd"),
     ("(a)\n(b)", "form Trailing 4", (2, 1), "a text is one value"),

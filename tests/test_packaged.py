@@ -11,7 +11,7 @@ FILES = {
     "spki": ["usr/bin/spki", "usr/share/man/man1/spki.1.gz", "usr/share/doc/spki/copyright"],
     "libspki-dev": ["usr/include/spki.h", "usr/lib/libspki_c.a", "usr/lib/libspki_c.so", "usr/share/doc/libspki-dev/copyright"],
     "spki-cert": ["usr/bin/spki-cert", "usr/share/spki-cert/spki.py", "usr/share/spki-cert/spki_cert_tool/commands.py",
-                  "usr/share/doc/spki-cert/copyright"]}
+                  "usr/share/man/man1/spki-cert.1.gz", "usr/share/doc/spki-cert/copyright"]}
 
 
 @needs.needs("dpkg-deb", *needs.LIBRARY)

@@ -19,7 +19,8 @@ EPILOG = """the first certificate, with a key of OpenSSH:
   spki-cert show to-bob.sexp
 
 exit status: 0 done, yes, or nothing found; 1 no, or something found; 2 a file or a word is refused; 3 reading or
-writing failed; 4 a certificate was not made, because it is hardly meant so: --yes makes it
+writing failed; 4 a certificate or an entry was not made, because it is
+probably a mistake: --yes makes it
 Files are OpenSSH, PEM or S-expressions, and `-` is standard input. SPKI_LABELS names a file or folder as --labels does."""
 KEY_HELP = """Writes the SPKI key of a key of OpenSSH, PEM (SPKI, PKCS#8, PKCS#1) or an S-expression: Ed25519, RSA or ECDSA P-256.
 Of a private key it writes the public one. `spki-cert key new FILE` makes a new key: `spki-cert key new --help`."""
@@ -29,8 +30,12 @@ SIGN_HELP = """Signs a certificate, and writes it with its signature as a sequen
 
 --by is a private key, or a public key whose private one ssh-agent holds. --to is a file with a key in any form, or
 an S-expression such as '(hash sha256 #..#)'. With --named it is a name of that key, or without --to one of the issuer.
-A certificate that is hardly meant so is made only with --yes: without an end, for (*), for longer than its
+What is probably a mistake is made only with --yes: a certificate without an end, for (*), for longer than its
 issuer has the right, with a tag that grants nothing, or if a request of --try is not granted."""
+ENTRY_HELP = """Writes an entry of an access list. With --acl it is put at the end of that list, which is made if it is not there.
+
+An entry says what a key, a hash or a name may do. It needs no signature, because the list belongs to the service, and no end, because it can
+be removed from the list. What is probably a mistake is written only with --yes, as by `spki-cert sign`."""
 NAME_HELP = """Signs a certificate that defines a name: the issuer calls the subject so. Rights that are given to the name are the subject's."""
 SHOW_HELP = """Shows access lists, certificates, sequences and cases: who, to whom, what, until when, delegated or not, and valid or not."""
 ASK_HELP = """Decides a request by an access list and certificates, as a service does, and says why or why not.
@@ -38,7 +43,7 @@ ASK_HELP = """Decides a request by an access list and certificates, as a service
 All certificates that are given are looked through for a chain from the access list to the key, also those of folders. The
 words after the options are the strings of the request. `spki-cert ask --case FILE` decides a whole case."""
 CHECK_HELP = """Checks each file, or each file of a folder: S-expressions (.sexp, .csexp, .tsexp, or no suffix) and keys. Prints what a
-service would refuse, with line and column, and what is legal and hardly meant. Lines with `refused:` are errors."""
+service would refuse, with line and column, and what is legal and probably a mistake. Lines with `refused:` are errors."""
 
 
 def with_labels(parser: argparse.ArgumentParser) -> None:
@@ -48,21 +53,32 @@ def with_labels(parser: argparse.ArgumentParser) -> None:
     parser.add_argument("--json", action="store_true", help="write JSON, for programs")
 
 
-def with_window(parser: argparse.ArgumentParser) -> None:
+def with_window(parser: argparse.ArgumentParser, *, signs: bool = True) -> None:
+    """The options of what is made."""
+    parser.set_defaults(name=None, tag=None, propagate=False, tries=[])
     ends = parser.add_mutually_exclusive_group()
     ends.add_argument("--days", metavar="N", type=int, help="valid for so many days from now")
     ends.add_argument("--until", metavar="DATE", help="valid until this day or moment, in UTC")
     parser.add_argument("--from", metavar="DATE", dest="begins", help="valid from this day or moment on")
     parser.add_argument("--comment", metavar="TEXT", default="", help="a comment, which grants nothing")
-    parser.add_argument("--chain", metavar="FILE", help="the sequence by which the issuer has the right: it is written too, in front")
-    parser.add_argument("--yes", action="store_true", help="make it although it is hardly meant so")
-    parser.add_argument("-o", "--output", metavar="FILE", help="where to write it, instead of standard output")
+    parser.add_argument("--yes", action="store_true", help="make it although it is probably a mistake")
+    parser.add_argument("--to", metavar="KEY", required=not signs, help="the subject: a file with its key, or an S-expression")
+    parser.add_argument("--named", metavar="NAME", action="append", default=[],
+                        help=f"a name of --to{', or of the issuer without --to' if signs else ', instead of the key itself'}")
+    if signs:
+        parser.add_argument("--by", metavar="KEY", required=True, help="who signs: a private key, or a public key that ssh-agent holds")
+        parser.add_argument("--chain", metavar="FILE", help="the sequence by which the issuer has the right: it is written too, in front")
+    output = parser if signs else parser.add_mutually_exclusive_group()
+    output.add_argument("-o", "--output", metavar="FILE", help="where to write it, instead of standard output")
+    if not signs:
+        output.add_argument("--acl", metavar="FILE", help="the access list to put it in, which is made if it is not there")
 
 
-def with_parties(parser: argparse.ArgumentParser) -> None:
-    parser.add_argument("--by", metavar="KEY", required=True, help="who signs: a private key, or a public key that ssh-agent holds")
-    parser.add_argument("--to", metavar="KEY", help="the subject: a file with its key, or an S-expression")
-    parser.add_argument("--named", metavar="NAME", action="append", default=[], help="a name of --to, or of the issuer without --to")
+def with_tag(parser: argparse.ArgumentParser) -> None:
+    parser.add_argument("--tag", metavar="TAG", required=True, help="the requests that are allowed, as '(packages read (* prefix /web/))'")
+    parser.add_argument("--propagate", action="store_true", help="the subject may delegate the right")
+    parser.add_argument("--try", metavar="WORD", nargs="+", action="append", dest="tries",
+                        help="a request that the tag is to contain, by its words; may be given several times")
 
 
 def parser_of_commands() -> argparse.ArgumentParser:
@@ -85,17 +101,16 @@ def parser_of_commands() -> argparse.ArgumentParser:
     new.add_argument("--no-passphrase", action="store_true", help="do not encrypt it")
     sign = added("sign", "sign a certificate that gives a right", SIGN_HELP,
                  "example: spki-cert sign --by alice --to bob.pub --tag '(packages (* set read write))' --days 30 -o to-bob.sexp")
-    with_parties(sign)
-    sign.add_argument("--tag", metavar="TAG", required=True, help="the requests that are allowed, as '(packages read (* prefix /web/))'")
-    sign.add_argument("--propagate", action="store_true", help="the subject may delegate the right")
-    sign.add_argument("--try", metavar="WORD", nargs="+", action="append", default=[], dest="tries",
-                      help="a request that the tag is to contain, by its words; may be given several times")
     with_window(sign)
+    with_tag(sign)
     name = added("name", "sign a certificate that defines a name", NAME_HELP,
                  "example: spki-cert name --by alice --name builders --to bob.pub --days 365 -o bob-builds.sexp")
-    with_parties(name)
-    name.add_argument("--name", metavar="NAME", required=True, help="the name that the issuer gives to the subject")
     with_window(name)
+    name.add_argument("--name", metavar="NAME", required=True, help="the name that the issuer gives to the subject")
+    entry = added("entry", "write an entry of an access list", ENTRY_HELP,
+                  "example: spki-cert entry --to alice.pub --tag '(packages)' --propagate --acl acl.sexp")
+    with_window(entry, signs=False)
+    with_tag(entry)
     show = added("show", "say in words what a list, a certificate, a sequence or a case says", SHOW_HELP,
                  "example: spki-cert show acl.sexp to-bob.sexp")
     show.add_argument("files", metavar="FILE", nargs="+")
@@ -103,7 +118,7 @@ def parser_of_commands() -> argparse.ArgumentParser:
     with_labels(show)
     with_ask(added("ask", "decide a request, and say why", ASK_HELP,
                    "example: spki-cert ask --acl acl.sexp --key bob.pub --cert to-bob.sexp packages read /web/index.html"))
-    check = added("check", "say what is wrong in files, and what is hardly meant", CHECK_HELP, "example: spki-cert check certificates/")
+    check = added("check", "say what is wrong in files, and what is probably a mistake", CHECK_HELP, "example: spki-cert check certificates/")
     check.add_argument("paths", metavar="PATH", nargs="+")
     check.add_argument("--json", action="store_true", help="write JSON, for programs")
     commands.add_parser("completion", help="write the completion of bash: eval \"$(spki-cert completion)\"")
@@ -144,11 +159,14 @@ COMPLETION = """_spki_cert() {{
 complete -o default -F _spki_cert spki-cert"""
 
 
+def commands_with_options() -> dict[str, list[str]]:
+    """The commands, and the options of each."""
+    commands = next(it for it in parser_of_commands()._actions if isinstance(it, argparse._SubParsersAction)).choices
+    return {name: [option for it in each._actions for option in it.option_strings] for name, each in commands.items() if name != NEW_KEY}
+
+
 def completion() -> str:
-    """The completion of bash: the commands, and the options of each."""
-    parser = parser_of_commands()
-    commands = dict(next(it for it in parser._actions if isinstance(it, argparse._SubParsersAction)).choices)
-    del commands[NEW_KEY]
-    options = {name: " ".join(option for it in each._actions for option in it.option_strings) for name, each in commands.items()}
-    cases = "\n".join(f"""            {name}) COMPREPLY=($(compgen -W '{of_command}' -- "$word")) ;;""" for name, of_command in options.items())
-    return COMPLETION.format(commands=" ".join(commands), cases=cases)
+    """The completion of bash."""
+    commands = commands_with_options()
+    cases = (f"""            {name}) COMPREPLY=($(compgen -W '{" ".join(options)}' -- "$word")) ;;""" for name, options in commands.items())
+    return COMPLETION.format(commands=" ".join(commands), cases="\n".join(cases))

@@ -4,6 +4,7 @@ from __future__ import annotations
 import hashlib
 from collections.abc import Iterable, Iterator
 from dataclasses import dataclass
+from datetime import datetime
 
 from .keys import hash_of, verifies
 from .sexp import Value, canonical
@@ -98,6 +99,25 @@ def terms_of_certificate(value: Value) -> Terms:
     if headed(subject, b"name") and not headed(members(subject)[0], b"public-key", b"hash"):
         subject = [b"name", issuer, *members(subject)]
     return terms_of(value, issuer, name, subject)
+
+
+def remarks_on_window(begins: bytes | None, ends: bytes | None, moment: bytes) -> Iterator[tuple[bytes, str]]:
+    """What is probably a mistake in a window, each with the head of its field."""
+    for head, limit in ((b"not-before", begins), (b"not-after", ends)):
+        if limit and not is_in_calendar(limit):
+            yield head, f"no calendar has the moment {limit.decode()}"
+    if begins and ends and ends < begins:
+        yield b"not-after", "it ends before it begins, so it is never valid"
+    elif ends and ends < moment:
+        yield b"not-after", f"it ended on {ends.decode()}"
+
+
+def is_in_calendar(moment: bytes) -> bool:
+    try:
+        datetime.strptime(moment.decode(), DATE_FORMAT)
+    except ValueError:
+        return moment.endswith(b":60")
+    return True
 
 
 def entries_of(access_list: Value) -> list[Terms]:

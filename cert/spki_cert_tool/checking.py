@@ -1,4 +1,4 @@
-"""Checks files: what a service would refuse, with the place, and what is legal and hardly meant."""
+"""Checks files: what a service would refuse, with the place, and what is legal and probably a mistake."""
 from __future__ import annotations
 
 import os
@@ -6,9 +6,8 @@ import re
 import stat
 from collections.abc import Iterator
 from dataclasses import dataclass
-from datetime import datetime
 
-from .certificates import DATE_FORMAT, Keys, Terms, certificates_in, fault_of_signature, keys_in, terms_of_certificate, terms_of_entry
+from .certificates import Keys, certificates_in, fault_of_signature, keys_in, remarks_on_window, terms_of_certificate, terms_of_entry
 from .forms import MOST_OCTETS, Node, Wrong, meant
 from .keys import BadKey, is_key_file, is_private, public_of, read_public
 from .places import BY_HEAD, place_shown, places_of, read_text, refusal
@@ -31,7 +30,7 @@ class Remark:
     line: int
     column: int
     is_refused: bool
-    """Whether a service would refuse the file. Else it is legal, and hardly meant."""
+    """Whether a service would refuse the file. Else it is legal, and probably a mistake."""
     text: str
 
     def __str__(self) -> str:
@@ -100,7 +99,7 @@ def of_text(path: str, octets: bytes, moment: bytes) -> Iterator[Remark]:
         at, why = places_of(wrong)[0]
         yield remark(path, text, places, at, True, f"{refusal(wrong, places).removeprefix('refused ')}: {why}")
         return
-    for at, why in hardly_meant(node, moment):
+    for at, why in probable_mistakes(node, moment):
         yield remark(path, text, places, at, False, why)
 
 
@@ -110,7 +109,7 @@ def fault_of_other(node: Node) -> Wrong | None:
         if node.head in OTHERS:
             OTHERS[node.head](node)
         elif node.head is not None and meant(node.head, HEADS):
-            raise Wrong("Shape", node.begin, f"nothing that is known is headed by `{node.head.decode(errors='replace')}`{meant(node.head, HEADS)}")
+            raise Wrong("Shape", node.begin, f"no kind of text begins with `({node.head.decode(errors='replace')} ..)`{meant(node.head, HEADS)}")
         else:
             read_tag(tag_of(node), [0])
     except Wrong as wrong:
@@ -123,8 +122,8 @@ def tag_of(node: Node) -> Node:
     return node.members[1] if node.head == b"tag" and node.members and len(node.members) == 2 else node
 
 
-def hardly_meant(node: Node, moment: bytes) -> Iterator[tuple[int, str]]:
-    """What is legal and hardly meant in a value, with its places."""
+def probable_mistakes(node: Node, moment: bytes) -> Iterator[tuple[int, str]]:
+    """What is legal and probably a mistake in a value, with its places."""
     kind = BY_HEAD.get(node.head or b"")
     if kind in ("acl", "sequence", "case") or node.head == b"cert":
         yield from of_parts(node, moment)
@@ -137,7 +136,7 @@ def hardly_meant(node: Node, moment: bytes) -> Iterator[tuple[int, str]]:
 
 
 def of_parts(node: Node, moment: bytes) -> Iterator[tuple[int, str]]:
-    """What is hardly meant in the entries, certificates, keys and hashes of a value."""
+    """What is probably a mistake in the entries, certificates, keys and hashes of a value."""
     waiting = [node]
     while waiting:
         each = waiting.pop(0)
@@ -146,13 +145,13 @@ def of_parts(node: Node, moment: bytes) -> Iterator[tuple[int, str]]:
         if each.head == b"public-key":
             yield from of_key(each)
         elif each.head == b"hash" and each.members and each.members[1].body == b"sha1":
-            yield each.begin, "a hash by sha1 names no key under the strict policy"
+            yield each.begin, "a hash by sha1 names no key under the strict policy; `spki-cert key --hash` writes one by sha256"
         elif each.head not in (b"tag", b"request", b"comment", b"accepted"):
             waiting += [member for member in each.members or [] if member.members is not None]
 
 
 def of_terms(node: Node, moment: bytes) -> Iterator[tuple[int, str]]:
-    """What is hardly meant in an entry or a certificate."""
+    """What is probably a mistake in an entry or a certificate."""
     is_certificate = node.head == b"cert"
     terms = terms_of_certificate(node.value) if is_certificate else terms_of_entry(node.value)
     for field in node.members or []:
@@ -161,37 +160,17 @@ def of_terms(node: Node, moment: bytes) -> Iterator[tuple[int, str]]:
             if is_everything(field.members[1].value) and is_certificate:
                 yield field.begin, "this tag contains every request"
     if is_certificate and terms.ends is None:
-        yield node.begin, "this certificate has no end, and cannot be revoked"
+        yield node.begin, "this certificate has no end, and cannot be revoked: give it a `(not-after ..)`"
     fields = [inner for it in node.members or [] for inner in ((it.members or []) if it.head == b"valid" else [it])]
     places = {field.head: field.begin for field in fields}
-    for head, why in of_window(terms, moment):
-        yield places[head], why
-
-
-def of_window(terms: Terms, moment: bytes) -> Iterator[tuple[bytes, str]]:
-    """What is hardly meant with a window, with the head of the field."""
-    for head, limit in ((b"not-before", terms.begins), (b"not-after", terms.ends)):
-        if limit and not is_in_calendar(limit):
-            yield head, f"no calendar has the moment {limit.decode()}"
-    if terms.begins and terms.ends and terms.ends < terms.begins:
-        yield b"not-after", "it ends before it begins, so it is never valid"
-    elif terms.ends and terms.ends < moment:
-        yield b"not-after", f"it ended on {terms.ends.decode()}"
-
-
-def is_in_calendar(moment: bytes) -> bool:
-    try:
-        datetime.strptime(moment.decode(), DATE_FORMAT)
-    except ValueError:
-        return moment.endswith(b":60")
-    return True
+    yield from ((places[head], why) for head, why in remarks_on_window(terms.begins, terms.ends, moment))
 
 
 def of_key(node: Node) -> Iterator[tuple[int, str]]:
-    """What is hardly meant with a key: one of a kind that services verify, in another form."""
+    """What is probably a mistake with a key: one of a kind that services verify, in another form."""
     inner = node.members[1] if node.members and len(node.members) > 1 else node
     if inner.head in (b"ecc", b"rsa", b"ecdsa", b"ed25519", b"eddsa", b"rsa-pkcs1-sha256") and public_of(node.value) is None:
-        yield inner.begin, "this key is in no form that spki-cert verifies by; `spki-cert key` writes them"
+        yield inner.begin, "this is no whole key of Ed25519, RSA or ECDSA P-256, so no signature by it counts; `spki-cert key FILE` writes one"
 
 
 def of_signatures(node: Node) -> Iterator[tuple[int, str]]:

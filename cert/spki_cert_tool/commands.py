@@ -5,15 +5,15 @@ import argparse
 import json
 import os
 import sys
-from collections.abc import Callable
+from collections.abc import Callable, Iterable
 
 from .arguments import NEW_KEY, completion, parser_of_commands
-from .certificates import DATE_FORMAT
-from .files import DAY_ENDS, Refused, in_days, is_text, key_at, moment_of, node_of, now, octets_of, passphrase_for, signer_at, value_of, write
-from .forms import Node, Wrong
+from .files import DAY_ENDS, Refused, is_text, key_at, moment_of, node_of, now, octets_of, passphrase_for, signer_at, value_of, write
+from .forms import Wrong
 from .keys import BadKey, hash_of, kind_of, new_private, openssh_line, openssh_of, principal_of
 from .labels import Labels
-from .making import Wish, certificate_of, named, relative_name, signed_sequence, text_of, warnings_of
+from .making import (Wish, certificate_of, entry_of, list_with, named, relative_name, signed_sequence, text_of, warnings_of,
+                     warnings_of_certificate)
 from .places import BY_HEAD, read_text, told, value_in
 from .sexp import Value, on_one_line
 from .structures import read_certificate, read_subject
@@ -60,35 +60,48 @@ def new_passphrase(path: str) -> bytes:
     return first
 
 
-# ---- sign, name
+# ---- sign, name, entry
 
 
 def sign(given: argparse.Namespace) -> int:
-    tag = node_of(given.tag, "--tag", lambda node: read_tag(node, [0])) if given.command == "sign" else None
-    tries = [request_of(words) for words in given.tries] if given.command == "sign" else []
-    wish = wish_of(given, tag)
+    wish = wish_of(given)
     chain = value_of(given.chain, "sequence") if given.chain else None
     signer = signer_at(given.by)
-    warnings = list(warnings_of(wish, signer.key, chain, tries))
-    for warning in warnings:
-        print(f"spki-cert: {warning}", file=sys.stderr)
-    if warnings and not given.yes:
-        print("spki-cert: nothing was written; --yes makes the certificate as it is", file=sys.stderr)
+    if not is_confirmed(given, warnings_of_certificate(wish, signer.key, chain, [*map(request_of, given.tries)])):
         return UNCONFIRMED
     write(given.output, text_of(signed_sequence(certificate_of(wish, signer.key), signer, chain)))
     return DONE
 
 
-def wish_of(given: argparse.Namespace, tag: Node | None) -> Wish:
-    """What the certificate is to say."""
-    ends = None
-    if given.days is not None:
-        ends = in_days(given.days)
-    elif given.until:
-        ends = moment_of(given.until, DAY_ENDS)
-    is_right = given.command == "sign"
-    return Wish(subject_of(given), None if is_right else os.fsencode(given.name), tag, given.tag if is_right else "",
-                moment_of(given.begins) if given.begins else None, ends, is_right and given.propagate, given.comment)
+def entry(given: argparse.Namespace) -> int:
+    """Writes an entry, or puts it at the end of an access list."""
+    wish = wish_of(given)
+    is_there = given.acl is not None and os.path.exists(given.acl)
+    if is_there:
+        value_of(given.acl, "acl")
+    if not is_confirmed(given, warnings_of(wish, [*map(request_of, given.tries)])):
+        return UNCONFIRMED
+    made = entry_of(wish)
+    text = list_with(made, octets_of(given.acl) if is_there else b"(acl)")
+    write(given.acl or given.output, text if given.acl else text_of(made))
+    return DONE
+
+
+def is_confirmed(given: argparse.Namespace, warnings: Iterable[str]) -> bool:
+    """Whether something is to be made: nothing is probably a mistake in it, or it is confirmed."""
+    said = list(warnings)
+    print(*(f"spki-cert: {warning}\n" for warning in said), sep="", end="", file=sys.stderr)
+    if said and not given.yes:
+        print("spki-cert: nothing was written; --yes makes it as it is", file=sys.stderr)
+    return given.yes or not said
+
+
+def wish_of(given: argparse.Namespace) -> Wish:
+    """What the certificate or the entry is to say."""
+    tag = node_of(given.tag, "--tag", lambda node: read_tag(node, [0])) if given.tag else None
+    ends = now(given.days) if given.days is not None else moment_of(given.until, DAY_ENDS) if given.until else None
+    return Wish(subject_of(given), os.fsencode(given.name) if given.name is not None else None, tag, given.tag or "",
+                moment_of(given.begins) if given.begins else None, ends, given.propagate, given.comment)
 
 
 def subject_of(given: argparse.Namespace) -> Value:
@@ -125,7 +138,7 @@ def labels_of(given: argparse.Namespace, *paths: str) -> Labels:
 
 def moment_given(given: argparse.Namespace) -> bytes:
     """The moment that is given, or now."""
-    return moment_of(given.at) if given.at else now().strftime(DATE_FORMAT).encode()
+    return moment_of(given.at) if given.at else now()
 
 
 def shown_value(path: str) -> Value:
@@ -204,7 +217,7 @@ def begins_as_sequence(path: str) -> bool:
 
 def check(given: argparse.Namespace) -> int:
     from .checking import files_below, remarks_on
-    moment, remarks, read, left_out = now().strftime(DATE_FORMAT).encode(), [], 0, 0
+    moment, remarks, read, left_out = now(), [], 0, 0
     for path in files_below(given.paths):
         said = remarks_on(path, moment)
         read, left_out = read + (said is not None), left_out + (said is None)
@@ -224,7 +237,7 @@ def write_completion(given: argparse.Namespace) -> int:
     return DONE
 
 
-COMMANDS: dict[str, Command] = {"key": key, NEW_KEY: new_key, "sign": sign, "name": sign, "show": show, "ask": ask, "check": check,
+COMMANDS: dict[str, Command] = {"key": key, NEW_KEY: new_key, "sign": sign, "name": sign, "entry": entry, "show": show, "ask": ask, "check": check,
                                 "completion": write_completion}
 
 

@@ -11,7 +11,7 @@ from datetime import datetime, timedelta, timezone
 from .agent import AgentSigner
 from .certificates import DATE_FORMAT
 from .forms import MOST_OCTETS, Node, Wrong
-from .keys import BadKey, FileSigner, Signer, is_key_file, is_private, read_private, read_public
+from .keys import BadKey, FileSigner, Signer, is_private, read_private, read_public
 from .places import fault_of, name_pasted_key, place_shown, places_of, read_text, told, value_in
 from .sexp import Value
 from .structures import Reader
@@ -99,12 +99,12 @@ def is_text(word: str) -> bool:
     return word.lstrip().startswith(("(", "{"))
 
 
-def is_key(path: str) -> bool:
-    return is_key_file(octets_of(path))
-
-
-def now() -> datetime:
-    return datetime.now(timezone.utc)
+def now(days: int = 0) -> bytes:
+    """The moment that is so many days from now."""
+    try:
+        return (datetime.now(timezone.utc) + timedelta(days)).strftime(DATE_FORMAT).encode()
+    except OverflowError:
+        raise Refused(f"{days} days from now is after the year 9999") from None
 
 
 def moment_of(text: str, day: str = "_00:00:00") -> bytes:
@@ -117,14 +117,6 @@ def moment_of(text: str, day: str = "_00:00:00") -> bytes:
     if len(whole) != len("YYYY-MM-DD_HH:MM:SS"):
         raise Refused(f"{text}: write each number with all its digits, as 2026-03-01_09:00:00")
     return whole.encode()
-
-
-def in_days(days: int) -> bytes:
-    """The moment that is so many days from now."""
-    try:
-        return (now() + timedelta(days=days)).strftime(DATE_FORMAT).encode()
-    except OverflowError:
-        raise Refused(f"{days} days from now is after the year 9999") from None
 
 
 def write(path: str | None, octets: bytes, mode: int = 0o644, replaces: bool = True) -> None:

@@ -63,11 +63,13 @@ class Wrong(Exception):
         """The place that is shown first, if it is not the one where the fault is found."""
 
 
-def hint_for(octet: bytes) -> str:
-    """What was perhaps meant by an octet that begins no value."""
+def said_of(octet: bytes) -> str | None:
+    """What is said of an octet that begins no value, and was probably meant to."""
     if octet == b";":
-        return "; there are no comments, only the field `(comment ..)`"
-    return "; put quotes around a string with it" if octet in b"?!,$%&@~'<>" else ""
+        return "`;` begins no comment: there are no comments, only the field `(comment \"..\")`"
+    if octet in b"?!,$%&@~'<>\\^`":
+        return f"a string with `{octet.decode()}` needs quotes"
+    return None
 
 
 def spaces_end(text: bytes, at: int) -> int:
@@ -127,7 +129,7 @@ class Parser:
         if self.text[behind:behind + 1] == b")":
             return Wrong("Trailing", behind, "this `)` closes no list: it is one too many, or a `(` is missing before it", [begins])
         if not self.begins_line(behind) or column(self.text, behind) <= column(self.text, node.begin):
-            return Wrong("Trailing", behind, "the value ends before this octet; a text is one value", [begins])
+            return Wrong("Trailing", behind, "a second value begins here; a text is one value", [begins])
         wrong = Wrong("Trailing", behind, "this `)` ends the value, and by its indentation the next line belongs to it; is it one too many?",
                       [(behind, "this follows the value"), begins])
         wrong.shown_at = node.end - 1
@@ -162,7 +164,7 @@ class Parser:
                     places)
 
     def cut_off(self, begun: int, places: list[Place]) -> Wrong:
-        """The fault of a string that the end of the text cuts off. If a mark begins it, another one was hardly meant to be left out."""
+        """The fault of a string that the end of the text cuts off. If a mark begins it, the one that ends it was probably left out."""
         wrong = Wrong("Short", len(self.text), "the text ends before the value is whole", [(begun, "this string is not whole"), *places])
         if self.text[begun:begun + 1] in BODIES:
             wrong.why, wrong.shown_at = "this string is not whole: its last mark is missing", begun
@@ -207,7 +209,8 @@ class Parser:
             return self.marked(at, at, None)
         length = LENGTH.match(self.text, at)
         if not length:
-            raise Wrong("Bad", at, f"no {'canonical ' if self.is_canonical else ''}text has this octet where {wanted} is expected{hint_for(octet)}")
+            said, of_form = said_of(octet), "canonical " if self.is_canonical else ""
+            raise Wrong("Bad", at, f"{said}; here {wanted} is expected" if said else f"no {of_form}text has this octet where {wanted} is expected")
         return self.of_length(at, length.end(), length[0])
 
     def of_length(self, begin: int, at: int, digits: bytes) -> tuple[bytes, int]:
@@ -222,14 +225,13 @@ class Parser:
             return self.text[at + 1:at + 1 + length], at + 1 + length
         if octet in BODIES and not self.is_canonical:
             return self.marked(begin, at, length)
-        why = "a length is followed by `:`, `\"`, `#` or `|`; put quotes around a string that begins with a digit"
-        if self.is_canonical:
-            why = "a length is followed by a colon"
-        if digits == b"0" and octet.isdigit():
-            why = "a length has no leading zero"
-        if DIGITS.match(self.text, begin):
-            why = "this is the length of a string; hexadecimal digits are written between two `#`"
-        raise Wrong("Bad", at, why, [(begin, "the length begins here")])
+        if self.is_canonical or digits == b"0" and octet.isdigit() and not DIGITS.match(self.text, begin):
+            why = "a length is followed by a colon" if self.is_canonical else "a length has no leading zero"
+            raise Wrong("Bad", at, why, [(begin, "the length begins here")])
+        why = "put hexadecimal digits between two `#`" if DIGITS.match(self.text, begin) else "put quotes around a string that begins with a digit"
+        wrong = Wrong("Bad", at, f"{why}; otherwise the digits are the length of a string", [(at, "no length is followed by this")])
+        wrong.shown_at = begin
+        raise wrong
 
     def marked(self, begin: int, at: int, length: int | None) -> tuple[bytes, int]:
         """The string between two marks, of which the first is at an offset."""

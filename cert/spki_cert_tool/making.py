@@ -1,22 +1,21 @@
-"""Makes keys and certificates: what is asked for, what is hardly meant, and the signed sequence."""
+"""Makes certificates and entries: what is asked for, what is probably a mistake, and the signed sequence."""
 from __future__ import annotations
 
 from collections.abc import Iterable, Iterator
 from dataclasses import dataclass
 
-from .certificates import Keys, Signed, Terms, certificates_in, headed, keys_in, members, terms_of_certificate
+from .certificates import Keys, Signed, Terms, certificates_in, headed, keys_in, members, remarks_on_window
 from .files import Refused, now
-from .certificates import DATE_FORMAT
 from .forms import Node
 from .keys import Signer, hash_of, is_named_by_itself, principal_of, verifies
-from .places import fault_of, place_shown, told
+from .places import fault_of, place_shown, told, value_in
 from .sexp import Value, canonical, laid_out, on_one_line
 from .tag_words import is_everything, lacks, remarks
 
 
 @dataclass(frozen=True)
 class Wish:
-    """What a certificate is to say."""
+    """What a certificate, or an entry of an access list, is to say."""
 
     subject: Value
     """A principal, or a name, which may be one of the issuer."""
@@ -33,15 +32,35 @@ class Wish:
 def certificate_of(wish: Wish, key: Value) -> Value:
     """The certificate of a wish by the holder of a key."""
     issuer = principal_of(key)
-    fields: list[Value] = [[b"issuer", [b"name", issuer, wish.name] if wish.name is not None else issuer], [b"subject", wish.subject]]
+    return [b"cert", [b"issuer", [b"name", issuer, wish.name] if wish.name is not None else issuer], [b"subject", wish.subject], *fields_of(wish)]
+
+
+def entry_of(wish: Wish) -> Value:
+    """The entry of an access list for a wish."""
+    return [b"entry", wish.subject, *fields_of(wish)]
+
+
+def fields_of(wish: Wish) -> Iterator[Value]:
+    """The fields that certificates and entries have alike."""
     if wish.delegates:
-        fields.append([b"propagate"])
+        yield [b"propagate"]
     if wish.tag is not None:
-        fields.append([b"tag", wish.tag.value])
-    fields += [[head, moment] for head, moment in ((b"not-before", wish.begins), (b"not-after", wish.ends)) if moment is not None]
+        yield [b"tag", wish.tag.value]
+    for head, moment in ((b"not-before", wish.begins), (b"not-after", wish.ends)):
+        if moment is not None:
+            yield [head, moment]
     if wish.comment:
-        fields.append([b"comment", wish.comment.encode()])
-    return [b"cert", *fields]
+        yield [b"comment", wish.comment.encode()]
+
+
+def list_with(entry: Value, before: bytes) -> bytes:
+    """The text of an access list with an entry at its end. What is before the entry stays as it is, unless it is in braces."""
+    node = value_in(before)
+    text = text_of([b"acl", *members(node.value), entry])
+    if not before.lstrip().startswith(b"{"):
+        text = before[:node.end - 1].rstrip() + b"\n " + laid_out(entry, 1).encode() + b")\n"
+    needs_no_refusal("acl", text)
+    return text
 
 
 def signed_sequence(certificate: Value, signer: Signer, chain: Value | None) -> Value:
@@ -53,33 +72,41 @@ def signed_sequence(certificate: Value, signer: Signer, chain: Value | None) -> 
     before = members(chain) if chain is not None else []
     key = [] if is_named_by_itself(signer.key) or signer.key in before else [signer.key]
     sequence: Value = [b"sequence", *before, *key, certificate, [b"signature", hash_of(certificate), principal_of(signer.key), value]]
-    text = canonical(sequence)
-    found = fault_of(text, "refused sequence")
-    if found[0] is not None:
-        raise Refused("a service would refuse this:", *told("the sequence", found))
+    needs_no_refusal("sequence", canonical(sequence))
     return sequence
 
 
-# ---- what is hardly meant
+def needs_no_refusal(what: str, text: bytes) -> None:
+    """Refuses a text here that a service would refuse."""
+    found = fault_of(text, f"refused {what}")
+    if found[0] is not None:
+        raise Refused("a service would refuse this:", *told(f"the {what}", found))
 
 
-def warnings_of(wish: Wish, key: Value, chain: Value | None, tries: list[Value]) -> Iterator[str]:
-    """What is hardly meant with a certificate, so that it is made only if that is confirmed."""
-    moment = now().strftime(DATE_FORMAT).encode()
+# ---- what is probably a mistake
+
+
+def warnings_of_certificate(wish: Wish, key: Value, chain: Value | None, tries: list[Value]) -> Iterator[str]:
+    """What is probably a mistake in a certificate. It is made only if that is confirmed."""
     if wish.ends is None:
         yield "it has no end, and a certificate cannot be revoked: give --days or --until"
-    elif wish.ends < moment:
-        yield f"it has ended: {wish.ends.decode()}"
-    if wish.begins is not None and wish.ends is not None and wish.ends < wish.begins:
-        yield "it ends before it begins, so it is never valid"
-    if wish.tag is not None:
-        yield from of_tag(wish.tag, wish.tag_text, tries)
+    yield from warnings_of(wish, tries)
     if chain is not None:
         yield from of_chain(wish, key, certificates_in(chain), Keys([key, *keys_in(chain)]), tries)
 
 
+def warnings_of(wish: Wish, tries: list[Value]) -> Iterator[str]:
+    """The same of what certificates and entries have alike. An entry needs no end, since it can be removed from its list."""
+    yield from (why for _, why in remarks_on_window(wish.begins, wish.ends, now()))
+    principal = members(wish.subject)[0] if headed(wish.subject, b"name") else wish.subject
+    if headed(principal, b"hash") and members(principal)[0] == b"sha1":
+        yield "its subject is a hash by sha1, which names no key under the strict policy"
+    if wish.tag is not None:
+        yield from of_tag(wish.tag, wish.tag_text, tries)
+
+
 def of_tag(tag: Node, text: str, tries: list[Value]) -> Iterator[str]:
-    """What is hardly meant with a tag."""
+    """What is probably a mistake in a tag."""
     if is_everything(tag.value):
         yield "its tag is `(*)`, which contains every request"
     for at, why in remarks(tag):
@@ -125,10 +152,6 @@ def subject_of_chain(chain: Iterable[Terms]) -> tuple[Value, list[Value], bool]:
 def text_of(value: Value) -> bytes:
     """A text of a value for people to read."""
     return laid_out(value).encode() + b"\n"
-
-
-def summary(certificate: Value) -> Terms:
-    return terms_of_certificate(certificate)
 
 
 def relative_name(names: list[str]) -> Value:

@@ -42,7 +42,8 @@ class Members:
 
     def end(self) -> None:
         if self.left:
-            raise shape(self.left[0], "this is a member too many", [(self.node.begin, "in the list that begins here")])
+            head = (self.node.head or b"").decode(errors="replace")
+            raise shape(self.left[0], f"this is one member too many in `({head} ..)`", [(self.node.begin, "which begins here")])
 
 
 def read_key(node: Node) -> None:
@@ -59,7 +60,8 @@ def read_algorithm(node: Node) -> bytes:
     if node.members is not None:
         raise shape(node, "the algorithm of a hash is a string")
     if node.hint is not None or node.body not in DIGESTS:
-        raise Wrong("HashAlg", node.begin, "the algorithm is one of sha1, sha256, sha512, without a display hint" + meant(node.body, DIGESTS))
+        without = ", without a display hint" if node.hint is not None else ""
+        raise Wrong("HashAlg", node.begin, f"the algorithm is sha1, sha256 or sha512{without}{meant(node.body, DIGESTS)}")
     return node.body or b""
 
 
@@ -156,11 +158,12 @@ FIELDS: dict[bytes, Reader] = {
     b"valid": lambda node: read_fields(node, node.members[1:] if node.members else [], LIMITS)}
 
 
-def no_field(head: bytes | None, allowed: Iterable[bytes]) -> str:
-    """The remark on a head that no field has here."""
-    if head is None:
-        return "a field is a list headed by a word"
-    return f"`{shown(head)}` is no field here{meant(head, allowed)}"
+def no_field(node: Node, allowed: tuple[bytes, ...]) -> str:
+    """The remark on a value that is no field here."""
+    if node.head is not None:
+        return f"`{shown(node.head)}` is no field here{meant(node.head, allowed)}"
+    word = shown(node.body or b"") if node.body in allowed else "tag"
+    return f"a field is in parentheses and begins with a word, as `({word} ..)`"
 
 
 def read_fields(owner: Node, nodes: list[Node], allowed: tuple[bytes, ...]) -> Said:
@@ -169,11 +172,11 @@ def read_fields(owner: Node, nodes: list[Node], allowed: tuple[bytes, ...]) -> S
     for node in nodes:
         head = node.head
         if head == b"online":
-            raise Wrong("Online", node.begin, "an online test is not supported")
+            raise Wrong("Online", node.begin, "an online test is not supported; give a short validity by `(not-after ..)`")
         if head is None or head not in allowed:
-            raise shape(node, no_field(head, allowed))
+            raise shape(node, no_field(node, allowed))
         if head in said:
-            raise shape(node, f"the field `{head.decode()}` a second time",
+            raise shape(node, f"the field `{head.decode()}` is here a second time",
                         [(said[head][0].begin, "the first one"), (owner.begin, "in the list that begins here")])
         said[head] = node, FIELDS.get(head, lambda _: None)(node)
     return said
@@ -195,7 +198,7 @@ def read_entry(node: Node) -> None:
     members = Members(node, b"entry", "an entry")
     subject = members.next("the subject")
     if not read_subject(subject):
-        raise Wrong("RelativeInEntry", subject.begin, "a name in an entry has a principal: `(name PRINCIPAL n ..)`")
+        raise Wrong("RelativeInEntry", subject.begin, "a name in an entry needs the key that defines it: `(name KEY n ..)`")
     said = read_fields(node, members.left, ENTRY_FIELDS)
     needed(node, said, b"tag")
     one_validity(said)
@@ -207,7 +210,7 @@ def read_certificate(node: Node) -> None:
     if said[b"issuer"][1]:
         for head in (b"tag", b"propagate"):
             if head in said:
-                raise shape(said[head][0], f"a certificate that defines a name has no `{head.decode()}`",
+                raise shape(said[head][0], f"a certificate that defines a name gives no right, and has no `{head.decode()}`",
                             [(said[b"issuer"][0].begin, "its issuer is a name")])
     else:
         needed(node, said, b"tag")

@@ -1,4 +1,4 @@
-"""Why a tag does not contain a request, and what a tag says that its author has hardly meant."""
+"""Why a tag does not contain a request, and what in a tag is probably a mistake."""
 from __future__ import annotations
 
 import re
@@ -59,11 +59,11 @@ def holds(word: bytes, request: bytes, limit: bytes) -> bool:
     return {b"g": request > limit, b"ge": request >= limit, b"l": request < limit, b"le": request <= limit}[word]
 
 
-# ---- what is hardly meant
+# ---- what is probably a mistake
 
 
 def remarks(node: Node, is_outermost: bool = True) -> Iterator[Place]:
-    """What a tag says that its author has hardly meant, each with its place. The tag is one that can be read."""
+    """What in a tag is probably a mistake, each with its place. The tag is one that can be read."""
     if node.members is None:
         yield from of_string(node)
         return
@@ -76,7 +76,7 @@ def remarks(node: Node, is_outermost: bool = True) -> Iterator[Place]:
         yield node.begin, f"`({head.decode()} ..)` is a list that begins with this word; with a star it is `(* {head.decode()} ..)`"
     elif None not in words and len(words) > 1 and (not is_outermost or ACTIONS.issuperset(word or b"" for word in words)):
         text = on_one_line(node.value)
-        yield node.begin, f"`{text}` contains only lists that begin so; what contains each of its members is `(* set {text[1:]}`"
+        yield node.begin, f"`{text}` contains only lists that begin so; what contains each of these words is `(* set {text[1:]}`"
     for member in rest:
         yield from remarks(member, False)
 
@@ -88,8 +88,9 @@ def of_string(node: Node) -> Iterator[Place]:
     if b"*" in body or body.endswith(b"?"):
         begin = on_one_line(front[0]) if front else ""
         yield node.begin, f"a string is no pattern: `{on_one_line(body)}` contains only itself; what begins so is `(* prefix {begin})`"
-    elif re.search(rb"[\s()]", body):
-        yield node.begin, f"`{on_one_line(body)}` is one string, with its spaces and parentheses"
+    elif found := re.search(rb"[\s()]", body):
+        what = "parentheses" if found[0] in b"()" else "a space"
+        yield node.begin, f"this is one string with {what} in it; without its quotes it is several values"
     elif body == b"":
         yield node.begin, "this string is empty, and contains only the empty string"
 
