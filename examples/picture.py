@@ -14,11 +14,11 @@ import sys
 
 sys.path.append(os.path.join(os.path.dirname(os.path.abspath(__file__)), "..", "tests"))
 from support import given_program, read, run  # noqa: E402
-from spki_cert_tool.drawing import WIDTH, picture  # noqa: E402
+from spki_cert_tool.drawing import WIDTH, dot_of, drawing_of_case  # noqa: E402
 
 
 def drawn(program, path, width=WIDTH):
-    """The lines of the picture of a case, or None if it is refused, whose line is printed then."""
+    """The picture of a case, or None if it is refused, whose line is printed then."""
     with open(path, "rb") as file:
         text = file.read()
     status, lines = run(program, "explain", text)
@@ -31,15 +31,17 @@ def drawn(program, path, width=WIDTH):
         return read(run(program, "canonical", line.split(b" ", 2)[2])[1])
 
     case = read(run(program, "canonical", text)[1])
-    return list(picture(case, lines.decode().splitlines(), reduced, width=width))
+    return drawing_of_case(case, lines.decode().splitlines(), reduced, width=width)
 
 
 def main():
     if len(sys.argv) < 2 or sys.argv[1].startswith("-"):
         sys.exit(__doc__)
-    lines = drawn(given_program(2), sys.argv[1])
-    print(*lines or [], sep="\n", end="\n" if lines else "")
-    return 0 if lines else 2
+    drawing = drawn(given_program(2), sys.argv[1])
+    if drawing is None:
+        return 2
+    print(*dot_of(drawing), sep="\n")
+    return 0
 
 
 if __name__ == "__main__":

@@ -37,23 +37,14 @@ def asked(kind: int, body: bytes, wanted: int) -> bytes:
             agent.settimeout(SECONDS)
             agent.connect(path)
             agent.sendall(string(bytes([kind]) + body))
-            answer, _ = taken(whole_answer(agent))
+            with agent.makefile("rb") as file:
+                length = file.read(4)
+                answer, _ = taken(length + file.read(min(int.from_bytes(length, "big"), MOST_OCTETS)))
     except OSError as why:
         raise BadKey(f"ssh-agent at {path} does not answer: {why}") from None
     if answer[:1] != bytes([wanted]):
         raise BadKey("ssh-agent refuses to sign by this key")
     return answer[1:]
-
-
-def whole_answer(agent: socket.socket) -> bytes:
-    """One message with its length."""
-    octets = b""
-    while len(octets) < 4 or len(octets) < 4 + min(int.from_bytes(octets[:4], "big"), MOST_OCTETS):
-        more = agent.recv(65536)
-        if not more:
-            break
-        octets += more
-    return octets
 
 
 def keys_held() -> list[bytes]:

@@ -16,7 +16,7 @@ from .files import Refused
 from .keys import verify
 from .labels import Labels
 from .sexp import Value, canonical, on_one_line, read
-from .showing import FAULTS, window_of
+from .showing import FAULTS
 from .tag_words import lacks
 
 if TYPE_CHECKING:
@@ -177,9 +177,9 @@ class Words:
         """What an entry or a certificate says, in one line."""
         subject = self.labels.of_subject(terms.subject)
         if terms.name is not None:
-            return f"{self.labels.of(terms.issuer)} calls {subject} {on_one_line(terms.name)}, {window_of(terms)}"
+            return f"{self.labels.of(terms.issuer)} calls {subject} {on_one_line(terms.name)}, {terms.window}"
         delegates = ", and may delegate it" if terms.delegates else ""
-        return f"{self.labels.of(terms.issuer)} lets {subject} {on_one_line(terms.tag or b'')}{delegates}, {window_of(terms)}"
+        return f"{self.labels.of(terms.issuer)} lets {subject} {on_one_line(terms.tag or b'')}{delegates}, {terms.window}"
 
     def end(self, chosen: Reason) -> Iterator[str]:
         """What the last word of the library means here."""
@@ -236,15 +236,11 @@ class Words:
             "NotIssuer": f"{issuer} issues it, and the right is with {holder} there",
             "NotTheName": f"it defines {on_one_line(item.terms.name or b'')} of {issuer}, and the right is with {holder} there",
             "NoDelegation": f"{issuer} may not delegate the right: what comes before it has no (propagate)",
-            "NoValidity": f"it is valid {window_of(item.terms)}, and no moment of that is in the windows before it"}[chosen.word]
+            "NoValidity": f"it is valid {item.terms.window}, and no moment of that is in the windows before it"}[chosen.word]
 
     def tags(self, chosen: Reason, item: Signed) -> str:
         tags = [terms.tag for _, terms in self.before(chosen)] + [item.terms.tag]
         return " and ".join(on_one_line(tag) for tag in tags if tag is not None)
-
-
-def is_case(value: Value) -> bool:
-    return headed(value, b"case")
 
 
 def asked_of_case(case: Value, labels: Labels) -> Asked:

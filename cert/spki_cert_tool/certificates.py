@@ -64,6 +64,12 @@ class Terms:
         """The names of the subject, which certificates must define."""
         return members(self.subject)[1:] if headed(self.subject, b"name") else []
 
+    @property
+    def window(self) -> str:
+        """From when until when it is valid, in words."""
+        begins = f"from {self.begins.decode()} " if self.begins else ""
+        return begins + (f"until {self.ends.decode()}" if self.ends else "without end")
+
     def contains_moment(self, moment: bytes) -> bool:
         """Whether a moment is in the window."""
         return (self.begins is None or self.begins <= moment) and (self.ends is None or moment <= self.ends)

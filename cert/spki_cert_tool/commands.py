@@ -8,11 +8,11 @@ import sys
 from collections.abc import Callable, Iterable
 
 from .arguments import NEW_KEY, completion, parser_of_commands
-from .files import DAY_ENDS, Refused, is_text, key_at, moment_of, node_of, now, octets_of, passphrase_for, signer_at, value_of, write
+from .files import DAY_ENDS, Refused, key_at, moment_of, node_of, now, octets_of, passphrase_for, signer_at, value_of, write
 from .forms import Wrong
 from .keys import BadKey, hash_of, kind_of, new_private, openssh_line, openssh_of, principal_of
 from .labels import Labels
-from .making import (Wish, certificate_of, entry_of, list_with, named, relative_name, signed_sequence, text_of, warnings_of,
+from .making import (Wish, certificate_of, entry_of, list_with, named, signed_sequence, text_of, warnings_of,
                      warnings_of_certificate)
 from .places import BY_HEAD, read_text, told, value_in
 from .sexp import Value, on_one_line
@@ -109,10 +109,9 @@ def subject_of(given: argparse.Namespace) -> Value:
     if given.to is None:
         if not given.named:
             raise Refused("a certificate needs --to, or --named for a name of the issuer")
-        return relative_name(given.named)
-    if is_text(given.to):
-        return named(node_of(given.to, "--to", read_subject).value, given.named)
-    return named(principal_of(key_at(given.to)), given.named)
+        return named(None, given.named)
+    is_itself = given.to.lstrip().startswith(("(", "{"))
+    return named(node_of(given.to, "--to", read_subject).value if is_itself else principal_of(key_at(given.to)), given.named)
 
 
 def request_of(words: list[str]) -> Value:
@@ -162,10 +161,11 @@ def show(given: argparse.Namespace) -> int:
         from .drawing import svg_of
         write(given.svg, svg_of(values[0][1], labels))
     if given.json:
-        print(json.dumps([{"file": path, "shows": rows_of(value, moment, labels)} for path, value in values], indent=1))
+        print(json.dumps([{"file": path, "shows": [*rows_of(value, moment, labels)]} for path, value in values], indent=1))
         return DONE
     for path, value in values:
-        print(f"{path}: {what_is(value)}", *(f"  {line}" for line in lines_of(value, moment, labels)), sep="\n")
+        lines = (line for row in rows_of(value, moment, labels) for line in lines_of(row))
+        print(f"{path}: {what_is(value)}", *(f"  {line}" for line in lines), sep="\n")
     return DONE
 
 

@@ -9,10 +9,12 @@ import re
 import sys
 import textwrap
 from collections.abc import Callable, Iterable, Iterator
+from dataclasses import dataclass
 from html import escape
 from typing import TYPE_CHECKING
 
-from .certificates import Keys, field, headed, keys_in, members
+from .certificates import Keys, entries_of, field, headed, keys_in, members, terms_of_certificate
+from .forms import Parser
 from .labels import Labels
 from .sexp import Value, canonical, on_one_line
 
@@ -30,14 +32,9 @@ MEANINGS = {
     "TagLacks": "the request is not in the tag", "WindowLacks": "the moment is not in the validity"}
 
 
-def in_lines(text: str, width: int) -> list[str]:
-    """A text in lines of at most this width."""
-    return textwrap.wrap(text, width, break_on_hyphens=False) or [""]
-
-
 def quoted(lines: Iterable[str]) -> str:
     """Lines as a string of dot."""
-    return '"' + "\\n".join(line.replace("\\", "\\\\").replace('"', '\\"') for line in lines if line) + '"'
+    return '"' + "\\n".join(line.replace("\\", "\\\\").replace('"', '\\"') for line in lines) + '"'
 
 
 def chosen(lines: list[str]) -> tuple[int, int | None, str]:
@@ -48,118 +45,117 @@ def chosen(lines: list[str]) -> tuple[int, int | None, str]:
     return granted[0] if granted else max(found, key=lambda each: (each[1] or sys.maxsize, -each[0]))
 
 
+@dataclass(frozen=True)
+class Shape:
+    """A subject, or a box with a colour."""
+
+    lines: list[str]
+    colour: str = ""
+
+
+@dataclass(frozen=True)
+class Arrow:
+    """An arrow between two shapes, by their names, with lines of text beside it."""
+
+    begin: bytes
+    end: bytes
+    lines: list[str]
+    colour: str
+
+
 class Drawing:
-    """The subjects and arrows that are drawn. A hash of a key that is shown is that key."""
+    """The shapes and arrows that are drawn. A hash of a key that is known is that key."""
 
-    def __init__(self, keys: Keys, labels: Labels | None, width: int) -> None:
-        self.keys, self.names, self.width = keys, labels, width
-        self.labels: dict[bytes, str] = {}
-        self.arrows: list[str] = []
+    def __init__(self, keys: Iterable[Value], labels: Labels | None, width: int) -> None:
+        known = labels.keys.by_hash.values() if labels is not None else ()
+        self.keys, self.labels, self.width = Keys([*keys, *known]), labels, width
+        self.shapes: dict[bytes, Shape] = {}
+        self.arrows: list[Arrow] = []
 
-    def shown(self, value: Value) -> list[str]:
-        """A value in lines."""
-        return in_lines(on_one_line(value), self.width)
+    def in_lines(self, text: str) -> list[str]:
+        """A text in lines that are short enough."""
+        return textwrap.wrap(text, self.width, break_on_hyphens=False) or [""]
 
-    def of(self, value: Value) -> str:
-        """The node of a subject, by its name in the picture."""
+    def of(self, value: Value) -> bytes:
+        """The shape of a subject."""
         names = members(value)[1:] if headed(value, b"name") else []
         principal = members(value)[0] if names else value
-        known = self.keys.named(principal) or principal
-        identity = canonical([known, *names])
+        identity = canonical([self.keys.named(principal) or principal, *names])
         label = [f"{' '.join(on_one_line(name) for name in names)} of"] if names else []
-        label += [self.names.of(principal)] if self.names is not None else self.shown(principal)
-        self.labels.setdefault(identity, quoted(label))
-        return f"n{list(self.labels).index(identity)}"
+        label += [self.labels.of(principal)] if self.labels is not None else self.in_lines(on_one_line(principal))
+        self.shapes.setdefault(identity, Shape(label))
+        return identity
 
-    def nodes(self) -> list[str]:
-        return [f"  n{place} [label={label}];" for place, label in enumerate(self.labels.values())]
+    def box(self, name: bytes, colour: str, *lines: str) -> bytes:
+        self.shapes[name] = Shape(list(lines), colour)
+        return name
+
+    def arrow(self, begin: bytes, end: bytes, colour: str, *lines: str) -> None:
+        self.arrows.append(Arrow(begin, end, [line for line in lines if line], colour))
 
     def terms(self, value: Value) -> list[str]:
         """What a certificate or an entry gives: its tag, its validity, and whether it may be passed on."""
         parts = [field(value, head) for head in (b"tag", b"valid", b"not-before", b"not-after", b"propagate")]
-        return [line for part in parts if part for line in self.shown(part)]
+        return [line for part in parts if part for line in self.in_lines(on_one_line(part))]
 
-    def arrow(self, begin: str, end: str, colour: str, *lines: str) -> str:
-        return f"  {begin} -> {end} [label={quoted(lines)}, color={colour}, fontcolor={colour}];"
+    def entries(self, access_list: Value, only: int | None = None) -> None:
+        """The access list, with an arrow for each of its entries or for one of them."""
+        begin = self.box(b"list", "blue", "access list")
+        for number, entry in enumerate(entries_of(access_list), 1):
+            if only in (None, number):
+                self.arrow(begin, self.of(entry.subject), BLACK, f"entry {number}", *self.terms(entry.value))
 
-    def links(self, sequence: Value, stops: int | None, cause: str) -> Iterator[str]:
+    def links(self, sequence: Value, stops: int | None = None, cause: str = "") -> None:
         """An arrow for each certificate up to the one that stops the chain, which is red."""
         for number, item in enumerate(members(sequence), 1):
-            if not headed(item, b"cert") or (stops and number > stops):
-                continue
-            begin, end = (members(field(item, head) or b"")[0] for head in (b"issuer", b"subject"))
-            if headed(end, b"name") and not headed(members(end)[0], b"public-key", b"hash"):
-                end = [b"name", begin, *members(end)]
-            said = [f"item {number}", *self.terms(item)] if number != stops else [f"item {number} {cause}:", MEANINGS[cause], *self.terms(item)]
-            yield self.arrow(self.of(begin), self.of(end), RED if number == stops else BLACK, *said)
+            if headed(item, b"cert") and number <= (stops or number):
+                terms = terms_of_certificate(item)
+                said = [f"item {number} {cause}:", MEANINGS[cause]] if number == stops else [f"item {number}"]
+                begin = [b"name", terms.issuer or b"", terms.name] if terms.name is not None else terms.issuer or b""
+                self.arrow(self.of(begin), self.of(terms.subject), RED if number == stops else BLACK, *said, *self.terms(item))
 
-    def ends(self, case: Value, entry: int, word: str, left: Value) -> Iterator[str]:
+    def ends(self, case: Value, entry: int, word: str, left: Value) -> None:
         """The request, and the arrow to it from what is left of the entry."""
-        _, _, _, key, request, moment = members(case)[:6]
+        key, request, moment = members(case)[3:6]
         colour = GREEN if word == "grants" else RED
         said = [f"yes entry {entry}"] if word == "grants" else [f"{word}:", MEANINGS[word]]
-        yield f"  request [shape=box, color={colour}, label={quoted([*self.shown(request), *self.shown(moment)])}];"
-        left_tag = in_lines(f"left: {on_one_line(field(left, b'tag') or b'')}", self.width)
-        yield self.arrow(self.of(members(field(left, b"subject") or b"")[0]), "request", colour, *said, *left_tag)
+        end = self.box(b"request", colour, *self.in_lines(on_one_line(request)), *self.in_lines(on_one_line(moment)))
+        tag = self.in_lines(f"left: {on_one_line(field(left, b'tag') or b'')}")
+        self.arrow(self.of(members(field(left, b"subject") or b"")[0]), end, colour, *said, *tag)
         if word == "NotTheKey":
-            yield self.arrow(self.of(members(key)[0]), "request", BLACK, "asks")
+            self.arrow(self.of(members(key)[0]), end, BLACK, "asks")
 
 
-def picture(case: Value, explained: list[str], reduced: Callable[[int], Value], labels: Labels | None = None, width: int = WIDTH) -> Iterator[str]:
-    """The lines of the picture of a case, for Graphviz."""
+def drawing_of_case(case: Value, explained: list[str], reduced: Callable[[int], Value], labels: Labels | None = None, width: int = WIDTH) -> Drawing:
+    """The picture of a case, of which `explain` and `reduce` said this."""
     access_list, _, sequence, key = members(case)[:4]
-    drawing = Drawing(Keys([members(key)[0], *keys_in(sequence), *known_to(labels)]), labels, width)
-    yield from begun()
+    drawing = Drawing([members(key)[0], *keys_in(sequence)], labels, width)
     if explained[0].startswith("item "):
         _, stops, cause = explained[0].split()
-        yield from drawing.links(sequence, int(stops), cause)
+        drawing.links(sequence, int(stops), cause)
     elif explained[0] != "no entries":
         entry, stopped, word = chosen(explained)
-        entries = [member for member in members(access_list) if headed(member, b"entry")]
-        yield '  list [label="access list", shape=box, color=blue];'
-        yield drawing.arrow("list", drawing.of(members(entries[entry - 1])[0]), BLACK, f"entry {entry}", *drawing.terms(entries[entry - 1]))
-        yield from drawing.links(sequence, stopped, word)
+        drawing.entries(access_list, entry)
+        drawing.links(sequence, stopped, word)
         if not stopped:
-            yield from drawing.ends(case, entry, word, reduced(entry))
-    yield from drawing.nodes()
-    yield "}"
+            drawing.ends(case, entry, word, reduced(entry))
+    return drawing
 
 
-def known_to(labels: Labels | None) -> list[Value]:
-    """The keys that have labels."""
-    return list(labels.keys.by_hash.values()) if labels is not None else []
-
-
-def begun() -> list[str]:
-    return ["digraph chain {", "  rankdir=LR;", "  node [shape=ellipse, fontsize=11];", "  edge [fontsize=10];"]
-
-
-def picture_of_sequence(sequence: Value, labels: Labels) -> Iterator[str]:
-    """The lines of the picture of certificates, without a question."""
-    drawing = Drawing(Keys([*keys_in(sequence), *known_to(labels)]), labels, PICTURE_WIDTH)
-    yield from begun()
-    yield from drawing.links(sequence, None, "")
-    yield from drawing.nodes()
-    yield "}"
-
-
-def picture_of_list(access_list: Value, labels: Labels) -> Iterator[str]:
-    """The lines of the picture of an access list."""
-    drawing = Drawing(Keys(), labels, PICTURE_WIDTH)
-    yield from [*begun(), '  list [label="access list", shape=box, color=blue];']
-    entries = [member for member in members(access_list) if headed(member, b"entry")]
-    for number, entry in enumerate(entries, 1):
-        yield drawing.arrow("list", drawing.of(members(entry)[0]), BLACK, f"entry {number}", *drawing.terms(entry))
-    yield from drawing.nodes()
+def dot_of(drawing: Drawing) -> Iterator[str]:
+    """A picture for Graphviz."""
+    names = {identity: f"n{place}" for place, identity in enumerate(drawing.shapes)}
+    yield from ("digraph chain {", "  rankdir=LR;", "  node [shape=ellipse, fontsize=11];", "  edge [fontsize=10];")
+    for identity, shape in drawing.shapes.items():
+        yield f"  {names[identity]} [label={quoted(shape.lines)}{f', shape=box, color={shape.colour}' if shape.colour else ''}];"
+    for it in drawing.arrows:
+        yield f"  {names[it.begin]} -> {names[it.end]} [label={quoted(it.lines)}, color={it.colour}, fontcolor={it.colour}];"
     yield "}"
 
 
 # ---- SVG
 
 
-STRING = r'"((?:[^"\\]|\\.)*)"'
-NODE = re.compile(rf"  (\w+) \[(?:shape=box, color=(\w+), )?label={STRING}(?:, shape=box, color=(\w+))?\];")
-ARROW = re.compile(rf"  (\w+) -> (\w+) \[label={STRING}, color=(\w+),")
 KINDS = {"blue": "own", "darkgreen": "good", "red": "bad"}
 STYLE = """
   .page { fill: #ffffff; stroke: #d0d7de }
@@ -229,11 +225,6 @@ def page(width: float, height: float, title: str, *parts: Iterable[str], style: 
     yield "</svg>"
 
 
-def lines_of(string: str) -> list[str]:
-    """The lines of a string of Graphviz."""
-    return [re.sub(r"\\(.)", r"\1", line) for line in re.split(r"(?<!\\)\\n", string)]
-
-
 def coloured_arrow(x: float, y1: float, y2: float, beside: list[str], colour: str) -> Iterator[str]:
     """An arrow downwards with lines of text to the right of it."""
     yield f'<path class="line {colour}" marker-end="url(#end)" d="M{x:g} {y1:g} L{x:g} {y2:g}"/>'
@@ -241,23 +232,21 @@ def coloured_arrow(x: float, y1: float, y2: float, beside: list[str], colour: st
         yield from said(f"{x + 14:g}", y1 + 24 + 16 * place, line, f"small left {colour}")
 
 
-def svg_of_lines(text: list[str], title: str, width: float = 620) -> Iterator[str]:
-    """The picture of Graphviz as SVG: from top to bottom, each arrow with the boxes where it begins and ends. Where an arrow begins at the
-    box before, that box is not drawn again."""
-    nodes = {found[1]: (lines_of(found[3]), found[2] or found[4]) for found in map(NODE.fullmatch, text) if found}
-    arrows = [found.groups() for found in map(ARROW.match, text) if found]
+def svg_of_drawing(drawing: Drawing, title: str, width: float = 620) -> Iterator[str]:
+    """A picture as SVG: from top to bottom, each arrow with the boxes where it begins and ends. Where an arrow begins at the box before,
+    that box is not drawn again."""
     x, y, parts = 20, 20, list[str]()
-    last: str | None = None
-    for begin, end, label, colour in arrows:
-        for node, beside in ((begin, None), (end, lines_of(label))):
-            if node == last and beside is None:
-                continue
-            lines, kind = nodes[node]
-            ends = y + (24 + 16 * len(beside) if beside is not None else 20 if last else 0)
-            if beside is not None:
-                parts += list(coloured_arrow(x + 210, y, ends - 2, beside, colour))
-            parts += list(box(x, ends, 420, 22 + 18 * len(lines), lines, KINDS.get(kind or "", "box")))
-            y, last = ends + 22 + 18 * len(lines), node
+    last: bytes | None = None
+    for arrow, is_end in ((arrow, is_end) for arrow in drawing.arrows for is_end in (False, True)):
+        node = arrow.end if is_end else arrow.begin
+        if node == last and not is_end:
+            continue
+        shape = drawing.shapes[node]
+        top = y + (24 + 16 * len(arrow.lines) if is_end else 20 if last else 0)
+        if is_end:
+            parts += coloured_arrow(x + 210, y, top - 2, arrow.lines, arrow.colour)
+        parts += box(x, top, 420, 22 + 18 * len(shape.lines), shape.lines, KINDS.get(shape.colour, "box"))
+        y, last = top + 22 + 18 * len(shape.lines), node
     return page(width, y + 20, title, parts, style=STYLE + COLOURS)
 
 
@@ -267,21 +256,25 @@ def svg_of(value: Value, labels: Labels) -> bytes:
         from .asking import answered, asked_of_case
         asked = asked_of_case(value, labels)
         return svg_of_answer(asked, answered(asked))
+    drawing = Drawing(keys_in(value), labels, PICTURE_WIDTH)
     if headed(value, b"acl"):
-        text = picture_of_list(value, labels)
+        drawing.entries(value)
     else:
-        text = picture_of_sequence([b"sequence", value] if headed(value, b"cert") else value, labels)
-    return "\n".join(svg_of_lines(list(text), "Certificates", 840)).encode() + b"\n"
+        drawing.links([b"sequence", value] if headed(value, b"cert") else value)
+    return text_of_lines(svg_of_drawing(drawing, "Certificates", 840))
 
 
 def svg_of_answer(asked: Asked, answer: Answer) -> bytes:
     """The chain of an answer as SVG."""
     from .asking import case_of
-    from .forms import Parser
 
     def reduced(entry: int) -> Value:
         return Parser(answer.reduced[entry - 1].split(" ", 2)[2].encode()).whole().value
 
     explained = [" ".join([f"entry {it.entry}"] * bool(it.entry) + [f"item {it.item}"] * bool(it.item) + [it.word]) for it in answer.reasons]
-    text = picture(case_of(asked, answer.sequence), explained or ["no entries"], reduced, asked.labels, PICTURE_WIDTH)
-    return "\n".join(svg_of_lines(list(text), "The chain of a request", 840)).encode() + b"\n"
+    drawing = drawing_of_case(case_of(asked, answer.sequence), explained or ["no entries"], reduced, asked.labels, PICTURE_WIDTH)
+    return text_of_lines(svg_of_drawing(drawing, "The chain of a request", 840))
+
+
+def text_of_lines(lines: Iterable[str]) -> bytes:
+    return "\n".join(lines).encode() + b"\n"

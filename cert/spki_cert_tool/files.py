@@ -94,11 +94,6 @@ def signer_at(path: str) -> Signer:
         raise Refused(f"{path}: {why}") from None
 
 
-def is_text(word: str) -> bool:
-    """Whether a word of the command line is an S-expression itself and no path."""
-    return word.lstrip().startswith(("(", "{"))
-
-
 def now(days: int = 0) -> bytes:
     """The moment that is so many days from now."""
     try:

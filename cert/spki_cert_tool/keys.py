@@ -246,21 +246,17 @@ def read_private(octets: bytes, asking: Asking) -> Private:
     if octets.lstrip().startswith(b"("):
         return private_of_text(octets)
     try:
-        private = loaded(octets, asking() if is_encrypted(octets) else None)
+        try:
+            private = loaded(octets, None)
+        except (TypeError, ValueError) as why:
+            if isinstance(why, ValueError) and "password" not in str(why):
+                raise
+            private = loaded(octets, asking())
     except (ValueError, TypeError, UnsupportedAlgorithm) as why:
         needed = " (Debian: python3-bcrypt)" if "bcrypt" in str(why) else ""
         raise BadKey(f"no private key that can be read, or another passphrase: {why}{needed}") from None
     key_of(private.public_key())
     return private
-
-
-def is_encrypted(octets: bytes) -> bool:
-    """Whether a private key needs a passphrase."""
-    try:
-        loaded(octets, None)
-    except (TypeError, ValueError) as why:
-        return isinstance(why, TypeError) or "password" in str(why)
-    return False
 
 
 def loaded(octets: bytes, passphrase: bytes | None) -> Private:

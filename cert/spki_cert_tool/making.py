@@ -1,6 +1,7 @@
 """Makes certificates and entries: what is asked for, what is probably a mistake, and the signed sequence."""
 from __future__ import annotations
 
+import os
 from collections.abc import Iterable, Iterator
 from dataclasses import dataclass
 
@@ -154,13 +155,10 @@ def text_of(value: Value) -> bytes:
     return laid_out(value).encode() + b"\n"
 
 
-def relative_name(names: list[str]) -> Value:
-    """A name of the issuer."""
-    return [b"name", *(name.encode() for name in names)]
-
-
-def named(principal: Value, names: list[str]) -> Value:
-    """A name of another key, or the principal if there is no name."""
-    if headed(principal, b"name") and names:
+def named(principal: Value | None, names: list[str]) -> Value:
+    """A name of a key, or of the issuer if there is none, or the principal if there is no name."""
+    if headed(principal or b"", b"name") and names:
         raise Refused("--to is a name already, so --named is one too many")
-    return [b"name", principal, *(name.encode() for name in names)] if names else principal
+    if principal is not None and not names:
+        return principal
+    return [b"name", *([principal] if principal is not None else []), *map(os.fsencode, names)]

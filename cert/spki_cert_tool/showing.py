@@ -3,8 +3,7 @@ from __future__ import annotations
 
 from collections.abc import Iterator
 
-from .certificates import (Keys, Signed, Terms, certificates_in, entries_of, fault_of_signature, headed, keys_in, members,
-                           terms_of_certificate)
+from .certificates import Keys, Terms, certificates_in, entries_of, fault_of_signature, headed, keys_in, members, terms_of_certificate
 from .keys import hash_of, kind_of
 from .labels import Labels
 from .sexp import Value, on_one_line
@@ -14,12 +13,6 @@ FAULTS = {"KeyNotShown": "the key of its issuer is not here, so the signature is
 Row = dict[str, object]
 
 
-def window_of(terms: Terms) -> str:
-    """From when until when something is valid."""
-    begins = f"from {terms.begins.decode()} " if terms.begins else ""
-    return begins + (f"until {terms.ends.decode()}" if terms.ends else "without end")
-
-
 def state_of(terms: Terms, moment: bytes) -> str:
     """Whether something is valid at a moment."""
     if terms.contains_moment(moment):
@@ -27,85 +20,56 @@ def state_of(terms: Terms, moment: bytes) -> str:
     return "ENDED" if terms.ends is not None and terms.ends < moment else "NOT YET VALID"
 
 
-def row_of_terms(terms: Terms, moment: bytes, labels: Labels) -> Row:
+def row_of_terms(kind: str, number: int | None, terms: Terms, moment: bytes, labels: Labels) -> Row:
     """What an entry or a certificate says, as a row."""
-    return {"issuer": labels.of(terms.issuer), "name": terms.name.decode(errors="replace") if terms.name is not None else None,
+    return {"kind": kind, "number": number, "issuer": labels.of(terms.issuer),
+            "name": terms.name.decode(errors="replace") if terms.name is not None else None,
             "subject": labels.of_subject(terms.subject), "tag": on_one_line(terms.tag) if terms.tag is not None else None,
             "from": terms.begins.decode() if terms.begins else None, "until": terms.ends.decode() if terms.ends else None,
-            "delegates": terms.delegates, "comment": terms.comment or None, "state": state_of(terms, moment)}
+            "window": terms.window, "delegates": terms.delegates, "comment": terms.comment or None, "state": state_of(terms, moment)}
 
 
-def lines_of_terms(front: str, terms: Terms, moment: bytes, labels: Labels) -> Iterator[str]:
-    """The same in words."""
-    subject = labels.of_subject(terms.subject)
-    if terms.name is not None:
-        yield f"{front}  {labels.of(terms.issuer)} calls {subject} {on_one_line(terms.name)}, {window_of(terms)}: {state_of(terms, moment)}"
-    else:
-        delegates = "may delegate" if terms.delegates else "may not delegate"
-        yield f"{front}  {labels.of(terms.issuer)} -> {subject}, {delegates}, {window_of(terms)}: {state_of(terms, moment)}"
-        yield f"    may {on_one_line(terms.tag or b'')}"
-    if terms.comment:
-        yield f"    comment: {terms.comment!r}"
-
-
-def rows_of(value: Value, moment: bytes, labels: Labels) -> list[Row]:
+def rows_of(value: Value, moment: bytes, labels: Labels) -> Iterator[Row]:
     """The rows of a list, a certificate, a sequence or a case."""
     if headed(value, b"cert"):
-        return [{"kind": "certificate", **row_of_terms(terms_of_certificate(value), moment, labels)}]
-    if headed(value, b"acl"):
-        return [{"kind": "entry", "number": number, **row_of_terms(entry, moment, labels)} for number, entry in enumerate(entries_of(value), 1)]
-    if headed(value, b"sequence"):
-        return rows_of_sequence(value, moment, labels)
-    parts = members(value)
-    return [*rows_of(parts[0], moment, labels), *rows_of(parts[2], moment, labels),
-            {"kind": "question", "key": labels.of(members(parts[3])[0]), "request": on_one_line(members(parts[4])[0]),
-             "at": on_one_line(members(parts[5])[0])}]
-
-
-def rows_of_sequence(sequence: Value, moment: bytes, labels: Labels) -> list[Row]:
-    keys = Keys(keys_in(sequence))
-    rows: list[Row] = []
-    certificates = {each.number: each for each in certificates_in(sequence)}
-    for number, item in enumerate(members(sequence), 1):
-        if headed(item, b"public-key"):
-            rows.append({"kind": "key", "number": number, "label": labels.of(item), "algorithm": kind_of(item), "hash": on_one_line(hash_of(item))})
-        elif number in certificates:
-            each = certificates[number]
-            rows.append({"kind": "certificate", "number": number, **row_of_terms(each.terms, moment, labels),
-                         "fault": fault_of_signature(each, keys)})
-    return rows
-
-
-def lines_of(value: Value, moment: bytes, labels: Labels) -> Iterator[str]:
-    """A list, a certificate, a sequence or a case in words."""
-    if headed(value, b"cert"):
-        yield from lines_of_terms("certificate without a signature", terms_of_certificate(value), moment, labels)
+        yield row_of_terms("certificate", None, terms_of_certificate(value), moment, labels)
     elif headed(value, b"acl"):
-        for number, entry in enumerate(entries_of(value), 1):
-            yield from lines_of_terms(f"entry {number}", entry, moment, labels)
+        yield from (row_of_terms("entry", number, entry, moment, labels) for number, entry in enumerate(entries_of(value), 1))
     elif headed(value, b"sequence"):
-        yield from lines_of_sequence(value, moment, labels)
+        keys = Keys(keys_in(value))
+        certificates = {each.number: each for each in certificates_in(value)}
+        for number, item in enumerate(members(value), 1):
+            if headed(item, b"public-key"):
+                yield {"kind": "key", "number": number, "label": labels.of(item), "algorithm": kind_of(item), "hash": on_one_line(hash_of(item))}
+            elif each := certificates.get(number):
+                yield {**row_of_terms("certificate", number, each.terms, moment, labels), "fault": fault_of_signature(each, keys)}
     else:
         parts = members(value)
-        yield from lines_of(parts[0], moment, labels)
-        yield from lines_of(parts[2], moment, labels)
-        yield f"question  {labels.of(members(parts[3])[0])} requests {on_one_line(members(parts[4])[0])} at {on_one_line(members(parts[5])[0])}"
+        yield from (row for part in (parts[0], parts[2]) for row in rows_of(part, moment, labels))
+        yield {"kind": "question", "key": labels.of(members(parts[3])[0]), "request": on_one_line(members(parts[4])[0]),
+               "at": on_one_line(members(parts[5])[0])}
 
 
-def lines_of_sequence(sequence: Value, moment: bytes, labels: Labels) -> Iterator[str]:
-    keys = Keys(keys_in(sequence))
-    certificates = {each.number: each for each in certificates_in(sequence)}
-    for number, item in enumerate(members(sequence), 1):
-        if headed(item, b"public-key"):
-            yield f"item {number}  key {labels.of(item)}, {kind_of(item)}"
-        elif number in certificates:
-            yield from lines_of_terms(f"item {number}", certificates[number].terms, moment, labels)
-            yield f"    {signature_in_words(certificates[number], keys)}"
-
-
-def signature_in_words(signed: Signed, keys: Keys) -> str:
-    fault = fault_of_signature(signed, keys)
-    return f"{FAULTS[fault]} ({fault})" if fault else "the signature is valid"
+def lines_of(row: Row) -> Iterator[str]:
+    """A row in words."""
+    kind, number = row["kind"], row.get("number")
+    front = f"{'entry' if kind == 'entry' else 'item'} {number}" if number else "certificate without a signature"
+    if kind == "key":
+        yield f"{front}  key {row['label']}, {row['algorithm']}"
+    elif kind == "question":
+        yield f"question  {row['key']} requests {row['request']} at {row['at']}"
+    else:
+        window = f"{row['window']}: {row['state']}"
+        if row["name"] is not None:
+            yield f"{front}  {row['issuer']} calls {row['subject']} {on_one_line(str(row['name']).encode())}, {window}"
+        else:
+            yield f"{front}  {row['issuer']} -> {row['subject']}, {'may' if row['delegates'] else 'may not'} delegate, {window}"
+            yield f"    may {row['tag']}"
+        if row["comment"]:
+            yield f"    comment: {row['comment']!r}"
+    if "fault" in row:
+        fault = row["fault"]
+        yield f"    {FAULTS[str(fault)]} ({fault})" if fault else "    the signature is valid"
 
 
 def what_is(value: Value) -> str:

@@ -18,7 +18,7 @@ from html import escape
 HERE = os.path.dirname(os.path.abspath(__file__))
 sys.path.append(os.path.join(HERE, "..", "..", "examples"))
 from picture import drawn, given_program  # noqa: E402
-from spki_cert_tool.drawing import PICTURE_WIDTH, box, page, said, svg_of_lines  # noqa: E402
+from spki_cert_tool.drawing import PICTURE_WIDTH, box, page, said, svg_of_drawing  # noqa: E402
 
 CASES = {"granted": "The chain of a request that is granted", "no-delegation": "A chain that stops at a certificate"}
 
@@ -107,7 +107,7 @@ def octets():
 
 def of_case(name, program):
     """The chain of a case, from top to bottom."""
-    return svg_of_lines(drawn(program, os.path.join(HERE, "..", "..", "examples", "guide", f"{name}.sexp"), PICTURE_WIDTH), CASES[name])
+    return svg_of_drawing(drawn(program, os.path.join(HERE, "..", "..", "examples", "guide", f"{name}.sexp"), PICTURE_WIDTH), CASES[name])
 
 
 def main():
