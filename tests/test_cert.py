@@ -501,19 +501,18 @@ class OfAnswers(Case):
         os.chmod(self.at("bin/spki-cert"), 0o755)
         return {**self.settings, "PATH": f"{self.at('bin')}:{os.environ['PATH']}"}
 
-    def test_the_first_certificate_of_the_page(self):
+    def test_the_first_certificate_of_a_page(self):
         """From a clone, by somebody who has a key of OpenSSH. The library is the one that is tested."""
-        for folder in (".ssh", "clone"):
-            os.mkdir(self.at(folder))
+        os.mkdir(self.at(".ssh"))
         self.ssh_key(".ssh/id_ed25519")
-        os.symlink(os.path.join(TOP, "cert"), self.at("clone/cert"))
-        page = text_in(os.path.join(TOP, "docs", "CERTIFICATES.md")).decode()
-        lines = re.findall(r"^    (.*)$", page, re.MULTILINE)
-        self.assertEqual(len(lines), 8)
-        settings = {**self.settings, "HOME": self.room}
-        status, said = output_of("sh", "-e", text="\n".join(lines), cwd=self.at("clone"), env=settings, seconds=SECONDS)
-        self.assertEqual(status, 0, said)
-        self.assertIn("so entry 1 grants it", said)
+        for page in ("docs/CERTIFICATES.md", "README.md"):
+            lines = test_guide.lines_of_first_certificate(text_of(page))
+            with self.subTest(page):
+                os.makedirs(self.at(page))
+                os.symlink(os.path.join(TOP, "cert"), self.at(f"{page}/cert"))
+                settings = {**self.settings, "HOME": self.room}
+                status, said = output_of("sh", "-e", text="\n".join(lines), cwd=self.at(page), env=settings, seconds=SECONDS)
+                self.assertEqual((status, "so entry 1 grants it" in said), (0, bool(lines)), said)
 
     def test_the_examples_of_the_manual(self):
         """Each command writes what the manual says."""

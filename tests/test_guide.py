@@ -154,8 +154,13 @@ def snippets_of(page):
 
 
 def commands_of(page):
-    """The indented commands of a page."""
-    return [line for above, block in indented(page) if not SNIPPET_BELOW.match(above) for line in block.splitlines()]
+    """The indented commands of a page, without those of the first certificate, which tests/test_cert.py runs."""
+    return [line for above, block in indented(page) if not SNIPPET_BELOW.match(above) and "spki-cert" not in block for line in block.splitlines()]
+
+
+def lines_of_first_certificate(page: str) -> list[str]:
+    """The indented commands of a page that make the first certificate."""
+    return [line for _, block in indented(page) if "spki-cert" in block for line in block.splitlines()]
 
 
 def printed_by(lines: list[str], library: str) -> list[str]:

@@ -11,7 +11,7 @@ from collections.abc import Iterator
 from dataclasses import dataclass, field, replace
 from typing import TYPE_CHECKING
 
-from .certificates import Keys, Signed, Terms, certificates_in, chains, entries_of, headed, keys_in, members, sequence_of
+from .certificates import Keys, Signed, Terms, certificates_in, chains, entries_of, keys_in, members, sequence_of
 from .files import Refused
 from .keys import verify
 from .labels import Labels

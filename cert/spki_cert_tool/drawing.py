@@ -157,44 +157,27 @@ def dot_of(drawing: Drawing) -> Iterator[str]:
 
 
 KINDS = {"blue": "own", "darkgreen": "good", "red": "bad"}
-STYLE = """
-  .page { fill: #ffffff; stroke: #d0d7de }
-  .box { fill: #f6f8fa; stroke: #57606a }
-  .good { fill: #dafbe1; stroke: #1a7f37 }
-  .own { fill: #ddf4ff; stroke: #0969da }
-  text { font-family: sans-serif; font-size: 14px; fill: #1f2328; text-anchor: middle }
-  .title { font-weight: bold }
-  .small { font-size: 12px; fill: #57606a }
-  .left { text-anchor: start }
-  .line { stroke: #57606a; fill: none; stroke-width: 1.5 }
-  .head { fill: #57606a }
-  @media (prefers-color-scheme: dark) {
-    .page { fill: #0d1117; stroke: #30363d }
-    .box { fill: #161b22; stroke: #8b949e }
-    .good { fill: #12261e; stroke: #3fb950 }
-    .own { fill: #0c2d6b; stroke: #58a6ff }
-    text { fill: #e6edf3 }
-    .small { fill: #8b949e }
-    .line { stroke: #8b949e }
-    .head { fill: #8b949e }
-  }
-"""
-
-
-# What the pictures of cases have in addition.
-COLOURS = """
-  .bad { fill: #ffebe9; stroke: #cf222e }
-  .line.red { stroke: #cf222e }
-  .line.darkgreen { stroke: #1a7f37 }
-  text.red { fill: #cf222e }
-  text.darkgreen { fill: #1a7f37 }
-  @media (prefers-color-scheme: dark) {
-    .bad { fill: #3c1618; stroke: #ff7b72 }
-    .line.red { stroke: #ff7b72 }
-    .line.darkgreen { stroke: #3fb950 }
-    text.red { fill: #ff7b72 }
-    text.darkgreen { fill: #3fb950 }
-  }
+# What a class of the pictures looks like, on light pages and on dark ones.
+CLASSES = {
+    ".page": ("fill: #ffffff; stroke: #d0d7de", "fill: #0d1117; stroke: #30363d"),
+    ".box": ("fill: #f6f8fa; stroke: #57606a", "fill: #161b22; stroke: #8b949e"),
+    ".good": ("fill: #dafbe1; stroke: #1a7f37", "fill: #12261e; stroke: #3fb950"),
+    ".own": ("fill: #ddf4ff; stroke: #0969da", "fill: #0c2d6b; stroke: #58a6ff"),
+    ".bad": ("fill: #ffebe9; stroke: #cf222e", "fill: #3c1618; stroke: #ff7b72"), "text": ("fill: #1f2328", "fill: #e6edf3"),
+    ".small": ("fill: #57606a", "fill: #8b949e"), ".line": ("stroke: #57606a", "stroke: #8b949e"), ".head": ("fill: #57606a", "fill: #8b949e"),
+    ".line.red": ("stroke: #cf222e", "stroke: #ff7b72"), ".line.darkgreen": ("stroke: #1a7f37", "stroke: #3fb950"),
+    "text.red": ("fill: #cf222e", "fill: #ff7b72"), "text.darkgreen": ("fill: #1a7f37", "fill: #3fb950")}
+LIGHT, DARK = ("\n".join(f"  {name} {{ {looks[place]} }}" for name, looks in CLASSES.items()) for place in (0, 1))
+STYLE = f"""
+  text {{ font-family: sans-serif; font-size: 14px; text-anchor: middle }}
+  .title {{ font-weight: bold }}
+  .small {{ font-size: 12px }}
+  .left {{ text-anchor: start }}
+  .line {{ fill: none; stroke-width: 1.5 }}
+{LIGHT}
+  @media (prefers-color-scheme: dark) {{
+{DARK}
+  }}
 """
 
 
@@ -211,12 +194,12 @@ def said(x: float | str, y: float, text: str, of_class: str = "small left") -> I
     yield f'<text class="{of_class}" x="{x}" y="{y}">{escape(text)}</text>'
 
 
-def page(width: float, height: float, title: str, *parts: Iterable[str], style: str = STYLE) -> Iterator[str]:
+def page(width: float, height: float, title: str, *parts: Iterable[str]) -> Iterator[str]:
     """A picture of some parts."""
     yield (f'<svg xmlns="http://www.w3.org/2000/svg" viewBox="0 0 {width} {height}" width="{width}" height="{height}" role="img" '
            f'aria-label="{escape(title)}">')
     yield f"<title>{escape(title)}</title>"
-    yield f"<style>{style}</style>"
+    yield f"<style>{STYLE}</style>"
     yield ('<defs><marker id="end" viewBox="0 0 8 8" refX="7" refY="4" markerWidth="8" markerHeight="8" orient="auto">'
            '<path class="head" d="M0 0 L8 4 L0 8 z"/></marker></defs>')
     yield f'<rect class="page" x="0.5" y="0.5" width="{width - 1}" height="{height - 1}" rx="8"/>'
@@ -247,7 +230,7 @@ def svg_of_drawing(drawing: Drawing, title: str, width: float = 620) -> Iterator
             parts += coloured_arrow(x + 210, y, top - 2, arrow.lines, arrow.colour)
         parts += box(x, top, 420, 22 + 18 * len(shape.lines), shape.lines, KINDS.get(shape.colour, "box"))
         y, last = top + 22 + 18 * len(shape.lines), node
-    return page(width, y + 20, title, parts, style=STYLE + COLOURS)
+    return page(width, y + 20, title, parts)
 
 
 def svg_of(value: Value, labels: Labels) -> bytes:

@@ -12,7 +12,7 @@ from .agent import AgentSigner
 from .certificates import DATE_FORMAT
 from .forms import MOST_OCTETS, Node, Wrong
 from .keys import BadKey, FileSigner, Signer, is_private, read_private, read_public
-from .places import fault_of, name_pasted_key, place_shown, places_of, read_text, told, value_in
+from .places import fault_of, name_pasted_key, read_text, told, value_in
 from .sexp import Value
 from .structures import Reader
 
@@ -56,11 +56,7 @@ def node_of(text: str, what: str, read: Reader) -> Node:
         return node
     except Wrong as wrong:
         name_pasted_key(octets, wrong)
-        lines = [f"{what}: {wrong.kind}"]
-        for at, why in places_of(wrong):
-            where, around = place_shown(octets, None, at)
-            lines += [f"{where}: {why}", around]
-        raise Refused(*lines) from None
+        raise Refused(*told(what, (wrong, octets, None))) from None
 
 
 def passphrase_for(path: str) -> bytes:

@@ -1,6 +1,8 @@
 """What keys are called: labels from files of keys, else the beginning of the hash."""
 from __future__ import annotations
 
+import contextlib
+import glob
 import os
 
 from .certificates import Keys, headed, members, string_of
@@ -31,12 +33,8 @@ class Labels:
 
     def add_path(self, path: str) -> None:
         """Takes the keys of a file, or of the files of a folder."""
-        if not os.path.isdir(path):
-            self.add_file(path)
-            return
-        for name in sorted(os.listdir(path)):
-            if os.path.isfile(os.path.join(path, name)) and not name.startswith("."):
-                self.add_file(os.path.join(path, name))
+        for file in sorted(filter(os.path.isfile, glob.glob(f"{glob.escape(path)}/*"))) if os.path.isdir(path) else [path]:
+            self.add_file(file)
 
     def add_file(self, path: str) -> None:
         """Takes the public keys of a file: lines of OpenSSH with their comments, as authorized_keys has them, or one key with the
@@ -46,17 +44,9 @@ class Labels:
         stem = os.path.splitext(os.path.basename(path))[0]
         if is_private(octets):
             return
-        lines = OPENSSH.findall(octets)
-        for line, comment in lines:
-            self.add_key(line, comment.decode(errors="replace").strip() or stem)
-        if not lines:
-            self.add_key(octets, stem)
-
-    def add_key(self, octets: bytes, label: str) -> None:
-        try:
-            self.add(read_public(octets, no_passphrase), label)
-        except (BadKey, Wrong):
-            return
+        for line, comment in OPENSSH.findall(octets) or [(octets, b"")]:
+            with contextlib.suppress(BadKey, Wrong):
+                self.add(read_public(line, no_passphrase), comment.decode(errors="replace").strip() or stem)
 
     def of(self, principal: Value | None) -> str:
         """What a principal is called."""

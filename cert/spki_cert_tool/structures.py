@@ -2,7 +2,7 @@
 from __future__ import annotations
 
 import re
-from collections.abc import Callable, Iterable
+from collections.abc import Callable
 
 from .forms import Node, Wrong, meant, shape, shown
 from .tags import read_tag
