@@ -191,6 +191,9 @@ class OfKeys(Case):
             self.assertEqual(stat.S_IMODE(os.stat(self.at(kind)).st_mode), 0o600)
             public = quiet("ssh-keygen", "-y", "-f", self.at(kind)).split()[:2]
             self.assertEqual(public, text_in(self.at(f"{kind}.pub")).split()[:2])
+        self.done("key", "new", "--no-passphrase", "--pem", "pem")
+        self.assertEqual(self.done("key", "pem"), self.done("key", "pem.pub"))
+        self.assertIn(b"BEGIN PRIVATE KEY", text_in(self.at("pem")))
         before = text_in(self.at("rsa"))
         self.assertIn("there already", self.done("key", "new", "--no-passphrase", "rsa", wanted=2))
         self.assertEqual(text_in(self.at("rsa")), before)
@@ -382,6 +385,8 @@ class OfCertificates(Case):
         changed = text_in(self.at("c.sexp")).replace(b"(propagate)", b"")
         self.write("changed.sexp", changed)
         self.assertIn("DigestDiffers", self.done("show", "changed.sexp"))
+        self.write("c.tsexp", self.done("show", "--braces", "c.sexp"))
+        self.assertEqual(*(value_in(text_in(self.at(name))).value for name in ("c.sexp", "c.tsexp")))
         self.done("show", "--svg", "c.svg", "c.sexp")
         self.assertIn(b"(* prefix /web/))", text_in(self.at("c.svg")))
 
@@ -424,7 +429,7 @@ class OfMistakes(Case):
     def test_a_thousand_files_are_checked_in_time(self):
         signer = keys.FileSigner(keys.new_private("ed25519"))
         self.write("key.sexp", sexp.laid_out(signer.key))
-        self.write("signer", keys.openssh_of(signer.private, b""))
+        self.write("signer", keys.file_of(signer.private, b""))
         os.chmod(self.at("signer"), 0o600)
         self.done("sign", "--by", "signer", "--to", "key.sexp", "--tag", TAG, "--days", "30", "-o", "c.sexp")
         os.mkdir(self.at("folder"))

@@ -98,6 +98,7 @@ def parser_of_commands() -> argparse.ArgumentParser:
     new.add_argument("file", metavar="FILE", help="the private key to make; the public key is FILE.pub")
     new.add_argument("--type", choices=KINDS, default=KINDS[0], help="ed25519 if it is not given")
     new.add_argument("--comment", metavar="TEXT", default="", help="what the key is called; the name of the file if it is not given")
+    new.add_argument("--pem", action="store_true", help="write the private key in PEM, which TLS programs read, instead of OpenSSH's form")
     new.add_argument("--no-passphrase", action="store_true", help="do not encrypt it")
     sign = added("sign", "sign a certificate that gives a right", SIGN_HELP,
                  "example: spki-cert sign --by alice --to bob.pub --tag '(packages (* set read write))' --days 30 -o to-bob.sexp")
@@ -115,6 +116,7 @@ def parser_of_commands() -> argparse.ArgumentParser:
                  "example: spki-cert show acl.sexp to-bob.sexp")
     show.add_argument("files", metavar="FILE", nargs="+")
     show.add_argument("--svg", metavar="FILE", help="draw the first file as a picture")
+    show.add_argument("--braces", action="store_true", help="write each file on one line in braces instead, as `Authorization: SPKI {..}` has it")
     with_labels(show)
     with_ask(added("ask", "decide a request, and say why", ASK_HELP,
                    "example: spki-cert ask --acl acl.sexp --key bob.pub --cert to-bob.sexp packages read /web/index.html"))

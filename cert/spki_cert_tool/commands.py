@@ -2,6 +2,7 @@
 from __future__ import annotations
 
 import argparse
+import base64
 import json
 import os
 import sys
@@ -10,12 +11,12 @@ from collections.abc import Callable, Iterable
 from .arguments import NEW_KEY, completion, parser_of_commands
 from .files import DAY_ENDS, Refused, key_at, moment_of, node_of, now, octets_of, passphrase_for, signer_at, value_of, write
 from .forms import Wrong
-from .keys import BadKey, hash_of, kind_of, new_private, openssh_line, openssh_of, principal_of
+from .keys import BadKey, file_of, hash_of, kind_of, new_private, openssh_line, principal_of
 from .labels import Labels
 from .making import (Wish, certificate_of, entry_of, list_with, named, signed_sequence, text_of, warnings_of,
                      warnings_of_certificate)
 from .places import BY_HEAD, read_text, told, value_in
-from .sexp import Value, on_one_line
+from .sexp import Value, canonical, on_one_line
 from .structures import read_certificate, read_subject
 from .tags import read_tag
 
@@ -44,7 +45,7 @@ def new_key(given: argparse.Namespace) -> int:
         raise Refused(f"{there[0]} is there already, and a key is not written over")
     passphrase = b"" if given.no_passphrase else new_passphrase(path)
     private = new_private(given.type)
-    octets = openssh_of(private, passphrase)
+    octets = file_of(private, passphrase, given.pem)
     comment = given.comment or os.path.basename(path)
     write(path, octets, 0o600, replaces=False)
     write(f"{path}.pub", openssh_line(private.public_key()) + f" {comment}\n".encode(), replaces=False)
@@ -157,6 +158,9 @@ def show(given: argparse.Namespace) -> int:
     from .showing import lines_of, rows_of, what_is
     labels, moment = labels_of(given), moment_given(given)
     values = [(path, shown_value(path)) for path in given.files]
+    if given.braces:
+        write(None, b"".join(b"{%s}\n" % base64.b64encode(canonical(value)) for _, value in values))
+        return DONE
     if given.svg:
         from .drawing import svg_of
         write(given.svg, svg_of(values[0][1], labels))

@@ -292,13 +292,14 @@ def new_private(kind: str) -> Private:
     return rsa.generate_private_key(65537, NEW_BITS) if kind == RSA else ec.generate_private_key(ec.SECP256R1())
 
 
-def openssh_of(private: Private, passphrase: bytes) -> bytes:
-    """The file of a private key, as OpenSSH has it. It is encrypted unless the passphrase is empty."""
+def file_of(private: Private, passphrase: bytes, is_pem: bool = False) -> bytes:
+    """The file of a private key, as OpenSSH has it or in PEM (PKCS#8). It is encrypted unless the passphrase is empty."""
     from cryptography.exceptions import UnsupportedAlgorithm
     from cryptography.hazmat.primitives.serialization import BestAvailableEncryption, Encoding, NoEncryption, PrivateFormat
     encryption = BestAvailableEncryption(passphrase) if passphrase else NoEncryption()
     try:
-        return cast(bytes, cast(Any, private).private_bytes(Encoding.PEM, PrivateFormat.OpenSSH, encryption))
+        form = PrivateFormat.PKCS8 if is_pem else PrivateFormat.OpenSSH
+        return cast(bytes, cast(Any, private).private_bytes(Encoding.PEM, form, encryption))
     except UnsupportedAlgorithm as why:
         raise BadKey(f"the key cannot be encrypted: {why} (Debian: python3-bcrypt)") from None
 
