@@ -33,6 +33,7 @@ an S-expression such as '(hash sha256 #..#)'. With --named it is a name of that 
 What is probably a mistake is made only with --yes: a certificate without an end, for (*), for longer than its
 issuer has the right, with a tag that grants nothing, or if a request of --try is not granted."""
 ENTRY_HELP = """Writes an entry of an access list. With --acl it is put at the end of that list, which is made if it is not there.
+With --remove the entries for --to are removed from it.
 
 An entry says what a key, a hash or a name may do. It needs no signature, because the list belongs to the service, and no end, because it can
 be removed from the list. What is probably a mistake is written only with --yes, as by `spki-cert sign`."""
@@ -72,10 +73,11 @@ def with_window(parser: argparse.ArgumentParser, *, signs: bool = True) -> None:
     output.add_argument("-o", "--output", metavar="FILE", help="where to write it, instead of standard output")
     if not signs:
         output.add_argument("--acl", metavar="FILE", help="the access list to put it in, which is made if it is not there")
+        parser.add_argument("--remove", action="store_true", help="remove the entries for --to from the list instead")
 
 
 def with_tag(parser: argparse.ArgumentParser) -> None:
-    parser.add_argument("--tag", metavar="TAG", required=True, help="the requests that are allowed, as '(packages read (* prefix /web/))'")
+    parser.add_argument("--tag", metavar="TAG", help="the requests that are allowed, as '(packages read (* prefix /web/))'")
     parser.add_argument("--propagate", action="store_true", help="the subject may delegate the right")
     parser.add_argument("--try", metavar="WORD", nargs="+", action="append", dest="tries",
                         help="a request that the tag is to contain, by its words; may be given several times")

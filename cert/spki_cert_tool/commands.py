@@ -13,7 +13,7 @@ from .files import DAY_ENDS, Refused, key_at, moment_of, node_of, now, octets_of
 from .forms import Wrong
 from .keys import BadKey, file_of, hash_of, kind_of, new_private, openssh_line, principal_of
 from .labels import Labels
-from .making import (Wish, certificate_of, entry_of, list_with, named, signed_sequence, text_of, warnings_of,
+from .making import (Wish, certificate_of, entry_of, list_with, list_without, named, signed_sequence, text_of, warnings_of,
                      warnings_of_certificate)
 from .places import BY_HEAD, read_text, told, value_in
 from .sexp import Value, canonical, on_one_line
@@ -76,16 +76,29 @@ def sign(given: argparse.Namespace) -> int:
 
 def entry(given: argparse.Namespace) -> int:
     """Writes an entry, or puts it at the end of an access list."""
-    wish = wish_of(given)
     is_there = given.acl is not None and os.path.exists(given.acl)
     if is_there:
         value_of(given.acl, "acl")
+    if given.remove:
+        return remove(given)
+    wish = wish_of(given)
     if not is_confirmed(given, warnings_of(wish, [*map(request_of, given.tries)])):
         return UNCONFIRMED
     made = entry_of(wish)
     text = list_with(made, octets_of(given.acl) if is_there else b"(acl)")
     write(given.acl or given.output, text if given.acl else text_of(made))
     return DONE
+
+
+def remove(given: argparse.Namespace) -> int:
+    """Removes the entries for a subject from an access list."""
+    if given.acl is None or given.tag is not None:
+        raise Refused("--remove needs --acl, and goes with no --tag")
+    text, count = list_without(subject_of(given), octets_of(given.acl))
+    if count:
+        write(given.acl, text)
+    print(f"removed {count} entries")
+    return DONE if count else NO
 
 
 def is_confirmed(given: argparse.Namespace, warnings: Iterable[str]) -> bool:
@@ -99,7 +112,9 @@ def is_confirmed(given: argparse.Namespace, warnings: Iterable[str]) -> bool:
 
 def wish_of(given: argparse.Namespace) -> Wish:
     """What the certificate or the entry is to say."""
-    tag = node_of(given.tag, "--tag", lambda node: read_tag(node, [0])) if given.tag else None
+    if given.tag is None and given.name is None:
+        raise Refused("a right needs --tag")
+    tag = node_of(given.tag, "--tag", lambda node: read_tag(node, [0])) if given.tag is not None else None
     ends = now(given.days) if given.days is not None else moment_of(given.until, DAY_ENDS) if given.until else None
     return Wish(subject_of(given), os.fsencode(given.name) if given.name is not None else None, tag, given.tag or "",
                 moment_of(given.begins) if given.begins else None, ends, given.propagate, given.comment)

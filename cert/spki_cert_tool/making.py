@@ -5,7 +5,7 @@ import os
 from collections.abc import Iterable, Iterator
 from dataclasses import dataclass
 
-from .certificates import Keys, Signed, Terms, certificates_in, headed, keys_in, members, remarks_on_window
+from .certificates import Keys, Signed, Terms, certificates_in, headed, keys_in, members, remarks_on_window, terms_of_entry
 from .files import Refused, now
 from .forms import Node
 from .keys import Signer, hash_of, is_named_by_itself, principal_of, verifies
@@ -75,6 +75,20 @@ def signed_sequence(certificate: Value, signer: Signer, chain: Value | None) -> 
     sequence: Value = [b"sequence", *before, *key, certificate, [b"signature", hash_of(certificate), principal_of(signer.key), value]]
     needs_no_refusal("sequence", canonical(sequence))
     return sequence
+
+
+def list_without(subject: Value, before: bytes) -> tuple[bytes, int]:
+    """The text of an access list without the entries for a subject, and how many they were. What is around them stays as it is."""
+    if before.lstrip().startswith(b"{"):
+        before = text_of(value_in(before).value)
+    wanted, entries = terms_of_entry([b"entry", subject]), [it for it in value_in(before).members or [] if it.head == b"entry"]
+    terms = [terms_of_entry(it.value) for it in entries]
+    keys = Keys(it.principal for it in (wanted, *terms))
+    gone = [node for node, it in zip(entries, terms) if it.names == wanted.names and keys.are_one(it.principal, wanted.principal)]
+    for node in reversed(gone):
+        begin = len(before[:node.begin].rstrip())
+        before = before[:begin] + before[node.end:]
+    return before, len(gone)
 
 
 def needs_no_refusal(what: str, text: bytes) -> None:

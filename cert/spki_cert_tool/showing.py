@@ -4,7 +4,7 @@ from __future__ import annotations
 from collections.abc import Iterator
 
 from .certificates import Keys, Terms, certificates_in, entries_of, fault_of_signature, headed, keys_in, members, terms_of_certificate
-from .keys import hash_of, kind_of
+from .keys import digest_of, hash_of, kind_of
 from .labels import Labels
 from .sexp import Value, on_one_line
 
@@ -42,7 +42,8 @@ def rows_of(value: Value, moment: bytes, labels: Labels) -> Iterator[Row]:
             if headed(item, b"public-key"):
                 yield {"kind": "key", "number": number, "label": labels.of(item), "algorithm": kind_of(item), "hash": on_one_line(hash_of(item))}
             elif each := certificates.get(number):
-                yield {**row_of_terms("certificate", number, each.terms, moment, labels), "fault": fault_of_signature(each, keys)}
+                yield {**row_of_terms("certificate", number, each.terms, moment, labels), "digest": digest_of(each.terms.value).hex(),
+                       "fault": fault_of_signature(each, keys)}
     else:
         parts = members(value)
         yield from (row for part in (parts[0], parts[2]) for row in rows_of(part, moment, labels))
@@ -70,6 +71,7 @@ def lines_of(row: Row) -> Iterator[str]:
     if "fault" in row:
         fault = row["fault"]
         yield f"    {FAULTS[str(fault)]} ({fault})" if fault else "    the signature is valid"
+        yield f"    sha256 {row['digest']}"
 
 
 def what_is(value: Value) -> str:

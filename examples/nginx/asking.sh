@@ -1,0 +1,24 @@
+# What the example and docs/OPERATING.md ask by, in the folder of the example. PORT is where nginx listens.
+
+# asks WHO METHOD PATH [OPTION OF CURL ..]: prints the status
+asks() {
+    who=$1 method=$2 path=$3
+    shift 3
+    status=$(curl -s -o tmp/answer -w '%{http_code}' --cacert ca/ca.crt --cert "keys/$who.crt" --key "keys/$who" -X "$method" "$@" \
+        "https://localhost:$PORT$path")
+    echo "$who $method $path: $status"
+}
+
+# shows FILE: the header that shows a sequence of certificates, on one line in braces
+shows() {
+    echo "Authorization: SPKI $(spki-cert show --braces "$1")"
+}
+
+# reload: has spki-authd read its list and its ended certificates again, waits for the line that says so, and prints what happened. On a
+# real server it is `systemctl reload spki-authd`, and the line is in its journal.
+reload() {
+    lines=$(wc -l < log/authd-events.log)
+    kill -HUP "$(cat run/authd.pid)"
+    until [ "$(wc -l < log/authd-events.log)" -gt "$lines" ]; do sleep 0.1; done
+    tail -n 1 log/authd-events.log | sed 's/.*"event":"\([^"]*\)".*/\1/'
+}

@@ -1,0 +1,163 @@
+"""The example of nginx and spki-authd, set up in an empty folder and started on a port of loopback, for the tests that ask it."""
+import contextlib
+import os
+import signal
+import socket
+import ssl
+import subprocess
+import sys
+import tempfile
+import time
+from collections.abc import Iterator
+
+import built
+from support import TOP
+
+EXAMPLE, DAEMON = os.path.join(TOP, "examples", "nginx"), os.path.join(TOP, "spki-authd")
+NEEDS = ("nginx", "go", "openssl", "curl", "import cryptography")
+# How long something may take that hangs. No test passes or fails by the clock.
+SECONDS = 600
+
+
+def path_of_commands() -> str:
+    """The path in which `spki-cert` and nginx are."""
+    return os.pathsep.join([os.path.join(TOP, "cert"), os.environ["PATH"], "/usr/sbin"])
+
+
+def daemon_built(folder: str) -> str:
+    """The daemon, built over the library that is tested."""
+    program = os.path.join(folder, "spki-authd")
+    given = {**os.environ, "CGO_LDFLAGS": f"-L{os.path.dirname(built.library())}", "CGO_CFLAGS": f"-I{os.path.join(TOP, 'crates', 'spki_c')}",
+             "GOFLAGS": "-mod=mod", "GOPROXY": "off"}
+    done = subprocess.run(["go", "build", "-o", program, "."], cwd=DAEMON, env=given, stdout=subprocess.PIPE, stderr=subprocess.STDOUT, text=True)
+    if done.returncode:
+        raise AssertionError(f"spki-authd was not built: {done.stdout}")
+    return program
+
+
+def free_port() -> int:
+    """A port of loopback that nobody listens at."""
+    with socket.socket() as taken:
+        taken.bind(("127.0.0.1", 0))
+        return int(taken.getsockname()[1])
+
+
+def waits_for(what: str, is_so: object) -> None:
+    """Waits until something is so."""
+    end = time.monotonic() + SECONDS
+    while not is_so():  # type: ignore[operator]
+        if time.monotonic() > end:
+            raise AssertionError(f"not so after {SECONDS} seconds: {what}")
+        time.sleep(0.05)
+
+
+class Site:
+    """A folder with nginx and the daemon, both started."""
+
+    def __init__(self) -> None:
+        self.room = tempfile.mkdtemp(prefix="site-")
+        self.port = free_port()
+        self.settings = {**os.environ, "PATH": path_of_commands(), "PORT": str(self.port), "SPKI_LIBRARY": built.shared()}
+        self.program = daemon_built(tempfile.mkdtemp(prefix="daemon-"))
+        self.sh(os.path.join(EXAMPLE, "setup.sh"), self.room, str(self.port))
+        self.start_daemon()
+        self.start_nginx()
+
+    def at(self, name: str) -> str:
+        return os.path.join(self.room, name)
+
+    def text(self, name: str) -> str:
+        with open(self.at(name), encoding="utf-8", errors="replace") as file:
+            return file.read()
+
+    def write(self, name: str, text: str) -> None:
+        with open(self.at(name), "w", encoding="utf-8") as file:
+            file.write(text)
+
+    def sh(self, *words: str) -> str:
+        """What a command writes in the folder. It must succeed."""
+        done = subprocess.run(words, cwd=self.room if os.path.isdir(self.room) else None, env=self.settings, stdout=subprocess.PIPE,
+                              stderr=subprocess.STDOUT, text=True, timeout=SECONDS)
+        if done.returncode:
+            raise AssertionError(f"{words}: {done.stdout}")
+        return done.stdout
+
+    def cert(self, *words: str) -> str:
+        """What `spki-cert` writes."""
+        return self.sh(sys.executable, os.path.join(TOP, "cert", "spki-cert"), *words)
+
+    # ---- the programs
+
+    def start_daemon(self) -> None:
+        with open(self.at("log/authd.log"), "ab") as log, open(self.at("log/authd-events.log"), "ab") as events:
+            self.daemon = subprocess.Popen([self.program, "-config", self.at("etc/authd.json")], stdout=log, stderr=events, cwd=self.room)
+        self.write("run/authd.pid", str(self.daemon.pid))
+        waits_for("the daemon listens", self.daemon_listens)
+
+    def daemon_listens(self) -> bool:
+        with socket.socket(socket.AF_UNIX) as client, contextlib.suppress(OSError):
+            client.connect(self.at("run/socket"))
+            return True
+        if self.daemon.poll() is not None:
+            raise AssertionError(f"the daemon ended: {self.text('log/authd-events.log')}")
+        return False
+
+    def start_nginx(self) -> None:
+        as_user = "user root;" if os.getuid() == 0 else ""
+        words = ["nginx", "-p", self.room, "-c", "etc/loopback.conf", "-e", "log/error.log", "-g", as_user]
+        self.nginx = subprocess.Popen(words, env=self.settings, stdout=subprocess.DEVNULL, stderr=subprocess.DEVNULL)
+        waits_for("nginx listens", self.nginx_listens)
+
+    def nginx_listens(self) -> bool:
+        with socket.socket() as client, contextlib.suppress(OSError):
+            client.connect(("127.0.0.1", self.port))
+            return True
+        if self.nginx.poll() is not None:
+            raise AssertionError(f"nginx ended: {self.text('log/error.log')}")
+        return False
+
+    def reload(self) -> str:
+        """Has the daemon read its list again, and returns what it says of that."""
+        before = self.text("log/authd-events.log")
+        self.daemon.send_signal(signal.SIGHUP)
+        waits_for("the list is read again", lambda: self.text("log/authd-events.log").count("\n") > before.count("\n"))
+        return self.text("log/authd-events.log")[len(before):]
+
+    def end(self) -> None:
+        """Ends both programs, and removes the folders."""
+        for each in (self.nginx, self.daemon):
+            each.terminate()
+            each.wait()
+        for folder in (self.room, os.path.dirname(self.program)):
+            subprocess.run(["rm", "-rf", folder], check=True)
+
+    # ---- asking
+
+    def context(self, who: str | None) -> ssl.SSLContext:
+        """The side of TLS of a client, by the names of its certificate and key, as `ann`, or `ann.crt ann`; of None it has none."""
+        context = ssl.create_default_context(cafile=self.at("ca/ca.crt"))
+        if who is not None:
+            certificate, _, key = who.partition(" ")
+            context.load_cert_chain(self.at(f"keys/{certificate if key else certificate + '.crt'}"), self.at(f"keys/{key or certificate}"))
+        return context
+
+    @contextlib.contextmanager
+    def connected(self, who: str | None) -> Iterator[ssl.SSLSocket]:
+        with socket.create_connection(("127.0.0.1", self.port), SECONDS) as plain:
+            with self.context(who).wrap_socket(plain, server_hostname="localhost") as client:
+                yield client
+
+    def answer(self, who: str | None, request: bytes) -> bytes:
+        """All that nginx answers to some octets, until it ends the connection. Empty if there is no connection."""
+        said = b""
+        with contextlib.suppress(OSError), self.connected(who) as client:
+            client.sendall(request)
+            while octets := client.recv(65536):
+                said += octets
+        return said
+
+    def status(self, who: str | None, method: str, path: str, *lines: str, body: str = "") -> int:
+        """The status of a plain request, with more lines in its header."""
+        header = [f"{method} {path} HTTP/1.1", "Host: localhost", "Connection: close", *lines]
+        header += [f"Content-Length: {len(body)}"] if body else []
+        return int(self.answer(who, "\r\n".join([*header, "", body]).encode("latin-1")).split(b" ", 2)[1])

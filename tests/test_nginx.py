@@ -1,0 +1,274 @@
+"""Attacks the example of nginx and spki-authd, as it is set up: each attack of attacks.py, and lists that are changed under load, slow clients,
+and a daemon that is killed and started again. An attack passes if no status is 2xx, no file's content is sent, no file is changed, a log
+has a line more, and the daemon still answers.
+
+The example itself is run, as examples/nginx/run.sh runs it."""
+import base64
+import os
+import re
+import signal
+import subprocess
+import threading
+import unittest
+
+import attacks
+import needs
+import served
+from served import Site, waits_for
+from support import TESTS, output_of
+from spki_cert_tool.files import now, signer_at
+from spki_cert_tool.forms import Parser
+from spki_cert_tool.keys import hash_of
+from spki_cert_tool.making import Wish, certificate_of, signed_sequence
+from spki_cert_tool.sexp import Value, canonical
+
+STATUS = re.compile(rb"^HTTP/1\.[01] (\d{3})", re.MULTILINE)
+CONTENTS = {"web/index.html": b"<p>the web</p>", "web/out/main.js": b"main", "secret/plan.txt": b"a plan"}
+LOGS = ("log/files.log", "log/error.log", "log/authd.log")
+READ = "(files read (* prefix /web/))"
+READERS, CHANGES = 4, 20
+# A client whose certificate for TLS is not of its key, which the programs of OpenSSL refuse to be.
+FOREIGN = """package main
+
+import ("crypto/tls"; "encoding/pem"; "fmt"; "os")
+
+func octets(path string) []byte {
+	text, _ := os.ReadFile(path)
+	block, _ := pem.Decode(text)
+	return block.Bytes
+}
+
+func main() {
+	own, err := tls.LoadX509KeyPair(os.Args[3], os.Args[4])
+	if err != nil { panic(err) }
+	foreign := tls.Certificate{Certificate: [][]byte{octets(os.Args[2])}, PrivateKey: own.PrivateKey}
+	client, err := tls.Dial("tcp", os.Args[1], &tls.Config{InsecureSkipVerify: true, Certificates: []tls.Certificate{foreign}})
+	if err != nil { fmt.Println(err); return }
+	fmt.Fprint(client, "GET /web/index.html HTTP/1.1\\r\\nHost: localhost\\r\\nConnection: close\\r\\n\\r\\n")
+	answer := make([]byte, 65536)
+	length, err := client.Read(answer)
+	fmt.Println(string(answer[:length]), err)
+}
+"""
+
+
+def statuses(answer: bytes) -> list[int]:
+    return [int(found) for found in STATUS.findall(answer)]
+
+
+def in_braces(value: Value | bytes) -> str:
+    """A sequence, or octets that are none, as a header has it."""
+    return "{" + base64.b64encode(value if isinstance(value, bytes) else canonical(value)).decode() + "}"
+
+
+class OfSite(unittest.TestCase):
+    """Tests of a site that is started once."""
+
+    site: Site
+
+    @classmethod
+    def setUpClass(cls) -> None:
+        cls.site = Site()
+        cls.addClassCleanup(cls.site.end)
+
+    def sequence(self, by: str, to: str, tag: str, *, days: int = 9, begins: int = 0, delegates: bool = False, chain: Value | None = None) -> Value:
+        """The sequence of a certificate."""
+        signer, key = (signer_at(self.site.at(f"keys/{who}")) for who in (by, to))
+        wish = Wish(key.key, None, Parser(tag.encode()).whole(), tag, now(begins), now(days), delegates, "")
+        return signed_sequence(certificate_of(wish, signer.key), signer, chain)
+
+    def grants_ann(self) -> None:
+        self.assertEqual(self.site.status("ann", "GET", "/web/index.html"), 200)
+
+
+@needs.needs(*served.NEEDS, *needs.LIBRARY)
+class Attacks(OfSite):
+    """Each attack."""
+
+    sent: dict[str, str]
+
+    @classmethod
+    def setUpClass(cls) -> None:
+        super().setUpClass()
+        cls.sent = cls("test_each").sequences()
+        cls("test_each").certificates_of_tls()
+        os.symlink("../secret", cls.site.at("files/web/link"))
+
+    def sequences(self) -> dict[str, str]:
+        """What attacks.py names, as headers have it."""
+        site = self.site
+        good = self.sequence("ann", "ben", READ)
+        text, passing = canonical(good), self.sequence("ann", "ben", READ, delegates=False)
+        values: dict[str, Value | bytes] = {
+            "ben": good, "ended": self.sequence("ann", "ben", READ, days=-1, begins=-2), "early": self.sequence("ann", "ben", READ, begins=5),
+            "tag": text.replace(b"4:read", b"5:write"), "value": text[:-8] + bytes([text[-8] ^ 1]) + text[-7:],
+            "subject": text.replace(self.key("ben"), self.key("eve")), "own": self.sequence("ben", "ben", READ),
+            "signer": canonical(self.sequence("ben", "ben", READ)).replace(b"6:issuer" + self.key("ben"), b"6:issuer" + self.key("ann")),
+            "secret": self.sequence("ann", "ben", "(files read (* prefix /secret/))"), "other": self.sequence("ann", "ben", "(files read /web/other)"),
+            "passed": self.sequence("ben", "eve", READ, chain=passing), "unsigned": [b"sequence", good[1]], "none": [b"sequence"],
+            "many": [b"sequence", *good[1:] * 17], "key": self.key("ben"), "deep": b"(1:a" * 65 + b")" * 65, "name": self.name()}
+        certificate = "".join(re.findall(r"[^\n]+\n?", site.text("keys/ann.crt")))
+        ann = certificate.translate({ord(it): f"%{ord(it):02X}" for it in "\n +/=%"})
+        hashed = hash_of(signer_at(site.at("keys/ann")).key)
+        return {**{name: in_braces(value) for name, value in values.items()}, "ann": ann, "key": hashed[2].hex()}
+
+    def key(self, who: str) -> bytes:
+        return canonical(signer_at(self.site.at(f"keys/{who}")).key)
+
+    def name(self) -> Value:
+        """A certificate by which Ann only calls Ben something."""
+        signer = signer_at(self.site.at("keys/ann"))
+        wish = Wish(signer_at(self.site.at("keys/ben")).key, b"readers", None, "", None, now(9), False, "")
+        return signed_sequence(certificate_of(wish, signer.key), signer, None)
+
+    def certificates_of_tls(self) -> None:
+        """Certificates for TLS that only attackers make."""
+        site, make = self.site, ("openssl", "req", "-x509", "-new")
+        site.sh(*make, "-key", "keys/eve", "-subj", "/CN=ann", "-days", "9", "-out", "keys/named-ann.crt")
+        site.write("keys/both.crt", site.text("keys/eve.crt") + site.text("keys/ann.crt"))
+        site.sh("openssl", "genpkey", "-algorithm", "EC", "-pkeyopt", "ec_paramgen_curve:P-384", "-out", "keys/p384")
+        site.sh(*make, "-key", "keys/p384", "-subj", "/CN=p384", "-days", "9", "-out", "keys/p384.crt")
+        site.sh("openssl", "req", "-new", "-key", "keys/ben", "-subj", "/CN=ben", "-out", "tmp/old.csr")
+        site.sh("openssl", "x509", "-req", "-in", "tmp/old.csr", "-key", "keys/ben", "-days", "-1", "-out", "keys/old.crt")
+
+    def filled(self, octets: bytes) -> bytes:
+        """The octets of an attack, with what they name."""
+        return re.sub(rb"\{(\w+)\}", lambda found: self.sent.get(found[1].decode(), found[0].decode()).encode(), octets)
+
+    def lines(self) -> int:
+        return sum(self.site.text(name).count("\n") for name in LOGS)
+
+    def test_each(self) -> None:
+        for what, who, octets in attacks.all_of_them():
+            with self.subTest(what):
+                self.fails(who, self.filled(octets))
+
+    def fails(self, who: str | None, octets: bytes) -> None:
+        """What is sent must get nothing, and leave a line in a log and all else as it is."""
+        before = self.lines()
+        answer = self.site.answer(who, octets)
+        self.assertEqual([it for it in statuses(answer) if it // 100 == 2], [], answer)
+        for name, content in CONTENTS.items():
+            self.assertNotIn(content, answer)
+            with open(self.site.at(f"files/{name}"), "rb") as file:
+                self.assertEqual(file.read().strip(), content)
+        waits_for("a line in a log", lambda: self.lines() > before)
+        self.grants_ann()
+
+    def test_what_is_granted(self) -> None:
+        """What attacks are made of grants where it is not an attack."""
+        self.assertEqual(self.site.status("ben", "GET", "/web/index.html?x=1", f"Authorization: SPKI {self.sent['ben']}"), 200)
+        self.assertEqual(self.site.status("ben", "HEAD", "/web/index.html", f"X-Spki-Sequence: {self.sent['ben']}"), 200)
+        self.assertEqual(self.site.status("ann", "GET", "/web/%69ndex.html"), 200)
+
+    def test_foreign_certificate(self) -> None:
+        """Who holds another key than that of the certificate gets no connection."""
+        self.site.write("tmp/main.go", FOREIGN)
+        words = ("go", "run", self.site.at("tmp/main.go"), f"127.0.0.1:{self.site.port}", *map(self.site.at, ("keys/ann.crt", "keys/eve.crt", "keys/eve")))
+        before = self.lines()
+        said = output_of(*words, seconds=served.SECONDS)[1]
+        self.assertNotIn("HTTP/1.1 2", said)
+        self.assertIn("tls:", said)
+        waits_for("a line in a log", lambda: self.lines() > before)
+        self.grants_ann()
+
+
+@needs.needs(*served.NEEDS, *needs.LIBRARY)
+class Changes(OfSite):
+    """Lists that are changed, slow clients, and a daemon that ends."""
+
+    def test_list_under_load(self) -> None:
+        """While readers ask, the list is changed between two that both let Ann read and only one lets Ben. Nobody gets a wrong answer."""
+        both = self.site.text("etc/acl.sexp")
+        self.site.cert("entry", "--to", "keys/ben.pub", "--tag", READ, "--acl", "etc/acl.sexp")
+        with_ben, wrong, ends = self.site.text("etc/acl.sexp"), [], threading.Event()
+
+        def asks() -> None:
+            while not ends.is_set():
+                met = {who: self.site.status(who, "GET", "/web/index.html") for who in ("ann", "ben", "eve")}
+                if met["ann"] != 200 or met["ben"] not in (200, 401) or met["eve"] != 401:
+                    wrong.append(met)
+
+        readers = [threading.Thread(target=asks) for _ in range(READERS)]
+        for each in readers:
+            each.start()
+        try:
+            for number in range(CHANGES):
+                self.site.write("etc/new", "(acl" if number % 5 == 4 else with_ben if number % 2 else both)
+                os.replace(self.site.at("etc/new"), self.site.at("etc/acl.sexp"))
+                said = self.site.reload()
+                self.assertEqual("refused" in said, number % 5 == 4, said)
+                if number % 5 != 4:
+                    self.assertEqual(self.site.status("ben", "GET", "/web/index.html"), 200 if number % 2 else 401)
+        finally:
+            ends.set()
+            for each in readers:
+                each.join()
+            self.site.write("etc/acl.sexp", both)
+            self.site.reload()
+        self.assertEqual(wrong, [])
+
+    def test_slow_clients(self) -> None:
+        """Clients that never end their header, or their body, hold up nobody."""
+        halves = [b"GET /web/index.html HTTP/1.1\r\nHost: loc", b"PUT /web/slow HTTP/1.1\r\nHost: localhost\r\nContent-Length: 9\r\n\r\nab"] * 20
+        open_ones = []
+        try:
+            for half in halves:
+                waiting = self.site.connected("ann")
+                open_ones.append(waiting)
+                waiting.__enter__().sendall(half)
+            for _ in range(10):
+                self.grants_ann()
+        finally:
+            for waiting in open_ones:
+                waiting.__exit__(None, None, None)
+        self.grants_ann()
+        self.assertFalse(os.path.exists(self.site.at("files/web/slow")))
+
+    def test_daemon_killed(self) -> None:
+        """Without its daemon nginx grants nothing. Started again, the daemon takes over the socket that was left."""
+        self.grants_ann()
+        self.site.daemon.send_signal(signal.SIGKILL)
+        self.site.daemon.wait()
+        for who in ("ann", "eve", None):
+            self.assertGreaterEqual(self.site.status(who, "GET", "/web/index.html"), 500)
+        self.assertGreaterEqual(self.site.status("ann", "PUT", "/web/killed", body="x"), 500)
+        self.assertFalse(os.path.exists(self.site.at("files/web/killed")))
+        self.site.start_daemon()
+        self.grants_ann()
+
+    def test_daemon_ended(self) -> None:
+        """At SIGTERM the daemon ends with status 0, and leaves no socket."""
+        self.site.daemon.terminate()
+        self.assertEqual(self.site.daemon.wait(served.SECONDS), 0)
+        self.assertGreaterEqual(self.site.status("ann", "GET", "/web/index.html"), 500)
+        self.site.start_daemon()
+        self.grants_ann()
+
+    def test_ended_certificates(self) -> None:
+        """A certificate whose digest is in the file counts no longer, and counts again when the file is empty."""
+        sequence = self.sequence("ann", "ben", READ)
+        shown, before = f"Authorization: SPKI {in_braces(sequence)}", self.site.text("etc/ended")
+        self.assertEqual(self.site.status("ben", "GET", "/web/index.html", shown), 200)
+        for text, status in ((f"{hash_of(sequence[1])[2].hex()}\n", 403), ("no digest\n", 403), (before, 200)):
+            self.site.write("etc/ended", text)
+            self.site.reload()
+            self.assertEqual(self.site.status("ben", "GET", "/web/index.html", shown), status)
+
+
+@needs.needs(*served.NEEDS, *needs.LIBRARY)
+class Example(unittest.TestCase):
+    """The one command of the example."""
+
+    ANSWERS = ["ann GET /web/index.html: 200", "ann PUT /web/new.txt: 201", "ann GET /web/new.txt: 200", "ann GET /secret/plan.txt: 401",
+               "ben GET /web/new.txt: 401", "robot PUT /web/out/main.js: 204", "robot GET /web/out/main.js: 401", "ben GET /web/new.txt: 200",
+               "ben PUT /web/new.txt: 403", "ben GET /secret/plan.txt: 403", "eve GET /web/new.txt: 403"]
+
+    def test_run(self) -> None:
+        import tempfile
+        with tempfile.TemporaryDirectory() as room:
+            settings = {**os.environ, "SPKI_AUTHD": served.daemon_built(room), "PORT": str(served.free_port()), "TMPDIR": room}
+            done = subprocess.run([os.path.join(served.EXAMPLE, "run.sh")], env=settings, stdout=subprocess.PIPE, stderr=subprocess.PIPE, text=True,
+                                  timeout=served.SECONDS, cwd=TESTS)
+            self.assertEqual((done.returncode, done.stdout.splitlines()), (0, self.ANSWERS), done.stderr)
+            self.assertEqual(os.listdir(room), ["spki-authd"])
