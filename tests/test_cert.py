@@ -352,10 +352,10 @@ class OfCertificates(Case):
         """The entries for a subject, by its key or its hash, and no other: what is around them stays."""
         for words in (("alice.pub",), ("bob.pub",), ("bob.pub", "--named", "team"), ("bob.pub",), ("alice.pub",)):
             self.done("entry", "--to", *words, "--tag", TAG, "--acl", "acl.sexp")
-        self.assertIn("removed 2 entries", self.done("entry", "--remove", "--to", self.done("key", "--hash", "bob.pub"), "--acl", "acl.sexp"))
+        self.assertIn("entries removed: 2", self.done("entry", "--remove", "--to", self.done("key", "--hash", "bob.pub"), "--acl", "acl.sexp"))
         said = self.done("show", "--labels", ".", "acl.sexp")
         self.assertEqual(re.findall(r"-> ([\w ]+)", said), ["alice", "team of bob", "alice"])
-        self.assertIn("removed 0 entries", self.done("entry", "--remove", "--to", "bob.pub", "--acl", "acl.sexp", wanted=1))
+        self.assertIn("entries removed: 0", self.done("entry", "--remove", "--to", "bob.pub", "--acl", "acl.sexp", wanted=1))
         self.done("entry", "--remove", "--to", "bob.pub", "--named", "team", "--acl", "acl.sexp")
         self.assertIn("goes with no --tag", self.done("entry", "--remove", "--to", "bob.pub", "--tag", TAG, "--acl", "acl.sexp", wanted=2))
         self.assertIn("needs --tag", self.done("entry", "--to", "bob.pub", wanted=2))

@@ -97,7 +97,7 @@ def remove(given: argparse.Namespace) -> int:
     text, count = list_without(subject_of(given), octets_of(given.acl))
     if count:
         write(given.acl, text)
-    print(f"removed {count} entries")
+    print(f"entries removed: {count}")
     return DONE if count else NO
 
 
