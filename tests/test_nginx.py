@@ -8,8 +8,10 @@ import os
 import re
 import signal
 import subprocess
+import tempfile
 import threading
 import unittest
+from typing import Any
 
 import attacks
 import needs
@@ -18,7 +20,7 @@ from served import Site, waits_for
 from support import TESTS, output_of
 from spki_cert_tool.files import now, signer_at
 from spki_cert_tool.forms import Parser
-from spki_cert_tool.keys import hash_of
+from spki_cert_tool.keys import digest_of
 from spki_cert_tool.making import Wish, certificate_of, signed_sequence
 from spki_cert_tool.sexp import Value, canonical
 
@@ -27,36 +29,13 @@ CONTENTS = {"web/index.html": b"<p>the web</p>", "web/out/main.js": b"main", "se
 LOGS = ("log/files.log", "log/error.log", "log/authd.log")
 READ = "(files read (* prefix /web/))"
 READERS, CHANGES = 4, 20
-# A client whose certificate for TLS is not of its key, which the programs of OpenSSL refuse to be.
-FOREIGN = """package main
-
-import ("crypto/tls"; "encoding/pem"; "fmt"; "os")
-
-func octets(path string) []byte {
-	text, _ := os.ReadFile(path)
-	block, _ := pem.Decode(text)
-	return block.Bytes
-}
-
-func main() {
-	own, err := tls.LoadX509KeyPair(os.Args[3], os.Args[4])
-	if err != nil { panic(err) }
-	foreign := tls.Certificate{Certificate: [][]byte{octets(os.Args[2])}, PrivateKey: own.PrivateKey}
-	client, err := tls.Dial("tcp", os.Args[1], &tls.Config{InsecureSkipVerify: true, Certificates: []tls.Certificate{foreign}})
-	if err != nil { fmt.Println(err); return }
-	fmt.Fprint(client, "GET /web/index.html HTTP/1.1\\r\\nHost: localhost\\r\\nConnection: close\\r\\n\\r\\n")
-	answer := make([]byte, 65536)
-	length, err := client.Read(answer)
-	fmt.Println(string(answer[:length]), err)
-}
-"""
 
 
 def statuses(answer: bytes) -> list[int]:
     return [int(found) for found in STATUS.findall(answer)]
 
 
-def in_braces(value: Value | bytes) -> str:
+def in_braces(value: Any) -> str:
     """A sequence, or octets that are none, as a header has it."""
     return "{" + base64.b64encode(value if isinstance(value, bytes) else canonical(value)).decode() + "}"
 
@@ -71,10 +50,10 @@ class OfSite(unittest.TestCase):
         cls.site = Site()
         cls.addClassCleanup(cls.site.end)
 
-    def sequence(self, by: str, to: str, tag: str, *, days: int = 9, begins: int = 0, delegates: bool = False, chain: Value | None = None) -> Value:
-        """The sequence of a certificate."""
+    def sequence(self, by: str, to: str, tag: str, *, days: int = 9, begins: int = 0, chain: Value | None = None) -> Any:
+        """The sequence of a certificate, which may not be delegated."""
         signer, key = (signer_at(self.site.at(f"keys/{who}")) for who in (by, to))
-        wish = Wish(key.key, None, Parser(tag.encode()).whole(), tag, now(begins), now(days), delegates, "")
+        wish = Wish(key.key, None, Parser(tag.encode()).whole(), tag, now(begins), now(days), False, "")
         return signed_sequence(certificate_of(wish, signer.key), signer, chain)
 
     def grants_ann(self) -> None:
@@ -98,19 +77,20 @@ class Attacks(OfSite):
         """What attacks.py names, as headers have it."""
         site = self.site
         good = self.sequence("ann", "ben", READ)
-        text, passing = canonical(good), self.sequence("ann", "ben", READ, delegates=False)
-        values: dict[str, Value | bytes] = {
+        text = canonical(good)
+        values: dict[str, Any] = {
             "ben": good, "ended": self.sequence("ann", "ben", READ, days=-1, begins=-2), "early": self.sequence("ann", "ben", READ, begins=5),
             "tag": text.replace(b"4:read", b"5:write"), "value": text[:-8] + bytes([text[-8] ^ 1]) + text[-7:],
             "subject": text.replace(self.key("ben"), self.key("eve")), "own": self.sequence("ben", "ben", READ),
             "signer": canonical(self.sequence("ben", "ben", READ)).replace(b"6:issuer" + self.key("ben"), b"6:issuer" + self.key("ann")),
-            "secret": self.sequence("ann", "ben", "(files read (* prefix /secret/))"), "other": self.sequence("ann", "ben", "(files read /web/other)"),
-            "passed": self.sequence("ben", "eve", READ, chain=passing), "unsigned": [b"sequence", good[1]], "none": [b"sequence"],
+            "secret": self.sequence("ann", "ben", "(files read (* prefix /secret/))"),
+            "other": self.sequence("ann", "ben", "(files read /web/other)"),
+            "passed": self.sequence("ben", "eve", READ, chain=good), "unsigned": [b"sequence", good[1]], "none": [b"sequence"],
             "many": [b"sequence", *good[1:] * 17], "key": self.key("ben"), "deep": b"(1:a" * 65 + b")" * 65, "name": self.name()}
         certificate = "".join(re.findall(r"[^\n]+\n?", site.text("keys/ann.crt")))
         ann = certificate.translate({ord(it): f"%{ord(it):02X}" for it in "\n +/=%"})
-        hashed = hash_of(signer_at(site.at("keys/ann")).key)
-        return {**{name: in_braces(value) for name, value in values.items()}, "ann": ann, "key": hashed[2].hex()}
+        digest = digest_of(signer_at(site.at("keys/ann")).key).hex()
+        return {**{name: in_braces(value) for name, value in values.items()}, "ann": ann, "key": digest}
 
     def key(self, who: str) -> bytes:
         return canonical(signer_at(self.site.at(f"keys/{who}")).key)
@@ -163,8 +143,8 @@ class Attacks(OfSite):
 
     def test_foreign_certificate(self) -> None:
         """Who holds another key than that of the certificate gets no connection."""
-        self.site.write("tmp/main.go", FOREIGN)
-        words = ("go", "run", self.site.at("tmp/main.go"), f"127.0.0.1:{self.site.port}", *map(self.site.at, ("keys/ann.crt", "keys/eve.crt", "keys/eve")))
+        files = map(self.site.at, ("keys/ann.crt", "keys/eve.crt", "keys/eve"))
+        words = ("go", "run", os.path.join(TESTS, "foreign.go"), f"127.0.0.1:{self.site.port}", *files)
         before = self.lines()
         said = output_of(*words, seconds=served.SECONDS)[1]
         self.assertNotIn("HTTP/1.1 2", said)
@@ -250,7 +230,7 @@ class Changes(OfSite):
         sequence = self.sequence("ann", "ben", READ)
         shown, before = f"Authorization: SPKI {in_braces(sequence)}", self.site.text("etc/ended")
         self.assertEqual(self.site.status("ben", "GET", "/web/index.html", shown), 200)
-        for text, status in ((f"{hash_of(sequence[1])[2].hex()}\n", 403), ("no digest\n", 403), (before, 200)):
+        for text, status in ((f"{digest_of(sequence[1]).hex()}\n", 403), ("no digest\n", 403), (before, 200)):
             self.site.write("etc/ended", text)
             self.site.reload()
             self.assertEqual(self.site.status("ben", "GET", "/web/index.html", shown), status)
@@ -265,7 +245,6 @@ class Example(unittest.TestCase):
                "ben PUT /web/new.txt: 403", "ben GET /secret/plan.txt: 403", "eve GET /web/new.txt: 403"]
 
     def test_run(self) -> None:
-        import tempfile
         with tempfile.TemporaryDirectory() as room:
             settings = {**os.environ, "SPKI_AUTHD": served.daemon_built(room), "PORT": str(served.free_port()), "TMPDIR": room}
             done = subprocess.run([os.path.join(served.EXAMPLE, "run.sh")], env=settings, stdout=subprocess.PIPE, stderr=subprocess.PIPE, text=True,
