@@ -52,16 +52,17 @@ def doubled() -> Iterator[Attack]:
     yield "two sequences in one header", "ben", request(WEB, "Authorization: SPKI {ben}, SPKI {ben}")
     yield "two sequences side by side", "ben", request(WEB, "Authorization: SPKI {ben}{ben}")
     yield "two lengths", "eve", raw(f"PUT {WEB} HTTP/1.1\nHost: localhost\nContent-Length: 1\nContent-Length: 2\n\nab")
-    yield "a length and chunks", "eve", raw(f"PUT {WEB} HTTP/1.1\nHost: localhost\nContent-Length: 5\nTransfer-Encoding: chunked\n\n0\n\n"
-                                          f"GET {WEB} HTTP/1.1\nHost: localhost\nConnection: close\n\n")
+    second = f"GET {WEB} HTTP/1.1\nHost: localhost\nConnection: close\n\n"
+    chunks = f"PUT {WEB} HTTP/1.1\nHost: localhost\nContent-Length: 5\nTransfer-Encoding: chunked\n\n0\n\n"
+    yield "a length and chunks", "eve", raw(chunks + second)
     for coding in ("xchunked", "chunked, identity", "identity, chunked", "\x0bchunked"):
         yield f"the coding {coding!r}", "eve", raw(f"PUT {WEB} HTTP/1.1\nHost: localhost\nTransfer-Encoding: {coding}\n\n0\n\n")
     yield "a request in a body", "eve", request(WEB, method="PUT", body=f"GET {WEB} HTTP/1.1\r\nHost: localhost\r\n\r\n")
-    yield "a request in a body that is too short", "ben", raw(f"GET {WEB} HTTP/1.1\nHost: localhost\nContent-Length: 3\n\n"
-                                                            f"abcGET {WEB} HTTP/1.1\nHost: localhost\nConnection: close\n\n")
+    short = f"GET {WEB} HTTP/1.1\nHost: localhost\nContent-Length: 3\n\nabc"
+    yield "a request in a body that is too short", "ben", raw(short + second)
     yield "a second request behind one that is denied", "eve", raw(f"GET {WEB} HTTP/1.1\nHost: localhost\n\n") + request(WEB, "X-Client-Cert: {ann}")
-    yield "a chunk with a wrong size", "eve", raw(f"PUT {WEB} HTTP/1.1\nHost: localhost\nConnection: close\nTransfer-Encoding: chunked\n\n"
-                                                 f"ffffffffffffffff1\nab\n0\n\n")
+    wrong = f"PUT {WEB} HTTP/1.1\nHost: localhost\nConnection: close\nTransfer-Encoding: chunked\n\nffffffffffffffff1\nab\n0\n\n"
+    yield "a chunk with a wrong size", "eve", raw(wrong)
     yield "lines that end in a line feed alone", "eve", f"GET {WEB} HTTP/1.1\nHost: localhost\nX-Client-Cert: {{ann}}\nConnection: close\n\n".encode()
     yield "a carriage return in a header", "eve", request(WEB, "X-A: b\rX-Client-Cert: {ann}")
     yield "a zero octet in a header", "eve", request(WEB, "X-A: b\0X-Client-Cert: {ann}")
