@@ -33,6 +33,7 @@ from spki_cert_tool.checking import remarks_on
 from spki_cert_tool.labels import Labels
 from spki_cert_tool.places import read_text, value_in
 
+sys.path.append(os.path.join(TOP, "bindings", "python"))
 COMMAND = os.path.join(TOP, "cert", "spki-cert")
 NOW = b"2026-03-01_12:00:00"
 TYPES = {"ed25519": ["-t", "ed25519"], "rsa": ["-t", "rsa", "-b", "2048"], "p256": ["-t", "ecdsa", "-b", "256"]}
