@@ -25,7 +25,10 @@ cd "$room"
 echo $! > run/authd.pid
 if [ "$(id -u)" = 0 ]; then as_user='user root;'; else as_user=''; fi
 nginx -p "$room" -c etc/loopback.conf -e log/error.log -g "$as_user" &
-until [ -S run/socket ]; do kill -0 "$(cat run/authd.pid)" && sleep 0.1; done
+until [ -S run/socket ]; do
+    kill -0 "$(cat run/authd.pid)" || { cat log/authd-events.log; exit 1; }
+    sleep 0.1
+done
 curl -s -o tmp/answer --retry 50 --retry-delay 1 --retry-connrefused --cacert ca/ca.crt "https://localhost:$PORT/"
 
 . "$here/asking.sh"
