@@ -122,6 +122,7 @@ class Attacks(OfSite):
         for what, who, octets in attacks.all_of_them():
             with self.subTest(what):
                 self.fails(who, self.filled(octets))
+        self.assertNotIn('"answer":"failed"', self.site.text("log/authd.log"))
 
     def fails(self, who: str | None, octets: bytes) -> None:
         """What is sent must get nothing, and leave a line in a log and all else as it is."""
