@@ -2,7 +2,6 @@
 from __future__ import annotations
 
 import os
-import re
 import stat
 from collections.abc import Iterator
 from dataclasses import dataclass
@@ -10,7 +9,7 @@ from dataclasses import dataclass
 from .certificates import Keys, certificates_in, fault_of_signature, keys_in, remarks_on_window, terms_of_certificate, terms_of_entry
 from .forms import MOST_OCTETS, Node, Wrong, meant
 from .keys import BadKey, is_key_file, is_private, public_of, read_public
-from .places import BY_HEAD, place_shown, places_of, read_text, refusal
+from .places import BY_HEAD, line_and_column, places_of, read_text, refusal
 from .showing import FAULTS
 from .structures import read_certificate, read_hash, read_signature
 from .tag_words import is_everything, remarks
@@ -19,7 +18,6 @@ from .tags import read_tag
 S_EXPRESSIONS, OTHER_KEYS = (".sexp", ".csexp", ".tsexp"), (".pub", ".pem", ".key")
 OTHERS = {b"cert": read_certificate, b"signature": read_signature, b"hash": read_hash}
 HEADS = (*BY_HEAD, *OTHERS, b"tag", b"entry", b"request", b"private-key")
-AT = re.compile(r"line (\d+), column (\d+)")
 
 
 @dataclass(frozen=True)
@@ -39,9 +37,7 @@ class Remark:
 
 def remark(path: str, text: bytes, places: list[int] | None, at: int, is_refused: bool, why: str) -> Remark:
     """A remark on the place at an offset. In braces it is on the place where they have the octet."""
-    found = AT.match(place_shown(text, None, at)[0]) if places is None else None
-    line, column = (int(found[1]), int(found[2])) if found else (1, 1)
-    return Remark(path, line, column, is_refused, why)
+    return Remark(path, *(line_and_column(text, at) if places is None else (1, 1)), is_refused, why)
 
 
 def files_below(paths: list[str]) -> Iterator[str]:

@@ -46,19 +46,19 @@ def part_of(name: str, read: Callable[[], object]) -> None:
         raise
 
 
-def of_item(node: Node, name: str, number: int) -> Place:
-    """The remark where an item of a part begins."""
-    word = {"acl": "entry", "sequence": "item"}.get(name, "row")
-    return node.begin, f"{word} {number} begins here"
-
-
 def read_numbered(name: str, read: Reader, nodes: list[Node]) -> None:
     for number, node in enumerate(nodes, 1):
-        try:
-            part_of(f"{name} {number}", partial(read, node))
-        except Wrong as wrong:
-            wrong.others.append(of_item(node, name, number))
-            raise
+        read_one(name, number, read, node)
+
+
+def read_one(name: str, number: int, read: Reader, node: Node) -> None:
+    """Reads an entry, an item or a row. A fault gets the place where it begins."""
+    try:
+        part_of(f"{name} {number}", partial(read, node))
+    except Wrong as wrong:
+        word = {"acl": "entry", "sequence": "item"}.get(name, "row")
+        wrong.others.append((node.begin, f"{word} {number} begins here"))
+        raise
 
 
 def read_list(node: Node) -> None:
@@ -82,16 +82,8 @@ def read_sequence(node: Node) -> None:
         if item and not waits and head == b"signature":
             raise Wrong(f"sequence {number} StraySignature", item.begin, "no certificate waits for this signature")
         if item:
-            read_numbered_item(item, number)
+            read_one("sequence", number, read_item, item)
             waits = (number, item) if head == b"cert" else None if head == b"signature" else waits
-
-
-def read_numbered_item(item: Node, number: int) -> None:
-    try:
-        part_of(f"sequence {number}", partial(read_item, item))
-    except Wrong as wrong:
-        wrong.others.append(of_item(item, "sequence", number))
-        raise
 
 
 def read_case(node: Node) -> None:
@@ -256,12 +248,14 @@ def refusal(wrong: Wrong, places: list[int] | None) -> str:
     return f"refused {wrong.kind} {places[-1] if places else wrong.at}"
 
 
+def line_and_column(text: bytes, at: int) -> tuple[int, int]:
+    return text.count(b"\n", 0, at) + 1, at - text.rfind(b"\n", 0, at)
+
+
 def place_shown(text: bytes, places: list[int] | None, at: int) -> tuple[str, str]:
     """A place as line and column, with the text around it and a mark below."""
-    line = text.count(b"\n", 0, at) + 1
-    starts = text.rfind(b"\n", 0, at) + 1
-    column = at - starts + 1
-    ends = text.find(b"\n", at)
+    line, column = line_and_column(text, at)
+    starts, ends = at - column + 1, text.find(b"\n", at)
     first, last = max(starts, at - WIDTH), min(len(text) if ends < 0 else ends, at + WIDTH)
     front = "".join(printable(octet) for octet in text[first:at])
     where = f"line {line}, column {column}, octet {at}"
