@@ -9,12 +9,17 @@ Build the program first (`rt run` in crates/spki), and draw with Graphviz (Debia
     examples/picture.py examples/delegation.sexp | dot -Tsvg > chain.svg
 Usage: examples/picture.py CASE [PROGRAM]
 """
+import collections
 import os
+import re
 import sys
 
 sys.path.append(os.path.join(os.path.dirname(os.path.abspath(__file__)), "..", "tests"))
 from support import given_program, read, run  # noqa: E402
 from spki_cert_tool.drawing import WIDTH, dot_of, drawing_of_case  # noqa: E402
+
+REASON = re.compile(r"^(?:entry (\d+) )?(?:item (\d+) )?(\w+)$", re.MULTILINE)
+Reason = collections.namedtuple("Reason", "entry item word")
 
 
 def drawn(program, path, width=WIDTH):
@@ -31,7 +36,8 @@ def drawn(program, path, width=WIDTH):
         return read(run(program, "canonical", line.split(b" ", 2)[2])[1])
 
     case = read(run(program, "canonical", text)[1])
-    return drawing_of_case(case, lines.decode().splitlines(), reduced, width=width)
+    reasons = [Reason(*(int(number) if number else None for number in numbers), word) for *numbers, word in REASON.findall(lines.decode())]
+    return drawing_of_case(case, reasons, reduced, width=width)
 
 
 def main():

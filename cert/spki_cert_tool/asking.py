@@ -61,11 +61,12 @@ class Answer:
 
     @property
     def chosen(self) -> Reason | None:
-        """The reason of the entry that goes furthest: it grants, or its chain ends last."""
-        granted = [it for it in self.reasons if it.word == "grants"]
-        if granted or not self.reasons:
-            return granted[0] if granted else None
-        return max(self.reasons, key=lambda it: (it.item or sys.maxsize, -(it.entry or 0)))
+        return furthest(self.reasons)
+
+
+def furthest(reasons: list[Reason]) -> Reason | None:
+    """The reason of the entry that goes furthest: it grants, or its chain ends last. None if there are no entries."""
+    return max(reasons, key=lambda it: (it.word == "grants", it.item or sys.maxsize, -(it.entry or 0))) if reasons else None
 
 
 def guard_of(asked: Asked) -> Guard:

@@ -5,25 +5,23 @@ what right is left at its end. Other entries are left out. Long texts are broken
 """
 from __future__ import annotations
 
-import re
-import sys
 import textwrap
 from collections.abc import Callable, Iterable, Iterator
 from dataclasses import dataclass
 from html import escape
 from typing import TYPE_CHECKING
 
+from .asking import Answer, Asked, answered, asked_of_case, case_of, furthest
 from .certificates import Keys, entries_of, field, headed, keys_in, members, terms_of_certificate
 from .forms import Parser
 from .labels import Labels
 from .sexp import Value, canonical, on_one_line
 
 if TYPE_CHECKING:
-    from .asking import Answer, Asked
+    from spki import Reason
 
 WIDTH, PICTURE_WIDTH = 36, 70
 RED, GREEN, BLACK = "red", "darkgreen", "black"
-ENTRY = re.compile(r"entry (\d+) (?:item (\d+) )?(.*)")
 MEANINGS = {
     "KeyNotShown": "the key of its issuer is not shown", "DigestDiffers": "its signature has another digest",
     "SignerDiffers": "it is signed by another key than its issuer's", "NotAccepted": "its signature is not accepted",
@@ -35,14 +33,6 @@ MEANINGS = {
 def quoted(lines: Iterable[str]) -> str:
     """Lines as a string of dot."""
     return '"' + "\\n".join(line.replace("\\", "\\\\").replace('"', '\\"') for line in lines) + '"'
-
-
-def chosen(lines: list[str]) -> tuple[int, int | None, str]:
-    """The entry that is drawn: its number, the item that stops it or None, and what is said of it."""
-    matched = [match.groups() for match in map(ENTRY.match, lines) if match]
-    found = [(int(entry), int(item) if item else None, word) for entry, item, word in matched]
-    granted = [each for each in found if each[2] == "grants"]
-    return granted[0] if granted else max(found, key=lambda each: (each[1] or sys.maxsize, -each[0]))
 
 
 @dataclass(frozen=True)
@@ -126,19 +116,17 @@ class Drawing:
             self.arrow(self.of(members(key)[0]), end, BLACK, "asks")
 
 
-def drawing_of_case(case: Value, explained: list[str], reduced: Callable[[int], Value], labels: Labels | None = None, width: int = WIDTH) -> Drawing:
+def drawing_of_case(case: Value, reasons: list[Reason], reduced: Callable[[int], Value], labels: Labels | None = None, width: int = WIDTH) -> Drawing:
     """The picture of a case, of which `explain` and `reduce` said this."""
+    chosen = furthest(reasons)
     access_list, _, sequence, key = members(case)[:4]
     drawing = Drawing([members(key)[0], *keys_in(sequence)], labels, width)
-    if explained[0].startswith("item "):
-        _, stops, cause = explained[0].split()
-        drawing.links(sequence, int(stops), cause)
-    elif explained[0] != "no entries":
-        entry, stopped, word = chosen(explained)
-        drawing.entries(access_list, entry)
-        drawing.links(sequence, stopped, word)
-        if not stopped:
-            drawing.ends(case, entry, word, reduced(entry))
+    if chosen is not None:
+        if chosen.entry is not None:
+            drawing.entries(access_list, chosen.entry)
+        drawing.links(sequence, chosen.item, chosen.word)
+        if chosen.entry is not None and chosen.item is None:
+            drawing.ends(case, chosen.entry, chosen.word, reduced(chosen.entry))
     return drawing
 
 
@@ -236,7 +224,6 @@ def svg_of_drawing(drawing: Drawing, title: str, width: float = 620) -> Iterator
 def svg_of(value: Value, labels: Labels) -> bytes:
     """A list, a certificate, a sequence or a case as SVG."""
     if headed(value, b"case"):
-        from .asking import answered, asked_of_case
         asked = asked_of_case(value, labels)
         return svg_of_answer(asked, answered(asked))
     drawing = Drawing(keys_in(value), labels, PICTURE_WIDTH)
@@ -249,13 +236,10 @@ def svg_of(value: Value, labels: Labels) -> bytes:
 
 def svg_of_answer(asked: Asked, answer: Answer) -> bytes:
     """The chain of an answer as SVG."""
-    from .asking import case_of
-
     def reduced(entry: int) -> Value:
         return Parser(answer.reduced[entry - 1].split(" ", 2)[2].encode()).whole().value
 
-    explained = [" ".join([f"entry {it.entry}"] * bool(it.entry) + [f"item {it.item}"] * bool(it.item) + [it.word]) for it in answer.reasons]
-    drawing = drawing_of_case(case_of(asked, answer.sequence), explained or ["no entries"], reduced, asked.labels, PICTURE_WIDTH)
+    drawing = drawing_of_case(case_of(asked, answer.sequence), answer.reasons, reduced, asked.labels, PICTURE_WIDTH)
     return text_of_lines(svg_of_drawing(drawing, "The chain of a request", 840))
 
 
