@@ -342,6 +342,10 @@ class OfCertificates(Case):
         self.done("entry", "--to", "bob.pub", "--named", "team", "--tag", TAG, "--days", "9", "--comment", "the team", "--acl", "acl.sexp")
         self.assertTrue(text_in(self.at("acl.sexp")).startswith(before.rstrip()[:-1]))
         self.done("check", "acl.sexp")
+        os.chmod(self.at("acl.sexp"), 0o640)
+        os.symlink("acl.sexp", self.at("link.sexp"))
+        self.done("entry", "--to", "bob.pub", "--tag", TAG, "--acl", "link.sexp")
+        self.assertEqual((os.path.islink(self.at("link.sexp")), stat.S_IMODE(os.stat(self.at("acl.sexp")).st_mode)), (True, 0o640))
         said = self.done("show", "--labels", ".", "acl.sexp")
         for words in ("entry 1  the list -> alice, may delegate", "entry 2  the list -> team of bob, may not delegate", "comment: 'the team'"):
             self.assertIn(words, said)

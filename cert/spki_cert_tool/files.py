@@ -4,6 +4,7 @@ from __future__ import annotations
 import contextlib
 import getpass
 import os
+import stat
 import sys
 import tempfile
 from datetime import datetime, timedelta, timezone
@@ -111,24 +112,29 @@ def moment_of(text: str, day: str = "_00:00:00") -> bytes:
 
 
 def write(path: str | None, octets: bytes, mode: int = 0o644, replaces: bool = True) -> None:
-    """Writes a file whole or not at all, or writes to standard output if there is no path."""
+    """Writes a file whole or not at all, or writes to standard output if there is no path. A file that is replaced keeps its mode, and its
+    owner where that is allowed."""
     if path is None or path == "-":
         sys.stdout.buffer.write(octets)
         sys.stdout.buffer.flush()
         return
-    folder = os.path.dirname(os.path.abspath(path))
+    place = os.path.realpath(path) if replaces else path
     try:
-        handle, made = tempfile.mkstemp(prefix=".spki-cert-", dir=folder)
+        before = os.stat(place) if replaces and os.path.isfile(place) else None
+        handle, made = tempfile.mkstemp(prefix=".spki-cert-", dir=os.path.dirname(os.path.abspath(place)))
         try:
             with open(handle, "wb") as file:
-                os.fchmod(file.fileno(), mode)
+                os.fchmod(file.fileno(), mode if before is None else stat.S_IMODE(before.st_mode))
+                if before is not None:
+                    with contextlib.suppress(PermissionError):
+                        os.fchown(file.fileno(), before.st_uid, before.st_gid)
                 file.write(octets)
                 file.flush()
                 os.fsync(file.fileno())
             if not replaces:
-                os.link(made, path)
+                os.link(made, place)
             else:
-                os.replace(made, path)
+                os.replace(made, place)
         finally:
             with contextlib.suppress(FileNotFoundError):
                 os.unlink(made)
