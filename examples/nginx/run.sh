@@ -48,6 +48,7 @@ asks ben GET /secret/plan.txt -H "$(shows to-ben)"
 asks eve GET /web/new.txt -H "$(shows to-ben)"
 
 if [ "${1:-}" = stay ]; then
-    echo "nginx is at https://localhost:$PORT, and all files are in $room; end it by an interrupt"
+    echo "nginx is at https://localhost:$PORT, until an interrupt. In another shell, to do what docs/OPERATING.md says:"
+    echo "cd $room; PORT=$PORT EXAMPLE=$here PATH=$top/cert:$(dirname "$SPKI_AUTHD"):\$PATH"
     wait
 fi
