@@ -97,21 +97,24 @@ def key_of(public: object) -> Value:
 
 def public_of(key: Value) -> Public | None:
     """The public key of `cryptography` for a key in exactly the form of `key_of`. None for any other."""
-    from cryptography.hazmat.primitives.asymmetric import ec, ed25519, rsa
-    public: Public
     try:
-        match key:
-            case [b"public-key", [b"ecc", [b"curve", b"Ed25519"], [b"flags", b"eddsa"], [b"q", bytes() as octets]]]:
-                public = ed25519.Ed25519PublicKey.from_public_bytes(octets)
-            case [b"public-key", [b"rsa", [b"n", bytes() as modulus], [b"e", bytes() as exponent]]] if len(modulus) <= MOST_BITS // 8 + 1:
-                public = rsa.RSAPublicNumbers(int.from_bytes(exponent, "big"), int.from_bytes(modulus, "big")).public_key()
-            case [b"public-key", [b"ecc", [b"curve", b"NIST P-256"], [b"q", bytes() as octets]]]:
-                public = ec.EllipticCurvePublicKey.from_encoded_point(ec.SECP256R1(), octets)
-            case _:
-                return None
-        return public if key_of(public) == key else None
+        public = public_of_parts(key)
+        return public if public is not None and key_of(public) == key else None
     except (ValueError, BadKey):
         return None
+
+
+def public_of_parts(key: Value) -> Public | None:
+    """The public key of an SPKI key's parts."""
+    from cryptography.hazmat.primitives.asymmetric import ec, ed25519, rsa
+    match key:
+        case [b"public-key", [b"ecc", [b"curve", b"Ed25519"], [b"flags", b"eddsa"], [b"q", bytes() as octets]]]:
+            return ed25519.Ed25519PublicKey.from_public_bytes(octets)
+        case [b"public-key", [b"rsa", [b"n", bytes() as modulus], [b"e", bytes() as exponent]]] if len(modulus) <= MOST_BITS // 8 + 1:
+            return rsa.RSAPublicNumbers(int.from_bytes(exponent, "big"), int.from_bytes(modulus, "big")).public_key()
+        case [b"public-key", [b"ecc", [b"curve", b"NIST P-256"], [b"q", bytes() as octets]]]:
+            return ec.EllipticCurvePublicKey.from_encoded_point(ec.SECP256R1(), octets)
+    return None
 
 
 def kind_of(key: Value) -> str:
@@ -163,25 +166,33 @@ class FileSigner:
 def verifies(key: Value, message: bytes, value: Value) -> bool:
     """Whether a value is a signature of a message by an SPKI key."""
     from cryptography.exceptions import InvalidSignature
-    from cryptography.hazmat.primitives.asymmetric import ec, ed25519, padding, rsa, utils
-    from cryptography.hazmat.primitives.hashes import SHA256
+    public = public_of(key)
+    if public is None:
+        return False
     try:
-        match public_of(key), value:
-            case ed25519.Ed25519PublicKey() as public, [b"sig-val", [b"eddsa", [b"r", bytes() as r], [b"s", bytes() as s]]]:
-                if len(r) != HALF or len(s) != HALF:
-                    return False
-                public.verify(r + s, message)
-            case rsa.RSAPublicKey() as public, [b"sig-val", [b"rsa", [b"s", bytes() as s]]]:
-                octets = int.from_bytes(s, "big").to_bytes((public.key_size + 7) // 8, "big")
-                public.verify(octets, message, padding.PKCS1v15(), SHA256())
-            case ec.EllipticCurvePublicKey() as public, [b"sig-val", [b"ecdsa", [b"r", bytes() as r], [b"s", bytes() as s]]]:
-                octets = utils.encode_dss_signature(int.from_bytes(r, "big"), int.from_bytes(s, "big"))
-                public.verify(octets, message, ec.ECDSA(SHA256()))
-            case _:
-                return False
-        return True
+        return verified_by(public, message, value)
     except (InvalidSignature, OverflowError, ValueError):
         return False
+
+
+def verified_by(public: Public, message: bytes, value: Value) -> bool:
+    """True if a value is a signature by a public key. Otherwise False or an exception."""
+    from cryptography.hazmat.primitives.asymmetric import ec, ed25519, padding, rsa, utils
+    from cryptography.hazmat.primitives.hashes import SHA256
+    match value:
+        case [b"sig-val", [b"eddsa", [b"r", bytes() as r], [b"s", bytes() as s]]] if isinstance(public, ed25519.Ed25519PublicKey):
+            if len(r) != HALF or len(s) != HALF:
+                return False
+            public.verify(r + s, message)
+        case [b"sig-val", [b"rsa", [b"s", bytes() as s]]] if isinstance(public, rsa.RSAPublicKey):
+            octets = int.from_bytes(s, "big").to_bytes((public.key_size + 7) // 8, "big")
+            public.verify(octets, message, padding.PKCS1v15(), SHA256())
+        case [b"sig-val", [b"ecdsa", [b"r", bytes() as r], [b"s", bytes() as s]]] if isinstance(public, ec.EllipticCurvePublicKey):
+            octets = utils.encode_dss_signature(int.from_bytes(r, "big"), int.from_bytes(s, "big"))
+            public.verify(octets, message, ec.ECDSA(SHA256()))
+        case _:
+            return False
+    return True
 
 
 def verify(key: bytes, message: bytes, value: bytes) -> bool:
