@@ -76,8 +76,8 @@ def with_window(parser: argparse.ArgumentParser, *, signs: bool = True) -> None:
         parser.add_argument("--remove", action="store_true", help="remove the entries for --to from the list instead")
 
 
-def with_tag(parser: argparse.ArgumentParser) -> None:
-    parser.add_argument("--tag", metavar="TAG", help="the requests that are allowed, as '(packages read (* prefix /web/))'")
+def with_tag(parser: argparse.ArgumentParser, *, needs_it: bool) -> None:
+    parser.add_argument("--tag", metavar="TAG", required=needs_it, help="the requests that are allowed, as '(packages read (* prefix /web/))'")
     parser.add_argument("--propagate", action="store_true", help="the subject may delegate the right")
     parser.add_argument("--try", metavar="WORD", nargs="+", action="append", dest="tries",
                         help="a request that the tag is to contain, by its words; may be given several times")
@@ -105,7 +105,7 @@ def parser_of_commands() -> argparse.ArgumentParser:
     sign = added("sign", "sign a certificate that gives a right", SIGN_HELP,
                  "example: spki-cert sign --by alice --to bob.pub --tag '(packages (* set read write))' --days 30 -o to-bob.sexp")
     with_window(sign)
-    with_tag(sign)
+    with_tag(sign, needs_it=True)
     name = added("name", "sign a certificate that defines a name", NAME_HELP,
                  "example: spki-cert name --by alice --name builders --to bob.pub --days 365 -o bob-builds.sexp")
     with_window(name)
@@ -113,7 +113,7 @@ def parser_of_commands() -> argparse.ArgumentParser:
     entry = added("entry", "write an entry of an access list", ENTRY_HELP,
                   "example: spki-cert entry --to alice.pub --tag '(packages)' --propagate --acl acl.sexp")
     with_window(entry, signs=False)
-    with_tag(entry)
+    with_tag(entry, needs_it=False)
     show = added("show", "say in words what a list, a certificate, a sequence or a case says", SHOW_HELP,
                  "example: spki-cert show acl.sexp to-bob.sexp")
     show.add_argument("files", metavar="FILE", nargs="+")
