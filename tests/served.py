@@ -8,7 +8,7 @@ import subprocess
 import sys
 import tempfile
 import time
-from collections.abc import Iterator
+from collections.abc import Callable, Iterator
 
 import built
 from support import TOP
@@ -42,10 +42,10 @@ def free_port() -> int:
         return int(taken.getsockname()[1])
 
 
-def waits_for(what: str, is_so: object) -> None:
+def waits_for(what: str, is_so: Callable[[], bool]) -> None:
     """Waits until something is so."""
     end = time.monotonic() + SECONDS
-    while not is_so():  # type: ignore[operator]
+    while not is_so():
         if time.monotonic() > end:
             raise AssertionError(f"not so after {SECONDS} seconds: {what}")
         time.sleep(0.05)
