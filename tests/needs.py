@@ -45,6 +45,7 @@ NEEDS = [Need(*words) for words in [
     ("cargo-clippy", "rust-clippy", "the lints of the Rust crate"),
     ("cargo-fmt", "rustfmt", "the layout of the Rust crate"),
     ("go", "golang-go", "the Go module and `spki-authd`, from Go 1.19 on"),
+    ("go-staticcheck", "go-staticcheck", "the lints of the Go module and of `spki-authd`"),
     ("import cryptography", "python3-cryptography", "`spki-cert`, the examples and the services with real keys and signatures"),
     ("import bcrypt", "python3-bcrypt", "encrypted keys of OpenSSH in `spki-cert`"),
     ("import pip", "python3-pip", "`pip install` of `spki-cert`"),

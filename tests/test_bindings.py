@@ -191,6 +191,7 @@ class Version(unittest.TestCase):
     def test_version(self):
         """The crate, the module and the header have the version of the file VERSION."""
         met = {"bindings/rust/Cargo.toml": r'^version = "(.*)"$', "bindings/python/spki.py": r'^__version__ = "(.*)"$',
+               "bindings/go/guard/guard.go": r'^const Version = "(.*)"$',
                "crates/spki_c/spki.h": r'^#define SPKI_VERSION "(.*)"$'}
         found = {path: re.search(line, text_of(path), re.MULTILINE)[1] for path, line in met.items()}
         self.assertEqual(found, dict.fromkeys(met, text_of("VERSION").strip()))

@@ -14,7 +14,7 @@ from collections.abc import Callable, Iterator
 
 from support import TOP, output_of, text_of
 
-PAGES = ["*.md", "docs/*.md", "examples/*.md", "crates/*/CALLING.md"]
+PAGES = ["*.md", "docs/*.md", "examples/*.md", "spki-authd/*.md", "crates/*/CALLING.md"]
 LINK = re.compile(r"\]\(([^)\s]+)\)")
 TICKS = re.compile(r"`([^`\n]+)`")
 FENCED = re.compile(r"^```(\w*) ?(\S*)\n(.*?)^```$", re.MULTILINE | re.DOTALL)

@@ -9,7 +9,7 @@ import built
 import needs
 from support import TESTS, TOP
 
-KINDS = (".md", ".1", ".py", ".rs", ".rt", ".h", ".c", ".sh")
+KINDS = (".md", ".1", ".py", ".rs", ".go", ".rt", ".h", ".c", ".sh")
 WITHOUT_END = ("tools/locate", "tests/run", ".ci/run", ".ci/deep")
 
 

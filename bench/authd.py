@@ -1,0 +1,147 @@
+#!/usr/bin/env python3
+"""Measures spki-authd beside a handler that answers 200 to each request, both in Go, and ends with another status where a limit is passed.
+
+The list has 10,000 entries. Each request shows three certificates by Ed25519. The signatures of nine requests of ten were verified before, and
+those of the tenth were not: the cache is too small for them.
+
+- Requests a second, asked directly, and through nginx with `auth_request`, beside nginx alone. Where nginx is not there its part is left out.
+- The processor time of a request.
+- The 99th percentile of the time at half of that load.
+- Under load, with a reload each second: wrong answers, and the resident memory.
+- The same for a short time with Go's race detector.
+
+Needs wrk, Go and `cryptography` (Debian: wrk, golang-go, python3-cryptography). Build the library first (crates/spki_c/archive.py).
+Usage: bench/authd.py [--seconds N] [--soak N] [LIBRARY]
+"""
+import argparse
+import os
+import shutil
+import sys
+import tempfile
+import threading
+import time
+
+from authd_site import Site, processor_seconds, reload, resident
+
+sys.path.append(os.path.join(os.path.dirname(os.path.abspath(__file__)), "..", "tests"))
+from support import LIBRARY  # noqa: E402
+
+CONNECTIONS = 32
+LEAST_RATIO, MOST_P99, MOST_GROWTH = 0.5, 10.0, 1.10
+RACE_SECONDS = 10
+# The share of a soak after which the memory is compared: what is first used, such as the heap, has grown by then.
+SETTLED = 0.25
+
+
+def arguments():
+    asked = argparse.ArgumentParser(description=__doc__, formatter_class=argparse.RawDescriptionHelpFormatter)
+    asked.add_argument("--seconds", type=int, default=10, help="of each measurement")
+    asked.add_argument("--soak", type=int, default=60, help="seconds under load with reloads")
+    asked.add_argument("library", nargs="?", default=LIBRARY)
+    return asked.parse_args()
+
+
+def measured(site, seconds):
+    """The figures of each way to ask, taken one after the other, twice, of which the better one counts."""
+    ways = [("handler, directly", site.yes, True), ("daemon, directly", site.authd, True)]
+    if shutil.which("nginx"):
+        ways += [(name, port, False) for name, port in zip(("nginx alone", "nginx and handler", "nginx and daemon"), site.nginx)]
+    found = {}
+    for _ in range(2):
+        for name, port, is_direct in ways:
+            met = site.load(port, seconds, CONNECTIONS, is_direct)
+            if name not in found or met.rate > found[name].rate:
+                found[name] = met
+    for name, met in found.items():
+        print(f"{name:<20}{met}", flush=True)
+    return found
+
+
+def processor_time(site, daemon, seconds):
+    """The processor time of a request in the handler and in the daemon, in µs. Other programs change it less than they change a rate."""
+    for name, process, port in (("handler", site.handler, site.yes), ("daemon", daemon, site.authd)):
+        before = processor_seconds(process)
+        met = site.load(port, seconds, CONNECTIONS, True)
+        print(f"{name}: {(processor_seconds(process) - before) / met.requests * 1e6:.0f} µs of processor time a request", flush=True)
+
+
+def at_half(site, seconds, full):
+    """The figures at about half of the load: each connection waits before each request."""
+    connections = 4 * CONNECTIONS
+    delay = round(1000 * connections / (full.rate / 2))
+    met = site.load(site.authd, seconds, connections, True, delay)
+    print(f"{'daemon, half load':<20}{met}", flush=True)
+    return met
+
+
+def soaked(site, process, seconds):
+    """The figures under load with a reload each second, and the resident memory after each reload."""
+    found = []
+    load = threading.Thread(target=lambda: found.append(site.load(site.authd, seconds, CONNECTIONS, True)))
+    load.start()
+    memory = []
+    while load.is_alive():
+        reload(process)
+        time.sleep(1)
+        memory.append(resident(process))
+    load.join()
+    return found[0], memory
+
+
+def growth(memory):
+    """By how much the memory has grown since it settled: the means of what comes after it, of the first and of the last part."""
+    settled = memory[round(len(memory) * SETTLED):]
+    part = max(1, len(settled) // 4)
+    return sum(settled[-part:]) / sum(settled[:part])
+
+
+def run_raced(site):
+    """What is wrong under load with the race detector."""
+    site.build("-race")
+    process = site.start_daemon()
+    met, _ = soaked(site, process, RACE_SECONDS)
+    site.end()
+    print(f"{'race detector':<20}{met}, status {process.returncode}", flush=True)
+    said = site.said(site.program)
+    return [f"a race, or wrong answers: {said}"] if "DATA RACE" in said or met.errors or process.returncode else []
+
+
+def faults_of(site, asked):
+    """All that is measured, and what is wrong in it."""
+    site.build()
+    process = site.start_all()
+    figures = measured(site, asked.seconds)
+    processor_time(site, process, asked.seconds)
+    half = at_half(site, asked.seconds, figures["daemon, directly"])
+    soak, memory = soaked(site, process, asked.soak)
+    site.end()
+    print(f"{f'{asked.soak} s of reloads':<20}{soak}; {memory[0] / 1024:.0f} MiB at first, {max(memory) / 1024:.0f} at most, "
+          f"{memory[-1] / 1024:.0f} at last, grown by {growth(memory):.3f} since it settled", flush=True)
+    ways = [("daemon, directly", "handler, directly"), ("nginx and daemon", "nginx and handler")]
+    ratios = {name: figures[name].rate / figures[beside].rate for name, beside in ways if name in figures}
+    for name, ratio in ratios.items():
+        print(f"{name}: {ratio:.2f} of the handler's requests", flush=True)
+    wrong = [f"{name}: under {LEAST_RATIO}" for name, ratio in ratios.items() if ratio < LEAST_RATIO]
+    wrong += [f"p99 over {MOST_P99} ms"] if half.p99 > MOST_P99 else []
+    wrong += ["the memory grows"] if growth(memory) > MOST_GROWTH else []
+    wrong += [f"{name}: wrong answers" for name, met in {**figures, "half": half, "soak": soak}.items() if met.errors]
+    return wrong + run_raced(site)
+
+
+def main():
+    asked = arguments()
+    if not (shutil.which("wrk") and shutil.which("go")):
+        print("spki-authd is left out\n0 passed, 0 failed")
+        return 0
+    with tempfile.TemporaryDirectory() as room:
+        site = Site(room, os.path.abspath(asked.library))
+        try:
+            wrong = faults_of(site, asked)
+        finally:
+            site.end()
+    print("".join(f"{line}\n" for line in wrong), end="")
+    return 1 if wrong else 0
+
+
+if __name__ == "__main__":
+    sys.exit(main())

@@ -1,0 +1,224 @@
+"""What `authd.py` measures: an access list of 10,000 entries, chains of three certificates, the daemon, the handler that says 200 to all, nginx
+before each of them, and the load of wrk."""
+import base64
+import contextlib
+import json
+import os
+import re
+import shutil
+import signal
+import socket
+import subprocess
+import sys
+import time
+import urllib.parse
+from datetime import datetime, timedelta, timezone
+
+sys.path.append(os.path.join(os.path.dirname(os.path.abspath(__file__)), "..", "tests"))
+import golang  # noqa: E402
+from support import BENCH, canonical  # noqa: E402
+
+from spki_cert_tool.keys import FileSigner, hash_of, new_private  # noqa: E402
+
+ENTRIES, HOT, COLD = 10_000, 100, 6_000
+# The cache has room for the certificates of the hot chains, and for few of the cold ones.
+CACHE = 2_000
+SECRET = "0123456789abcdef" * 4
+PORTS = 5
+SECONDS_TO_START = 30
+LUA = """local shown, hot = {}, %d
+for line in io.lines("%s") do shown[#shown + 1] = "SPKI " .. line end
+local turn, cold = 0, 0
+function setup(thread) thread:set("seed", math.random(1, #shown)) end
+function init(args) cold = seed end
+function delay() return %d end
+function request()
+    turn = turn + 1
+    local place = turn %% hot + 1
+    if turn %% 10 == 0 then
+        cold = cold %% (#shown - hot) + 1
+        place = hot + cold
+    end
+    return wrk.format("GET", "/web/index.html", {["Authorization"] = shown[place]%s})
+end
+function done(summary, latency, requests)
+    local errors = summary.errors
+    print(string.format("figures %%d %%d %%d %%d %%d", summary.requests, summary.duration, latency:percentile(50), latency:percentile(99),
+                        errors.connect + errors.read + errors.write + errors.status + errors.timeout))
+end
+"""
+NGINX = """daemon off; error_log {room}/nginx.log warn; pid {room}/nginx.pid; worker_processes 2;
+events {{ worker_connections 1024; }}
+http {{
+    access_log off;
+    large_client_header_buffers 4 80k;
+    client_body_temp_path {room}/body; proxy_temp_path {room}/proxy; fastcgi_temp_path {room}/f; uwsgi_temp_path {room}/u; scgi_temp_path {room}/s;
+    upstream yes {{ server 127.0.0.1:{yes}; keepalive 64; }}
+    upstream authd {{ server 127.0.0.1:{authd}; keepalive 64; }}
+{servers}
+}}
+"""
+SERVER = """    server {{ listen 127.0.0.1:{port}; root {room}; {ask}
+        location = /auth {{ internal; proxy_pass http://{name}; proxy_http_version 1.1; proxy_set_header Connection ""; proxy_pass_request_body off;
+            proxy_set_header Content-Length ""; proxy_set_header X-Original-Method $request_method; proxy_set_header X-Original-URI $request_uri;
+            proxy_set_header X-Spki-Secret {secret}; proxy_set_header X-Client-Cert "{certificate}"; }} }}
+"""
+
+
+class Figures:
+    """What wrk has measured."""
+
+    def __init__(self, said):
+        found = re.search(r"^figures (\d+) (\d+) (\d+) (\d+) (\d+)$", said, re.MULTILINE)
+        if not found:
+            sys.exit(f"wrk has failed: {said[-1000:]}")
+        self.requests, duration, p50, p99, self.errors = map(int, found.groups())
+        self.rate, self.p50, self.p99 = self.requests / duration * 1e6, p50 / 1000, p99 / 1000
+
+    def __str__(self):
+        return f"{self.rate:>9,.0f} requests/s, p50 {self.p50:.2f} ms, p99 {self.p99:.2f} ms, {self.errors} errors"
+
+
+def free_ports(count):
+    """Ports of loopback that nobody has."""
+    with contextlib.ExitStack() as stack:
+        sockets = [stack.enter_context(socket.create_server(("127.0.0.1", 0))) for _ in range(count)]
+        return [it.getsockname()[1] for it in sockets]
+
+
+class Site:
+    """The files and the programs."""
+
+    def __init__(self, room, library):
+        self.room, self.library, self.running = room, library, []
+        self.yes, self.authd, *self.nginx = free_ports(PORTS)
+        os.chmod(room, 0o755)
+        self.write("web/index.html", "<p>hello</p>\n" * 100)
+        self.write("secret", f"{SECRET}\n", 0o600)
+        self.make_certificates()
+
+    def path(self, name):
+        return os.path.join(self.room, name)
+
+    def write(self, name, text, mode=0o644):
+        """Writes a file, and returns its path."""
+        path = self.path(name)
+        os.makedirs(os.path.dirname(path), exist_ok=True)
+        with open(path, "w", encoding="utf-8") as file:
+            file.write(text)
+        os.chmod(path, mode)
+        return path
+
+    # ---- certificates
+
+    def make_certificates(self):
+        """Writes the list, whose last entry is the root's, and the chains from the root to the client."""
+        private = new_private("ed25519")
+        signers, client = [FileSigner(new_private("ed25519")) for _ in range(3)], FileSigner(private)
+        others = b"".join(b"(5:entry(10:public-key(4:test%d:%d))(3:tag(5:files)))" % (len(str(place)), place) for place in range(ENTRIES - 1))
+        self.list = self.path("acl")
+        with open(self.list, "wb") as file:
+            file.write(b"(3:acl" + others + b"(5:entry" + canonical(signers[0].key) + b"(9:propagate)(3:tag(5:files))))")
+        keys = [*signers, client]
+        self.write("shown", "".join(f"{self.chain(keys, number)}\n" for number in range(HOT + COLD)))
+        self.certificate = urllib.parse.quote(self_signed(private))
+
+    def chain(self, keys, number):
+        """A sequence in transport form, of three certificates that no other chain has."""
+        tag = [b"tag", [b"files", b"read", [b"*", b"prefix", b"/web/"]]]
+        items = [b"sequence"]
+        for signer, subject in zip(keys, keys[1:]):
+            propagate = [] if subject is keys[-1] else [[b"propagate"]]
+            certificate = [b"cert", [b"issuer", signer.key], [b"subject", subject.key], *propagate, tag, [b"comment", str(number).encode()]]
+            items += [certificate, [b"signature", hash_of(certificate), signer.key, signer.sign(canonical(certificate))]]
+        return "{" + base64.b64encode(canonical(items)).decode() + "}"
+
+    # ---- programs
+
+    def build(self, *flags):
+        """Builds the daemon and the handler."""
+        self.program = golang.build_daemon(self.library, self.path("spki-authd"), *flags)
+        golang.go(BENCH, ["build", "-o", self.path("yes"), "yes.go"], self.library).check_returncode()
+
+    def config(self):
+        """The path of the daemon's configuration."""
+        rules = [{"prefix": "/", "methods": {"GET": "read"}, "request": ["files", "{method}", "{path}"]}]
+        return self.write("config.json", json.dumps({
+            "listen": f"127.0.0.1:{self.authd}", "secret_file": self.path("secret"), "server": "nginx", "list": self.list, "requests": rules,
+            "cache": CACHE}))
+
+    def start(self, *words, port):
+        """Starts a program that listens on a port."""
+        with open(self.path(f"{os.path.basename(words[0])}.out"), "ab") as out:
+            process = subprocess.Popen(words, stdin=subprocess.DEVNULL, stdout=out, stderr=out)
+        self.running.append(process)
+        for _ in range(SECONDS_TO_START * 20):
+            with contextlib.suppress(OSError), socket.create_connection(("127.0.0.1", port)):
+                return process
+            time.sleep(0.05)
+        sys.exit(f"{words[0]} does not listen: {self.said(words[0])}")
+
+    def said(self, program):
+        """The end of what a program wrote."""
+        with open(self.path(f"{os.path.basename(program)}.out"), encoding="utf-8", errors="replace") as file:
+            return file.read()[-2000:]
+
+    def start_daemon(self):
+        """Starts the daemon."""
+        return self.start(self.program, "-config", self.config(), port=self.authd)
+
+    def start_all(self):
+        """Starts all programs, and returns the daemon."""
+        daemon = self.start_daemon()
+        self.handler = self.start(self.path("yes"), f"127.0.0.1:{self.yes}", port=self.yes)
+        if shutil.which("nginx"):
+            asks = [("", "yes"), ("auth_request /auth;", "yes"), ("auth_request /auth;", "authd")]
+            servers = "".join(SERVER.format(port=port, room=self.room, ask=ask, name=name, secret=SECRET, certificate=self.certificate)
+                              for port, (ask, name) in zip(self.nginx, asks))
+            path = self.write("nginx.conf", NGINX.format(room=self.room, yes=self.yes, authd=self.authd, servers=servers))
+            self.start("nginx", "-p", self.room, "-c", path, "-e", self.path("nginx.log"), port=self.nginx[0])
+        return daemon
+
+    def end(self):
+        """Ends what was started."""
+        for process in self.running:
+            process.terminate()
+            process.wait(30)
+        self.running.clear()
+
+    # ---- load
+
+    def load(self, port, seconds, connections, is_direct, delay=0):
+        """What wrk measures at a port. A direct request has the headers that nginx would set."""
+        direct = {"X-Original-Method": "GET", "X-Original-URI": "/web/index.html", "X-Client-Cert": self.certificate, "X-Spki-Secret": SECRET}
+        more = "".join(f', ["{name}"] = "{value}"' for name, value in direct.items()) if is_direct else ""
+        script = self.write("load.lua", LUA % (HOT, self.path("shown"), delay, more))
+        words = ["wrk", "-t", "2", "-c", str(connections), "-d", f"{seconds}s", "--timeout", "10s", "-s", script, f"http://127.0.0.1:{port}"]
+        return Figures(subprocess.run(words, stdout=subprocess.PIPE, stderr=subprocess.STDOUT, text=True).stdout)
+
+
+def self_signed(private):
+    """A TLS certificate of a key, in PEM."""
+    from cryptography import x509
+    from cryptography.hazmat.primitives.serialization import Encoding
+    name, now = x509.Name([]), datetime.now(timezone.utc)
+    builder = x509.CertificateBuilder(name, name, private.public_key(), x509.random_serial_number(), now, now + timedelta(days=1))
+    return builder.sign(private, None).public_bytes(Encoding.PEM).decode()
+
+
+def resident(process):
+    """The resident memory of a process, in KiB."""
+    with open(f"/proc/{process.pid}/status", encoding="ascii") as status:
+        return next(int(line.split()[1]) for line in status if line.startswith("VmRSS:"))
+
+
+def processor_seconds(process):
+    """The processor time that a process has used."""
+    with open(f"/proc/{process.pid}/stat", encoding="ascii") as stat:
+        user, system = stat.read().rpartition(")")[2].split()[11:13]
+    return (int(user) + int(system)) / os.sysconf("SC_CLK_TCK")
+
+
+def reload(process):
+    """Has the daemon read its list again."""
+    process.send_signal(signal.SIGHUP)

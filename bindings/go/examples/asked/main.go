@@ -1,0 +1,141 @@
+// Command asked answers the questions of a test, so that another program can compare the answers.
+//
+// It reads strings from standard input, each as LENGTH:OCTETS, and writes the lines of each answer as one string. A list of strings is its
+// number of strings, and the strings. A question is these, in this order:
+//
+//   - the strings COMMAND, POLICY, ACL, SEQUENCE and KEY
+//   - `text` or `words`, and a list of strings
+//   - `text` or `seconds`, and a string
+//   - a list of what the verifier accepts, three strings each: a key, a message and a value
+package main
+
+import (
+	"bufio"
+	"errors"
+	"fmt"
+	"io"
+	"os"
+	"strconv"
+	"strings"
+	"time"
+
+	"conguraki/spki/guard"
+)
+
+// An input reads strings. The first fault stays, and ends the program.
+type input struct {
+	*bufio.Reader
+	fault error
+}
+
+// next reads a string.
+func (i *input) next() string {
+	digits, err := i.ReadString(':')
+	if i.fault = err; err != nil {
+		return ""
+	}
+	length, err := strconv.Atoi(strings.TrimSuffix(digits, ":"))
+	if i.fault = err; err != nil {
+		return ""
+	}
+	octets := make([]byte, length)
+	_, i.fault = io.ReadFull(i, octets)
+	return string(octets)
+}
+
+// list reads a list of strings.
+func (i *input) list() []string {
+	count, err := strconv.Atoi(i.next())
+	if err != nil {
+		return nil
+	}
+	list := make([]string, count)
+	for place := range list {
+		list[place] = i.next()
+	}
+	return list
+}
+
+// A task is a question with what is asked of the guard.
+type task struct {
+	command, policy, list string
+	question              guard.Question
+	accepted              map[[3]string]bool
+}
+
+// task reads the next question.
+func (i *input) task() task {
+	made := task{command: i.next(), policy: i.next(), list: i.next(), accepted: map[[3]string]bool{}}
+	made.question.Sequence, made.question.Key = []byte(i.next()), []byte(i.next())
+	form, request := i.next(), i.list()
+	if form == "words" {
+		made.question.Words = request
+	} else if len(request) > 0 {
+		made.question.Request = []byte(request[0])
+	}
+	clock, moment := i.next(), i.next()
+	if seconds, err := strconv.ParseInt(moment, 10, 64); clock == "seconds" && err == nil {
+		// (the first second of the year 1 would be a time that is not set)
+		made.question.Time = time.Unix(seconds, 1)
+	} else {
+		made.question.Moment = []byte(moment)
+	}
+	rows := i.list()
+	for place := 0; place+2 < len(rows); place += 3 {
+		made.accepted[[3]string{rows[place], rows[place+1], rows[place+2]}] = true
+	}
+	return made
+}
+
+// answer returns the lines of the answer.
+func (t task) answer() (string, error) {
+	policy := guard.AllowSHA1
+	if t.policy == "strict" {
+		policy = guard.Strict
+	}
+	list, err := guard.Open([]byte(t.list), policy, guard.Highest())
+	if err != nil {
+		return "", err
+	}
+	defer list.Close()
+	verify := func(key, message, value []byte) bool {
+		return t.accepted[[3]string{string(key), string(message), string(value)}]
+	}
+	switch t.command {
+	case "explain":
+		explanation, err := list.Explain(t.question, verify)
+		return spelled(explanation), err
+	case "reduce":
+		return list.Reduce(t.question, verify)
+	}
+	decision, err := list.Decide(t.question, verify)
+	return decision.String(), err
+}
+
+// spelled returns an explanation, from its lines taken apart.
+func spelled(explanation guard.Explanation) string {
+	lines := make([]string, 0)
+	for _, reason := range explanation.Reasons() {
+		lines = append(lines, reason.String())
+	}
+	if len(lines) == 0 {
+		return "no entries"
+	}
+	return strings.Join(lines, "\n")
+}
+
+func main() {
+	given, out := &input{Reader: bufio.NewReader(os.Stdin)}, bufio.NewWriter(os.Stdout)
+	defer out.Flush()
+	for {
+		task := given.task()
+		if errors.Is(given.fault, io.EOF) {
+			return
+		}
+		line, err := task.answer()
+		if err != nil {
+			line = err.Error()
+		}
+		fmt.Fprintf(out, "%d:%s", len(line), line)
+	}
+}

@@ -1,0 +1,65 @@
+// Command decide decides a request, as a service does that is written in Go.
+//
+// Usage: decide ACL SEQUENCE KEY WORD ..
+//
+// ACL is a file of the service, its access list. SEQUENCE and KEY are files of the client. The client must have proved that it holds the key:
+// this program does not check that. The request is the list of the WORDs, or the word where there is one.
+package main
+
+import (
+	"errors"
+	"fmt"
+	"os"
+	"time"
+
+	"conguraki/spki/guard"
+)
+
+// verify says whether a value is a signature of a message by a key. The keys of this example are words, and so are its signatures. A service
+// passes verify.Signature of the package conguraki/spki/verify.
+func verify(_, _, value []byte) bool {
+	return string(value) == "3:sig"
+}
+
+// isGranted says whether a request is granted. Each word is one string of it, whatever octets it has.
+//
+// THE CLIENT MUST HAVE PROVED THAT IT HOLDS THE KEY: a public key is public.
+func isGranted(list *guard.Guard, sequence, key []byte, words []string, now time.Time) (bool, error) {
+	decision, err := list.Decide(guard.Question{Sequence: sequence, Key: key, Words: words, Time: now}, verify)
+	if err != nil {
+		return false, err
+	}
+	return decision.Granted(), nil
+}
+
+func run(given []string) error {
+	if len(given) < 4 {
+		return errors.New("usage: decide ACL SEQUENCE KEY WORD [WORD ..]")
+	}
+	var texts [3][]byte
+	for place := range texts {
+		octets, err := os.ReadFile(given[place])
+		if err != nil {
+			return err
+		}
+		texts[place] = octets
+	}
+	list, err := guard.Open(texts[0], guard.Strict, guard.Limits{})
+	if err != nil {
+		return err
+	}
+	defer list.Close()
+	granted, err := isGranted(list, texts[1], texts[2], given[3:], time.Now())
+	if err != nil {
+		return err
+	}
+	fmt.Println(map[bool]string{true: "granted", false: "denied"}[granted])
+	return nil
+}
+
+func main() {
+	if err := run(os.Args[1:]); err != nil {
+		fmt.Fprintln(os.Stderr, err)
+		os.Exit(1)
+	}
+}

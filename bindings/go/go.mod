@@ -1,0 +1,3 @@
+module conguraki/spki
+
+go 1.19

@@ -1,0 +1,53 @@
+package guard
+
+import (
+	"fmt"
+	"regexp"
+	"strconv"
+)
+
+// An Explanation has the lines of the program's command explain.
+type Explanation struct {
+	text string
+}
+
+// A Reason is one line of an explanation.
+type Reason struct {
+	// Entry is the number of the entry that the line is about, from 1. It is 0 if the certificate stops all entries.
+	Entry int
+	// Item is the number of the certificate that stops it, among the items of the sequence, from 1. It is 0 if none does.
+	Item int
+	// Word is `grants`, or the cause, such as `TagLacks`, `NoDelegation` or `NotAccepted`.
+	Word string
+}
+
+var reason = regexp.MustCompile(`(?m)^(?:entry (\d+) )?(?:item (\d+) )?(\w+)$`)
+
+// String returns the lines as they are, without the last line feed.
+func (e Explanation) String() string {
+	return e.text
+}
+
+// Reasons returns the lines one by one. There is none if the access list is empty.
+func (e Explanation) Reasons() []Reason {
+	var reasons []Reason
+	for _, found := range reason.FindAllStringSubmatch(e.text, -1) {
+		// (a number that is not there is 0)
+		entry, _ := strconv.Atoi(found[1])
+		item, _ := strconv.Atoi(found[2])
+		reasons = append(reasons, Reason{entry, item, found[3]})
+	}
+	return reasons
+}
+
+// String returns the line.
+func (r Reason) String() string {
+	line := r.Word
+	if r.Item > 0 {
+		line = fmt.Sprintf("item %d %s", r.Item, line)
+	}
+	if r.Entry > 0 {
+		line = fmt.Sprintf("entry %d %s", r.Entry, line)
+	}
+	return line
+}

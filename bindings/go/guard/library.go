@@ -1,0 +1,225 @@
+package guard
+
+// All calls of the library are in this file. Go's memory is handed over for one call: no pointer to it is in memory of C's when a call
+// returns, and the memory itself has no pointers.
+
+/*
+#cgo !spki_shared CFLAGS: -I${SRCDIR}/../../../crates/spki_c
+#cgo !spki_shared LDFLAGS: -L${SRCDIR}/../../../crates/spki_c/out -l:libspki_c.a
+#cgo spki_shared pkg-config: spki
+#include "library.h"
+*/
+import "C"
+
+import (
+	"fmt"
+	"unsafe"
+)
+
+// The length of a buffer for one line, and for the lines of an explanation. A call that needs more is repeated with more.
+const (
+	roomForLine  = 128
+	roomForLines = 4096
+)
+
+// status is an enum spki_status.
+type status = C.enum_spki_status
+
+// A handle is an open guard, and an opened is a question that was read by it. Each is closed once.
+type (
+	handle = *C.library_guard
+	opened = *C.library_asked
+)
+
+// A wish says which answer to a question is asked for.
+type wish = C.enum_library_wish
+
+const (
+	toDecide  wish = C.LIBRARY_DECIDE
+	toExplain wish = C.LIBRARY_EXPLAIN
+	toReduce  wish = C.LIBRARY_REDUCE
+)
+
+// text lends octets for one call.
+func text(octets []byte) C.struct_spki_text {
+	if len(octets) == 0 {
+		return C.struct_spki_text{}
+	}
+	return C.struct_spki_text{octets: unsafe.Pointer(&octets[0]), length: C.size_t(len(octets))}
+}
+
+// octetsOf lends octets that belong to the library, for as long as the library keeps them.
+func octetsOf(text C.struct_spki_text) []byte {
+	if text.length == 0 {
+		return nil
+	}
+	return unsafe.Slice((*byte)(text.octets), int(text.length))
+}
+
+// size is a limit as the library takes it. A negative one is the highest number, which no limit on octets or nodes may be.
+func size(limit int) C.size_t {
+	if limit < 0 {
+		return ^C.size_t(0)
+	}
+	return C.size_t(limit)
+}
+
+// answered calls until the buffer, which begins with so much room, is large enough for the answer.
+func answered(room int, call func(buffer unsafe.Pointer, room C.size_t, needed *C.size_t) status) (status, []byte) {
+	for {
+		buffer, needed := make([]byte, room), C.size_t(0)
+		met := call(unsafe.Pointer(&buffer[0]), C.size_t(room), &needed)
+		if met != C.SPKI_TOO_SMALL {
+			return met, buffer[:needed]
+		}
+		room = int(needed)
+	}
+}
+
+// failed returns the error of a call whose status is none that the caller wants.
+func failed(met status, line []byte) error {
+	switch met {
+	case C.SPKI_REFUSED:
+		return refusalOf(line)
+	case C.SPKI_MISUSED:
+		return ErrMisused
+	}
+	return fmt.Errorf("libspki_c is of another version than this module: status %d", uint(met))
+}
+
+// open reads an access list.
+func open(list []byte, policy Policy, limits Limits) (handle, error) {
+	if met := C.GoString(C.library_version()); !isOurs(met) {
+		return nil, fmt.Errorf("libspki_c has the version %s, and this module needs %s", met, Version)
+	}
+	if policy != Strict && policy != AllowSHA1 {
+		return nil, ErrMisused
+	}
+	var guard handle
+	met, line := answered(roomForLine, func(buffer unsafe.Pointer, room C.size_t, needed *C.size_t) status {
+		return C.library_open(text(list), C.int(policy), size(limits.Octets), size(limits.Certificates), size(limits.Words),
+			size(limits.Nodes), size(limits.Work), size(limits.Answer), &guard, buffer, room, needed)
+	})
+	if met != C.SPKI_DONE || guard == nil {
+		return nil, failed(met, line)
+	}
+	return guard, nil
+}
+
+// closeGuard frees a guard, once its questions are closed too.
+func closeGuard(guard handle) {
+	C.library_close(guard)
+}
+
+// entries returns the number of entries of a guard's list.
+func entries(guard handle) int {
+	return int(C.library_entries(guard))
+}
+
+// ask reads a question. Its strings are lent in one piece, with their lengths.
+func ask(guard handle, question *Question) (opened, error) {
+	joined, lengths := question.joined()
+	var seconds C.int64_t
+	bySeconds := C.int(0)
+	if !question.Time.IsZero() {
+		seconds, bySeconds = C.int64_t(question.Time.Unix()), 1
+	}
+	byWords := C.int(0)
+	if question.Words != nil {
+		byWords = 1
+	}
+	var asked opened
+	met, line := answered(roomForLine, func(buffer unsafe.Pointer, room C.size_t, needed *C.size_t) status {
+		return C.library_ask(guard, text(question.Sequence), text(question.Key), text(question.Request), byWords, text(joined),
+			(*C.size_t)(unsafe.Pointer(&lengths[0])), C.size_t(len(question.Words)), text(question.Moment), bySeconds, seconds, &asked,
+			buffer, room, needed)
+	})
+	if met != C.SPKI_DONE || asked == nil {
+		return nil, failed(met, line)
+	}
+	return asked, nil
+}
+
+// signatures returns what is to be verified, in one piece of Go's memory.
+func signatures(asked opened) []Signature {
+	lent := make([]C.struct_spki_signed, C.library_count(asked))
+	length := 0
+	for place := range lent {
+		signed := &lent[place]
+		if C.library_signature(asked, C.size_t(place), signed) != C.SPKI_DONE {
+			return nil
+		}
+		length += int(signed.key.length + signed.message.length + signed.value.length)
+	}
+	memory := make([]byte, 0, length)
+	copied := func(text C.struct_spki_text) []byte {
+		start := len(memory)
+		memory = append(memory, octetsOf(text)...)
+		return memory[start:len(memory):len(memory)]
+	}
+	listed := make([]Signature, len(lent))
+	for place, signed := range lent {
+		listed[place] = Signature{Key: copied(signed.key), Message: copied(signed.message), Value: copied(signed.value)}
+	}
+	return listed
+}
+
+// answer returns the status and the lines for these marks, 1 for each signature that is valid.
+func answer(asked opened, wish wish, marks []byte, room int) (status, []byte) {
+	return answered(room, func(buffer unsafe.Pointer, room C.size_t, needed *C.size_t) status {
+		return C.library_answer(asked, wish, text(marks), buffer, room, needed)
+	})
+}
+
+// decide returns the decision for these marks.
+func decide(asked opened, marks []byte) (Decision, error) {
+	met, line := answer(asked, toDecide, marks, roomForLine)
+	switch met {
+	case C.SPKI_YES:
+		return decisionOf(line)
+	case C.SPKI_NO:
+		return Decision{}, nil
+	}
+	return Decision{}, failed(met, line)
+}
+
+// lines returns the lines of an answer that is no decision.
+func lines(asked opened, wish wish, marks []byte) (string, error) {
+	met, written := answer(asked, wish, marks, roomForLines)
+	if met != C.SPKI_DONE {
+		return "", failed(met, written)
+	}
+	return lineOf(written), nil
+}
+
+// closeAsked frees a question.
+func closeAsked(asked opened) {
+	C.library_close_asked(asked)
+}
+
+// converted returns a text in another form.
+func converted(command C.enum_spki_command, given []byte) ([]byte, error) {
+	met, written := answered(2*len(given)+roomForLine, func(buffer unsafe.Pointer, room C.size_t, needed *C.size_t) status {
+		lent := text(given)
+		return C.spki_answer(command, lent.octets, lent.length, buffer, room, needed)
+	})
+	if met != C.SPKI_DONE {
+		return nil, failed(met, written)
+	}
+	return written, nil
+}
+
+// Canonical returns the canonical form of the one value that a text is, in any of the three forms of RFC 9804.
+func Canonical(text []byte) ([]byte, error) {
+	return converted(C.SPKI_CANONICAL, text)
+}
+
+// Advanced returns the same in advanced form, on one line, with a line feed at its end.
+func Advanced(text []byte) ([]byte, error) {
+	return converted(C.SPKI_ADVANCED, text)
+}
+
+// Transport returns the same in transport form, on one line, with a line feed at its end. It is the form for a header.
+func Transport(text []byte) ([]byte, error) {
+	return converted(C.SPKI_TRANSPORT, text)
+}

@@ -1,0 +1,31 @@
+package guard
+
+import (
+	"strings"
+	"time"
+)
+
+// A Question is what a service asks a guard. Each text is one value in any of the three forms of RFC 9804.
+type Question struct {
+	// Sequence is what the client shows: certificates and signatures, `(sequence ..)`.
+	Sequence []byte
+	// Key is the client's key, `(public-key ..)`, which it has proved to hold.
+	Key []byte
+	// Words is the request by its strings, whose octets may be any: the list of them, or the string if there is one.
+	Words []string
+	// Request is the request as a text, if Words is nil.
+	Request []byte
+	// Time is the time of the service's own clock. Parts of a second do not count.
+	Time time.Time
+	// Moment is the time as a date, such as "2026-03-01_12:00:00" in quotes, if Time is zero.
+	Moment []byte
+}
+
+// joined returns the strings of the request in one piece, and their lengths, of which there is at least one.
+func (q *Question) joined() ([]byte, []uintptr) {
+	lengths := make([]uintptr, len(q.Words)+1)
+	for place, word := range q.Words {
+		lengths[place] = uintptr(len(word))
+	}
+	return []byte(strings.Join(q.Words, "")), lengths
+}

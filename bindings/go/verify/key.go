@@ -1,0 +1,123 @@
+package verify
+
+import (
+	"bytes"
+	"crypto"
+	"crypto/ecdsa"
+	"crypto/ed25519"
+	"crypto/elliptic"
+	"crypto/rsa"
+	"errors"
+	"fmt"
+	"math/big"
+)
+
+// The fewest and the most bits of a modulus of RSA, and the most of an exponent, which Go does not take longer.
+const (
+	LeastBits        = 2048
+	MostBits         = 16_384
+	MostExponentBits = 31
+)
+
+// The texts around the octets of a key.
+const (
+	beforeEd25519 = "(10:public-key(3:ecc(5:curve7:Ed25519)(5:flags5:eddsa)(1:q"
+	beforeP256    = "(10:public-key(3:ecc(5:curve10:NIST P-256)(1:q"
+	beforeModulus = "(10:public-key(3:rsa(1:n"
+	beforeE       = ")(1:e"
+	afterKey      = ")))"
+)
+
+// ErrKey is what errors.Is knows of a key that is none of the three kinds, is in another form, or is too weak.
+var ErrKey = errors.New("no key of Ed25519, of RSA with at least 2048 bits, or of ECDSA with P-256")
+
+// KeyOf returns the SPKI key, in canonical form, of an ed25519.PublicKey, an *rsa.PublicKey or an *ecdsa.PublicKey, as a certificate of X.509
+// has it. Its SHA-256 digest is the hash that may name it.
+func KeyOf(public crypto.PublicKey) ([]byte, error) {
+	switch public := public.(type) {
+	case ed25519.PublicKey:
+		if len(public) == ed25519.PublicKeySize {
+			return written(beforeEd25519, []byte(public), afterKey), nil
+		}
+	case *rsa.PublicKey:
+		if isStrong(public) {
+			return written(beforeModulus, number(public.N), beforeE, number(big.NewInt(int64(public.E))), afterKey), nil
+		}
+	case *ecdsa.PublicKey:
+		if public.Curve == elliptic.P256() && public.X != nil && public.Y != nil && public.Curve.IsOnCurve(public.X, public.Y) {
+			return written(beforeP256, elliptic.Marshal(public.Curve, public.X, public.Y), afterKey), nil
+		}
+	}
+	return nil, fmt.Errorf("%w: %T", ErrKey, public)
+}
+
+// PublicOf returns the ed25519.PublicKey, the *rsa.PublicKey or the *ecdsa.PublicKey of an SPKI key in canonical form.
+func PublicOf(key []byte) (crypto.PublicKey, error) {
+	public := publicOf(&reader{rest: key})
+	if public == nil {
+		return nil, ErrKey
+	}
+	// (each key has one text: a number with an octet 00 too many or too few is no other text of the same key)
+	again, err := KeyOf(public)
+	if err != nil || !bytes.Equal(again, key) {
+		return nil, ErrKey
+	}
+	return public, nil
+}
+
+// publicOf reads a key. It returns nil for what is none.
+func publicOf(text *reader) crypto.PublicKey {
+	switch {
+	case text.skips(beforeEd25519):
+		if octets, ok := text.string(ed25519.PublicKeySize); ok && len(octets) == ed25519.PublicKeySize && text.ends(afterKey) {
+			return ed25519.PublicKey(octets)
+		}
+	case text.skips(beforeP256):
+		if octets, ok := text.string(pointOctets); ok && text.ends(afterKey) {
+			return pointOf(octets)
+		}
+	case text.skips(beforeModulus):
+		if modulus, ok := text.string(MostBits/8 + 1); ok && text.skips(beforeE) {
+			if exponent, ok := text.string(MostExponentBits/8 + 1); ok && text.ends(afterKey) {
+				return rsaKey(modulus, exponent)
+			}
+		}
+	}
+	return nil
+}
+
+// The octets of a point of P-256: 04 and both coordinates.
+const pointOctets = 1 + 2*half
+
+// pointOf returns the key of a point, or nil if it is none of the curve.
+func pointOf(octets []byte) crypto.PublicKey {
+	x, y := elliptic.Unmarshal(elliptic.P256(), octets)
+	if x == nil {
+		return nil
+	}
+	return &ecdsa.PublicKey{Curve: elliptic.P256(), X: x, Y: y}
+}
+
+// rsaKey returns the key of a modulus and an exponent, or nil if it is too weak.
+func rsaKey(modulus, exponent []byte) crypto.PublicKey {
+	e := new(big.Int).SetBytes(exponent)
+	if e.BitLen() > MostExponentBits {
+		return nil
+	}
+	public := &rsa.PublicKey{N: new(big.Int).SetBytes(modulus), E: int(e.Int64())}
+	if !isStrong(public) {
+		return nil
+	}
+	return public
+}
+
+// isStrong says whether a key of RSA is within the limits. They are on the values, and not on the lengths of the octets.
+func isStrong(public *rsa.PublicKey) bool {
+	return public.N != nil && public.N.BitLen() >= LeastBits && public.N.BitLen() <= MostBits && public.N.Bit(0) == 1 &&
+		public.E >= 3 && public.E&1 == 1 && big.NewInt(int64(public.E)).BitLen() <= MostExponentBits
+}
+
+// number returns the octets of a number of a key: big-endian, with an octet 00 in front where the first bit is set.
+func number(value *big.Int) []byte {
+	return value.FillBytes(make([]byte, value.BitLen()/8+1))
+}

@@ -1,0 +1,62 @@
+// Package verify verifies signatures by Go's standard library, and makes SPKI keys of Go's public keys.
+//
+// Keys and signatures have the forms of docs/FORMATS.md, "Keys and signatures of services", which libgcrypt and GnuPG read: Ed25519, RSA with
+// SHA-256 and ECDSA with P-256 and SHA-256. Each form is one text: a key that is written otherwise is another key, and nothing is a signature
+// by it.
+//
+//	(public-key (ecc (curve Ed25519) (flags eddsa) (q #..#)))    (sig-val (eddsa (r #..#) (s #..#)))
+//	(public-key (rsa (n #..#) (e #..#)))                         (sig-val (rsa (s #..#)))
+//	(public-key (ecc (curve "NIST P-256") (q #04..#)))           (sig-val (ecdsa (r #..#) (s #..#)))
+package verify
+
+import (
+	"crypto"
+	"crypto/ecdsa"
+	"crypto/ed25519"
+	"crypto/rsa"
+	"crypto/sha256"
+)
+
+// Signature says whether a value is a signature of a message by a key: by Ed25519, by RSA with PKCS#1 v1.5, or by ECDSA. The three texts are
+// in canonical form, as a guard lists them. It is a guard.Verify.
+func Signature(key, message, value []byte) bool {
+	return signature(key, message, value, pkcs1v15)
+}
+
+// SignatureOrPSS is as Signature, but accepts RSA with PSS as well: with SHA-256 for the message and for the mask, and a salt of 32 octets.
+// The value of a signature does not say which of them it is.
+func SignatureOrPSS(key, message, value []byte) bool {
+	return signature(key, message, value, pkcs1v15) || signature(key, message, value, pss)
+}
+
+// A scheme verifies a number by a key of RSA.
+type scheme func(key *rsa.PublicKey, digest, value []byte) error
+
+func pkcs1v15(key *rsa.PublicKey, digest, value []byte) error {
+	return rsa.VerifyPKCS1v15(key, crypto.SHA256, digest, value)
+}
+
+func pss(key *rsa.PublicKey, digest, value []byte) error {
+	return rsa.VerifyPSS(key, crypto.SHA256, digest, value, &rsa.PSSOptions{SaltLength: rsa.PSSSaltLengthEqualsHash})
+}
+
+// signature says whether a value is a signature of a message by a key.
+func signature(key, message, value []byte, scheme scheme) bool {
+	public, err := PublicOf(key)
+	if err != nil {
+		return false
+	}
+	digest := sha256.Sum256(message)
+	switch public := public.(type) {
+	case ed25519.PublicKey:
+		octets, ok := ed25519Value(value)
+		return ok && ed25519.Verify(public, message, octets)
+	case *rsa.PublicKey:
+		octets, ok := rsaValue(value, public.Size())
+		return ok && scheme(public, digest[:], octets) == nil
+	case *ecdsa.PublicKey:
+		r, s, ok := ecdsaValue(value)
+		return ok && ecdsa.Verify(public, digest[:], r, s)
+	}
+	return false
+}

@@ -1,0 +1,260 @@
+package verify
+
+import (
+	"bytes"
+	"crypto"
+	"crypto/ecdsa"
+	"crypto/ed25519"
+	"crypto/elliptic"
+	"crypto/rand"
+	"crypto/rsa"
+	"crypto/sha256"
+	"encoding/json"
+	"errors"
+	"math/big"
+	"os"
+	"testing"
+)
+
+// A signed is a certificate with its signature.
+type signed struct {
+	Kind                string
+	Key, Message, Value []byte
+}
+
+func (s signed) verifies() bool {
+	return Signature(s.Key, s.Message, s.Value)
+}
+
+// bySpkiCert returns certificates that `spki-cert sign` made, one by each kind of key.
+func bySpkiCert(t testing.TB) []signed {
+	t.Helper()
+	octets, err := os.ReadFile("testdata/spki-cert.json")
+	var rows []signed
+	if err == nil {
+		err = json.Unmarshal(octets, &rows)
+	}
+	if err != nil || len(rows) != 3 {
+		t.Fatal(err, len(rows))
+	}
+	return rows
+}
+
+func TestCertificatesOfSpkiCert(t *testing.T) {
+	for _, row := range bySpkiCert(t) {
+		if !row.verifies() {
+			t.Errorf("%s: a right signature is refused", row.Kind)
+		}
+	}
+}
+
+func TestEachChangedOctet(t *testing.T) {
+	for _, row := range bySpkiCert(t) {
+		for _, octets := range [][]byte{row.Key, row.Message, row.Value} {
+			for place := range octets {
+				octets[place] ^= 1 << (place % 8)
+				if row.verifies() {
+					t.Errorf("%s: octet %d of %q may change", row.Kind, place, octets)
+				}
+				octets[place] ^= 1 << (place % 8)
+			}
+		}
+	}
+}
+
+func TestEachTruncation(t *testing.T) {
+	for _, row := range bySpkiCert(t) {
+		for length := range row.Key {
+			if Signature(row.Key[:length], row.Message, row.Value) {
+				t.Errorf("%s: %d octets of the key suffice", row.Kind, length)
+			}
+		}
+		for length := range row.Value {
+			if Signature(row.Key, row.Message, row.Value[:length]) {
+				t.Errorf("%s: %d octets of the value suffice", row.Kind, length)
+			}
+		}
+	}
+}
+
+func TestSignaturesOfOthers(t *testing.T) {
+	rows := bySpkiCert(t)
+	for i, row := range rows {
+		for j, other := range rows {
+			if i != j && (Signature(row.Key, row.Message, other.Value) || Signature(other.Key, row.Message, row.Value)) {
+				t.Errorf("%s passes for %s", other.Kind, row.Kind)
+			}
+		}
+	}
+}
+
+func TestOtherTextsOfAKey(t *testing.T) {
+	for _, row := range bySpkiCert(t) {
+		for _, text := range [][]byte{
+			append([]byte(" "), row.Key...), append(append([]byte{}, row.Key...), ' '), append(append([]byte{}, row.Key...), row.Key...),
+			bytes.Replace(row.Key, []byte("10:public-key"), []byte("[1:h]10:public-key"), 1),
+			bytes.Replace(row.Key, []byte("10:public-key"), []byte("010:public-key"), 1),
+			bytes.Replace(row.Key, []byte("10:public-key"), []byte("11:private-key"), 1),
+			bytes.Replace(row.Key, []byte("Ed25519"), []byte("ed25519"), 1),
+			bytes.Replace(row.Key, []byte("(1:e"), []byte("(1:f0:)(1:e"), 1),
+		} {
+			if !bytes.Equal(text, row.Key) && Signature(text, row.Message, row.Value) {
+				t.Errorf("%s: %.60q is taken for the key", row.Kind, text)
+			}
+		}
+	}
+}
+
+func TestKeysGoThereAndBack(t *testing.T) {
+	for _, row := range bySpkiCert(t) {
+		public, err := PublicOf(row.Key)
+		if err != nil {
+			t.Fatal(row.Kind, err)
+		}
+		if again, err := KeyOf(public); err != nil || !bytes.Equal(again, row.Key) {
+			t.Errorf("%s: %q, %v", row.Kind, again, err)
+		}
+	}
+}
+
+// rsaText writes a key of RSA with these octets.
+func rsaText(modulus, exponent []byte) []byte {
+	return written(beforeModulus, modulus, beforeE, exponent, afterKey)
+}
+
+func TestWeakKeysOfRSA(t *testing.T) {
+	strong := new(big.Int).SetBit(new(big.Int).SetBit(new(big.Int), LeastBits-1, 1), 0, 1)
+	short := new(big.Int).Rsh(strong, 1)
+	short.SetBit(short, 0, 1)
+	even := new(big.Int).Lsh(short, 1)
+	e := []byte{1, 0, 1}
+	padded := append(make([]byte, 8), number(short)...)
+	long := number(new(big.Int).SetBit(new(big.Int).SetBit(new(big.Int), MostBits, 1), 0, 1))
+	if _, err := PublicOf(rsaText(number(strong), e)); err != nil {
+		t.Errorf("2048 bits are refused: %v", err)
+	}
+	for name, text := range map[string][]byte{
+		"2047 bits": rsaText(number(short), e), "2047 bits, padded": rsaText(padded, e), "even": rsaText(number(even), e),
+		"16385 bits": rsaText(long, e), "nothing": rsaText(nil, e), "e is nothing": rsaText(number(strong), nil),
+		"e is 1": rsaText(number(strong), []byte{1}), "e is even": rsaText(number(strong), []byte{1, 0, 0}),
+		"e is padded": rsaText(number(strong), []byte{0, 1, 0, 1}), "e has 32 bits": rsaText(number(strong), []byte{0, 0x80, 0, 0, 1}),
+		"no octet 00 in front": rsaText(number(strong)[1:], e), "two of them": rsaText(append([]byte{0}, number(strong)...), e),
+	} {
+		if _, err := PublicOf(text); !errors.Is(err, ErrKey) {
+			t.Errorf("%s: %v", name, err)
+		}
+	}
+}
+
+func TestPointsOffTheCurve(t *testing.T) {
+	private, err := ecdsa.GenerateKey(elliptic.P256(), rand.Reader)
+	if err != nil {
+		t.Fatal(err)
+	}
+	point := elliptic.Marshal(elliptic.P256(), private.X, private.Y)
+	off := append([]byte{}, point...)
+	off[64] ^= 1
+	for name, octets := range map[string][]byte{
+		"off the curve": off, "compressed": elliptic.MarshalCompressed(elliptic.P256(), private.X, private.Y), "infinity": {0}, "nothing": nil,
+		"zeros": append([]byte{4}, make([]byte, 64)...), "long": append(point, 0),
+	} {
+		if _, err := PublicOf(written(beforeP256, octets, afterKey)); !errors.Is(err, ErrKey) {
+			t.Errorf("%s: %v", name, err)
+		}
+	}
+}
+
+func TestKeysOfOtherKinds(t *testing.T) {
+	p384, err := ecdsa.GenerateKey(elliptic.P384(), rand.Reader)
+	if err != nil {
+		t.Fatal(err)
+	}
+	weak, err := rsa.GenerateKey(rand.Reader, 1024)
+	if err != nil {
+		t.Fatal(err)
+	}
+	for _, public := range []crypto.PublicKey{
+		nil, "key", p384.Public(), weak.Public(), ed25519.PublicKey("short"), &rsa.PublicKey{}, &ecdsa.PublicKey{},
+		&ecdsa.PublicKey{Curve: elliptic.P256(), X: big.NewInt(1), Y: big.NewInt(1)},
+	} {
+		if text, err := KeyOf(public); !errors.Is(err, ErrKey) || text != nil {
+			t.Errorf("%T: %v", public, err)
+		}
+	}
+}
+
+func TestPSS(t *testing.T) {
+	private, err := rsa.GenerateKey(rand.Reader, LeastBits)
+	if err != nil {
+		t.Fatal(err)
+	}
+	key, err := KeyOf(private.Public())
+	if err != nil {
+		t.Fatal(err)
+	}
+	message := []byte("(4:cert)")
+	digest := sha256.Sum256(message)
+	for _, salt := range []int{rsa.PSSSaltLengthEqualsHash, 0, 20} {
+		octets, err := rsa.SignPSS(rand.Reader, private, crypto.SHA256, digest[:], &rsa.PSSOptions{SaltLength: salt})
+		if err != nil {
+			t.Fatal(err)
+		}
+		value := written(beforeRSA, octets, afterValue)
+		if got := SignatureOrPSS(key, message, value); got != (salt == rsa.PSSSaltLengthEqualsHash) {
+			t.Errorf("a salt of the length %d: %v", salt, got)
+		}
+		if Signature(key, message, value) {
+			t.Error("Signature accepts PSS")
+		}
+	}
+	for _, row := range bySpkiCert(t) {
+		if !SignatureOrPSS(row.Key, row.Message, row.Value) {
+			t.Errorf("%s: SignatureOrPSS refuses what Signature accepts", row.Kind)
+		}
+	}
+}
+
+func TestFewerZerosInFront(t *testing.T) {
+	private, err := rsa.GenerateKey(rand.Reader, LeastBits)
+	if err != nil {
+		t.Fatal(err)
+	}
+	key, _ := KeyOf(private.Public())
+	for counter := 0; counter < 20_000; counter++ {
+		message := written("(4:cert", []byte(big.NewInt(int64(counter)).String()), ")")
+		digest := sha256.Sum256(message)
+		octets, err := rsa.SignPKCS1v15(nil, private, crypto.SHA256, digest[:])
+		if err != nil {
+			t.Fatal(err)
+		}
+		if octets[0] != 0 || octets[1] == 0 {
+			continue
+		}
+		if !Signature(key, message, written(beforeRSA, octets[1:], afterValue)) || Signature(key, message, written(beforeRSA, octets[2:], afterValue)) {
+			t.Error("an octet 00 in front may be left out, and no other")
+		}
+		if Signature(key, message, written(beforeRSA, append([]byte{0}, octets...), afterValue)) {
+			t.Error("a number may have no more octets than the modulus")
+		}
+		return
+	}
+	t.Error("no signature begins with an octet 00")
+}
+
+func FuzzSignature(f *testing.F) {
+	for _, row := range bySpkiCert(f) {
+		f.Add(row.Key, row.Message, row.Value)
+	}
+	rows := bySpkiCert(f)
+	f.Fuzz(func(t *testing.T, key, message, value []byte) {
+		if !Signature(key, message, value) {
+			return
+		}
+		for _, row := range rows {
+			if bytes.Equal(row.Key, key) && bytes.Equal(row.Message, message) {
+				return
+			}
+		}
+		t.Errorf("a forged signature: %q %q %q", key, message, value)
+	})
+}

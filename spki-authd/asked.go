@@ -1,0 +1,131 @@
+package main
+
+import (
+	"crypto/subtle"
+	"errors"
+	"net/http"
+	"strings"
+)
+
+// scheme begins the value of `Authorization` in which a client sends its certificates. It is the same in upper and lower case.
+const scheme = "SPKI "
+
+// noSequence is shown by a client that sends no certificates.
+const noSequence = "(sequence)"
+
+// An asked is what the web server asks: what its headers say.
+type asked struct {
+	method, target, certificate string
+	// The client's certificates in transport form, or empty.
+	sequence string
+}
+
+var (
+	errSecret   = errors.New("the secret is missing or wrong: this is not the web server")
+	errHeader   = errors.New("a header is missing, is there twice or has an octet that headers do not have")
+	errSequence = errors.New("the certificates are sent twice, or are no text in transport form")
+	errPrefix   = errors.New("the path of the request does not begin with path_prefix")
+	errTooLong  = errors.New("the headers have more octets than header_octets")
+)
+
+// askedOf reads the headers of a request.
+func (c *config) askedOf(request *http.Request) (made asked, err error) {
+	if err := c.isServer(request); err != nil {
+		return made, err
+	}
+	if octetsOf(request.Header) > c.Limits.HeaderOctets {
+		return made, errTooLong
+	}
+	made.method, made.target = request.Method, request.RequestURI
+	if c.Headers.Method != "" {
+		if made.method, err = required(request, c.Headers.Method); err != nil {
+			return made, err
+		}
+	}
+	if c.Headers.URI != "" {
+		made.target, err = required(request, c.Headers.URI)
+	} else if !strings.HasPrefix(made.target, c.PathPrefix) {
+		err = errPrefix
+	}
+	if err != nil {
+		return made, err
+	}
+	if c.Headers.URI == "" {
+		made.target = made.target[len(c.PathPrefix):]
+	}
+	if made.certificate, err = only(request, c.Headers.Certificate); err != nil {
+		return made, err
+	}
+	made.sequence, err = c.sequenceOf(request)
+	return made, err
+}
+
+// isServer says whether a request comes from the web server: it has the secret, if there is one.
+func (c *config) isServer(request *http.Request) error {
+	if len(c.secret) == 0 {
+		return nil
+	}
+	given, err := only(request, c.Headers.Secret)
+	if err != nil || subtle.ConstantTimeCompare([]byte(given), c.secret) != 1 {
+		return errSecret
+	}
+	return nil
+}
+
+// sequenceOf returns the certificates that the client sends, or nothing: in `Authorization: SPKI {..}` or in a header of their own.
+func (c *config) sequenceOf(request *http.Request) (string, error) {
+	own, err := only(request, c.Headers.Sequence)
+	if err != nil {
+		return "", err
+	}
+	credentials, err := only(request, authorization)
+	if err != nil {
+		return "", err
+	}
+	var sent string
+	if len(credentials) >= len(scheme) && strings.EqualFold(credentials[:len(scheme)], scheme) {
+		sent = strings.TrimLeft(credentials[len(scheme):], " ")
+	} else if strings.EqualFold(credentials, strings.TrimSpace(scheme)) {
+		return "", errSequence
+	}
+	if own != "" && sent != "" {
+		return "", errSequence
+	}
+	if sequence := own + sent; sequence == "" || strings.HasPrefix(sequence, "{") {
+		return sequence, nil
+	}
+	return "", errSequence
+}
+
+// required returns the value of a header that is there once and is not empty.
+func required(request *http.Request, name string) (string, error) {
+	value, err := only(request, name)
+	if err == nil && value == "" {
+		err = errHeader
+	}
+	return value, err
+}
+
+// only returns the value of a header, or nothing if it is not there. It must not be there twice: a client could have sent one of them.
+func only(request *http.Request, name string) (string, error) {
+	values := request.Header[name]
+	if len(values) == 0 {
+		return "", nil
+	}
+	value := values[0]
+	if len(values) > 1 || strings.IndexByte(value, '\r') >= 0 || strings.IndexByte(value, '\n') >= 0 || strings.IndexByte(value, 0) >= 0 {
+		return "", errHeader
+	}
+	return value, nil
+}
+
+// octetsOf returns the octets of headers.
+func octetsOf(header http.Header) int {
+	octets := 0
+	for name, values := range header {
+		for _, value := range values {
+			octets += len(name) + len(value)
+		}
+	}
+	return octets
+}

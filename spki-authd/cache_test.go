@@ -1,0 +1,87 @@
+package main
+
+import (
+	"crypto/sha256"
+	"fmt"
+	"sync"
+	"testing"
+
+	"conguraki/spki/guard"
+)
+
+// verifies asks a cache of a signature.
+func verifies(c *cache, signed guard.Signature, verify guard.Verify) (isValid, wasKnown bool) {
+	return c.verifies(signed, sha256.Sum256(signed.Message), verify)
+}
+
+// numbered returns a signature that is another one for each number.
+func numbered(number int) guard.Signature {
+	return guard.Signature{Key: []byte("key"), Message: []byte(fmt.Sprint(number)), Value: []byte("value")}
+}
+
+func TestCacheKeepsValidSignatures(t *testing.T) {
+	made, calls := newCache(10), 0
+	verify := func(key, message, value []byte) bool {
+		calls++
+		return string(message) == "1"
+	}
+	for turn, wanted := range []bool{false, true, true} {
+		if isValid, wasKnown := verifies(made, numbered(1), verify); !isValid || wasKnown != wanted {
+			t.Errorf("turn %d: %v, %v", turn, isValid, wasKnown)
+		}
+		if isValid, wasKnown := verifies(made, numbered(2), verify); isValid || wasKnown {
+			t.Error("a signature that is not valid is kept")
+		}
+	}
+	if calls != 4 {
+		t.Errorf("%d calls", calls)
+	}
+}
+
+func TestCacheTellsPartsApart(t *testing.T) {
+	made, valid := newCache(10), func(key, message, value []byte) bool { return true }
+	verifies(made, guard.Signature{Key: []byte("ab"), Message: []byte("c"), Value: []byte("d")}, valid)
+	for _, other := range []guard.Signature{
+		{Key: []byte("a"), Message: []byte("bc"), Value: []byte("d")}, {Key: []byte("ab"), Message: []byte("cd")}, {Key: []byte("abcd")},
+		{Key: []byte("c"), Message: []byte("ab"), Value: []byte("d")},
+	} {
+		if _, wasKnown := verifies(made, other, valid); wasKnown {
+			t.Errorf("%q is taken for another one", other)
+		}
+	}
+}
+
+func TestCacheIsBounded(t *testing.T) {
+	made, valid := newCache(100), func(key, message, value []byte) bool { return true }
+	for number := 0; number < 1000; number++ {
+		verifies(made, numbered(number), valid)
+		if len(made.valid.old)+len(made.valid.young) > 100 {
+			t.Fatalf("%d are kept", len(made.valid.old)+len(made.valid.young))
+		}
+		if _, wasKnown := verifies(made, numbered(0), valid); number > 0 && !wasKnown {
+			t.Fatal("what is asked for each time is dropped")
+		}
+	}
+	none := newCache(0)
+	verifies(none, numbered(1), valid)
+	if _, wasKnown := verifies(none, numbered(1), valid); wasKnown {
+		t.Error("a cache of none keeps one")
+	}
+}
+
+func TestCacheInGoroutines(t *testing.T) {
+	made := newCache(50)
+	var all sync.WaitGroup
+	for routine := 0; routine < 8; routine++ {
+		all.Add(1)
+		go func() {
+			defer all.Done()
+			for number := 0; number < 500; number++ {
+				if isValid, _ := verifies(made, numbered(number%70), func(_, message, _ []byte) bool { return len(message) > 1 }); isValid != (number%70 > 9) {
+					t.Error(number)
+				}
+			}
+		}()
+	}
+	all.Wait()
+}

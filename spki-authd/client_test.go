@@ -1,0 +1,91 @@
+package main
+
+import (
+	"crypto/ecdsa"
+	"crypto/elliptic"
+	"crypto/rand"
+	"crypto/rsa"
+	"encoding/base64"
+	"strings"
+	"testing"
+)
+
+func TestForms(t *testing.T) {
+	alice, bob := newPerson(t), newPerson(t)
+	encoded := base64.StdEncoding.EncodeToString(alice.der)
+	for name, row := range map[string]struct{ form, text string }{
+		"nginx": {escapedPEM, alice.escaped()}, "nginx, less is escaped": {escapedPEM, strings.ReplaceAll(alice.pem(), "\n", "%0A")},
+		"caddy": {base64DER, encoded}, "traefik": {base64DER, encoded + "," + base64.StdEncoding.EncodeToString(bob.der)},
+		"envoy":             {xfcc, `By=spiffe://x;Hash=ab;Cert="` + alice.escaped() + `";Subject="CN=\"a;b\",Cert=x"`},
+		"envoy, last":       {xfcc, `Hash=ab;Cert="` + alice.escaped() + `"`},
+		"envoy, semicolons": {xfcc, `cert="` + alice.escaped() + `";`},
+	} {
+		if key, err := keyOf(row.text, forms[row.form]); err != nil || string(key) != alice.key {
+			t.Errorf("%s: %q, %v", name, key, err)
+		}
+	}
+}
+
+func TestWrongForms(t *testing.T) {
+	alice, bob := newPerson(t), newPerson(t)
+	encoded, quote := base64.StdEncoding.EncodeToString(alice.der), `"`
+	element := `Cert="` + alice.escaped() + `"`
+	for name, row := range map[string]struct{ form, text string }{
+		"nothing": {escapedPEM, ""}, "no PEM": {escapedPEM, "x"}, "wrong escape": {escapedPEM, alice.escaped() + "%zz"},
+		"two certificates": {escapedPEM, alice.escaped() + bob.escaped()}, "text in front": {escapedPEM, "x%0A" + alice.escaped()},
+		"text behind": {escapedPEM, alice.escaped() + "x"}, "other block": {escapedPEM, strings.ReplaceAll(alice.escaped(), "CERTIFICATE", "PUBLIC%20KEY")},
+		"truncated": {escapedPEM, alice.escaped()[:len(alice.escaped())/2]}, "base64 as PEM": {escapedPEM, encoded},
+		"no base64": {base64DER, "~"}, "PEM as base64": {base64DER, alice.escaped()}, "no certificate": {base64DER, "AAAA"},
+		"half": {base64DER, encoded[:len(encoded)/8*4]}, "bits behind": {base64DER, base64.StdEncoding.EncodeToString(append(alice.der, 0))},
+		"empty first": {base64DER, "," + encoded}, "spaces": {base64DER, " " + encoded},
+		"no Cert": {xfcc, "Hash=ab"}, "two of them": {xfcc, element + ";" + element}, "two elements": {xfcc, "Hash=a," + element},
+		"two elements, quoted": {xfcc, element + "," + element}, "no end": {xfcc, `Cert="` + alice.escaped()}, "escape at the end": {xfcc, `Cert="\`},
+		"no field": {xfcc, alice.escaped()}, "quote inside": {xfcc, "Cert=a" + quote + alice.escaped()},
+	} {
+		if key, err := keyOf(row.text, forms[row.form]); err == nil {
+			t.Errorf("%s: %q", name, key)
+		}
+	}
+}
+
+func TestKindsOfKeys(t *testing.T) {
+	p256, err := ecdsa.GenerateKey(elliptic.P256(), rand.Reader)
+	if err != nil {
+		t.Fatal(err)
+	}
+	p384, err := ecdsa.GenerateKey(elliptic.P384(), rand.Reader)
+	if err != nil {
+		t.Fatal(err)
+	}
+	strong, err := rsa.GenerateKey(rand.Reader, 2048)
+	if err != nil {
+		t.Fatal(err)
+	}
+	weak, err := rsa.GenerateKey(rand.Reader, 1024)
+	if err != nil {
+		t.Fatal(err)
+	}
+	for name, row := range map[string]struct {
+		der    []byte
+		isUsed bool
+	}{
+		"P-256": {selfSigned(t, p256), true}, "P-384": {selfSigned(t, p384), false}, "RSA 2048": {selfSigned(t, strong), true},
+		"RSA 1024": {selfSigned(t, weak), false},
+	} {
+		if _, err := keyOf(base64.StdEncoding.EncodeToString(row.der), ofBase64); (err == nil) != row.isUsed {
+			t.Errorf("%s: %v", name, err)
+		}
+	}
+}
+
+func TestKeysAreKept(t *testing.T) {
+	made, alice := newKeys(escapedPEM), newPerson(t)
+	for turn := 0; turn < 2; turn++ {
+		if key, err := made.of(alice.escaped()); err != nil || string(key) != alice.key {
+			t.Errorf("turn %d: %q, %v", turn, key, err)
+		}
+		if _, err := made.of(alice.escaped() + "x"); err == nil {
+			t.Error("what is no certificate is kept")
+		}
+	}
+}

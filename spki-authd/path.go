@@ -1,0 +1,68 @@
+package main
+
+import (
+	"errors"
+	"strings"
+)
+
+// errUnclear is the fault of each path that two servers could read in two ways.
+var errUnclear = errors.New("the path is not clear")
+
+// pathOf returns the path of a request's target, decoded once. It accepts only what every server reads in the same way, so nothing has to be
+// normalised, and a path that is accepted is the one that is served:
+//
+//   - It begins with `/`, and has at most so many octets. The query is cut off at the first `?`.
+//   - As it is sent it has visible characters of ASCII alone, with its query. Each `%` is followed by two hexadecimal digits.
+//   - Decoded it has characters of ASCII from the space to `~`, without `%`, `\`, `;`, `?` and `#`. `%2F` is no part of it.
+//   - No segment is `.` or `..`, ends in a dot or a space, or is empty, except the last one.
+//
+// Upper and lower case, and a `/` at the end, stay as they are.
+func pathOf(target string, most int) (string, error) {
+	sent, _, _ := strings.Cut(target, "?")
+	if len(sent) > most || !strings.HasPrefix(sent, "/") || !isVisible(target) {
+		return "", errUnclear
+	}
+	path, err := decoded(sent)
+	if err != nil {
+		return "", err
+	}
+	segments := strings.Split(path[1:], "/")
+	for place, segment := range segments {
+		if segment == "" && place < len(segments)-1 || strings.HasSuffix(segment, ".") || strings.HasSuffix(segment, " ") {
+			return "", errUnclear
+		}
+	}
+	return path, nil
+}
+
+// decoded decodes each `%XX`, once, and refuses the characters that no path has.
+func decoded(sent string) (string, error) {
+	path := make([]byte, 0, len(sent))
+	for place := 0; place < len(sent); place++ {
+		octet, isEscaped := sent[place], sent[place] == '%'
+		if isEscaped {
+			if place+2 >= len(sent) || !isHexadecimal(sent[place+1]) || !isHexadecimal(sent[place+2]) {
+				return "", errUnclear
+			}
+			octet = digit(sent[place+1])<<4 | digit(sent[place+2])
+			place += 2
+		}
+		if octet < ' ' || octet > '~' || strings.IndexByte(`%\;?#`, octet) >= 0 || isEscaped && octet == '/' {
+			return "", errUnclear
+		}
+		path = append(path, octet)
+	}
+	return string(path), nil
+}
+
+func isHexadecimal(octet byte) bool {
+	return '0' <= octet && octet <= '9' || 'a' <= octet|0x20 && octet|0x20 <= 'f'
+}
+
+// digit returns the value of a hexadecimal digit.
+func digit(octet byte) byte {
+	if octet <= '9' {
+		return octet - '0'
+	}
+	return (octet | 0x20) - 'a' + 10
+}

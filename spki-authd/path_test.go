@@ -1,0 +1,73 @@
+package main
+
+import (
+	"net/url"
+	"strings"
+	"testing"
+)
+
+func TestPaths(t *testing.T) {
+	for target, wanted := range map[string]string{
+		"/": "/", "/a/b": "/a/b", "/a/b/": "/a/b/", "/a?b": "/a", "/a?": "/a", "/a?/../b": "/a", "/a?%00%zz": "/a", "/%61": "/a", "/%7Ea": "/~a",
+		"/a%20b": "/a b", "/A": "/A", "/a.b": "/a.b", "/.a": "/.a", "/..a": "/..a", "/a:b@c,d=e&f!g$h'i(j)*k+l": "/a:b@c,d=e&f!g$h'i(j)*k+l",
+		"/%22%3c%3E%5B%5d%5E%60%7b%7C%7d": "/\"<>[]^`{|}", "/a%2e%2Eb": "/a..b",
+	} {
+		if path, err := pathOf(target, 4096); err != nil || path != wanted {
+			t.Errorf("%q: %q, %v; wanted %q", target, path, err, wanted)
+		}
+	}
+}
+
+func TestUnclearPaths(t *testing.T) {
+	for _, target := range []string{
+		"", "*", "a", "a/b", "?", "?/", "http://host/a", "//host/a", "//", "/a//b", "/a//", "///", "/.", "/..", "/./a", "/a/.", "/a/./b", "/a/..",
+		"/a/../b", "/../a", "/%2e", "/%2E%2e/a", "/.%2e/a", "/a/%2e%2e/b", "/%2e/a", "/a%2Fb", "/a%2fb", "/%2f", "/a%5cb", "/a\\b", "/..\\a",
+		"/a%5C..%5Cb", "/a%00", "/a%00.txt", "/%0a", "/%0D%0Ax", "/a%09b", "/a%7F", "/a%1f", "/a b", "/a\tb", "/a\nb", "/a\x00b", "/a%", "/a%2",
+		"/a%zz", "/a%2g", "/a%g2", "/%u002e", "/%%32e", "/%252e", "/%25", "/%252f", "/a;b", "/a;b=c/d", "/a%3Bb", "/a%3fb", "/a%23b", "/a#b",
+		"/a.", "/a./b", "/a..", "/a/b.", "/...", "/a%2e", "/a%20", "/a%20/b", "/%20", "/\xc3\xa9", "/%C3%A9", "/%65%CC%81", "/%c0%ae%c0%ae/a",
+		"/%c0%af", "/%ef%bc%8f", "/%e2%80%ae", "/%E2%80%A4%E2%80%A4/", "/a\xff", "/%ff", "/a%0", "/a%80", "/a?\v", "/a?b c",
+	} {
+		if path, err := pathOf(target, 4096); err == nil {
+			t.Errorf("%q is read as %q", target, path)
+		}
+	}
+}
+
+func TestLongPaths(t *testing.T) {
+	long := "/" + strings.Repeat("a", 99)
+	if _, err := pathOf(long+"?"+long, 100); err != nil {
+		t.Error(err)
+	}
+	if _, err := pathOf(long+"a", 100); err == nil {
+		t.Error("a path over the limit is read")
+	}
+}
+
+// FuzzPath holds a path against what Go's standard library reads.
+func FuzzPath(f *testing.F) {
+	for _, seed := range []string{"/", "/a/b?c", "/a%20b", "/%2e%2e/a", "//a", "/a%2fb", "/a;b", "/%u002e"} {
+		f.Add(seed)
+	}
+	f.Fuzz(func(t *testing.T, target string) {
+		path, err := pathOf(target, 4096)
+		if err != nil {
+			return
+		}
+		read, err := url.ParseRequestURI(target)
+		if err != nil || read.Path != path || read.Host != "" {
+			t.Errorf("%q is %q, and to others %v, %v", target, path, read, err)
+		}
+		for _, segment := range strings.Split(path, "/") {
+			if segment == "." || segment == ".." {
+				t.Errorf("%q is %q", target, path)
+			}
+		}
+		if strings.ContainsAny(path, "\x00\\%;?#") || strings.Contains(path, "//") {
+			t.Errorf("%q is %q", target, path)
+		}
+		escaped := (&url.URL{Path: path}).EscapedPath()
+		if again, err := pathOf(escaped, 4*4096); err != nil || again != path {
+			t.Errorf("%q is %q, and escaped again %q: %v", target, path, again, err)
+		}
+	})
+}
