@@ -1,111 +1,47 @@
-/* Asks a guard that is held from C as `spki.h` says: right and wrong marks, misuse, small buffers, two guards at once, refused memory
- * and several threads on one guard. Is linked with --wrap=malloc and --wrap=realloc. Ends with 99 where a call does otherwise, with a
- * line on standard error.
+/* Asks a guard that is held from C as `spki.h` says: right and wrong marks, misuse, small buffers, two guards at once, buffers that change
+ * once a question is opened, guards that are closed before their questions, refused memory, and several threads on one guard and on one
+ * question. Is linked with --wrap=malloc and --wrap=realloc. Ends with 99 where a call does otherwise, with a line on standard error.
  *
  * Usage: cguard THREADS REFUSALS LIST SEQUENCE KEY     each of the last three is a text */
+#include "cguard.h"
+
 #include <pthread.h>
-#include <spki.h>
-#include <stdio.h>
-#include <stdlib.h>
-#include <string.h>
 
-enum { BROKEN = 99, ROOM = 4, UNTOUCHED = 0x5a, STACK = 256 * 1024, MOST_THREADS = 64, TURNS = 50 };
+enum { STACK = 256 * 1024, MOST_THREADS = 64, TURNS = 50 };
 
-/* 2024-01-01 00:00:00 UTC */
-static const int64_t moment = 1704067200;
-static size_t until_refusal;
-static int is_refused;
-
-void *__real_malloc(size_t size);
-void *__real_realloc(void *block, size_t size);
-
-static int refuses(void)
+/* Compares the signatures of a question with what key a has signed. */
+static void lists(const spki_asked *asked)
 {
-    if (!until_refusal || --until_refusal)
-        return 0;
-    is_refused = 1;
-    return 1;
-}
-
-void *__wrap_malloc(size_t size)
-{
-    return refuses() ? NULL : __real_malloc(size);
-}
-
-void *__wrap_realloc(void *block, size_t size)
-{
-    return refuses() ? NULL : __real_realloc(block, size);
-}
-
-static void expect(int holds, const char *what)
-{
-    if (holds)
-        return;
-    fprintf(stderr, "%s\n", what);
-    exit(BROKEN);
-}
-
-static struct spki_text text(const char *octets)
-{
-    struct spki_text made = {octets, strlen(octets)};
-    return made;
-}
-
-static int is(const void *octets, size_t length, const char *wanted)
-{
-    return length == strlen(wanted) && !memcmp(octets, wanted, length);
-}
-
-static spki_guard *opened(const char *list, enum spki_policy policy)
-{
-    spki_guard *guard = NULL;
-    size_t needed = 12345;
-    expect(spki_guard_open(list, strlen(list), policy, NULL, &guard, NULL, 0, &needed) == SPKI_DONE && guard && !needed, "a list is refused");
-    return guard;
-}
-
-/* Decides, and compares the status and the line. */
-static void decides(const spki_guard *guard, const struct spki_question *question, const unsigned char *verified, size_t count,
-                    enum spki_status status, const char *line)
-{
-    unsigned char buffer[64];
-    size_t needed = 12345;
-    expect(spki_guard_decide(guard, question, verified, count, buffer, sizeof buffer, &needed) == status, line);
-    expect(is(buffer, needed, line), line);
+    struct spki_signed signature, again, none;
+    memset(&none, 0, sizeof none);
+    expect(spki_asked_count(asked) == 1, "another number of signatures");
+    expect(spki_asked_signature(asked, 0, &signature) == SPKI_DONE, "no signature");
+    expect(is(signature.key.octets, signature.key.length, "(10:public-key(4:test1:a))"), "another key");
+    expect(is(signature.value.octets, signature.value.length, "3:sig"), "another value");
+    expect(is(signature.octets.octets, signature.octets.length, "sig"), "other octets of a value");
+    expect(signature.message.length > 5 && !memcmp(signature.message.octets, "(4:cert", 7), "another message");
+    expect(spki_asked_signature(asked, 0, &again) == SPKI_DONE && !memcmp(&again, &signature, sizeof again), "other addresses");
+    expect(spki_asked_signature(asked, 1, &again) == SPKI_NONE && !memcmp(&again, &none, sizeof none), "a signature too many");
+    expect(spki_asked_signature(asked, (size_t)-1, &again) == SPKI_NONE, "a signature far behind");
 }
 
 /* The question of `examples/delegation.sexp`: key b shows what key a has signed, and asks for `(ftp)`. */
 static void delegation(const char *list, const char *sequence, const char *key)
 {
     spki_guard *guard = opened(list, SPKI_OPEN);
-    struct spki_text words[2] = {text("ftp"), text("ftp")};
-    struct spki_question question = {text(sequence), text(key), {NULL, 0}, words, 1, {NULL, 0}, &moment};
-    struct spki_signed signatures[ROOM], untouched[ROOM];
-    unsigned char octets[4096], marks[2] = {1, 1}, blank[4096];
-    size_t count = 7, needed = 7, wanted;
+    struct spki_question question = {.size = sizeof question, .sequence = text(sequence), .key = text(key), .request = text("(ftp)"),
+                                     .seconds = &moment};
+    unsigned char marks[2] = {1, 1};
+    spki_asked *asked = asked_of(guard, &question);
     expect(spki_guard_entries(guard) == 1, "another number of entries");
-    question.words = NULL;
-    question.word_count = 0;
-    question.request = text("(ftp)");
-    expect(spki_guard_signed(guard, &question, signatures, ROOM, &count, octets, sizeof octets, &wanted) == SPKI_DONE && count == 1,
-           "another number of signatures");
-    expect(is(signatures[0].key.octets, signatures[0].key.length, "(10:public-key(4:test1:a))"), "another key");
-    expect(is(signatures[0].value.octets, signatures[0].value.length, "3:sig"), "another value");
-    expect(signatures[0].message.length > 5 && !memcmp(signatures[0].message.octets, "(4:cert", 7), "another message");
-    expect(signatures[0].key.length + signatures[0].message.length + signatures[0].value.length == wanted, "another length");
-    memset(untouched, UNTOUCHED, sizeof untouched);
-    memset(signatures, UNTOUCHED, sizeof signatures);
-    memset(blank, UNTOUCHED, sizeof blank);
-    memset(octets, UNTOUCHED, sizeof octets);
-    expect(spki_guard_signed(guard, &question, signatures, 0, &count, octets, sizeof octets, &needed) == SPKI_TOO_SMALL && count == 1
-           && needed == wanted, "no room for a signature");
-    expect(spki_guard_signed(guard, &question, signatures, ROOM, &count, octets, wanted - 1, &needed) == SPKI_TOO_SMALL && count == 1
-           && needed == wanted, "a buffer that is too small");
-    expect(!memcmp(signatures, untouched, sizeof untouched) && !memcmp(octets, blank, sizeof blank), "what is too small is written");
+    lists(asked);
+    spki_asked_close(asked);
     decides(guard, &question, marks, 1, SPKI_YES, "yes entry 1\n");
     marks[0] = 0;
     decides(guard, &question, marks, 1, SPKI_NO, "no\n");
     marks[0] = 2;
+    decides(guard, &question, marks, 1, SPKI_NO, "no\n");
+    marks[0] = 255;
     decides(guard, &question, marks, 1, SPKI_NO, "no\n");
     decides(guard, &question, marks, 0, SPKI_MISUSED, "");
     decides(guard, &question, marks, 2, SPKI_MISUSED, "");
@@ -119,13 +55,53 @@ static void delegation(const char *list, const char *sequence, const char *key)
     spki_guard_close(guard);
 }
 
+/* A text in memory that changes as soon as the question is opened. */
+static struct spki_text copied(const char *octets, char *room)
+{
+    struct spki_text made = {strcpy(room, octets), strlen(octets)};
+    return made;
+}
+
+/* Marks belong to the question that was opened, whatever becomes of its buffers, its guard and other questions. */
+static void one_question(const char *list, const char *sequence, const char *key)
+{
+    char rooms[2][4096];
+    spki_guard *guard = opened(list, SPKI_OPEN), *other = opened("(acl)", SPKI_OPEN);
+    struct spki_question question = {.size = sizeof question, .sequence = copied(sequence, rooms[0]), .key = copied(key, rooms[1]),
+                                     .request = text("(ftp)"), .seconds = &moment};
+    struct spki_question empty = {.size = sizeof empty, .sequence = text("(sequence)"), .key = text(key), .request = text("(ftp)"),
+                                  .seconds = &moment};
+    spki_asked *asked = asked_of(guard, &question), *none = asked_of(guard, &empty), *elsewhere = asked_of(other, &question);
+    unsigned char marks[1] = {1}, line[256];
+    size_t needed;
+    memset(rooms, 'x', sizeof rooms);
+    spki_guard_close(guard);
+    spki_guard_close(other);
+    lists(asked);
+    for (int turn = 0; turn < 3; turn++) {
+        marks[0] = turn != 1;
+        expect(spki_asked_decide(asked, marks, 1, line, sizeof line, &needed) == (turn == 1 ? SPKI_NO : SPKI_YES), "another decision");
+        expect(spki_asked_explain(asked, marks, 1, line, sizeof line, &needed) == SPKI_DONE
+               && is(line, needed, turn == 1 ? "item 2 NotAccepted\n" : "entry 1 grants\n"), "another explanation");
+        expect(spki_asked_reduce(asked, marks, 1, line, sizeof line, &needed) == SPKI_DONE && needed > 5, "another reduction");
+    }
+    expect(!spki_asked_count(none) && spki_asked_decide(none, marks, 1, line, sizeof line, &needed) == SPKI_MISUSED, "marks of another");
+    expect(spki_asked_decide(elsewhere, marks, 1, line, sizeof line, &needed) == SPKI_NO, "marks of another guard");
+    expect(spki_asked_decide(asked, marks, 1, line, 3, &needed) == SPKI_TOO_SMALL && needed == 12, "a small buffer");
+    spki_asked_close(none);
+    spki_asked_close(elsewhere);
+    spki_asked_close(asked);
+}
+
 /* A request by its strings, of which none can run into the next part. */
 static void strings(void)
 {
     spki_guard *guard = opened("(acl (entry (public-key (test b)) (tag (cache (* prefix /cache/team1/) read))))", SPKI_STRICT);
     spki_guard *other = opened("(acl (entry (public-key (test c)) (tag (*))))", SPKI_STRICT);
     struct spki_text words[3] = {text("cache"), text("/cache/team1/a.o"), text("read")};
-    struct spki_question question = {text("(sequence)"), text("(public-key (test b))"), {NULL, 0}, words, 3, {NULL, 0}, &moment};
+    struct spki_question question = {.size = sizeof question, .sequence = text("(sequence)"), .key = text("(public-key (test b))"),
+                                     .words = words, .word_count = 3, .seconds = &moment};
+    spki_asked *asked;
     unsigned char buffer[128];
     size_t needed;
     decides(guard, &question, NULL, 0, SPKI_YES, "yes entry 1\n");
@@ -133,9 +109,16 @@ static void strings(void)
     question.seconds = NULL;
     question.moment = text("19:2024-01-01_00:00:00");
     decides(guard, &question, NULL, 0, SPKI_YES, "yes entry 1\n");
+    question.seconds = &moment;
+    decides(guard, &question, NULL, 0, SPKI_MISUSED, "");
+    question.seconds = NULL;
     question.moment = text("19:2024-13-01_00:00:00");
     decides(guard, &question, NULL, 0, SPKI_REFUSED, "refused at BadDate\n");
     question.seconds = &moment;
+    question.moment.length = 0;
+    question.request = text("x");
+    decides(guard, &question, NULL, 0, SPKI_MISUSED, "");
+    question.request.length = 0;
     words[1] = text("/cache/team1/a.o read");
     words[2] = text("write");
     decides(guard, &question, NULL, 0, SPKI_NO, "no\n");
@@ -143,54 +126,71 @@ static void strings(void)
     words[2] = text("read");
     decides(guard, &question, NULL, 0, SPKI_YES, "yes entry 1\n");
     words[1] = text("/cache/team1/a.o4:read");
-    words[2] = text("");
+    words[2] = (struct spki_text){NULL, 0};
     decides(guard, &question, NULL, 0, SPKI_NO, "no\n");
+    words[2] = (struct spki_text){NULL, 1};
+    decides(guard, &question, NULL, 0, SPKI_MISUSED, "");
     question.word_count = 0;
-    expect(spki_guard_decide(guard, &question, NULL, 0, buffer, sizeof buffer, &needed) == SPKI_REFUSED
+    expect(spki_guard_ask(guard, &question, &asked, buffer, sizeof buffer, &needed) == SPKI_REFUSED && !asked
            && needed > 16 && !memcmp(buffer, "refused request ", 16), "a request of no string");
     question.word_count = 3;
     words[1].length = SPKI_MOST_OCTETS + 1;
+    words[2] = text("read");
     decides(guard, &question, NULL, 0, SPKI_REFUSED, "refused question TooLong\n");
     words[1] = text("/cache/team1/a.o");
-    words[2] = text("read");
-    expect(spki_guard_explain(guard, &question, NULL, 0, buffer, sizeof buffer, &needed) == SPKI_DONE
-           && is(buffer, needed, "entry 1 grants\n"), "another explanation");
-    expect(spki_guard_reduce(guard, &question, NULL, 0, buffer, sizeof buffer, &needed) == SPKI_DONE
+    asked = asked_of(guard, &question);
+    expect(spki_asked_explain(asked, NULL, 0, buffer, sizeof buffer, &needed) == SPKI_DONE && is(buffer, needed, "entry 1 grants\n"),
+           "another explanation");
+    expect(spki_asked_reduce(asked, NULL, 0, buffer, sizeof buffer, &needed) == SPKI_DONE
            && needed > 15 && !memcmp(buffer, "entry 1 (five (", 15), "another reduction");
+    spki_asked_close(asked);
     spki_guard_close(other);
     spki_guard_close(guard);
 }
 
-static void refusals(void)
+static void refused_lists(void)
 {
     spki_guard *guard = (spki_guard *)&until_refusal;
-    struct spki_limits high = {SPKI_MOST_OCTETS + 1, 1, 0, 0}, low = {10, SPKI_MOST_NODES, SPKI_USUAL_WORK, SPKI_USUAL_ANSWER};
-    struct spki_question question;
-    struct spki_signed signature;
+    struct spki_limits high = SPKI_HIGHEST_LIMITS, unsized = SPKI_USUAL_LIMITS;
     unsigned char buffer[64];
-    size_t needed = 12345, count = 12345;
-    memset(&question, 0, sizeof question);
+    size_t needed = 12345;
     expect(spki_guard_open("(acl x)", 7, SPKI_OPEN, NULL, &guard, buffer, sizeof buffer, &needed) == SPKI_REFUSED && !guard
            && is(buffer, needed, "refused acl 1 Shape\n"), "a list that is none");
     expect(spki_guard_open("(acl x)", 7, SPKI_OPEN, NULL, &guard, buffer, 3, &needed) == SPKI_TOO_SMALL && needed == 20, "a small buffer");
     expect(spki_guard_open(NULL, 0, SPKI_OPEN, NULL, &guard, buffer, sizeof buffer, &needed) == SPKI_REFUSED
            && is(buffer, needed, "refused form Short\n"), "no list");
     expect(spki_guard_open("(acl)", 5, (enum spki_policy)2, NULL, &guard, NULL, 0, &needed) == SPKI_MISUSED && !needed, "no such policy");
-    expect(spki_guard_open("(acl)", 5, SPKI_OPEN, &high, &guard, NULL, 0, NULL) == SPKI_MISUSED && !guard, "a limit that is too high");
     expect(spki_guard_open("(acl)", 5, SPKI_OPEN, NULL, NULL, NULL, 0, NULL) == SPKI_MISUSED, "no place for a guard");
     expect(spki_guard_open(NULL, 5, SPKI_OPEN, NULL, &guard, NULL, 0, NULL) == SPKI_MISUSED && !guard, "a null list with a length");
-    expect(spki_guard_open("(acl)", 5, SPKI_OPEN, &low, &guard, NULL, 0, &needed) == SPKI_DONE && guard, "low limits");
-    expect(!spki_guard_entries(guard), "an empty list");
+    expect(spki_guard_open("(acl)", 5, SPKI_OPEN, &high, &guard, NULL, 0, NULL) == SPKI_DONE && guard, "the highest limits");
+    spki_guard_close(guard);
+    high.octets++;
+    expect(spki_guard_open("(acl)", 5, SPKI_OPEN, &high, &guard, NULL, 0, NULL) == SPKI_MISUSED && !guard, "a limit that is too high");
+    unsized.size = 0;
+    expect(spki_guard_open("(acl)", 5, SPKI_OPEN, &unsized, &guard, NULL, 0, NULL) == SPKI_MISUSED && !guard, "limits without a size");
+    expect(!spki_guard_entries(NULL), "no guard has entries");
+    spki_guard_close(NULL);
+}
+
+static void refused_questions(void)
+{
+    struct spki_limits low = SPKI_USUAL_LIMITS;
+    struct spki_question question = {.size = sizeof question};
+    struct spki_signed signature;
+    unsigned char buffer[64];
+    spki_guard *guard;
+    spki_asked *asked = (spki_asked *)&until_refusal;
+    low.octets = 10;
+    expect(spki_guard_open("(acl)", 5, SPKI_STRICT, &low, &guard, NULL, 0, NULL) == SPKI_DONE && !spki_guard_entries(guard), "low limits");
     decides(guard, &question, NULL, 0, SPKI_REFUSED, "refused sequence Short\n");
     question.sequence = text("(sequence) ");
     decides(guard, &question, NULL, 0, SPKI_REFUSED, "refused question TooLong\n");
     decides(NULL, &question, NULL, 0, SPKI_MISUSED, "");
     decides(guard, NULL, NULL, 0, SPKI_MISUSED, "");
-    decides(guard, &question, NULL, 1, SPKI_MISUSED, "");
+    expect(spki_guard_ask(guard, &question, NULL, buffer, sizeof buffer, NULL) == SPKI_MISUSED, "no place for a question");
+    expect(spki_guard_ask(guard, &question, &asked, NULL, 1, NULL) == SPKI_MISUSED && !asked, "a null buffer with a length");
     question.key.length = 1;
     decides(guard, &question, NULL, 0, SPKI_MISUSED, "");
-    expect(spki_guard_signed(guard, &question, &signature, 1, &count, buffer, sizeof buffer, &needed) == SPKI_MISUSED && !count && !needed,
-           "a null key with a length");
     question.key.length = 0;
     question.word_count = 1;
     decides(guard, &question, NULL, 0, SPKI_MISUSED, "");
@@ -199,12 +199,32 @@ static void refusals(void)
     decides(guard, &question, NULL, 0, SPKI_MISUSED, "");
     question.words = NULL;
     question.word_count = 0;
-    expect(spki_guard_signed(guard, &question, NULL, 1, &count, buffer, sizeof buffer, NULL) == SPKI_MISUSED, "no place for signatures");
-    expect(spki_guard_signed(guard, &question, NULL, 0, &count, buffer, sizeof buffer, &needed) == SPKI_REFUSED && !count
-           && is(buffer, needed, "refused question TooLong\n"), "a question that is too long");
-    expect(!spki_guard_entries(NULL), "no guard has entries");
+    question.size--;
+    decides(guard, &question, NULL, 0, SPKI_MISUSED, "");
+    expect(!spki_asked_count(NULL) && spki_asked_signature(NULL, 0, &signature) == SPKI_MISUSED && !signature.key.octets, "no question");
+    expect(spki_asked_decide(NULL, NULL, 0, buffer, sizeof buffer, NULL) == SPKI_MISUSED, "a decision of no question");
+    spki_asked_close(NULL);
     spki_guard_close(guard);
-    spki_guard_close(NULL);
+}
+
+/* More octets, certificates or strings than the usual limits are refused by name. */
+static void usual_limits(void)
+{
+    static char long_key[65536];
+    struct spki_text words[65];
+    struct spki_question question = {.size = sizeof question, .sequence = text("(sequence)"), .key = text("(public-key (test b))"),
+                                     .words = words, .word_count = 64, .seconds = &moment};
+    spki_guard *guard = opened("(acl (entry (public-key (test b)) (tag (*))))", SPKI_STRICT);
+    for (size_t place = 0; place < 65; place++)
+        words[place] = text("x");
+    decides(guard, &question, NULL, 0, SPKI_YES, "yes entry 1\n");
+    question.word_count = 65;
+    decides(guard, &question, NULL, 0, SPKI_REFUSED, "refused question TooManyWords\n");
+    question.word_count = 1;
+    memset(long_key, ' ', sizeof long_key);
+    question.key = (struct spki_text){long_key, sizeof long_key};
+    decides(guard, &question, NULL, 0, SPKI_REFUSED, "refused question TooLong\n");
+    spki_guard_close(guard);
 }
 
 static void octets_of_strings(void)
@@ -247,35 +267,41 @@ static void strings_without_memory(size_t most)
     }
 }
 
-/* Answers a question by the call with this number, and lists its signatures where there is no such call. */
-static enum spki_status asked_by(int call, spki_guard *guard, const struct spki_question *question, unsigned char *line, size_t length,
-                                 size_t *needed)
+/* Answers an opened question by the call with this number. */
+static enum spki_status answered_by(int call, const spki_asked *asked, unsigned char *line, size_t length, size_t *needed)
 {
-    struct spki_signed signature;
-    size_t count;
     switch (call) {
-    case 0: return spki_guard_decide(guard, question, NULL, 0, line, length, needed);
-    case 1: return spki_guard_explain(guard, question, NULL, 0, line, length, needed);
-    case 2: return spki_guard_reduce(guard, question, NULL, 0, line, length, needed);
-    default: return spki_guard_signed(guard, question, &signature, 1, &count, line, length, needed);
+    case 0: return spki_asked_decide(asked, NULL, 0, line, length, needed);
+    case 1: return spki_asked_explain(asked, NULL, 0, line, length, needed);
+    default: return spki_asked_reduce(asked, NULL, 0, line, length, needed);
     }
 }
 
-/* A request for memory is refused in each call on a guard, and the guard answers as before behind it. */
-static void refused_in_calls(spki_guard *guard, const struct spki_question *question, size_t request)
+/* A request for memory is refused in each call about a question, and the calls answer as before behind it. */
+static void refused_in_calls(const spki_guard *guard, const struct spki_question *question, size_t request)
 {
     unsigned char line[256];
+    spki_asked *asked;
     size_t needed;
-    int call;
-    for (call = 0; call < 4; call++) {
-        enum spki_status whole = call ? SPKI_DONE : SPKI_YES, status;
+    enum spki_status status;
+    is_refused = 0;
+    until_refusal = request;
+    status = spki_guard_ask(guard, question, &asked, line, sizeof line, &needed);
+    until_refusal = 0;
+    expect(is_refused ? status == SPKI_REFUSED && !asked && is(line, needed, "refused Memory\n") : status == SPKI_DONE && asked,
+           "a question and no memory");
+    if (!asked)
+        asked = asked_of(guard, question);
+    for (int call = 0; call < 3; call++) {
+        enum spki_status whole = call ? SPKI_DONE : SPKI_YES;
         is_refused = 0;
         until_refusal = request;
-        status = asked_by(call, guard, question, line, sizeof line, &needed);
+        status = answered_by(call, asked, line, sizeof line, &needed);
         until_refusal = 0;
-        expect(is_refused ? status == SPKI_REFUSED && is(line, needed, "refused Memory\n") : status == whole, "a question and no memory");
-        expect(asked_by(call, guard, question, line, sizeof line, &needed) == whole, "another answer once there is memory again");
+        expect(is_refused ? status == SPKI_REFUSED && is(line, needed, "refused Memory\n") : status == whole, "an answer and no memory");
+        expect(answered_by(call, asked, line, sizeof line, &needed) == whole, "another answer once there is memory again");
     }
+    spki_asked_close(asked);
 }
 
 /* Each of the first requests for memory is refused in turn. */
@@ -283,7 +309,8 @@ static void refused_memory(size_t most)
 {
     static const char list[] = "(acl (entry (public-key (test b)) (tag (*))))";
     struct spki_text words[1] = {text("x")};
-    struct spki_question question = {text("(sequence)"), text("(public-key (test b))"), {NULL, 0}, words, 1, {NULL, 0}, &moment};
+    struct spki_question question = {.size = sizeof question, .sequence = text("(sequence)"), .key = text("(public-key (test b))"),
+                                     .words = words, .word_count = 1, .seconds = &moment};
     unsigned char line[64];
     size_t request, needed;
     for (request = 1; request <= most; request++) {
@@ -301,35 +328,56 @@ static void refused_memory(size_t most)
     }
 }
 
-static void *asks(void *guard)
+/* A guard, and a question that was opened with it, which several threads use. */
+struct shared {
+    spki_guard *guard;
+    spki_asked *asked;
+};
+
+static void *asks(void *given)
 {
+    const struct shared *shared = given;
     struct spki_text words[2] = {text("cache"), text("x")};
-    struct spki_question question = {text("(sequence)"), text("(public-key (test b))"), {NULL, 0}, words, 2, {NULL, 0}, &moment};
-    for (int turn = 0; turn < TURNS; turn++)
-        decides(guard, &question, NULL, 0, SPKI_YES, "yes entry 2\n");
+    struct spki_question question = {.size = sizeof question, .sequence = text("(sequence)"), .key = text("(public-key (test b))"),
+                                     .words = words, .word_count = 2, .seconds = &moment};
+    unsigned char line[64];
+    size_t needed;
+    for (int turn = 0; turn < TURNS; turn++) {
+        decides(shared->guard, &question, NULL, 0, SPKI_YES, "yes entry 2\n");
+        expect(spki_asked_decide(shared->asked, NULL, 0, line, sizeof line, &needed) == SPKI_YES && is(line, needed, "yes entry 2\n"),
+               "another answer to a shared question");
+    }
     return NULL;
 }
 
 static void threads(size_t count)
 {
-    spki_guard *guard = opened("(acl (entry (public-key (test c)) (tag (*))) (entry (public-key (test b)) (tag (*))))", SPKI_STRICT);
+    struct spki_question question = {.size = sizeof question, .sequence = text("(sequence)"), .key = text("(public-key (test b))"),
+                                     .request = text("x"), .seconds = &moment};
+    struct shared shared = {opened("(acl (entry (public-key (test c)) (tag (*))) (entry (public-key (test b)) (tag (*))))", SPKI_STRICT), NULL};
     pthread_t each[MOST_THREADS];
     pthread_attr_t small;
+    shared.asked = asked_of(shared.guard, &question);
     expect(count <= MOST_THREADS && !pthread_attr_init(&small) && !pthread_attr_setstacksize(&small, STACK), "no threads of this kind");
     for (size_t i = 0; i < count; i++)
-        expect(!pthread_create(&each[i], &small, asks, guard), "no thread");
+        expect(!pthread_create(&each[i], &small, asks, &shared), "no thread");
     for (size_t i = 0; i < count; i++)
         pthread_join(each[i], NULL);
     pthread_attr_destroy(&small);
-    spki_guard_close(guard);
+    spki_asked_close(shared.asked);
+    spki_guard_close(shared.guard);
 }
 
 int main(int count, char **words)
 {
     expect(count == 6, "usage: cguard THREADS REFUSALS LIST SEQUENCE KEY");
+    expect(!strcmp(spki_version(), SPKI_VERSION), "another version");
     delegation(words[3], words[4], words[5]);
+    one_question(words[3], words[4], words[5]);
     strings();
-    refusals();
+    refused_lists();
+    refused_questions();
+    usual_limits();
     octets_of_strings();
     strings_without_memory(strtoul(words[2], NULL, 10));
     refused_memory(strtoul(words[2], NULL, 10));

@@ -11,6 +11,7 @@ from model import forms, guard
 from model.answers import Answer
 from model.calls import DONE, MISUSED, TOO_SMALL
 from model.guard import Parts, Signed, answer
+from model.values import Atom
 
 ROOM = 64
 # so many structures have more octets than an array can have
@@ -27,20 +28,20 @@ class Text(Structure):
 class Limits(Structure):
     """`struct spki_limits`."""
 
-    _fields_ = [(name, c_size_t) for name in ("octets", "nodes", "work", "answer")]
+    _fields_ = [(name, c_size_t) for name in ("size", "octets", "certificates", "words", "nodes", "work", "answer")]
 
 
 class Asked(Structure):
     """`struct spki_question`."""
 
-    _fields_ = [("sequence", Text), ("key", Text), ("request", Text), ("words", POINTER(Text)), ("word_count", c_size_t),
+    _fields_ = [("size", c_size_t), ("sequence", Text), ("key", Text), ("request", Text), ("words", POINTER(Text)), ("word_count", c_size_t),
                 ("moment", Text), ("seconds", POINTER(c_int64))]
 
 
 class Listed(Structure):
     """`struct spki_signed`, whose octets may have any value."""
 
-    _fields_ = [(name, c_size_t) for name in ("key", "key_length", "message", "message_length", "value", "value_length")]
+    _fields_ = [(name + part, c_size_t) for name in ("key", "message", "value", "octets") for part in ("", "_length")]
 
 
 def text_of(octets: bytes) -> Text:
@@ -67,22 +68,27 @@ class GuardDoor:
 
     def __init__(self, loaded: ctypes.CDLL) -> None:
         needed = POINTER(c_size_t)
-        self.open, self.close, self.signed = loaded.spki_guard_open, loaded.spki_guard_close, loaded.spki_guard_signed
-        self.entries = loaded.spki_guard_entries
-        self.by_wish = {wish: getattr(loaded, f"spki_guard_{wish}") for wish in ("decide", "explain", "reduce")}
+        self.open, self.close, self.entries = loaded.spki_guard_open, loaded.spki_guard_close, loaded.spki_guard_entries
+        self.ask, self.count, self.signature = loaded.spki_guard_ask, loaded.spki_asked_count, loaded.spki_asked_signature
+        self.close_asked = loaded.spki_asked_close
+        self.by_wish = {wish: getattr(loaded, f"spki_asked_{wish}") for wish in ("decide", "explain", "reduce")}
         self.open.argtypes = [c_char_p, c_size_t, c_uint32, POINTER(Limits), POINTER(c_void_p), c_void_p, c_size_t, needed]
-        self.close.argtypes, self.close.restype = [c_void_p], None
-        self.entries.argtypes, self.entries.restype = [c_void_p], c_size_t
-        self.signed.argtypes = [c_void_p, POINTER(Asked), c_void_p, c_size_t, needed, c_void_p, c_size_t, needed]
+        self.ask.argtypes = [c_void_p, POINTER(Asked), POINTER(c_void_p), c_void_p, c_size_t, needed]
+        self.signature.argtypes = [c_void_p, c_size_t, POINTER(Listed)]
+        for call in (self.close, self.close_asked):
+            call.argtypes, call.restype = [c_void_p], None
+        for call in (self.entries, self.count):
+            call.argtypes, call.restype = [c_void_p], c_size_t
         for call in self.by_wish.values():
-            call.argtypes = [c_void_p, POINTER(Asked), c_char_p, c_size_t, c_void_p, c_size_t, needed]
+            call.argtypes = [c_void_p, c_char_p, c_size_t, c_void_p, c_size_t, needed]
 
     def answers(self, question: GuardQuestion, wanted: tuple[Answer, list[Signed]]) -> str | None:
         """What is wrong with the answer or with what the verifier is asked of, None if nothing is."""
-        handle = c_void_p()
+        handle, asked = c_void_p(), c_void_p()
         try:
-            met, listed = self.ask(question, handle)
+            met, listed = self.answered(question, handle, asked)
         finally:
+            self.close_asked(asked)
             self.close(handle)
         said, signed = wanted
         if met != said:
@@ -93,97 +99,104 @@ class GuardDoor:
 
     def keeps_back(self, question: GuardQuestion) -> str | None:
         """What is wrong where there is too little room by one, None if nothing is."""
-        handle = c_void_p()
+        handle, asked = c_void_p(), c_void_p()
         try:
-            is_right = self.is_kept_back(question, handle)
+            is_right = self.is_kept_back(question, handle, asked)
         finally:
+            self.close_asked(asked)
             self.close(handle)
         return None if is_right else "a call for guards writes where there is too little room, or tells another length or status"
 
-    def ask(self, question: GuardQuestion, handle: c_void_p) -> tuple[Answer, list[Signed] | None]:
-        """The answer, and the signatures that are listed where the question is read. The guard is opened in the handle."""
+    def answered(self, question: GuardQuestion, handle: c_void_p, asked: c_void_p) -> tuple[Answer, list[Signed] | None]:
+        """The answer, and the signatures that are listed where the question is read. The guard and the question are opened in the handles,
+        and the guard is closed before the question is answered."""
         status, line = self.opened(question, handle, ROOM)
         if status != DONE:
             return (status, line), None
-        odd, asked = question.oddity, asked_of(question)
+        odd = question.oddity
         if odd == "no guard" and self.entries(None):
             return (status, b"the entries of no guard"), None
-        at = (None if odd == "no guard" else handle, None if odd == "no question" else byref(asked))
+        status, line = self.asked(question, handle, asked, ROOM)
+        if status != DONE:
+            return (status, line), None
+        self.close(handle)
+        handle.value = None
         if odd in guard.LISTED:
-            return (self.listed_oddly(odd, at), b""), None
-        status, listed = self.list(at)
-        marks = b"" if listed is None else marks_of(question, listed)
+            at, place = (None, byref(Listed())) if odd == "a signature of no question" else (asked, None)
+            return (self.signature(at, 0, place), b""), None
+        listed = self.listed(asked)
+        marks = marks_of(question, listed)
         if odd == guard.OTHER_MARKS:
             marks = marks[:-1] if marks and len(question.acl) % 2 else marks + b"\1"
-        return self.answer(question, at, marks), listed
+        return self.answer(question, None if odd == "no opened question" else asked, marks), listed
 
     def opened(self, question: GuardQuestion, handle: c_void_p, room: int) -> Answer:
         """What `spki_guard_open` answers, with a buffer of this room."""
         line, needed, odd = ctypes.create_string_buffer(room + 1), c_size_t(), question.oddity
         text, length = (None, 1) if odd == "a list that is null with a length" else (question.acl, len(question.acl))
-        limits = None if odd == "limits" else byref(Limits(*astuple(question.limits)))
+        size = ctypes.sizeof(Limits) - (odd == "limits of another size")
+        limits = None if odd == "limits" else byref(Limits(size, *astuple(question.limits)))
         place = None if odd == "no place for the guard" else byref(handle)
         status = self.open(text, length, question.policy, limits, place, line, room, byref(needed))
         return status, line.raw[:needed.value]
 
-    def list(self, at: At) -> tuple[int, list[Signed] | None]:
-        """What `spki_guard_signed` answers: first the room that it needs, then the signatures."""
-        count, needed = c_size_t(), c_size_t()
-        status = self.signed(*at, None, 0, byref(count), None, 0, byref(needed))
-        room, octets = (Listed * (count.value + 1))(), ctypes.create_string_buffer(needed.value + 1)
-        if status == TOO_SMALL:
-            status = self.signed(*at, room, count.value, byref(count), octets, needed.value, byref(needed))
-        if status != DONE:
-            return status, None
-        return status, [signed_at(it) for it in room[:count.value]]
+    def asked(self, question: GuardQuestion, handle: c_void_p, asked: c_void_p, room: int) -> Answer:
+        """What `spki_guard_ask` answers, with a buffer of this room. The question's texts change afterwards."""
+        line, needed, odd = ctypes.create_string_buffer(room + 1), c_size_t(), question.oddity
+        parts = asked_of(question)
+        given = None if odd == "no question" else byref(parts)
+        place = None if odd == "no place for the question" else byref(asked)
+        buffer = None if odd == "a buffer for a line that is null with a length" else line
+        status = self.ask(None if odd == "no guard" else handle, given, place, buffer, room, byref(needed))
+        return status, line.raw[:needed.value]
 
-    def listed_oddly(self, odd: str, at: At) -> int:
-        """The status of `spki_guard_signed` where its room or its place for the count is misuse."""
-        room, count, needed = Listed(), c_size_t(), c_size_t()
-        given = {"no place for the count": (None, 0, None), "signatures that are null with room": (None, 1, byref(count)),
-                 "more room for signatures than there are octets": (byref(room), MANY, byref(count))}[odd]
-        return self.signed(*at, *given, None, 0, byref(needed))
+    def listed(self, asked: c_void_p) -> list[Signed]:
+        """The signatures of an opened question. Where a value is one string, its octets are the end of it."""
+        found = []
+        for place in range(self.count(asked)):
+            signature = Listed()
+            if self.signature(asked, place, byref(signature)) != DONE:
+                return []
+            found.append(signed_at(signature))
+            octets = ctypes.string_at(signature.octets, signature.octets_length) if signature.octets else None
+            if octets != octets_of_value(found[-1][2]):
+                return []
+        return [] if self.signature(asked, len(found), byref(Listed())) == DONE else found
 
-    def answer(self, question: GuardQuestion, at: At, marks: bytes) -> Answer:
+    def answer(self, question: GuardQuestion, asked: c_void_p | None, marks: bytes) -> Answer:
         """What a call answers to a question with these marks."""
         call, odd, needed = self.by_wish[question.command.removeprefix("guard ")], question.oddity, c_size_t()
         if odd == "marks that are null with a count":
-            return call(*at, None, len(marks) + 1, None, 0, byref(needed)), b""
+            return call(asked, None, len(marks) + 1, None, 0, byref(needed)), b""
         if odd == "a buffer that is null with a length":
-            return call(*at, marks, len(marks), None, 1, byref(needed)), b""
-        status = call(*at, marks, len(marks), None, 0, byref(needed))
+            return call(asked, marks, len(marks), None, 1, byref(needed)), b""
+        status = call(asked, marks, len(marks), None, 0, byref(needed))
         octets = ctypes.create_string_buffer(needed.value + 1)
         if status == TOO_SMALL:
-            status = call(*at, marks, len(marks), octets, needed.value, None if odd == "needed" else byref(needed))
+            status = call(asked, marks, len(marks), octets, needed.value, None if odd == "needed" else byref(needed))
         return status, octets.raw[:needed.value]
 
-    def is_kept_back(self, question: GuardQuestion, handle: c_void_p) -> bool:
-        """Whether each call for a question says that there is too little room where one octet or one signature does not fit."""
+    def is_kept_back(self, question: GuardQuestion, handle: c_void_p, asked: c_void_p) -> bool:
+        """Whether each call for a question says that there is too little room where one octet does not fit."""
         status, line = self.opened(question, handle, ROOM)
         if status != DONE:
             status, said = self.opened(question, c_void_p(), len(line) - 1)
             return (status, said) == (guard.kept_back("the line of a refused list"), len(line) * b"\0")
-        asked = asked_of(question)
-        at = (handle, byref(asked))
-        _, listed = self.list(at)
-        marks = b"" if listed is None else marks_of(question, listed)
-        _, said = self.answer(question, at, marks)
+        status, line = self.asked(question, handle, asked, ROOM)
+        if status != DONE:
+            status, said = self.asked(question, handle, c_void_p(), len(line) - 1)
+            return (status, said) == (guard.kept_back("the line of a refused question"), len(line) * b"\0")
+        marks = marks_of(question, self.listed(asked))
+        _, said = self.answer(question, asked, marks)
         octets, needed = ctypes.create_string_buffer(len(said)), c_size_t()
-        status = self.by_wish[question.command.removeprefix("guard ")](*at, marks, len(marks), octets, len(said) - 1, byref(needed))
-        is_right = (status, needed.value, octets.raw) == (guard.kept_back("an answer"), len(said), len(said) * b"\0")
-        return is_right and (not listed or self.list_is_kept_back(at))
+        status = self.by_wish[question.command.removeprefix("guard ")](asked, marks, len(marks), octets, len(said) - 1, byref(needed))
+        return (status, needed.value, octets.raw) == (guard.kept_back("an answer"), len(said), len(said) * b"\0")
 
-    def list_is_kept_back(self, at: At) -> bool:
-        """Whether nothing is written where one signature, or one octet of them, does not fit."""
-        count, needed = c_size_t(), c_size_t()
-        self.signed(*at, None, 0, byref(count), None, 0, byref(needed))
-        wanted = count.value, needed.value
-        for row, fewer, less in (("signatures", 1, 0), ("a buffer for signatures", 0, 1)):
-            room, octets = (Listed * wanted[0])(), ctypes.create_string_buffer(wanted[1])
-            status = self.signed(*at, room, wanted[0] - fewer, byref(count), octets, wanted[1] - less, byref(needed))
-            if (status, count.value, needed.value) != (guard.kept_back(row), *wanted) or any(bytes(room)) or any(octets.raw):
-                return False
-        return True
+
+def octets_of_value(value: bytes) -> bytes | None:
+    """The octets of a value in canonical form that is one string, None if it is a list."""
+    read = forms.read(value)
+    return read.body if isinstance(read, Atom) else None
 
 
 def signed_at(listed: Listed) -> Signed:
@@ -194,7 +207,8 @@ def signed_at(listed: Listed) -> Signed:
 
 def asked_of(question: GuardQuestion) -> Asked:
     """A question as C has it."""
-    asked = Asked(*map(text_of, (question.sequence, question.key, question.request)), moment=text_of(question.moment))
+    request, moment = b"" if question.strings is not None else question.request, b"" if question.seconds is not None else question.moment
+    asked = Asked(ctypes.sizeof(Asked), *map(text_of, (question.sequence, question.key, request)), moment=text_of(moment))
     if question.strings is not None:
         # an array of no strings has an address too
         asked.words = (Text * max(1, len(question.strings)))(*map(text_of, question.strings))
@@ -210,6 +224,12 @@ def asked_of(question: GuardQuestion) -> Asked:
         asked.words, asked.word_count = None, 1
     elif odd == "more strings than there are octets":
         asked.words, asked.word_count = (Text * 1)(), MANY
+    elif odd == "a question of another size":
+        asked.size += 1
+    elif odd == "a request as a text and as strings":
+        asked.words, asked.request = (Text * 1)(), text_of(b"x")
+    elif odd == "a moment as a text and in seconds":
+        asked.seconds, asked.moment = ctypes.pointer(c_int64(0)), text_of(b"x")
     return asked
 
 

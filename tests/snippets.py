@@ -28,8 +28,9 @@ static void ask(const char *list, size_t list_length, struct spki_text sequence,
                 int64_t now)
 {
     spki_guard *guard;
-    struct spki_signed signatures[room];
-    unsigned char octets[65536], verified[room], line[64];
+    spki_asked *asked;
+    struct spki_signed signature;
+    unsigned char verified[room], line[64];
     size_t count, needed;
 SNIPPET
     spki_guard_close(guard);

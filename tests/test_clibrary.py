@@ -26,7 +26,7 @@ from support import COMMANDS, EXAMPLES, TESTS, TOP, canonical, is_compiled, read
 
 CRATE = os.path.join(TOP, "crates", "spki_c")
 CHECK_ACCEPTED = 7
-DONE = 6
+YES, NO, DONE, GRANTED = 0, 1, 6, 9
 THREADS = 8
 REFUSALS = 40
 SHORT = 20_000
@@ -46,7 +46,9 @@ NO_ROWS = b"(accepted)"
 def as_library(command, answer):
     """What the library answers where the program answers so: yes and no are answered by decisions alone."""
     status, octets = answer
-    return (DONE, octets) if COMMANDS[command] != "check" and status in (0, 1) else answer
+    if status > NO:
+        return answer
+    return (DONE if COMMANDS[command] != "check" else GRANTED if status == YES else NO, octets)
 
 
 def questions_of_files(program):
@@ -74,12 +76,12 @@ def questions_of_tables():
 def rows_apart(program, answered):
     """Of each case that the program decides: its rows apart, beside a case without rows and beside the case with its own; and no
     rows beside the case with its own, which are not to be asked then."""
-    cases = {text for (_, command, text, _), (status, _) in answered if COMMANDS[command] == "check" and status in (0, 1)}
+    cases = {text for (_, command, text, _), (status, _) in answered if COMMANDS[command] == "check" and status in (NO, GRANTED)}
     for text in sorted(cases, key=lambda each: (len(each), each)):
         whole = read(run(program, "canonical", text)[1])
         rows = canonical(whole[2])
         bare = canonical([*whole[:2], [b"accepted"], *whole[3:]])
-        with_rows, without = run(program, "check", text), run(program, "check", bare)
+        with_rows, without = (as_library(COMMANDS.index("check"), run(program, "check", it)) for it in (text, bare))
         name = text[:60]
         yield (f"rows apart of {name}", CHECK_ACCEPTED, bare, rows), with_rows
         yield (f"own rows beside rows apart of {name}", CHECK_ACCEPTED, text, rows), with_rows
@@ -94,7 +96,7 @@ def worked_rows():
     rows, bare = case[at:end], case[:at] + NO_ROWS + case[end:]
     first = rows[len(b"(accepted "):-1]
     long = b"(accepted " + b" " * 1048576 + b")"
-    yes, no = (0, b"yes entry 1\n"), (1, b"no\n")
+    yes, no = (GRANTED, b"yes entry 1\n"), (NO, b"no\n")
     for name, text, listed, answer in [
         ("the row", bare, rows, yes),
         ("no row", bare, NO_ROWS, no),
@@ -228,7 +230,8 @@ class Links(OfC):
 
     def has_its_symbols(self, library, *words):
         """A library must give the calls of the header and no other symbol, and need only what is known."""
-        given = symbols(library, *words, "--defined-only", "--extern-only")
+        # (the version of the calls is a symbol too)
+        given = {name for name in symbols(library, *words, "--defined-only", "--extern-only") if not name.startswith("SPKI_")}
         self.assertEqual(given, calls_of_header())
         # (the weak ones are those that the C compiler puts into each shared object)
         needed = {name for name in symbols(library, *words, "--undefined-only") if not name.startswith(("_ITM_", "__cxa_finalize", "__gmon_start__"))}

@@ -4,7 +4,8 @@ binutils.
 
 Both have the exports of src/, the toolchain's calls of `malloc`, `realloc` and `free`, and spki.c, which passes on from the
 calls of spki.h to the exports. They are linked into one object whose only global symbols are the calls that spki.h declares: so the
-library links beside any other, also beside another one of the toolchain, and a program links with nothing else.
+library links beside any other, also beside another one of the toolchain, and a program links with nothing else. In the shared library
+these symbols have a version, such as SPKI_0.1, so that a program does not run with a library of another interface.
 
 `rt ci` leaves the libraries below in a form that `rt lib` does not accept, so that it would prove all of them again. Right behind it,
 --over-gate builds over that form. --again links anew over the proved code of the last run, where only spki.c or spki.h has changed.
@@ -63,10 +64,15 @@ def exports():
         return CALL.findall(header.read())
 
 
-def soname():
-    """The name that programs ask the loader for: the calls may change where the version's second number does."""
+def interface():
+    """The version of the calls: they may change where the version's second number does."""
     with open(os.path.join(ROOT, "VERSION"), encoding="ascii") as version:
-        return "libspki_c.so." + ".".join(version.read().split(".")[:2])
+        return ".".join(version.read().split(".")[:2])
+
+
+def versioned():
+    """The version script of the shared library: the calls have the version of the interface, and no other symbol is seen."""
+    return f"SPKI_{interface()} {{\n    global: {' '.join(name + ';' for name in exports())}\n    local: *;\n}};\n"
 
 
 def link(kit):
@@ -75,7 +81,9 @@ def link(kit):
         subprocess.run(words, check=True)
 
     with tempfile.TemporaryDirectory() as room:
-        of_c, whole = os.path.join(room, "of_c.o"), os.path.join(room, "spki_c.o")
+        of_c, whole, script = (os.path.join(room, name) for name in ("of_c.o", "spki_c.o", "versions"))
+        with open(script, "w", encoding="ascii") as file:
+            file.write(versioned())
         run("cc", *OF_C, "-c", "-o", of_c, "spki.c")
         run("ld", "-r", "-o", whole, of_c, "--whole-archive", PROVED, os.path.join(kit, "c", "liblibc_c.a"))
         run("objcopy", *(f"--keep-global-symbol={name}" for name in exports()), whole)
@@ -83,7 +91,8 @@ def link(kit):
             if os.path.exists(old):
                 os.remove(old)
         run("ar", "rcsD", ARCHIVE, whole)
-        run("cc", "-shared", "-o", SHARED, whole, f"-Wl,-soname,{soname()}", "-Wl,-z,defs", "-Wl,-z,relro", "-Wl,-z,now")
+        run("cc", "-shared", "-o", SHARED, whole, f"-Wl,-soname,libspki_c.so.{interface()}", f"-Wl,--version-script={script}", "-Wl,-z,defs",
+            "-Wl,-z,relro", "-Wl,-z,now")
 
 
 def main():

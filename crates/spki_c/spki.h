@@ -1,23 +1,26 @@
 /* Conguraki from C: a proved checker of requests by access lists and certificates (SPKI, RFC 2693).
  *
- * There are two ways to ask. A service holds a guard: spki_guard_open reads its access list once. Each question has its parts apart,
- * so no octets of one part can become another part. spki_answer and spki_check_accepted read a whole case as one text, which the
- * caller puts together. Several threads may call at the same time, also with one guard.
+ * There are two ways to ask. A service holds a guard: spki_guard_open reads its access list once, and spki_guard_ask opens each
+ * question. A question has its parts apart, so no octets of one part can become another part. spki_answer and spki_check_accepted read
+ * a whole case as one text, which the caller puts together. Several threads may call at the same time, also with one guard or with one
+ * opened question.
  *
  *     spki_guard *guard;
- *     struct spki_question question = {0};
- *     struct spki_signed signatures[16];
- *     unsigned char verified[16], octets[65536], line[64];
- *     size_t count, index;
+ *     spki_asked *asked;
+ *     struct spki_question question = {.size = sizeof question};
+ *     struct spki_signed signature;
+ *     unsigned char verified[16] = {0}, line[64];
+ *     size_t place;
  *     if (spki_guard_open(list, list_length, SPKI_STRICT, NULL, &guard, line, sizeof line, NULL) != SPKI_DONE) ...
  *     question.sequence = ...                    from the client
  *     question.key = ...                         of the client, who has proved to hold it
  *     question.words = ...                       what is asked for
  *     question.seconds = ...                     now
- *     if (spki_guard_signed(guard, &question, signatures, 16, &count, octets, sizeof octets, NULL) != SPKI_DONE) ...
- *     for (index = 0; index < count; index++)
- *         verified[index] = is_signed(signatures[index].key, signatures[index].message, signatures[index].value);
- *     if (spki_guard_decide(guard, &question, verified, count, line, sizeof line, NULL) == SPKI_YES) ...
+ *     if (spki_guard_ask(guard, &question, &asked, line, sizeof line, NULL) != SPKI_DONE) ...
+ *     for (place = 0; spki_asked_signature(asked, place, &signature) == SPKI_DONE; place++)
+ *         verified[place] = is_signed(&signature) ? 1 : 0;
+ *     if (spki_asked_decide(asked, verified, place, line, sizeof line, NULL) == SPKI_YES) ...
+ *     spki_asked_close(asked);
  *
  * A call returns one answer: the octets that the program `spki` writes for the case, and a status. For a case as one text:
  *
@@ -26,7 +29,7 @@
  *     enum spki_status status = spki_check_accepted(text, text_length, rows, rows_length, line, sizeof line, &length);
  *     if (status == SPKI_YES) ...
  *
- * Only SPKI_YES is a yes, and only a decision returns it: SPKI_CHECK, spki_check_accepted and spki_guard_decide. Treat every other
+ * Only SPKI_YES is a yes, and only a decision returns it: SPKI_CHECK, spki_check_accepted and spki_asked_decide. Treat every other
  * status as a no.
  *
  * How to write a case, if no guard is used. The library cannot see which part of a text came from whom, so the caller must:
@@ -48,9 +51,11 @@
  *
  * - A pointer with a length points to as many octets, and no other thread writes them meanwhile. The pointer may be null if the
  *   length is 0. The contents of the buffer before the call do not matter. `needed` may be null.
- * - The buffer, the signatures, `count` and `needed` overlap neither each other nor a text.
- * - A guard is closed once, when no call uses it. Its pointer is only passed on: do not read or write through it.
- * - A guard is passed to another thread by a lock, by the start or end of a thread, or by a sequentially consistent atomic.
+ * - A buffer, `needed`, `guard`, `asked` and `signature` overlap neither each other nor a text.
+ * - A guard and an opened question are closed once, when no call uses them. Their pointers are only passed on: do not read or write
+ *   through them. A guard may be closed before the questions that were opened with it.
+ * - A guard and an opened question are passed to another thread by a lock, by the start or end of a thread, or by a sequentially
+ *   consistent atomic.
  * - `malloc`, `realloc` and `free` of the program are those of one allocator. They align a block to each power of two up to 16 that
  *   divides its size, as those of every common C library do. If `malloc` returns null, the answer is `refused Memory`.
  * - No call is made in a signal handler, nor in a child that a process with several threads forked.
@@ -84,16 +89,16 @@ enum spki_command {
     SPKI_EXPLAIN = 6    /* of a case: writes why each entry grants the request, or why it does not */
 };
 
-/* The numbers never change their meaning. 3 is not used. */
+/* The numbers never change their meaning. 0 is no status, so memory that was never set is no answer. 3 is not used. */
 enum spki_status {
-    SPKI_YES = 0,       /* a decision: the request is granted. Only decisions return it */
     SPKI_NO = 1,        /* a decision: the request is not granted */
     SPKI_REFUSED = 2,   /* the answer is a line that begins with `refused`: the text is no input, or memory ran out */
     SPKI_TOO_SMALL = 4, /* the buffer is too small: nothing is written to it, and `*needed` is the length of the answer */
     SPKI_MISUSED = 5,   /* no such command, a null pointer with a length, or another misuse: there is no answer, and `*needed` is 0 */
-    SPKI_DONE = 6,      /* no decision: the answer is written. It does not say whether the request is granted */
-    SPKI_NONE = 7,      /* spki_string: the value has no string there */
-    SPKI_NO_MEMORY = 8  /* spki_string: an allocation failed. The other calls answer `refused Memory` then */
+    SPKI_DONE = 6,      /* no decision: the call is done. It does not say whether the request is granted */
+    SPKI_NONE = 7,      /* spki_string: the value has no string there. spki_asked_signature: there is no signature at this place */
+    SPKI_NO_MEMORY = 8, /* spki_string, spki_asked_signature: an allocation failed. The other calls answer `refused Memory` then */
+    SPKI_YES = 9        /* a decision: the request is granted. Only decisions return it */
 };
 
 /* Runs a command on a text. The answer is written to the front of the buffer, and the rest of the buffer is unchanged. `*needed`
@@ -117,14 +122,6 @@ enum spki_status spki_check_accepted(const void *text, size_t text_length, const
 
 /* ---- guards */
 
-/* The most octets and nodes that limits may set. */
-#define SPKI_MOST_OCTETS 1048576
-#define SPKI_MOST_NODES 1000000
-
-/* The work and the octets of an answer that are allowed if no limits are given. */
-#define SPKI_USUAL_WORK 200000
-#define SPKI_USUAL_ANSWER 1048576
-
 /* A text: octets that do not change while a call runs. `octets` may be null if `length` is 0. */
 struct spki_text {
     const void *octets;
@@ -132,83 +129,119 @@ struct spki_text {
 };
 
 enum spki_policy {
-    SPKI_OPEN = 0,  /* hashes of all algorithms name keys, as in a case without a policy */
-    SPKI_STRICT = 1 /* hashes by SHA-1 name no key, like `(policy strict)` in a case */
+    SPKI_STRICT = 0, /* hashes by SHA-1 name no key, like `(policy strict)` in a case */
+    SPKI_OPEN = 1    /* hashes of all algorithms name keys, as in a case without a policy */
 };
 
-/* Limits of each question. A null pointer means SPKI_MOST_OCTETS, SPKI_MOST_NODES, SPKI_USUAL_WORK and SPKI_USUAL_ANSWER. The last three
- * are for spki_guard_explain and _reduce: what exceeds one of them is `refused TooLarge`. A decision computes no intersection. */
+/* Limits of each question. A null pointer means 65,536 octets, 16 certificates, 64 strings, 1,000,000 nodes, 200,000 of work and
+ * 1,048,576 octets of an answer. `nodes`, `work` and `answer` are for spki_asked_explain and _reduce: what exceeds one of them is
+ * `refused TooLarge`. A decision computes no intersection. */
 struct spki_limits {
-    size_t octets; /* the most octets of a question's texts together: more are `refused question TooLong` */
-    size_t nodes;  /* the most nodes of one tag times nodes of another, whose intersection is computed */
-    size_t work;   /* the most of these products together, over all certificates and entries */
-    size_t answer; /* the most octets of the answer */
+    size_t size;         /* sizeof(struct spki_limits), by which the library knows the caller's header */
+    size_t octets;       /* the most octets of a question's texts together: more are `refused question TooLong` */
+    size_t certificates; /* the most certificates of a sequence: more are `refused question TooManyCertificates` */
+    size_t words;        /* the most strings of a request: more are `refused question TooManyWords` */
+    size_t nodes;        /* the most nodes of one tag times nodes of another, whose intersection is computed */
+    size_t work;         /* the most of these products together, over all certificates and entries */
+    size_t answer;       /* the most octets of the answer */
 };
+
+/* The most octets and nodes that limits may set. */
+#define SPKI_MOST_OCTETS 1048576
+#define SPKI_MOST_NODES 1000000
+
+/* An initialiser of a struct spki_limits: the usual limits, and the highest. On some questions within the highest an explanation takes
+ * minutes. */
+#define SPKI_USUAL_LIMITS {sizeof(struct spki_limits), 65536, 16, 64, SPKI_MOST_NODES, 200000, 1048576}
+#define SPKI_HIGHEST_LIMITS \
+    {sizeof(struct spki_limits), SPKI_MOST_OCTETS, SIZE_MAX, SIZE_MAX, SPKI_MOST_NODES, SIZE_MAX, SIZE_MAX}
 
 /* An access list that is read once and asked often. No question changes it. */
 typedef struct spki_guard spki_guard;
-
-/* A question. Each part is one value in any of the three forms of RFC 9804, and is read separately. */
-struct spki_question {
-    struct spki_text sequence;     /* `(sequence ..)`: the certificates that are shown */
-    struct spki_text key;          /* `(public-key ..)` of a client who has proved to hold it */
-    struct spki_text request;      /* what is asked for, if `words` is null */
-    const struct spki_text *words; /* what is asked for, by its strings, whose octets may be any: the list of them, or the string
-                                      if there is one */
-    size_t word_count;             /* how many strings; 0 if `words` is null */
-    struct spki_text moment;       /* a date, such as `19:2024-01-01_00:00:00`, if `seconds` is null */
-    const int64_t *seconds;        /* the moment in seconds since 1970-01-01 00:00:00 UTC */
-};
-
-/* One signature that is to be verified: by this key, of this message, with this value. The texts are in canonical form. */
-struct spki_signed {
-    struct spki_text key, message, value;
-};
 
 /* Reads an access list, `(acl ..)` in any of the three forms, into a guard.
  *
  * SPKI_DONE: `*guard` is the guard, and `*needed` is 0. It must be closed by spki_guard_close. With every other status `*guard` is
  * null. SPKI_REFUSED: a line is in the buffer that begins with `refused form` or `refused acl`, or is `refused Memory`.
- * SPKI_TOO_SMALL: the line does not fit the buffer. SPKI_MISUSED: `guard` is null, there is no such policy, or a limit is over the
- * highest. */
+ * SPKI_TOO_SMALL: the line does not fit the buffer. SPKI_MISUSED: `guard` is null, there is no such policy, the limits have another size,
+ * or one of them is over the highest. */
 enum spki_status spki_guard_open(const void *list, size_t list_length, enum spki_policy policy, const struct spki_limits *limits,
                                  spki_guard **guard, void *buffer, size_t buffer_length, size_t *needed);
 
-/* Frees a guard. No other call may use it then or later. A null pointer has no effect. */
+/* Frees a guard, once the questions that were opened with it are closed too. The caller does not use the pointer again. A null pointer
+ * has no effect. */
 void spki_guard_close(spki_guard *guard);
 
 /* The number of entries of the access list; 0 if the pointer is null. */
 size_t spki_guard_entries(const spki_guard *guard);
 
-/* Lists the signatures of a question that are to be verified. No other signature matters.
- *
- * SPKI_DONE: the first `*count` of the signatures are set, and their octets are the first `*needed` in the buffer.
- * SPKI_TOO_SMALL: `room` is below `*count` or the buffer is too small, and neither is written. `*count` and `*needed` say how much
- * room is needed. SPKI_REFUSED: as for spki_guard_decide, and `*count` is 0. */
-enum spki_status spki_guard_signed(const spki_guard *guard, const struct spki_question *question, struct spki_signed *signatures,
-                                   size_t room, size_t *count, void *buffer, size_t buffer_length, size_t *needed);
+/* ---- questions */
 
-/* Decides a question, if exactly those signatures are valid that spki_guard_signed lists at the places where `verified` is 1. Every
- * other number says that a signature is not valid. `count` must be the count of spki_guard_signed, otherwise the call is SPKI_MISUSED.
+/* A question. Each part is one value in any of the three forms of RFC 9804, and is read separately. */
+struct spki_question {
+    size_t size;                   /* sizeof(struct spki_question), by which the library knows the caller's header */
+    struct spki_text sequence;     /* `(sequence ..)`: the certificates that are shown */
+    struct spki_text key;          /* `(public-key ..)` of a client who has proved to hold it */
+    struct spki_text request;      /* what is asked for, if `words` is null */
+    const struct spki_text *words; /* what is asked for, by its strings, whose octets may be any: the list of them, or the string
+                                      if there is one. `request` is empty then */
+    size_t word_count;             /* how many strings; 0 if `words` is null */
+    struct spki_text moment;       /* a date, such as `19:2024-01-01_00:00:00`, if `seconds` is null */
+    const int64_t *seconds;        /* the moment in seconds since 1970-01-01 00:00:00 UTC. `moment` is empty then */
+};
+
+/* A question that was read. It owns all it needs of the question's texts and of the guard. */
+typedef struct spki_asked spki_asked;
+
+/* One signature that is to be verified: by this key, of this message, with this value. The texts are in canonical form. `octets` are
+ * the octets of a value that is one string; of a value that is a list they are null, with the length 0. The texts do not change, and
+ * last until the question is closed. */
+struct spki_signed {
+    struct spki_text key, message, value, octets;
+};
+
+/* Reads a question. The caller may change or free its texts as soon as the call returns.
+ *
+ * SPKI_DONE: `*asked` is the question, and `*needed` is 0. It must be closed by spki_asked_close. With every other status `*asked` is
+ * null. SPKI_REFUSED: the line says what is refused. `refused sequence Bad 5` is for what is no text of a value, and
+ * `refused sequence 3 Shape` for a value that is no sequence. Other lines are `refused key ..`, `refused request ..`, `refused at ..`,
+ * `refused question TooLong`, `refused question TooManyCertificates`, `refused question TooManyWords` and `refused Memory`.
+ * SPKI_TOO_SMALL: the line does not fit the buffer. SPKI_MISUSED: a pointer is null, the question has another size, or it has a request
+ * both as a text and as strings, or a moment both as a text and in seconds. */
+enum spki_status spki_guard_ask(const spki_guard *guard, const struct spki_question *question, spki_asked **asked, void *buffer,
+                                size_t buffer_length, size_t *needed);
+
+/* The number of signatures that are to be verified; 0 if the pointer is null. No other signature of the question matters. */
+size_t spki_asked_count(const spki_asked *asked);
+
+/* Sets `*signature` to the signature at this place, from 0.
+ *
+ * SPKI_DONE: it is set. With every other status all of it is null and 0. SPKI_NONE: the question has no more signatures than `place`.
+ * SPKI_NO_MEMORY: an allocation failed. SPKI_MISUSED: a pointer is null. */
+enum spki_status spki_asked_signature(const spki_asked *asked, size_t place, struct spki_signed *signature);
+
+/* Decides a question, if exactly those signatures are valid at whose places `verified` is 1. Every other number says that a signature
+ * is not valid. `count` must be the count of spki_asked_count, otherwise the call is SPKI_MISUSED. A question may be decided any number
+ * of times.
  *
  * The time does not grow with the entries for other keys. It is in proportion to the octets of the question and of the entries for the
  * key of the first certificate's issuer, or for the client's key if no certificate is shown.
  *
  * Returns SPKI_YES with `yes entry N`, or SPKI_NO with `no`, as SPKI_CHECK does for the case of these parts and the guard's list, if that
- * case is not `refused TooLarge`.
- * SPKI_REFUSED: the line says which part is refused. `refused sequence Bad 5` is for what is no text of a value, and
- * `refused sequence 3 Shape` for a value that is no sequence. Other lines are `refused key ..`, `refused request ..`,
- * `refused at ..`, `refused question TooLong` and `refused Memory`. A decision is never `refused TooLarge`. */
-enum spki_status spki_guard_decide(const spki_guard *guard, const struct spki_question *question, const unsigned char *verified,
-                                   size_t count, void *buffer, size_t buffer_length, size_t *needed);
+ * case is not `refused TooLarge`. SPKI_REFUSED: the line is `refused Memory`. */
+enum spki_status spki_asked_decide(const spki_asked *asked, const unsigned char *verified, size_t count, void *buffer,
+                                   size_t buffer_length, size_t *needed);
 
-/* Like spki_guard_decide, but write the lines of SPKI_EXPLAIN or SPKI_REDUCE, and return SPKI_DONE in place of yes and no. The line
+/* Like spki_asked_decide, but write the lines of SPKI_EXPLAIN or SPKI_REDUCE, and return SPKI_DONE in place of yes and no. The line
  * `refused TooLarge` says that the guard's limit of nodes, of work or of the answer is exceeded. The time grows with the number of all
  * entries. */
-enum spki_status spki_guard_explain(const spki_guard *guard, const struct spki_question *question, const unsigned char *verified,
-                                    size_t count, void *buffer, size_t buffer_length, size_t *needed);
-enum spki_status spki_guard_reduce(const spki_guard *guard, const struct spki_question *question, const unsigned char *verified,
-                                   size_t count, void *buffer, size_t buffer_length, size_t *needed);
+enum spki_status spki_asked_explain(const spki_asked *asked, const unsigned char *verified, size_t count, void *buffer,
+                                    size_t buffer_length, size_t *needed);
+enum spki_status spki_asked_reduce(const spki_asked *asked, const unsigned char *verified, size_t count, void *buffer,
+                                   size_t buffer_length, size_t *needed);
+
+/* Frees a question. A null pointer has no effect. */
+void spki_asked_close(spki_asked *asked);
 
 /* ---- strings */
 
@@ -221,6 +254,12 @@ enum spki_status spki_guard_reduce(const spki_guard *guard, const struct spki_qu
  * failed, so it is not known whether there is a string. */
 enum spki_status spki_string(const void *text, size_t text_length, const size_t *path, size_t depth, const void **octets,
                              size_t *length);
+
+/* ---- version */
+
+/* The version of the library, such as "0.1.0". The text lasts as long as the program. A program built with this header runs with each
+ * library whose first two numbers are SPKI_VERSION_MAJOR and SPKI_VERSION_MINOR. */
+const char *spki_version(void);
 
 #ifdef __cplusplus
 }

@@ -12,6 +12,7 @@
 #include <string.h>
 #include <time.h>
 
+/* The guard without limits of its own reads no more signatures. */
 enum { MOST_SIGNATURES = 16, MOST_OCTETS = 65536, MOST_WORDS = 16, FIRST_WORD = 4 };
 
 /* Whether a value is a signature of a message by a key: a call of your crypto library. The keys of this example are words, and so are
@@ -23,20 +24,24 @@ static unsigned char verify(struct spki_text key, struct spki_text message, stru
     return value.length == 5 && memcmp(value.octets, "3:sig", 5) == 0;
 }
 
-/* Whether a request is granted. Each word is one string of it, whatever octets it has. A client who shows more than there is room for
- * is denied. THE CLIENT MUST HAVE PROVED THAT IT HOLDS THE KEY: a public key is public. */
+/* Whether a request is granted. Each word is one string of it, whatever octets it has. A client who shows more certificates than the
+ * guard's limit is denied. THE CLIENT MUST HAVE PROVED THAT IT HOLDS THE KEY: a public key is public. */
 static int is_granted(const spki_guard *guard, struct spki_text sequence, struct spki_text key, const struct spki_text *words,
                       size_t word_count, int64_t now)
 {
-    const struct spki_question question = {.sequence = sequence, .key = key, .words = words, .word_count = word_count, .seconds = &now};
-    struct spki_signed signatures[MOST_SIGNATURES];
-    unsigned char octets[MOST_OCTETS], verified[MOST_SIGNATURES], line[64];
-    size_t count, needed;
-    if (spki_guard_signed(guard, &question, signatures, MOST_SIGNATURES, &count, octets, sizeof octets, &needed) != SPKI_DONE)
+    const struct spki_question question = {
+        .size = sizeof question, .sequence = sequence, .key = key, .words = words, .word_count = word_count, .seconds = &now};
+    struct spki_signed signature;
+    spki_asked *asked;
+    unsigned char verified[MOST_SIGNATURES], line[64];
+    size_t place = 0, needed;
+    if (spki_guard_ask(guard, &question, &asked, line, sizeof line, &needed) != SPKI_DONE)
         return 0;
-    for (size_t place = 0; place < count; place++)
-        verified[place] = verify(signatures[place].key, signatures[place].message, signatures[place].value);
-    return spki_guard_decide(guard, &question, verified, count, line, sizeof line, &needed) == SPKI_YES;
+    for (; place < MOST_SIGNATURES && spki_asked_signature(asked, place, &signature) == SPKI_DONE; place++)
+        verified[place] = verify(signature.key, signature.message, signature.value);
+    enum spki_status status = spki_asked_decide(asked, verified, place, line, sizeof line, &needed);
+    spki_asked_close(asked);
+    return status == SPKI_YES;
 }
 
 /* The text of a file of at most MOST_OCTETS octets. A longer one is refused, and not cut off. */

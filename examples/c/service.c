@@ -268,25 +268,24 @@ static void put(enum spki_status status, const unsigned char *answer, size_t len
 /* Verifies each signature that the library lists, decides by them, and writes the answer. */
 static void decide(const struct service *service, const struct spki_question *question)
 {
-    /* (room for the key, the message and the value of each certificate) */
-    static unsigned char listed[MOST_OCTETS * (MOST_CERTIFICATES + 2)];
-    struct spki_signed certificates[MOST_CERTIFICATES];
     unsigned char verified[MOST_CERTIFICATES], *answer = service->answer;
-    size_t room = service->answer_room, count, length;
-    enum spki_status status
-        = spki_guard_signed(service->guard, question, certificates, MOST_CERTIFICATES, &count, listed, sizeof listed, &length);
+    size_t room = service->answer_room, count = 0, length;
+    struct spki_signed signature;
+    spki_asked *asked;
+    enum spki_status status = spki_guard_ask(service->guard, question, &asked, answer, room, &length);
     if (status != SPKI_DONE) {
-        put(status, listed, length);
+        put(status, answer, length);
         return;
     }
-    for (size_t i = 0; i < count; i++)
-        verified[i] = verifies(certificates[i].key, certificates[i].message, certificates[i].value);
-    status = spki_guard_decide(service->guard, question, verified, count, answer, room, &length);
+    for (; count < MOST_CERTIFICATES && spki_asked_signature(asked, count, &signature) == SPKI_DONE; count++)
+        verified[count] = verifies(signature.key, signature.message, signature.value) ? 1 : 0;
+    status = spki_asked_decide(asked, verified, count, answer, room, &length);
     put(status, answer, length);
     if (status == SPKI_NO) {
-        status = spki_guard_explain(service->guard, question, verified, count, answer, room, &length);
+        status = spki_asked_explain(asked, verified, count, answer, room, &length);
         put(status, answer, length);
     }
+    spki_asked_close(asked);
 }
 
 /* Gives a nonce and answers the question that comes with it. Returns whether the input has one. */
@@ -308,8 +307,8 @@ static bool answer_next(const struct service *service)
     if (!holds_key(parts, nonce))
         puts("refused: the client has not proved that it holds the key");
     else
-        decide(service, &(struct spki_question){.sequence = parts[SEQUENCE], .key = parts[KEY], .words = parts + FIRST_WORD,
-                                                .word_count = word_count, .seconds = &now});
+        decide(service, &(struct spki_question){.size = sizeof(struct spki_question), .sequence = parts[SEQUENCE], .key = parts[KEY],
+                                                .words = parts + FIRST_WORD, .word_count = word_count, .seconds = &now});
     return true;
 }
 
@@ -317,7 +316,7 @@ static bool answer_next(const struct service *service)
 static bool open_list(const char *path, struct service *service)
 {
     static unsigned char list[MOST_LIST + 1];
-    static const struct spki_limits limits = {MOST_OCTETS, MOST_NODES, SPKI_USUAL_WORK, SPKI_USUAL_ANSWER};
+    struct spki_limits limits = SPKI_USUAL_LIMITS;
     unsigned char line[LINE_OCTETS];
     size_t length;
     FILE *file = fopen(path, "rb");
@@ -326,6 +325,9 @@ static bool open_list(const char *path, struct service *service)
         perror(path);
         return false;
     }
+    limits.certificates = MOST_CERTIFICATES;
+    limits.words = MOST_WORDS;
+    limits.nodes = MOST_NODES;
     enum spki_status status = spki_guard_open(list, list_length, SPKI_STRICT, &limits, &service->guard, line, sizeof line, &length);
     if (status == SPKI_REFUSED)
         fprintf(stderr, "%s: %.*s", path, (int)length, line);

@@ -2,7 +2,7 @@
 import random
 from dataclasses import dataclass, replace
 
-from model.guard import ALLOWED, FIRST_SECOND, LAST_SECOND, MISUSES, OPENED, USUAL, WISHES, Limits
+from model.guard import ALLOWED, FIRST_SECOND, HIGHEST, LAST_SECOND, MISUSES, OPENED, USUAL, WISHES, Limits
 from model.values import Atom, Value, canonical
 
 from .cases import Builder
@@ -45,7 +45,7 @@ def guard_question(rng: random.Random) -> GuardQuestion:
     wish = rng.choice(list(WISHES))
     return GuardQuestion(
         "guard " + wish, part_text(acl, rng), part_text(sequence, rng), part_text(key, rng), part_text(request, rng),
-        part_text(moment, rng), canonical(rows), strings, rng.choice(SECONDS) if rng.random() < 0.15 else None, int(len(case) == 8),
+        part_text(moment, rng), canonical(rows), strings, rng.choice(SECONDS) if rng.random() < 0.15 else None, int(len(case) != 8),
         limits_for(wish, rng))
 
 
@@ -53,16 +53,17 @@ def limits_for(wish: str, rng: random.Random) -> Limits:
     """Limits, by chance some that are low."""
     # with so few nodes the case of one decision in ten is too large, which the guard decides
     few, chance = (8, 0.4) if wish == "decide" else (60, 0.15)
-    return Limits(rng.randrange(1200) if rng.random() < 0.05 else USUAL.octets, rng.randrange(few) if rng.random() < chance else USUAL.nodes,
+    return Limits(rng.randrange(1200) if rng.random() < 0.05 else USUAL.octets, rng.randrange(3) if rng.random() < 0.1 else USUAL.certificates,
+                  rng.randrange(4) if rng.random() < 0.1 else USUAL.words, rng.randrange(few) if rng.random() < chance else USUAL.nodes,
                   rng.randrange(80) if rng.random() < 0.15 else USUAL.work, rng.randrange(120) if rng.random() < 0.1 else USUAL.answer)
 
 
 def odd(question: GuardQuestion, rng: random.Random, oddity: str) -> GuardQuestion:
     """A question whose calls have an oddity."""
     policy = rng.choice((2, 3, 255, 2**31, 2**32 - 1)) if oddity == OPENED[0] else question.policy
-    octets = rng.choice((USUAL.octets + 1, 2**63, 2**64 - 1)) if oddity == OPENED[1] else USUAL.octets
-    nodes = rng.choice((USUAL.nodes + 1, 2**63, 2**64 - 1)) if oddity == OPENED[2] else USUAL.nodes
-    return replace(question, policy=policy, limits=Limits(octets, nodes), oddity=oddity)
+    octets = rng.choice((HIGHEST.octets + 1, 2**63, 2**64 - 1)) if oddity == OPENED[1] else USUAL.octets
+    nodes = rng.choice((HIGHEST.nodes + 1, 2**63, 2**64 - 1)) if oddity == OPENED[2] else USUAL.nodes
+    return replace(question, policy=policy, limits=Limits(octets, nodes=nodes), oddity=oddity)
 
 
 def part_text(value: Value, rng: random.Random) -> bytes:

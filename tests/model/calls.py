@@ -5,8 +5,8 @@ from .answers import COMMANDS, NO, REFUSED, YES, Answer
 from .coverage import Rows
 from .values import Atom, FormFault
 
-TOO_SMALL, MISUSED, DONE, NONE = 4, 5, 6, 7
-NAMES = {YES: "SPKI_YES", NO: "SPKI_NO", REFUSED: "SPKI_REFUSED", TOO_SMALL: "SPKI_TOO_SMALL", MISUSED: "SPKI_MISUSED", DONE: "SPKI_DONE",
+TOO_SMALL, MISUSED, DONE, NONE, GRANTED = 4, 5, 6, 7, 9
+NAMES = {GRANTED: "SPKI_YES", NO: "SPKI_NO", REFUSED: "SPKI_REFUSED", TOO_SMALL: "SPKI_TOO_SMALL", MISUSED: "SPKI_MISUSED", DONE: "SPKI_DONE",
          NONE: "SPKI_NONE"}
 LONGEST_TEXT = 2**63 - 1
 DECISIONS = ("check", "check_accepted", "guard decide")
@@ -22,9 +22,10 @@ Pointer = tuple[bool, int]
 
 
 def of_library(command: str, said: Answer) -> Answer:
-    """What the library answers where the program answers so. Yes and no are answered by decisions alone."""
+    """What the library answers where the program answers so. Yes and no are answered by decisions alone, and yes is not zero."""
     status, octets = said
-    status = DONE if status in (YES, NO) and command not in DECISIONS else status
+    if status in (YES, NO):
+        status = DONE if command not in DECISIONS else GRANTED if status == YES else NO
     STATUSES.used(NAMES[status])
     return status, octets
 

@@ -14,42 +14,47 @@ from .values import Atom, FormFault, Value, canonical
 
 WISHES = {"decide": answers.decide, "explain": answers.explain, "reduce": answers.reduce}
 PARTS = ("sequence", "key", "request", "at")
-OPEN, STRICT = POLICIES = (0, 1)
+STRICT, OPEN = POLICIES = (0, 1)
 Signed = tuple[bytes, bytes, bytes]
 REFUSED = Rows("question to a guard, refused", [
-    "list, form", "list", "list, item 0", "question TooLong", "at, seconds", *(f"{part}{row}" for part in PARTS for row in (", form", "")),
+    "list, form", "list", "list, item 0", "question TooLong", "question TooManyCertificates", "question TooManyWords", "at, seconds", *(f"{part}{row}" for part in PARTS for row in (", form", "")),
     "sequence, item 0", "explain, octets of the answer", "reduce, octets of the answer"])
 GIVEN = Rows("question to a guard, given", [
     "request by no string", "request by one string", "request by strings", "seconds", "seconds before 1970", "limits that are lower"])
 SIGNED = Rows("question to a guard, signatures that are listed", ["none", "of each certificate", "up to one that does not stand"])
 DECIDED = Rows("question to a guard, decided", ["yes where check is TooLarge", "no where check is TooLarge", "as check"])
 STATUSES = Rows("question to a guard, status", [f"{wish}: {status}" for wish in WISHES for status in (0, 1, 2)])
-# what is misuse when a guard is opened, at both calls with a question, only when signatures are listed, only when a question is answered
+# what is misuse when a guard is opened, when a question is opened, when a signature is asked for, when a question is answered
 OPENED = ("no policy has this number", "a limit of octets above the highest", "a limit of nodes above the highest", "no place for the guard",
-          "a list that is null with a length")
+          "a list that is null with a length", "limits of another size")
 ASKED = ("no guard", "no question", "a part that is null with a length", "a part of a length over 2^63 - 1", "strings that are null with a count",
-         "more strings than there are octets")
-LISTED = ("no place for the count", "signatures that are null with room", "more room for signatures than there are octets")
-ANSWERED = ("marks that are null with a count", "a buffer that is null with a length")
+         "more strings than there are octets", "no place for the question", "a question of another size", "a request as a text and as strings",
+         "a moment as a text and in seconds", "a buffer for a line that is null with a length")
+LISTED = ("no place for the signature", "a signature of no question")
+ANSWERED = ("marks that are null with a count", "a buffer that is null with a length", "no opened question")
 OTHER_MARKS = "another number of marks"
 MISUSES = Rows("question to a guard, status 5", [*OPENED, *ASKED, *LISTED, *ANSWERED, OTHER_MARKS])
 ALLOWED = Rows("question to a guard, null pointers that are allowed", ["limits", "needed"])
-SMALL = Rows("question to a guard, status 4", ["the line of a refused list", "signatures", "a buffer for signatures", "an answer"])
+SMALL = Rows("question to a guard, status 4", ["the line of a refused list", "the line of a refused question", "an answer"])
 FIRST_SECOND, LAST_SECOND = -62_167_219_200, 253_402_300_799
 DATE_OCTETS = 22
 
 
 @dataclass(frozen=True, slots=True)
 class Limits:
-    """The most octets of a question, nodes of an intersection, nodes of all intersections, and octets of an answer."""
+    """The most octets, certificates and strings of a question, nodes of an intersection, nodes of all intersections, and octets of an
+    answer."""
 
-    octets: int = 1_048_576
+    octets: int = 65_536
+    certificates: int = 16
+    words: int = 64
     nodes: int = intersection.MOST_PRODUCT
     work: int = 200_000
     answer: int = 1_048_576
 
 
 USUAL = Limits()
+HIGHEST = Limits(octets=1_048_576)
 
 
 @dataclass(frozen=True, slots=True)
@@ -104,7 +109,23 @@ def case_of(guard: Guard, asked: Parts, rows: list[Row]) -> Case:
     else:
         request = part("request", tags.read_request, asked.request)
     moment = date_of(asked.moment) if isinstance(asked.moment, int) else part("at", structures.read_date, asked.moment)
+    check_counts(guard.limits, items, request)
     return Case(guard.entries, rows, items, key, request, moment, guard.strict)
+
+
+def check_counts(limits: Limits, items: list[Any], request: Value) -> None:
+    """Refuses a question that is read and has more certificates or strings than the limits."""
+    if sum(isinstance(it, Certificate) for it in items) > limits.certificates:
+        REFUSED.used("question TooManyCertificates")
+        raise Refused("question TooManyCertificates")
+    if strings_in(request) > limits.words:
+        REFUSED.used("question TooManyWords")
+        raise Refused("question TooManyWords")
+
+
+def strings_in(value: Value) -> int:
+    """How many strings a value has."""
+    return 1 if isinstance(value, Atom) else sum(map(strings_in, value))
 
 
 def part(name: str, reader: Any, text: bytes) -> Any:
@@ -210,7 +231,7 @@ def misuse_of_opening(policy: int, limits: Limits, oddity: str) -> str | None:
     """What is misuse when a guard is opened, None if nothing is."""
     if policy not in POLICIES:
         return OPENED[0]
-    above = [row for row, is_above in zip(OPENED[1:], (limits.octets > USUAL.octets, limits.nodes > USUAL.nodes)) if is_above]
+    above = [row for row, is_above in zip(OPENED[1:], (limits.octets > HIGHEST.octets, limits.nodes > HIGHEST.nodes)) if is_above]
     return above[0] if above else oddity if oddity in OPENED else None
 
 

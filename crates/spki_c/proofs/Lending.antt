@@ -20,9 +20,9 @@ use denote.Struct.Lending.{lent_at, lent_at_shr_laws}
 use denote.Struct.Owning.{shape, to}
 use denote.Struct.Struct.{Struct}
 use Rattle.spki_c.specs.Holding.{lent_for}
-use Rattle.spki_service.specs.contracts.guard.Guard.{the_row}
+use Rattle.spki_service.specs.contracts.shared.SharedGuard.{the_row}
 use Rattle.spki_c.specs.contracts.handle.Lent as lent
-use Rattle.spki_service.proofs.guard.Guard.TheLaws.{the_row_laws}
+use Rattle.spki_service.proofs.shared.SharedGuard.TheLaws.{the_row_laws}
 
 abbrev R : RattleType
 R = lent.the_row
@@ -57,7 +57,7 @@ module _ {M : Type 1} {𝓤 : Ura M} (𝓛 : Logic 𝓤) where
         qed 𝓛 (‵ (flft s.0 s.1) ∷ ‵ ftrue ∷ (‵ (cell_at full_share R.mir us b o) ⊛ ‵ (Data.own_val (to lent.the_type h) us) ⊛ ‵ (Lent s.0) ⊛ ‵ (fauth γ (R.coded.code h))) ∷ []) {P = sem 𝓛 (Body (mem R) b o γ)} (
         move ! (1 ∷ []) $ drop ! $ move ! (1 ∷ []) $ split ! $ move ! (1 ∷ []) $ split ! $ move ! (1 ∷ []) $ split ! $
         -- [what is lent; the name; what the fields own; the cell; the token]
-        move ! (4 ∷ 0 ∷ []) $ fjoin ! $ fpack ! (Lft × Share) (lent_for h.at h.guard) s $ move ! (2 ∷ 0 ∷ []) $ fjoin ! $
+        move ! (4 ∷ 0 ∷ []) $ fjoin ! $ fpack ! (Lft × Share) (lent_for the_row h.at h.guard) s $ move ! (2 ∷ 0 ∷ []) $ fjoin ! $
         move ! (2 ∷ 0 ∷ []) $ fjoin ! $ fpack ! (List Val) (λ vs. fsep (cell_at full_share R.mir vs b o) (R.own_val h vs)) us $
         fjoin ! $ fpack ! R.Denot (λ z. fsep ((mem R).own_at z b o) (fauth γ (R.coded.code z))) h $ done !)
 

@@ -1,5 +1,6 @@
 pub mod Answering
 pub mod Lending
+pub mod LendingQuestion
 pub mod BoxPointerValues
 pub mod Members
 pub mod OneCommand

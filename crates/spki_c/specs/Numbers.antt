@@ -14,9 +14,9 @@ number_of Reduce = 4
 number_of Check = 5
 number_of Explain = 6
 
--- the status of a decision: 0 is yes
+-- the status of a decision: 9 is yes
 abbrev pub decided : Verdict → ℕ
-decided Done = 0
+decided Done = 9
 decided No = 1
 decided Refused = 2
 

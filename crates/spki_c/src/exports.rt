@@ -16,7 +16,7 @@ use std::alloc::Global;
 
 /// Runs the command of this number on a text in any of the three forms, and writes the answer to the front of the buffer.
 ///
-/// The command `check` returns 0 for yes and 1 for no. Every other command returns 6, also if no entry grants the request. All
+/// The command `check` returns 9 for yes and 1 for no. Every other command returns 6, also if no entry grants the request. All
 /// return 2 for a refusal, 4 if the buffer is too small, and 5 if no command has this number. `needed` is the length of the
 /// answer, and 0 with status 5. With 4 and 5 the buffer is unchanged.
 #[unsafe(no_mangle)]

@@ -5,7 +5,7 @@ ghost use Rattle.spki_service.specs.Lists.{IsNoAccessList};
 ghost use Rattle.spki_c.specs.Guards.{policy_number};
 
 use spki_cert::Policy;
-use spki_guard::{AclFault, Guard, Limits};
+use spki_guard::{AclFault, Guard, Limits, SharedGuard};
 use std::alloc::Global;
 
 /// Reads an access list into a guard on the heap.
@@ -14,12 +14,23 @@ pub(crate) fn read_guard(
     list: &[u8],
     policy: Policy,
     limits: Limits,
-) -> Result<Box<Guard>, AclFault>
+) -> Result<Box<SharedGuard>, AclFault>
     ensures list { IfOk result (λ g. HoldsList list.now g.value.texts) }
     ensures given { IfOk result (λ g. (g.value.policy ≡ policy) × HasLimits g.value limits) }
     ensures refused { IfErr result (λ fault. fault ≢ AclFault.Memory → IsNoAccessList list.now fault) }
 {
     let guard = Guard::read(alloc, list, policy, limits)?;
+    match SharedGuard::new(alloc, guard) {
+        Ok(guard) => boxed(alloc, guard),
+        Err(_) => Err(AclFault::Memory),
+    }
+}
+
+/// Puts a guard on the heap.
+fn boxed(alloc: Global, guard: SharedGuard) -> Result<Box<SharedGuard>, AclFault>
+    ensures same { IfOk result (λ g. g.value ≡ guard) }
+    ensures only { IfErr result (λ fault. fault ≡ AclFault.Memory) }
+{
     match Box::new(alloc, guard) {
         Ok(guard) => Ok(guard),
         Err(_) => Err(AclFault::Memory),
@@ -31,8 +42,8 @@ pub(crate) fn policy_of(number: u32) -> Option<Policy>
     ensures { MatchOption result ((p : Policy) → number ≢ policy_number p) (λ p. number ≡ policy_number p) }
 {
     match number {
-        0 => Some(Policy::Open),
-        1 => Some(Policy::Strict),
+        0 => Some(Policy::Strict),
+        1 => Some(Policy::Open),
         _ => None,
     }
 }

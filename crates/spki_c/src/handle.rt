@@ -2,10 +2,10 @@
 ghost use Rattle.std.specs.Prelude.{◌≡◌, Some, None, IsSome};
 ghost use Rattle.std.specs.declared.option.Option.{Option};
 ghost use Rattle.std.specs.Coded.{coded_option};
-ghost use Rattle.spki_c.specs.Holding.{Kept, kept_code, held_owns, held_lent};
+ghost use Rattle.spki_c.specs.Holding.{Kept, kept_code, guard_row, held_owns, held_lent};
 
 use crate::box_pointer::BoxPointer;
-use spki_guard::Guard;
+use spki_guard::SharedGuard;
 use std::alloc::Global;
 use std::marker::Model;
 
@@ -17,7 +17,7 @@ pub struct Handle {
 }
 
 impl Model for Handle {
-    ghost also_owns = { λ h. held_owns h.at h.held };
+    ghost also_owns = { λ h. held_owns guard_row h.at h.held };
 }
 
 /// A pointer to a guard that a call borrows. The guard lasts at least as long as the call.
@@ -28,12 +28,12 @@ pub struct Lent {
 }
 
 impl Model for Lent {
-    ghost also_owns = { λ l. held_lent l.at l.guard };
+    ghost also_owns = { λ l. held_lent guard_row l.at l.guard };
 }
 
 impl Handle {
     /// Takes over a guard. The handle must have none.
-    pub(crate) fn hold(&mut self, pointer: BoxPointer<Guard, Global>)
+    pub(crate) fn hold(&mut self, pointer: BoxPointer<SharedGuard, Global>)
         requires { self.old.held ≡ None }
         ensures { self.new.held ≡ Some pointer.value }
     {
@@ -42,13 +42,13 @@ impl Handle {
     }
 
     /// Returns the guard, with the right to free it.
-    pub(crate) fn take(self, alloc: Global) -> BoxPointer<Guard, Global>
+    pub(crate) fn take(self, alloc: Global) -> BoxPointer<SharedGuard, Global>
         requires { IsSome self.held }
         ensures { self.held ≡ Some result.value }
     {
         let Handle { at } = self;
         BoxPointer {
-            at: at as *mut Guard,
+            at: at as *mut SharedGuard,
             alloc,
         }
     }
@@ -56,11 +56,11 @@ impl Handle {
 
 impl Lent {
     /// The guard that is borrowed.
-    pub(crate) fn guard(&mut self) -> &Guard
+    pub(crate) fn guard(&mut self) -> &SharedGuard
         ensures { result.now ≡ self.entry.now.guard }
     {
         let at = self.at;
-        unsafe { &*(at as *const Guard) }
+        unsafe { &*(at as *const SharedGuard) }
     }
 }
 

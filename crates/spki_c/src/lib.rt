@@ -9,12 +9,18 @@ mod exports;
 mod guard_exports;
 mod guards;
 mod handle;
+mod limits;
 mod numbers;
+mod opening;
+mod question_exports;
+mod question_handle;
 mod questions;
+mod signatures;
 mod strings;
 
 pub use exports::{spki_c_answer, spki_c_check_accepted, spki_c_string};
-pub use guard_exports::{
-    spki_c_guard_answer, spki_c_guard_close, spki_c_guard_entries, spki_c_guard_open,
-    spki_c_guard_signed,
+pub use guard_exports::{spki_c_guard_close, spki_c_guard_entries, spki_c_guard_open};
+pub use question_exports::{
+    spki_c_asked_answer, spki_c_asked_close, spki_c_asked_count, spki_c_asked_signature,
+    spki_c_guard_ask,
 };

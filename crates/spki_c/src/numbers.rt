@@ -6,7 +6,7 @@ ghost use Rattle.spki_c.specs.Numbers.{number_of, status_of, decided, written};
 use spki_guard::{Command, Verdict, Wish};
 
 /// The decision is yes. Only decisions have this status.
-pub const YES: u32 = 0;
+pub const YES: u32 = 9;
 
 /// The decision is no. Only decisions have this status.
 pub const NO: u32 = 1;

@@ -1,35 +1,68 @@
-//! Questions from texts, and marks from octets.
-ghost use Rattle.std.specs.Prelude.{IfOk, ◌≡◌};
-ghost use Rattle.spki_c.specs.Guards.{HasParts, IsMoment, marks_from};
+//! Questions from the parts that C passes, and marks from octets.
+ghost use Rattle.std.specs.Prelude.{IfOk, MatchOption, ◌≡◌};
+ghost use Rattle.spki_c.specs.Asking.{IsAmbiguous, IsQuestionOf, IsRequestOf, IsMomentOf, marks_from};
 
 use spki_guard::{Instant, Question, Wanted};
 use std::alloc::{AllocError, Global};
 
-/// The question with these texts. Its moment is the first of `seconds`, or the text `moment` if `seconds` is empty.
-pub(crate) fn question_of<'s>(
-    sequence: &'s [u8],
-    key: &'s [u8],
-    request: &'s [u8],
-    moment: &'s [u8],
-    seconds: &[i64],
-) -> Question<'s>
-    ensures { HasParts sequence.entry.now key.entry.now request.entry.now moment.entry.now seconds.now result }
+/// The parts of a question as C passes them: `struct spki_question` without null pointers.
+#[repr(C)]
+pub struct Parts<'a> {
+    /// The sequence.
+    pub sequence: &'a [u8],
+    /// The client's key.
+    pub key: &'a [u8],
+    /// The request, unless it is given by its strings.
+    pub request: &'a [u8],
+    /// The strings of the request.
+    pub words: &'a [&'a [u8]],
+    /// The moment, unless it is given in seconds.
+    pub moment: &'a [u8],
+    /// The moment in seconds: the first of them. None if the moment is a text.
+    pub seconds: &'a [i64],
+    /// Whether the request is given by its strings.
+    pub is_worded: bool,
+}
+
+/// The question with these parts. None if a request or a moment is given both ways.
+pub(crate) fn question_of<'a>(parts: &Parts<'a>) -> Option<Question<'a>>
+    ensures { MatchOption result (IsAmbiguous parts.now) (IsQuestionOf parts.now) }
 {
-    Question {
-        sequence,
-        key,
-        request: Wanted::Text(request),
-        moment: instant_of(moment, seconds),
+    Some(Question {
+        sequence: parts.sequence,
+        key: parts.key,
+        request: wanted_of(parts)?,
+        moment: instant_of(parts)?,
+    })
+}
+
+/// The request: its strings, or its text. None if it has both.
+fn wanted_of<'a>(parts: &Parts<'a>) -> Option<Wanted<'a>>
+    ensures { MatchOption result (IsAmbiguous parts.now) (IsRequestOf parts.now) }
+{
+    if !parts.is_worded {
+        return Some(Wanted::Text(parts.request));
+    }
+    if parts.request.is_empty() {
+        Some(Wanted::Words(parts.words))
+    } else {
+        None
     }
 }
 
-/// The moment of a question: the first of `seconds`, or the text if `seconds` is empty.
-fn instant_of<'s>(moment: &'s [u8], seconds: &[i64]) -> Instant<'s>
-    ensures { IsMoment moment.entry.now seconds.now result }
+/// The moment: the first of the seconds, or its text. None if it has both.
+fn instant_of<'a>(parts: &Parts<'a>) -> Option<Instant<'a>>
+    ensures { MatchOption result (IsAmbiguous parts.now) (IsMomentOf parts.now) }
 {
-    match seconds {
-        [] => Instant::Text(moment),
-        [first, ..] => Instant::Seconds(*first),
+    match parts.seconds {
+        [] => Some(Instant::Text(parts.moment)),
+        [first, ..] => {
+            if parts.moment.is_empty() {
+                Some(Instant::Seconds(*first))
+            } else {
+                None
+            }
+        }
     }
 }
 

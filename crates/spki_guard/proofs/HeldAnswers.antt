@@ -1,10 +1,15 @@
 -- Answers to questions that are asked of a guard, from those of the questions' cases.
-use Rattle.std.proofs.Common.{◌≡◌, ◌≢◌, ◌⊎◌, ◌<◌, ℕ, List, Bool, Option, Some, None, IfSome, length, inl, inr, refl, subst, arith}
+use Rattle.std.proofs.Common.{◌≡◌, ◌≢◌, ◌⊎◌, ◌<◌, ℕ, List, Bool, Option, Some, None, IfSome, length, inl, inr, refl, sym, ap, ◌∙◌, subst, arith}
 use Rattle.spki_case.specs.Case.{Case}
+use Rattle.spki_decision.specs.declared.decision.Decision.{Decision}
 use Rattle.spki_decision.specs.Asked.{asked}
 use Rattle.spki_service.specs.Held.{Held}
-use Rattle.spki_service.specs.Asking.{AskedOf}
-use Rattle.spki_service.specs.Questions.{IsAskedCase, IsNotAsked, asked_octets}
+use Rattle.spki_service.specs.Asking.{AskedOf, Decides}
+use Rattle.spki_service.specs.Counted.{certificates_in, HasFewStrings, IsRefused}
+use Rattle.spki_service.specs.KeptOf.{IsReadFrom}
+use Rattle.spki_service.specs.Opened.{IsOpened}
+use Rattle.spki_service.specs.declared.opened.Opened.{Opened}
+use Rattle.spki_service.specs.Questions.{IsAskedCase, asked_octets}
 use Rattle.spki_service.specs.declared.question.Question.{Question}
 use Rattle.spki_service.specs.declared.question.AskFault.{AskFault}
 use Rattle.spki_service.specs.declared.question.AskFault.TheVariants as faults
@@ -12,17 +17,26 @@ use Rattle.spki_guard.specs.declared.answers.Answer.{Answer}
 use Rattle.spki_guard.specs.declared.answers.Verdict.{Verdict}
 use Rattle.spki_guard.specs.declared.answers.Verdict.TheVariants.{Refused}
 use Rattle.spki_guard.specs.declared.question_answers.Wish.{Wish}
-use Rattle.spki_guard.specs.Answer.{written_by}
-use Rattle.spki_guard.specs.Held.{ReadsQuestion, AnswersAsked, IsUnreadQuestion, IsAnswerHeld, marked}
+use Rattle.spki_guard.specs.declared.question_answers.Wish.TheVariants.{Decide}
+use Rattle.spki_guard.specs.Answer.{written_by, IsLineOf}
+use Rattle.spki_guard.specs.Held.{ReadsQuestion, AnswersAsked, IsUnreadQuestion, IsAnswerHeld, HasOtherCount, marked}
 use Rattle.spki_guard.specs.HeldLines.{refused_question}
 use Rattle.spki_guard.specs.Lines.{refused_memory}
 use Rattle.spki_guard.specs.Run.{RefusesForMemory}
 
 -- a question whose parts are within the limit, and are read
 pub reads : (held : Held) (q : Question) (c : Case) → ¬ (held.octets < asked_octets q) → IsAskedCase q c → c.policy ≡ held.policy
-    → c.most_nodes ≡ held.nodes → c.most_work ≡ Some held.work → ReadsQuestion held q c
-reads held q c within is policy nodes work =
-    record { short = omega (arith, within); is = is; policy = policy; nodes = nodes; work = work }
+    → c.most_nodes ≡ held.nodes → c.most_work ≡ Some held.work → certificates_in c.items ≤ held.certificates → HasFewStrings held.words q
+    → ReadsQuestion held q c
+reads held q c within is policy nodes work few few_strings =
+    record { short = omega (arith, within); is = is; policy = policy; nodes = nodes; work = work; few = few; few_strings = few_strings }
+
+-- the same for one that was opened
+pub opened_reads : (held : Held) (q : Question) (o : Opened) (a : AskedOf) → IsOpened held q o → IsReadFrom held o.texts a
+    → ReadsQuestion held q a.case
+opened_reads held q o a opened read =
+    reads held q a.case (λ long. omega (arith, opened.short, long)) (read.is q opened.texts) read.policy read.nodes read.work read.few
+    (read.short q opened.texts)
 
 pub answered : (wish : Wish) (held : Held) (q : Question) (marks : List Bool) (a : AskedOf) (answer : Option Answer) → ReadsQuestion held q a.case
     → a.texts ≡ held.texts → a.answer ≡ held.answer
@@ -43,11 +57,15 @@ answered wish held q marks a (Some x) read texts most (inr h) counted = inr (inr
 
 -- a question that isn't read, and the line that says why
 pub unread : (held : Held) (q : Question) (fault : AskFault) (verdict : Verdict) (output : List ℕ) → ¬ (held.octets < asked_octets q)
-    → (fault ≢ faults.Memory → fault ≢ faults.TooLong → IsNotAsked q fault) → fault ≢ faults.TooLong → verdict ≡ Refused
+    → (fault ≢ faults.Memory → fault ≢ faults.TooLong → IsRefused held.certificates held.words q fault) → fault ≢ faults.TooLong → verdict ≡ Refused
     → (output ≡ refused_question fault) ⊎ (output ≡ refused_memory) → IsUnreadQuestion held q verdict output
 unread held q fault verdict output within is other refused (inr line) = inr (record { verdict_is = refused; line = line })
 unread held q faults.Memory verdict output within is other refused (inl line) = inr (record { verdict_is = refused; line = line })
 unread held q faults.TooLong verdict output within is other refused (inl line) = absurd (other refl)
+unread held q faults.TooManyCertificates verdict output within is other refused (inl line) =
+    inl (record { fault = faults.TooManyCertificates; refused = inr (omega (arith, within), is (λ e. cc) (λ e. cc)); verdict_is = refused; line = line })
+unread held q faults.TooManyWords verdict output within is other refused (inl line) =
+    inl (record { fault = faults.TooManyWords; refused = inr (omega (arith, within), is (λ e. cc) (λ e. cc)); verdict_is = refused; line = line })
 unread held q (faults.Form part fault) verdict output within is other refused (inl line) =
     inl (record { fault = faults.Form part fault; refused = inr (omega (arith, within), is (λ e. cc) (λ e. cc)); verdict_is = refused; line = line })
 unread held q (faults.Sequence fault) verdict output within is other refused (inl line) =
@@ -58,3 +76,26 @@ unread held q (faults.Request fault) verdict output within is other refused (inl
     inl (record { fault = faults.Request fault; refused = inr (omega (arith, within), is (λ e. cc) (λ e. cc)); verdict_is = refused; line = line })
 unread held q (faults.Moment kind) verdict output within is other refused (inl line) =
     inl (record { fault = faults.Moment kind; refused = inr (omega (arith, within), is (λ e. cc) (λ e. cc)); verdict_is = refused; line = line })
+
+-- ---- a question that was opened
+
+module _ (q : Question) (o : Opened) (marks : List Bool) (opened : IsOpened o.guard q o) where
+  pub opened_decided : (a : AskedOf) (d : Decision) (verdict : Verdict) (output : List ℕ) → IsReadFrom o.guard o.texts a
+      → o.signed.items ≡ asked a.case → Decides (marked a.case marks) a d → length marks ≡ length o.signed.items → IsLineOf d verdict output
+      → IsAnswerHeld Decide o.guard q marks verdict output
+  opened_decided a d verdict output read signed decides counted line =
+      inl (record {
+        case_read = a.case;
+        read = opened_reads o.guard q o a opened read;
+        counted = counted ∙ ap length signed;
+        answer = inl (d, subst (λ ts. Decides (marked a.case marks) (record { texts = ts; case = a.case; answer = o.guard.answer }) d) read.entries decides, line);
+      })
+
+  pub opened_miscounted : ¬ (length marks ≡ length o.signed.items) → HasOtherCount o.guard q marks
+  opened_miscounted other =
+      let kept = opened.kept in
+      record {
+        case_read = kept.read.case;
+        read = opened_reads o.guard q o kept.read opened kept.is;
+        other = λ e. other (e ∙ ap length (sym kept.signed_are));
+      }

@@ -10,7 +10,8 @@ use Rattle.spki_service.specs.Held.{Held, AreEntries}
 use Rattle.spki_service.specs.Asking.{AskedOf}
 use Rattle.spki_service.specs.declared.question.Question.{Question}
 use Rattle.spki_service.specs.declared.question.AskFault.{AskFault}
-use Rattle.spki_service.proofs.OneAsking.{case-one, unrefused, fault-one}
+use Rattle.spki_service.proofs.OneAsking.{case-one}
+use Rattle.spki_service.proofs.OneRefusal.{unrefused-one, refusal-one}
 use Rattle.spki_guard.specs.declared.answers.Verdict.{Verdict}
 use Rattle.spki_guard.specs.declared.question_answers.Wish.{Wish}
 use Rattle.spki_guard.specs.declared.question_answers.Wish.TheVariants.{Decide, Explain, Reduce}
@@ -32,13 +33,13 @@ module _ (held : Held) (q : Question) where
 
   read_or_not : (c : Case) (fault : AskFault) → ReadsQuestion held q c → ¬ IsUnreadFor held q fault
   read_or_not c fault m (inl (is, long)) = omega (arith, m.short, long)
-  read_or_not c fault m (inr (short, none)) = unrefused q c fault m.is none
+  read_or_not c fault m (inr (short, none)) = unrefused-one held.certificates held.words q c fault m.is m.few m.few_strings none
 
   faults_one : (f g : AskFault) → IsUnreadFor held q f → IsUnreadFor held q g → f ≡ g
   faults_one f g (inl (is, long)) (inl (also, over)) = is ∙ sym also
   faults_one f g (inl (is, long)) (inr (short, none)) = absurd (omega (arith, long, short))
   faults_one f g (inr (short, none)) (inl (is, long)) = absurd (omega (arith, long, short))
-  faults_one f g (inr (short, none)) (inr (within, also)) = fault-one q f g none also
+  faults_one f g (inr (short, none)) (inr (within, also)) = refusal-one held.certificates held.words q f g none also
 
   pub unread_one : (x y : Verdict) (output line : List ℕ) → IsUnreadQuestion held q x output → IsUnreadQuestion held q y line
       → ¬ RefusesForMemory x output → ¬ RefusesForMemory y line → (x ≡ y) × (output ≡ line)

@@ -11,7 +11,8 @@ use Rattle.spki_decision.specs.Reduced.{EndAtDates}
 use Rattle.spki_decision.specs.Asked.{Signed, asked}
 use Rattle.spki_service.specs.Held.{Held}
 use Rattle.spki_service.specs.Asking.{AskedOf, OfCase, Decides, MarksAccept}
-use Rattle.spki_service.specs.Questions.{IsAskedCase, IsNotAsked, asked_octets}
+use Rattle.spki_service.specs.Counted.{certificates_in, HasFewStrings, IsRefused}
+use Rattle.spki_service.specs.Questions.{IsAskedCase, asked_octets}
 use Rattle.spki_service.specs.declared.question.Question.{Question}
 use Rattle.spki_service.specs.declared.question.AskFault.{AskFault}
 use Rattle.spki_service.specs.declared.question.AskFault.TheVariants as faults
@@ -28,13 +29,15 @@ use Rattle.spki_guard.specs.Run.{RefusesForMemory}
 -- ---- what is read
 
 -- The question's parts together have no more octets than the guard's limit, and the case is theirs, under the guard's policy and
--- limits of nodes and work. It has no entries of its own.
+-- limits of nodes and work. It has no entries of its own, and no more certificates and strings of the request than the guard's limits.
 pub record ReadsQuestion (held : Held) (q : Question) (c : Case) : Type 0 where
   pub short : asked_octets q ≤ held.octets
   pub is : IsAskedCase q c
   pub policy : c.policy ≡ held.policy
   pub nodes : c.most_nodes ≡ held.nodes
   pub work : c.most_work ≡ Some held.work
+  pub few : certificates_in c.items ≤ held.certificates
+  pub few_strings : HasFewStrings held.words q
 
 -- the case beside the guard's entries and its limit of the octets of an answer
 abbrev pub beside : Held → Case → AskedOf
@@ -101,10 +104,11 @@ pub record AnswersHeld (wish : Wish) (held : Held) (q : Question) (marks : List 
   pub counted : length marks ≡ length (asked case_read)
   pub answer : AnswersAsked wish (beside held case_read) (marked case_read marks) verdict output
 
--- why a question is refused: its parts together have too many octets; or they do not, and a part has no reading
+-- why a question is refused: its parts together have too many octets; or they do not, and a part has no reading, or there are too many
+-- certificates or strings
 abbrev pub IsUnreadFor : Held → Question → AskFault → Type 0
 IsUnreadFor held q fault =
-    ((fault ≡ faults.TooLong) × (held.octets < asked_octets q)) ⊎ ((asked_octets q ≤ held.octets) × IsNotAsked q fault)
+    ((fault ≡ faults.TooLong) × (held.octets < asked_octets q)) ⊎ ((asked_octets q ≤ held.octets) × IsRefused held.certificates held.words q fault)
 
 -- The question is refused, and the line says why.
 pub record RefusesQuestion (held : Held) (q : Question) (verdict : Verdict) (output : List ℕ) : Type 0 where

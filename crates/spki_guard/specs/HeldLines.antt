@@ -24,6 +24,8 @@ part_word parts.Moment = codes "at"
 -- a fault of a question
 abbrev pub refused_question : AskFault → List ℕ
 refused_question faults.TooLong = refused_part (codes "question") (codes "TooLong")
+refused_question faults.TooManyCertificates = refused_part (codes "question") (codes "TooManyCertificates")
+refused_question faults.TooManyWords = refused_part (codes "question") (codes "TooManyWords")
 refused_question (faults.Form part fault) = refused_text (part_word part) fault
 refused_question (faults.Sequence fault) = refused_in (codes "sequence") fault.item fault.kind
 refused_question (faults.Key kind) = refused_part (codes "key") (kind_name kind)

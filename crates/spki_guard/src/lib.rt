@@ -7,6 +7,7 @@ mod guard_refusals;
 mod intersection;
 pub mod line_laws;
 mod lines;
+mod opened_answers;
 mod printer;
 mod program;
 mod question_answers;
@@ -18,6 +19,7 @@ mod statuses;
 pub use answers::{Answer, Verdict, answer_text};
 pub use intersection::{IntersectFault, intersect};
 pub use metered_io::Metered;
+pub use opened_answers::{answer_opened, open_question};
 pub use program::run_words;
 pub use question_answers::{SignedOctets, Wish, answer_question, refused_list, signed_octets};
 pub use runs::run;
@@ -28,7 +30,8 @@ pub use spki_decision::{
     first_named, laws, reduce_case,
 };
 pub use spki_service::{
-    AclFault, AskFault, Asked, Guard, Instant, Limits, Part, Question, Signed, Texts, Wanted,
+    AclFault, AskFault, Asked, Guard, Instant, Limits, Opened, OwnedSigned, Part, Question,
+    SharedGuard, Signed, Texts, Wanted,
 };
 pub use spki_words::{Command, WordsFault, command_of};
 pub use statuses::Status;

@@ -106,7 +106,12 @@ pub fn refused_list(alloc: Global, fault: AclFault) -> Answer
 }
 
 /// The answer to a question that was read.
-fn answer_asked(alloc: Global, wish: Wish, read: &Asked, marks: &[bool]) -> Option<Answer>
+pub(crate) fn answer_asked(
+    alloc: Global,
+    wish: Wish,
+    read: &Asked,
+    marks: &[bool],
+) -> Option<Answer>
     ensures answer { IfSome result (λ a. AnswersAsked wish read.now (marked read.now.case marks.now) a.verdict (written_by a)
         ⊎ RefusesForMemory a.verdict (written_by a)) }
     ensures counted { IfSome result (λ _. length marks.now ≡ length (asked read.now.case)) }
@@ -206,7 +211,7 @@ fn append(octets: &mut Vec<u8>, lengths: &mut Vec<usize>, more: &[u8]) -> Result
 }
 
 /// The answer to a question that is refused: its line, or that memory ran out if there is none for the line.
-fn refuse_question(alloc: Global, fault: AskFault) -> Answer
+pub(crate) fn refuse_question(alloc: Global, fault: AskFault) -> Answer
     ensures verdict { result.verdict ≡ Verdict.Refused }
     ensures line { (written_by result ≡ refused_question fault) ⊎ (written_by result ≡ refused_memory) }
 {

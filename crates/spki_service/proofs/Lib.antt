@@ -8,11 +8,14 @@ pub mod PartLaws
 pub mod WordLaws
 pub mod Picking
 pub mod Marking
+pub mod OwnedMarking
 pub mod Deciding
 pub mod Outcomes
 pub mod Reading
 pub mod DateLaws
 pub mod OneAsking
+pub mod OneRefusal
+pub mod Counting
 pub mod OneList
 pub mod OneAnswer
 pub mod MarkedAlike

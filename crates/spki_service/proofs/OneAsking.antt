@@ -38,7 +38,7 @@ text_is text v (inr m) = inr m.braced
 pub text_one : (text : List ℕ) (v w : Value) → IsTextWithin text v → IsTextWithin text w → v ≡ w
 text_one text v w m n = one_value text v w (text_is text v m) (text_is text w n)
 
-wanted_one : (m : wanted.Wanted) (v w : Value) → IsWanted m v → IsWanted m w → v ≡ w
+pub wanted_one : (m : wanted.Wanted) (v w : Value) → IsWanted m v → IsWanted m w → v ≡ w
 wanted_one (requests.Text text) v w a b = text_one text.now v w a b
 wanted_one (requests.Words words) v w a b = a ∙ sym b
 
@@ -62,7 +62,7 @@ wanted_refuses_one : (m : wanted.Wanted) (e f : FormFault) → RefusesWanted m e
 wanted_refuses_one (requests.Text text) e f a b = refuses_one text.now e f a b
 wanted_refuses_one (requests.Words words) e f a b = absurd a
 
-wanted_none : (m : wanted.Wanted) (fault : FormFault) (v : Value) → RefusesWanted m fault → ¬ IsWanted m v
+pub wanted_none : (m : wanted.Wanted) (fault : FormFault) (v : Value) → RefusesWanted m fault → ¬ IsWanted m v
 wanted_none (requests.Text text) fault v r = r.none v
 wanted_none (requests.Words words) fault v r = absurd r
 
@@ -217,6 +217,8 @@ record LacksFirst (q : Question) (fault : AskFault) : Type 0 where
 
 first_of : (q : Question) (fault : AskFault) → IsNotAsked q fault → LacksFirst q fault
 first_of q faults.TooLong n = absurd n
+first_of q faults.TooManyCertificates n = absurd n
+first_of q faults.TooManyWords n = absurd n
 first_of q (faults.Form part form) n = record { part = part; before = n.0; lacks = inl (form, refl, n.1) }
 first_of q (faults.Sequence inner) n = record { part = parts.Sequence; before = tt; lacks = inr (inner, refl, n) }
 first_of q (faults.Key kind) n = record { part = parts.Key; before = n.0; lacks = inr (kind, refl, n.1) }
@@ -266,12 +268,17 @@ asked_at_one (moments.Text text) s t a b =
     date-one two.value s t two.one two.other
 asked_at_one (moments.Seconds seconds) s t a b = one_date seconds s t a b
 
+-- the same items
+pub items_one : (q : Question) (c d : Case) → IsAskedCase q c → IsAskedCase q d → c.items ≡ d.items
+items_one q c d a b =
+    let sequences =
+    both (IsTextWithin q.sequence.now) (text_one q.sequence.now) (λ v. SeqOf v c.items) (λ v. SeqOf v d.items) a.sequence b.sequence in
+    sequence-one sequences.value c.items d.items sequences.one sequences.other
+
 pub case-one : (q : Question) (c d : Case) → IsAskedCase q c → IsAskedCase q d → c.policy ≡ d.policy
     → c.most_nodes ≡ d.most_nodes → c.most_work ≡ d.most_work → c ≡ d
 case-one q c d a b policy most_nodes most_work =
-    let sequences =
-    both (IsTextWithin q.sequence.now) (text_one q.sequence.now) (λ v. SeqOf v c.items) (λ v. SeqOf v d.items) a.sequence b.sequence in
-    let items = sequence-one sequences.value c.items d.items sequences.one sequences.other in
+    let items = items_one q c d a b in
     let keys = both (IsTextWithin q.key.now) (text_one q.key.now) (λ v. KeyOf v c.key) (λ v. KeyOf v d.key) a.key b.key in
     let key = key-one keys.value c.key d.key keys.one keys.other in
     let wants =

@@ -20,19 +20,23 @@ pub record IsEntryText (text : List ℕ) (e : Entry) : Type 0 where
 abbrev pub AreEntries : List (List ℕ) → List Entry → Type 0
 AreEntries texts es = AllZip IsEntryText texts es
 
--- What a guard is in a contract: the canonical texts of its entries, the policy, and the limits. These are on the octets of a
--- question, the nodes of an intersection, the nodes of all intersections of a question, and the octets of an answer.
+-- What a guard is in a contract: the canonical texts of its entries, the policy, and the limits. These are on the octets, certificates
+-- and strings of a question, the nodes of an intersection, the nodes of all intersections of a question, and the octets of an answer.
 pub record Held : Type 0 where
   pub texts : List (List ℕ)
   pub policy : Policy
   pub octets : ℕ
+  pub certificates : ℕ
+  pub words : ℕ
   pub nodes : ℕ
   pub work : ℕ
   pub answer : ℕ
 
 -- the guard has these limits
 abbrev pub HasLimits : Held → Limits → Type 0
-HasLimits g limits = (g.octets ≡ limits.octets) × (g.nodes ≡ limits.nodes) × (g.work ≡ limits.work) × (g.answer ≡ limits.answer)
+HasLimits g limits =
+    (g.octets ≡ limits.octets) × (g.certificates ≡ limits.certificates) × (g.words ≡ limits.words) × (g.nodes ≡ limits.nodes)
+    × (g.work ≡ limits.work) × (g.answer ≡ limits.answer)
 
 -- The value is an access list, and these are the canonical texts of its entries, in order.
 pub record HoldsValue (v : Value) (texts : List (List ℕ)) : Type 0 where

@@ -11,3 +11,6 @@ pub mod Marks
 pub mod Moment
 pub mod Questions
 pub mod Texts
+pub mod Counted
+pub mod KeptOf
+pub mod Opened

@@ -132,10 +132,11 @@ abbrev pub IsAskedAtNone : instant.Instant → CertFaultKind → Type 0
 IsAskedAtNone (moments.Text text) kind = Reads (IsTextWithin text.now) (IsNoDateFor kind)
 IsAskedAtNone (moments.Seconds seconds) kind = (kind ≡ kinds.BadDate) × IsAtNoDate seconds
 
--- What a fault means for a question, except for Memory and TooLong: the part that it names cannot be read, and those before
--- it can.
+-- What a fault of a part means for a question: the part cannot be read, and those before it can.
 abbrev pub IsNotAsked : Question → AskFault → Type 0
 IsNotAsked q faults.TooLong = ⊥
+IsNotAsked q faults.TooManyCertificates = ⊥
+IsNotAsked q faults.TooManyWords = ⊥
 IsNotAsked q (faults.Form part fault) = ReadsBefore q part × LacksFormAt q part fault
 IsNotAsked q (faults.Sequence fault) = Reads (IsTextWithin q.sequence.now) (IsNoSequenceFor fault)
 IsNotAsked q (faults.Key kind) = ReadsBefore q parts.Key × Reads (IsTextWithin q.key.now) (IsNoKeyFor kind)

@@ -71,7 +71,7 @@ impl<'a> Asked<'a> {
     }
 
     /// The decision if every signature is accepted.
-    fn decided(&self, alloc: Global) -> Result<Decision, AllocError>
+    pub(crate) fn decided(&self, alloc: Global) -> Result<Decision, AllocError>
         ensures { IfOk result (Decides every self.now) }
     {
         match &self.examined.evidence {

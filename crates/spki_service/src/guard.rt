@@ -9,15 +9,18 @@ ghost use Rattle.spki_service.specs.Held.{AreEntries, HasLimits, HoldsList, Hold
 ghost use Rattle.spki_service.specs.Kept.{numbers_from};
 ghost use Rattle.spki_service.specs.Lists.{IsNoAccessList, IsNoAcl, ListRefused};
 ghost use Rattle.spki_service.specs.Partly.{is_of};
-ghost use Rattle.spki_service.specs.Questions.{IsAskedCase, IsNotAsked, asked_octets};
+ghost use Rattle.spki_service.specs.Counted.{certificates_in, HasFewStrings, IsRefused};
+ghost use Rattle.spki_service.specs.Questions.{IsAskedCase, asked_octets};
 ghost use Rattle.spki_service.specs.Texts.{IsTextsOf};
 ghost use Rattle.spki_service.specs.declared.question.Question.{Question};
 
 use crate::asked::Asked;
+use crate::counts::check_counts;
 use crate::entry_texts::entry_texts;
 use crate::index::EntryIndex;
 use crate::limits::Limits;
 use crate::list_fault::AclFault;
+use crate::owned_texts::owned_texts_of;
 use crate::parts::case_of;
 use crate::question::{AskFault, Question};
 use crate::texts::{Texts, texts_of};
@@ -53,6 +56,8 @@ impl Model for Guard {
       texts = octets_of_texts g.texts.items;
       policy = g.policy;
       octets = g.limits.octets;
+      certificates = g.limits.certificates;
+      words = g.limits.words;
       nodes = g.limits.nodes;
       work = g.limits.work;
       answer = g.limits.answer;
@@ -116,6 +121,24 @@ impl Guard {
         texts_of(alloc, question, self.limits.octets)
     }
 
+    /// Returns the texts of `texts` in memory of their own, so that the question's texts may change afterwards.
+    ///
+    /// # Errors
+    ///
+    /// Those of `texts`.
+    pub fn owned_texts(
+        &self,
+        alloc: Global,
+        question: &Question,
+    ) -> Result<Texts<'static>, AskFault>
+        ensures texts { IfOk result (IsTextsOf question.now) }
+        ensures too_long { IsErrOf result AskFault.TooLong ↔ (self.now.octets < asked_octets question.now) }
+        ensures only { IfErr result (λ fault. (fault ≡ AskFault.TooLong) ⊎ (fault ≡ AskFault.Memory)) }
+    {
+        let most_octets = self.limits.octets;
+        owned_texts_of(alloc, question, most_octets)
+    }
+
     /// Reads the parts of a question, each by itself, in the order sequence, key, request, moment, and examines the
     /// certificates.
     ///
@@ -123,7 +146,8 @@ impl Guard {
     ///
     /// `TooLong` exactly if the texts have more octets than the guard's limit, which `texts` of another guard may allow. Otherwise the
     /// first part that cannot be read is named: `Form` if its text has no value within the limits, otherwise the fault of its value.
-    /// `Memory` if memory ran out.
+    /// If all can be read: `TooManyCertificates` or `TooManyWords` if there are more certificates, or more strings of the request, than the
+    /// guard's limit. Nothing of the question is judged before. `Memory` if memory ran out.
     pub fn ask<'a>(&'a self, alloc: Global, texts: &'a Texts<'_>) -> Result<Asked<'a>, AskFault>
         ensures asked { (q : Question) → IsTextsOf q texts.entry.now → IfOk result (λ a. IsAskedCase q a.case) }
         ensures entries { IfOk result (λ a. a.texts ≡ self.entry.now.texts) }
@@ -134,13 +158,17 @@ impl Guard {
         ensures too_long { (q : Question) → IsTextsOf q texts.entry.now
             → IsErrOf result AskFault.TooLong ↔ (self.entry.now.octets < asked_octets q) }
         ensures refused { (q : Question) → IsTextsOf q texts.entry.now
-            → IfErr result (λ fault. fault ≢ AskFault.Memory → fault ≢ AskFault.TooLong → IsNotAsked q fault) }
+            → IfErr result (λ fault. fault ≢ AskFault.Memory → fault ≢ AskFault.TooLong
+            → IsRefused self.entry.now.certificates self.entry.now.words q fault) }
+        ensures few { IfOk result (λ a. certificates_in a.case.items ≤ self.entry.now.certificates) }
+        ensures short { (q : Question) → IsTextsOf q texts.entry.now → IfOk result (λ _. HasFewStrings self.entry.now.words q) }
     {
         if self.limits.octets < texts.octets {
             return Err(AskFault::TooLong);
         }
         let algorithms = self.index.algorithms(self.policy);
         let case = case_of(alloc, texts, self.policy, self.limits, algorithms)?;
+        check_counts(alloc, &case, texts, self.limits)?;
         let examined = examine(alloc, &case.sequence, case.policy)?;
         Ok(Asked {
             guard: self,

@@ -3,6 +3,7 @@
 
 mod answers;
 mod asked;
+mod counts;
 mod date;
 mod entry_texts;
 mod guard;
@@ -12,8 +13,14 @@ mod limits;
 mod list_fault;
 mod marks;
 mod measure;
+mod opened;
+mod openings;
+mod owned_marks;
+mod owned_signed;
+mod owned_texts;
 mod parts;
 mod question;
+mod shared;
 mod texts;
 mod words;
 
@@ -21,7 +28,10 @@ pub use asked::Asked;
 pub use guard::Guard;
 pub use limits::Limits;
 pub use list_fault::AclFault;
+pub use opened::Opened;
+pub use owned_signed::OwnedSigned;
 pub use question::{AskFault, Instant, Part, Question, Wanted};
+pub use shared::SharedGuard;
 pub use spki_decision::{
     Decision, EntryFold, Explanation, GuardFault, Reason, Reduction, Signed, Stop,
 };

@@ -7,6 +7,10 @@ ghost use Rattle.std.specs.Prelude.{◌≡◌, ◌≤◌, ◌↔◌, IsSome, IfS
 pub struct Limits {
     /// The most octets of the four parts of a question together. At most 1,048,576.
     pub octets: usize,
+    /// The most certificates of a sequence.
+    pub certificates: usize,
+    /// The most strings of a request.
+    pub words: usize,
     /// For explanations and reductions: the most nodes of two tags whose intersection is formed, as the product of their numbers. At
     /// most 1,000,000.
     pub nodes: usize,
@@ -20,14 +24,23 @@ pub struct Limits {
 
 impl Limits {
     /// These limits, or `None` if `octets` is over 1,048,576 or `nodes` is over 1,000,000.
-    pub fn new(octets: usize, nodes: usize, work: usize, answer: usize) -> Option<Limits>
+    pub fn new(
+        octets: usize,
+        certificates: usize,
+        words: usize,
+        nodes: usize,
+        work: usize,
+        answer: usize,
+    ) -> Option<Limits>
         ensures within { IsSome result ↔ ((octets ≤ 1048576) × (nodes ≤ 1000000)) }
-        ensures same { IfSome result (λ limits. (limits.octets ≡ octets) × (limits.nodes ≡ nodes)
-            × (limits.work ≡ work) × (limits.answer ≡ answer)) }
+        ensures same { IfSome result (λ limits. (limits.octets ≡ octets) × (limits.certificates ≡ certificates)
+            × (limits.words ≡ words) × (limits.nodes ≡ nodes) × (limits.work ≡ work) × (limits.answer ≡ answer)) }
     {
         if octets <= 1_048_576 && nodes <= 1_000_000 {
             Some(Limits {
                 octets,
+                certificates,
+                words,
                 nodes,
                 work,
                 answer,
@@ -36,17 +49,34 @@ impl Limits {
             None
         }
     }
+
+    /// The highest limits. On some questions within them an explanation takes minutes.
+    pub fn highest() -> Limits
+        ensures { (result.octets ≡ 1048576) × (result.certificates ≡ 18446744073709551615) × (result.words ≡ 18446744073709551615)
+            × (result.nodes ≡ 1000000) × (result.work ≡ 18446744073709551615) × (result.answer ≡ 18446744073709551615) }
+    {
+        Limits {
+            octets: 1_048_576,
+            certificates: usize::MAX,
+            words: usize::MAX,
+            nodes: 1_000_000,
+            work: usize::MAX,
+            answer: usize::MAX,
+        }
+    }
 }
 
-/// 1,048,576 octets of a question, 1,000,000 nodes of an intersection, 200,000 of all intersections of a question together, and
-/// 1,048,576 octets of an answer.
+/// 65,536 octets of a question, 16 certificates, 64 strings of a request, 1,000,000 nodes of an intersection, 200,000 of all
+/// intersections of a question together, and 1,048,576 octets of an answer.
 impl Default for Limits {
-    ghost is_default = { λ limits. (limits.octets ≡ 1048576) × (limits.nodes ≡ 1000000)
-        × (limits.work ≡ 200000) × (limits.answer ≡ 1048576) };
+    ghost is_default = { λ limits. (limits.octets ≡ 65536) × (limits.certificates ≡ 16) × (limits.words ≡ 64)
+        × (limits.nodes ≡ 1000000) × (limits.work ≡ 200000) × (limits.answer ≡ 1048576) };
 
     fn default() -> Limits {
         Limits {
-            octets: 1_048_576,
+            octets: 65_536,
+            certificates: 16,
+            words: 64,
             nodes: 1_000_000,
             work: 200_000,
             answer: 1_048_576,

@@ -22,7 +22,7 @@ pub(crate) fn first_unmarked(signed: &[Signed], marks: &[bool]) -> Option<usize>
 }
 
 /// Whether the mark at a place is true. Missing marks count as false.
-fn is_true_at(marks: &[bool], place: usize) -> bool
+pub(crate) fn is_true_at(marks: &[bool], place: usize) -> bool
     ensures { IsTrue result ↔ (slice_get marks.now place ≡ Some true) }
 {
     match marks.get(place) {

@@ -66,6 +66,12 @@ pub enum AskFault {
     /// The four texts together have too many octets.
     #[error("the texts are too long")]
     TooLong,
+    /// The sequence has too many certificates.
+    #[error("too many certificates")]
+    TooManyCertificates,
+    /// The request has too many strings.
+    #[error("too many strings of the request")]
+    TooManyWords,
     /// The text of the part has no value within the limits.
     #[error("{part}: form: {fault}")]
     Form {

@@ -111,7 +111,7 @@ const ALL_LIST: &[u8] = b"(3:acl(5:entry(10:public-key(4:test1:a))(3:tag(1:*))))
 
 /// A guard of that list with these limits.
 fn guard_within(alloc: Global, octets: usize, nodes: usize) -> Result<Guard, Fail> {
-    let limits = Limits::new(octets, nodes, 200_000, 1_048_576).ok_or("no limits")?;
+    let limits = Limits::new(octets, 16, 64, nodes, 200_000, 1_048_576).ok_or("no limits")?;
     Ok(Guard::read(alloc, ALL_LIST, Policy::Open, limits)?)
 }
 
@@ -266,9 +266,13 @@ fn most_octets(rt: HostRuntime) -> Result<(), Fail> {
 
 #[test]
 fn limits_of_limits(rt: HostRuntime) {
-    assert!(rt; Limits::new(1_048_576, 1_000_000, 200_000, 1_048_576) == Some(Limits::default()));
-    assert!(rt; Limits::new(1_048_577, 0, 0, 0).is_none());
-    assert!(rt; Limits::new(0, 1_000_001, 0, 0).is_none());
+    let (usual, most) = (Limits::default(), usize::MAX);
+    assert!(rt; Limits::new(65_536, 16, 64, 1_000_000, 200_000, 1_048_576) == Some(usual));
+    assert!(rt;
+        Limits::new(1_048_576, most, most, 1_000_000, most, most) == Some(Limits::highest())
+    );
+    assert!(rt; Limits::new(1_048_577, 0, 0, 0, 0, 0).is_none());
+    assert!(rt; Limits::new(0, 0, 0, 1_000_001, 0, 0).is_none());
 }
 
 /// A case for KB, in which a set of three members is delegated as a set of two. Tags of 5 and of 4 nodes are
@@ -286,7 +290,7 @@ fn sets_case(alloc: Global) -> Result<Vec<u8>, Fail> {
 /// The decision of a guard of a case's list with this limit of nodes, if every signature is accepted, and whether it explains it.
 fn answered_within(alloc: Global, text: &[u8], nodes: usize) -> Result<(Decision, bool), Fail> {
     let parts = parts_of(alloc, text, Spelling::Canonical)?;
-    let limits = Limits::new(1_048_576, nodes, 200_000, 1_048_576).ok_or("no limits")?;
+    let limits = Limits::new(1_048_576, 16, 64, nodes, 200_000, 1_048_576).ok_or("no limits")?;
     let guard = Guard::read(alloc, &parts.list, parts.policy, limits)?;
     let texts = guard.texts(alloc, &question_of(&parts))?;
     let asked = guard.ask(alloc, &texts)?;

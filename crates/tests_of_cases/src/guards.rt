@@ -161,6 +161,8 @@ const REFUSED: &[[&str; 5]] = &[
 fn case_fault(fault: AskFault) -> CaseFault {
     match fault {
         AskFault::TooLong => CaseFault::Form(FormFault::TooLong),
+        // A case has no such limits: these differ from all its faults.
+        AskFault::TooManyCertificates | AskFault::TooManyWords => CaseFault::Form(FormFault::TooDeep),
         AskFault::Form { part: _, fault } => CaseFault::Form(fault),
         AskFault::Sequence(fault) => CaseFault::Sequence(fault),
         AskFault::Key(kind) => CaseFault::Key(CertFault { item: 0, kind }),
@@ -264,7 +266,7 @@ const MALFORMED: &[([&str; 4], &str)] = &[
 #[test]
 fn malformed_parts(rt: HostRuntime) -> Result<(), Fail> {
     let alloc = rt.alloc();
-    let limits = Limits::new(90, 1_000_000, 200_000, 1_048_576).ok_or("limits")?;
+    let limits = Limits::new(90, 16, 64, 1_000_000, 200_000, 1_048_576).ok_or("limits")?;
     let guard = Guard::read(alloc, MANY.as_bytes(), Policy::Open, limits)?;
     for ([sequence, key, request, moment], line) in MALFORMED {
         let question = Question {

@@ -24,6 +24,8 @@ mod guards;
 #[cfg(test)]
 mod meters;
 #[cfg(test)]
+mod opened_questions;
+#[cfg(test)]
 mod programs;
 #[cfg(test)]
 mod runs;

@@ -9,12 +9,12 @@ use denote.Param.Send.{IsSend, AllSend, owning_send, struct_send, sendable}
 use Rattle.std.specs.Prelude.{Option, Some, None}
 use Rattle.std.proofs.Crossing.{frees}
 use Rattle.std_alloc.proofs.SendSync.{quiet, lies}
-use Rattle.spki_service.specs.contracts.guard.Guard as guard
-use Rattle.spki_service.proofs.guard.Guard.TheSendSync.{the_send as guard_send}
+use Rattle.spki_service.specs.contracts.shared.SharedGuard as guard
+use Rattle.spki_service.proofs.shared.SharedGuard.TheSendSync.{the_send as guard_send}
 use Rattle.spki_c.specs.Holding.{Kept, heap, held_owns}
 use Rattle.spki_c.specs.contracts.handle.Handle.{the_row, the_type}
 
-held_keyless : (p : Ptr) (held : Option Kept) → Keyless (held_owns p held)
+held_keyless : (p : Ptr) (held : Option Kept) → Keyless (held_owns guard.the_row p held)
 held_keyless p None = tt
 held_keyless p (Some g) = (lies guard.the_row guard_send p g, frees.frees heap (raw (lone guard.the_row.mir)) p)
 

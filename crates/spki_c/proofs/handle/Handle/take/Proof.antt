@@ -29,7 +29,7 @@ use Rattle.std.proofs.alloc.Calls.{Al, handle_tells}
 use Rattle.std.proofs.raw_atomic.Walks.{proved_at}
 use Rattle.std_alloc.specs.Box.Ownership.{box_owns}
 use Rattle.spki_c.specs.Holding.{held_owns, heap as global}
-use Rattle.spki_service.specs.contracts.guard.Guard.{the_row as G}
+use Rattle.spki_service.specs.contracts.shared.SharedGuard.{the_row as G}
 use Rattle.spki_c.specs.contracts.handle.Handle.{the_row as R}
 use Rattle.spki_c.specs.contracts.box_pointer.BoxPointer as box_pointer
 use Rattle.spki_c.specs.contracts.handle.Handle.take as f
@@ -58,7 +58,7 @@ take_spec 𝓤 𝓛 𝓜 𝓡 wired =
     let Run : List Val → SProp 𝓤 = λ xs. WpFn 𝓤 𝓛.H 𝓣.C 𝓣.Λ code.function xs (W.post z) in
     qed 𝓛 ((‵ ftrue ⊛ ‵ (owns (R ∷ Z ∷ []) (v, (a, tt)) (us, (ws, tt)))) ∷ raw (fact 𝓤 (IsSome v.held)) ∷ []) ∵ split ! $ drop ! $ move ! (1 ∷ []) $
     heard ! (IsSome v.held) (λ some. let g = (held_one v.held some).0 in let e = (held_one v.held some).1 in fsplit3 ! $ peeks ! R _ (shows 𝓛 R) v us (λ is. fsplit ! $ move ! (1 ∷ []) $
-    rewrite ! 0 (λ (k : Option G.Denot). ‵ (held_owns v.at k)) e refl $
+    rewrite ! 0 (λ (k : Option G.Denot). ‵ (held_owns G v.at k)) e refl $
     in_a_block ! v.at (λ p. box_owns (ghosts.dealloc_token global) G p g) (fst∗ 𝓤 (never 𝓤) (sem 𝓛 (ghosts.dealloc_token global (bare (lone G.mir)) null_ptr))) (λ b o at.
     move ! (2 ∷ []) $ handle_tells al ! a ws (λ h ea fits. move ! (1 ∷ 0 ∷ []) $
     -- [what is held; the allocator; what the fields own; nothing]

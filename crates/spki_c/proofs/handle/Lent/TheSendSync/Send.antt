@@ -5,12 +5,12 @@ use denote.Struct.Struct.{exits_of}
 use denote.Struct.Owning.{shape, fields, to}
 use denote.Param.Send.{IsSend, AllSend, owning_send, struct_send, sendable}
 use Rattle.std_alloc.proofs.SendSync.{quiet, seen}
-use Rattle.spki_service.specs.contracts.guard.Guard as guard
-use Rattle.spki_service.proofs.guard.Guard.TheSendSync.{the_sync as guard_sync}
+use Rattle.spki_service.specs.contracts.shared.SharedGuard as guard
+use Rattle.spki_service.proofs.shared.SharedGuard.TheSendSync.{the_sync as guard_sync}
 use Rattle.spki_c.specs.Holding.{Kept, held_lent}
 use Rattle.spki_c.specs.contracts.handle.Lent.{the_row, the_type}
 
-lent_keyless : (p : Ptr) (g : Kept) → Keyless (held_lent p g)
+lent_keyless : (p : Ptr) (g : Kept) → Keyless (held_lent guard.the_row p g)
 lent_keyless p g = λ s. (tt, seen guard.the_row guard_sync p g s.0)
 
 pub send : IsSend the_row

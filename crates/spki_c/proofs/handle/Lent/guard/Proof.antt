@@ -22,7 +22,7 @@ use denote.Steps.{nothing, opens, peeks, heard}
 use denote.Struct.Lending.{lent_at, in_block_says}
 use denote.Triple.Walked.{Stays, walk_of, says, stay_dropped, Goes-spent_ref, ends_at}
 use Rattle.std.proofs.VecSteps.Shapes.{after}
-use Rattle.spki_service.specs.contracts.guard.Guard.{the_row as G}
+use Rattle.spki_service.specs.contracts.shared.SharedGuard.{the_row as G}
 use Rattle.spki_c.specs.contracts.handle.Lent.{the_row as R}
 use Rattle.spki_c.specs.contracts.handle.Lent.guard as f
 use Rattle.spki_c.proofs.handle.Lent.TheLaws.{lowers}

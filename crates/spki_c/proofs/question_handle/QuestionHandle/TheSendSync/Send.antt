@@ -1,0 +1,24 @@
+-- A handle owns a question and the right to free it, and both say the same to every thread.
+use mir.Raw.{raw}
+use base.Shift.{Keyless}
+use denote.Memory.{lone}
+use denote.RawPtr.{Ptr}
+use denote.Struct.Struct.{exits_of}
+use denote.Struct.Owning.{shape, fields, to}
+use denote.Param.Send.{IsSend, AllSend, owning_send, struct_send, sendable}
+use Rattle.std.specs.Prelude.{Option, Some, None}
+use Rattle.std.proofs.Crossing.{frees}
+use Rattle.std_alloc.proofs.SendSync.{quiet, lies}
+use Rattle.spki_service.specs.contracts.opened.Opened as question
+use Rattle.spki_service.proofs.opened.Opened.TheSendSync.{the_send as question_send}
+use Rattle.spki_c.specs.Holding.{KeptQuestion, heap, held_owns}
+use Rattle.spki_c.specs.contracts.question_handle.QuestionHandle.{the_row, the_type}
+
+held_keyless : (p : Ptr) (held : Option KeptQuestion) → Keyless (held_owns question.the_row p held)
+held_keyless p None = tt
+held_keyless p (Some g) = (lies question.the_row question_send p g, frees.frees heap (raw (lone question.the_row.mir)) p)
+
+pub send : IsSend the_row
+send =
+    let all : AllSend (fields the_type) = (search sendable, tt) in
+    owning_send the_type all (λ h. held_keyless h.at h.held) (λ k. quiet (to the_type) (exits_of k (fields the_type)) ((struct_send (shape the_type) all).leaving k))

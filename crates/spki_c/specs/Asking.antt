@@ -1,0 +1,61 @@
+-- What a C program receives from the questions that it opens.
+use Rattle.std.specs.Prelude.{◌≡◌, ◌≢◌, ◌⊎◌, ◌==◌, ℕ, ℤ, List, [], ◌∷◌, map, Bool, true, false, Option, Some}
+use Rattle.spki_service.specs.Held.{Held}
+use Rattle.spki_service.specs.Opened.{IsOpened}
+use Rattle.spki_service.specs.declared.opened.Opened.{Opened}
+use Rattle.spki_service.specs.declared.question.Question.{Question}
+use Rattle.spki_service.specs.declared.question.Wanted.{Wanted}
+use Rattle.spki_service.specs.declared.question.Wanted.TheVariants as wanted
+use Rattle.spki_service.specs.declared.question.Instant.{Instant}
+use Rattle.spki_service.specs.declared.question.Instant.TheVariants as moments
+use Rattle.spki_guard.specs.declared.answers.Verdict.{Verdict}
+use Rattle.spki_guard.specs.Held.{IsUnreadQuestion}
+use Rattle.spki_c.specs.Handed.{IsHanded}
+use Rattle.spki_c.specs.declared.questions.Parts.{Parts}
+
+-- the marks of octets: 1 is true, and every other number is false
+abbrev pub marks_from : List ℕ → List Bool
+marks_from octets = map (λ n. n == 1) octets
+
+-- ---- the question of parts
+
+-- a request is given both by its strings and as a text, or a moment both in seconds and as a text
+abbrev pub IsAmbiguous : Parts → Type 0
+IsAmbiguous parts =
+    ((parts.is_worded ≡ true) × (parts.request.now ≢ [])) ⊎ ((parts.seconds.now ≢ []) × (parts.moment.now ≢ []))
+
+-- the request: its strings if it is given by them, and otherwise its text
+abbrev pub IsRequestOf : Parts → Wanted → Type 0
+IsRequestOf parts (wanted.Text text) = (parts.is_worded ≡ false) × (text.now ≡ parts.request.now)
+IsRequestOf parts (wanted.Words words) = (parts.is_worded ≡ true) × (words.now ≡ parts.words.now) × (parts.request.now ≡ [])
+
+-- the moment: the first of the seconds, or the text if there are none
+abbrev pub IsMomentOf : Parts → Instant → Type 0
+IsMomentOf parts (moments.Text text) = (parts.seconds.now ≡ []) × (text.now ≡ parts.moment.now)
+IsMomentOf parts (moments.Seconds n) = ((rest : List ℤ) × (parts.seconds.now ≡ n ∷ rest)) × (parts.moment.now ≡ [])
+
+-- The question has these parts.
+pub record IsQuestionOf (parts : Parts) (q : Question) : Type 0 where
+  pub sequence_is : q.sequence.now ≡ parts.sequence.now
+  pub key_is : q.key.now ≡ parts.key.now
+  pub request_is : IsRequestOf parts q.request
+  pub moment_is : IsMomentOf parts q.moment
+
+-- ---- opened
+
+-- The question is read, and the handle has it.
+pub record IsHeldQuestion (guard : Held) (q : Question) (held : Option Opened) (old new : List ℕ) (needed status : ℕ) : Type 0 where
+  pub question : Opened
+  pub held_is : held ≡ Some question
+  pub opened : IsOpened guard q question
+  pub unchanged : new ≡ old
+  pub needed_is : needed ≡ 0
+  pub status_is : status ≡ 6
+
+-- The question is refused, or memory ran out. The line says which, and the handle is unchanged.
+pub record IsUnheld {H : Type 0} (guard : Held) (q : Question) (before after : H) (old new : List ℕ) (needed status : ℕ) : Type 0 where
+  pub kept : after ≡ before
+  pub verdict : Verdict
+  pub output : List ℕ
+  pub unread : IsUnreadQuestion guard q verdict output
+  pub handed : IsHanded old new needed status 2 output

@@ -1,0 +1,41 @@
+//! Limits as C passes them.
+ghost use Rattle.std.specs.Prelude.{MatchOption};
+ghost use Rattle.spki_c.specs.Guards.{numbers_in, AreAllowed, AreLimits};
+
+use spki_guard::Limits;
+
+/// The limits of questions: `struct spki_limits`.
+#[repr(C)]
+pub struct LimitParts {
+    /// The size of the structure.
+    pub size: usize,
+    /// The most octets of a question.
+    pub octets: usize,
+    /// The most certificates of a sequence.
+    pub certificates: usize,
+    /// The most strings of a request.
+    pub words: usize,
+    /// The most nodes of an intersection.
+    pub nodes: usize,
+    /// The most of these products together.
+    pub work: usize,
+    /// The most octets of an answer.
+    pub answer: usize,
+}
+
+/// The first of the limits, or the usual ones if there are none. None if one is over the highest.
+pub(crate) fn limits_of(limits: &[LimitParts]) -> Option<Limits>
+    ensures { MatchOption result (¬ AreAllowed (numbers_in limits.now)) (AreLimits (numbers_in limits.now)) }
+{
+    match limits {
+        [] => Some(Limits::default()),
+        [first, ..] => Limits::new(
+            first.octets,
+            first.certificates,
+            first.words,
+            first.nodes,
+            first.work,
+            first.answer,
+        ),
+    }
+}

@@ -1,0 +1,24 @@
+//! Opened questions on the heap.
+ghost use Rattle.std.specs.Prelude.{IfOk, IfErr};
+ghost use Rattle.spki_service.specs.Opened.{IsOpened};
+ghost use Rattle.spki_guard.specs.Answer.{written_by};
+ghost use Rattle.spki_guard.specs.Held.{IsUnreadQuestion};
+
+use spki_guard::{AclFault, Answer, Opened, Question, SharedGuard, open_question, refused_list};
+use std::alloc::Global;
+
+/// Opens a question on the heap.
+pub(crate) fn open_boxed(
+    alloc: Global,
+    guard: &SharedGuard,
+    question: &Question,
+) -> Result<Box<Opened>, Answer>
+    ensures opened { IfOk result (λ o. IsOpened guard.now question.now o.value) }
+    ensures refused { IfErr result (λ a. IsUnreadQuestion guard.now question.now a.verdict (written_by a)) }
+{
+    let opened = open_question(alloc, guard, question)?;
+    match Box::new(alloc, opened) {
+        Ok(opened) => Ok(opened),
+        Err(_) => Err(refused_list(alloc, AclFault::Memory)),
+    }
+}

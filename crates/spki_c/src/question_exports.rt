@@ -1,0 +1,131 @@
+//! The exported functions for opened questions that a caller holds.
+ghost use Rattle.std.specs.Prelude.{◌≡◌, ◌≢◌, ◌⊎◌, None, Some, IsSome, length, slice_get};
+ghost use Rattle.spki_decision.specs.Asked.{Signed};
+ghost use Rattle.spki_service.specs.declared.question.Question.{Question};
+ghost use Rattle.spki_service.specs.Opened.{IsOpened};
+ghost use Rattle.spki_guard.specs.declared.question_answers.Wish.{Wish};
+ghost use Rattle.spki_c.specs.Asking.{IsAmbiguous, IsQuestionOf, IsHeldQuestion, IsUnheld, marks_from};
+ghost use Rattle.spki_c.specs.Guards.{wish_number, IsAsked};
+ghost use Rattle.spki_c.specs.Handed.{IsMisuse};
+ghost use Rattle.spki_c.specs.Signatures.{IsSignature};
+
+use crate::box_pointer::BoxPointer;
+use crate::buffer::{hand_over, misused};
+use crate::handle::Lent;
+use crate::numbers::{DONE, NO_MEMORY, NONE, REFUSED, wish_of, wish_status};
+use crate::opening::open_boxed;
+use crate::question_handle::{LentQuestion, QuestionHandle};
+use crate::questions::{Parts, marks_of, question_of};
+use crate::signatures::{SignatureTexts, texts_of};
+use spki_guard::{AclFault, answer_opened, refused_list};
+use std::alloc::Global;
+
+/// Reads a question for a guard, and keeps what it needs of it on the heap. The caller holds the question by the handle.
+///
+/// Returns 6 if the handle has the question. Otherwise the handle is unchanged. Returns 2 for a refusal, whose line is in the buffer,
+/// and 4 if the buffer is too small for the line. Returns 5 if a request or a moment is given both ways.
+#[unsafe(no_mangle)]
+pub extern "C" fn spki_c_guard_ask(
+    alloc: Global,
+    lent: &mut Lent,
+    parts: &Parts<'_>,
+    handle: &mut QuestionHandle,
+    buffer: &mut [u8],
+    needed: &mut usize,
+) -> u32
+    requires empty { handle.old.held ≡ None }
+    ensures asked { (q : Question) → IsQuestionOf parts.now q
+        → IsHeldQuestion lent.old.guard q handle.new.held buffer.old buffer.new needed.new result
+        ⊎ IsUnheld lent.old.guard q handle.old handle.new buffer.old buffer.new needed.new result }
+    ensures ambiguous { IsAmbiguous parts.now
+        → (handle.new ≡ handle.old) × IsMisuse buffer.old buffer.new needed.new result }
+{
+    let Some(question) = question_of(parts) else {
+        return misused(needed);
+    };
+    match open_boxed(alloc, lent.guard(), &question) {
+        Ok(opened) => {
+            handle.hold(BoxPointer::of(opened));
+            *needed = 0;
+            DONE
+        }
+        Err(answer) => hand_over(&answer, REFUSED, buffer, needed),
+    }
+}
+
+/// Frees the question of a handle.
+#[unsafe(no_mangle)]
+pub extern "C" fn spki_c_asked_close(alloc: Global, handle: QuestionHandle)
+    requires held { IsSome handle.held }
+{
+    drop(handle.take(alloc).into_box());
+}
+
+/// The number of signatures of a question that a verifier is asked about.
+#[unsafe(no_mangle)]
+pub extern "C" fn spki_c_asked_count(lent: &mut LentQuestion) -> usize
+    ensures { result ≡ length lent.old.question.signed.items }
+{
+    lent.question().signed().len()
+}
+
+/// Sets the texts of the signature at this place, from 0. They are those of the question: nothing is copied.
+///
+/// Returns 6 if they are set. Otherwise they are unchanged: returns 7 if there is no signature at this place, and 8 if memory ran out.
+#[unsafe(no_mangle)]
+pub extern "C" fn spki_c_asked_signature<'a>(
+    alloc: Global,
+    lent: &'a mut LentQuestion,
+    place: usize,
+    texts: &mut SignatureTexts<'a>,
+) -> u32
+    ensures set { (s : Signed) → slice_get lent.entry.now.question.signed.items place ≡ Some s
+        → ((result ≡ 6) × IsSignature s texts.new) ⊎ ((result ≡ 8) × (texts.new ≡ texts.old)) }
+    ensures none { slice_get lent.entry.now.question.signed.items place ≡ None → (result ≡ 7) × (texts.new ≡ texts.old) }
+{
+    let Some(signed) = lent.question().signed().get(place) else {
+        return NONE;
+    };
+    match texts_of(alloc, signed) {
+        Ok(found) => {
+            *texts = found;
+            DONE
+        }
+        Err(_) => NO_MEMORY,
+    }
+}
+
+/// Answers an opened question, if exactly those signatures are valid at whose places `verified` is 1. Writes the answer to the front of
+/// the buffer.
+///
+/// A decision returns 9 for yes and 1 for no. An explanation or a reduction returns 6. All return 2 for a refusal, and 4 if the
+/// buffer is too small. All return 5 if there are more or fewer marks than signatures, or if no wish has this number.
+#[unsafe(no_mangle)]
+pub extern "C" fn spki_c_asked_answer(
+    alloc: Global,
+    wish: u32,
+    lent: &mut LentQuestion,
+    verified: &[u8],
+    buffer: &mut [u8],
+    needed: &mut usize,
+) -> u32
+    ensures answered { (w : Wish) (q : Question) → wish ≡ wish_number w → IsOpened lent.old.question.guard q lent.old.question
+        → IsAsked w lent.old.question.guard q (marks_from verified.now) buffer.old buffer.new needed.new result }
+    ensures misused { ((w : Wish) → wish ≢ wish_number w) → IsMisuse buffer.old buffer.new needed.new result }
+{
+    let Some(wish) = wish_of(wish) else {
+        return misused(needed);
+    };
+    let Ok(marks) = marks_of(alloc, verified) else {
+        return hand_over(
+            &refused_list(alloc, AclFault::Memory),
+            REFUSED,
+            buffer,
+            needed,
+        );
+    };
+    match answer_opened(alloc, wish, lent.question(), marks.as_slice()) {
+        Some(answer) => hand_over(&answer, wish_status(wish, answer.verdict), buffer, needed),
+        None => misused(needed),
+    }
+}

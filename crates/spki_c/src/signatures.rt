@@ -1,0 +1,64 @@
+//! The texts of signatures that a verifier is asked about, as C reads them.
+ghost use Rattle.std.specs.Prelude.{◌≡◌, IfOk};
+ghost use Rattle.spki_c.specs.Signatures.{IsStringOf, IsSignature};
+
+use crate::strings::place_in;
+use sexpr_core::{Doc, FormFault};
+use spki_guard::OwnedSigned;
+use std::alloc::{AllocError, Global};
+
+/// The texts of a signature: `struct spki_signed`, and whether the value is one string.
+#[derive(Clone, Copy)]
+#[repr(C)]
+pub struct SignatureTexts<'a> {
+    /// The canonical octets of the issuer's key.
+    pub key: &'a [u8],
+    /// The message: the certificate's canonical octets.
+    pub message: &'a [u8],
+    /// The canonical octets of the signature's value.
+    pub value: &'a [u8],
+    /// The octets of a value that is one string. None if it is a list.
+    pub octets: &'a [u8],
+    /// Whether the value is one string.
+    pub is_string: bool,
+}
+
+/// Returns the texts of a signature.
+///
+/// # Errors
+///
+/// `AllocError` if memory ran out.
+pub(crate) fn texts_of<'a>(
+    alloc: Global,
+    signed: &'a OwnedSigned,
+) -> Result<SignatureTexts<'a>, AllocError>
+    ensures { IfOk result (IsSignature signed.now) }
+{
+    let string = string_of(alloc, signed.value())?;
+    let (octets, is_string) = match string {
+        Some(octets) => (octets, true),
+        None => (b"".as_slice(), false),
+    };
+    Ok(SignatureTexts {
+        key: signed.key(),
+        message: signed.message(),
+        value: signed.value(),
+        octets,
+        is_string,
+    })
+}
+
+/// The octets of a value in canonical form that is one string. None if it is a list, or no value.
+fn string_of<'a>(alloc: Global, value: &'a [u8]) -> Result<Option<&'a [u8]>, AllocError>
+    ensures { IfOk result (IsStringOf value.now) }
+{
+    let document = match Doc::open(alloc, value) {
+        Ok(document) => document,
+        Err(FormFault::Memory) => return Err(AllocError),
+        Err(_) => return Ok(None),
+    };
+    match place_in(&document.top(), &[]) {
+        Some(place) => Ok(Some(&value[place.at..place.at + place.length])),
+        None => Ok(None),
+    }
+}

@@ -1,0 +1,28 @@
+use Rattle.std.proofs.Common.{inr, ap, Err, arith}
+use Rattle.spki_guard.proofs.HeldAnswers.{opened_reads, answered, unread}
+use Rattle.spki_guard.proofs.opened_answers.answer_again.Goals as goal
+
+pub returns-in-Ok-clause-answer : goal.returns-in-Ok-clause-answer
+returns-in-Ok-clause-answer c q opened =
+    let held = c.args.opened.now.guard in
+    let read = c.in-Ok.ensures.asked in
+    answered c.args.wish held q c.args.marks.now c.in-Ok.read c.answer_asked.result
+    (opened_reads held q c.args.opened.now c.in-Ok.read opened read)
+    read.entries read.answer c.answer_asked.ensures.answer c.answer_asked.ensures.counted
+
+pub returns-in-Ok-clause-none : goal.returns-in-Ok-clause-none
+returns-in-Ok-clause-none c q opened none =
+    let held = c.args.opened.now.guard in
+    record {
+      case_read = c.in-Ok.read.case;
+      read = opened_reads held q c.args.opened.now c.in-Ok.read opened c.in-Ok.ensures.asked;
+      other = c.answer_asked.ensures.none none;
+    }
+
+pub returns-clause-answer : goal.returns-clause-answer
+returns-clause-answer c q opened =
+    let refused = c.refuse_question.ensures in
+    inr (unread c.args.opened.now.guard q c.in-Err.fault _ _ (λ long. omega (arith, opened.short, long))
+    (c.in-Err.ensures.refused q opened.texts)
+    (λ long. let e = c.in-Err.ensures.too_long q opened.texts in let f = e.0 (ap Err long) in omega (arith, opened.short, f))
+    refused.verdict refused.line)

@@ -1,0 +1,6 @@
+use Rattle.std.proofs.Common.{◌≡◌, ◌+◌, drop}
+use Rattle.spki_service.specs.Counted.{certificates_in}
+use Rattle.spki_service.proofs.counts.has_more_certificates.Given as goal
+
+abbrev pub invariant-loop-item : goal.invariant-loop-item
+invariant-loop-item l = l.left + certificates_in l.items ≡ l.fn.most + certificates_in (drop l.item-index l.items)

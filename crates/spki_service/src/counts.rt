@@ -1,0 +1,122 @@
+//! The numbers of certificates and strings of a question, which a guard limits.
+
+ghost use Rattle.std.specs.Prelude.{◌≡◌, ◌≢◌, ◌↔◌, ◌<◌, ◌≤◌, ◌+◌, IsTrue, IfOk, IfErr, MatchOption};
+ghost use Rattle.sexpr_core.specs.Value.{values};
+ghost use Rattle.spki_case.specs.View.{model};
+ghost use Rattle.spki_service.specs.Counted.{certificate_in, certificates_in, strings_in, strings_all, TellsStrings, TellsStringsOf, HasFewStrings, IsTooMany};
+ghost use Rattle.spki_service.specs.Questions.{IsAskedCase};
+ghost use Rattle.spki_service.specs.Texts.{IsTextsOf};
+ghost use Rattle.spki_service.specs.declared.question.Question.{Question};
+
+use crate::limits::Limits;
+use crate::question::AskFault;
+use crate::texts::{PartText, Texts};
+use sexpr_core::syntax::{Members, Node, NodeKind};
+use sexpr_core::{Doc, FormFault};
+use spki_case::Case;
+use spki_cert::SeqItem;
+use std::alloc::Global;
+
+/// Checks that a case has at most as many certificates and strings as the limits allow. `texts` are those that it was read from.
+///
+/// # Errors
+///
+/// `TooManyCertificates`, otherwise `TooManyWords`. `Memory` if memory ran out.
+pub(crate) fn check_counts(
+    alloc: Global,
+    case: &Case,
+    texts: &Texts,
+    limits: Limits,
+) -> Result<(), AskFault>
+    ensures few { IfOk result (λ _. certificates_in case.now.sequence.items ≤ limits.certificates) }
+    ensures short { (q : Question) → IsTextsOf q texts.now → IsAskedCase q (model case.now)
+        → IfOk result (λ _. HasFewStrings limits.words q) }
+    ensures many { (q : Question) → IsTextsOf q texts.now → IsAskedCase q (model case.now)
+        → IfErr result (λ fault. fault ≢ AskFault.Memory → IsTooMany limits.certificates limits.words q fault) }
+{
+    if has_more_certificates(case.sequence.as_slice(), limits.certificates) {
+        return Err(AskFault::TooManyCertificates);
+    }
+    if has_more_strings(alloc, &texts.request, limits.words)? {
+        return Err(AskFault::TooManyWords);
+    }
+    Ok(())
+}
+
+/// Whether more than `most` of the items are certificates.
+fn has_more_certificates(items: &[SeqItem], most: usize) -> bool
+    ensures { IsTrue result ↔ (most < certificates_in items.now) }
+{
+    let mut left = most;
+    for item in items {
+        match left.checked_sub(certificate_in(item)) {
+            None => return true,
+            Some(fewer) => left = fewer,
+        }
+    }
+    false
+}
+
+/// 1 for a certificate, and 0 for another item.
+fn certificate_in(item: &SeqItem) -> usize
+    ensures { result ≡ certificate_in item.now }
+{
+    match item {
+        SeqItem::Key(_) => 0,
+        SeqItem::DoHash(_) => 0,
+        SeqItem::Auth(_) => 1,
+        SeqItem::Name(_) => 1,
+        SeqItem::Signature(_) => 0,
+    }
+}
+
+/// Whether the value of a text has more than `most` strings.
+fn has_more_strings(alloc: Global, text: &PartText, most: usize) -> Result<bool, AskFault>
+    ensures tells { IfOk result (λ has_more. TellsStringsOf most has_more text.now) }
+    ensures only { IfErr result (λ fault. fault ≡ AskFault.Memory) }
+{
+    match text {
+        PartText::Standing(document) => Ok(is_over(&document.top(), most)),
+        PartText::Made(octets) => match Doc::open(alloc, octets) {
+            Ok(document) => Ok(is_over(&document.top(), most)),
+            Err(FormFault::Memory) => Err(AskFault::Memory),
+            Err(_) => Ok(false),
+        },
+        PartText::Malformed(_) => Ok(false),
+    }
+}
+
+/// Whether a value has more than `most` strings.
+fn is_over(node: &Node, most: usize) -> bool
+    ensures { TellsStrings most result node.now }
+{
+    match left_of(most, node) {
+        None => true,
+        Some(_) => false,
+    }
+}
+
+/// The room that is left after the strings of a value. None if there is too little.
+#[cycle(left_of)]
+fn left_of(room: usize, node: &Node) -> Option<usize>
+    ensures { MatchOption result (room < strings_in node.now) (λ left. left + strings_in node.now ≡ room) }
+{
+    match node.kind() {
+        NodeKind::String { .. } => room.checked_sub(1),
+        NodeKind::List(members) => left_of_members(room, members),
+    }
+}
+
+/// The room that is left after the strings of all members. None if there is too little.
+#[cycle(left_of)]
+fn left_of_members(room: usize, members: Members) -> Option<usize>
+    ensures { MatchOption result (room < strings_all (values members.entry)) (λ left. left + strings_all (values members.entry) ≡ room) }
+{
+    let mut left = room;
+    let mut rest = members;
+    while let Some((first, others)) = rest.split_first() {
+        left = left_of(left, &first)?;
+        rest = others;
+    }
+    Some(left)
+}

@@ -1,0 +1,103 @@
+//! Opening of questions, and the answers of those that were opened.
+
+ghost use Rattle.std.specs.Prelude.{◌≡◌, ◌≢◌, ◌↔◌, ◌<◌, List, IfOk, IfErr, IsErrOf};
+ghost use Rattle.spki_decision.specs.Asked.{asked};
+ghost use Rattle.spki_service.specs.Asking.{Decides, MarksAccept, AskedOf};
+ghost use Rattle.spki_service.specs.KeptOf.{IsReadFrom, IsKeptOf};
+ghost use Rattle.spki_service.specs.Opened.{IsOpened};
+ghost use Rattle.spki_service.specs.Counted.{IsRefused};
+ghost use Rattle.spki_service.specs.Questions.{asked_octets};
+ghost use Rattle.spki_service.specs.Texts.{IsTextsOf};
+ghost use Rattle.spki_service.specs.declared.question.Question.{Question};
+
+use crate::asked::Asked;
+use crate::guard::Guard;
+use crate::opened::Opened;
+use crate::owned_marks::first_unmarked;
+use crate::owned_signed::{OwnedSigned, owned_signed};
+use crate::question::{AskFault, Question};
+use crate::shared::SharedGuard;
+use crate::texts::Texts;
+use spki_decision::Decision;
+use std::alloc::Global;
+
+/// What is kept of the case of a question.
+#[derive(Drop)]
+struct Kept {
+    signed: Vec<OwnedSigned>,
+    decision: Decision,
+}
+
+impl Opened {
+    /// Reads a question for a guard, as `Guard::ask`, and keeps what it needs.
+    ///
+    /// # Errors
+    ///
+    /// Those of `Guard::texts` and `Guard::ask`.
+    pub fn open(alloc: Global, guard: &SharedGuard, question: &Question) -> Result<Opened, AskFault>
+        ensures opened { IfOk result (IsOpened guard.now question.now) }
+        ensures too_long { IsErrOf result AskFault.TooLong ↔ (guard.now.octets < asked_octets question.now) }
+        ensures refused { IfErr result (λ fault. fault ≢ AskFault.Memory → fault ≢ AskFault.TooLong
+            → IsRefused guard.now.certificates guard.now.words question.now fault) }
+    {
+        let texts = guard.guard().owned_texts(alloc, question)?;
+        let Kept { signed, decision } = kept_of(alloc, guard.guard(), &texts)?;
+        let guard = guard.share()?;
+        Ok(Opened {
+            guard,
+            texts,
+            signed,
+            decision,
+        })
+    }
+
+    /// The signatures that a verifier is asked about: those of `Asked::signed`.
+    pub fn signed(&self) -> &[OwnedSigned]
+        ensures { result.now ≡ self.now.signed.items }
+    {
+        self.signed.as_slice()
+    }
+
+    /// Decides the question as `Asked::decide_by` does. Nothing is read again, and nothing allocated.
+    pub fn decide_by(&self, verified: &[bool]) -> Decision
+        ensures { IsKeptOf self.now.guard self.now.texts self.now.signed.items self.now.decision
+            → (a : AskedOf) × IsReadFrom self.now.guard self.now.texts a × (self.now.signed.items ≡ asked a.case)
+            × Decides (MarksAccept (asked a.case) verified.now) a result }
+    {
+        match first_unmarked(self.signed.as_slice(), verified) {
+            None => self.decision,
+            Some(_) => Decision::No,
+        }
+    }
+
+    /// Reads the question again, from its own texts.
+    ///
+    /// # Errors
+    ///
+    /// `Memory` if memory ran out.
+    pub fn ask(&self, alloc: Global) -> Result<Asked<'_>, AskFault>
+        ensures asked { IfOk result (IsReadFrom self.now.guard self.now.texts) }
+        ensures too_long { (q : Question) → IsTextsOf q self.now.texts
+            → IsErrOf result AskFault.TooLong ↔ (self.now.guard.octets < asked_octets q) }
+        ensures refused { (q : Question) → IsTextsOf q self.now.texts
+            → IfErr result (λ fault. fault ≢ AskFault.Memory → fault ≢ AskFault.TooLong
+            → IsRefused self.now.guard.certificates self.now.guard.words q fault) }
+    {
+        self.guard.guard().ask(alloc, &self.texts)
+    }
+}
+
+/// Reads a question from its texts, and returns what is kept of it.
+fn kept_of(alloc: Global, guard: &Guard, texts: &Texts) -> Result<Kept, AskFault>
+    ensures kept { IfOk result (λ kept. IsKeptOf guard.now texts.now kept.signed.items kept.decision) }
+    ensures too_long { (q : Question) → IsTextsOf q texts.now
+        → IsErrOf result AskFault.TooLong ↔ (guard.now.octets < asked_octets q) }
+    ensures refused { (q : Question) → IsTextsOf q texts.now
+        → IfErr result (λ fault. fault ≢ AskFault.Memory → fault ≢ AskFault.TooLong
+        → IsRefused guard.now.certificates guard.now.words q fault) }
+{
+    let read = guard.ask(alloc, texts)?;
+    let signed = owned_signed(alloc, read.signed())?;
+    let decision = read.decided(alloc)?;
+    Ok(Kept { signed, decision })
+}
