@@ -1,7 +1,8 @@
 #!/usr/bin/env bash
-# Builds the proved program and the libraries for C programs, and installs them under a prefix, with the header of the libraries, the file
-# for pkg-config, the manual pages and `spki-cert`, the command for those who hold keys. Needs the toolchain's `rt` in the path and a C
-# compiler, unless PROGRAM and LIBRARY are given.
+# Builds the proved program and the libraries for C programs, and installs them under a prefix, with the headers of the libraries for C and
+# C++, the files for pkg-config and CMake, the manual pages and `spki-cert`, the command for those who hold keys. Needs the toolchain's `rt` in
+# the path and a C compiler, unless PROGRAM and LIBRARY are given. If the loader looks into the folder of the libraries, it is told of them by
+# ldconfig, which only root may run; otherwise the last line says what to do.
 # --uninstall removes the files that this version installs, and leaves the folders.
 # Usage: ./install.sh [PREFIX [PROGRAM [LIBRARY]]]        the default prefix is /usr/local; libspki_c.so is beside the LIBRARY
 #        ./install.sh --uninstall [PREFIX]
@@ -18,17 +19,43 @@ cd "$(dirname "$0")"
 version=$(< VERSION)
 soname=libspki_c.so.${version%.*}
 
-modules=(cert/spki_cert_tool/*.py cert/spki_cert_tool/py.typed)
+cmake=lib/cmake/spki
+# The modules of spki-cert, and those that it shares with services in Python.
+modules=(cert/spki_cert_tool/{*.py,py.typed} bindings/python/spki{,_verify}/{*.py,py.typed})
+
+# The place of a module under the prefix.
+place_of() {
+    local path=${1#cert/}
+    echo "share/spki-cert/${path#bindings/python/}"
+}
+
+# Tells the loader of the libraries, or says how a program finds the shared one.
+tell_loader() {
+    local path=$PATH:/sbin:/usr/sbin
+    if ! PATH=$path ldconfig -v -N -X 2> /dev/null | grep -q "^$prefix/lib:"; then
+        echo "the loader does not look into $prefix/lib: name the folder in /etc/ld.so.conf.d/ or in LD_LIBRARY_PATH, or link with libspki_c.a"
+    elif [[ $EUID == 0 ]]; then
+        PATH=$path ldconfig
+        echo "the loader knows $prefix/lib/$soname"
+    else
+        echo "the loader does not know $prefix/lib/$soname yet: run ldconfig as root"
+    fi
+}
 
 if [[ $uninstalls ]]; then
-    for place in bin/spki lib/libspki_c.a "lib/$soname" lib/libspki_c.so lib/pkgconfig/spki.pc include/spki.h share/man/man1/spki.1 \
-        bin/spki-cert share/man/man1/spki-cert.1 share/spki-cert/spki.py "${modules[@]/#cert/share/spki-cert}"; do
+    places=(bin/spki lib/libspki_c.a "lib/$soname" lib/libspki_c.so lib/pkgconfig/spki.pc "$cmake"/spki-config{,-version}.cmake
+        include/spki.{h,hpp} share/man/man1/spki.1
+        bin/spki-cert share/man/man1/spki-cert.1)
+    for module in "${modules[@]}"; do
+        places+=("$(place_of "$module")")
+    done
+    for place in "${places[@]}"; do
         if [[ -e $prefix/$place || -L $prefix/$place ]]; then
             rm "$prefix/$place"
             echo "removed $prefix/$place"
         fi
     done
-    rm -rf "$prefix/share/spki-cert/__pycache__" "$prefix/share/spki-cert/spki_cert_tool/__pycache__"
+    rm -rf "$prefix"/share/spki-cert/{,spki_cert_tool,spki,spki_verify}/__pycache__
     exit
 fi
 
@@ -65,10 +92,35 @@ Cflags: -I\${includedir}
 END
 ) lib/pkgconfig/spki.pc
 placed 644 crates/spki_c/spki.h include/spki.h
+placed 644 crates/spki_c/spki.hpp include/spki.hpp
+placed 644 <(cat << END
+# The targets spki::spki, the shared library, and spki::static, the static one.
+get_filename_component(spki_prefix "\${CMAKE_CURRENT_LIST_DIR}/../../.." ABSOLUTE)
+if(NOT TARGET spki::spki)
+  add_library(spki::spki SHARED IMPORTED)
+  set_target_properties(spki::spki PROPERTIES IMPORTED_LOCATION "\${spki_prefix}/lib/$soname" IMPORTED_SONAME "$soname"
+                        INTERFACE_INCLUDE_DIRECTORIES "\${spki_prefix}/include")
+  add_library(spki::static STATIC IMPORTED)
+  set_target_properties(spki::static PROPERTIES IMPORTED_LOCATION "\${spki_prefix}/lib/libspki_c.a"
+                        INTERFACE_INCLUDE_DIRECTORIES "\${spki_prefix}/include")
+endif()
+END
+) "$cmake/spki-config.cmake"
+placed 644 <(cat << END
+# A version with the same first two numbers, and not an older one, will do.
+set(PACKAGE_VERSION $version)
+if(PACKAGE_FIND_VERSION VERSION_LESS_EQUAL PACKAGE_VERSION AND PACKAGE_FIND_VERSION VERSION_GREATER_EQUAL ${version%.*})
+  set(PACKAGE_VERSION_COMPATIBLE TRUE)
+endif()
+if(PACKAGE_FIND_VERSION VERSION_EQUAL PACKAGE_VERSION)
+  set(PACKAGE_VERSION_EXACT TRUE)
+endif()
+END
+) "$cmake/spki-config-version.cmake"
 placed 644 docs/spki.1 share/man/man1/spki.1
 placed 644 docs/spki-cert.1 share/man/man1/spki-cert.1
 placed 755 cert/spki-cert bin/spki-cert
-placed 644 bindings/python/spki.py share/spki-cert/spki.py
 for module in "${modules[@]}"; do
-    placed 644 "$module" "share/spki-cert${module#cert}"
+    placed 644 "$module" "$(place_of "$module")"
 done
+tell_loader

@@ -39,6 +39,7 @@ Installed-Size: $(du -sk --exclude=DEBIAN "$folder" | cut -f 1)
 Description: $short
  $long
 END
+    [[ ! -e $folder/usr/lib/libspki_c.so ]] || echo "activate-noawait ldconfig" > "$folder/DEBIAN/triggers"
     (cd "$folder" && find usr -type f -print0 | sort -z | xargs -0 md5sum > DEBIAN/md5sums)
     dpkg-deb --root-owner-group --build "$folder" "$target/${name}_${version}_$architecture.deb"
 }

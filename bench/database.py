@@ -54,7 +54,7 @@ def questions(count):
         chain = [held(place), *(key(f"link{link}") for link in range(3))] if turn % 2 else [held(place)]
         text = case([], [(certificate(issuer, subject), issuer) for issuer, subject in zip(chain, chain[1:])], asks=chain[-1])
         _, sequence, asker, request, moment = parts_of(text)
-        yield spki.Question(sequence, asker, request, moment), place + 1
+        yield spki.Question(sequence, asker, text=request, moment=moment), place + 1
 
 
 def seconds_of(service, asked, wanted):

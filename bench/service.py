@@ -203,7 +203,7 @@ def time_through_python(driver, text):
     acl, sequence, asker, request, moment = parts_of(text)
     least = float("inf")
     with spki.Guard(acl) as guard:
-        question = spki.Question(sequence, asker, request, moment)
+        question = spki.Question(sequence, asker, text=request, moment=moment)
         for _ in range(ROUNDS):
             begun = time.perf_counter()
             for _ in range(CALLS):

@@ -13,13 +13,12 @@ CRATE, RUST, PYTHON = (os.path.join(TOP, *words) for words in (["crates", "spki_
 PROGRAMS = {
     "C": """
 #include <spki.h>
+#include <stdbool.h>
 #include <stdio.h>
 #include <string.h>
 #include <time.h>
 
-enum { room = 16 };
-
-static unsigned char verify(struct spki_text key, struct spki_text message, struct spki_text value)
+static bool verifies(struct spki_text key, struct spki_text message, struct spki_text value)
 {
     return key.length > 0 && message.length > 0 && value.length == 5 && memcmp(value.octets, "3:sig", 5) == 0;
 }
@@ -29,16 +28,16 @@ static void ask(const char *list, size_t list_length, struct spki_text sequence,
 {
     spki_guard *guard;
     spki_asked *asked;
-    struct spki_signed signature;
-    unsigned char verified[room], line[64];
-    size_t count, needed;
+    struct spki_signed it;
+    unsigned char verified[16], line[128];
+    size_t place = 0;
 SNIPPET
     spki_guard_close(guard);
 }
 
 int main(int count, char **given)
 {
-    const struct spki_text words[] = {{"packages", 8}, {"read", 4}, {"/builds/web", 11}};
+    const struct spki_text words[] = {SPKI_LITERAL("packages"), SPKI_LITERAL("read"), SPKI_LITERAL("/builds/web")};
     if (count != 4)
         return 2;
     ask(given[1], strlen(given[1]), (struct spki_text){given[2], strlen(given[2])}, (struct spki_text){given[3], strlen(given[3])}, words,
@@ -47,13 +46,14 @@ int main(int count, char **given)
 }
 """,
     "Rust": """
-use spki::{Guard, Limits, Moment, Policy, Question, Refusal, Request};
+use spki::{Guard, Limits, Policy, Question, Refusal, Request};
+use std::time::SystemTime;
 
 fn verify(_key: &[u8], _message: &[u8], value: &[u8]) -> bool {
     value == b"3:sig"
 }
 
-fn ask(list: &[u8], sequence: &[u8], key: &[u8], path: &[u8], now: i64) -> Result<bool, Refusal> {
+fn ask(list: &[u8], sequence: &[u8], key: &[u8], path: &[u8]) -> Result<bool, Refusal> {
 SNIPPET
     Ok(is_granted)
 }
@@ -61,7 +61,7 @@ SNIPPET
 fn main() {
     let given: Vec<String> = std::env::args().collect();
     let [list, sequence, key] = [1, 2, 3].map(|place| given[place].as_bytes());
-    println!("{:?}", ask(list, sequence, key, b"/builds/web", 1_800_000_000).map(|is| if is { "granted" } else { "denied" }));
+    println!("{:?}", ask(list, sequence, key, b"/builds/web").map(|is| if is { "granted" } else { "denied" }));
 }
 """,
     "Python": """

@@ -14,7 +14,7 @@ from typing import Any
 
 TOP = os.path.realpath(os.path.join(os.path.dirname(os.path.abspath(__file__)), ".."))
 TESTS, BENCH, EXAMPLES = (os.path.join(TOP, name) for name in ("tests", "bench", "examples"))
-sys.path.append(os.path.join(TOP, "cert"))
+sys.path += [os.path.join(TOP, "cert"), os.path.join(TOP, "bindings", "python")]
 from spki_cert_tool import sexp  # noqa: E402
 from spki_cert_tool.sexp import canonical, on_one_line  # noqa: E402
 

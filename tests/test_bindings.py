@@ -6,13 +6,16 @@ and the moment in seconds. The verifier accepts what the case's rows do. `decide
 `explain` and `reduce` on the case. A case that is refused is asked without its rows: a guard takes none, so it has no fault of them.
 
 Runs the tests of the Python module, mypy over its types, and of the crate its tests, those in its documents, clippy and the formatter. The
-examples `decide.c` and `decide.rs`, which docs/GUIDE.md quotes, and `decide.py` must grant and deny. All must have the version of the file
-VERSION."""
+examples `decide.c`, `decide.rs` and `decide.py`, which docs/GUIDE.md quotes, must grant and deny, by real keys and signatures. The header
+for C++ is called by `owned.cpp`. The module is installed by pip with the library inside. The crate must refuse a folder without a library. All
+must have the version of the file VERSION."""
 import functools
+import glob
 import hashlib
 import importlib
 import os
 import re
+import shutil
 import subprocess
 import sys
 import tempfile
@@ -27,15 +30,13 @@ import chains
 import needs
 from model import answers as model
 from rows import rows_of
-from support import EXAMPLES, TOP, canonical, on_one_line, read, run, string, tables_here, text_of
+from support import EXAMPLES, TESTS, TOP, canonical, on_one_line, output_of, read, run, string, tables_here, text_of
 
 CRATE, RUST, PYTHON = (os.path.join(TOP, *words) for words in (["crates", "spki_c"], ["bindings", "rust"], ["bindings", "python"]))
 COMMANDS = {"decide": "check", "explain": "explain", "reduce": "reduce"}
 NO_CASE = (b"refused form", b"refused case")
 TOO_LARGE = b"refused TooLarge\n"
 SECONDS = 1800
-# A limit of a guard that no question exceeds: the program has none on the work and the answer.
-UNBOUNDED = 2**62
 
 
 class Asked(NamedTuple):
@@ -138,10 +139,11 @@ def answered_by_python(spki, asked):
     def verify(*signed):
         return signed in asked.accepted
 
-    question = spki.Question(asked.sequence, asked.key, asked.request, asked.moment)
-    policy, limits = spki.Policy.STRICT if asked.is_strict else spki.Policy.OPEN, spki.Limits(work=UNBOUNDED, answer=UNBOUNDED)
+    request = {"text" if isinstance(asked.request, bytes) else "words": asked.request}
+    question = spki.Question(asked.sequence, asked.key, moment=asked.moment, **request)
+    policy = spki.Policy.STRICT if asked.is_strict else spki.Policy.OPEN
     try:
-        with spki.Guard(asked.access_list, policy, limits) as guard:
+        with spki.Guard(asked.access_list, policy, spki.Limits.highest()) as guard:
             answer = getattr(guard, asked.command)(question, verify)
     except spki.Refused as refused:
         return f"{refused.line}\n".encode()
@@ -190,11 +192,15 @@ class Version(unittest.TestCase):
 
     def test_version(self):
         """The crate, the module and the header have the version of the file VERSION."""
-        met = {"bindings/rust/Cargo.toml": r'^version = "(.*)"$', "bindings/python/spki.py": r'^__version__ = "(.*)"$',
-               "bindings/go/guard/guard.go": r'^const Version = "(.*)"$',
+        line = r'^version = "(.*)"$'
+        met = {"bindings/rust/Cargo.toml": line, "bindings/rust/spki-sys/Cargo.toml": line, "bindings/python/pyproject.toml": line,
+               "bindings/python/spki/__init__.py": r'^__version__ = "(.*)"$', "bindings/go/guard/guard.go": r'^const Version = "(.*)"$',
                "crates/spki_c/spki.h": r'^#define SPKI_VERSION "(.*)"$'}
         found = {path: re.search(line, text_of(path), re.MULTILINE)[1] for path, line in met.items()}
         self.assertEqual(found, dict.fromkeys(met, text_of("VERSION").strip()))
+        called = {"bindings/rust/spki-sys/src/lib.rs": r'VERSION: &str = "(.*)";$', "bindings/python/spki/_library.py": r'^VERSION = "(.*)"$'}
+        found = {path: re.search(line, text_of(path), re.MULTILINE)[1] for path, line in called.items()}
+        self.assertEqual(found, dict.fromkeys(called, text_of("VERSION").rpartition(".")[0]))
 
 
 @functools.cache
@@ -214,19 +220,30 @@ class Binding(built.OfLibrary):
         cls.folder = os.path.dirname(cls.library)
 
     def decides(self, *words):
-        """An example must grant the request of `delegation.sexp` to its key, and to no other."""
-        with open(os.path.join(EXAMPLES, "delegation.sexp"), "rb") as file:
-            case = chains.canonical(file.read().decode())
-        _, access_list, _, sequence, (_, key), *_ = read(case)
+        """An example must grant the request to Bob, to whom Alice's certificate gives it, and to nobody else. It must deny it to Bob if a bit
+        of the signature is changed."""
+        from spki_cert_tool import keys
+        for kind in keys.KINDS:
+            alice, bob, carol = (keys.FileSigner(keys.new_private(it)) for it in (kind, keys.P256, keys.ED25519))
+            issuer = keys.principal_of(alice.key)
+            access_list = [b"acl", [b"entry", issuer, [b"propagate"], [b"tag", [b"ftp"]]]]
+            certificate = [b"cert", [b"issuer", issuer], [b"subject", bob.key], [b"tag", [b"ftp"]]]
+            value = alice.sign(canonical(certificate))
+            other = alice.sign(canonical([*certificate, [b"propagate"]]))
+            for holder, shown, wanted in ((bob, value, "granted\n"), (carol, value, "denied\n"), (bob, other, "denied\n")):
+                signature = [b"signature", keys.hash_of(certificate), issuer, shown]
+                self.answers(words, (access_list, [b"sequence", alice.key, certificate, signature], holder.key), wanted)
+
+    def answers(self, words, parts, wanted):
+        """An example must answer what is wanted to a list, a sequence and a key."""
         with tempfile.TemporaryDirectory() as room:
-            paths = [os.path.join(room, part) for part in ("acl", "sequence", "key")]
-            for holder, wanted in [(key, "granted\n"), ([b"public-key", [b"test", b"c"]], "denied\n")]:
-                for path, value in zip(paths, (access_list, sequence, holder)):
-                    with open(path, "wb") as file:
-                        file.write(canonical(value))
-                done = subprocess.run([*words, *paths, "ftp", "host"], capture_output=True, text=True, timeout=SECONDS,
-                                      env={**os.environ, "PYTHONPATH": PYTHON})
-                self.assertEqual(done.stdout, wanted, f"{on_one_line(holder)}: {done.stderr[-500:]}")
+            paths = [os.path.join(room, name) for name in ("acl", "sequence", "key")]
+            for path, value in zip(paths, parts):
+                with open(path, "wb") as file:
+                    file.write(canonical(value))
+            done = subprocess.run([*words, *paths, "ftp", "host"], capture_output=True, text=True, timeout=SECONDS,
+                                  env={**os.environ, "PYTHONPATH": PYTHON})
+            self.assertEqual(done.stdout, wanted, f"{on_one_line(parts[2])}: {done.stderr[-500:]}")
 
 
 class InPython(Binding):
@@ -239,7 +256,7 @@ class InPython(Binding):
 
     @needs.needs("mypy")
     def test_types(self):
-        words = ["mypy", "--strict", "--cache-dir", os.devnull, "spki.py", os.path.join("examples", "decide.py")]
+        words = ["mypy", "--strict", "--cache-dir", os.devnull, "spki", "spki_verify", os.path.join("examples", "decide.py")]
         done = subprocess.run(words, cwd=PYTHON, timeout=SECONDS, capture_output=True, text=True)
         self.assertEqual(done.returncode, 0, done.stdout)
 
@@ -250,19 +267,66 @@ class InPython(Binding):
         fault = otherwise(asked, [answered_by_python(spki, each) for each in asked])
         self.assertEqual(fault, "", fault)
 
+    @needs.needs("import cryptography")
     def test_example(self):
         self.decides(sys.executable, os.path.join(PYTHON, "examples", "decide.py"))
 
-
-class InC(Binding):
-    """The example in C."""
-
-    def test_example(self):
+    @needs.needs("import pip", "import setuptools", "import wheel")
+    def test_pip(self):
+        """pip installs the folder without a network, and the module takes the library that is inside."""
         with tempfile.TemporaryDirectory() as room:
-            to, source = os.path.join(room, "decide"), os.path.join(EXAMPLES, "c", "decide.c")
+            source, target = os.path.join(room, "source"), os.path.join(room, "target")
+            shutil.copytree(PYTHON, source, ignore=shutil.ignore_patterns("build", "*.egg-info", "__pycache__"))
+            words = ["-m", "pip", "install", "-q", "--no-build-isolation", "--no-index", "--target", target, source]
+            status, said = output_of(sys.executable, *words, seconds=SECONDS, env={**os.environ, "SPKI_LIBRARY": self.shared})
+            self.assertEqual(status, 0, said)
+            settings = {name: value for name, value in os.environ.items() if name != "SPKI_LIBRARY"}
+            answer = output_of(sys.executable, "-c", "import spki; print(spki.__file__, spki.Guard(b'(acl)').entries, spki._library.found())",
+                               cwd=room, env={**settings, "PYTHONPATH": target})
+            folder = os.path.join(target, "spki")
+            self.assertEqual(answer, (0, f"{folder}/__init__.py 0 {folder}/libspki_c.so\n"))
+            status, said = output_of(sys.executable, *words[:-1], source, seconds=SECONDS, env={**settings, "SPKI_LIBRARY": "/nowhere.so"})
+            self.assertEqual((status != 0, "/nowhere.so is not there" in said), (True, True), said)
+
+
+@needs.needs("import cryptography")
+class InC(Binding):
+    """The example in C, with each verifier."""
+
+    def decides_by(self, verifier, library):
+        with tempfile.TemporaryDirectory() as room:
+            to, sources = os.path.join(room, "decide"), [os.path.join(EXAMPLES, "c", name) for name in ("decide.c", f"{verifier}.c")]
             flags = ["-std=c11", "-Wall", "-Wextra", "-Wpedantic", "-Werror", "-I", CRATE]
-            subprocess.run(["cc", *flags, "-o", to, source, self.library], timeout=SECONDS, check=True)
+            subprocess.run(["cc", *flags, "-o", to, *sources, self.library, library], timeout=SECONDS, check=True)
             self.decides(to)
+
+    @needs.needs("/usr/include/gcrypt.h")
+    def test_example_by_gcrypt(self):
+        self.decides_by("verify_gcrypt", "-lgcrypt")
+
+    @needs.needs("openssl/evp.h")
+    def test_example_by_openssl(self):
+        self.decides_by("verify_openssl", "-lcrypto")
+
+
+@needs.needs("g++")
+class InCpp(Binding):
+    """The header for C++."""
+
+    def test_owners(self):
+        with tempfile.TemporaryDirectory() as room:
+            to, source = os.path.join(room, "owned"), os.path.join(TESTS, "owned.cpp")
+            flags = ["-std=c++17", "-Wall", "-Wextra", "-Wpedantic", "-Werror", "-g", "-fsanitize=address,undefined", "-I", CRATE]
+            self.assertEqual(output_of("g++", *flags, "-o", to, source, self.library, seconds=SECONDS), (0, ""))
+            self.assertEqual(output_of(to), (0, ""))
+
+    def test_answers_that_are_no_bool(self):
+        """A verifier that returns a number is not compiled."""
+        for answer, is_compiled in (("true", True), ("-1", False), ('"no"', False)):
+            text = f"""#include <spki.hpp>
+                       bool asks(const spki::asked &asked) {{ return asked.marks([](auto, auto, auto) {{ return {answer}; }}).empty(); }}"""
+            status, _ = output_of("g++", "-std=c++17", "-fsyntax-only", "-I", CRATE, "-x", "c++", "-", text=text, seconds=SECONDS)
+            self.assertEqual(status == 0, is_compiled, answer)
 
 
 @needs.needs("cargo")
@@ -277,18 +341,18 @@ class InRust(Binding):
 
     def test_crate(self):
         """The tests of the crate pass."""
-        self.does("test", "--quiet")
+        self.does("test", "--quiet", "--workspace")
 
     def test_documents(self):
-        self.does("doc", "--quiet", "--no-deps")
+        self.does("doc", "--quiet", "--workspace", "--no-deps")
 
     @needs.needs("cargo-clippy")
     def test_lints(self):
-        self.does("clippy", "--quiet", "--all-targets", "--", "-D", "warnings")
+        self.does("clippy", "--quiet", "--workspace", "--all-targets", "--", "-D", "warnings")
 
     @needs.needs("cargo-fmt")
     def test_layout(self):
-        self.does("fmt", "--check")
+        self.does("fmt", "--all", "--check")
 
     def test_questions(self):
         asked = asked_of(self.program)
@@ -296,6 +360,59 @@ class InRust(Binding):
         fault = otherwise(asked, [line + b"\n" for line in lines])
         self.assertEqual(fault, "", fault)
 
+    @needs.needs("openssl", "import cryptography")
     def test_example(self):
         self.does("build", "--quiet", "--example", "decide")
         self.decides(os.path.join(RUST, "out", "debug", "examples", "decide"))
+
+    def builds(self, room, **settings):
+        """Whether the part that links the library is built with these settings, and what is said."""
+        whole = {name: value for name, value in os.environ.items() if not name.startswith(("SPKI_", "PKG_CONFIG"))}
+        return output_of("cargo", "build", "--quiet", "-p", "spki-sys", cwd=RUST, seconds=SECONDS,
+                         env={**whole, "CARGO_TARGET_DIR": room, "CARGO_NET_OFFLINE": "true", **settings})
+
+    def test_folders_without_a_library(self):
+        """A folder without a library, and a library that pkg-config does not know, end the build."""
+        with tempfile.TemporaryDirectory() as room, tempfile.TemporaryDirectory() as empty:
+            for settings, words in (({"SPKI_LIB_DIR": empty}, f"there is no libspki_c.a or libspki_c.so in {empty}"),
+                                    ({"SPKI_LIB_DIR": empty, "SPKI_SHARED": "1"}, f"there is no libspki_c.so in {empty}"),
+                                    ({"SPKI_LIB_DIR": "."}, "SPKI_LIB_DIR must be a whole path"),
+                                    ({"PKG_CONFIG_LIBDIR": empty}, "libspki_c is not found"), ({"PKG_CONFIG": "/nowhere"}, "/nowhere")):
+                status, said = self.builds(room, **settings)
+                self.assertEqual((status != 0, words in said), (True, True), f"{settings}: {said}")
+            self.assertEqual(self.builds(room, SPKI_LIB_DIR=self.folder), (0, ""))
+            for name in ("libspki_c.a", "libspki_c.so"):
+                os.symlink(os.path.join(self.folder, name), os.path.join(empty, name))
+            self.assertEqual(self.builds(room, SPKI_LIB_DIR=empty, SPKI_SHARED="1"), (0, ""))
+
+    @needs.needs("pkg-config")
+    def test_versions_of_pkg_config(self):
+        """A library that pkg-config knows is linked if it has the version of the crate, and not if it has another one."""
+        with tempfile.TemporaryDirectory() as room:
+            for version, is_built in ((text_of("VERSION").strip(), True), ("0.2.0", False), ("0.0.9", False)):
+                folder = os.path.join(room, version)
+                os.mkdir(folder)
+                with open(os.path.join(folder, "spki.pc"), "w", encoding="ascii") as file:
+                    file.write(f"Name: spki\nDescription: spki\nVersion: {version}\nLibs: -L{self.folder} -lspki_c\n")
+                status, said = self.builds(room, PKG_CONFIG_PATH=folder)
+                self.assertEqual(status == 0, is_built, f"{version}: {said}")
+
+    @needs.needs("pkg-config")
+    def test_another_target(self):
+        """For another target a library of its system is linked, and none of the host."""
+        with tempfile.TemporaryDirectory() as room:
+            self.assertEqual(self.builds(room, SPKI_LIB_DIR=self.folder), (0, ""))
+            script, = glob.glob(os.path.join(room, "debug", "build", "spki-sys-*", "build-script-build"))
+            system = os.path.join(room, "system")
+            folder = os.path.join(system, "usr", "lib")
+            os.makedirs(folder)
+            shutil.copy(self.library, os.path.join(folder, "libspki_c.a"))
+            with open(os.path.join(folder, "spki.pc"), "w", encoding="ascii") as file:
+                file.write(f"Name: spki\nDescription: spki\nVersion: {text_of('VERSION').strip()}\nLibs: -L/usr/lib -lspki_c\n")
+            for end in ("", "_armv7-unknown-linux-gnu", "_armv7_unknown_linux_gnu"):
+                settings = {f"PKG_CONFIG_SYSROOT_DIR{end}": system, f"PKG_CONFIG_LIBDIR{end}": folder}
+                for target, more, is_linked in (("armv7-unknown-linux-gnu", settings, True), ("armv7-unknown-linux-gnu", {}, False)):
+                    whole = {"PATH": os.environ["PATH"], "HOST": "x86_64-unknown-linux-gnu", "TARGET": target, **more}
+                    status, said = output_of(script, env=whole)
+                    met = (status == 0, f"rustc-link-search=native={folder}\n" in said)
+                    self.assertEqual(met, (is_linked, is_linked), said)

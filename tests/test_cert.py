@@ -150,9 +150,10 @@ class OfKeys(Case):
         self.assertEqual(self.done("key", "old.pem"), self.done("key", "key.pem"))
 
     def test_private_keys_of_libgcrypt_are_read(self):
+        from spki_verify import number
         secret = keys.new_private("p256")
         public = keys.key_of(secret.public_key())
-        private = [b"private-key", [*public[1], [b"d", keys.number(secret.private_numbers().private_value)]]]
+        private = [b"private-key", [*public[1], [b"d", number(secret.private_numbers().private_value)]]]
         self.write("key", sexp.laid_out(private))
         self.assertEqual(value_in(self.done("key", "key").encode()).value, public)
 
@@ -690,11 +691,12 @@ int main(int count, char **words)
     def test_pip_installs_it_offline(self):
         for folder in ("cert", "bindings/python"):
             shutil.copytree(os.path.join(TOP, folder), self.at(folder), ignore=shutil.ignore_patterns("build", "*.egg-info"))
-        quiet(sys.executable, "-m", "pip", "install", "-q", "--no-build-isolation", "--no-deps", "--no-index", "--target", self.at("target"),
-              self.at("cert"))
+        words = ("-m", "pip", "install", "-q", "--no-build-isolation", "--no-deps", "--no-index", "--target", self.at("target"))
+        quiet(sys.executable, *words, self.at("bindings/python"), self.at("cert"), env={**self.settings, "SPKI_LIBRARY": "none"})
         status, said = output_of(sys.executable, "-m", "spki_cert_tool", "--version", env={**self.settings, "PYTHONPATH": self.at("target")})
         self.assertEqual((status, said), (0, f"spki-cert {version()}\n"))
-        self.assertTrue(os.path.exists(self.at("target/spki.py")))
+        for name in ("spki/py.typed", "spki_verify/py.typed"):
+            self.assertTrue(os.path.exists(self.at(f"target/{name}")), name)
 
     def test_it_has_one_version(self):
         self.assertIn(f'version = "{version()}"', text_in(os.path.join(TOP, "cert", "pyproject.toml")).decode())

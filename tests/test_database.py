@@ -54,7 +54,7 @@ def is_right(key, message, value):
 
 
 def question(sequence, asker, request=REQUEST, moment=NOON):
-    return spki.Question(sequence if isinstance(sequence, bytes) else canonical(sequence), canonical(asker), request, moment)
+    return spki.Question(sequence if isinstance(sequence, bytes) else canonical(sequence), canonical(asker), words=request, moment=moment)
 
 
 # ---- random lists and questions
@@ -118,7 +118,7 @@ def outcome(decide, asked):
 def whole(table, policy):
     """Decides by a guard of all rows of the table, and names the row that grants."""
     rows = table.all()
-    guard = entries.list_of([text for _, text in rows], policy, spki.Limits(65_536, 10_000))
+    guard = entries.list_of([text for _, text in rows], policy, entries.LIMITS)
 
     def decide(asked):
         decision = guard.decide(asked, is_right)
@@ -353,6 +353,21 @@ class Table:
     def test_several_clients(self):
         self.assertTrue(clients_agree(self.opened))
 
+    def removes_after(self, fault, entry, failing):
+        """An entry that was removed grants nowhere, also where many entries could not be added before."""
+        table, own = self.opened(), key_of(b"held")
+        number = table.add(entry)
+        with self.assertRaises(fault):
+            table.add_all(failing)
+        self.assertTrue(table.remove(number))
+        for asked in (table, self.opened()):
+            self.assertIsNone(entries.Service(asked).decide(question(b"(sequence)", own), is_right))
+            self.assertEqual(asked.all(), [])
+
+    def test_removal_after_entries_that_could_not_be_made(self):
+        entry = entries.entry(canonical(key_of(b"held")), TAG)
+        self.removes_after(ZeroDivisionError, entry, (it if it else 1 // 0 for it in (entry, None)))
+
 
 class Sqlite(Table, built.OfLibrary):
     """Entries in SQLite."""
@@ -370,6 +385,10 @@ class Sqlite(Table, built.OfLibrary):
         table.add(entries.entry(canonical(own), TAG))
         self.opened().connection.execute("DROP TABLE entries")
         self.assertTrue(is_unavailable(entries.Service(table), question(b"(sequence)", own)))
+
+    def test_removal_after_entries_that_the_table_refused(self):
+        entry = entries.entry(canonical(key_of(b"held")), TAG)
+        self.removes_after(entries.Unavailable, entry, [entry, entries.Entry(entry.place, None)])
 
 
 @needs.needs(*([] if os.environ.get("SPKI_POSTGRES") else [needs.INITDB]))

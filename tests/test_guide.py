@@ -51,7 +51,7 @@ SECONDS_OF_TOOLCHAIN = 1200
 # The other indented commands, and what each prints. Those with None are left out: see above.
 INDENTED = {
     "crates/spki_c/archive.py": None,
-    "cd examples/c && cc -std=c11 -o service -I ../../crates/spki_c service.c ../../crates/spki_c/out/libspki_c.a -lcrypto": "",
+    "cd examples/c && cc -std=c11 -o service -I ../../crates/spki_c service.c verify_openssl.c ../../crates/spki_c/out/libspki_c.a -lcrypto": "",
     "./service acl.sexp": r"nonce [0-9a-f]{64}\n",
     "./decide acl.sexp sequence key.sexp packages read /builds/web/index.html": None}
 PAGES = ("README.md", "docs/GUIDE.md", "docs/spki.1")

@@ -1,6 +1,6 @@
 """Installs into an empty folder, asks the installed program and the installed libraries, looks at the manual, and uninstalls.
 
-A C program is compiled as `pkg-config` says, and linked with the shared library and with the static one. The header, the manual, the README
+A C program is compiled as `pkg-config` and CMake say, and linked with the shared library and with the static one. The header, the manual, the README
 and `pkg-config` must have the version of the file VERSION. The manual must be shown without a warning, and name every fault that a refusal
 in the tables of `tables/` names. After uninstalling, the files that were there before must be left, and no others."""
 import os
@@ -27,8 +27,8 @@ def found(pattern: str, text: str) -> str:
     return match[1] if match else ""
 
 
-def installed(program: str, library: str) -> tempfile.TemporaryDirectory:
-    """A folder with other files, to which install.sh has installed."""
+def installed(program: str, library: str) -> tuple[tempfile.TemporaryDirectory, str]:
+    """A folder with other files, to which install.sh has installed, and what it said."""
     prefix = tempfile.TemporaryDirectory()
     for place in OTHERS:
         os.makedirs(os.path.dirname(os.path.join(prefix.name, place)))
@@ -37,7 +37,7 @@ def installed(program: str, library: str) -> tempfile.TemporaryDirectory:
     status, said = output_of(os.path.join(TOP, "install.sh"), prefix.name, program, library)
     if status:
         raise AssertionError(f"install.sh ended with status {status}: {said}")
-    return prefix
+    return prefix, said
 
 
 @needs.needs(*needs.LIBRARY)
@@ -46,11 +46,12 @@ class Installed(built.OfLibrary):
 
     prefix: str
     page: str
+    said: str
 
     @classmethod
     def setUpClass(cls) -> None:
         super().setUpClass()
-        room = installed(cls.program, cls.library)
+        room, cls.said = installed(cls.program, cls.library)
         cls.addClassCleanup(room.cleanup)
         cls.prefix, cls.page = room.name, os.path.join(room.name, "share", "man", "man1", "spki.1")
 
@@ -77,6 +78,26 @@ class Installed(built.OfLibrary):
     def test_pkg_config(self) -> None:
         settings = {**os.environ, "PKG_CONFIG_PATH": os.path.join(self.prefix, "lib", "pkgconfig")}
         self.links(*output_of("pkg-config", "--cflags", "--libs", "spki", env=settings)[1].split())
+
+    @needs.needs("cmake")
+    def test_cmake(self) -> None:
+        """CMake finds both libraries, of this version and of none with other first numbers."""
+        for target, version, is_found in (("spki::spki", "", True), ("spki::spki", "0.1", True), ("spki::static", "0.1.0", True),
+                                          ("spki::spki", "0.2", False), ("spki::spki", "0.1.1", False), ("spki::spki", "0.0.9", False)):
+            with self.subTest(target=target, version=version), tempfile.TemporaryDirectory() as room:
+                with open(os.path.join(room, "CMakeLists.txt"), "w", encoding="ascii") as file:
+                    file.write(f"cmake_minimum_required(VERSION 3.13)\nproject(linked C)\nfind_package(spki {version} REQUIRED)\n"
+                               f"add_executable(linked {TESTS}/linked.c)\ntarget_link_libraries(linked {target})\n")
+                words = ["cmake", "-S", room, "-B", room, f"-DCMAKE_PREFIX_PATH={self.prefix}"]
+                status, said = output_of(*words)
+                self.assertEqual(status == 0, is_found, said)
+                if is_found:
+                    self.assertEqual(output_of("cmake", "--build", room)[0], 0)
+                    self.assertEqual(output_of(os.path.join(room, "linked")), (0, ""))
+
+    def test_loader(self) -> None:
+        """The last line says how a program finds the shared library, if the loader does not look there."""
+        self.assertIn(f"the loader does not look into {self.prefix}/lib: name the folder in", self.said.splitlines()[-1])
 
     def test_version(self) -> None:
         """All that is installed, and the README, have the version of the file VERSION."""
@@ -111,6 +132,6 @@ class Uninstalled(built.OfLibrary):
     """What is left when it was installed and uninstalled."""
 
     def test_files_left(self) -> None:
-        with installed(self.program, self.library) as prefix:
+        with installed(self.program, self.library)[0] as prefix:
             status, said = output_of(os.path.join(TOP, "install.sh"), "--uninstall", prefix)
             self.assertEqual((status, files_below(prefix)), (0, set(OTHERS)), said)

@@ -9,8 +9,9 @@ from support import EXAMPLES, TOP, output_of, run, text_of
 # The files that each package must have.
 FILES = {
     "spki": ["usr/bin/spki", "usr/share/man/man1/spki.1.gz", "usr/share/doc/spki/copyright"],
-    "libspki-dev": ["usr/include/spki.h", "usr/lib/libspki_c.a", "usr/lib/libspki_c.so", "usr/share/doc/libspki-dev/copyright"],
-    "spki-cert": ["usr/bin/spki-cert", "usr/share/spki-cert/spki.py", "usr/share/spki-cert/spki_cert_tool/commands.py",
+    "libspki-dev": ["usr/include/spki.h", "usr/include/spki.hpp", "usr/lib/cmake/spki/spki-config.cmake", "usr/lib/libspki_c.a",
+                    "usr/lib/libspki_c.so", "usr/share/doc/libspki-dev/copyright"],
+    "spki-cert": ["usr/bin/spki-cert", "usr/share/spki-cert/spki/__init__.py", "usr/share/spki-cert/spki_cert_tool/commands.py",
                   "usr/share/man/man1/spki-cert.1.gz", "usr/share/doc/spki-cert/copyright"]}
 
 

@@ -13,7 +13,7 @@ LINE_LENGTH = 150
 MODULES = ("tests", "examples", "examples/signed", "examples/database", "bindings/python", "bench", "cert")
 PAGE = "tools/playground"
 # The folders whose modules mypy reads apart from those of other folders.
-APART = ("tests", "bench", "tools", "cert")
+APART = ("tests", "bench", "tools", "cert", "bindings")
 
 
 def scripts() -> list[str]:

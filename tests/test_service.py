@@ -1,9 +1,10 @@
-"""Drives examples/c/service.c, the service in C, with keys and certificates that are made for it, and compares what it answers.
+"""Drives the services in C, Rust and Python with keys and certificates that are made for them, and compares what they answer.
 
 The keys, the list and the certificates are those of examples/signed/run.py. Each question is sent to one process of the service: right
 ones, certificates with a wrong signature, another key at the login, certificates that have expired, a nonce that was used, requests and
-sequences that try to run into the next part, and more than the limits allow. The service is compiled without warnings, and driven again
-under AddressSanitizer and under valgrind."""
+sequences that try to run into the next part, and more than the limits allow. The service is compiled without warnings, with OpenSSL and with
+libgcrypt, and driven again under AddressSanitizer and under valgrind. Those in Rust and Python are the examples `service` of the
+bindings, and must give the same answers."""
 import os
 import subprocess
 import sys
@@ -11,23 +12,29 @@ import tempfile
 
 import built
 import needs
-from support import EXAMPLES, is_compiled
+from support import EXAMPLES, TOP, is_compiled, output_of
 
 needs.required("import cryptography")
 # (examples/signed/ has a module of this file's name)
 sys.path.insert(0, os.path.join(EXAMPLES, "signed"))
+import spki_verify  # noqa: E402
 import tools  # noqa: E402
 from run import PASTED, READ, SERVICE, WRITE, Story, changed_bit, signed, with_changed_bit, with_digest_of  # noqa: E402
 from spki_cert_tool.login import message  # noqa: E402
 
-SOURCE = os.path.join(EXAMPLES, "c", "service.c")
+FOLDER = os.path.join(EXAMPLES, "c")
 STRICT = ["cc", "-std=c11", "-Wall", "-Wextra", "-Wpedantic", "-Werror", "-O1", "-g"]
 SANITIZED = ["-fsanitize=address,undefined", "-fno-sanitize-recover=all", "-fno-omit-frame-pointer"]
 VALGRIND = ["valgrind", "--quiet", "--leak-check=full", "--show-leak-kinds=definite,indirect", "--error-exitcode=98"]
 SECONDS = 600
 YES = "yes entry 1\n"
 NO_LOGIN = "refused: the client has not proved that it holds the key\n"
-OVER_LIMITS = "refused: the answer or the number of certificates is over the limits\n"
+TOO_MANY = "refused question TooManyCertificates\n"
+
+
+def challenge(service, nonce, words):
+    """The challenge for a request of these words."""
+    return spki_verify.challenge(service, nonce, [word.encode() for word in words])
 
 
 class LastingStory(Story):
@@ -81,7 +88,7 @@ def questions(story):
     yield "no octets", "", carol.text, carol, READ, "refused sequence Short\n"
     yield "the sequence is followed by a key", right + "(key x)", carol.text, carol, READ, f"refused sequence Trailing {len(right)}\n"
     yield "an item is none", "(sequence (certificate))", carol.text, carol, READ, "refused sequence 1 Shape\n"
-    yield "there are too many certificates", story.sequence(good + 14 * f" {good}"), carol.text, carol, READ, OVER_LIMITS
+    yield "there are too many certificates", story.sequence(good + 14 * f" {good}"), carol.text, carol, READ, TOO_MANY
     yield "and again all is right", right, carol.text, carol, READ, YES
 
 
@@ -117,13 +124,17 @@ class Client:
 def logins(story, client):
     """By remark, the answer to a login and the one that is wanted: the signatures are right, and of something else."""
     carol, right = story.carol, story.sequence(signed(story.to_carol, story.bob))
-    seen = carol.sign(message(SERVICE, client.nonce))
+    seen = carol.sign(challenge(SERVICE, client.nonce, READ))
     answers = {"the nonce is signed": (client.ask(right, carol.text, seen, READ), YES),
                "the nonce was used": (client.ask(right, carol.text, seen, READ), NO_LOGIN)}
-    for remark, made in {"the nonce alone is signed": lambda nonce: nonce, "it is signed for another service": lambda nonce: message(b"x", nonce),
+    for remark, made in {"the nonce alone is signed": lambda nonce: nonce, "a login is signed": lambda nonce: message(SERVICE, nonce),
+                         "it is signed for another service": lambda nonce: challenge(b"x", nonce, READ),
+                         "another request is signed": lambda nonce: challenge(SERVICE, nonce, WRITE),
+                         "the request is signed as one string": lambda nonce: challenge(SERVICE, nonce, [" ".join(READ)]),
+                         "a part of the request is signed": lambda nonce: challenge(SERVICE, nonce, READ[:2]),
                          "a certificate is signed": lambda _: tools.canonical(story.to_carol)}.items():
         answers[remark] = client.ask(right, carol.text, carol.sign(made(client.nonce)), READ), NO_LOGIN
-    answers["a bit is changed"] = client.ask(right, carol.text, changed_bit(carol.sign(message(SERVICE, client.nonce))), READ), NO_LOGIN
+    answers["a bit is changed"] = client.ask(right, carol.text, changed_bit(carol.sign(challenge(SERVICE, client.nonce, READ))), READ), NO_LOGIN
     answers["there is no signature"] = client.ask(right, carol.text, b"", READ), NO_LOGIN
     return answers
 
@@ -133,7 +144,7 @@ def driven(words, story, path):
     client = Client([*words, path])
     results = {}
     for remark, sequence, key, signer, request, wanted in questions(story):
-        signature = signer.sign(message(SERVICE, client.nonce))
+        signature = signer.sign(challenge(SERVICE, client.nonce, request))
         results[remark] = client.ask(sequence, key, signature, request), wanted
     results.update(logins(story, client))
     results["the end of the input"] = client.end(), 0
@@ -162,9 +173,9 @@ def lists_refused(words, room):
     return results
 
 
-@needs.needs("openssl/evp.h", *needs.LIBRARY)
+@needs.needs(*needs.LIBRARY)
 class Service(built.OfLibrary):
-    """The service as it is, under AddressSanitizer, and under valgrind."""
+    """A service that is driven."""
 
     @classmethod
     def setUpClass(cls):
@@ -176,20 +187,30 @@ class Service(built.OfLibrary):
         with open(cls.path, "w", encoding="ascii") as file:
             file.write(cls.story.access_list)
 
-    def compiled(self, *more):
-        """The service, compiled without warnings."""
-        service = os.path.join(self.room, self.id())
-        self.assertTrue(is_compiled(*STRICT, *more, "-o", service, SOURCE, self.library, "-lcrypto"), "service.c is not compiled")
-        return service
-
     def answers(self, *words):
         """The service must answer each question as it should, and end on lists that are none."""
         for remark, (met, wanted) in {**driven(words, self.story, self.path), **lists_refused(words, self.room)}.items():
             with self.subTest(remark):
                 self.assertEqual(met, wanted, f"{remark}: wanted {wanted!r}, came {met!r}")
 
+
+@needs.needs("openssl/evp.h")
+class InC(Service):
+    """The service in C as it is, under AddressSanitizer, and under valgrind."""
+
+    def compiled(self, *more, verifier="verify_openssl.c", library="-lcrypto"):
+        """The service, compiled without warnings."""
+        service = os.path.join(self.room, self.id())
+        sources = [os.path.join(FOLDER, name) for name in ("service.c", verifier)]
+        self.assertTrue(is_compiled(*STRICT, *more, "-o", service, *sources, self.library, library), "service.c is not compiled")
+        return service
+
     def test_service(self):
         self.answers(self.compiled())
+
+    @needs.needs("/usr/include/gcrypt.h")
+    def test_service_by_gcrypt(self):
+        self.answers(self.compiled(verifier="verify_gcrypt.c", library="-lgcrypt"))
 
     def test_under_address_sanitizer(self):
         self.answers(self.compiled(*SANITIZED))
@@ -197,3 +218,19 @@ class Service(built.OfLibrary):
     @needs.needs("valgrind")
     def test_under_valgrind(self):
         self.answers(*VALGRIND, self.compiled())
+
+
+class InOtherLanguages(Service):
+    """The services in Rust and Python."""
+
+    @needs.needs("cargo", "openssl")
+    def test_rust(self):
+        folder = os.path.join(TOP, "bindings", "rust")
+        settings = {**os.environ, "SPKI_LIB_DIR": os.path.dirname(self.library), "CARGO_NET_OFFLINE": "true"}
+        status, said = output_of("cargo", "build", "--quiet", "--example", "service", cwd=folder, env=settings, seconds=SECONDS)
+        self.assertEqual(status, 0, said)
+        self.answers(os.path.join(folder, "out", "debug", "examples", "service"))
+
+    def test_python(self):
+        folder = os.path.join(TOP, "bindings", "python")
+        self.answers("env", f"PYTHONPATH={folder}", f"SPKI_LIBRARY={self.shared}", sys.executable, os.path.join(folder, "examples", "service.py"))

@@ -23,6 +23,8 @@ if TYPE_CHECKING:
     from spki import Explanation, Guard, Question, Reason
 
 MOST_CHAINS = 64
+# The most certificates and strings of a question. A service may allow fewer.
+MOST_SHOWN = 65536
 
 
 @dataclass
@@ -76,7 +78,8 @@ def guard_of(asked: Asked) -> Guard:
     except ImportError as why:
         raise Refused(f"the library decides, and is not here: {why}") from None
     try:
-        return spki.Guard(canonical(asked.access_list), spki.Policy.STRICT if asked.is_strict else spki.Policy.OPEN)
+        limits = spki.Limits(octets=spki.Limits.highest().octets, certificates=MOST_SHOWN, words=MOST_SHOWN)
+        return spki.Guard(canonical(asked.access_list), spki.Policy.STRICT if asked.is_strict else spki.Policy.OPEN, limits)
     except spki.Refused as why:
         raise Refused(f"a service would refuse the access list: {why.line}") from None
 
@@ -84,11 +87,12 @@ def guard_of(asked: Asked) -> Guard:
 def answer_of(guard: Guard, asked: Asked, sequence: Value) -> Answer:
     """The decision about a sequence, as a service would decide."""
     import spki
-    question: Question = spki.Question(canonical(sequence), canonical(asked.key), canonical(asked.request), canonical(asked.moment))
+    question: Question = spki.Question(canonical(sequence), canonical(asked.key), text=canonical(asked.request), moment=canonical(asked.moment))
     try:
-        entry = guard.decide(question, asked.verify).entry
-        explanation: Explanation = guard.explain(question, asked.verify)
-        return Answer(sequence, entry, list(explanation.reasons()), guard.reduce(question, asked.verify).splitlines())
+        with guard.ask(question) as opened:
+            marks = opened.marks(asked.verify)
+            explanation: Explanation = opened.explain(marks)
+            return Answer(sequence, opened.decide(marks).entry, list(explanation.reasons()), opened.reduce(marks).text.splitlines())
     except spki.Refused as why:
         raise Refused(f"a service would refuse the question: {why.line}") from None
 

@@ -271,7 +271,8 @@ def main() -> int:
               file=sys.stderr)
         return REFUSED
     except ModuleNotFoundError as why:
-        print(f"spki-cert: the module {why.name} is not there (Debian: python3-{why.name})", file=sys.stderr)
+        source = "pip install ./bindings/python" if why.name == "spki_verify" else f"Debian: python3-{why.name}"
+        print(f"spki-cert: the module {why.name} is not there ({source})", file=sys.stderr)
         return FAILED
     except BrokenPipeError:
         os.dup2(os.open(os.devnull, os.O_WRONLY), sys.stdout.fileno())

@@ -5,8 +5,8 @@ of services":
     (public-key (rsa (n #..#) (e #..#)))                          (sig-val (rsa (s #..#)))
     (public-key (ecc (curve "NIST P-256") (q #04..#)))            (sig-val (ecdsa (r #..#) (s #..#)))
 
-libgcrypt and GnuPG read the same. `cryptography` reads the files, signs and verifies. It is imported where it is used, because that takes
-a tenth of a second.
+libgcrypt and GnuPG read the same. `cryptography` reads the files and signs. The package `spki_verify` verifies by it. Both are imported
+where they are used, because that takes a tenth of a second.
 """
 from __future__ import annotations
 
@@ -16,18 +16,18 @@ from collections.abc import Callable
 from typing import TYPE_CHECKING, Any, Protocol, Union, cast
 
 from .forms import Parser
-from .sexp import Value, canonical, read
+from .sexp import Value, canonical
 
 if TYPE_CHECKING:
-    from cryptography.hazmat.primitives.asymmetric.ec import EllipticCurvePrivateKey, EllipticCurvePublicKey
-    from cryptography.hazmat.primitives.asymmetric.ed25519 import Ed25519PrivateKey, Ed25519PublicKey
-    from cryptography.hazmat.primitives.asymmetric.rsa import RSAPrivateKey, RSAPublicKey
+    from cryptography.hazmat.primitives.asymmetric.ec import EllipticCurvePrivateKey
+    from cryptography.hazmat.primitives.asymmetric.ed25519 import Ed25519PrivateKey
+    from cryptography.hazmat.primitives.asymmetric.rsa import RSAPrivateKey
+    from spki_verify import Public
     Private = Union[Ed25519PrivateKey, RSAPrivateKey, EllipticCurvePrivateKey]
-    Public = Union[Ed25519PublicKey, RSAPublicKey, EllipticCurvePublicKey]
 
 ED25519, RSA, P256 = "ed25519", "rsa", "p256"
 KINDS = (ED25519, RSA, P256)
-LEAST_BITS, MOST_BITS, MOST_EXPONENT_BITS, NEW_BITS = 2048, 16384, 64, 3072
+NEW_BITS = 3072
 HALF = 32
 PEM = re.compile(rb"-----BEGIN ([A-Z0-9 ]+)-----")
 OPENSSH = re.compile(rb"(?:^|[ \t])((?:ssh-|ecdsa-|sk-)[\w@.-]+[ \t]+AAAA[A-Za-z0-9+/=]+)[ \t]*([^\r\n]*)", re.MULTILINE)
@@ -48,11 +48,6 @@ class Signer(Protocol):
 
     def sign(self, message: bytes) -> Value:
         """The value of a signature of these octets."""
-
-
-def number(value: int) -> bytes:
-    """A number of a key, big-endian, with a zero octet in front where the first bit is set."""
-    return value.to_bytes(value.bit_length() // 8 + 1, "big")
 
 
 def digest_of(value: Value) -> bytes:
@@ -79,6 +74,7 @@ def key_of(public: object) -> Value:
     """The SPKI key of a public key of `cryptography`."""
     from cryptography.hazmat.primitives.asymmetric import ec, ed25519, rsa
     from cryptography.hazmat.primitives.serialization import Encoding, PublicFormat
+    from spki_verify import LEAST_BITS, MOST_BITS, MOST_EXPONENT_BITS, number
     if isinstance(public, ed25519.Ed25519PublicKey):
         octets = public.public_bytes(Encoding.Raw, PublicFormat.Raw)
         return [b"public-key", [b"ecc", [b"curve", b"Ed25519"], [b"flags", b"eddsa"], [b"q", octets]]]
@@ -97,24 +93,8 @@ def key_of(public: object) -> Value:
 
 def public_of(key: Value) -> Public | None:
     """The public key of `cryptography` for a key in exactly the form of `key_of`. None for any other."""
-    try:
-        public = public_of_parts(key)
-        return public if public is not None and key_of(public) == key else None
-    except (ValueError, BadKey):
-        return None
-
-
-def public_of_parts(key: Value) -> Public | None:
-    """The public key of an SPKI key's parts."""
-    from cryptography.hazmat.primitives.asymmetric import ec, ed25519, rsa
-    match key:
-        case [b"public-key", [b"ecc", [b"curve", b"Ed25519"], [b"flags", b"eddsa"], [b"q", bytes() as octets]]]:
-            return ed25519.Ed25519PublicKey.from_public_bytes(octets)
-        case [b"public-key", [b"rsa", [b"n", bytes() as modulus], [b"e", bytes() as exponent]]] if len(modulus) <= MOST_BITS // 8 + 1:
-            return rsa.RSAPublicNumbers(int.from_bytes(exponent, "big"), int.from_bytes(modulus, "big")).public_key()
-        case [b"public-key", [b"ecc", [b"curve", b"NIST P-256"], [b"q", bytes() as octets]]]:
-            return ec.EllipticCurvePublicKey.from_encoded_point(ec.SECP256R1(), octets)
-    return None
+    from spki_verify import public_of as public_of_text
+    return public_of_text(canonical(key))
 
 
 def kind_of(key: Value) -> str:
@@ -165,39 +145,13 @@ class FileSigner:
 
 def verifies(key: Value, message: bytes, value: Value) -> bool:
     """Whether a value is a signature of a message by an SPKI key."""
-    from cryptography.exceptions import InvalidSignature
-    public = public_of(key)
-    if public is None:
-        return False
-    try:
-        return verified_by(public, message, value)
-    except (InvalidSignature, OverflowError, ValueError):
-        return False
-
-
-def verified_by(public: Public, message: bytes, value: Value) -> bool:
-    """True if a value is a signature by a public key. Otherwise False or an exception."""
-    from cryptography.hazmat.primitives.asymmetric import ec, ed25519, padding, rsa, utils
-    from cryptography.hazmat.primitives.hashes import SHA256
-    match value:
-        case [b"sig-val", [b"eddsa", [b"r", bytes() as r], [b"s", bytes() as s]]] if isinstance(public, ed25519.Ed25519PublicKey):
-            if len(r) != HALF or len(s) != HALF:
-                return False
-            public.verify(r + s, message)
-        case [b"sig-val", [b"rsa", [b"s", bytes() as s]]] if isinstance(public, rsa.RSAPublicKey):
-            octets = int.from_bytes(s, "big").to_bytes((public.key_size + 7) // 8, "big")
-            public.verify(octets, message, padding.PKCS1v15(), SHA256())
-        case [b"sig-val", [b"ecdsa", [b"r", bytes() as r], [b"s", bytes() as s]]] if isinstance(public, ec.EllipticCurvePublicKey):
-            octets = utils.encode_dss_signature(int.from_bytes(r, "big"), int.from_bytes(s, "big"))
-            public.verify(octets, message, ec.ECDSA(SHA256()))
-        case _:
-            return False
-    return True
+    return verify(canonical(key), message, canonical(value))
 
 
 def verify(key: bytes, message: bytes, value: bytes) -> bool:
     """The same of canonical forms, as a guard of the module `spki` asks for it."""
-    return verifies(read(key), message, read(value))
+    from spki_verify import verify as verify_texts
+    return verify_texts(key, message, value)
 
 
 # ---- files

@@ -1,15 +1,20 @@
-"""A login by a signed nonce: the service tests whether the client holds the key that it shows.
+"""Logins by a signed nonce: the service tests whether the client holds the key that it shows.
 
 A public key is public, so a client can send any public key. The service therefore gives a nonce, the client signs a message with
 this nonce in it, and the service verifies the signature by the key that was shown. Only then may it ask `spki` about this key.
 
-The message is `(login SERVICE NONCE)` in canonical form:
+There are two messages, in canonical form: docs/FORMATS.md, "Challenges".
+
+- `(challenge SERVICE NONCE REQUEST)` is for one request. Whoever is between the client and the service can change nothing of it. `challenge`
+  of `spki_verify` makes it.
+- `(login SERVICE NONCE)` is for all requests of a connection. Nobody else may be able to write into the connection, and it must be bound to
+  the service, as TLS does with the service's certificate. Otherwise whoever is in between sends other requests in it.
+
+Both have this in common:
 
 - It is no certificate, because a certificate begins with `(4:cert`. So a signature made for a login is none of a certificate.
 - It names the service. So a service cannot take the nonce of another one, have its own users sign it, and log in there as them.
-- The nonce is new for each connection and counts once. So an answer that was seen cannot be used again.
-
-A login counts for its connection alone. The connection must be one that nobody else can write into, as by TLS.
+- The nonce is new for each connection or request and counts once. So an answer that was seen cannot be used again.
 """
 from __future__ import annotations
 

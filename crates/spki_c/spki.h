@@ -128,6 +128,13 @@ struct spki_text {
     size_t length;
 };
 
+/* The text of a string literal, as in SPKI_LITERAL("read"): its octets without the zero at its end. */
+#ifdef __cplusplus
+#define SPKI_LITERAL(literal) (spki_text{"" literal, sizeof(literal) - 1})
+#else
+#define SPKI_LITERAL(literal) ((struct spki_text){"" literal, sizeof(literal) - 1})
+#endif
+
 enum spki_policy {
     SPKI_STRICT = 0, /* hashes by SHA-1 name no key, like `(policy strict)` in a case */
     SPKI_OPEN = 1    /* hashes of all algorithms name keys, as in a case without a policy */

@@ -59,7 +59,11 @@ def entry(principal, *fields, names=()):
     return made
 
 
-def list_of(texts, policy=spki.Policy.STRICT, limits=spki.Limits()):
+# The most nodes that an explanation by the entries found may intersect.
+LIMITS = spki.Limits(nodes=10_000)
+
+
+def list_of(texts, policy=spki.Policy.STRICT, limits=LIMITS):
     """A guard of entries in canonical form. Raises `spki.Refused` if one of them is none."""
     return spki.Guard(b"(3:acl%s)" % b"".join(texts), policy, limits)
 
@@ -67,7 +71,7 @@ def list_of(texts, policy=spki.Policy.STRICT, limits=spki.Limits()):
 class Service:
     """Answers questions by the entries of a table."""
 
-    def __init__(self, table, policy=spki.Policy.STRICT, limits=spki.Limits(65_536, 10_000)):
+    def __init__(self, table, policy=spki.Policy.STRICT, limits=LIMITS):
         self.table, self.policy, self.limits = table, policy, limits
         self.no_entries = list_of([], policy, limits)
 
@@ -77,19 +81,15 @@ class Service:
         Raises `spki.Refused` if a part of the question cannot be read, or the entries found have over 1 MiB together, and `Unavailable`
         if the database does not answer. `verify(key, message, value)` is called once for each signature, in order.
         """
-        verified = {}
-
-        def remember(*signed):
-            verified[signed] = verify(*signed) is True
-            return verified[signed]
-
         # A guard without entries reads the parts, and lists the signatures. If one of them is wrong, no entry grants. If certificates are
         # shown and none is listed, the first does not stand, and no entry grants whichever are found.
-        self.no_entries.decide(question, remember)
-        if not all(verified.values()):
-            return None
-        key = next((key for key, _, _ in verified), None) or spki.canonical(question.key)
+        with self.no_entries.ask(question) as asked:
+            marks = asked.marks(verify)
+            if not all(marks):
+                return None
+            valid = asked.signatures()
+        key = valid[0].key if valid else spki.canonical(question.key)
         found = self.table.found(places_of(key))
-        with list_of([text for _, text in found], self.policy, self.limits) as guard:
-            decision = guard.decide(question, lambda *signed: verified.get(signed, False))
+        with list_of([text for _, text in found], self.policy, self.limits) as guard, guard.ask(question) as asked:
+            decision = asked.decide([signature in valid for signature in asked.signatures()])
         return found[decision.entry - 1][0] if decision else None

@@ -49,12 +49,22 @@ class Entries:
         with answered():
             return self.connection.execute(ADD, (entry.place, entry.text)).lastrowid
 
-    def add_all(self, entries):
-        """Adds many entries, in one transaction."""
-        with answered():
-            self.connection.execute("BEGIN")
-            self.connection.executemany(ADD, ((entry.place, entry.text) for entry in entries))
+    @contextmanager
+    def transaction(self):
+        """A transaction, which is rolled back unless it is committed. Otherwise later changes would belong to it: a removal would be
+        acknowledged, and other connections would still find the entry."""
+        self.connection.execute("BEGIN")
+        try:
+            yield
             self.connection.execute("COMMIT")
+        finally:
+            if self.connection.in_transaction:
+                self.connection.execute("ROLLBACK")
+
+    def add_all(self, entries):
+        """Adds many entries, all of them or none."""
+        with answered(), self.transaction():
+            self.connection.executemany(ADD, ((entry.place, entry.text) for entry in entries))
 
     def remove(self, number):
         """Removes an entry. Returns whether it was there."""

@@ -27,9 +27,10 @@ import postgres  # noqa: E402
 import spki  # noqa: E402
 import sqlite  # noqa: E402
 from run import Pair, signed  # noqa: E402
-from spki_cert_tool.keys import ED25519, RSA, verify  # noqa: E402
+from spki_cert_tool.keys import ED25519, RSA  # noqa: E402
 from spki_cert_tool.login import Login, message  # noqa: E402
 from spki_cert_tool.sexp import canonical  # noqa: E402
+from spki_verify import verify  # noqa: E402
 
 SERVICE = b"packages.example"
 READ, WRITE = (b"packages", b"read", b"/builds/x"), (b"packages", b"write", b"/builds/x")
@@ -65,7 +66,7 @@ def told(table):
     entry = entries.entry(alice.principal.encode(), RIGHTS, b"(propagate)")
 
     def asks(remark, pair, shown, words, wanted):
-        number = service.decide(spki.Question(shown, logged_in(pair), words, int(time.time())), verify)
+        number = service.decide(spki.Question(shown, logged_in(pair), words=words, moment=int(time.time())), verify)
         print(f"{remark}: {'no' if number is None else f'yes, by entry {number}'}{'' if number == wanted else '; WANTED OTHERWISE'}")
         return number == wanted
 

@@ -1,4 +1,4 @@
-"""The program that the example runs, `spki`, and where the package of `spki-cert` is."""
+"""The program that the example runs, `spki`, and where the packages of `spki-cert` and of its verifier are."""
 import importlib.util
 import os
 import subprocess
@@ -8,7 +8,7 @@ TOP = os.path.join(os.path.dirname(os.path.abspath(__file__)), "..", "..")
 SPKI = os.path.join(TOP, "crates", "spki", "out", "spki")
 # How long `spki` may run.
 SECONDS = 10
-sys.path.append(os.path.join(TOP, "cert"))
+sys.path += [os.path.join(TOP, "cert"), os.path.join(TOP, "bindings", "python")]
 if importlib.util.find_spec("cryptography") is None:
     print("cryptography is not there (Debian: python3-cryptography), so nothing is tried\n0 passed, 0 failed")
     sys.exit(0)

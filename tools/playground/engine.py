@@ -1,4 +1,4 @@
-"""Who decides: the library for C through `bindings/python/spki.py`, or the program `spki` where the library is not built.
+"""Who decides: the library for C through `bindings/python/spki/`, or the program `spki` where the library is not built.
 
 Both give the same lines. The library takes the parts of a question as separate texts. For the program one case is written of their
 canonical forms, so that no part can become another one.
@@ -111,30 +111,31 @@ class ByLibrary(Engine):
 
     def opened(self, acl, is_strict):
         return self.spki.Guard(acl, self.spki.Policy.STRICT if is_strict else self.spki.Policy.OPEN,
-                               self.spki.Limits(MOST_OCTETS, MOST_NODES))
+                               self.spki.Limits(octets=MOST_OCTETS, certificates=MOST_OCTETS, words=MOST_OCTETS, nodes=MOST_NODES))
 
-    def asked(self, question, what, verify):
-        """The answer of a guard. Raises `Refused`."""
-        parts = self.spki.Question(question.sequence, question.key, question.words, question.at)
+    def asked(self, question, answer):
+        """What a function answers of the opened question. Raises `Refused`."""
+        parts = self.spki.Question(question.sequence, question.key, words=question.words, moment=question.at)
         try:
-            return getattr(self.guard(question.acl, question.is_strict), what)(parts, verify)
+            with self.guard(question.acl, question.is_strict).ask(parts) as asked:
+                return answer(asked)
         except self.spki.Refused as why:
             raise Refused(why.line) from None
 
     def signed(self, question):
         """The signatures on which the decision depends."""
-        listed = []
-        self.asked(question, "decide", lambda *signed: listed.append(Signed(*signed)) or True)
-        return listed
+        return self.asked(question, lambda asked: [Signed(it.key, it.message, it.value) for it in asked.signatures()])
 
     def lines(self, question, command):
         """The lines of `check`, `explain` or `reduce`. Raises `Refused`."""
-        places = iter(range(MOST_OCTETS))
-        what = "decide" if command == "check" else command
-        answer = self.asked(question, what, lambda *signed: next(places) not in question.refused_signatures)
+        def answer(asked):
+            marks = [place not in question.refused_signatures for place in range(len(asked))]
+            return getattr(asked, "decide" if command == "check" else command)(marks)
+
+        answered = self.asked(question, answer)
         if command == "check":
-            return [f"yes entry {answer.entry}" if answer else "no"]
-        return str(answer).split("\n")
+            return [f"yes entry {answered.entry}" if answered else "no"]
+        return str(answered).split("\n")
 
 
 class ByProgram(Engine):

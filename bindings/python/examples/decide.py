@@ -3,19 +3,15 @@
 Usage: decide.py ACL SEQUENCE KEY WORD ..
 
 ACL is a file of the service, its access list. SEQUENCE and KEY are files of the client. The client must have proved that it holds the
-key: this program does not check that. The request is the list of the WORDs, or the word where there is one.
+key: this program does not check that. The request is the list of the WORDs, or the word where there is one. Keys and signatures have the
+forms of docs/FORMATS.md, which `spki-cert` writes. `spki_verify` verifies, by `cryptography`.
 """
 import os
 import sys
 import time
 
 import spki
-
-
-def verify(key: bytes, message: bytes, value: bytes) -> bool:
-    """Whether a value is a signature of a message by a key: a call of your crypto library. The keys of this example are words, and so are
-    its signatures."""
-    return value == b"3:sig"
+import spki_verify
 
 
 def is_granted(guard: spki.Guard, sequence: bytes, key: bytes, words: list[bytes], now: int) -> bool:
@@ -23,8 +19,8 @@ def is_granted(guard: spki.Guard, sequence: bytes, key: bytes, words: list[bytes
 
     THE CLIENT MUST HAVE PROVED THAT IT HOLDS THE KEY: a public key is public.
     """
-    question = spki.Question(sequence, key, words, now)
-    return bool(guard.decide(question, verify))
+    question = spki.Question(sequence, key, words=words, moment=now)
+    return bool(guard.decide(question, spki_verify.verify))
 
 
 def main() -> None:

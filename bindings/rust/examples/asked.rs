@@ -8,7 +8,7 @@
 //! - `text` or `seconds`, and a string
 //! - a list of what the verifier accepts, three strings each: a key, a message and a value
 
-use spki::{Decision, Guard, Limits, Moment, Policy, Question, Reason, Refusal, Request};
+use spki::{Denied, Grant, Guard, Limits, Moment, Policy, Question, Reason, Refusal, Request};
 use std::error::Error;
 use std::io::{self, Read, Write};
 
@@ -61,18 +61,15 @@ fn answer(input: &mut Input) -> Option<Result<String, Refusal>> {
     let (clock, moment) = (input.text()?, input.next()?.to_vec());
     let accepted = input.list()?;
     let words: Vec<&[u8]> = request.iter().map(Vec::as_slice).collect();
-    let question = Question {
-        sequence: &texts[1],
-        key: &texts[2],
-        request: match &form[..] {
-            "text" => Request::Text(words[0]),
-            _ => Request::Words(&words),
-        },
-        moment: match &clock[..] {
-            "text" => Moment::Text(&moment),
-            _ => Moment::Seconds(String::from_utf8(moment).ok()?.parse().ok()?),
-        },
+    let request = match &form[..] {
+        "text" => Request::Text(words[0]),
+        _ => Request::Words(&words),
     };
+    let moment = match &clock[..] {
+        "text" => Moment::Text(&moment),
+        _ => Moment::Seconds(String::from_utf8(moment).ok()?.parse().ok()?),
+    };
+    let question = Question::new(&texts[1], &texts[2], request, moment);
     let policy = if policy == "strict" {
         Policy::Strict
     } else {
@@ -91,26 +88,24 @@ fn answer_to(
     let verify = |key: &[u8], message: &[u8], value: &[u8]| {
         accepted.chunks(3).any(|row| row == [key, message, value])
     };
-    let limits = Limits::default().with_work(usize::MAX, usize::MAX);
-    let guard = Guard::read(list, policy, limits)?;
+    let guard = Guard::read(list, policy, Limits::highest())?;
+    let asked = guard.ask(question)?;
+    let marks = asked.marks(verify).unwrap_or_else(|never| match never {});
     match command {
-        "reduce" => guard.reduce(question, verify),
+        "reduce" => asked.reduce(&marks),
         "explain" => {
-            let lines: Vec<_> = guard
-                .explain(question, verify)?
-                .reasons()
-                .map(spelled)
-                .collect();
+            let lines: Vec<_> = asked.explain(&marks)?.reasons().map(spelled).collect();
             Ok(if lines.is_empty() {
                 "no entries".into()
             } else {
                 lines.join("\n")
             })
         }
-        _ => Ok(match guard.decide(question, verify)? {
-            Decision::Yes(entry) => format!("yes entry {entry}"),
-            Decision::No => "no".into(),
-        }),
+        _ => match asked.decide(&marks) {
+            Ok(Grant { entry, .. }) => Ok(format!("yes entry {entry}")),
+            Err(Denied::Refused(refusal)) => Err(refusal),
+            Err(_) => Ok("no".into()),
+        },
     }
 }
 

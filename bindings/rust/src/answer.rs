@@ -1,6 +1,6 @@
 //! What the calls answer: lines, in a buffer that is made larger until they fit.
 
-use crate::ffi::{self, Status};
+use spki_sys::{self as sys, Status};
 use std::error::Error;
 use std::ffi::c_void;
 use std::fmt;
@@ -28,14 +28,14 @@ impl Refusal {
     /// # Panics
     ///
     /// If the call was not refused: then the library says that it was called wrongly, which no caller of this crate can cause.
-    pub(crate) fn of(status: Status, answer: Vec<u8>) -> Refusal {
+    pub(crate) fn of(status: Status, answer: &[u8]) -> Refusal {
         assert_eq!(
             status,
-            ffi::REFUSED,
-            "libspki_c is of another version than this crate"
+            sys::REFUSED,
+            "libspki_c answered with this status, which the crate does not know"
         );
         Refusal {
-            line: line_of(answer),
+            line: line_of(answer).to_owned(),
         }
     }
 
@@ -67,10 +67,20 @@ impl fmt::Display for Refusal {
 impl Error for Refusal {}
 
 /// The text of an answer, without the line feed at its end.
-pub(crate) fn line_of(answer: Vec<u8>) -> String {
-    let mut text = String::from_utf8(answer).expect("lines are ASCII");
-    text.truncate(text.trim_end_matches('\n').len());
-    text
+pub(crate) fn line_of(answer: &[u8]) -> &str {
+    std::str::from_utf8(answer)
+        .expect("lines are ASCII")
+        .trim_end_matches('\n')
+}
+
+/// The answer of a call that writes one line: its status, and what a function makes of both.
+pub(crate) fn with_line<T>(
+    call: impl FnOnce(*mut c_void, usize, *mut usize) -> Status,
+    made: impl FnOnce(Status, &[u8]) -> T,
+) -> T {
+    let (mut buffer, mut needed) = ([0u8; LINE], 0);
+    let status = call(buffer.as_mut_ptr().cast(), LINE, &mut needed);
+    made(status, &buffer[..needed.min(LINE)])
 }
 
 /// Calls until the buffer, which begins with so much room, is large enough: the status and the answer.
@@ -82,7 +92,7 @@ pub(crate) fn answered(
     loop {
         let mut needed = 0;
         let status = call(buffer.as_mut_ptr().cast(), buffer.capacity(), &mut needed);
-        if status == ffi::TOO_SMALL {
+        if status == sys::TOO_SMALL {
             buffer.reserve(needed);
             continue;
         }

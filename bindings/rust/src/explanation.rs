@@ -9,6 +9,7 @@ pub struct Explanation {
 }
 
 /// One line of an explanation.
+#[non_exhaustive]
 #[derive(Clone, Copy, Debug, PartialEq, Eq)]
 pub struct Reason<'e> {
     /// The number of the entry that the line is about, from 1. `None` if the certificate stops all entries.

@@ -1,100 +1,129 @@
 //! An access list that is read once and asked often.
 
-use crate::answer::{answered, line_of, Refusal, LINE};
-use crate::explanation::Explanation;
-use crate::ffi::{self, Status};
-use crate::question::{Decision, Question};
+use crate::answer::{with_line, Refusal};
+use crate::asked::Asked;
+use crate::decision::{Denied, Grant, Verdict, Verifier};
+use crate::library;
+use crate::question::Question;
+use spki_sys as sys;
 use std::ffi::c_int;
 use std::fmt;
+use std::mem::size_of;
 use std::ptr::{self, NonNull};
 
-/// Room for so many signatures, and so many octets of a sequence and of lines, is there at first. More is made where it is needed.
-const SIGNATURES: usize = 16;
-const SEQUENCE: usize = 65_536;
-const LINES: usize = 4096;
+/// The most octets of a question and the most nodes of an intersection.
+const MOST_OCTETS: usize = 1_048_576;
+const MOST_NODES: usize = 1_000_000;
+/// The marks of so many signatures need no allocation.
+const MARKS: usize = 16;
 
 /// Which hashes name keys.
-#[derive(Clone, Copy, Debug, PartialEq, Eq)]
+#[non_exhaustive]
+#[derive(Clone, Copy, Debug, Default, PartialEq, Eq)]
 pub enum Policy {
-    /// Hashes by SHA-1, SHA-256 and SHA-512 do.
-    Open = 0,
     /// Hashes by SHA-256 and SHA-512 do. SHA-1 is broken.
-    Strict = 1,
+    #[default]
+    Strict,
+    /// Hashes by SHA-1, SHA-256 and SHA-512 do.
+    Open,
 }
 
-/// Limits on each question.
-#[derive(Clone, Copy, Debug, PartialEq, Eq)]
+impl Policy {
+    fn number(self) -> c_int {
+        match self {
+            Policy::Strict => sys::STRICT,
+            Policy::Open => sys::OPEN,
+        }
+    }
+}
+
+/// Limits on each question. [`Limits::default`] has those for questions of strangers.
+#[derive(Clone, Copy, Debug)]
 pub struct Limits {
-    octets: usize,
-    nodes: usize,
-    work: usize,
-    answer: usize,
+    values: sys::Limits,
 }
 
 impl Limits {
-    /// `octets` is the most octets that the texts of a question may have together, up to 1,048,576. `nodes` is the most nodes of one
-    /// tag times nodes of another for which `explain` and `reduce` compute their intersection, up to 1,000,000. `None` if a limit is
-    /// higher. The other limits are those of the default.
-    pub fn new(octets: usize, nodes: usize) -> Option<Limits> {
-        let usual = Limits::default();
-        (octets <= usual.octets && nodes <= usual.nodes).then_some(Limits {
-            octets,
-            nodes,
-            ..usual
-        })
+    /// The highest limits. On some questions within them an explanation takes minutes.
+    pub const fn highest() -> Limits {
+        Limits {
+            values: sys::Limits {
+                size: size_of::<sys::Limits>(),
+                octets: MOST_OCTETS,
+                certificates: usize::MAX,
+                words: usize::MAX,
+                nodes: MOST_NODES,
+                work: usize::MAX,
+                answer: usize::MAX,
+            },
+        }
     }
 
-    /// These limits with other ones for `explain` and `reduce`. `work` is the most nodes of all intersections together, as the sum of
-    /// their products, over all certificates and entries. `answer` is the most octets of the lines.
-    pub fn with_work(self, work: usize, answer: usize) -> Limits {
-        Limits {
-            work,
-            answer,
-            ..self
-        }
+    /// The most octets that the texts of a question may have together: 65,536 by default. More than 1,048,576 means 1,048,576.
+    pub const fn octets(mut self, most: usize) -> Limits {
+        self.values.octets = if most < MOST_OCTETS {
+            most
+        } else {
+            MOST_OCTETS
+        };
+        self
+    }
+
+    /// The most certificates of a sequence: 16 by default.
+    pub const fn certificates(mut self, most: usize) -> Limits {
+        self.values.certificates = most;
+        self
+    }
+
+    /// The most strings of a request: 64 by default.
+    pub const fn words(mut self, most: usize) -> Limits {
+        self.values.words = most;
+        self
+    }
+
+    /// The most nodes of one tag times nodes of another for which `explain` and `reduce` compute their intersection: 1,000,000 by default.
+    /// More means 1,000,000.
+    pub const fn nodes(mut self, most: usize) -> Limits {
+        self.values.nodes = if most < MOST_NODES { most } else { MOST_NODES };
+        self
+    }
+
+    /// The most of these products together, over all certificates and entries: 200,000 by default.
+    pub const fn work(mut self, most: usize) -> Limits {
+        self.values.work = most;
+        self
+    }
+
+    /// The most octets of the lines of `explain` and `reduce`: 1,048,576 by default.
+    pub const fn answer(mut self, most: usize) -> Limits {
+        self.values.answer = most;
+        self
     }
 }
 
 impl Default for Limits {
-    /// 1,048,576 octets of a question, 1,000,000 nodes of an intersection, 200,000 of all together, 1,048,576 octets of an answer.
     fn default() -> Limits {
-        Limits {
-            octets: 1_048_576,
-            nodes: 1_000_000,
-            work: 200_000,
-            answer: 1_048_576,
-        }
+        Limits::highest()
+            .octets(65_536)
+            .certificates(16)
+            .words(64)
+            .work(200_000)
+            .answer(1_048_576)
     }
 }
 
-/// An access list that was read once and is asked often, also by several threads at the same time.
+/// An access list that is read once and asked often, also by several threads at the same time.
 ///
-/// A verifier is called for each signature that the decision depends on, in order, with its key, message and value. These are octets
-/// of canonical forms: of the issuer's `(public-key ..)`, of the certificate, and of the value in `(signature ..)`. It returns whether
-/// the value is a signature of the message by the key. After the first `false` it is not called again. If it panics, the panic is
-/// passed on and nothing is granted. [`string_at`](crate::string_at) finds the numbers of a key.
+/// [`decide`](Guard::decide) opens a question, calls `verify(key, message, value)` for each signature that the answer depends on, in order, and
+/// decides. The three are octets of canonical forms: of the issuer's `(public-key ..)`, of the certificate, and of the value in
+/// `(signature ..)`. `verify` returns whether the value is a signature of the message by the key, as a `bool` or as a `Result`.
 ///
-/// ```
-/// use spki::{Decision, Guard, Limits, Moment, Policy, Question, Request};
-///
-/// let list = b"(acl (entry (public-key (test bob)) (tag (packages read (* prefix /manuals/)))))";
-/// let guard = Guard::read(list, Policy::Strict, Limits::default())?;
-/// let path = b"/manuals/cook.pdf";
-/// let question = Question {
-///     sequence: b"(sequence)",
-///     key: b"(public-key (test bob))",
-///     request: Request::Words(&[b"packages", b"read", path]),
-///     moment: Moment::Seconds(1_772_366_400),
-/// };
-/// let verify = |_key: &[u8], _message: &[u8], _value: &[u8]| false; // no certificate is shown
-/// assert_eq!(guard.decide(&question, verify)?, Decision::Yes(1));
-/// # Ok::<(), spki::Refusal>(())
-/// ```
+/// A thread that calls has 256 KiB of stack left. No call is made in a child that a process with several threads forked.
 pub struct Guard {
-    handle: NonNull<ffi::Guard>,
+    handle: NonNull<sys::Guard>,
 }
 
-// SAFETY: no call changes what the handle points to, except the last one, which frees it, and only `drop` makes that. The library keeps
+// SAFETY: the library's calls only read what the handle points to, except the last one, which frees it, and only `drop` makes that. The library keeps
 // nothing else between calls: the proved `Guard` behind the handle is `Send` and `Sync`.
 unsafe impl Send for Guard {}
 // SAFETY: as above: all calls on `&Guard` take the handle as `const`.
@@ -103,7 +132,7 @@ unsafe impl Sync for Guard {}
 impl Drop for Guard {
     fn drop(&mut self) {
         // SAFETY: the handle is that of `spki_guard_open`, and it is not used again.
-        unsafe { ffi::spki_guard_close(self.handle.as_ptr()) }
+        unsafe { sys::spki_guard_close(self.handle.as_ptr()) }
     }
 }
 
@@ -121,160 +150,118 @@ impl Guard {
     /// # Errors
     ///
     /// The text is no access list, or an allocation failed.
+    ///
+    /// # Panics
+    ///
+    /// If the library is of a version that this crate does not know.
     pub fn read(list: &[u8], policy: Policy, limits: Limits) -> Result<Guard, Refusal> {
-        let limits = ffi::Limits {
-            octets: limits.octets,
-            nodes: limits.nodes,
-            work: limits.work,
-            answer: limits.answer,
-        };
+        library::check();
         let mut handle = ptr::null_mut();
-        let (status, line) = answered(LINE, |buffer, room, needed| {
-            let (list, length) = (list.as_ptr().cast(), list.len());
+        let call = |buffer, room, needed| {
+            let (octets, length) = (list.as_ptr().cast(), list.len());
+            let (policy, limits) = (policy.number(), &limits.values);
             // SAFETY: each pointer is to as many octets as its length says, or to one value of its type, and they do not overlap.
             unsafe {
-                ffi::spki_guard_open(
-                    list,
+                sys::spki_guard_open(
+                    octets,
                     length,
-                    policy as c_int,
-                    &limits,
+                    policy,
+                    limits,
                     &mut handle,
                     buffer,
                     room,
                     needed,
                 )
             }
-        });
-        match NonNull::new(handle) {
-            Some(handle) if status == ffi::DONE => Ok(Guard { handle }),
-            _ => Err(Refusal::of(status, line)),
-        }
+        };
+        with_line(call, |status, line| (status, line.to_owned()))
+            .opened(handle)
+            .map(|handle| Guard { handle })
     }
 
     /// The number of entries of the list.
     pub fn entries(&self) -> usize {
         // SAFETY: the handle is open.
-        unsafe { ffi::spki_guard_entries(self.handle.as_ptr()) }
+        unsafe { sys::spki_guard_entries(self.handle.as_ptr()) }
     }
 
-    /// Decides whether the question's request is granted.
+    /// Opens a question, which is decided by marks of its signatures.
     ///
     /// # Errors
     ///
-    /// A part of the question cannot be read, or is too long; tags are too large; an allocation failed.
-    pub fn decide<V>(&self, question: &Question, verify: V) -> Result<Decision, Refusal>
-    where
-        V: FnMut(&[u8], &[u8], &[u8]) -> bool,
-    {
-        match self.asked(question, verify, ffi::spki_guard_decide, LINE)? {
-            (ffi::YES, line) => Ok(Decision::Yes(entry_of(line))),
-            (ffi::NO, _) => Ok(Decision::No),
-            (status, line) => Err(Refusal::of(status, line)),
-        }
+    /// A part of the question cannot be read, or exceeds a limit; an allocation failed.
+    pub fn ask(&self, question: &Question) -> Result<Asked<'_>, Refusal> {
+        let mut handle = ptr::null_mut();
+        let answer = question.lend(|question| {
+            let call = |buffer, room, needed| {
+                let guard = self.handle.as_ptr();
+                // SAFETY: the handle is open, and the pointers are as in `read`.
+                unsafe { sys::spki_guard_ask(guard, question, &mut handle, buffer, room, needed) }
+            };
+            with_line(call, |status, line| (status, line.to_owned()))
+        });
+        answer.opened(handle).map(|handle| Asked::new(handle, self))
     }
 
-    /// Says of each entry why it grants the request or does not, or which certificate stops all of them.
+    /// Decides whether the question's request is granted. Only `Ok` is a yes.
+    ///
+    /// ```
+    /// # use spki::{Denied, Grant, Guard, Question};
+    /// fn serve(guard: &Guard, question: &Question) -> Result<(), Denied> {
+    ///     guard.decide(question, |_key, _message, _value| false)?;
+    ///     // the request is granted here
+    ///     Ok(())
+    /// }
+    /// ```
+    ///
+    /// # Errors
+    ///
+    /// No entry grants the request; a part of the question cannot be read, or exceeds a limit; the verifier failed; an allocation failed.
+    pub fn decide<V, A>(&self, question: &Question, verify: V) -> Result<Grant, Denied<A::Error>>
+    where
+        V: FnMut(&[u8], &[u8], &[u8]) -> A,
+        A: Verdict,
+    {
+        let asked = self.ask(question)?;
+        let (mut few, mut many) = ([false; MARKS], Vec::new());
+        let count = asked.signatures().len();
+        let marks = if count <= MARKS {
+            &mut few[..count]
+        } else {
+            many.resize(count, false);
+            &mut many[..]
+        };
+        asked.mark(marks, verify).map_err(Denied::Verifier)?;
+        asked.decided(marks)
+    }
+
+    /// The same, by a [`Verifier`].
     ///
     /// # Errors
     ///
     /// Those of [`decide`](Guard::decide).
-    pub fn explain<V>(&self, question: &Question, verify: V) -> Result<Explanation, Refusal>
-    where
-        V: FnMut(&[u8], &[u8], &[u8]) -> bool,
-    {
-        let text = self.lines(question, verify, ffi::spki_guard_explain)?;
-        Ok(Explanation { text })
-    }
-
-    /// Writes which right remains of each entry after all certificates: the lines of the program's command `reduce`.
-    ///
-    /// # Errors
-    ///
-    /// Those of [`decide`](Guard::decide).
-    pub fn reduce<V>(&self, question: &Question, verify: V) -> Result<String, Refusal>
-    where
-        V: FnMut(&[u8], &[u8], &[u8]) -> bool,
-    {
-        self.lines(question, verify, ffi::spki_guard_reduce)
-    }
-
-    /// The lines of a call that decides nothing.
-    fn lines<V>(&self, question: &Question, verify: V, call: ffi::Asks) -> Result<String, Refusal>
-    where
-        V: FnMut(&[u8], &[u8], &[u8]) -> bool,
-    {
-        match self.asked(question, verify, call, LINES)? {
-            (ffi::DONE, lines) => Ok(line_of(lines)),
-            (status, line) => Err(Refusal::of(status, line)),
-        }
-    }
-
-    /// The two steps: which signatures there are, and the answer by those that are valid.
-    fn asked<V>(
+    pub fn decide_by<V: Verifier>(
         &self,
         question: &Question,
-        verify: V,
-        call: ffi::Asks,
-        room: usize,
-    ) -> Result<(Status, Vec<u8>), Refusal>
-    where
-        V: FnMut(&[u8], &[u8], &[u8]) -> bool,
-    {
-        let words = question.request.words();
-        let lent = question.lent(&words);
-        let signed = 2 * question.sequence.len().min(SEQUENCE) + LINE;
-        let marks = self.verified(&lent, signed, verify)?;
-        Ok(answered(room, |buffer, room, needed| {
-            let (guard, verified, count) = (self.handle.as_ptr(), marks.as_ptr(), marks.len());
-            // SAFETY: the handle is open, and the pointers are as in `read`.
-            unsafe { call(guard, &lent, verified, count, buffer, room, needed) }
-        }))
-    }
-
-    /// For each signature 1 if the verifier says that it is valid, else 0; `room` is for their octets.
-    fn verified<V>(
-        &self,
-        asked: &ffi::Question,
-        room: usize,
-        mut verify: V,
-    ) -> Result<Vec<u8>, Refusal>
-    where
-        V: FnMut(&[u8], &[u8], &[u8]) -> bool,
-    {
-        let mut signatures: Vec<ffi::Signed> = Vec::with_capacity(SIGNATURES);
-        let mut count = 0;
-        let (status, octets) = answered(room, |buffer, room, needed| {
-            signatures.reserve(count);
-            let (list, places) = (signatures.as_mut_ptr(), signatures.capacity());
-            let guard = self.handle.as_ptr();
-            // SAFETY: the handle is open, and the pointers are as in `read`.
-            unsafe {
-                ffi::spki_guard_signed(guard, asked, list, places, &mut count, buffer, room, needed)
-            }
-        });
-        if status != ffi::DONE {
-            return Err(Refusal::of(status, octets));
-        }
-        // SAFETY: the call has written as many.
-        unsafe { signatures.set_len(count) };
-        let mut marks = vec![0; count];
-        for (mark, signed) in marks.iter_mut().zip(&signatures) {
-            // SAFETY: they lie in `octets`, which lives to the end.
-            let [key, message, value] =
-                [&signed.key, &signed.message, &signed.value].map(|text| unsafe { text.octets() });
-            if !verify(key, message, value) {
-                break;
-            }
-            *mark = 1;
-        }
-        Ok(marks)
+        verifier: &mut V,
+    ) -> Result<Grant, Denied<V::Error>> {
+        self.decide(question, |key, message, value| {
+            verifier.verify(key, message, value)
+        })
     }
 }
 
-/// The number in `yes entry N`.
-fn entry_of(line: Vec<u8>) -> usize {
-    let line = line_of(line);
-    line.strip_prefix("yes entry ")
-        .and_then(|number| number.parse().ok())
-        .expect("a number")
+/// What a call that opens something answers.
+trait Opens {
+    /// The handle, if it is open.
+    fn opened<T>(self, handle: *mut T) -> Result<NonNull<T>, Refusal>;
+}
+
+impl Opens for (sys::Status, Vec<u8>) {
+    fn opened<T>(self, handle: *mut T) -> Result<NonNull<T>, Refusal> {
+        match NonNull::new(handle) {
+            Some(handle) if self.0 == sys::DONE => Ok(handle),
+            _ => Err(Refusal::of(self.0, &self.1)),
+        }
+    }
 }

@@ -3,7 +3,8 @@
 //! This crate is a safe interface to `libspki_c`, whose decisions are proved. The lines of this crate are tested and not proved.
 //!
 //! A service reads its access list once, into a [`Guard`], and asks it a [`Question`] for each request. The parts of a question come
-//! from different sources, so each is a separate text. The service verifies signatures by a crypto library of its choice, in a closure.
+//! from different sources, so each is a separate text. The service verifies signatures by a crypto library of its choice, in a closure or by
+//! a [`Verifier`]. Only `Ok` is a yes: a no, a refusal and a verifier that fails are [`Denied`].
 //!
 //! ```
 //! use spki::{Guard, Limits, Moment, Policy, Question, Request};
@@ -16,32 +17,37 @@
 //!   (signature (hash sha256 #54c4054f7abf9d1682511152fbbbfda943e3cf2fdcd1aca9175f7f153341ed3c#)
 //!    (public-key (test alice)) signed-by-alice))";
 //! let guard = Guard::read(list, Policy::Strict, Limits::default())?;
-//! let question = Question {
-//!     sequence,
-//!     key: b"(public-key (test carol))", // Carol has proved to hold it, for example by TLS
-//!     request: Request::Words(&[b"packages", b"read", b"/builds/web/index.html"]),
-//!     moment: Moment::Seconds(1_772_366_400), // the service's own clock
-//! };
+//! let key = b"(public-key (test carol))"; // Carol has proved to hold it, for example by TLS
+//! let request = Request::Words(&[b"packages", b"read", b"/builds/web/index.html"]);
+//! let now = Moment::Seconds(1_772_366_400); // the service's own clock: SystemTime::now()
+//! let question = Question::new(sequence, key, request, now);
 //! // Call your crypto library here. The keys of this example are words, and so are their signatures.
 //! let verify = |_key: &[u8], _message: &[u8], value: &[u8]| value == b"15:signed-by-alice";
-//! assert!(guard.decide(&question, verify)?.is_yes());
-//! # Ok::<(), spki::Refusal>(())
+//! let grant = guard.decide(&question, verify)?;
+//! assert_eq!(grant.entry, 1);
+//! # Ok::<(), Box<dyn std::error::Error>>(())
 //! ```
 //!
-//! `SPKI_LIB_DIR` names the folder of `libspki_c`, if `pkg-config` does not know the library.
+//! `SPKI_LIB_DIR` names the folder of `libspki_c`, if `pkg-config` does not know the library. A thread that calls has 256 KiB of stack left,
+//! and no call is made in a child that a process with several threads forked.
 
 #![deny(missing_docs)]
 #![deny(unsafe_op_in_unsafe_fn)]
 
 mod answer;
+mod asked;
+mod decision;
 mod explanation;
-mod ffi;
 mod guard;
+mod library;
 mod question;
 mod text;
 
 pub use answer::Refusal;
+pub use asked::{Asked, Signature};
+pub use decision::{Denied, Grant, Verdict, Verifier};
 pub use explanation::{Explanation, Reason};
 pub use guard::{Guard, Limits, Policy};
-pub use question::{Decision, Moment, Question, Request};
+pub use library::library_version;
+pub use question::{Moment, Question, Request};
 pub use text::{advanced, canonical, string_at, transport};

@@ -1,10 +1,16 @@
-//! What is asked, and the decision.
+//! What is asked.
 
-use crate::ffi;
+use spki_sys as sys;
+use std::mem::size_of;
 use std::ptr;
+use std::time::{SystemTime, UNIX_EPOCH};
+
+/// The places of so many strings need no allocation.
+const WORDS: usize = 16;
 
 /// What a service asks a guard. Each text is one value in any of the three forms of RFC 9804, so that no octets of one part can become
 /// another part.
+#[non_exhaustive]
 #[derive(Clone, Copy, Debug)]
 pub struct Question<'q> {
     /// The certificates and signatures that the client shows: `(sequence ..)`.
@@ -19,6 +25,7 @@ pub struct Question<'q> {
 }
 
 /// A request.
+#[non_exhaustive]
 #[derive(Clone, Copy, Debug)]
 pub enum Request<'q> {
     /// As a text.
@@ -28,7 +35,8 @@ pub enum Request<'q> {
 }
 
 /// A moment.
-#[derive(Clone, Copy, Debug)]
+#[non_exhaustive]
+#[derive(Clone, Copy, Debug, PartialEq, Eq)]
 pub enum Moment<'q> {
     /// As the text of a date, `"2026-03-01_12:00:00"`, in UTC.
     Text(&'q [u8]),
@@ -36,50 +44,70 @@ pub enum Moment<'q> {
     Seconds(i64),
 }
 
-/// A decision.
-#[must_use]
-#[derive(Clone, Copy, Debug, PartialEq, Eq)]
-pub enum Decision {
-    /// The request is granted, first by the entry of this number, from 1.
-    Yes(usize),
-    /// No entry grants the request.
-    No,
-}
-
-impl Decision {
-    /// Whether the request is granted.
-    pub fn is_yes(self) -> bool {
-        self != Decision::No
+impl From<SystemTime> for Moment<'_> {
+    /// The second that a time is in.
+    fn from(time: SystemTime) -> Self {
+        let seconds = match time.duration_since(UNIX_EPOCH) {
+            Ok(after) => i64::try_from(after.as_secs()).unwrap_or(i64::MAX),
+            Err(before) => {
+                let before = before.duration();
+                let started = u64::from(before.subsec_nanos() > 0);
+                i64::try_from(before.as_secs() + started).map_or(i64::MIN, |whole| -whole)
+            }
+        };
+        Moment::Seconds(seconds)
     }
 }
 
-impl Request<'_> {
-    /// The strings as the library takes them.
-    pub(crate) fn words(&self) -> Vec<ffi::Text> {
-        match self {
-            Request::Text(_) => Vec::new(),
-            Request::Words(words) => words.iter().map(|word| ffi::Text::of(word)).collect(),
+impl<'q> Question<'q> {
+    /// A question. The moment is the time of the service's own clock, such as `SystemTime::now()`.
+    pub fn new(
+        sequence: &'q [u8],
+        key: &'q [u8],
+        request: Request<'q>,
+        moment: impl Into<Moment<'q>>,
+    ) -> Question<'q> {
+        Question {
+            sequence,
+            key,
+            request,
+            moment: moment.into(),
         }
     }
-}
 
-impl Question<'_> {
-    /// The question as the library takes it. It points into `self` and into `words`, which are those of the request.
-    pub(crate) fn lent(&self, words: &[ffi::Text]) -> ffi::Question {
-        let (request, list) = match self.request {
-            Request::Text(text) => (ffi::Text::of(text), ptr::null()),
-            Request::Words(_) => (ffi::Text::NONE, words.as_ptr()),
+    /// Lends the question to a call, as the library takes it.
+    pub(crate) fn lend<T>(&self, call: impl FnOnce(&sys::Question) -> T) -> T {
+        let Request::Words(words) = self.request else {
+            return call(&self.with(ptr::null(), 0));
+        };
+        let mut few = [sys::Text::NONE; WORDS];
+        if words.len() > WORDS {
+            let many: Vec<_> = words.iter().map(|word| sys::Text::of(word)).collect();
+            return call(&self.with(many.as_ptr(), many.len()));
+        }
+        for (text, word) in few.iter_mut().zip(words) {
+            *text = sys::Text::of(word);
+        }
+        call(&self.with(few.as_ptr(), words.len()))
+    }
+
+    /// The question with the strings of its request.
+    fn with(&self, words: *const sys::Text, word_count: usize) -> sys::Question {
+        let request = match self.request {
+            Request::Text(text) => sys::Text::of(text),
+            Request::Words(_) => sys::Text::NONE,
         };
         let (moment, seconds) = match &self.moment {
-            Moment::Text(text) => (ffi::Text::of(text), ptr::null()),
-            Moment::Seconds(seconds) => (ffi::Text::NONE, ptr::from_ref(seconds)),
+            Moment::Text(text) => (sys::Text::of(text), ptr::null()),
+            Moment::Seconds(seconds) => (sys::Text::NONE, ptr::from_ref(seconds)),
         };
-        ffi::Question {
-            sequence: ffi::Text::of(self.sequence),
-            key: ffi::Text::of(self.key),
+        sys::Question {
+            size: size_of::<sys::Question>(),
+            sequence: sys::Text::of(self.sequence),
+            key: sys::Text::of(self.key),
             request,
-            words: list,
-            word_count: words.len(),
+            words,
+            word_count,
             moment,
             seconds,
         }

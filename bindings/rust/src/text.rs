@@ -1,7 +1,8 @@
 //! S-expressions as texts.
 
 use crate::answer::{answered, Refusal};
-use crate::ffi;
+use crate::library;
+use spki_sys as sys;
 use std::ffi::c_int;
 use std::ptr;
 
@@ -22,11 +23,12 @@ use std::ptr;
 /// # Ok::<(), spki::Refusal>(())
 /// ```
 pub fn string_at<'t>(text: &'t [u8], path: &[usize]) -> Result<Option<&'t [u8]>, Refusal> {
+    library::check();
     let (mut octets, mut length) = (ptr::null(), 0);
     let (from, size) = (text.as_ptr().cast(), text.len());
     // SAFETY: each pointer is to as many values as its length says, or to one value of its type, and they do not overlap.
     let status = unsafe {
-        ffi::spki_string(
+        sys::spki_string(
             from,
             size,
             path.as_ptr(),
@@ -35,10 +37,10 @@ pub fn string_at<'t>(text: &'t [u8], path: &[usize]) -> Result<Option<&'t [u8]>,
             &mut length,
         )
     };
-    if status == ffi::NO_MEMORY {
+    if status == sys::NO_MEMORY {
         return Err(Refusal::memory());
     }
-    if status != ffi::DONE {
+    if status != sys::DONE {
         return Ok(None);
     }
     let start = octets as usize - text.as_ptr() as usize;
@@ -56,7 +58,7 @@ pub fn string_at<'t>(text: &'t [u8], path: &[usize]) -> Result<Option<&'t [u8]>,
 /// # Ok::<(), spki::Refusal>(())
 /// ```
 pub fn canonical(text: &[u8]) -> Result<Vec<u8>, Refusal> {
-    converted(ffi::CANONICAL, text)
+    converted(sys::CANONICAL, text)
 }
 
 /// The same in advanced form, on one line, with a line feed at its end.
@@ -70,7 +72,7 @@ pub fn canonical(text: &[u8]) -> Result<Vec<u8>, Refusal> {
 /// # Ok::<(), spki::Refusal>(())
 /// ```
 pub fn advanced(text: &[u8]) -> Result<Vec<u8>, Refusal> {
-    converted(ffi::ADVANCED, text)
+    converted(sys::ADVANCED, text)
 }
 
 /// The same in the transport form, on one line, with a line feed at its end.
@@ -84,14 +86,15 @@ pub fn advanced(text: &[u8]) -> Result<Vec<u8>, Refusal> {
 /// # Ok::<(), spki::Refusal>(())
 /// ```
 pub fn transport(text: &[u8]) -> Result<Vec<u8>, Refusal> {
-    converted(ffi::TRANSPORT, text)
+    converted(sys::TRANSPORT, text)
 }
 
 fn converted(command: c_int, text: &[u8]) -> Result<Vec<u8>, Refusal> {
+    library::check();
     let (status, answer) = answered(2 * text.len() + 64, |buffer, room, needed| {
         // SAFETY: as above.
         unsafe {
-            ffi::spki_answer(
+            sys::spki_answer(
                 command,
                 text.as_ptr().cast(),
                 text.len(),
@@ -101,8 +104,8 @@ fn converted(command: c_int, text: &[u8]) -> Result<Vec<u8>, Refusal> {
             )
         }
     });
-    if status == ffi::DONE {
+    if status == sys::DONE {
         return Ok(answer);
     }
-    Err(Refusal::of(status, answer))
+    Err(Refusal::of(status, &answer))
 }

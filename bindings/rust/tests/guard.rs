@@ -1,8 +1,10 @@
-//! What the crate does beside the library: the two steps, its buffers and its types. `tests/test_bindings.py` at the top of the repository
-//! compares the answers to many questions with the program's.
+//! What the crate does beside the library: opened questions, marks, its buffers and its types. `tests/test_bindings.py` at the top of the
+//! repository compares the answers to many questions with the program's.
 
-use spki::{Decision, Guard, Limits, Moment, Policy, Question, Reason, Refusal, Request};
+use spki::{Denied, Explanation, Guard, Limits, Moment, Policy, Question, Refusal, Request};
+use std::error::Error;
 use std::panic::{catch_unwind, AssertUnwindSafe};
+use std::time::{Duration, UNIX_EPOCH};
 
 const LIST: &[u8] = b"(acl (entry (public-key (test a)) (propagate) (tag (*))))";
 const PAIR: &str = "(cert (issuer (public-key (test a))) (subject (public-key (test b))) (tag (*)))
@@ -12,15 +14,24 @@ const SIGNED: [&[u8]; 3] = [
     b"(4:cert(6:issuer(10:public-key(4:test1:a)))(7:subject(10:public-key(4:test1:b)))(3:tag(1:*)))",
     b"3:sig",
 ];
-const QUESTION: Question = Question {
-    sequence: b"(sequence)",
-    key: b"(public-key (test b))",
-    request: Request::Words(&[b"ftp", b"host"]),
-    moment: Moment::Seconds(1_704_067_200), // 2024-01-01_00:00:00
-};
+const KEY: &[u8] = b"(public-key (test b))";
+const WORDS: Request = Request::Words(&[b"ftp", b"host"]);
+const NOW: Moment = Moment::Seconds(1_704_067_200); // 2024-01-01_00:00:00
+
+type Outcome = Result<(), Box<dyn Error>>;
 
 fn guard(list: &[u8]) -> Guard {
-    Guard::read(list, Policy::Strict, Limits::default()).expect("a list")
+    Guard::read(list, Policy::Strict, Limits::highest()).expect("a list")
+}
+
+/// A question that shows a sequence.
+fn shows(sequence: &[u8]) -> Question<'_> {
+    Question::new(sequence, KEY, WORDS, NOW)
+}
+
+/// A question without certificates, for a request.
+fn requests(request: Request) -> Question {
+    Question::new(b"(sequence)", KEY, request, NOW)
 }
 
 /// A sequence of the same certificate so many times.
@@ -32,87 +43,132 @@ fn right(_key: &[u8], _message: &[u8], _value: &[u8]) -> bool {
     true
 }
 
-fn line<T: std::fmt::Debug>(refused: Result<T, Refusal>) -> String {
-    refused.unwrap_err().to_string()
+/// The line of a refusal.
+fn refused<T: std::fmt::Debug>(result: Result<T, Denied>) -> String {
+    match result {
+        Err(Denied::Refused(refusal)) => refusal.to_string(),
+        other => panic!("this is no refusal: {other:?}"),
+    }
+}
+
+/// Entry, item and word of each line.
+fn lines(explanation: &Explanation) -> Vec<(Option<usize>, Option<usize>, &str)> {
+    let reasons = explanation.reasons();
+    reasons.map(|it| (it.entry, it.item, it.word)).collect()
 }
 
 #[test]
-fn a_verifier_is_given_what_is_signed() -> Result<(), Refusal> {
+fn a_verifier_is_given_what_is_signed() -> Outcome {
     let sequence = shown(1);
-    let question = Question {
-        sequence: &sequence,
-        ..QUESTION
-    };
     let mut calls = 0;
-    let decision = guard(LIST).decide(&question, |key, message, value| {
+    let grant = guard(LIST).decide(&shows(&sequence), |key, message, value| {
         calls += 1;
         [key, message, value] == SIGNED
     })?;
-    assert_eq!((decision, calls), (Decision::Yes(1), 1));
-    assert_eq!(
-        guard(LIST).decide(&question, |_, _, _| false)?,
-        Decision::No
-    );
+    assert_eq!((grant.entry, calls), (1, 1));
+    let denied = guard(LIST).decide(&shows(&sequence), |_, _, _| false);
+    assert_eq!(denied, Err(Denied::No));
     Ok(())
 }
 
 #[test]
-fn a_verifier_is_not_called_behind_the_first_wrong_one() -> Result<(), Refusal> {
+fn a_verifier_is_not_called_behind_the_first_wrong_one() -> Outcome {
     let wrong = PAIR.replace("sig)", "wrong)");
     let sequence = format!("(sequence {PAIR} {wrong} {PAIR})");
-    let question = Question {
-        sequence: sequence.as_bytes(),
-        ..QUESTION
-    };
+    let guard = guard(LIST);
+    let asked = guard.ask(&shows(sequence.as_bytes()))?;
     let mut calls = 0;
-    let explanation = guard(LIST).explain(&question, |_, _, value| {
+    let marks = asked.marks(|_, _, value| {
         calls += 1;
         value == b"3:sig"
     })?;
-    assert_eq!(calls, 2);
-    let stopped = Reason {
-        entry: None,
-        item: Some(3),
-        word: "NotAccepted",
-    };
-    assert_eq!(explanation.reasons().collect::<Vec<_>>(), [stopped]);
+    assert_eq!((calls, &marks[..]), (2, &[true, false, false][..]));
+    let explanation = asked.explain(&marks)?;
+    assert_eq!(lines(&explanation), [(None, Some(3), "NotAccepted")]);
     Ok(())
 }
 
 #[test]
-fn a_verifier_is_called_for_each_of_many() -> Result<(), Refusal> {
+fn a_verifier_is_called_for_each_of_many() -> Outcome {
     let sequence = shown(40);
-    let question = Question {
-        sequence: &sequence,
-        ..QUESTION
-    };
     let mut calls = 0;
-    let explanation = guard(LIST).explain(&question, |key, message, value| {
+    let denied = guard(LIST).decide(&shows(&sequence), |key, message, value| {
         calls += 1;
         [key, message, value] == SIGNED
-    })?;
-    assert_eq!(
-        (calls, explanation.text()),
-        (40, "entry 1 item 3 NotIssuer")
-    );
+    });
+    assert_eq!((calls, denied), (40, Err(Denied::No)));
     Ok(())
+}
+
+#[test]
+fn an_error_of_a_verifier_goes_on() {
+    let sequence = shown(1);
+    let decide = |answer| guard(LIST).decide(&shows(&sequence), |_, _, _| answer);
+    assert_eq!(
+        decide(Err("no such key")),
+        Err(Denied::Verifier("no such key"))
+    );
+    assert!(decide(Ok::<_, &str>(true)).is_ok());
+    assert_eq!(decide(Ok(false)), Err(Denied::No));
 }
 
 #[test]
 fn a_panic_of_a_verifier_goes_on() {
     let sequence = shown(1);
-    let question = Question {
-        sequence: &sequence,
-        ..QUESTION
-    };
     let guard = guard(LIST);
-    let ask = AssertUnwindSafe(|| guard.decide(&question, |_, _, _| panic!("no such key")));
+    let fail = |_: &[u8], _: &[u8], _: &[u8]| -> bool { panic!("no such key") };
+    let ask = AssertUnwindSafe(|| guard.decide(&shows(&sequence), fail));
     assert!(catch_unwind(ask).is_err());
-    assert_eq!(guard.decide(&question, right), Ok(Decision::Yes(1)));
+    assert!(guard.decide(&shows(&sequence), right).is_ok());
+}
+
+/// The question mark passes on a no, a refusal and an error of the verifier. What is behind it has a grant.
+#[test]
+fn a_question_mark_is_no_grant() {
+    fn serve(guard: &Guard, question: &Question) -> Result<(), Denied> {
+        guard.decide(question, |_, _, _| false)?;
+        Ok(())
+    }
+    let sequence = shown(1);
+    assert_eq!(serve(&guard(LIST), &shows(&sequence)), Err(Denied::No));
+    assert_eq!(
+        refused(serve(&guard(LIST), &shows(b""))),
+        "refused sequence Short"
+    );
+    let own = guard(b"(acl (entry (public-key (test b)) (tag (*))))");
+    assert_eq!(serve(&own, &shows(b"(sequence)")), Ok(()));
 }
 
 #[test]
-fn strings_are_strings() -> Result<(), Refusal> {
+fn an_opened_question_needs_no_texts() -> Outcome {
+    let guard = guard(LIST);
+    let mut sequence = shown(2);
+    let asked = guard.ask(&shows(&sequence))?;
+    sequence.fill(b' ');
+    for signature in asked.signatures() {
+        assert_eq!([signature.key, signature.message, signature.value], SIGNED);
+        assert_eq!(signature.octets, Some(&b"sig"[..]));
+    }
+    assert_eq!(asked.signatures().len(), 2);
+    for marks in [[true, true], [true, false], [false, true]] {
+        assert_eq!(asked.decide(&marks), Err(Denied::No)); // (the second certificate is none of b)
+    }
+    assert!(catch_unwind(AssertUnwindSafe(|| asked.decide(&[true]))).is_err());
+    Ok(())
+}
+
+#[test]
+fn a_value_that_is_a_list_has_no_octets() -> Outcome {
+    let sequence = PAIR.replace(" sig)", " (sig-val x))");
+    let guard = guard(LIST);
+    let asked = guard.ask(&shows(format!("(sequence {sequence})").as_bytes()))?;
+    let octets: Vec<_> = asked.signatures().map(|it| (it.value, it.octets)).collect();
+    assert_eq!(octets, [(&b"(7:sig-val1:x)"[..], None)]);
+    Ok(())
+}
+
+#[test]
+fn strings_are_strings() {
     let guard =
         guard(b"(acl (entry (public-key (test b)) (tag (cache (* prefix /cache/team1/) read))))");
     let rows: [(&[&[u8]], bool); 5] = [
@@ -123,21 +179,31 @@ fn strings_are_strings() -> Result<(), Refusal> {
         (&[b"cache"], false),
     ];
     for (words, is_granted) in rows {
-        let question = Question {
-            request: Request::Words(words),
-            ..QUESTION
-        };
-        assert_eq!(
-            guard.decide(&question, right)?.is_yes(),
-            is_granted,
-            "{words:?}"
-        );
+        let decision = guard.decide(&requests(Request::Words(words)), right);
+        assert_eq!(decision.is_ok(), is_granted, "{words:?}");
     }
-    Ok(())
 }
 
 #[test]
-fn requests_and_moments_may_be_texts() -> Result<(), Refusal> {
+fn many_strings_are_strings() {
+    let tag = "w ".repeat(40);
+    let guard = guard(format!("(acl (entry (public-key (test b)) (tag ({tag}))))").as_bytes());
+    for (count, is_granted) in [
+        (15, false),
+        (16, false),
+        (17, false),
+        (39, false),
+        (40, true),
+        (1000, true),
+    ] {
+        let words = vec![&b"w"[..]; count];
+        let decision = guard.decide(&requests(Request::Words(&words)), right);
+        assert_eq!(decision.is_ok(), is_granted, "{count}");
+    }
+}
+
+#[test]
+fn requests_and_moments_may_be_texts() {
     let guard = guard(b"(acl (entry (public-key (test b)) (tag (ftp host))))");
     let texts: [(&[u8], bool); 3] = [
         (b"(ftp host)", true),
@@ -145,104 +211,111 @@ fn requests_and_moments_may_be_texts() -> Result<(), Refusal> {
         (b"ftp", false),
     ];
     for (text, is_granted) in texts {
-        let question = Question {
-            request: Request::Text(text),
-            moment: Moment::Text(b"\"2024-01-01_00:00:00\""),
-            ..QUESTION
-        };
-        assert_eq!(guard.decide(&question, right)?.is_yes(), is_granted);
+        let moment = Moment::Text(b"\"2024-01-01_00:00:00\"");
+        let question = Question::new(b"(sequence)", KEY, Request::Text(text), moment);
+        assert_eq!(guard.decide(&question, right).is_ok(), is_granted);
     }
-    Ok(())
+}
+
+#[test]
+fn a_time_of_the_system_is_a_moment() {
+    let (second, half) = (Duration::from_secs(1), Duration::from_millis(500));
+    for (time, seconds) in [
+        (UNIX_EPOCH, 0),
+        (UNIX_EPOCH + half, 0),
+        (UNIX_EPOCH + second, 1),
+        (UNIX_EPOCH - half, -1),
+        (UNIX_EPOCH - second, -1),
+        (UNIX_EPOCH - second - half, -2),
+    ] {
+        assert_eq!(Moment::from(time), Moment::Seconds(seconds));
+    }
 }
 
 #[test]
 fn refusals_name_the_part() {
     let guard = guard(LIST);
-    let question = Question {
-        sequence: b"(sequence) x",
-        ..QUESTION
-    };
-    let refusal = guard.decide(&question, right).unwrap_err();
+    let decided = |question: Question| refused(guard.decide(&question, right));
     assert_eq!(
-        (refusal.line(), refusal.fault()),
-        ("refused sequence Trailing 11", "Trailing")
+        decided(shows(b"(sequence) x")),
+        "refused sequence Trailing 11"
     );
-    let question = Question {
-        request: Request::Words(&[]),
-        ..QUESTION
-    };
+    let refusal = guard.ask(&shows(b"(sequence) x")).expect_err("a refusal");
+    assert_eq!(refusal.fault(), "Trailing");
     assert_eq!(
-        line(guard.explain(&question, right)),
+        decided(requests(Request::Words(&[]))),
         "refused request EmptyList"
     );
-    let question = Question {
-        moment: Moment::Seconds(i64::MIN),
-        ..QUESTION
-    };
-    assert_eq!(line(guard.reduce(&question, right)), "refused at BadDate");
-    let question = Question {
-        key: b"",
-        ..QUESTION
-    };
-    assert_eq!(line(guard.decide(&question, right)), "refused key Short");
+    let never = Question::new(b"(sequence)", KEY, WORDS, Moment::Seconds(i64::MIN));
+    assert_eq!(decided(never), "refused at BadDate");
+    let nobody = Question::new(b"(sequence)", b"", WORDS, NOW);
+    assert_eq!(decided(nobody), "refused key Short");
 }
 
 #[test]
-fn lists_have_limits() {
-    assert_eq!(Limits::new(1_048_577, 1), None);
-    let limits = Limits::new(64, 1_000_000).expect("lower limits");
-    let guard = Guard::read(LIST, Policy::Open, limits).expect("a list");
-    let sequence = shown(1);
-    let question = Question {
-        sequence: &sequence,
-        ..QUESTION
-    };
-    assert_eq!(
-        line(guard.decide(&question, right)),
-        "refused question TooLong"
-    );
-    for (work, answer) in [(0, 1_048_576), (200_000, 5)] {
-        let limits = Limits::default().with_work(work, answer);
+fn questions_have_limits() -> Outcome {
+    let decided = |limits, question: &Question| {
         let guard = Guard::read(LIST, Policy::Open, limits).expect("a list");
-        assert!(guard.decide(&question, right).expect("a decision").is_yes());
-        assert_eq!(line(guard.explain(&question, right)), "refused TooLarge");
+        guard.decide(question, right)
+    };
+    let (one, many) = (shown(1), shown(17));
+    let usual = Limits::default();
+    assert!(decided(usual, &shows(&one)).is_ok());
+    let line = refused(decided(usual.octets(64), &shows(&one)));
+    assert_eq!(line, "refused question TooLong");
+    let line = refused(decided(usual, &shows(&many)));
+    assert_eq!(line, "refused question TooManyCertificates");
+    let words = [&b"w"[..]; 65];
+    let line = refused(decided(usual, &requests(Request::Words(&words))));
+    assert_eq!(line, "refused question TooManyWords");
+    assert!(decided(usual.octets(usize::MAX).nodes(usize::MAX), &shows(&one)).is_ok());
+    for limits in [usual.work(0), usual.nodes(0), usual.answer(5)] {
+        let guard = Guard::read(LIST, Policy::Open, limits)?;
+        let asked = guard.ask(&shows(&one))?;
+        assert!(asked.decide(&[true]).is_ok());
+        let refusal = asked.explain(&[true]).expect_err("a refusal");
+        assert_eq!(refusal.line(), "refused TooLarge");
     }
-    let refused = Guard::read(b"(acl (entry))", Policy::Open, Limits::default());
-    assert_eq!(line(refused), "refused acl 1 Shape");
-}
-
-#[test]
-fn long_answers_are_whole() -> Result<(), Refusal> {
-    let entries = "(entry (public-key (test b)) (tag (*)))".repeat(500);
-    let guard = guard(format!("(acl {entries})").as_bytes());
-    assert_eq!(guard.entries(), 500);
-    let explanation = guard.explain(&QUESTION, right)?;
-    let wanted = (1..=500).map(|entry| Reason {
-        entry: Some(entry),
-        item: None,
-        word: "grants",
-    });
-    assert!(explanation.reasons().eq(wanted));
-    let five = "entry 500 (five (subject (public-key (test b))) (tag (*)))";
-    assert_eq!(guard.reduce(&QUESTION, right)?.lines().last(), Some(five));
+    let list: Result<Guard, Refusal> = Guard::read(b"(acl (entry))", Policy::Open, usual);
+    assert_eq!(list.expect_err("a refusal").line(), "refused acl 1 Shape");
     Ok(())
 }
 
 #[test]
-fn several_threads_ask_one_guard() {
+fn long_answers_are_whole() -> Outcome {
+    let entries = "(entry (public-key (test b)) (tag (*)))".repeat(500);
+    let guard = guard(format!("(acl {entries})").as_bytes());
+    assert_eq!(guard.entries(), 500);
+    let asked = guard.ask(&shows(b"(sequence)"))?;
+    let explanation = asked.explain(&[])?;
+    let wanted: Vec<_> = (1..=500)
+        .map(|entry| (Some(entry), None, "grants"))
+        .collect();
+    assert_eq!(lines(&explanation), wanted);
+    let five = "entry 500 (five (subject (public-key (test b))) (tag (*)))";
+    assert_eq!(asked.reduce(&[])?.lines().last(), Some(five));
+    Ok(())
+}
+
+#[test]
+fn several_threads_ask_one_guard() -> Outcome {
     let guard = guard(LIST);
     let sequence = shown(1);
-    let question = Question {
-        sequence: &sequence,
-        ..QUESTION
-    };
+    let asked = guard.ask(&shows(&sequence))?;
     std::thread::scope(|scope| {
         for _ in 0..8 {
             scope.spawn(|| {
                 for _ in 0..200 {
-                    assert_eq!(guard.decide(&question, right), Ok(Decision::Yes(1)));
+                    assert!(guard.decide(&shows(&sequence), right).is_ok());
+                    assert!(asked.decide(&[true]).is_ok());
                 }
             });
         }
     });
+    Ok(())
+}
+
+#[test]
+fn the_library_says_its_version() {
+    assert_eq!(spki::library_version(), env!("CARGO_PKG_VERSION"));
 }

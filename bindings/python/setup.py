@@ -1,0 +1,56 @@
+"""Puts the library into the wheel, so that nothing else is to be installed: the file that SPKI_LIBRARY names, else the one that
+crates/spki_c/archive.py has built, else the installed one. With SPKI_LIBRARY=none the wheel has none, and the loader finds one at run time.
+"""
+import os
+import subprocess
+
+from setuptools import Distribution, setup
+from setuptools.command.build_py import build_py
+from wheel.bdist_wheel import bdist_wheel  # type: ignore[import]
+
+HERE = os.path.dirname(os.path.abspath(__file__))
+BUILT = os.path.join(HERE, "..", "..", "crates", "spki_c", "out", "libspki_c.so")
+
+
+def installed():
+    """The library that pkg-config knows."""
+    try:
+        done = subprocess.run(["pkg-config", "--variable=libdir", "spki"], stdout=subprocess.PIPE, stderr=subprocess.DEVNULL, text=True)
+    except FileNotFoundError:
+        return ""
+    return os.path.join(done.stdout.strip(), "libspki_c.so")
+
+
+def library():
+    """The path of the library that goes into the wheel."""
+    named = os.environ.get("SPKI_LIBRARY")
+    for path in [named] if named else [BUILT, installed()]:
+        if os.path.isfile(path):
+            return path
+    raise SystemExit(f"{named or 'libspki_c.so'} is not there: build it by crates/spki_c/archive.py, or name the file in SPKI_LIBRARY")
+
+
+class BuildWithLibrary(build_py):
+    """Builds the packages, with the library beside the module that loads it."""
+
+    def run(self):
+        super().run()
+        if os.environ.get("SPKI_LIBRARY") != "none":
+            self.copy_file(library(), os.path.join(self.build_lib, "spki", "libspki_c.so"))
+
+
+class OfPlatform(Distribution):
+    """What is built runs on this platform alone."""
+
+    def has_ext_modules(self):
+        return True
+
+
+class WheelOfPlatform(bdist_wheel):
+    """The wheel is for each Python 3 on this platform."""
+
+    def get_tag(self):
+        return "py3", "none", super().get_tag()[2]
+
+
+setup(distclass=OfPlatform, cmdclass={"build_py": BuildWithLibrary, "bdist_wheel": WheelOfPlatform})

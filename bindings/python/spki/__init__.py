@@ -1,0 +1,289 @@
+"""Whether the holder of a key may do what it requests, decided by a proved library: access lists and certificates of SPKI, RFC 2693.
+
+A service reads its access list once, into a `Guard`, and asks it a `Question` for each request:
+
+    import time
+    import spki
+    from spki_verify import verify  # or a function of your own
+
+    with spki.Guard(access_list) as guard:
+        question = spki.Question(sequence, key, words=(b"packages", b"read", path), moment=int(time.time()))
+        if guard.decide(question, verify):
+            ...
+
+The parts of a question come from different sources, so each is a separate text. It is one value in any of the three forms of RFC 9804. No
+octets of one part can become another part. The client must have proved that it holds the key. A public key is public: without a proof,
+each client that sends Alice's key would have Alice's rights. The moment is the time of the service's own clock.
+
+Only a `Decision` that grants is true. Several threads may use one guard and one opened question. A thread that calls has 256 KiB of stack
+left: `threading.stack_size` must not be lower. No call is made in a child that a process with several threads forked: start processes by
+`multiprocessing`'s method "spawn" or "forkserver", or fork before the first thread.
+
+The environment variable SPKI_LIBRARY names the file of `libspki_c.so`, if it is neither in this package nor where the loader looks. The
+library's decisions are proved. The lines of this module are tested and not proved.
+"""
+from __future__ import annotations
+
+import ctypes
+from collections.abc import Callable, Iterable
+from ctypes import byref, c_char, c_size_t, c_void_p
+from dataclasses import fields
+from types import TracebackType
+from typing import TypeVar, cast
+
+from . import _library as of
+from ._library import library
+from ._values import Decision, Explanation, Limits, NoDecision, Policy, Question, Reason, Reduction, Refused, Signature, mark_of, octets_of
+
+__version__ = "0.1.0"
+__all__ = ["Asked", "Decision", "Explanation", "Guard", "Limits", "Policy", "Question", "Reason", "Reduction", "Refused", "Signature", "Verify",
+           "advanced", "canonical", "string_at", "transport"]
+
+# Whether a value is a signature of a message by a key. It answers `True` or `False`, and nothing else.
+Verify = Callable[[bytes, bytes, bytes], bool]
+_Opened = TypeVar("_Opened", bound="_Open")
+
+# The octets of a buffer that most answers fit in.
+_USUAL = 1024
+
+
+class _GuardHandle(c_void_p):
+    """A guard of the library. It is closed when nothing refers to it. A call refers to it, so no call on it can be under way."""
+
+    def __del__(self, close: Callable[[c_void_p], None] = library.spki_guard_close) -> None:
+        close(self)
+
+
+class _AskedHandle(c_void_p):
+    """An opened question of the library, closed likewise."""
+
+    def __del__(self, close: Callable[[c_void_p], None] = library.spki_asked_close) -> None:
+        close(self)
+
+
+class _Open:
+    """What is open until it is closed."""
+
+    _handle: c_void_p | None
+
+    def _held(self) -> c_void_p:
+        """The handle, which the caller keeps as long as it calls the library."""
+        handle = self._handle
+        if handle is None:
+            raise ValueError(f"the {type(self).__name__} is closed")
+        return handle
+
+    def __enter__(self: _Opened) -> _Opened:
+        return self
+
+    def __exit__(self, kind: type[BaseException] | None, value: BaseException | None, trace: TracebackType | None) -> None:
+        self.close()
+
+    def close(self) -> None:
+        """Frees its memory. Calls that are under way in other threads end as usual; later ones raise `ValueError`."""
+        self._handle = None
+
+
+class Asked(_Open, NoDecision):
+    """A question that was read, which is decided by marks of its signatures. It stays open when its guard is closed."""
+
+    def __init__(self, guard: c_void_p, question: Question) -> None:
+        """`Guard.ask` makes it."""
+        self._handle = handle = _AskedHandle()
+        _expect(*_answered(library.spki_guard_ask, guard, question._given, byref(handle)))
+        self._count: int = library.spki_asked_count(handle)
+
+    def __len__(self) -> int:
+        """The number of its signatures."""
+        return self._count
+
+    def signatures(self) -> list[Signature]:
+        """The signatures on which the answers depend, in order. A service verifies them as it likes: one by one, together, or elsewhere."""
+        handle, found = self._held(), []
+        for place in range(self._count):
+            key, message, value, at, length = self._signature(place, handle)
+            found.append(Signature(key, message, value, None if at is None else ctypes.string_at(at, length)))
+        return found
+
+    def marks(self, verify: Verify) -> list[bool]:
+        """What `verify(key, message, value)` answers for each signature, in order. It is not called after the first `False`, and the marks
+        after this one are `False` too. Raises `TypeError` if it answers anything but `True` or `False`, such as a coroutine."""
+        return list(map(bool, self._verified(verify)))
+
+    def decide(self, marks: Iterable[bool]) -> Decision:
+        """Whether the request is granted, if exactly the signatures are valid whose marks are `True`. There is one mark for each."""
+        return self._decided(self._octets(marks))
+
+    def explain(self, marks: Iterable[bool]) -> Explanation:
+        """Says of each entry why it grants the request or does not. Raises `Refused` if it is too large."""
+        return Explanation(self._lines(library.spki_asked_explain, marks))
+
+    def reduce(self, marks: Iterable[bool]) -> Reduction:
+        """Which right remains of each entry after all certificates. Raises `Refused` if it is too large."""
+        return Reduction(self._lines(library.spki_asked_reduce, marks))
+
+    def _signature(self, place: int, handle: c_void_p) -> tuple[bytes, bytes, bytes, int | None, int]:
+        """The texts of a signature, and where the octets of its value are. The handle is open until they are copied."""
+        it, copied = of.Signed(), ctypes.string_at
+        _expect(library.spki_asked_signature(handle, place, it), b"")
+        key, key_length, message, message_length, value, value_length, _, octets_length = of.SIGNED.unpack(it)
+        return copied(key, key_length), copied(message, message_length), copied(value, value_length), it.octets, octets_length
+
+    def _verified(self, verify: Verify) -> bytes:
+        """1 for each signature that is valid up to the first that is not, 0 for this one and all after it."""
+        handle = self._held()
+        for place in range(self._count):
+            key, message, value, *_ = self._signature(place, handle)
+            if not mark_of(verify(key, message, value)):
+                return b"\1" * place + bytes(self._count - place)
+        return b"\1" * self._count
+
+    def _octets(self, marks: Iterable[bool]) -> bytes:
+        """The marks as the library takes them."""
+        verified = bytes(map(mark_of, marks))
+        if len(verified) != self._count:
+            raise ValueError(f"there are {self._count} signatures and {len(verified)} marks")
+        return verified
+
+    def _decided(self, verified: bytes) -> Decision:
+        status, line = _answered(library.spki_asked_decide, self._held(), verified, self._count)
+        if status == of.YES:
+            return Decision(int(line.removeprefix(b"yes entry ")))
+        if status == of.NO:
+            return Decision(None)
+        raise _refused(status, line)
+
+    def _lines(self, call: Callable[..., int], marks: Iterable[bool]) -> str:
+        """The lines of a call that decides nothing."""
+        status, lines = _answered(call, self._held(), self._octets(marks), self._count)
+        _expect(status, lines)
+        return lines.decode().rstrip("\n")
+
+
+class Guard(_Open):
+    """An access list that is read once and asked often, also by several threads at the same time.
+
+    `decide`, `explain` and `reduce` open a question, call `verify(key, message, value)` for each signature that the answer depends on, in
+    order, and answer by the marks. An exception that `verify` raises is passed on, and nothing is granted.
+    """
+
+    def __init__(self, access_list: bytes, policy: Policy = Policy.STRICT, limits: Limits = Limits()) -> None:
+        """Reads `(acl entry ..)`, in any of the three forms. Raises `Refused` if the text is no access list."""
+        if not isinstance(policy, Policy) or not isinstance(limits, Limits):
+            raise TypeError("a guard has a `Policy` and `Limits`")
+        text = octets_of(access_list)
+        values = of.Limits(ctypes.sizeof(of.Limits), *(getattr(limits, field.name) for field in fields(limits)))
+        self._handle = handle = _GuardHandle()
+        _expect(*_answered(library.spki_guard_open, text, len(text), policy.value, values, byref(handle)))
+        self._entries: int = library.spki_guard_entries(handle)
+
+    @property
+    def entries(self) -> int:
+        """The number of entries of the list."""
+        self._held()
+        return self._entries
+
+    def ask(self, question: Question) -> Asked:
+        """Opens a question. Raises `Refused` if a part of it cannot be read."""
+        if not isinstance(question, Question):
+            raise TypeError(f"a guard is asked a `Question`, and not {type(question).__name__}")
+        return Asked(self._held(), question)
+
+    def decide(self, question: Question, verify: Verify) -> Decision:
+        """Whether the question's request is granted. Raises `Refused` if a part of the question cannot be read."""
+        asked = self.ask(question)
+        return asked._decided(asked._verified(verify))
+
+    def explain(self, question: Question, verify: Verify) -> Explanation:
+        """Says of each entry why it grants the request or does not. Raises `Refused` as `decide` does."""
+        with self.ask(question) as asked:
+            return asked.explain(asked.marks(verify))
+
+    def reduce(self, question: Question, verify: Verify) -> Reduction:
+        """Which right remains of each entry after all certificates. Raises `Refused` as `decide` does."""
+        with self.ask(question) as asked:
+            return asked.reduce(asked.marks(verify))
+
+
+# ---- texts
+
+
+def string_at(text: bytes, *path: int) -> bytes | None:
+    """The octets of a string inside a value in canonical form. Each number of the path is that of a member to go into, from 0; the head
+    of a list is member 0.
+
+    `None` if no string is there, or the text is no value in canonical form. Raises `Refused` if an allocation failed. Of
+    `(public-key (rsa (n ..) (e #010001#)))` the path 1, 1, 1 is that of the modulus.
+    """
+    octets, length, text = c_void_p(), c_size_t(), octets_of(text)
+    if any(place not in range(len(text)) for place in path):
+        return None
+    status = library.spki_string(text, len(text), (c_size_t * len(path))(*path), len(path), byref(octets), byref(length))
+    if status == of.NO_MEMORY:
+        raise Refused("refused Memory")
+    return ctypes.string_at(octets, length.value) if status == of.DONE else None
+
+
+def canonical(text: bytes) -> bytes:
+    """The canonical form of the one value that a text is, in any of the three forms. Raises `Refused` if it is not one value."""
+    return _converted(of.CANONICAL, octets_of(text))
+
+
+def advanced(text: bytes) -> bytes:
+    """The same in advanced form, on one line, with a line feed at its end."""
+    return _converted(of.ADVANCED, octets_of(text))
+
+
+def transport(text: bytes) -> bytes:
+    """The same in the transport form, on one line, with a line feed at its end."""
+    return _converted(of.TRANSPORT, octets_of(text))
+
+
+def _converted(command: int, text: bytes) -> bytes:
+    status, answer = _answered(library.spki_answer, command, text, len(text))
+    _expect(status, answer)
+    return answer
+
+
+# ---- calls
+
+
+class _Room:
+    """Memory for the answer of one call."""
+
+    def __init__(self, octets: int) -> None:
+        self.buffer, self.octets, self.needed = (c_char * octets)(), octets, c_size_t()
+        self.at_needed = byref(self.needed)
+
+
+# Rooms that no call uses: at most as many as calls were under way at the same time. Making one takes half a microsecond.
+_spare: list[_Room] = []
+
+
+def _answered(call: Callable[..., int], *given: object) -> tuple[int, bytes]:
+    """The status and the answer of a call, which is repeated if its buffer is not large enough."""
+    try:
+        room = _spare.pop()
+    except IndexError:
+        room = _Room(_USUAL)
+    status = call(*given, room.buffer, room.octets, room.at_needed)
+    # (a slice of this array is bytes, which its declared type does not say)
+    answer = cast(bytes, room.buffer[:room.needed.value])
+    _spare.append(room)
+    if status == of.TOO_SMALL:
+        room = _Room(room.needed.value)
+        status = call(*given, room.buffer, room.octets, room.at_needed)
+        answer = cast(bytes, room.buffer[:room.needed.value])
+    return status, answer
+
+
+def _expect(status: int, answer: bytes) -> None:
+    if status != of.DONE:
+        raise _refused(status, answer)
+
+
+def _refused(status: int, answer: bytes) -> Exception:
+    """The exception of a call that failed."""
+    if status != of.REFUSED:
+        return RuntimeError(f"libspki_c answered with the status {status}, which this module does not know")
+    return Refused(answer.decode().rstrip("\n"))

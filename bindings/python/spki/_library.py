@@ -1,0 +1,76 @@
+"""`libspki_c`, found and loaded, with the structures and calls that spki.h declares."""
+import ctypes
+import ctypes.util
+import os
+import struct
+from collections.abc import Callable
+from ctypes import POINTER, Structure, c_char_p, c_int, c_int64, c_size_t, c_uint, c_void_p
+
+NO, REFUSED, TOO_SMALL, DONE, NO_MEMORY, YES = 1, 2, 4, 6, 8, 9
+CANONICAL, ADVANCED, TRANSPORT = 0, 1, 2
+# The first two numbers of a library's version that this module can call.
+VERSION = "0.1"
+
+
+class Text(Structure):
+    """`struct spki_text` that is given to a call. It keeps the octets."""
+
+    _fields_ = [("octets", c_char_p), ("length", c_size_t)]
+
+
+class Limits(Structure):
+    """`struct spki_limits`."""
+
+    _fields_ = [(name, c_size_t) for name in ("size", "octets", "certificates", "words", "nodes", "work", "answer")]
+
+
+class Question(Structure):
+    """`struct spki_question`."""
+
+    _fields_ = [("size", c_size_t), ("sequence", Text), ("key", Text), ("request", Text), ("words", POINTER(Text)), ("word_count", c_size_t),
+                ("moment", Text), ("seconds", POINTER(c_int64))]
+
+
+class Signed(Structure):
+    """`struct spki_signed`: an address and a length of the key, of the message, of the value, and of the octets of the value."""
+
+    _fields_ = [(f"{name}{part}", kind) for name in ("key", "message", "value", "octets") for part, kind in (("", c_void_p), ("_length", c_size_t))]
+
+
+# The same as numbers. A null address is 0.
+SIGNED = struct.Struct("8N")
+
+
+def found() -> str:
+    """The path of the library: what SPKI_LIBRARY names, else the file beside this module, else what the loader finds."""
+    beside = os.path.join(os.path.dirname(os.path.abspath(__file__)), "libspki_c.so")
+    path = os.environ.get("SPKI_LIBRARY") or (beside if os.path.exists(beside) else ctypes.util.find_library("spki_c"))
+    if path is None:
+        raise ImportError("libspki_c.so is not found: install it, or name the file in SPKI_LIBRARY")
+    return path
+
+
+def checked(path: str) -> ctypes.CDLL:
+    """The library at a path. Raises ImportError if it is of another version than this module."""
+    loaded = ctypes.CDLL(path)
+    version: Callable[[], bytes] | None = getattr(loaded, "spki_version", None)
+    if version is not None:
+        loaded.spki_version.restype = c_char_p
+    said = version().decode() if version is not None else "before 0.1.0"
+    if said.split(".")[:2] != VERSION.split("."):
+        raise ImportError(f"{path} has version {said}, and this module needs {VERSION}")
+    return loaded
+
+
+library = checked(found())
+_answer = [c_void_p, c_size_t, c_void_p]
+for _name, _types in {
+    "guard_open": [c_char_p, c_size_t, c_uint, POINTER(Limits), c_void_p, *_answer], "guard_close": [c_void_p], "guard_entries": [c_void_p],
+    "guard_ask": [c_void_p, POINTER(Question), c_void_p, *_answer], "asked_close": [c_void_p], "asked_count": [c_void_p],
+    "asked_signature": [c_void_p, c_size_t, POINTER(Signed)],
+    **{f"asked_{wish}": [c_void_p, c_char_p, c_size_t, *_answer] for wish in ("decide", "explain", "reduce")},
+    "string": [c_char_p, c_size_t, c_void_p, c_size_t, c_void_p, c_void_p], "answer": [c_int, c_char_p, c_size_t, *_answer],
+}.items():
+    getattr(library, f"spki_{_name}").argtypes = _types
+library.spki_guard_close.restype = library.spki_asked_close.restype = None
+library.spki_guard_entries.restype = library.spki_asked_count.restype = c_size_t

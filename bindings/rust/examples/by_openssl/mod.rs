@@ -1,0 +1,188 @@
+//! Verifies signatures by the command `openssl`, from OpenSSL 3.0 on, in the forms of docs/FORMATS.md, "Keys and signatures of services":
+//! Ed25519, RSA by PKCS#1 v1.5 with SHA-256, ECDSA with P-256 and SHA-256. A crate of cryptography takes less time. It replaces `Openssl`.
+
+use spki::Verifier;
+use std::fs::{remove_dir_all, DirBuilder};
+use std::os::unix::fs::DirBuilderExt;
+use std::path::PathBuf;
+use std::process::Command;
+use std::sync::atomic::{AtomicUsize, Ordering};
+use std::{env, fs, io, process};
+
+const HALF: usize = 32;
+const POINT: usize = 65;
+const BITS: std::ops::RangeInclusive<usize> = 2048..=16384;
+const MOST_EXPONENT_BITS: usize = 64;
+
+/// The beginnings of public keys in DER, up to the octets of the key.
+const ED25519: &[u8] = b"\x30\x2a\x30\x05\x06\x03\x2b\x65\x70\x03\x21\x00";
+const P256: &[u8] =
+    b"\x30\x59\x30\x13\x06\x07\x2a\x86\x48\xce\x3d\x02\x01\x06\x08\x2a\x86\x48\xce\x3d\x03\x01\x07\x03\x42\x00";
+const RSA: &[u8] = b"\x30\x0d\x06\x09\x2a\x86\x48\x86\xf7\x0d\x01\x01\x01\x05\x00";
+const BIT_STRING: u8 = 3;
+const INTEGER: u8 = 2;
+const SEQUENCE: u8 = 0x30;
+
+/// A key and a signature, as OpenSSL reads them, and how it makes the digest of the message.
+struct Signed {
+    key: Vec<u8>,
+    signature: Vec<u8>,
+    digest: &'static [&'static str],
+}
+
+/// The command `openssl`, which is run for each signature.
+pub struct Openssl;
+
+impl Verifier for Openssl {
+    type Error = io::Error;
+
+    fn verify(&mut self, key: &[u8], message: &[u8], value: &[u8]) -> io::Result<bool> {
+        signed(key, value).map_or(Ok(false), |signed| signed.verifies(message))
+    }
+}
+
+impl Signed {
+    fn verifies(&self, message: &[u8]) -> io::Result<bool> {
+        let room = Room::new()?;
+        for (name, octets) in [
+            ("key", &self.key[..]),
+            ("message", message),
+            ("signature", &self.signature),
+        ] {
+            fs::write(room.path.join(name), octets)?;
+        }
+        let words =
+            "pkeyutl -verify -pubin -keyform DER -inkey key -rawin -in message -sigfile signature";
+        let done = Command::new("openssl")
+            .args(words.split(' '))
+            .args(self.digest)
+            .current_dir(&room.path)
+            .output()?;
+        // A signature that is not valid and a key that cannot be read have the same status. `signed` has looked at the form of the key.
+        Ok(done.status.success())
+    }
+}
+
+/// A folder that only this user can read, which is removed at the end.
+struct Room {
+    path: PathBuf,
+}
+
+impl Room {
+    fn new() -> io::Result<Room> {
+        static COUNT: AtomicUsize = AtomicUsize::new(0);
+        let number = COUNT.fetch_add(1, Ordering::Relaxed);
+        let path = env::temp_dir().join(format!("spki-{}-{number}", process::id()));
+        DirBuilder::new().mode(0o700).create(&path)?;
+        Ok(Room { path })
+    }
+}
+
+impl Drop for Room {
+    fn drop(&mut self) {
+        let _ = remove_dir_all(&self.path);
+    }
+}
+
+/// Takes a key and the value of a signature apart. `None` if they are not in the forms of one kind.
+fn signed(key: &[u8], value: &[u8]) -> Option<Signed> {
+    ed25519(key, value)
+        .or_else(|| p256(key, value))
+        .or_else(|| rsa(key, value))
+}
+
+fn ed25519(key: &[u8], value: &[u8]) -> Option<Signed> {
+    let [point] = strings(
+        key,
+        b"(10:public-key(3:ecc(5:curve7:Ed25519)(5:flags5:eddsa)(1:q%)))",
+    )?;
+    let halves: [&[u8]; 2] = strings(value, b"(7:sig-val(5:eddsa(1:r%)(1:s%)))")?;
+    let is_whole = [point, halves[0], halves[1]].map(<[u8]>::len) == [HALF; 3];
+    is_whole.then(|| Signed {
+        key: [ED25519, point].concat(),
+        signature: halves.concat(),
+        digest: &[],
+    })
+}
+
+fn p256(key: &[u8], value: &[u8]) -> Option<Signed> {
+    let [point] = strings(key, b"(10:public-key(3:ecc(5:curve10:NIST P-256)(1:q%)))")?;
+    let numbers: [&[u8]; 2] = strings(value, b"(7:sig-val(5:ecdsa(1:r%)(1:s%)))")?;
+    let [r, s] = numbers.map(|number| der(INTEGER, &signed_number(number)));
+    (point.len() == POINT && point[0] == 4).then(|| Signed {
+        key: [P256, point].concat(),
+        signature: der(SEQUENCE, &[r, s].concat()),
+        digest: &["-digest", "sha256"],
+    })
+}
+
+fn rsa(key: &[u8], value: &[u8]) -> Option<Signed> {
+    let [modulus, exponent] = strings(key, b"(10:public-key(3:rsa(1:n%)(1:e%)))")?;
+    let [number] = strings(value, b"(7:sig-val(3:rsa(1:s%)))")?;
+    let (bits, exponent_bits) = (bits_of(modulus)?, bits_of(exponent)?);
+    let (size, number) = (bits.div_ceil(8), trimmed(number));
+    let is_allowed = BITS.contains(&bits) && (2..=MOST_EXPONENT_BITS).contains(&exponent_bits);
+    (is_allowed && number.len() <= size).then(|| {
+        let numbers = [der(INTEGER, modulus), der(INTEGER, exponent)].concat();
+        let octets = [&[0], &der(SEQUENCE, &numbers)[..]].concat();
+        Signed {
+            key: der(SEQUENCE, &[RSA, &der(BIT_STRING, &octets)].concat()),
+            signature: [&vec![0; size - number.len()], number].concat(),
+            digest: &["-digest", "sha256"],
+        }
+    })
+}
+
+/// The strings of a canonical text that are at the marks `%` of a form. `None` if the text has another form.
+fn strings<'t, const N: usize>(text: &'t [u8], form: &[u8]) -> Option<[&'t [u8]; N]> {
+    let mut parts = form.split(|octet| *octet == b'%');
+    let mut rest = text.strip_prefix(parts.next()?)?;
+    let mut found = [&text[..0]; N];
+    for (string, part) in found.iter_mut().zip(parts) {
+        let colon = rest.iter().position(|octet| *octet == b':')?;
+        let length: usize = std::str::from_utf8(&rest[..colon]).ok()?.parse().ok()?;
+        let end = (colon + 1).checked_add(length)?;
+        if rest[..colon] != *length.to_string().as_bytes() {
+            return None;
+        }
+        *string = rest.get(colon + 1..end)?;
+        rest = rest[end..].strip_prefix(part)?;
+    }
+    rest.is_empty().then_some(found)
+}
+
+/// A number without octets 00 in front.
+fn trimmed(number: &[u8]) -> &[u8] {
+    let zeros = number.iter().take_while(|octet| **octet == 0).count();
+    &number[zeros..]
+}
+
+/// A number with an octet 00 in front exactly if its first bit is set, as DER and keys have it.
+fn signed_number(number: &[u8]) -> Vec<u8> {
+    let number = trimmed(number);
+    let is_high = number.first().map_or(true, |first| *first >= 0x80);
+    [&[0; 1][..usize::from(is_high)], number].concat()
+}
+
+/// The bits of an odd number of a key, which is written as keys have it.
+fn bits_of(number: &[u8]) -> Option<usize> {
+    let is_odd = number.last().is_some_and(|last| last % 2 == 1);
+    let first = trimmed(number).first()?;
+    let bits = 8 * trimmed(number).len() - first.leading_zeros() as usize;
+    (is_odd && number == signed_number(number)).then_some(bits)
+}
+
+/// A value in DER.
+fn der(tag: u8, octets: &[u8]) -> Vec<u8> {
+    let length = octets.len().to_be_bytes();
+    let length = trimmed(&length);
+    let mut made = vec![tag];
+    if octets.len() >= 0x80 {
+        made.push(0x80 + u8::try_from(length.len()).expect("a small number"));
+        made.extend(length);
+    } else {
+        made.push(u8::try_from(octets.len()).expect("a small number"));
+    }
+    made.extend(octets);
+    made
+}

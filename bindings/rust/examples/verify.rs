@@ -1,0 +1,34 @@
+//! Verifies signatures by the command `openssl`, so that a test can compare verifiers.
+//!
+//! Reads strings from standard input, each as LENGTH:OCTETS: a key, a message and the value of a signature, and so on. Writes 1 for each
+//! signature that is valid, and 0 for each other.
+
+mod by_openssl;
+
+use by_openssl::Openssl;
+use spki::Verifier;
+use std::error::Error;
+use std::io::{self, Read};
+
+/// The first string of a text, and what is behind it.
+fn next(text: &[u8]) -> Option<(&[u8], &[u8])> {
+    let colon = text.iter().position(|octet| *octet == b':')?;
+    let length: usize = std::str::from_utf8(&text[..colon]).ok()?.parse().ok()?;
+    Some(text[colon + 1..].split_at(length))
+}
+
+fn main() -> Result<(), Box<dyn Error>> {
+    let mut input = Vec::new();
+    io::stdin().read_to_end(&mut input)?;
+    let mut strings = Vec::new();
+    let mut rest = &input[..];
+    while let Some((string, behind)) = next(rest) {
+        strings.push(string);
+        rest = behind;
+    }
+    for it in strings.chunks_exact(3) {
+        print!("{}", u8::from(Openssl.verify(it[0], it[1], it[2])?));
+    }
+    println!();
+    Ok(())
+}

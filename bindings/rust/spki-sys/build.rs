@@ -1,0 +1,128 @@
+//! Links `libspki_c`: that in the folder that `SPKI_LIB_DIR` names, else that of `pkg-config`. If there is none, the build ends with an error.
+//!
+//! The static library is linked if the folder has it, so that programs need no library where they run. `SPKI_SHARED=1` chooses the shared one.
+//! `pkg-config` is the program that `PKG_CONFIG` names, and each of its variables may have the target at its end, as in
+//! `PKG_CONFIG_PATH_aarch64-unknown-linux-gnu`. For another target than the host it is asked only if `PKG_CONFIG_SYSROOT_DIR`,
+//! `PKG_CONFIG_ALLOW_CROSS` or a `PKG_CONFIG` of the target is set: otherwise it would name a library of the host.
+
+use std::env;
+use std::ffi::OsString;
+use std::path::{Path, PathBuf};
+use std::process::{exit, Command};
+
+/// The versions that this crate can call, from the first and below the second.
+const FIRST: &str = "0.1";
+const END: &str = "0.2";
+const OF_PKG_CONFIG: [&str; 5] = [
+    "PKG_CONFIG_PATH",
+    "PKG_CONFIG_LIBDIR",
+    "PKG_CONFIG_SYSROOT_DIR",
+    "PKG_CONFIG_ALLOW_CROSS",
+    "PKG_CONFIG",
+];
+
+fn main() {
+    if variable("DOCS_RS").is_some() {
+        return;
+    }
+    let folder = match variable("SPKI_LIB_DIR").map(PathBuf::from) {
+        Some(named) if named.is_absolute() => Ok(named),
+        Some(named) => Err(format!(
+            "SPKI_LIB_DIR must be a whole path, and is {}",
+            named.display()
+        )),
+        None => installed(),
+    };
+    match folder.and_then(|folder| linked(&folder)) {
+        Ok(lines) => lines.iter().for_each(|line| println!("cargo:{line}")),
+        Err(fault) => {
+            eprintln!("spki-sys: {fault}");
+            exit(1);
+        }
+    }
+}
+
+/// A variable of the environment, which Cargo watches from now on.
+fn variable(name: &str) -> Option<OsString> {
+    println!("cargo:rerun-if-env-changed={name}");
+    env::var_os(name).filter(|value| !value.is_empty())
+}
+
+/// The value of a variable for the target, by its name with the target at its end or its own name.
+fn for_target(name: &str) -> Option<OsString> {
+    let target = env::var("TARGET").unwrap_or_default();
+    variable(&format!("{name}_{target}"))
+        .or_else(|| variable(&format!("{name}_{}", target.replace('-', "_"))))
+        .or_else(|| variable(name))
+}
+
+/// What Cargo is told, to link the library of a folder.
+fn linked(folder: &Path) -> Result<Vec<String>, String> {
+    let (archive, shared) = (folder.join("libspki_c.a"), folder.join("libspki_c.so"));
+    let wants_shared = variable("SPKI_SHARED").is_some();
+    let (kind, file) = if archive.is_file() && !wants_shared {
+        ("static", archive)
+    } else {
+        ("dylib", shared)
+    };
+    if !file.is_file() {
+        let wanted = if wants_shared {
+            "libspki_c.so"
+        } else {
+            "libspki_c.a or libspki_c.so"
+        };
+        return Err(format!("there is no {wanted} in {}", folder.display()));
+    }
+    Ok(vec![
+        format!("rerun-if-changed={}", file.display()),
+        format!("rustc-link-search=native={}", folder.display()),
+        format!("rustc-link-lib={kind}=spki_c"),
+        format!("libdir={}", folder.display()),
+    ])
+}
+
+/// The folder in which `pkg-config` has the library, with the root of the target's system before it.
+fn installed() -> Result<PathBuf, String> {
+    let named: Vec<_> = OF_PKG_CONFIG
+        .iter()
+        .map(|name| (name, for_target(name)))
+        .collect();
+    let is_of_target = named[2..].iter().any(|(_, value)| value.is_some());
+    if env::var("HOST") != env::var("TARGET") && !is_of_target {
+        return Err(String::from(
+            "for another target, name the folder of its libspki_c in SPKI_LIB_DIR, or set PKG_CONFIG_SYSROOT_DIR",
+        ));
+    }
+    let program = named[4]
+        .1
+        .clone()
+        .unwrap_or_else(|| OsString::from("pkg-config"));
+    let mut command = Command::new(&program);
+    for (name, value) in &named[..4] {
+        value.iter().for_each(|value| {
+            command.env(name, value);
+        });
+    }
+    let done = command
+        .env("PKG_CONFIG_ALLOW_SYSTEM_LIBS", "1")
+        .args(["--print-errors", "--libs-only-L"])
+        .args([format!("spki >= {FIRST}"), format!("spki < {END}")])
+        .output()
+        .map_err(|fault| advice(&format!("{}: {fault}", program.to_string_lossy())))?;
+    let said = String::from_utf8_lossy(&done.stdout);
+    let folder = said
+        .split_whitespace()
+        .find_map(|word| word.strip_prefix("-L"));
+    match folder {
+        Some(folder) if done.status.success() => Ok(PathBuf::from(folder)),
+        _ => Err(advice(&String::from_utf8_lossy(&done.stderr))),
+    }
+}
+
+/// A fault, and what to do.
+fn advice(fault: &str) -> String {
+    format!(
+        "libspki_c is not found: install it, or name its folder in SPKI_LIB_DIR\n{}",
+        fault.trim_end()
+    )
+}

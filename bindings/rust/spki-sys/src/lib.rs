@@ -1,0 +1,219 @@
+//! The calls of `spki.h`, as it declares them. Its head has the rules for callers. The crate `spki` is the safe interface.
+
+#![no_std]
+#![deny(missing_docs)]
+
+use core::ffi::{c_char, c_int, c_void};
+use core::ptr;
+
+/// The first two numbers of the versions of the library that have these calls.
+pub const VERSION: &str = "0.1";
+
+/// A status, `enum spki_status`. 0 is none of them.
+pub type Status = c_int;
+/// A decision: the request is not granted.
+pub const NO: Status = 1;
+/// The answer is a line that begins with `refused`.
+pub const REFUSED: Status = 2;
+/// The buffer is too small.
+pub const TOO_SMALL: Status = 4;
+/// The call is misuse, and there is no answer.
+pub const MISUSED: Status = 5;
+/// The call is done. It is no decision.
+pub const DONE: Status = 6;
+/// There is no string, or no signature, at this place.
+pub const NONE: Status = 7;
+/// `spki_string`: an allocation failed.
+pub const NO_MEMORY: Status = 8;
+/// A decision: the request is granted.
+pub const YES: Status = 9;
+
+/// Writes the canonical form of a text, `enum spki_command`.
+pub const CANONICAL: c_int = 0;
+/// Writes its advanced form.
+pub const ADVANCED: c_int = 1;
+/// Writes its transport form.
+pub const TRANSPORT: c_int = 2;
+
+/// Hashes by SHA-1 name no key, `enum spki_policy`.
+pub const STRICT: c_int = 0;
+/// Hashes of all algorithms name keys.
+pub const OPEN: c_int = 1;
+
+/// `struct spki_text`.
+#[repr(C)]
+#[derive(Clone, Copy, Debug)]
+pub struct Text {
+    /// The address of the octets, which may be null if there is none.
+    pub octets: *const c_void,
+    /// The number of octets.
+    pub length: usize,
+}
+
+impl Text {
+    /// No text.
+    pub const NONE: Text = Text {
+        octets: ptr::null(),
+        length: 0,
+    };
+
+    /// These octets, which a call borrows.
+    pub const fn of(octets: &[u8]) -> Text {
+        Text {
+            octets: octets.as_ptr().cast(),
+            length: octets.len(),
+        }
+    }
+}
+
+/// `struct spki_limits`.
+#[repr(C)]
+#[derive(Clone, Copy, Debug)]
+pub struct Limits {
+    /// The size of this structure.
+    pub size: usize,
+    /// The most octets of a question's texts together.
+    pub octets: usize,
+    /// The most certificates of a sequence.
+    pub certificates: usize,
+    /// The most strings of a request.
+    pub words: usize,
+    /// The most nodes of one tag times nodes of another.
+    pub nodes: usize,
+    /// The most of these products together.
+    pub work: usize,
+    /// The most octets of an answer.
+    pub answer: usize,
+}
+
+/// `struct spki_question`.
+#[repr(C)]
+#[derive(Clone, Copy, Debug)]
+pub struct Question {
+    /// The size of this structure.
+    pub size: usize,
+    /// `(sequence ..)`.
+    pub sequence: Text,
+    /// `(public-key ..)`.
+    pub key: Text,
+    /// The request, if `words` is null.
+    pub request: Text,
+    /// The strings of the request.
+    pub words: *const Text,
+    /// How many strings.
+    pub word_count: usize,
+    /// The moment, if `seconds` is null.
+    pub moment: Text,
+    /// The moment in seconds.
+    pub seconds: *const i64,
+}
+
+/// `struct spki_signed`.
+#[repr(C)]
+#[derive(Clone, Copy, Debug)]
+pub struct Signed {
+    /// The key, in canonical form.
+    pub key: Text,
+    /// The message, in canonical form.
+    pub message: Text,
+    /// The value, in canonical form.
+    pub value: Text,
+    /// The octets of a value that is one string.
+    pub octets: Text,
+}
+
+/// What a `spki_guard *` points to. Nothing here reads it.
+#[repr(C)]
+#[derive(Debug)]
+pub struct Guard {
+    _none: [u8; 0],
+}
+
+/// What a `spki_asked *` points to. Nothing here reads it.
+#[repr(C)]
+#[derive(Debug)]
+pub struct Asked {
+    _none: [u8; 0],
+}
+
+/// `spki_asked_decide`, `spki_asked_explain` or `spki_asked_reduce`.
+pub type Answers = unsafe extern "C" fn(
+    asked: *const Asked,
+    verified: *const u8,
+    count: usize,
+    buffer: *mut c_void,
+    buffer_length: usize,
+    needed: *mut usize,
+) -> Status;
+
+#[allow(missing_docs)]
+extern "C" {
+    pub fn spki_guard_open(
+        list: *const c_void,
+        list_length: usize,
+        policy: c_int,
+        limits: *const Limits,
+        guard: *mut *mut Guard,
+        buffer: *mut c_void,
+        buffer_length: usize,
+        needed: *mut usize,
+    ) -> Status;
+    pub fn spki_guard_close(guard: *mut Guard);
+    pub fn spki_guard_entries(guard: *const Guard) -> usize;
+    pub fn spki_guard_ask(
+        guard: *const Guard,
+        question: *const Question,
+        asked: *mut *mut Asked,
+        buffer: *mut c_void,
+        buffer_length: usize,
+        needed: *mut usize,
+    ) -> Status;
+    pub fn spki_asked_count(asked: *const Asked) -> usize;
+    pub fn spki_asked_signature(
+        asked: *const Asked,
+        place: usize,
+        signature: *mut Signed,
+    ) -> Status;
+    pub fn spki_asked_decide(
+        asked: *const Asked,
+        verified: *const u8,
+        count: usize,
+        buffer: *mut c_void,
+        buffer_length: usize,
+        needed: *mut usize,
+    ) -> Status;
+    pub fn spki_asked_explain(
+        asked: *const Asked,
+        verified: *const u8,
+        count: usize,
+        buffer: *mut c_void,
+        buffer_length: usize,
+        needed: *mut usize,
+    ) -> Status;
+    pub fn spki_asked_reduce(
+        asked: *const Asked,
+        verified: *const u8,
+        count: usize,
+        buffer: *mut c_void,
+        buffer_length: usize,
+        needed: *mut usize,
+    ) -> Status;
+    pub fn spki_asked_close(asked: *mut Asked);
+    pub fn spki_string(
+        text: *const c_void,
+        text_length: usize,
+        path: *const usize,
+        depth: usize,
+        octets: *mut *const c_void,
+        length: *mut usize,
+    ) -> Status;
+    pub fn spki_answer(
+        command: c_int,
+        text: *const c_void,
+        text_length: usize,
+        buffer: *mut c_void,
+        buffer_length: usize,
+        needed: *mut usize,
+    ) -> Status;
+    pub fn spki_version() -> *const c_char;
+}

@@ -1,0 +1,104 @@
+//! A decision: a grant, or why there is none.
+
+use crate::answer::Refusal;
+use std::convert::Infallible;
+use std::error::Error;
+use std::fmt;
+
+/// The request is granted. There is a value of this type only if the library decided so.
+#[non_exhaustive]
+#[derive(Clone, Copy, Debug, PartialEq, Eq)]
+pub struct Grant {
+    /// The number of the first entry that grants the request, from 1.
+    pub entry: usize,
+}
+
+/// The request is not granted, and why. `E` is the error of the verifier.
+#[non_exhaustive]
+#[derive(Clone, Debug, PartialEq, Eq)]
+pub enum Denied<E = Infallible> {
+    /// No entry grants the request.
+    No,
+    /// The question cannot be read or exceeds a limit, or an allocation failed.
+    Refused(Refusal),
+    /// The verifier failed, so it is not known which signatures are valid.
+    Verifier(E),
+}
+
+impl<E> Denied<E> {
+    /// The line of a refusal. `None` if the library decided, or the verifier failed.
+    pub fn refusal(&self) -> Option<&Refusal> {
+        match self {
+            Denied::Refused(refusal) => Some(refusal),
+            _ => None,
+        }
+    }
+}
+
+impl<E> From<Refusal> for Denied<E> {
+    fn from(refusal: Refusal) -> Denied<E> {
+        Denied::Refused(refusal)
+    }
+}
+
+impl<E: fmt::Display> fmt::Display for Denied<E> {
+    fn fmt(&self, f: &mut fmt::Formatter) -> fmt::Result {
+        match self {
+            Denied::No => f.write_str("no"),
+            Denied::Refused(refusal) => refusal.fmt(f),
+            Denied::Verifier(error) => write!(f, "a signature could not be verified: {error}"),
+        }
+    }
+}
+
+impl<E: Error + 'static> Error for Denied<E> {
+    fn source(&self) -> Option<&(dyn Error + 'static)> {
+        match self {
+            Denied::Verifier(error) => Some(error),
+            _ => None,
+        }
+    }
+}
+
+/// Says which signatures are valid, by a crypto library.
+pub trait Verifier {
+    /// Why it may fail to say that.
+    type Error;
+
+    /// Whether a value is a signature of a message by a key. The three are canonical forms: of the issuer's `(public-key ..)`, of the
+    /// certificate, and of the value in `(signature ..)`.
+    ///
+    /// # Errors
+    ///
+    /// It is not known whether the signature is valid. Then nothing is granted.
+    fn verify(&mut self, key: &[u8], message: &[u8], value: &[u8]) -> Result<bool, Self::Error>;
+}
+
+/// What a verifying function returns: whether a signature is valid, or also that it failed.
+pub trait Verdict {
+    /// Why it may fail.
+    type Error;
+
+    /// Whether the signature is valid.
+    ///
+    /// # Errors
+    ///
+    /// The function failed.
+    fn verdict(self) -> Result<bool, Self::Error>;
+}
+
+impl Verdict for bool {
+    type Error = Infallible;
+
+    fn verdict(self) -> Result<bool, Infallible> {
+        Ok(self)
+    }
+}
+
+impl<E> Verdict for Result<bool, E> {
+    type Error = E;
+
+    fn verdict(self) -> Result<bool, E> {
+        self
+    }
+}

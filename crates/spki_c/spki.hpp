@@ -1,0 +1,208 @@
+/* Guards and opened questions from C++17, closed where their owners end. spki.h has the calls and the rules for callers.
+ *
+ *     spki::guard guard(list);                                           an access list that is read once; throws spki::refused
+ *     const std::string_view words[] = {"packages", "read", path};
+ *     if (guard.decide({sequence, key, words, std::time(nullptr)}, verify)) ...
+ *
+ * `verify(key, message, value)` returns whether the value is a signature of the message by the key: a bool, and nothing that becomes one.
+ * A thread that calls has 256 KiB of stack left. No call is made in a child that a process with several threads forked. */
+#ifndef SPKI_HPP
+#define SPKI_HPP
+
+#include "spki.h"
+
+#include <cstring>
+#include <memory>
+#include <stdexcept>
+#include <string>
+#include <string_view>
+#include <type_traits>
+#include <vector>
+
+namespace spki {
+
+/* A line that begins with `refused`: a text is no input, or an allocation failed. Nothing is granted. */
+class refused : public std::runtime_error {
+public:
+    using std::runtime_error::runtime_error;
+};
+
+/* Octets as a text, and back. */
+inline spki_text text_of(std::string_view octets) noexcept
+{
+    return {octets.data(), octets.size()};
+}
+inline std::string_view view_of(spki_text text) noexcept
+{
+    return {static_cast<const char *>(text.octets), text.length};
+}
+
+/* The usual limits, whose fields may be changed, and the highest. */
+inline constexpr spki_limits usual_limits = SPKI_USUAL_LIMITS;
+inline constexpr spki_limits highest_limits = SPKI_HIGHEST_LIMITS;
+
+/* What is asked. The texts are those of spki_question, and must last until `ask` or `decide` returns. `words` has the strings of the
+ * request; an array, a vector or another container of std::string_view with `data` and `size` will do. */
+struct question {
+    template <typename Words>
+    question(std::string_view sequence, std::string_view key, const Words &words, std::int64_t seconds) : seconds(seconds)
+    {
+        for (std::string_view word : words)
+            strings.push_back(text_of(word));
+        // (a null address would mean that the request is a text)
+        strings.push_back({nullptr, 0});
+        asked.sequence = text_of(sequence);
+        asked.key = text_of(key);
+    }
+
+    spki_question lent() const noexcept
+    {
+        spki_question lent = asked;
+        lent.size = sizeof lent;
+        lent.words = strings.data();
+        lent.word_count = strings.size() - 1;
+        lent.seconds = &seconds;
+        return lent;
+    }
+
+private:
+    spki_question asked{};
+    std::vector<spki_text> strings;
+    std::int64_t seconds;
+};
+
+/* A decision. It is true only where the request is granted, and only an `if` or `!` reads it so. */
+class decision {
+public:
+    explicit operator bool() const noexcept { return status == SPKI_YES; }
+
+private:
+    friend class asked;
+    explicit decision(spki_status status) noexcept : status(status) {}
+    spki_status status;
+};
+
+/* Throws `refused` with the line, or std::logic_error, unless a call has one of these statuses. */
+inline spki_status expect(spki_status met, const char *line, std::size_t length, spki_status wanted, spki_status other)
+{
+    if (met == SPKI_REFUSED)
+        throw refused(std::string(line, length ? length - 1 : 0));
+    if (met != wanted && met != other)
+        throw std::logic_error("a call of libspki_c is misused, or the library is of another version than spki.hpp");
+    return met;
+}
+
+/* A question that was read, which is decided by marks of its signatures, any number of times. */
+class asked {
+public:
+    explicit asked(spki_asked *handle) noexcept : handle(handle) {}
+
+    std::size_t size() const noexcept { return spki_asked_count(handle.get()); }
+
+    /* The signature at a place. Its texts last as long as this object. */
+    spki_signed signature(std::size_t place) const
+    {
+        spki_signed found;
+        expect(spki_asked_signature(handle.get(), place, &found), "", 0, SPKI_DONE, SPKI_DONE);
+        return found;
+    }
+
+    /* 1 for each signature that is valid up to the first that is not, 0 for this one and all after it. */
+    template <typename Verify> std::vector<unsigned char> marks(Verify &&verify) const
+    {
+        std::vector<unsigned char> marks(size());
+        for (std::size_t place = 0; place < marks.size(); place++) {
+            const spki_signed it = signature(place);
+            const auto answer = verify(view_of(it.key), view_of(it.message), view_of(it.value));
+            static_assert(std::is_same_v<decltype(answer), const bool>, "a verifier returns a bool: an int such as -1 is no answer");
+            if (!answer)
+                break;
+            marks[place] = 1;
+        }
+        return marks;
+    }
+
+    /* Whether the request is granted, if exactly the signatures are valid whose marks are 1. */
+    decision decide(const std::vector<unsigned char> &marks) const
+    {
+        char line[128];
+        std::size_t length;
+        spki_status status = spki_asked_decide(handle.get(), marks.data(), marks.size(), line, sizeof line, &length);
+        return decision(expect(status, line, length, SPKI_YES, SPKI_NO));
+    }
+
+    /* The lines that say of each entry why it grants the request or does not, and which right remains of it. */
+    std::string explain(const std::vector<unsigned char> &marks) const { return lines(spki_asked_explain, marks); }
+    std::string reduce(const std::vector<unsigned char> &marks) const { return lines(spki_asked_reduce, marks); }
+
+private:
+    struct close {
+        void operator()(spki_asked *handle) const noexcept { spki_asked_close(handle); }
+    };
+    std::unique_ptr<spki_asked, close> handle;
+
+    template <typename Call> std::string lines(Call call, const std::vector<unsigned char> &marks) const
+    {
+        std::string lines(4096, '\0');
+        std::size_t length = 0;
+        spki_status status;
+        while ((status = call(handle.get(), marks.data(), marks.size(), &lines[0], lines.size(), &length)) == SPKI_TOO_SMALL)
+            lines.resize(length);
+        expect(status, lines.data(), length, SPKI_DONE, SPKI_DONE);
+        lines.resize(length);
+        return lines;
+    }
+};
+
+/* An access list that is read once and asked often, also by several threads at the same time. */
+class guard {
+public:
+    explicit guard(std::string_view list, spki_policy policy = SPKI_STRICT, const spki_limits &limits = usual_limits)
+    {
+        char line[128];
+        std::size_t length;
+        spki_guard *opened;
+        check_version();
+        spki_status status = spki_guard_open(list.data(), list.size(), policy, &limits, &opened, line, sizeof line, &length);
+        handle.reset(opened);
+        expect(status, line, length, SPKI_DONE, SPKI_DONE);
+    }
+
+    std::size_t entries() const noexcept { return spki_guard_entries(handle.get()); }
+
+    spki::asked ask(const question &question) const
+    {
+        char line[128];
+        std::size_t length;
+        spki_asked *opened;
+        const spki_question lent = question.lent();
+        spki_status status = spki_guard_ask(handle.get(), &lent, &opened, line, sizeof line, &length);
+        spki::asked asked(opened);
+        expect(status, line, length, SPKI_DONE, SPKI_DONE);
+        return asked;
+    }
+
+    template <typename Verify> decision decide(const question &question, Verify &&verify) const
+    {
+        const spki::asked asked = ask(question);
+        return asked.decide(asked.marks(verify));
+    }
+
+private:
+    struct close {
+        void operator()(spki_guard *handle) const noexcept { spki_guard_close(handle); }
+    };
+    std::unique_ptr<spki_guard, close> handle;
+
+    /* A library of another version may have other structures. */
+    static void check_version()
+    {
+        const std::string wanted = std::to_string(SPKI_VERSION_MAJOR) + "." + std::to_string(SPKI_VERSION_MINOR) + ".";
+        if (std::strncmp(spki_version(), wanted.c_str(), wanted.size()) != 0)
+            throw std::runtime_error("libspki_c has version " + std::string(spki_version()) + ", and spki.hpp needs " + wanted + "x");
+    }
+};
+
+} // namespace spki
+
+#endif

@@ -1,0 +1,112 @@
+/* `verifies` of verify.h by OpenSSL's libcrypto, from OpenSSL 3.0 on (Debian: libssl-dev).
+ *
+ *     cc -std=c11 -Wall -Wextra -c verify_openssl.c $(pkg-config --cflags spki libcrypto)
+ */
+#include "verify.h"
+
+#include <openssl/core_names.h>
+#include <openssl/ecdsa.h>
+#include <openssl/evp.h>
+#include <openssl/param_build.h>
+#include <string.h>
+
+/* The octets of the largest signature: that of RSA. */
+enum { MOST_SIGNATURE = VERIFY_MOST_BITS / 8 };
+
+/* OpenSSL's public key of this kind, or null. */
+static EVP_PKEY *made_of(const char *kind, OSSL_PARAM *parameters)
+{
+    EVP_PKEY *key = NULL;
+    EVP_PKEY_CTX *context = EVP_PKEY_CTX_new_from_name(NULL, kind, NULL);
+    if (!context || !parameters || EVP_PKEY_fromdata_init(context) != 1
+        || EVP_PKEY_fromdata(context, &key, EVP_PKEY_PUBLIC_KEY, parameters) != 1)
+        key = NULL;
+    EVP_PKEY_CTX_free(context);
+    return key;
+}
+
+/* OpenSSL's key of a modulus and an exponent, or null. */
+static EVP_PKEY *rsa_key(struct spki_text modulus, struct spki_text exponent)
+{
+    BIGNUM *n = BN_bin2bn(modulus.octets, (int)modulus.length, NULL), *e = BN_bin2bn(exponent.octets, (int)exponent.length, NULL);
+    OSSL_PARAM_BLD *builder = OSSL_PARAM_BLD_new();
+    OSSL_PARAM *parameters = NULL;
+    if (n && e && builder && OSSL_PARAM_BLD_push_BN(builder, OSSL_PKEY_PARAM_RSA_N, n)
+        && OSSL_PARAM_BLD_push_BN(builder, OSSL_PKEY_PARAM_RSA_E, e))
+        parameters = OSSL_PARAM_BLD_to_param(builder);
+    EVP_PKEY *key = made_of("RSA", parameters);
+    OSSL_PARAM_free(parameters);
+    OSSL_PARAM_BLD_free(builder);
+    BN_free(e);
+    BN_free(n);
+    return key;
+}
+
+/* OpenSSL's key of a point of P-256, or null. */
+static EVP_PKEY *p256_key(struct spki_text point)
+{
+    char curve[] = "prime256v1";
+    unsigned char octets[VERIFY_POINT];
+    memcpy(octets, point.octets, sizeof octets);
+    OSSL_PARAM parameters[] = {OSSL_PARAM_construct_utf8_string(OSSL_PKEY_PARAM_GROUP_NAME, curve, 0),
+                               OSSL_PARAM_construct_octet_string(OSSL_PKEY_PARAM_PUB_KEY, octets, sizeof octets),
+                               OSSL_PARAM_construct_end()};
+    return made_of("EC", parameters);
+}
+
+static EVP_PKEY *key_of(const struct verify_parts *parts)
+{
+    if (parts->kind == VERIFY_ED25519)
+        return EVP_PKEY_new_raw_public_key(EVP_PKEY_ED25519, NULL, parts->key[0].octets, parts->key[0].length);
+    return parts->kind == VERIFY_RSA ? rsa_key(parts->key[0], parts->key[1]) : p256_key(parts->key[0]);
+}
+
+/* Writes the two numbers of a signature by ECDSA as OpenSSL has them. Returns the count of the octets, or 0. */
+static size_t ecdsa_signature(struct spki_text r, struct spki_text s, unsigned char *octets)
+{
+    ECDSA_SIG *pair = ECDSA_SIG_new();
+    BIGNUM *first = BN_bin2bn(r.octets, (int)r.length, NULL), *second = BN_bin2bn(s.octets, (int)s.length, NULL);
+    int length = 0;
+    if (pair && first && second && ECDSA_SIG_set0(pair, first, second) == 1)
+        length = i2d_ECDSA_SIG(pair, &octets);
+    else {
+        BN_free(first);
+        BN_free(second);
+    }
+    ECDSA_SIG_free(pair);
+    return length > 0 ? (size_t)length : 0;
+}
+
+/* Writes a signature as OpenSSL has it: both halves of one by Ed25519, the number of one by RSA with all octets of the modulus, both numbers
+ * of one by ECDSA. Returns the count of the octets, or 0. */
+static size_t signature_of(const struct verify_parts *parts, size_t size, unsigned char octets[MOST_SIGNATURE])
+{
+    struct spki_text first = parts->value[0], second = parts->value[1];
+    if (parts->kind == VERIFY_P256)
+        return ecdsa_signature(first, second, octets);
+    if (parts->kind == VERIFY_ED25519) {
+        memcpy(octets, first.octets, VERIFY_HALF);
+        memcpy(octets + VERIFY_HALF, second.octets, VERIFY_HALF);
+        return 2 * VERIFY_HALF;
+    }
+    if (size > MOST_SIGNATURE || first.length > size)
+        return 0;
+    memset(octets, 0, size - first.length);
+    memcpy(octets + size - first.length, first.octets, first.length);
+    return size;
+}
+
+bool verifies(struct spki_text key, struct spki_text message, struct spki_text value)
+{
+    unsigned char signature[MOST_SIGNATURE];
+    struct verify_parts parts = verify_parts_of(key, value);
+    EVP_PKEY *public = parts.kind == VERIFY_NONE ? NULL : key_of(&parts);
+    const EVP_MD *digest = parts.kind == VERIFY_ED25519 ? NULL : EVP_sha256();
+    size_t length = public ? signature_of(&parts, (size_t)EVP_PKEY_get_size(public), signature) : 0;
+    EVP_MD_CTX *context = EVP_MD_CTX_new();
+    bool right = length > 0 && context && EVP_DigestVerifyInit(context, NULL, digest, NULL, public) == 1
+                 && EVP_DigestVerify(context, signature, length, message.octets, message.length) == 1;
+    EVP_MD_CTX_free(context);
+    EVP_PKEY_free(public);
+    return right;
+}

@@ -1,0 +1,102 @@
+// Calls spki.hpp, which owns handles in C++. Ends with the line of what is wrong.
+#include <spki.hpp>
+
+#include <array>
+#include <cstdio>
+#include <string>
+#include <utility>
+
+#define CHECK(what)                                     \
+    do {                                                \
+        if (!(what)) {                                  \
+            std::printf("line %d: %s\n", __LINE__, #what); \
+            return 1;                                   \
+        }                                               \
+    } while (0)
+
+static const std::string list = "(acl (entry (public-key (test a)) (propagate) (tag (*))))";
+static const std::string pair
+    = "(cert (issuer (public-key (test a))) (subject (public-key (test b))) (tag (*)))"
+      "(signature (hash sha256 #d71ecfb335b8e4b04cb035426566a94e817a12cfcfa4dbf5b704b6cd670c7ad2#) (public-key (test a)) sig)";
+static const std::string shown = "(sequence " + pair + ")";
+static const std::string key = "(public-key (test b))";
+static const std::array<std::string_view, 2> words = {"ftp", "host"};
+static const std::int64_t now = 1704067200;
+
+static bool is_sig(std::string_view, std::string_view, std::string_view value)
+{
+    return value == "3:sig";
+}
+
+// The line of a refusal, or nothing.
+template <typename Call> static std::string refusal(Call call)
+{
+    try {
+        call();
+    } catch (const spki::refused &why) {
+        return why.what();
+    }
+    return "";
+}
+
+static int decisions()
+{
+    spki::guard guard(list);
+    CHECK(guard.entries() == 1);
+    CHECK(guard.decide({shown, key, words, now}, is_sig));
+    CHECK(!guard.decide({shown, key, words, now}, [](auto, auto, auto) { return false; }));
+    CHECK(!guard.decide({"(sequence)", key, words, now}, is_sig));
+    CHECK(!guard.decide({shown, "(public-key (test c))", words, now}, is_sig));
+    static_assert(!std::is_convertible_v<spki::decision, bool> && !std::is_convertible_v<spki::decision, int>, "a decision is no number");
+    static_assert(!std::is_copy_constructible_v<spki::guard> && !std::is_copy_constructible_v<spki::asked>, "a handle has one owner");
+    return 0;
+}
+
+static int opened()
+{
+    auto guard = std::make_unique<spki::guard>(list);
+    std::string text = shown;
+    spki::asked asked = guard->ask({text, key, words, now});
+    text.assign(text.size(), ' ');
+    guard.reset();
+    const spki::asked moved = std::move(asked);
+    CHECK(moved.size() == 1);
+    const spki_signed it = moved.signature(0);
+    CHECK(spki::view_of(it.key) == "(10:public-key(4:test1:a))" && spki::view_of(it.value) == "3:sig" && spki::view_of(it.octets) == "sig");
+    CHECK(moved.decide({1}) && moved.decide({1}) && !moved.decide({0}));
+    CHECK(moved.explain({1}) == "entry 1 grants\n" && moved.explain({0}) == "item 1 NotAccepted\n");
+    CHECK(moved.reduce({1}) == "entry 1 (five (subject (public-key (test b))) (tag (*)))\n");
+    try {
+        moved.decide({1, 1});
+        return 1;
+    } catch (const std::logic_error &) {
+    }
+    return 0;
+}
+
+static int refusals()
+{
+    spki::guard guard(list);
+    CHECK(refusal([] { spki::guard("(acl (entry))"); }) == "refused acl 1 Shape");
+    CHECK(refusal([&] { guard.ask({shown + "x", key, words, now}); }) == "refused sequence Trailing " + std::to_string(shown.size()));
+    CHECK(refusal([&] { guard.ask({shown, key, std::vector<std::string_view>(), now}); }) == "refused request EmptyList");
+    CHECK(refusal([&] { guard.ask({shown, key, std::vector<std::string_view>(65, "w"), now}); }) == "refused question TooManyWords");
+    spki_limits limits = spki::usual_limits;
+    limits.octets = 64;
+    spki::guard narrow(list, SPKI_STRICT, limits);
+    CHECK(refusal([&] { narrow.ask({shown, key, words, now}); }) == "refused question TooLong");
+    return 0;
+}
+
+static int literals()
+{
+    const spki_text text = SPKI_LITERAL("a\0b");
+    CHECK(text.length == 3 && spki::view_of(text) == std::string_view("a\0b", 3));
+    CHECK(SPKI_LITERAL("").length == 0);
+    return 0;
+}
+
+int main()
+{
+    return decisions() || opened() || refusals() || literals();
+}
