@@ -17,7 +17,8 @@ PARTS = ("sequence", "key", "request", "at")
 STRICT, OPEN = POLICIES = (0, 1)
 Signed = tuple[bytes, bytes, bytes]
 REFUSED = Rows("question to a guard, refused", [
-    "list, form", "list", "list, item 0", "question TooLong", "question TooManyCertificates", "question TooManyWords", "at, seconds", *(f"{part}{row}" for part in PARTS for row in (", form", "")),
+    "list, form", "list", "list, item 0", "question TooLong", "question TooManyCertificates", "question TooManyWords", "at, seconds",
+    *(f"{part}{row}" for part in PARTS for row in (", form", "")),
     "sequence, item 0", "explain, octets of the answer", "reduce, octets of the answer"])
 GIVEN = Rows("question to a guard, given", [
     "request by no string", "request by one string", "request by strings", "seconds", "seconds before 1970", "limits that are lower"])

@@ -40,7 +40,12 @@ pub(crate) fn push_refused_question(
 {
     match fault {
         AskFault::TooLong => push_refused_part(alloc, out, "question", "TooLong"),
-        AskFault::TooManyCertificates => push_refused_part(alloc, out, "question", "TooManyCertificates"),
+        AskFault::TooManyCertificates => push_refused_part(
+            alloc,
+            out,
+            "question",
+            "TooManyCertificates",
+        ),
         AskFault::TooManyWords => push_refused_part(alloc, out, "question", "TooManyWords"),
         AskFault::Form { part, fault } => push_refused_text(alloc, out, part_word(part), fault),
         AskFault::Sequence(met) => push_refused_in(alloc, out, "sequence", met),

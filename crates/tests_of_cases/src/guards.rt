@@ -162,7 +162,9 @@ fn case_fault(fault: AskFault) -> CaseFault {
     match fault {
         AskFault::TooLong => CaseFault::Form(FormFault::TooLong),
         // A case has no such limits: these differ from all its faults.
-        AskFault::TooManyCertificates | AskFault::TooManyWords => CaseFault::Form(FormFault::TooDeep),
+        AskFault::TooManyCertificates | AskFault::TooManyWords => CaseFault::Form(
+            FormFault::TooDeep,
+        ),
         AskFault::Form { part: _, fault } => CaseFault::Form(fault),
         AskFault::Sequence(fault) => CaseFault::Sequence(fault),
         AskFault::Key(kind) => CaseFault::Key(CertFault { item: 0, kind }),

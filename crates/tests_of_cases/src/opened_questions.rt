@@ -117,7 +117,9 @@ fn refused_in_a_line(rt: HostRuntime) -> Result<(), Fail> {
     let text = sequence(alloc, 17)?;
     match open_question(alloc, &guard, &question(&text, &[b"ftp"])) {
         Ok(_) => assert!(rt; false),
-        Err(line) => assert!(rt; line.octets() == b"refused question TooManyCertificates\n".as_slice()),
+        Err(line) => assert!(rt;
+            line.octets() == b"refused question TooManyCertificates\n".as_slice()
+        ),
     }
     Ok(())
 }
