@@ -29,25 +29,29 @@ struct verify_parts {
     struct spki_text key[2], value[2];
 };
 
+/* Reads a string, LENGTH:OCTETS, and returns where it ends. Returns null if none is there. */
+static inline const unsigned char *verify_string(const unsigned char *at, const unsigned char *end, struct spki_text *string)
+{
+    const unsigned char *first = at;
+    size_t length = 0;
+    for (; at != end && *at >= '0' && *at <= '9' && length <= VERIFY_MOST_OCTETS; at++)
+        length = 10 * length + (size_t)(*at - '0');
+    if (at == first || (*first == '0' && at != first + 1) || at == end || *at++ != ':' || length > (size_t)(end - at))
+        return NULL;
+    *string = (struct spki_text){at, length};
+    return at + length;
+}
+
 /* Whether a canonical text has a form, in which `%` is any string. Sets the strings. */
 static inline bool verify_has_form(struct spki_text text, const char *form, struct spki_text *strings)
 {
-    const unsigned char *at = text.octets, *end = at + text.length, *first;
-    for (; text.length <= VERIFY_MOST_OCTETS && *form; form++) {
-        size_t length = 0;
-        if (*form != '%') {
-            if (at == end || *at++ != (unsigned char)*form)
-                return false;
-            continue;
-        }
-        for (first = at; at != end && *at >= '0' && *at <= '9' && length <= VERIFY_MOST_OCTETS; at++)
-            length = 10 * length + (size_t)(*at - '0');
-        if (at == first || (*first == '0' && at != first + 1) || at == end || *at++ != ':' || length > (size_t)(end - at))
-            return false;
-        *strings++ = (struct spki_text){at, length};
-        at += length;
-    }
-    return !*form && at == end;
+    const unsigned char *at = text.octets, *end = at + text.length;
+    for (; at && text.length <= VERIFY_MOST_OCTETS && *form; form++)
+        if (*form == '%')
+            at = verify_string(at, end, strings++);
+        else
+            at = at != end && *at == (unsigned char)*form ? at + 1 : NULL;
+    return at && !*form && at == end;
 }
 
 /* A number of a signature without octets 00 in front. */

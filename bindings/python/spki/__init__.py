@@ -33,7 +33,7 @@ from typing import TypeVar, cast
 
 from . import _library as of
 from ._library import library
-from ._values import Decision, Explanation, Limits, NoDecision, Policy, Question, Reason, Reduction, Refused, Signature, mark_of, octets_of
+from ._values import Decision, Explanation, Limits, NoDecision, Policy, Question, Reason, Reduction, Refused, Signature, mark_of, octets_of, whole
 
 __version__ = "0.1.0"
 __all__ = ["Asked", "Decision", "Explanation", "Guard", "Limits", "Policy", "Question", "Reason", "Reduction", "Refused", "Signature", "Verify",
@@ -215,10 +215,10 @@ def string_at(text: bytes, *path: int) -> bytes | None:
     `None` if no string is there, or the text is no value in canonical form. Raises `Refused` if an allocation failed. Of
     `(public-key (rsa (n ..) (e #010001#)))` the path 1, 1, 1 is that of the modulus.
     """
-    octets, length, text = c_void_p(), c_size_t(), octets_of(text)
-    if any(place not in range(len(text)) for place in path):
+    octets, length, text, places = c_void_p(), c_size_t(), octets_of(text), list(map(whole, path))
+    if any(place not in range(len(text)) for place in places):
         return None
-    status = library.spki_string(text, len(text), (c_size_t * len(path))(*path), len(path), byref(octets), byref(length))
+    status = library.spki_string(text, len(text), (c_size_t * len(places))(*places), len(places), byref(octets), byref(length))
     if status == of.NO_MEMORY:
         raise Refused("refused Memory")
     return ctypes.string_at(octets, length.value) if status == of.DONE else None
