@@ -14,7 +14,7 @@ type placed struct {
 	once  sync.Once
 	leave func()
 	// Is called for each answer that is none of the decider's.
-	onOther func()
+	onForeign func()
 }
 
 // The beginning of each answer, that of a yes, and the headers of the decider's answers, as they are written.
@@ -32,7 +32,7 @@ var errOtherYes = errors.New("a 200 that the decider has not said")
 func (p *placed) Write(octets []byte) (int, error) {
 	if bytes.HasPrefix(octets, answerBegins) && !bytes.Contains(octets, ownYes) {
 		if !bytes.Contains(octets, ownAnswer) {
-			p.onOther()
+			p.onForeign()
 		}
 		if yesBegins.Match(octets) {
 			p.Close()

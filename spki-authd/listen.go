@@ -113,12 +113,12 @@ func (c *config) setOwner(path string) error {
 // A bounded listener has at most so many connections at the same time. More of them wait.
 type bounded struct {
 	net.Listener
-	places  chan struct{}
-	onOther func()
+	places    chan struct{}
+	onForeign func()
 }
 
-func newBounded(listener net.Listener, most int, onOther func()) *bounded {
-	return &bounded{listener, make(chan struct{}, most), onOther}
+func newBounded(listener net.Listener, most int, onForeign func()) *bounded {
+	return &bounded{listener, make(chan struct{}, most), onForeign}
 }
 
 // Accept waits for a place, and then for a connection.
@@ -129,5 +129,5 @@ func (b *bounded) Accept() (net.Conn, error) {
 		<-b.places
 		return nil, err
 	}
-	return &placed{Conn: connection, leave: func() { <-b.places }, onOther: b.onOther}, nil
+	return &placed{Conn: connection, leave: func() { <-b.places }, onForeign: b.onForeign}, nil
 }

@@ -10,7 +10,7 @@ const (
 	beforeR     = "(7:sig-val(5:eddsa(1:r"
 	beforeRSA   = "(7:sig-val(3:rsa(1:s"
 	beforeECDSA = "(7:sig-val(5:ecdsa(1:r"
-	beforeS     = ")(1:s"
+	betweenBoth = ")(1:s"
 	afterValue  = ")))"
 )
 
@@ -48,7 +48,7 @@ func pair(text *reader, before string) ([]byte, []byte, bool) {
 		return nil, nil, false
 	}
 	r, ok := text.string(half)
-	if !ok || !text.skips(beforeS) {
+	if !ok || !text.skips(betweenBoth) {
 		return nil, nil, false
 	}
 	s, ok := text.string(half)
