@@ -41,6 +41,11 @@ class Node:
         first = self.members[0] if self.members else None
         return first.body if first is not None and first.hint is None else None
 
+    @property
+    def rest(self) -> list[Node]:
+        """The members of a list after its head."""
+        return self.members[1:] if self.members else []
+
     def is_plain(self, *words: bytes) -> bool:
         return self.body is not None and self.hint is None and (not words or self.body in words)
 

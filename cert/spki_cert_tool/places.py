@@ -23,11 +23,6 @@ PASTED = {
     "a key in PEM": re.compile(rb"-----BEGIN [A-Z0-9 ]+-----.*?(?:-----END [A-Z0-9 ]+-----|\Z)", re.DOTALL)}
 
 
-def members_of(node: Node) -> list[Node]:
-    """The members of a list after its head."""
-    return node.members[1:] if node.members else []
-
-
 def name_pasted_key(text: bytes, wrong: Wrong) -> None:
     """Says what is wrong if the place is in a key that is no S-expression."""
     for called, pattern in PASTED.items():
@@ -63,7 +58,7 @@ def read_one(name: str, number: int, read: Reader, node: Node) -> None:
 
 def read_list(node: Node) -> None:
     part_of("acl 0", lambda: Members(node, b"acl", "the access list"))
-    entries = members_of(node)
+    entries = node.rest
     if entries and entries[0].head == b"version":
         part_of("acl 0", partial(read_version, entries.pop(0)))
     read_numbered("acl", read_entry, entries)
@@ -72,7 +67,7 @@ def read_list(node: Node) -> None:
 def read_sequence(node: Node) -> None:
     part_of("sequence 0", lambda: Members(node, b"sequence", "the sequence"))
     waits: tuple[int, Node] | None = None
-    items = members_of(node)
+    items = node.rest
     for number, item in enumerate([*items, None], 1):
         head = item.head if item else None
         if waits and head not in (b"do", b"signature"):
@@ -88,18 +83,18 @@ def read_sequence(node: Node) -> None:
 
 def read_case(node: Node) -> None:
     read_outline(node)
-    acl, accepted, sequence, key, request, moment = members_of(node)[:6]
+    acl, accepted, sequence, key, request, moment = node.rest[:6]
     read_list(acl)
-    read_numbered("accepted", read_row, members_of(accepted))
+    read_numbered("accepted", read_row, accepted.rest)
     read_sequence(sequence)
     for name, part in (("key", key), ("request", request), ("at", moment)):
-        READERS[name](members_of(part)[0])
+        READERS[name](part.rest[0])
 
 
 def read_outline(node: Node) -> None:
     """The parts of a case, by their heads."""
-    needs_head(node, b"case", "case Shape")
-    parts = members_of(node)
+    part_of("case", lambda: Members(node, b"case", "the text"))
+    parts = node.rest
     for place, head in enumerate(PARTS):
         part = parts[place] if place < len(parts) else None
         if part is None:
@@ -107,27 +102,22 @@ def read_outline(node: Node) -> None:
         if part.head != head:
             order = ", ".join(it.decode() for it in PARTS)
             raise Wrong("case Shape", part.begin, f"this part must be {but_is(part, head)}; the order is {order}")
-        if place > 2 and len(members_of(part)) != 1:
-            raise Wrong("case Shape", part.begin, f"`({head.decode()} ..)` has one member, and this has {len(members_of(part))}")
+        if place > 2 and len(part.rest) != 1:
+            raise Wrong("case Shape", part.begin, f"`({head.decode()} ..)` has one member, and this has {len(part.rest)}")
     read_policy(parts[len(PARTS):])
 
 
 def read_policy(nodes: list[Node]) -> None:
     for place, member in enumerate(nodes):
-        policy = members_of(member)
+        policy = member.rest
         if place or member.head != b"policy" or len(policy) != 1 or not policy[0].is_plain(b"strict"):
             raise Wrong("case Shape", member.begin, "the moment is followed by `(policy strict)` or nothing" + (
                 "; for the open policy leave it out" if not place and member.head == b"policy" else meant(member.head, (b"policy",))))
 
 
-def needs_head(node: Node, head: bytes, kind: str) -> None:
-    if node.head != head:
-        raise Wrong(kind, node.begin, f"the text must be {but_is(node, head)}")
-
-
 def read_intersect(node: Node) -> None:
-    needs_head(node, b"intersect", "intersect Shape")
-    tags = members_of(node)
+    part_of("intersect", lambda: Members(node, b"intersect", "the text"))
+    tags = node.rest
     if len(tags) != 2:
         raise Wrong("intersect Shape", node.begin, f"`(intersect A B)` has two tags, and this has {len(tags)} members")
     for number, tag in enumerate(tags, 1):
@@ -135,8 +125,8 @@ def read_intersect(node: Node) -> None:
 
 
 def read_rows(node: Node) -> None:
-    needs_head(node, b"accepted", "rows Shape")
-    read_numbered("rows", read_row, members_of(node))
+    part_of("rows", lambda: Members(node, b"accepted", "the text"))
+    read_numbered("rows", read_row, node.rest)
 
 
 def reader_of(name: str, read: Reader) -> Reader:

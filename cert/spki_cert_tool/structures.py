@@ -33,7 +33,7 @@ class Members:
     def __init__(self, node: Node, head: bytes, what: str) -> None:
         if node.head != head:
             raise shape(node, f"{what} must be {but_is(node, head)}")
-        self.node, self.left = node, node.members[1:] if node.members else []
+        self.node, self.left = node, node.rest
 
     def next(self, what: str) -> Node:
         if not self.left:
@@ -155,7 +155,7 @@ FIELDS: dict[bytes, Reader] = {
     b"not-before": only_member(read_date), b"not-after": only_member(read_date), b"tag": only_member(lambda node: read_tag(node, [0])),
     b"issuer": only_member(read_issuer), b"subject": only_member(read_subject), b"version": read_version,
     b"propagate": lambda node: Members(node, b"propagate", "a field").end(),
-    b"valid": lambda node: read_fields(node, node.members[1:] if node.members else [], LIMITS)}
+    b"valid": lambda node: read_fields(node, node.rest, LIMITS)}
 
 
 def no_field(node: Node, allowed: tuple[bytes, ...]) -> str:
