@@ -2,6 +2,7 @@
 environment:
 
     SPKI_TEST_PROGRAM   another program than crates/spki/out/spki
+    SPKI_TEST_ONE_CALL  another program than crates/test_one_call/out/test_one_call
     SPKI_TEST_LIBRARY   another static library than crates/spki_c/out/libspki_c.a; the shared one lies beside it
     SPKI_TEST_ALONE     the program alone is tested: there is no library
     SPKI_TEST_CASES     how many generated cases are compared with the model
@@ -14,7 +15,8 @@ import unittest
 from support import LIBRARY, PROGRAM, TOP
 
 BY_RATTLE = os.path.join(TOP, "crates", "spki", "out", "spki.by-rattle")
-ONE_CALL = os.path.join(TOP, "crates", "test_one_call", "out", "test_one_call")
+ONE_CALL = os.environ.get("SPKI_TEST_ONE_CALL", os.path.join(TOP, "crates", "test_one_call", "out", "test_one_call"))
+ONE_CALL_BY_RATTLE = os.path.join(TOP, "crates", "test_one_call", "out", "test_one_call.by-rattle")
 IS_LONG, IS_ALONE, IS_ANEW = (bool(os.environ.get(f"SPKI_TEST_{word}")) for word in ("LONG", "ALONE", "ANEW"))
 CASES = int(os.environ.get("SPKI_TEST_CASES", "2000"))
 

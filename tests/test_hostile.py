@@ -1,6 +1,6 @@
 """Runs the program under hostile conditions: each allocation, each read and each write fails in turn, texts are cut short, ends
-fail, limits are tried from both sides, the stack is small, and texts need the most work. `test_one_call` runs each call of the libraries by
-itself in the same way, on its worked example.
+fail, limits are tried from both sides, the stack is small, and texts need the most work. `test_one_call` does each call of the libraries by
+itself in the same way, on two rows of `calls/`.
 
 `refuse.c` beside this file is compiled by `cc` and preloaded, and lets the chosen calls fail. Each part is a test. It prints the examples,
 runs, failures that were met and faults. The longest parts are tests only of `tests/run --long`, which `.ci/deep` runs."""
@@ -20,6 +20,7 @@ import chains
 import limits
 import needs
 import rows
+import test_calls
 from limits import MOST_OCTETS
 from refusing import PIPE, Program, compiled
 from support import BENCH, COMMANDS, EXAMPLES, braced, tables_here
@@ -44,15 +45,6 @@ READ_FAULT = (3, b"", b"spki: read fault\n")
 WRITE_FAULT = (3, b"", b"spki: write fault\n")
 UNSAID_FAULT = (3, b"", b"")
 
-# The calls that may be refused memory. `test_one_call` runs the example of each.
-CALLS = (
-    "decode", "encode", "read_any", "print_advanced", "wrap", "unwrap_braces", "Doc::open", "read_advanced",
-    "Tag::read", "Ground::read", "Tag::meet", "Tag::meet_within", "Tag::write", "read_acl", "read_sequence", "read_key", "read_hash",
-    "Five::then", "fold_chain", "fold_owned", "Five::resolve", "Five::into_resolve", "Four::then", "Five::write",
-    "Case::read", "decide", "reduce_case", "explain", "run",
-    "Guard::read", "Guard::texts", "Guard::ask", "Asked::decide", "Asked::decide_by", "Asked::explain", "Asked::explain_by",
-    "Asked::reduce", "Asked::reduce_by", "answer_question", "signed_octets", "refused_list",
-)
 # What is written of the cases of examples/, and of some of chains.py: the status and the line. A command that the program does not
 # have is passed over.
 FILES = {
@@ -220,10 +212,11 @@ def refused_in_turn(program, example, behind):
     return len(numbers) + 1, refusals, faults
 
 
-def call_refused(program, name, behind):
+def call_refused(program, row, behind):
     """The same for a call by itself."""
     one_call = Program(built.there(built.ONE_CALL), program.library)
-    return refused_in_turn(one_call, Example("its example", name, b"", answered("0 as promised")), behind)
+    answer = 0, row.answer.hex().encode() + b"\n", b""
+    return refused_in_turn(one_call, Example(row.place, row.call, row.line(), answer), behind)
 
 
 def cut_short(program, command, text, places):
@@ -332,9 +325,9 @@ def memory_refused(behind):
 
 
 def calls_refused():
-    for name in CALLS:
+    for row in test_calls.examples():
         for behind in ("", ".."):
-            yield call_refused, name, behind
+            yield call_refused, row, behind
 
 
 def truncation():

@@ -12,6 +12,7 @@ WRONG = [(), (b"frob",), (b"check", b"check"), (b"",), (b"\xff",), (b"check", b"
 HELP = [(b"--help",), (b"-h",)] + [(command.encode(), b"--help") for command in COMMANDS]
 STATUSES = (b"\n  0  ", b"\n  2  ", b"\n  3  ")
 TEXT = b"(1:a)"
+NO_TEXT = (2, b"", b"error: the words aren't UTF-8\n")
 
 
 class Words(built.OfProgram):
@@ -29,12 +30,17 @@ class Words(built.OfProgram):
                 is_said = said.startswith(b"error: ") or b"Usage: spki" in said
                 self.assertEqual((status, out, is_said), (2, b"", True), f"spki {b' '.join(words)!r}: {said!r}")
 
+    def test_words_that_are_no_text(self) -> None:
+        self.assertEqual(self.met((b"\xff",)), NO_TEXT)
+        self.assertEqual(self.met((b"check", b"\xff")), NO_TEXT)
+
     def test_help(self) -> None:
         for words in HELP:
             with self.subTest(words):
                 status, out, said = self.met(words)
                 is_said = b"Usage: spki" in said and all(each in said for each in STATUSES)
                 self.assertEqual((status, out, is_said), (0, b"", True), f"spki {b' '.join(words)!r}: {said!r}")
+        self.assertTrue(self.met((b"--help",))[2].startswith(b"Decides"))
 
     def test_right_word(self) -> None:
         self.assertEqual(self.met((b"canonical",)), (0, TEXT, b""))

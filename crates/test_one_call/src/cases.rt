@@ -1,119 +1,120 @@
-//! The calls for cases.
+//! The calls for cases, and the texts of their answers.
 
 use crate::failure::Failure;
-use sha2::{Digest, Sha256};
+use crate::texts::at;
+use crate::tuples::written;
+use crate::verifier::RowVerifier;
+use spki_decision::{Evidence, judge};
 use spki_guard::{
-    Case, Command, Decision, EntryFold, Explanation, Metered, Reason, Reduction, Status,
+    Answer, Case, Decision, EntryFold, Explanation, Reduction, Verdict, check_accepted,
 };
-use spki_reduce::Cause;
 use std::alloc::Global;
 
-/// `first-run`
-const FIRST_RUN: &[u8] =
-    b"(4:case(3:acl(5:entry(10:public-key(4:test1:a))(3:tag(3:ftp4:host))))(8:accepted)(8:sequence)(3:key(10:public-key(4:test1:a)))(7:request(3:ftp4:host3:dir))(2:at19:2024-01-01_00:00:00))";
-
-/// `shorter-request`
-const SHORTER: &[u8] =
-    b"(4:case(3:acl(5:entry(10:public-key(4:test1:a))(3:tag(3:ftp4:host))))(8:accepted)(8:sequence)(3:key(10:public-key(4:test1:a)))(7:request(3:ftp))(2:at19:2024-01-01_00:00:00))";
-
-/// `reduced-sets` in three texts: before the digest in the accepted row, between this digest and the one in the
-/// signature, and after that one.
-const ENTRY: &[u8] =
-    b"(4:case(3:acl(5:entry(10:public-key(4:test1:a))(9:propagate)(3:tag(1:*3:set4:read5:write))))(8:accepted(2:by(10:public-key(4:test1:a))(4:hash6:sha25632:";
-
-const TO_SEQUENCE: &[u8] = b")3:sig))(8:sequence";
-
-const TO_DIGEST: &[u8] = b"(9:signature(4:hash6:sha25632:";
-
-const ASKED: &[u8] =
-    b")(10:public-key(4:test1:a))3:sig))(3:key(10:public-key(4:test1:b)))(7:request(3:ftp))(2:at19:2024-01-01_00:00:00))";
-
-/// Its certificates: with a set of strings, and with the tag `x`.
-const WITH_SET: &[u8] =
-    b"(4:cert(6:issuer(10:public-key(4:test1:a)))(7:subject(10:public-key(4:test1:b)))(3:tag(1:*3:set5:write(1:*6:prefix2:re))))";
-
-const WITH_X: &[u8] =
-    b"(4:cert(6:issuer(10:public-key(4:test1:a)))(7:subject(10:public-key(4:test1:b)))(3:tag1:x))";
-
-pub(crate) fn case_read(alloc: Global) -> Result<bool, Failure> {
-    let case = Case::read(alloc, FIRST_RUN)?;
-    Ok(case.acl.len() == 1 && case.sequence.is_empty())
-}
-
-pub(crate) fn decide(alloc: Global) -> Result<bool, Failure> {
-    let case = Case::read(alloc, FIRST_RUN)?;
-    let decision = spki_guard::decide(alloc, &case, case.accepted())?;
-    Ok(decision == Decision::Yes(1))
-}
-
-pub(crate) fn explain(alloc: Global) -> Result<bool, Failure> {
-    let case = Case::read(alloc, SHORTER)?;
-    match spki_guard::explain(alloc, &case, case.accepted())? {
-        Explanation::Entries(reasons) => Ok(reasons.as_slice() == [Reason::TagLacks].as_slice()),
-        Explanation::Evidence { .. } => Ok(false),
+/// The answer of the call with this name. None if there is no such call.
+pub(crate) fn call(
+    alloc: Global,
+    name: &str,
+    texts: &[Vec<u8>],
+) -> Option<Result<Vec<u8>, Failure>> {
+    let (text, rows) = (at(texts, 0), at(texts, 1));
+    match name {
+        "Case::read" => Some(read(alloc, text)),
+        "judge" => Some(judged(alloc, text, rows)),
+        "decide" => Some(decide(alloc, text, rows)),
+        "explain" => Some(explain(alloc, text, rows)),
+        "reduce_case" => Some(reduce(alloc, text, rows)),
+        "check_accepted" => Some(answered(alloc, &check_accepted(alloc, text, rows))),
+        _ => None,
     }
 }
 
-/// The case of `reduced-sets` with a certificate.
-fn reduced_sets(alloc: Global, certificate: &[u8]) -> Result<Vec<u8>, Failure> {
-    let digest = Sha256::digest(certificate);
-    let digest = digest.as_slice();
-    let mut text = Vec::new(alloc);
-    for piece in [
-        ENTRY,
-        digest,
-        TO_SEQUENCE,
-        certificate,
-        TO_DIGEST,
-        digest,
-        ASKED,
-    ] {
-        text.extend_from_slice(piece)?;
-    }
-    Ok(text)
+/// The numbers of entries and of items.
+fn read(alloc: Global, text: &[u8]) -> Result<Vec<u8>, Failure> {
+    let case = Case::read(alloc, text)?;
+    let (entries, items) = (case.acl.len(), case.sequence.len());
+    Ok(format!(in alloc; "{entries} {items}")?.into_bytes())
 }
 
-pub(crate) fn reduce_case(alloc: Global) -> Result<bool, Failure> {
-    let text = reduced_sets(alloc, WITH_SET)?;
-    let case = Case::read(alloc, &text)?;
-    let reduced = match spki_guard::reduce_case(alloc, &case, case.accepted())? {
-        Reduction::Entries(folds) => one_tag(alloc, &folds)?,
-        Reduction::Evidence { .. } => return Ok(false),
-    };
-    let text = reduced_sets(alloc, WITH_X)?;
-    let case = Case::read(alloc, &text)?;
-    let stopped = match spki_guard::reduce_case(alloc, &case, case.accepted())? {
-        Reduction::Entries(folds) => is_stopped(&folds),
-        Reduction::Evidence { .. } => return Ok(false),
-    };
-    Ok(reduced && stopped)
-}
-
-/// Whether the first entry becomes one tuple for the set of read and write.
-fn one_tag(alloc: Global, folds: &[EntryFold]) -> Result<bool, Failure> {
-    let Some(EntryFold::Done(five)) = folds.first() else {
-        return Ok(false);
-    };
-    let octets = sexpr_core::encode(alloc, &five.tag.write(alloc)?)?;
-    Ok(octets.as_slice() == b"(1:*3:set4:read5:write)".as_slice())
-}
-
-/// Whether the first item stops the first entry, since the two tags have no intersection.
-fn is_stopped(folds: &[EntryFold]) -> bool {
-    match folds.first() {
-        Some(EntryFold::Stopped { item, cause }) => *item == 1 && *cause == Cause::NoTag,
-        Some(EntryFold::Done(_)) | None => false,
+/// The number of tuples, or the first item whose certificate fails, and why.
+fn judged(alloc: Global, text: &[u8], rows: &[u8]) -> Result<Vec<u8>, Failure> {
+    let verifier = RowVerifier::read(alloc, rows)?;
+    let case = Case::read(alloc, text)?;
+    match judge(alloc, &case.sequence, case.policy, &verifier)? {
+        Evidence::Stands(steps) => Ok(format!(in alloc; "{}", steps.len())?.into_bytes()),
+        Evidence::Fails { item, stop } => Ok(format!(in alloc; "{item} {stop:?}")?.into_bytes()),
     }
 }
 
-pub(crate) fn run(alloc: Global) -> Result<bool, Failure> {
-    let mut reader = Metered::new(FIRST_RUN);
-    let mut writer = Metered::new(Vec::with_capacity(alloc, 64)?);
-    let status = spki_guard::run(alloc, Command::Check, &mut reader, &mut writer);
-    let written = writer.into_inner();
-    match (status, written.as_slice()) {
-        (Status::Refused, b"refused Memory\n") => Err(Failure::Memory),
-        (Status::Done, line) => Ok(line == b"yes entry 1\n".as_slice()),
-        _ => Ok(false),
+fn decide(alloc: Global, text: &[u8], rows: &[u8]) -> Result<Vec<u8>, Failure> {
+    let verifier = RowVerifier::read(alloc, rows)?;
+    let case = Case::read(alloc, text)?;
+    decided(alloc, spki_guard::decide(alloc, &case, &verifier)?)
+}
+
+fn explain(alloc: Global, text: &[u8], rows: &[u8]) -> Result<Vec<u8>, Failure> {
+    let verifier = RowVerifier::read(alloc, rows)?;
+    let case = Case::read(alloc, text)?;
+    let explanation = spki_guard::explain(alloc, &case, &verifier)?;
+    explained(alloc, &explanation)
+}
+
+fn reduce(alloc: Global, text: &[u8], rows: &[u8]) -> Result<Vec<u8>, Failure> {
+    let verifier = RowVerifier::read(alloc, rows)?;
+    let case = Case::read(alloc, text)?;
+    let reduction = spki_guard::reduce_case(alloc, &case, &verifier)?;
+    reduced(alloc, &reduction)
+}
+
+/// A decision as a text.
+pub(crate) fn decided(alloc: Global, decision: Decision) -> Result<Vec<u8>, Failure> {
+    Ok(format!(in alloc; "{decision:?}")?.into_bytes())
+}
+
+/// An explanation as a text: a line for each entry, or an item and its stop.
+pub(crate) fn explained(alloc: Global, explanation: &Explanation) -> Result<Vec<u8>, Failure> {
+    match explanation {
+        Explanation::Entries(reasons) => Ok(format!(in alloc; "{reasons:?}")?.into_bytes()),
+        Explanation::Evidence { item, stop } => {
+            Ok(format!(in alloc; "{item} {stop:?}")?.into_bytes())
+        }
     }
+}
+
+/// A reduction as a text: a line for each entry, or an item and its stop.
+pub(crate) fn reduced(alloc: Global, reduction: &Reduction) -> Result<Vec<u8>, Failure> {
+    match reduction {
+        Reduction::Entries(folds) => lines_of(alloc, folds),
+        Reduction::Evidence { item, stop } => {
+            Ok(format!(in alloc; "{item} {stop:?}")?.into_bytes())
+        }
+    }
+}
+
+fn lines_of(alloc: Global, folds: &[EntryFold]) -> Result<Vec<u8>, Failure> {
+    let mut out = Vec::new(alloc);
+    for fold in folds {
+        out.extend_from_slice(&line_of(alloc, fold)?)?;
+        out.push(b'\n')?;
+    }
+    Ok(out)
+}
+
+/// An authorization in canonical form, or the item that stops the entry, and the cause.
+fn line_of(alloc: Global, fold: &EntryFold) -> Result<Vec<u8>, Failure> {
+    match fold {
+        EntryFold::Done(five) => written(alloc, five),
+        EntryFold::Stopped { item, cause } => {
+            Ok(format!(in alloc; "{item} {cause:?}")?.into_bytes())
+        }
+    }
+}
+
+/// An answer's verdict and its line.
+pub(crate) fn answered(alloc: Global, answer: &Answer) -> Result<Vec<u8>, Failure> {
+    if answer.verdict == Verdict::Refused && answer.octets() == b"refused Memory\n".as_slice() {
+        return Err(Failure::Memory);
+    }
+    let mut out = format!(in alloc; "{:?} ", answer.verdict)?.into_bytes();
+    out.extend_from_slice(answer.octets())?;
+    Ok(out)
 }

@@ -1,29 +1,78 @@
-//! Why an example has no answer.
+//! Why a row has no answer.
 
+use hex::FromHexError;
 use sexpr_core::FormFault;
 use spki_cert::{CertFault, CertFaultKind};
-use spki_guard::{AclFault, AskFault, CaseFault, GuardFault};
+use spki_guard::{AclFault, AskFault, CaseFault, GuardFault, IntersectFault, RowsFault};
 use spki_reduce::ReduceFault;
 use spki_tag::{MeetFault, TagFault};
-use std::alloc::{AllocError, AllocFailed};
+use std::alloc::{AllocError, AllocFailed, Global};
+use std::io;
+use std::io::ErrorKind;
+use thiserror::Error;
 
-/// Why an example has no answer.
-#[derive(Drop)]
+/// Why a row has no answer.
+#[derive(Debug, Drop, Error)]
 pub enum Failure {
     /// Memory ran out.
+    #[error("out of memory")]
     Memory,
-    /// A call refused its input for another reason.
-    Fault,
+    /// The row is none: an unknown call, or no digits.
+    #[error("no row")]
+    Unknown,
+    #[error(transparent)]
+    Form(#[from] FormFault),
+    #[error(transparent)]
+    Tag(#[from] TagFault),
+    #[error(transparent)]
+    Meet(#[from] MeetFault),
+    #[error(transparent)]
+    Cert(#[from] CertFault),
+    #[error(transparent)]
+    Kind(#[from] CertFaultKind),
+    #[error(transparent)]
+    Reduce(#[from] ReduceFault),
+    #[error(transparent)]
+    Case(#[from] CaseFault),
+    #[error(transparent)]
+    Rows(#[from] RowsFault),
+    #[error(transparent)]
+    Decision(#[from] GuardFault),
+    #[error(transparent)]
+    Intersect(#[from] IntersectFault),
+    #[error(transparent)]
+    Acl(#[from] AclFault),
+    #[error(transparent)]
+    Ask(#[from] AskFault),
 }
 
 impl Failure {
-    /// The reason, which is Memory if that is the fault.
-    fn by(is_memory: bool) -> Failure {
-        if is_memory {
-            Failure::Memory
-        } else {
-            Failure::Fault
+    /// Whether memory ran out.
+    pub(crate) fn is_memory(&self) -> bool {
+        match self {
+            Failure::Memory => true,
+            Failure::Unknown => false,
+            Failure::Form(fault) => *fault == FormFault::Memory,
+            Failure::Tag(fault) => *fault == TagFault::Memory,
+            Failure::Meet(fault) => *fault == MeetFault::Memory,
+            Failure::Cert(fault) => fault.kind == CertFaultKind::Memory,
+            Failure::Kind(kind) => *kind == CertFaultKind::Memory,
+            Failure::Reduce(fault) => *fault == ReduceFault::Memory,
+            Failure::Case(fault) => *fault == CaseFault::Memory,
+            Failure::Rows(fault) => *fault == RowsFault::Memory,
+            Failure::Decision(fault) => *fault == GuardFault::Memory,
+            Failure::Intersect(fault) => *fault == IntersectFault::Memory,
+            Failure::Acl(fault) => *fault == AclFault::Memory,
+            Failure::Ask(fault) => *fault == AskFault::Memory,
         }
+    }
+
+    /// The fault and its text, as the answer to a row. `Memory` if memory ran out.
+    pub(crate) fn said(self, alloc: Global) -> Result<Vec<u8>, Failure> {
+        if self.is_memory() {
+            return Err(Failure::Memory);
+        }
+        Ok(format!(in alloc; "{self:?}: {self}")?.into_bytes())
     }
 }
 
@@ -39,62 +88,20 @@ impl<T: Drop> From<AllocFailed<T>> for Failure {
     }
 }
 
-impl From<FormFault> for Failure {
-    fn from(fault: FormFault) -> Failure {
-        Failure::by(fault == FormFault::Memory)
+impl From<FromHexError> for Failure {
+    fn from(fault: FromHexError) -> Failure {
+        match fault {
+            FromHexError::OutOfMemory => Failure::Memory,
+            _ => Failure::Unknown,
+        }
     }
 }
 
-impl From<TagFault> for Failure {
-    fn from(fault: TagFault) -> Failure {
-        Failure::by(fault == TagFault::Memory)
-    }
-}
-
-impl From<MeetFault> for Failure {
-    fn from(fault: MeetFault) -> Failure {
-        Failure::by(fault == MeetFault::Memory)
-    }
-}
-
-impl From<CertFaultKind> for Failure {
-    fn from(fault: CertFaultKind) -> Failure {
-        Failure::by(fault == CertFaultKind::Memory)
-    }
-}
-
-impl From<ReduceFault> for Failure {
-    fn from(fault: ReduceFault) -> Failure {
-        Failure::by(fault == ReduceFault::Memory)
-    }
-}
-
-impl From<GuardFault> for Failure {
-    fn from(fault: GuardFault) -> Failure {
-        Failure::by(fault == GuardFault::Memory)
-    }
-}
-
-impl From<CaseFault> for Failure {
-    fn from(fault: CaseFault) -> Failure {
-        Failure::by(fault == CaseFault::Memory)
-    }
-}
-
-impl From<AclFault> for Failure {
-    fn from(fault: AclFault) -> Failure {
-        Failure::by(fault == AclFault::Memory)
-    }
-}
-
-impl From<AskFault> for Failure {
-    fn from(fault: AskFault) -> Failure {
-        Failure::by(fault == AskFault::Memory)
-    }
-}
-
-impl From<CertFault> for Failure {
-    fn from(fault: CertFault) -> Failure {
-        Failure::from(fault.kind)
+impl From<io::Error> for Failure {
+    fn from(error: io::Error) -> Failure {
+        match error.kind() {
+            ErrorKind::OutOfMemory => Failure::Memory,
+            _ => Failure::Unknown,
+        }
     }
 }

@@ -1,201 +1,214 @@
-//! The calls for guards.
+//! The calls for guards. Their first texts are the access list, its policy, and the most octets and nodes of a question.
 
-ghost use Rattle.std.specs.Prelude.{◌↔◌, IsTrue, IfOk};
-
+use crate::cases::{answered, decided, explained, reduced};
 use crate::failure::Failure;
-use crate::structures::{KA, sequence};
-use spki_cert::{CertFault, CertFaultKind, Key, Policy};
-use spki_guard::{
-    AclFault, Answer, Asked, Decision, EntryFold, Explanation, Guard, Instant, Limits, Question,
-    Reason, Reduction, Verdict, Verifier, Wanted, Wish,
-};
-use spki_reduce::Cause;
-use std::alloc::{AllocError, Global};
+use crate::texts::{at, behind, number, word};
+use crate::verifier::RowVerifier;
+use spki_cert::Policy;
+use spki_guard::{Asked, Guard, Instant, Limits, Question, Wanted, Wish, answer_question};
+use std::alloc::Global;
+use std::str;
 
-/// The access list: KA without delegation; a hash that names no key that is shown; KA with delegation.
-const LIST: &[u8] =
-    b"(acl (entry (public-key (test a)) (tag (*))) (entry (hash sha1 \"01234567890123456789\") (propagate) (tag (*))) (entry (public-key (test a)) (propagate) (tag (*))))";
-
-const KB: &[u8] = b"(public-key (test b))";
-
-/// Accepts every signature.
-struct AcceptsAll;
-
-impl Verifier for AcceptsAll {
-    ghost accepted = { λ verifier key message value. Unit {0} };
-
-    fn accepts(
-        &self,
-        _alloc: Global,
-        _key: &Key,
-        _message: &[u8],
-        _value: &[u8],
-    ) -> Result<bool, AllocError>
-        ensures { IfOk result (λ yes. IsTrue yes ↔ Unit {0}) }
-    {
-        Ok(true)
+/// The answer of the call with this name. None if there is no such call.
+pub(crate) fn call(
+    alloc: Global,
+    name: &str,
+    texts: &[Vec<u8>],
+) -> Option<Result<Vec<u8>, Failure>> {
+    match name {
+        "Limits::new" => Some(new_limits(alloc, texts)),
+        "Guard::read" => Some(read(alloc, texts)),
+        "refused_list" => Some(refused_list(alloc, texts)),
+        "Guard::texts" => Some(texts_of(alloc, texts)),
+        "Guard::ask" => Some(ask_words(alloc, texts)),
+        "answer_question" => Some(answer(alloc, texts)),
+        "Asked::decide"
+        | "Asked::decide_by"
+        | "Asked::explain"
+        | "Asked::explain_by"
+        | "Asked::reduce"
+        | "Asked::reduce_by" => Some(ask(alloc, name, texts)),
+        _ => None,
     }
 }
 
-fn guard(alloc: Global) -> Result<Guard, Failure> {
-    Ok(Guard::read(alloc, LIST, Policy::Open, Limits::default())?)
+/// Whether these are limits, and which: of octets, certificates, strings, nodes, work and the answer.
+fn new_limits(alloc: Global, texts: &[Vec<u8>]) -> Result<Vec<u8>, Failure> {
+    let (octets, certificates, words) = (
+        number(at(texts, 0)),
+        number(at(texts, 1)),
+        number(at(texts, 2)),
+    );
+    let (nodes, work, answer) = (
+        number(at(texts, 3)),
+        number(at(texts, 4)),
+        number(at(texts, 5)),
+    );
+    match Limits::new(octets, certificates, words, nodes, work, answer) {
+        None => word(alloc, "none"),
+        Some(limits) if limits == Limits::default() => word(alloc, "default"),
+        Some(limits) if limits == Limits::highest() => word(alloc, "highest"),
+        Some(_) => word(alloc, "others"),
+    }
 }
 
-/// KB shows KA's certificate and requests `(ftp host)`.
-fn question(sequence: &[u8]) -> Question<'_> {
+/// The limits with these octets and nodes. A limit without digits is the greatest one, and `usual` octets are the default limits.
+fn limits(octets: &[u8], nodes: &[u8]) -> Option<Limits> {
+    if octets == b"usual".as_slice() {
+        return Some(Limits::default());
+    }
+    let (octets, nodes) = (number(octets).min(1_048_576), number(nodes).min(1_000_000));
+    Limits::new(octets, usize::MAX, usize::MAX, nodes, 200_000, 1_048_576)
+}
+
+/// The guard of the first four texts.
+pub(crate) fn guard(alloc: Global, texts: &[Vec<u8>]) -> Result<Guard, Failure> {
+    let policy = if at(texts, 1) == b"strict".as_slice() {
+        Policy::Strict
+    } else {
+        Policy::Open
+    };
+    let Some(limits) = limits(at(texts, 2), at(texts, 3)) else {
+        return Err(Failure::Unknown);
+    };
+    Ok(Guard::read(alloc, at(texts, 0), policy, limits)?)
+}
+
+/// The number of entries.
+fn read(alloc: Global, texts: &[Vec<u8>]) -> Result<Vec<u8>, Failure> {
+    let entries = guard(alloc, texts)?.entries();
+    Ok(format!(in alloc; "{entries}")?.into_bytes())
+}
+
+/// The line of a refused list.
+fn refused_list(alloc: Global, texts: &[Vec<u8>]) -> Result<Vec<u8>, Failure> {
+    match guard(alloc, texts) {
+        Ok(_) => word(alloc, "read"),
+        Err(Failure::Acl(fault)) => answered(alloc, &spki_guard::refused_list(alloc, fault)),
+        Err(failure) => Err(failure),
+    }
+}
+
+/// The question of four texts: the sequence, the key, the request and the moment.
+pub(crate) fn question(texts: &[Vec<u8>]) -> Question<'_> {
     Question {
-        sequence,
-        key: KB,
-        request: Wanted::Words(&[b"ftp", b"host"]),
-        moment: Instant::Seconds(1_795_428_000),
+        sequence: at(texts, 0),
+        key: at(texts, 1),
+        request: Wanted::Text(at(texts, 2)),
+        moment: Instant::Text(at(texts, 3)),
     }
 }
 
-pub(crate) fn guard_read(alloc: Global) -> Result<bool, Failure> {
-    Ok(guard(alloc)?.entries() == 3)
+fn texts_of(alloc: Global, texts: &[Vec<u8>]) -> Result<Vec<u8>, Failure> {
+    guard(alloc, texts)?.texts(alloc, &question(behind(texts, 4)))?;
+    word(alloc, "read")
 }
 
-pub(crate) fn guard_texts(alloc: Global) -> Result<bool, Failure> {
-    let shown = sequence(alloc, 1)?;
-    guard(alloc)?.texts(alloc, &question(&shown))?;
-    Ok(true)
+/// The decision on a key that shows nothing, at a moment in seconds. The texts behind these two are the strings of the request.
+fn ask_words(alloc: Global, texts: &[Vec<u8>]) -> Result<Vec<u8>, Failure> {
+    let mut words = Vec::new(alloc);
+    for text in behind(texts, 6) {
+        words.push(text.as_slice())?;
+    }
+    let question = Question {
+        sequence: b"(8:sequence)",
+        key: at(texts, 4),
+        request: Wanted::Words(&words),
+        moment: Instant::Seconds(seconds(at(texts, 5))),
+    };
+    let guard = guard(alloc, texts)?;
+    let read = guard.texts(alloc, &question)?;
+    let asked = guard.ask(alloc, &read)?;
+    decided(alloc, asked.decide_by(alloc, &[])?)
 }
 
-/// The kinds of answers to the question.
-#[derive(Clone, Copy)]
-enum Answered {
-    Signed,
-    Decided,
-    DecidedBy,
-    Explained,
-    ExplainedBy,
-    Reduced,
-    ReducedBy,
-}
-
-/// Whether the answer is the example's.
-fn answers(alloc: Global, asked: &Asked, answered: Answered) -> Result<bool, Failure> {
-    match answered {
-        Answered::Signed => Ok(asked.signed().len() == 1),
-        Answered::Decided => Ok(asked.decide(alloc, &AcceptsAll)? == Decision::Yes(3)),
-        Answered::DecidedBy => Ok(asked.decide_by(alloc, &[true])? == Decision::Yes(3)),
-        Answered::Explained => Ok(are_reasons(&asked.explain(alloc, &AcceptsAll)?)),
-        Answered::ExplainedBy => Ok(are_reasons(&asked.explain_by(alloc, &[true])?)),
-        Answered::Reduced => Ok(are_folds(&asked.reduce(alloc, &AcceptsAll)?)),
-        Answered::ReducedBy => Ok(are_folds(&asked.reduce_by(alloc, &[true])?)),
+/// Seconds in decimal digits.
+fn seconds(text: &[u8]) -> i64 {
+    match str::from_utf8(text) {
+        Ok(digits) => digits.parse().unwrap_or(0),
+        Err(_) => 0,
     }
 }
 
-/// Whether these are the entries' reasons.
-fn are_reasons(explanation: &Explanation) -> bool {
-    let stopped = |cause| Reason::Stopped { item: 1, cause };
-    let reasons = [
-        stopped(Cause::NoDelegation),
-        stopped(Cause::NotIssuer),
-        Reason::Grants,
-    ];
-    match explanation {
-        Explanation::Entries(found) => found.as_slice() == reasons.as_slice(),
-        Explanation::Evidence { .. } => false,
+/// Which signatures are verified: those whose octet is 1.
+pub(crate) fn marks(alloc: Global, text: &[u8]) -> Result<Vec<bool>, Failure> {
+    let mut marks = Vec::new(alloc);
+    for octet in text {
+        marks.push(*octet == b'1')?;
+    }
+    Ok(marks)
+}
+
+/// What is asked for.
+pub(crate) fn wish_of(text: &[u8]) -> Wish {
+    match text {
+        b"explain" => Wish::Explain,
+        b"reduce" => Wish::Reduce,
+        _ => Wish::Decide,
     }
 }
 
-/// Whether the first two entries stop, and the third becomes an authorization.
-fn are_folds(reduction: &Reduction) -> bool {
-    match reduction {
-        Reduction::Entries(folds) => matches!(
-            folds.as_slice(),
-            [
-                EntryFold::Stopped { .. },
-                EntryFold::Stopped { .. },
-                EntryFold::Done(_)
-            ]
-        ),
-        Reduction::Evidence { .. } => false,
+/// What one guard answers to several questions. The fifth text says what is asked for; each question has four texts and its marks.
+fn answer(alloc: Global, texts: &[Vec<u8>]) -> Result<Vec<u8>, Failure> {
+    let guard = guard(alloc, texts)?;
+    let wish = wish_of(at(texts, 4));
+    let mut out = Vec::new(alloc);
+    for asked in behind(texts, 5).chunks(5) {
+        out.extend_from_slice(&answer_to(alloc, &guard, wish, asked)?)?;
+    }
+    Ok(out)
+}
+
+fn answer_to(
+    alloc: Global,
+    guard: &Guard,
+    wish: Wish,
+    texts: &[Vec<u8>],
+) -> Result<Vec<u8>, Failure> {
+    let marks = marks(alloc, at(texts, 4))?;
+    match answer_question(alloc, wish, guard, &question(texts), &marks) {
+        Some(answer) => answered(alloc, &answer),
+        None => word(alloc, "other marks"),
     }
 }
 
-/// Whether an answer to the question is the example's.
-fn asked(alloc: Global, answered: Answered) -> Result<bool, Failure> {
-    let shown = sequence(alloc, 1)?;
-    let guard = guard(alloc)?;
-    let texts = guard.texts(alloc, &question(&shown))?;
-    let asked = guard.ask(alloc, &texts)?;
-    answers(alloc, &asked, answered)
-}
-
-pub(crate) fn guard_ask(alloc: Global) -> Result<bool, Failure> {
-    asked(alloc, Answered::Signed)
-}
-
-pub(crate) fn asked_decide(alloc: Global) -> Result<bool, Failure> {
-    asked(alloc, Answered::Decided)
-}
-
-pub(crate) fn asked_decide_by(alloc: Global) -> Result<bool, Failure> {
-    asked(alloc, Answered::DecidedBy)
-}
-
-pub(crate) fn asked_explain(alloc: Global) -> Result<bool, Failure> {
-    asked(alloc, Answered::Explained)
-}
-
-pub(crate) fn asked_explain_by(alloc: Global) -> Result<bool, Failure> {
-    asked(alloc, Answered::ExplainedBy)
-}
-
-pub(crate) fn asked_reduce(alloc: Global) -> Result<bool, Failure> {
-    asked(alloc, Answered::Reduced)
-}
-
-pub(crate) fn asked_reduce_by(alloc: Global) -> Result<bool, Failure> {
-    asked(alloc, Answered::ReducedBy)
-}
-
-/// Why there is no answer, where the answer is a refusal.
-pub(crate) fn failure_of(answer: &Answer) -> Failure {
-    if answer.octets() == b"refused Memory\n".as_slice() {
-        Failure::Memory
-    } else {
-        Failure::Fault
+/// The answer of a call of a question that was asked. The ninth text is the verifier, or the marks.
+fn ask(alloc: Global, name: &str, texts: &[Vec<u8>]) -> Result<Vec<u8>, Failure> {
+    let guard = guard(alloc, texts)?;
+    let read = guard.texts(alloc, &question(behind(texts, 4)))?;
+    let asked = guard.ask(alloc, &read)?;
+    match name {
+        "Asked::decide" => decide(alloc, &asked, at(texts, 8)),
+        "Asked::explain" => explain(alloc, &asked, at(texts, 8)),
+        "Asked::reduce" => reduce(alloc, &asked, at(texts, 8)),
+        _ => ask_by(alloc, name, &asked, at(texts, 8)),
     }
 }
 
-/// Whether the lines that are written for the question are the example's.
-fn is_answered(alloc: Global, wish: Wish, verdict: Verdict, lines: &[u8]) -> Result<bool, Failure> {
-    let shown = sequence(alloc, 1)?;
-    let guard = guard(alloc)?;
-    match spki_guard::answer_question(alloc, wish, &guard, &question(&shown), &[true]) {
-        Some(answer) if answer.verdict == Verdict::Refused => Err(failure_of(&answer)),
-        Some(answer) => Ok(answer.verdict == verdict && answer.octets() == lines),
-        None => Ok(false),
-    }
+fn decide(alloc: Global, asked: &Asked, rows: &[u8]) -> Result<Vec<u8>, Failure> {
+    let verifier = RowVerifier::read(alloc, rows)?;
+    decided(alloc, asked.decide(alloc, &verifier)?)
 }
 
-pub(crate) fn answer_question(alloc: Global) -> Result<bool, Failure> {
-    let reasons = b"entry 1 item 1 NoDelegation\nentry 2 item 1 NotIssuer\nentry 3 grants\n";
-    Ok(
-        is_answered(alloc, Wish::Decide, Verdict::Done, b"yes entry 3\n")?
-            && is_answered(alloc, Wish::Explain, Verdict::Done, reasons)?,
-    )
+fn explain(alloc: Global, asked: &Asked, rows: &[u8]) -> Result<Vec<u8>, Failure> {
+    let verifier = RowVerifier::read(alloc, rows)?;
+    let explanation = asked.explain(alloc, &verifier)?;
+    explained(alloc, &explanation)
 }
 
-/// The line of a list whose first entry is no entry.
-pub(crate) fn refused_list(alloc: Global) -> Result<bool, Failure> {
-    let (item, kind) = (1, CertFaultKind::Shape);
-    let answer = spki_guard::refused_list(alloc, AclFault::Acl(CertFault { item, kind }));
-    if answer.octets() == b"refused acl 1 Shape\n".as_slice() {
-        Ok(true)
-    } else {
-        Err(failure_of(&answer))
-    }
+fn reduce(alloc: Global, asked: &Asked, rows: &[u8]) -> Result<Vec<u8>, Failure> {
+    let verifier = RowVerifier::read(alloc, rows)?;
+    let reduction = asked.reduce(alloc, &verifier)?;
+    reduced(alloc, &reduction)
 }
 
-pub(crate) fn signed_octets(alloc: Global) -> Result<bool, Failure> {
-    let shown = sequence(alloc, 1)?;
-    let guard = guard(alloc)?;
-    match spki_guard::signed_octets(alloc, &guard, &question(&shown)) {
-        Ok(signed) => Ok(signed.lengths.len() == 3 && signed.octets.starts_with(KA)),
-        Err(refusal) => Err(failure_of(&refusal)),
+/// The same by marks.
+fn ask_by(alloc: Global, name: &str, asked: &Asked, text: &[u8]) -> Result<Vec<u8>, Failure> {
+    let marks = marks(alloc, text)?;
+    match name {
+        "Asked::decide_by" => decided(alloc, asked.decide_by(alloc, &marks)?),
+        "Asked::explain_by" => explained(alloc, &asked.explain_by(alloc, &marks)?),
+        "Asked::reduce_by" => reduced(alloc, &asked.reduce_by(alloc, &marks)?),
+        _ => Err(Failure::Unknown),
     }
 }

@@ -1,86 +1,112 @@
 //! The calls for tags and requests.
 
 use crate::failure::Failure;
+use crate::texts::{at, number, root_of, tag, written, yes_or_no};
 use sexpr_core::Doc;
-use spki_tag::{Ground, Tag, TagFault};
+use spki_tag::{Ground, Index, Tag, merged};
 use std::alloc::Global;
 
-/// The tag with this text.
-fn tag(alloc: Global, text: &[u8]) -> Result<Tag, Failure> {
+/// The answer of the call with this name. None if there is no such call.
+pub(crate) fn call(
+    alloc: Global,
+    name: &str,
+    texts: &[Vec<u8>],
+) -> Option<Result<Vec<u8>, Failure>> {
+    let (one, other) = (at(texts, 0), at(texts, 1));
+    match name {
+        "Tag::read" => Some(read(alloc, one)),
+        "Tag::clone" => Some(copied(alloc, one)),
+        "Ground::read" => Some(read_request(alloc, one)),
+        "Tag::holds" => Some(holds(alloc, one, other)),
+        "Tag::same" => Some(same(alloc, one, other)),
+        "Tag::meet" => Some(meet(alloc, one, other)),
+        "Tag::meet_within" => Some(meet_within(alloc, one, other, at(texts, 2))),
+        "Index::places" => Some(places(alloc, one, other)),
+        "merged" => Some(merge(alloc, one, other)),
+        "intersect" => Some(intersect(alloc, one)),
+        _ => None,
+    }
+}
+
+/// The number of nodes of a tag, and its normal form.
+fn read(alloc: Global, text: &[u8]) -> Result<Vec<u8>, Failure> {
     let document = Doc::open(alloc, text)?;
-    Ok(Tag::of(alloc, &document.top())?)
+    let root = root_of(&document)?;
+    let tag = Tag::read(alloc, &document, root)?;
+    let mut out = format!(in alloc; "{} ", tag.nodes())?.into_bytes();
+    out.extend_from_slice(&written(alloc, &tag)?)?;
+    Ok(out)
 }
 
-/// Whether the value with this text is refused as a tag for this fault.
-fn refuses_tag(alloc: Global, text: &[u8], fault: TagFault) -> Result<bool, Failure> {
+fn copied(alloc: Global, text: &[u8]) -> Result<Vec<u8>, Failure> {
+    let copy = tag(alloc, text)?.clone()?;
+    written(alloc, &copy)
+}
+
+/// The request that a text is.
+fn request(alloc: Global, text: &[u8]) -> Result<Ground, Failure> {
     let document = Doc::open(alloc, text)?;
-    let root = document.root();
-    if document.node(root).is_none() {
-        return Ok(false);
+    let root = root_of(&document)?;
+    Ok(Ground::read(alloc, &document, root)?)
+}
+
+fn read_request(alloc: Global, text: &[u8]) -> Result<Vec<u8>, Failure> {
+    request(alloc, text)?;
+    yes_or_no(alloc, true)
+}
+
+fn holds(alloc: Global, text: &[u8], asked: &[u8]) -> Result<Vec<u8>, Failure> {
+    let asked = request(alloc, asked)?;
+    let is_held = tag(alloc, text)?.holds(&asked);
+    yes_or_no(alloc, is_held)
+}
+
+fn same(alloc: Global, text: &[u8], other: &[u8]) -> Result<Vec<u8>, Failure> {
+    let other = tag(alloc, other)?;
+    let is_same = tag(alloc, text)?.same(&other);
+    yes_or_no(alloc, is_same)
+}
+
+fn meet(alloc: Global, text: &[u8], other: &[u8]) -> Result<Vec<u8>, Failure> {
+    let other = tag(alloc, other)?;
+    let both = tag(alloc, text)?.meet(alloc, &other)?;
+    written(alloc, &both)
+}
+
+/// The intersection within a number of nodes, which is 1,000,000 at most.
+fn meet_within(alloc: Global, text: &[u8], other: &[u8], most: &[u8]) -> Result<Vec<u8>, Failure> {
+    let most = number(most).min(1_000_000);
+    let other = tag(alloc, other)?;
+    let both = tag(alloc, text)?.meet_within(alloc, &other, most)?;
+    written(alloc, &both)
+}
+
+/// The places of the members of a set for the intersection with another tag.
+fn places(alloc: Global, set: &[u8], asked: &[u8]) -> Result<Vec<u8>, Failure> {
+    let asked = tag(alloc, asked)?;
+    let set = tag(alloc, set)?;
+    let found = Index::of(alloc, &set)?.places(alloc, &asked)?;
+    Ok(format!(in alloc; "{found:?}")?.into_bytes())
+}
+
+/// Numbers below 256, as octets, in order.
+fn merge(alloc: Global, some: &[u8], others: &[u8]) -> Result<Vec<u8>, Failure> {
+    let some = numbers(alloc, some)?;
+    let others = numbers(alloc, others)?;
+    let all = merged(alloc, &some, &others)?;
+    Ok(format!(in alloc; "{all:?}")?.into_bytes())
+}
+
+fn numbers(alloc: Global, octets: &[u8]) -> Result<Vec<usize>, Failure> {
+    let mut numbers = Vec::new(alloc);
+    for octet in octets {
+        numbers.push(usize::from(*octet))?;
     }
-    match Tag::read(alloc, &document, root) {
-        Ok(_) => Ok(false),
-        Err(TagFault::Memory) => Err(Failure::Memory),
-        Err(met) => Ok(met == fault),
-    }
+    Ok(numbers)
 }
 
-/// `tag-faults`: `((a) b)` is ListHead, and `(* foo)` UnknownStar.
-pub(crate) fn tag_read(alloc: Global) -> Result<bool, Failure> {
-    Ok(
-        refuses_tag(alloc, b"((1:a)1:b)", TagFault::ListHead)?
-            && refuses_tag(alloc, b"(1:*3:foo)", TagFault::UnknownStar)?
-            && refuses_tag(alloc, b"[1:x]1:a", TagFault::Hint)?
-            && refuses_tag(
-                alloc,
-                b"(1:*5:range5:alpha2:le1:z2:ge1:a)",
-                TagFault::RangeLimit,
-            )?,
-    )
-}
-
-/// `tag-faults`: `(ftp (* prefix a))` is StarInRequest.
-pub(crate) fn ground_read(alloc: Global) -> Result<bool, Failure> {
-    let document = Doc::open(alloc, b"(3:ftp(1:*6:prefix1:a))")?;
-    let root = document.root();
-    if document.node(root).is_none() {
-        return Ok(false);
-    }
-    match Ground::read(alloc, &document, root) {
-        Ok(_) => Ok(false),
-        Err(TagFault::Memory) => Err(Failure::Memory),
-        Err(met) => Ok(met == TagFault::StarInRequest),
-    }
-}
-
-/// The first set of `reduced-sets`, which is its answer too.
-const SET: &[u8] = b"(1:*3:set4:read5:write)";
-
-/// The answer of `meet-lists`.
-const BOTH: &[u8] = b"(3:ftp(4:host1:a)(3:dir1:b))";
-
-/// `meet-lists`, the canonical octets of the tag for both.
-fn both(alloc: Global) -> Result<Vec<u8>, Failure> {
-    let one = tag(alloc, b"(3:ftp(4:host1:a))")?;
-    let other = tag(alloc, b"(3:ftp(4:host1:a)(3:dir1:b))")?;
-    let tree = one.meet(alloc, &other)?.write(alloc)?;
-    Ok(sexpr_core::encode(alloc, &tree)?)
-}
-
-pub(crate) fn tag_meet(alloc: Global) -> Result<bool, Failure> {
-    Ok(both(alloc)?.as_slice() == BOTH)
-}
-
-/// `reduced-sets`: the intersection of its two sets, within the product of their nodes.
-pub(crate) fn tag_meet_within(alloc: Global) -> Result<bool, Failure> {
-    let one = tag(alloc, SET)?;
-    let other = tag(alloc, b"(1:*3:set5:write(1:*6:prefix2:re))")?;
-    let tree = one.meet_within(alloc, &other, 9)?.write(alloc)?;
-    Ok(sexpr_core::encode(alloc, &tree)?.as_slice() == SET)
-}
-
-/// The answer of `meet-lists`, read and written.
-pub(crate) fn tag_write(alloc: Global) -> Result<bool, Failure> {
-    let tree = tag(alloc, BOTH)?.write(alloc)?;
-    Ok(sexpr_core::encode(alloc, &tree)?.as_slice() == BOTH)
+/// The intersection of the two tags of a text.
+fn intersect(alloc: Global, text: &[u8]) -> Result<Vec<u8>, Failure> {
+    let both = spki_guard::intersect(alloc, text)?;
+    written(alloc, &both)
 }

@@ -1,169 +1,189 @@
-//! The calls for tuples.
+//! The calls for tuples. A tuple is three texts: its issuer's key, or none for the owner of the access list; the name that it defines,
+//! or none if it is an authorization; and the rest as an entry.
 
 use crate::failure::Failure;
-use crate::structures::KA;
-use sexpr_core::Doc;
-use spki_cert::{Key, Names, Octets, Policy, Principal, Subject, Window, key_of};
-use spki_reduce::{Cause, Five, Fold, Four, Issuer, Joined, Step, Work};
-use spki_tag::Tag;
+use crate::structures::{date, key};
+use crate::texts::{at, behind, number};
+use sexpr_core::{Doc, encode};
+use spki_cert::{Entry, Octets, Policy, entry_of};
+use spki_reduce::{Five, Fold, Four, Issuer, Joined, Step, Work};
+use spki_tag::{Ground, Tag};
 use std::alloc::Global;
 
-const KB: &[u8] = b"(10:public-key(4:test1:b))";
-
-const KC: &[u8] = b"(10:public-key(4:test1:c))";
-
-/// No limits.
-const ALWAYS: Window = Window {
-    not_before: None,
-    not_after: None,
-};
-
-fn key(alloc: Global, text: &'static [u8]) -> Result<Key<'static>, Failure> {
-    let document = Doc::open(alloc, text)?;
-    Ok(key_of(&document.top())?)
-}
-
-fn subject(
+/// The answer of the call with this name. None if there is no such call.
+pub(crate) fn call(
     alloc: Global,
-    key_text: &'static [u8],
-    names: &[&'static [u8]],
-) -> Result<Subject<'static>, Failure> {
-    let mut links = Vec::new(alloc);
-    for name in names {
-        links.push(Octets::new(name))?;
+    name: &str,
+    texts: &[Vec<u8>],
+) -> Option<Result<Vec<u8>, Failure>> {
+    match name {
+        "Five::write" => Some(write(alloc, texts)),
+        "Five::first_lack" => Some(first_lack(alloc, texts)),
+        "Five::then" => Some(then(alloc, texts)),
+        "Five::resolve" => Some(resolve(alloc, texts)),
+        "Five::into_resolve" => Some(into_resolve(alloc, texts)),
+        "Four::then" => Some(four_then(alloc, texts)),
+        "fold_chain" => Some(fold_chain(alloc, texts)),
+        "fold_owned" => Some(fold_owned(alloc, texts)),
+        _ => None,
     }
-    Ok(Subject {
-        principal: Principal::Key(key(alloc, key_text)?),
-        names: Names::of(links),
+}
+
+/// The entry with a text.
+fn entry<'a>(alloc: Global, text: &'a [u8]) -> Result<Entry<'a>, Failure> {
+    let document = Doc::open(alloc, text)?;
+    Ok(entry_of(alloc, &document.top())?)
+}
+
+fn issuer<'a>(alloc: Global, text: &'a [u8]) -> Result<Issuer<'a>, Failure> {
+    if text.is_empty() {
+        return Ok(Issuer::Own);
+    }
+    Ok(Issuer::Key(key(alloc, text)?))
+}
+
+/// The authorization of the first three texts.
+fn five<'a>(alloc: Global, texts: &'a [Vec<u8>]) -> Result<Five<'a>, Failure> {
+    let issuer = issuer(alloc, at(texts, 0))?;
+    let entry = entry(alloc, at(texts, 2))?;
+    Ok(Five {
+        issuer,
+        subject: entry.subject,
+        propagate: entry.propagate,
+        tag: entry.tag,
+        window: entry.window,
     })
 }
 
-/// The authorization of a subject by the owner of an access list, with delegation.
-fn entry(
-    alloc: Global,
-    key_text: &'static [u8],
-    names: &[&'static [u8]],
-    tag: &[u8],
-) -> Result<Five<'static>, Failure> {
-    let document = Doc::open(alloc, tag)?;
-    Ok(Five {
-        issuer: Issuer::Own,
-        window: ALWAYS,
-        propagate: true,
-        tag: Tag::of(alloc, &document.top())?,
-        subject: subject(alloc, key_text, names)?,
+/// The definition of the first three texts.
+fn four<'a>(alloc: Global, texts: &'a [Vec<u8>]) -> Result<Four<'a>, Failure> {
+    let key = key(alloc, at(texts, 0))?;
+    let entry = entry(alloc, at(texts, 2))?;
+    Ok(Four {
+        key,
+        name: Octets::new(at(texts, 1)),
+        subject: entry.subject,
+        window: entry.window,
     })
 }
 
-/// The authorization of a certificate between two keys, without delegation.
-fn certificate(
-    alloc: Global,
-    issuer: &'static [u8],
-    to: &'static [u8],
-) -> Result<Five<'static>, Failure> {
-    Ok(Five {
-        issuer: Issuer::Key(key(alloc, issuer)?),
-        window: ALWAYS,
+/// The steps of the texts.
+fn steps<'a>(alloc: Global, texts: &'a [Vec<u8>]) -> Result<Vec<Step<'a>>, Failure> {
+    let mut steps = Vec::new(alloc);
+    for tuple in texts.chunks(3) {
+        if at(tuple, 1).is_empty() {
+            steps.push(Step::Auth(five(alloc, tuple)?))?;
+        } else {
+            steps.push(Step::Name(four(alloc, tuple)?))?;
+        }
+    }
+    Ok(steps)
+}
+
+/// An authorization in canonical form.
+pub(crate) fn written(alloc: Global, five: &Five) -> Result<Vec<u8>, Failure> {
+    let tree = five.write(alloc)?;
+    Ok(encode(alloc, &tree)?)
+}
+
+fn joined(alloc: Global, joined: Joined<Five>) -> Result<Vec<u8>, Failure> {
+    match joined {
+        Joined::Done(five) => written(alloc, &five),
+        Joined::Stopped(cause) => Ok(format!(in alloc; "{cause:?}")?.into_bytes()),
+    }
+}
+
+fn folded(alloc: Global, fold: Fold) -> Result<Vec<u8>, Failure> {
+    match fold {
+        Fold::Done(five) => written(alloc, &five),
+        Fold::Stopped { step, cause } => Ok(format!(in alloc; "{step} {cause:?}")?.into_bytes()),
+    }
+}
+
+fn write(alloc: Global, texts: &[Vec<u8>]) -> Result<Vec<u8>, Failure> {
+    let five = five(alloc, texts)?;
+    written(alloc, &five)
+}
+
+/// The request that a text is.
+fn request(alloc: Global, text: &[u8]) -> Result<Ground, Failure> {
+    let document = Doc::open(alloc, text)?;
+    Ok(Ground::of(alloc, &document.top())?)
+}
+
+/// What an authorization lacks to grant a key a request at a moment.
+fn first_lack(alloc: Global, texts: &[Vec<u8>]) -> Result<Vec<u8>, Failure> {
+    let holder = key(alloc, at(texts, 3))?;
+    let request = request(alloc, at(texts, 4))?;
+    let moment = date(alloc, at(texts, 5))?;
+    let lack = five(alloc, texts)?.first_lack(&holder, &request, &moment, Policy::Open);
+    Ok(format!(in alloc; "{lack:?}")?.into_bytes())
+}
+
+fn then(alloc: Global, texts: &[Vec<u8>]) -> Result<Vec<u8>, Failure> {
+    let next = five(alloc, behind(texts, 3))?;
+    let both = five(alloc, texts)?.then(alloc, &next, Policy::Open)?;
+    joined(alloc, both)
+}
+
+fn resolve(alloc: Global, texts: &[Vec<u8>]) -> Result<Vec<u8>, Failure> {
+    let definition = four(alloc, behind(texts, 3))?;
+    let both = five(alloc, texts)?.resolve(alloc, &definition, Policy::Open)?;
+    joined(alloc, both)
+}
+
+fn into_resolve(alloc: Global, texts: &[Vec<u8>]) -> Result<Vec<u8>, Failure> {
+    let definition = four(alloc, behind(texts, 3))?;
+    let both = five(alloc, texts)?.into_resolve(&definition, Policy::Open)?;
+    joined(alloc, both)
+}
+
+/// The name that two definitions define, and the rest as an authorization of everything.
+fn four_then(alloc: Global, texts: &[Vec<u8>]) -> Result<Vec<u8>, Failure> {
+    let next = four(alloc, behind(texts, 3))?;
+    match four(alloc, texts)?.then(alloc, &next, Policy::Open)? {
+        Joined::Done(both) => defined(alloc, both),
+        Joined::Stopped(cause) => Ok(format!(in alloc; "{cause:?}")?.into_bytes()),
+    }
+}
+
+fn defined(alloc: Global, four: Four) -> Result<Vec<u8>, Failure> {
+    let mut out = Vec::from_slice(alloc, four.name.as_slice())?;
+    let five = Five {
+        issuer: Issuer::Key(four.key),
+        subject: four.subject,
         propagate: false,
         tag: Tag::everything(),
-        subject: subject(alloc, to, &[])?,
-    })
+        window: four.window,
+    };
+    out.push(b' ')?;
+    out.extend_from_slice(&written(alloc, &five)?)?;
+    Ok(out)
 }
 
-/// The definition of a name of a key.
-fn definition(
-    alloc: Global,
-    issuer: &'static [u8],
-    name: &'static [u8],
-    to: Subject<'static>,
-) -> Result<Four<'static>, Failure> {
-    Ok(Four {
-        key: key(alloc, issuer)?,
-        name: Octets::new(name),
-        window: ALWAYS,
-        subject: to,
-    })
-}
-
-/// Whether a subject is a key without names.
-fn is_key(subject: &Subject, key: &[u8]) -> bool {
-    match &subject.principal {
-        Principal::Key(octets) => octets.as_slice() == key && subject.names.is_empty(),
-        Principal::Hash { .. } => false,
+/// The number that a text is, if it has octets.
+fn bound(text: &[u8]) -> Option<usize> {
+    if text.is_empty() {
+        None
+    } else {
+        Some(number(text))
     }
 }
 
-/// `delegation`: the entry for KA and the certificate by KA for KB.
-pub(crate) fn five_then(alloc: Global) -> Result<bool, Failure> {
-    let first = entry(alloc, KA, &[], b"(1:*)")?;
-    match first.then(alloc, &certificate(alloc, KA, KB)?, Policy::Open)? {
-        Joined::Done(five) => Ok(is_key(&five.subject, KB)),
-        Joined::Stopped(_) => Ok(false),
-    }
+fn fold_chain(alloc: Global, texts: &[Vec<u8>]) -> Result<Vec<u8>, Failure> {
+    let first = five(alloc, texts)?;
+    let steps = steps(alloc, behind(texts, 3))?;
+    let fold = spki_reduce::fold_chain(alloc, &first, &steps, Policy::Open)?;
+    folded(alloc, fold)
 }
 
-/// `delegation`: the second certificate does not join, since the first does not delegate.
-pub(crate) fn fold_chain(alloc: Global) -> Result<bool, Failure> {
-    let first = entry(alloc, KA, &[], b"(1:*)")?;
-    let mut steps = Vec::new(alloc);
-    steps.push(Step::Auth(certificate(alloc, KA, KB)?))?;
-    steps.push(Step::Auth(certificate(alloc, KB, KC)?))?;
-    match spki_reduce::fold_chain(alloc, &first, &steps, Policy::Open)? {
-        Fold::Done(_) => Ok(false),
-        Fold::Stopped { step, cause } => Ok(step == 2 && cause == Cause::NoDelegation),
-    }
-}
-
-/// `reduced-sets`: the entry for a set, consumed, and the certificate for another one, within the product of their nodes.
-pub(crate) fn fold_owned(alloc: Global) -> Result<bool, Failure> {
-    let first = entry(alloc, KA, &[], b"(1:*3:set4:read5:write)")?;
-    let mut second = certificate(alloc, KA, KB)?;
-    let document = Doc::open(alloc, b"(1:*3:set5:write(1:*6:prefix2:re))")?;
-    second.tag = Tag::of(alloc, &document.top())?;
-    let mut steps = Vec::new(alloc);
-    steps.push(Step::Auth(second))?;
-    let mut work = Work::new(Some(9));
-    match spki_reduce::fold_owned(alloc, first, &steps, Policy::Open, 9, &mut work)? {
-        Fold::Done(five) => Ok(is_key(&five.subject, KB) && five.tag.nodes() == 3),
-        Fold::Stopped { .. } => Ok(false),
-    }
-}
-
-/// `linked-names`: the entry for KA's friends' bob and KA's definition of friends become one for KB's bob.
-pub(crate) fn five_resolve(alloc: Global) -> Result<bool, Failure> {
-    let first = entry(alloc, KA, &[b"friends", b"bob"], b"(1:*)")?;
-    let friends = definition(alloc, KA, b"friends", subject(alloc, KB, &[])?)?;
-    match first.resolve(alloc, &friends, Policy::Open)? {
-        Joined::Done(five) => Ok(five.subject.names.len() == 1),
-        Joined::Stopped(_) => Ok(false),
-    }
-}
-
-/// `linked-names`: the same, and the entry is consumed.
-pub(crate) fn five_into_resolve(alloc: Global) -> Result<bool, Failure> {
-    let friends = definition(alloc, KA, b"friends", subject(alloc, KB, &[])?)?;
-    let first = entry(alloc, KA, &[b"friends", b"bob"], b"(1:*)")?;
-    match first.into_resolve(&friends, Policy::Open)? {
-        Joined::Done(five) => Ok(five.subject.names.len() == 1),
-        Joined::Stopped(_) => Ok(false),
-    }
-}
-
-/// `linked-names`: KA's definition of friends as KB's bob, and KB's definition of bob, become one tuple for KC.
-pub(crate) fn four_then(alloc: Global) -> Result<bool, Failure> {
-    let friends = definition(alloc, KA, b"friends", subject(alloc, KB, &[b"bob"])?)?;
-    let bob = definition(alloc, KB, b"bob", subject(alloc, KC, &[])?)?;
-    match friends.then(alloc, &bob, Policy::Open)? {
-        Joined::Done(four) => Ok(four.key.as_slice() == KA && is_key(&four.subject, KC)),
-        Joined::Stopped(_) => Ok(false),
-    }
-}
-
-/// `reduced-sets`: how its answer is written.
-pub(crate) fn five_write(alloc: Global) -> Result<bool, Failure> {
-    let five = entry(alloc, KB, &[], b"(1:*3:set4:read5:write)")?;
-    let octets = sexpr_core::encode(alloc, &five.write(alloc)?)?;
-    let wanted =
-        b"(4:five(7:subject(10:public-key(4:test1:b)))(9:propagate)(3:tag(1:*3:set4:read5:write)))";
-    Ok(octets.as_slice() == wanted.as_slice())
+/// The first two texts are the most nodes, 1,000,000 at most, and the bound on work, if there is one. The first authorization is
+/// consumed.
+fn fold_owned(alloc: Global, texts: &[Vec<u8>]) -> Result<Vec<u8>, Failure> {
+    let most = number(at(texts, 0)).min(1_000_000);
+    let steps = steps(alloc, behind(texts, 5))?;
+    let first = five(alloc, behind(texts, 2))?;
+    let mut work = Work::new(bound(at(texts, 1)));
+    let fold = spki_reduce::fold_owned(alloc, first, &steps, Policy::Open, most, &mut work)?;
+    folded(alloc, fold)
 }

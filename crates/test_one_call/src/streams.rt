@@ -1,0 +1,217 @@
+//! The call `run`, from a reader and to a writer that may fail; and meters.
+
+ghost use Rattle.std.specs.Prelude.{◌≡◌, ◌≤◌, IfOk};
+
+use crate::failure::Failure;
+use crate::texts::{at, behind, number, word};
+use metered_io::{ReadFault, WriteFault};
+use sexpr_core::FormFault;
+use spki_cert::CertFaultKind;
+use spki_guard::{CaseFault, Command, GuardFault, IntersectFault, Metered};
+use spki_reduce::ReduceFault;
+use spki_tag::{MeetFault, TagFault};
+use std::alloc::Global;
+use std::io;
+use std::io::{Error, ErrorKind, Read, Write};
+
+/// The answer of the call with this name. None if there is no such call.
+pub(crate) fn call(
+    alloc: Global,
+    name: &str,
+    texts: &[Vec<u8>],
+) -> Option<Result<Vec<u8>, Failure>> {
+    match name {
+        "run" => Some(run(alloc, texts)),
+        "Metered::read" => Some(read_once(alloc, at(texts, 0))),
+        "Metered::write" => Some(write_once(alloc, at(texts, 0))),
+        "fault_texts" => Some(fault_texts(alloc)),
+        _ => None,
+    }
+}
+
+/// What an end answers when it has no room left.
+#[derive(Clone, Copy)]
+enum Past {
+    /// An error.
+    Fails,
+    /// That it was interrupted.
+    IsInterrupted,
+    /// That it passed on 0 octets.
+    Stops,
+}
+
+impl Past {
+    fn answer(self) -> io::Result<usize>
+        ensures { IfOk result (λ count. count ≡ 0) }
+    {
+        match self {
+            Past::Fails => Err(Error::from(ErrorKind::Other)),
+            Past::IsInterrupted => Err(Error::from(ErrorKind::Interrupted)),
+            Past::Stops => Ok(0),
+        }
+    }
+}
+
+/// A reader of a text, or a writer, that passes on some octets in each call, and counts its calls.
+#[derive(Drop)]
+struct End<'a> {
+    /// The rest of the text.
+    text: &'a [u8],
+    /// What was written.
+    taken: Vec<u8>,
+    /// The most octets of a call, and of all further calls.
+    step: usize,
+    room: usize,
+    /// What it answers without room.
+    past: Past,
+    /// The number of calls, and the length of the last one's buffer.
+    calls: usize,
+    last: usize,
+    flushes: usize,
+    flush_fails: bool,
+}
+
+impl<'a> End<'a> {
+    /// An end of three texts: the octets of each call, the room, and what it answers then. A fourth may say that a flush fails.
+    fn new(alloc: Global, text: &'a [u8], texts: &[Vec<u8>]) -> End<'a> {
+        let past = match at(texts, 2) {
+            b"fails" => Past::Fails,
+            b"interrupted" => Past::IsInterrupted,
+            _ => Past::Stops,
+        };
+        End {
+            text,
+            taken: Vec::new(alloc),
+            step: number(at(texts, 0)),
+            room: number(at(texts, 1)),
+            past,
+            calls: 0,
+            last: 0,
+            flushes: 0,
+            flush_fails: at(texts, 3) == b"fails".as_slice(),
+        }
+    }
+
+    /// How many octets a call passes on.
+    fn count(&self, most: usize) -> usize
+        ensures { result ≤ most }
+    {
+        self.step.min(self.room).min(most)
+    }
+}
+
+impl Read for End<'_> {
+    fn read(&mut self, buf: &mut [u8]) -> io::Result<usize> {
+        self.calls = self.calls.saturating_add(1);
+        self.last = buf.len();
+        if self.room == 0 {
+            return self.past.answer();
+        }
+        let count = self.count(buf.len().min(self.text.len()));
+        let (given, rest) = self.text.split_at(count);
+        buf[..count].copy_from_slice(given);
+        self.text = rest;
+        self.room = self.room.saturating_sub(count);
+        Ok(count)
+    }
+}
+
+impl Write for End<'_> {
+    fn write(&mut self, buf: &[u8]) -> io::Result<usize> {
+        self.calls = self.calls.saturating_add(1);
+        self.last = buf.len();
+        if self.room == 0 {
+            return self.past.answer();
+        }
+        let count = self.count(buf.len());
+        self.taken.extend_from_slice(&buf[..count])?;
+        self.room = self.room.saturating_sub(count);
+        Ok(count)
+    }
+
+    fn flush(&mut self) -> io::Result<()> {
+        self.flushes = self.flushes.saturating_add(1);
+        if self.flush_fails {
+            Err(Error::from(ErrorKind::Other))
+        } else {
+            Ok(())
+        }
+    }
+}
+
+fn command(word: &[u8]) -> Command {
+    match word {
+        b"canonical" => Command::Canonical,
+        b"advanced" => Command::Advanced,
+        b"transport" => Command::Transport,
+        b"intersect" => Command::Intersect,
+        b"reduce" => Command::Reduce,
+        b"explain" => Command::Explain,
+        _ => Command::Check,
+    }
+}
+
+/// The exit status; the reader's calls, its faults, whether it ended, how many octets it has left; the writer's calls, its
+/// faults, whether it was flushed; and what was written.
+fn run(alloc: Global, texts: &[Vec<u8>]) -> Result<Vec<u8>, Failure> {
+    let mut reader = Metered::new(End::new(alloc, at(texts, 1), behind(texts, 2)));
+    let mut writer = Metered::new(End::new(alloc, b"", behind(texts, 5)));
+    let status = spki_guard::run(alloc, command(at(texts, 0)), &mut reader, &mut writer).code();
+    let (reads, read_faults, ended) = (reader.asks(), reader.faults(), reader.ended());
+    let (writes, write_faults, flushed) = (writer.asks(), writer.faults(), writer.flushed());
+    let left = reader.into_inner().text.len();
+    let taken = writer.into_inner().taken;
+    if taken.as_slice() == b"refused Memory\n".as_slice() {
+        return Err(Failure::Memory);
+    }
+    let mut out = format!(in alloc;
+        "{status}, {reads} {read_faults} {ended} {left}, {writes} {write_faults} {flushed};"
+    )?.into_bytes();
+    out.extend_from_slice(&taken)?;
+    Ok(out)
+}
+
+/// What a meter passes on to a reader of a text: how many octets were read into a buffer of three, the buffer, the meter's count
+/// of calls and faults; and the reader's count, its buffer's length, and its flushes.
+fn read_once(alloc: Global, text: &[u8]) -> Result<Vec<u8>, Failure> {
+    let mut meter = Metered::new(End::new(alloc, text, &[]));
+    let mut buffer = [0; 3];
+    let count = meter.read(&mut buffer)?;
+    let (asks, faults) = (meter.asks(), meter.faults());
+    let inner = meter.into_inner();
+    let (calls, last, flushes) = (inner.calls, inner.last, inner.flushes);
+    Ok(format!(in alloc;
+        "{count} {buffer:?}, {asks} {faults}, {calls} {last} {flushes}"
+    )?.into_bytes())
+}
+
+/// The same for a writer, which is flushed.
+fn write_once(alloc: Global, octets: &[u8]) -> Result<Vec<u8>, Failure> {
+    let mut meter = Metered::new(End::new(alloc, b"", &[]));
+    let count = meter.write(octets)?;
+    meter.flush()?;
+    let (asks, faults) = (meter.asks(), meter.faults());
+    let inner = meter.into_inner();
+    let (calls, last, flushes) = (inner.calls, inner.last, inner.flushes);
+    let line = format!(in alloc;
+        "{count} {:?}, {asks} {faults}, {calls} {last} {flushes}",
+        inner.taken
+    )?;
+    Ok(line.into_bytes())
+}
+
+/// The texts of the faults that no row shows.
+fn fault_texts(alloc: Global) -> Result<Vec<u8>, Failure> {
+    let (form, tag, meet) = (FormFault::Memory, TagFault::Memory, MeetFault::Memory);
+    let (kind, case, both) = (
+        CertFaultKind::Memory,
+        CaseFault::Memory,
+        IntersectFault::Memory,
+    );
+    let (reduce, decision, read) = (ReduceFault::Memory, GuardFault::Memory, ReadFault::Memory);
+    let (failed, long) = (ReadFault::Failed, ReadFault::TooLong);
+    let line = format!(in alloc;
+        "{form}, {tag}, {meet}, {kind}, {case}, {both}, {reduce}, {decision}, {read}; {failed}, {long}, {WriteFault}"
+    )?;
+    Ok(line.into_bytes())
+}

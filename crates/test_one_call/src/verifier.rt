@@ -1,0 +1,57 @@
+//! The verifier of a row.
+
+ghost use Rattle.std.specs.Prelude.{◌↔◌, ◌⊎◌, IsTrue, IfOk};
+ghost use Rattle.spki_case.specs.View.{verified_by};
+
+use crate::failure::Failure;
+use spki_case::{AcceptedTable, Verifier};
+use spki_cert::Key;
+use std::alloc::{AllocError, Global};
+
+/// Accepts the signatures of a list, or all, or returns that memory ran out.
+#[derive(Drop)]
+pub(crate) struct RowVerifier<'a> {
+    listed: AcceptedTable<'a>,
+    all: bool,
+    is_broken: bool,
+}
+
+impl<'a> RowVerifier<'a> {
+    /// The verifier that a text names: `all`, `broken`, or an accepted list.
+    pub(crate) fn read(alloc: Global, text: &'a [u8]) -> Result<RowVerifier<'a>, Failure> {
+        let all = text == b"all".as_slice();
+        let is_broken = text == b"broken".as_slice();
+        let rows = if all || is_broken {
+            b"(8:accepted)"
+        } else {
+            text
+        };
+        Ok(RowVerifier {
+            listed: AcceptedTable::read(alloc, rows)?,
+            all,
+            is_broken,
+        })
+    }
+}
+
+impl Verifier for RowVerifier<'_> {
+    ghost accepted = { λ verifier key message value.
+        IsTrue verifier.all ⊎ verified_by verifier.listed key message value };
+
+    fn accepts(
+        &self,
+        alloc: Global,
+        key: &Key,
+        message: &[u8],
+        value: &[u8],
+    ) -> Result<bool, AllocError>
+        ensures { IfOk result (λ yes. IsTrue yes ↔
+            (IsTrue self.now.all ⊎ verified_by self.now.listed key.now message.now value.now)) }
+    {
+        if self.is_broken {
+            return Err(AllocError);
+        }
+        let is_listed = self.listed.accepts(alloc, key, message, value)?;
+        Ok(self.all || is_listed)
+    }
+}
