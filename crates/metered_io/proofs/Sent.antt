@@ -1,8 +1,8 @@
 -- What goes out of some octets, write by write.
-use Rattle.std.proofs.Common.{◌≡◌, ℕ, List, ◌++◌, Option, take, drop, ◌∙◌, sym, ap, append_assoc, take-append-drop}
-use Rattle.std.proofs.KnownBytes.{Appends-trans}
+use Rattle.std.proofs.Common.{◌≡◌, ℕ, List, [], ◌++◌, Option, Result, Ok, Err, OnErr, take, drop, ◌∙◌, sym, ap, append_assoc, append-nil, take-append-drop}
+use Rattle.std.proofs.KnownBytes.{Appends-trans, Appends-kept}
 use Rattle.metered_io.specs.declared.meters.Metered.{Metered}
-use Rattle.metered_io.specs.Metered.{Takes, inner_of}
+use Rattle.metered_io.specs.Metered.{Takes, TakesNone, inner_of}
 use Rattle.metered_io.specs.Sent.{SendsFront}
 
 -- one more write took n octets
@@ -16,3 +16,16 @@ SendsFront-more {W} {contents} {a} {b} {c} {octets} {rest} {left} n h more e =
           ∙ ap (λ l. (h.sent ++ take n rest) ++ l) (sym e);
       taken = Appends-trans (contents (inner_of a)) (contents (inner_of b)) (contents (inner_of c)) h.sent (take n rest) h.taken more;
     }
+
+-- all was taken, and nothing after it
+pub SendsFront-all : {W : Type 0} {contents : W → Option (List ℕ)} {a c : Metered W} {octets : List ℕ} (b : Metered W)
+    → Takes contents a b octets → TakesNone contents b c → SendsFront contents a c octets []
+SendsFront-all {W} {contents} {a} {c} {octets} b h kept = record {
+  sent = octets;
+  whole = sym (append-nil octets);
+  taken = Appends-kept (contents (inner_of a)) (contents (inner_of b)) (contents (inner_of c)) octets h kept;
+}
+
+pub on_err : {A E : Type 0} {P : Type 0} (r : Result A E) → P → OnErr r P
+on_err (Ok a) p = tt
+on_err (Err e) p = p

@@ -7,4 +7,4 @@ mod output;
 
 pub use input::{ReadFault, read_whole};
 pub use meters::Metered;
-pub use output::{WriteFault, write_whole};
+pub use output::{WriteFault, flush_writer, write_octets, write_whole};

@@ -59,6 +59,57 @@ fn flush_once<W: Write>(writer: &mut Metered<W>) -> Result<bool, WriteFault>
     }
 }
 
+/// Writes all the octets. A call that fails with `Interrupted` is repeated. The writer is called until its count `asks` is
+/// `most`.
+///
+/// # Errors
+///
+/// `WriteFault` at another error, if 0 octets of a buffer that is not empty are written, and at that count. A beginning of
+/// the octets has been written then.
+pub fn write_octets<W: Write>(
+    writer: &mut Metered<W>,
+    octets: &[u8],
+    most: u64,
+) -> Result<(), WriteFault>
+    ensures octets { OnOk result (Takes W.contents writer.old writer.new octets.now) }
+    ensures front { OnErr result ((rest : List ℕ)
+        × SendsFront W.contents writer.old writer.new octets.now rest) }
+    ensures asks { asks_of writer.new ≤ max (asks_of writer.old) most }
+    ensures fault { OnErr result ((faults_of writer.new ≡ counted (faults_of writer.old)) ⊎ (most ≤ asks_of writer.new)) }
+    ensures no_fault { OnOk result (faults_of writer.new ≡ faults_of writer.old) }
+{
+    let mut rest = octets;
+    while !rest.is_empty() {
+        if writer.asks() >= most {
+            return Err(WriteFault);
+        }
+        let count = write_piece(writer, rest)?;
+        rest = rest.split_at(count).1;
+    }
+    Ok(())
+}
+
+/// Flushes the writer. A flush that fails with `Interrupted` is repeated. The writer is called until its count `asks` is
+/// `most`.
+///
+/// # Errors
+///
+/// `WriteFault` at another error, and at that count.
+pub fn flush_writer<W: Write>(writer: &mut Metered<W>, most: u64) -> Result<(), WriteFault>
+    ensures octets { TakesNone W.contents writer.old writer.new }
+    ensures flushed { OnOk result (IsTrue (flushed_of writer.new)) }
+    ensures asks { asks_of writer.new ≤ max (asks_of writer.old) most }
+    ensures fault { OnErr result ((faults_of writer.new ≡ counted (faults_of writer.old)) ⊎ (most ≤ asks_of writer.new)) }
+    ensures no_fault { OnOk result (faults_of writer.new ≡ faults_of writer.old) }
+{
+    while writer.asks() < most {
+        if flush_once(writer)? {
+            return Ok(());
+        }
+    }
+    Err(WriteFault)
+}
+
 /// Writes all the octets and flushes the writer. A call that fails with `Interrupted` is repeated. The writer is called
 /// until its count `asks` is 2,097,152 more than the number of the octets.
 ///
@@ -77,16 +128,6 @@ pub fn write_whole<W: Write>(writer: &mut Metered<W>, octets: &[u8]) -> Result<(
     ensures no_fault { OnOk result (faults_of writer.new ≡ faults_of writer.old) }
 {
     let most = octets.len() as u64 + WRITER_ASKS;
-    let mut rest = octets;
-    while writer.asks() < most {
-        if rest.is_empty() {
-            if flush_once(writer)? {
-                return Ok(());
-            }
-        } else {
-            let count = write_piece(writer, rest)?;
-            rest = rest.split_at(count).1;
-        }
-    }
-    Err(WriteFault)
+    write_octets(writer, octets, most)?;
+    flush_writer(writer, most)
 }

@@ -8,6 +8,7 @@ pub mod OneString
 pub mod OneValue
 pub mod Openings
 pub mod PrintLaws
+pub mod SinkLaws
 pub mod PrintedSpelled
 pub mod QuotedLaws
 pub mod StringLaws

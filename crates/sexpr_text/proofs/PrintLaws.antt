@@ -1,14 +1,16 @@
 -- What is printed behind other octets.
-use Rattle.std.proofs.Common.{◌≡◌, ℕ, suc, ◌+◌, ◌<◌, ◌≤◌, ◌==◌, ◌||◌, Bool, true, false, List, [], ◌∷◌, ◌++◌, length, map, take, get_or, Vec, Global, refl, sym, ap, ◌∙◌, append_assoc, append-nil, arith, inl, inr}
+use Rattle.std.proofs.Common.{◌≡◌, ℕ, suc, ◌+◌, ◌%◌, ◌<◌, ◌≤◌, ◌==◌, ◌||◌, Bool, true, false, List, [], ◌∷◌, ◌++◌, length, map, take, drop, take-append-drop, get_or, Vec, Global, Some, refl, sym, ap, ◌∙◌, append_assoc, append-nil, arith, inl, inr}
 use Rattle.std.proofs.lemmas.Bool.{cases_Bool}
 use Rattle.std.proofs.lemmas.List.{map-append, take_more, take_all, length-take-le, length-map}
 use Rattle.std.specs.List.{AllByRecursion}
 use Rattle.base64.specs.Engines.{standard}
 use Rattle.base64.specs.GeneralPurpose.{encode_of}
+use Rattle.base64.proofs.EngineFacts.{encode_of-append}
+use Rattle.sexpr_core.specs.declared.tree.Atom.{Atom}
 use Rattle.sexpr_core.specs.declared.tree.Sexp.{Sexp}
 use Rattle.sexpr_core.specs.declared.tree.Sexp.TheVariants.{List as Branch}
 use Rattle.sexpr_core.specs.Value.{Value, values}
-use Rattle.sexpr_core.specs.Tree.{sexp_value}
+use Rattle.sexpr_core.specs.Tree.{atom_value, sexp_value}
 use Rattle.sexpr_core.proofs.Written.{sexp_list}
 use Rattle.sexpr_text.specs.Strings.{is_token_octet, IsToken}
 use Rattle.sexpr_text.specs.Printed.{every, is_token, is_printable, quoted_body, printed_string, gap, adv, adv_all}
@@ -88,3 +90,44 @@ list_printed tree ms xs k out opened all new is same le e f g =
     let whole : adv (sexp_value tree) ≡ 40 ∷ (body ++ 41 ∷ []) = ap (λ t. adv (sexp_value t)) is ∙ ap adv (sexp_list ms) in
     g ∙ ap (λ s. s ++ 41 ∷ []) (f ∙ ap (λ s. opened ++ adv_all 0 (values (map sexp_value s))) taken ∙ ap (λ s. s ++ body) e ∙ append_assoc out (40 ∷ []) body)
     ∙ append_assoc out (40 ∷ body) (41 ∷ []) ∙ ap (λ s. out ++ s) (sym whole)
+
+-- ---- pieces
+
+pub quoted_one : (xs : List ℕ) (k d : ℕ) → k < length xs
+    → quoted_body (take k xs) ++ quoted_body (get_or xs k d ∷ []) ≡ quoted_body (take (k + 1) xs)
+quoted_one xs k d lt = quoted_more xs k d [] _ _ lt refl refl
+
+pub quoted_between : (xs : List ℕ) (k : ℕ) → length xs ≤ k
+    → ((34 ∷ []) ++ quoted_body (take k xs)) ++ 34 ∷ [] ≡ 34 ∷ (quoted_body xs ++ 34 ∷ [])
+quoted_between xs k le = ap (λ s. 34 ∷ (quoted_body s ++ 34 ∷ [])) (take_all k xs le)
+
+pub packed_one : (n : ℕ) (rest piece behind packed whole : List ℕ) → n % 3 ≡ 0 → piece ≡ take n rest → behind ≡ drop n rest → length piece ≡ n
+    → packed ++ encode_of standard rest ≡ whole → (packed ++ encode_of standard piece) ++ encode_of standard behind ≡ whole
+packed_one n rest piece behind packed whole triple front back long e =
+    let parts : piece ++ behind ≡ rest = rw (front, back) (take-append-drop n rest) in
+    let even : length piece % 3 ≡ 0 = rw long triple in
+    append_assoc packed (encode_of standard piece) (encode_of standard behind)
+    ∙ ap (λ s. packed ++ s) (sym (encode_of-append standard piece behind even) ∙ ap (encode_of standard) parts) ∙ e
+
+pub packed_between : (packed last whole : List ℕ) → packed ++ last ≡ whole
+    → (((124 ∷ []) ++ packed) ++ last) ++ 124 ∷ [] ≡ 124 ∷ (whole ++ 124 ∷ [])
+packed_between packed last whole e = ap (λ s. 124 ∷ (s ++ 124 ∷ [])) e
+
+pub member_behind : {A : Type 0} (f : A → Value) (xs : List A) (k : ℕ) (d : A) → k < length xs
+    → (adv_all 0 (values (map f (take k xs))) ++ gap k) ++ adv (f (get_or xs k d)) ≡ adv_all 0 (values (map f (take (k + 1) xs)))
+member_behind f xs k d lt = member_printed f xs k d [] _ _ _ lt refl refl refl
+
+pub list_between : (tree : Sexp) (ms : Vec Sexp Global) (xs : List Sexp) (k : ℕ) → tree ≡ Branch ms → xs ≡ ms.items → length xs ≤ k
+    → ((40 ∷ []) ++ adv_all 0 (values (map sexp_value (take k xs)))) ++ 41 ∷ [] ≡ adv (sexp_value tree)
+list_between tree ms xs k is same le = list_printed tree ms xs k [] _ _ _ is same le refl refl refl
+
+pub quoted_plain : (c : ℕ) → false ≡ (c == 34 || c == 92) → c ∷ [] ≡ quoted_body (c ∷ [])
+quoted_plain c e = rw (sym e) refl
+
+pub quoted_escaped : (c : ℕ) → true ≡ (c == 34 || c == 92) → 92 ∷ c ∷ [] ≡ quoted_body (c ∷ [])
+quoted_escaped c e = rw (sym e) refl
+
+pub hinted_whole : (atom : Atom) (hint : Vec ℕ Global) (hinted body : List ℕ) → atom.hint ≡ Some hint → hinted ≡ hint.items → body ≡ atom.body.items
+    → (91 ∷ (printed_string hinted ++ 93 ∷ [])) ++ printed_string body ≡ adv (atom_value atom)
+hinted_whole atom hint hinted body is h b =
+    ap (λ s. 91 ∷ s) (append_assoc (printed_string hinted) (93 ∷ []) (printed_string body)) ∙ rw (h, b, is) refl

@@ -6,4 +6,6 @@ pub mod Reads
 pub mod Unclosed
 pub mod Stands
 pub mod Written
+pub mod Sinks
+pub mod SinkLaws
 pub mod Inner

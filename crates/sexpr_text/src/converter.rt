@@ -19,7 +19,8 @@ ghost use Rattle.sexpr_text.specs.Written.{written, written_all, written_string,
 
 use crate::hinted_strings::read_hinted_string;
 use crate::opening_brace::opens_braces;
-use crate::printer::{print_string, stands_in_token};
+use crate::printer::{print_octets, stands_in_token};
+use crate::sinks::VectorSink;
 use crate::strings::{read_string, token_end};
 use sexpr_core::syntax::{append_verbatim, ended, octet_at, octets_in_braces, skip_spaces};
 use sexpr_core::{FormFault, MOST_LISTS, MOST_OCTETS};
@@ -89,17 +90,16 @@ fn convert_advanced(alloc: Global, form: Form, text: &[u8]) -> Result<Vec<u8>, F
 }
 
 /// Appends a string without a display hint to the output.
-fn write_string(
-    alloc: Global,
-    form: Form,
-    octets: &[u8],
-    out: &mut Vec<u8>,
-) -> Result<(), AllocError>
+fn write_string(form: Form, octets: &[u8], out: &mut Vec<u8>) -> Result<(), AllocError>
     ensures { OnOk result (out.new.items ≡ out.old.items ++ written_string form octets.now) }
 {
     match form {
         Form::Canonical => append_verbatim(octets, out),
-        Form::Advanced => print_string(alloc, octets, out),
+        Form::Advanced => {
+            let mut sink = VectorSink::new(out);
+            print_octets(octets, &mut sink);
+            sink.end()
+        }
     }
 }
 
@@ -145,7 +145,7 @@ fn convert_string(
         return Ok(convert_token(text, at, first, form, out)?);
     }
     let string = read_string(alloc, text, at)?;
-    write_string(alloc, form, string.octets.as_slice(), out)?;
+    write_string(form, string.octets.as_slice(), out)?;
     Ok(string.end)
 }
 
@@ -284,8 +284,8 @@ fn convert_hinted(
 {
     let string = read_hinted_string(alloc, text, at)?;
     out.push(b'[')?;
-    write_string(alloc, form, string.hint.as_slice(), out)?;
+    write_string(form, string.hint.as_slice(), out)?;
     out.push(b']')?;
-    write_string(alloc, form, string.octets.as_slice(), out)?;
+    write_string(form, string.octets.as_slice(), out)?;
     Ok(string.end)
 }

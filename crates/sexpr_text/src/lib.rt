@@ -12,8 +12,10 @@ mod opening_brace;
 mod printer;
 mod quoted_strings;
 mod reader;
+mod sinks;
 mod strings;
 
 pub use converter::{Form, convert};
-pub use printer::print_advanced;
+pub use printer::{print_advanced, print_octets, print_tree};
 pub use reader::{read_advanced, read_any};
+pub use sinks::{Counter, Sink, VectorSink};

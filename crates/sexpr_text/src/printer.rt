@@ -1,6 +1,6 @@
 //! Prints advanced form.
 
-ghost use Rattle.std.specs.Prelude.{◌≡◌, [], ◌++◌, ◌∷◌, IfOk, OnOk};
+ghost use Rattle.std.specs.Prelude.{◌≡◌, ◌≤◌, ◌==◌, ◌||◌, [], ◌++◌, ◌∷◌, length, IfOk};
 ghost use Rattle.sexpr_core.specs.Octets.{HasOctets};
 ghost use Rattle.sexpr_core.specs.Tree.{atom_value, sexp_value};
 ghost use Rattle.base64.specs.Engines.{standard};
@@ -9,9 +9,16 @@ ghost use Rattle.sexpr_text.specs.Strings.{is_token_octet};
 ghost use Rattle.sexpr_text.specs.Spelling.{Spells};
 ghost use Rattle.sexpr_text.specs.Printed.{every, is_token, is_printable, quoted_body, printed_string, adv, gap};
 
+use crate::sinks::{Sink, VectorSink};
 use base64::engine::general_purpose::STANDARD;
 use sexpr_core::{Atom, Sexp};
 use std::alloc::{AllocError, Global};
+
+/// How many octets are printed in base64 at once: a multiple of 3, so that only the last of them are padded.
+const PACKED_OCTETS: usize = 384;
+
+/// How many symbols these octets have.
+const PACKED_SYMBOLS: usize = 512;
 
 /// Returns the printed text of a tree in advanced form. Each string is a token if it can be one; otherwise quoted, if all
 /// its octets are printable; otherwise base64. Display hints are in brackets directly before the string, and there is one
@@ -21,7 +28,9 @@ pub fn print_advanced(alloc: Global, tree: &Sexp) -> Result<Vec<u8>, AllocError>
     ensures spells { IfOk result (λ text. Spells text.items (sexp_value tree.now)) }
 {
     let mut out = Vec::new(alloc);
-    print_tree(alloc, tree, &mut out)?;
+    let mut sink = VectorSink::new(&mut out);
+    print_tree(tree, &mut sink);
+    sink.end()?;
     Ok(out)
 }
 
@@ -70,96 +79,119 @@ fn is_token_text(octets: &[u8]) -> bool
     }
 }
 
-fn print_quoted_octet(octet: u8, out: &mut Vec<u8>) -> Result<(), AllocError>
-    ensures { OnOk result (out.new.items ≡ out.old.items ++ quoted_body (octet ∷ [])) }
+/// Whether an octet between quotes has a backslash before it.
+fn is_escaped(octet: u8) -> bool
+    ensures { result ≡ (octet == 34 || octet == 92) }
 {
-    if octet != b'"' && octet != b'\\' {
-        out.push(octet)?;
-        return Ok(());
-    }
-    out.push(b'\\')?;
-    out.push(octet)?;
-    Ok(())
+    octet == b'"' || octet == b'\\'
 }
 
-fn print_quoted(octets: &[u8], out: &mut Vec<u8>) -> Result<(), AllocError>
-    ensures { OnOk result (out.new.items ≡ out.old.items ++ 34 ∷ (quoted_body octets.now ++ 34 ∷ [])) }
+fn print_quoted_octet<S: Sink>(octet: u8, sink: &mut S)
+    ensures { S.takes sink.old (quoted_body (octet ∷ [])) sink.new }
 {
-    out.push(b'"')?;
+    if is_escaped(octet) {
+        sink.put(&[b'\\', octet]);
+        return;
+    }
+    sink.put_octet(octet);
+}
+
+fn print_quoted<S: Sink>(octets: &[u8], sink: &mut S)
+    ensures { S.takes sink.old (34 ∷ (quoted_body octets.now ++ 34 ∷ [])) sink.new }
+{
+    sink.put_octet(b'"');
     for octet in octets {
-        print_quoted_octet(*octet, out)?;
+        print_quoted_octet(*octet, sink);
     }
-    out.push(b'"')?;
-    Ok(())
+    sink.put_octet(b'"');
 }
 
-fn print_packed(alloc: Global, octets: &[u8], out: &mut Vec<u8>) -> Result<(), AllocError>
-    ensures { OnOk result (out.new.items ≡ out.old.items ++ 124 ∷ (encode_of standard octets.now ++ 124 ∷ [])) }
+/// Prints at most so many octets in base64.
+fn print_piece<S: Sink>(octets: &[u8], sink: &mut S)
+    requires { length octets.now ≤ 384 }
+    ensures { S.takes sink.old (encode_of standard octets.now) sink.new }
 {
-    let symbols = STANDARD.encode(alloc, octets)?;
-    out.push(b'|')?;
-    out.extend_from_slice(symbols.as_bytes())?;
-    out.push(b'|')?;
-    Ok(())
+    let mut symbols = [0; PACKED_SYMBOLS];
+    if let Ok(count) = STANDARD.encode_slice(octets, &mut symbols) {
+        sink.put(&symbols[..count]);
+    }
 }
 
-pub(crate) fn print_string(
-    alloc: Global,
-    octets: &[u8],
-    out: &mut Vec<u8>,
-) -> Result<(), AllocError>
-    ensures printed { OnOk result (out.new.items ≡ out.old.items ++ printed_string octets.now) }
+fn print_packed<S: Sink>(octets: &[u8], sink: &mut S)
+    ensures { S.takes sink.old (124 ∷ (encode_of standard octets.now ++ 124 ∷ [])) sink.new }
+{
+    sink.put_octet(b'|');
+    let mut rest = octets;
+    while rest.len() > PACKED_OCTETS {
+        let (piece, behind) = rest.split_at(PACKED_OCTETS);
+        print_piece(piece, sink);
+        rest = behind;
+    }
+    print_piece(rest, sink);
+    sink.put_octet(b'|');
+}
+
+/// Prints a string without a display hint, as `print_advanced` does. Allocates nothing.
+pub fn print_octets<S: Sink>(octets: &[u8], sink: &mut S)
+    ensures printed { S.takes sink.old (printed_string octets.now) sink.new }
     ensures octets { IsBytes octets.now }
 {
     if is_token_text(octets) {
-        out.extend_from_slice(octets)?;
-        return Ok(());
+        sink.put(octets);
+    } else if all_printable(octets) {
+        print_quoted(octets, sink);
+    } else {
+        print_packed(octets, sink);
     }
-    if all_printable(octets) {
-        print_quoted(octets, out)?;
-        return Ok(());
-    }
-    print_packed(alloc, octets, out)?;
-    Ok(())
 }
 
-fn print_atom(alloc: Global, atom: &Atom, out: &mut Vec<u8>) -> Result<(), AllocError>
-    ensures printed { OnOk result (out.new.items ≡ out.old.items ++ adv (atom_value atom.now)) }
-    ensures octets { OnOk result (HasOctets (atom_value atom.now)) }
+/// Prints a display hint.
+fn print_hint<S: Sink>(hint: &[u8], sink: &mut S)
+    ensures printed { S.takes sink.old (91 ∷ (printed_string hint.now ++ 93 ∷ [])) sink.new }
+    ensures octets { IsBytes hint.now }
 {
-    if let Some(hint) = &atom.hint {
-        out.push(b'[')?;
-        print_string(alloc, hint, out)?;
-        out.push(b']')?;
+    sink.put_octet(b'[');
+    print_octets(hint, sink);
+    sink.put_octet(b']');
+}
+
+fn print_atom<S: Sink>(atom: &Atom, sink: &mut S)
+    ensures printed { S.takes sink.old (adv (atom_value atom.now)) sink.new }
+    ensures octets { HasOctets (atom_value atom.now) }
+{
+    match &atom.hint {
+        None => print_octets(&atom.body, sink),
+        Some(hint) => {
+            print_hint(hint, sink);
+            print_octets(&atom.body, sink);
+        }
     }
-    print_string(alloc, &atom.body, out)
 }
 
 /// Prints the space before a member that is not the first.
-fn print_gap(member: usize, out: &mut Vec<u8>) -> Result<(), AllocError>
-    ensures { OnOk result (out.new.items ≡ out.old.items ++ gap member) }
+fn print_gap<S: Sink>(member: usize, sink: &mut S)
+    ensures { S.takes sink.old (gap member) sink.new }
 {
     if member == 0 {
-        return Ok(());
+        return;
     }
-    out.push(b' ')?;
-    Ok(())
+    sink.put_octet(b' ');
 }
 
-fn print_tree(alloc: Global, tree: &Sexp, out: &mut Vec<u8>) -> Result<(), AllocError>
-    ensures printed { OnOk result (out.new.items ≡ out.old.items ++ adv (sexp_value tree.now)) }
-    ensures octets { OnOk result (HasOctets (sexp_value tree.now)) }
+/// Prints a tree in advanced form, as `print_advanced` does. Allocates nothing.
+pub fn print_tree<S: Sink>(tree: &Sexp, sink: &mut S)
+    ensures printed { S.takes sink.old (adv (sexp_value tree.now)) sink.new }
+    ensures octets { HasOctets (sexp_value tree.now) }
 {
     match tree {
-        Sexp::Atom(atom) => print_atom(alloc, atom, out),
+        Sexp::Atom(atom) => print_atom(atom, sink),
         Sexp::List(members) => {
-            out.push(b'(')?;
+            sink.put_octet(b'(');
             for (i, member) in members.iter().enumerate() {
-                print_gap(i, out)?;
-                print_tree(alloc, member, out)?;
+                print_gap(i, sink);
+                print_tree(member, sink);
             }
-            out.push(b')')?;
-            Ok(())
+            sink.put_octet(b')');
         }
     }
 }

@@ -1,10 +1,7 @@
-use Rattle.std.proofs.Common.{rules}
-use Rattle.metered_io.proofs.Sent.{SendsFront-more}
+use Rattle.std.proofs.Common.{[]}
+use Rattle.metered_io.proofs.Sent.{SendsFront-all, on_err}
 use Rattle.metered_io.proofs.output.write_whole.Goals as goal
 
-pub loop-rest-preserved : goal.loop-rest-preserved
-loop-rest-preserved g c = record {
-  sent = SendsFront-more c.in_ok-count.count c.loop-rest.invariant.sent c.in_ok-count.ensures.octets c.split_at.ensures.back;
-  asked = search rules;
-  faultless = search rules;
-}
+pub returns-clause-front : goal.returns-clause-front
+returns-clause-front g c =
+    on_err c.flush_writer.result ([], SendsFront-all c.write_octets.new.writer c.in_ok-write_octets.ensures.octets c.flush_writer.ensures.octets)

@@ -1,21 +1,24 @@
 use Rattle.sexpr_core.specs.Tree.{sexp_value}
 use Rattle.sexpr_core.proofs.OctetLaws.{more_octets, list_octets}
-use Rattle.sexpr_text.proofs.PrintLaws.{nothing_printed, member_printed, list_printed}
+use Rattle.sexpr_text.proofs.PrintLaws.{member_behind, list_between}
+use Rattle.sexpr_text.proofs.SinkLaws.{in_three}
 use Rattle.sexpr_text.proofs.printer.+print_tree.Goals as goal
 
 pub loop-i-init : goal.loop-i-init
-loop-i-init t c = (nothing_printed _, tt)
+loop-i-init g t c = (g.met.S.Sink.nothing _, tt)
 
 pub loop-i-preserved : goal.loop-i-preserved
-loop-i-preserved t c = (
-  member_printed sexp_value _ _ _ _ _ _ _ c.loop-i-test.true c.loop-i.invariant.0 c.in_ok-print_gap-in-List.ensures (rw c.member-item.is at c.in_ok-print_tree-in-List.ensures.printed),
-  more_octets sexp_value _ _ _ c.loop-i-test.true c.loop-i.invariant.1 (rw c.member-item.is at c.in_ok-print_tree-in-List.ensures.octets),
+loop-i-preserved g t c = (
+  in_three g.S.Sink.takes g.met.S.Sink.both _ c.loop-i.invariant.0 c.print_gap.ensures (rw c.member-item.is at c.print_tree.ensures.printed)
+      (member_behind sexp_value _ _ _ c.loop-i-test.true),
+  more_octets sexp_value _ _ _ c.loop-i-test.true c.loop-i.invariant.1 (rw c.member-item.is at c.print_tree.ensures.octets),
 )
 
-pub returns-in_ok-push-in-List-2-clause-printed : goal.returns-in_ok-push-in-List-2-clause-printed
-returns-in_ok-push-in-List-2-clause-printed t c =
-    list_printed _ _ _ _ _ _ _ _ c.in-List.is c.deref-member-items.ensures.value c.loop-i-test.false c.in_ok-push-in-List.ensures.items c.loop-i.invariant.0 c.in_ok-push-in-List-2.ensures.items
+pub returns-after-loop-i-clause-printed : goal.returns-after-loop-i-clause-printed
+returns-after-loop-i-clause-printed g t c =
+    in_three g.S.Sink.takes g.met.S.Sink.both _ c.put_octet.ensures c.loop-i.invariant.0 c.put_octet-in-List.ensures
+    (list_between _ _ _ _ c.in-List.is c.deref-member-items.ensures.value c.loop-i-test.false)
 
-pub returns-in_ok-push-in-List-2-clause-octets : goal.returns-in_ok-push-in-List-2-clause-octets
-returns-in_ok-push-in-List-2-clause-octets t c =
+pub returns-after-loop-i-clause-octets : goal.returns-after-loop-i-clause-octets
+returns-after-loop-i-clause-octets g t c =
     list_octets _ _ _ _ c.in-List.is c.deref-member-items.ensures.value c.loop-i-test.false c.loop-i.invariant.1

@@ -1,4 +1,4 @@
-use Rattle.std.proofs.Common.{◌≡◌, ◌++◌, map, take}
+use Rattle.std.proofs.Common.{map, take}
 use Rattle.sexpr_core.specs.Value.{values}
 use Rattle.sexpr_core.specs.Octets.{HaveOctets}
 use Rattle.sexpr_core.specs.Tree.{sexp_value}
@@ -6,6 +6,6 @@ use Rattle.sexpr_text.specs.Printed.{adv_all}
 use Rattle.sexpr_text.proofs.printer.+print_tree.Given as goal
 
 abbrev pub invariant-loop-i : goal.invariant-loop-i
-invariant-loop-i l =
-    (l.out.items ≡ l.initial.out.items ++ adv_all 0 (values (map sexp_value (take l.i l.member-items))))
+invariant-loop-i g l =
+    g.S.Sink.takes l.initial.sink (adv_all 0 (values (map sexp_value (take l.i l.member-items)))) l.sink
     × HaveOctets (values (map sexp_value (take l.i l.member-items)))

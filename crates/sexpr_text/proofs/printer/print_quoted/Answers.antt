@@ -1,6 +1,16 @@
-use Rattle.sexpr_text.proofs.PrintLaws.{quoted_more}
+use Rattle.sexpr_text.proofs.PrintLaws.{quoted_one, quoted_between}
+use Rattle.sexpr_text.proofs.SinkLaws.{in_two, in_three}
 use Rattle.sexpr_text.proofs.printer.print_quoted.Goals as goal
 
+pub loop-octet-init : goal.loop-octet-init
+loop-octet-init g c = g.met.S.Sink.nothing _
+
 pub loop-octet-preserved : goal.loop-octet-preserved
-loop-octet-preserved c =
-    quoted_more _ _ 0 _ _ _ c.loop-octet-test.true c.loop-octet.invariant c.in_ok-print_quoted_octet.ensures
+loop-octet-preserved g c =
+    in_two g.S.Sink.takes g.met.S.Sink.both _ c.loop-octet.invariant c.print_quoted_octet.ensures
+    (quoted_one _ _ 0 c.loop-octet-test.true)
+
+pub returns : goal.returns
+returns g c =
+    in_three g.S.Sink.takes g.met.S.Sink.both _ c.put_octet.ensures c.loop-octet.invariant c.put_octet-2.ensures
+    (quoted_between _ _ c.loop-octet-test.false)

@@ -1,0 +1,13 @@
+use Rattle.std.proofs.Common.{◌-◌, ◌≡◌, ◌≤◌, max}
+use Rattle.metered_io.specs.Metered.{TakesNone}
+use Rattle.metered_io.proofs.output.flush_writer.Given as goal
+
+abbrev pub invariant-loop-writer : goal.invariant-loop-writer
+invariant-loop-writer g l = record {
+  kept : TakesNone g.W.Write.contents l.initial.writer l.writer;
+  asked : l.writer.asks ≤ max l.initial.writer.asks l.most;
+  faultless : l.writer.faults ≡ l.initial.writer.faults;
+}
+
+abbrev pub decreases-loop-writer : goal.decreases-loop-writer
+decreases-loop-writer g l = l.most - l.writer.asks

@@ -1,0 +1,13 @@
+use Rattle.std.proofs.Common.{◌-◌, ◌≡◌, ◌≤◌, ◌+◌, length, max}
+use Rattle.metered_io.specs.Sent.{SendsFront}
+use Rattle.metered_io.proofs.output.write_octets.Given as goal
+
+abbrev pub invariant-loop-rest : goal.invariant-loop-rest
+invariant-loop-rest g l = record {
+  sent : SendsFront g.W.Write.contents l.initial.writer l.writer l.octets l.rest;
+  asked : l.writer.asks ≤ max l.initial.writer.asks l.most;
+  faultless : l.writer.faults ≡ l.initial.writer.faults;
+}
+
+abbrev pub decreases-loop-rest : goal.decreases-loop-rest
+decreases-loop-rest g l = l.most - l.writer.asks

@@ -1,0 +1,12 @@
+use Rattle.std.proofs.Common.{◌≡◌, ◌++◌, List, ℕ, length}
+use Rattle.base64.specs.Engines.{standard}
+use Rattle.base64.specs.GeneralPurpose.{encode_of}
+use Rattle.sexpr_text.proofs.printer.print_packed.Given as goal
+
+-- what was printed, and the rest in base64, are all octets in base64
+abbrev pub invariant-loop-rest : goal.invariant-loop-rest
+invariant-loop-rest g l = (packed : List ℕ) × g.S.Sink.takes l.initial.sink packed l.sink
+    × (packed ++ encode_of standard l.rest ≡ encode_of standard l.octets)
+
+abbrev pub decreases-loop-rest : goal.decreases-loop-rest
+decreases-loop-rest g l = length l.rest

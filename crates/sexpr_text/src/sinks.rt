@@ -1,0 +1,121 @@
+//! Where printed octets go: a vector, a count, or what a crate above writes to.
+
+ghost use Rattle.std.specs.Prelude.{◌≡◌, ℕ, List, [], ◌∷◌, ◌++◌, false, OnOk};
+ghost use Rattle.sexpr_text.specs.Sinks.{VectorTakes, IsCounted, lender_of, text_of, has_failed, count_of};
+ghost use Rattle.sexpr_text.specs.SinkLaws.{vector_takes_nothing, vector_takes_both, nothing_counted, both_counted};
+
+use std::alloc::AllocError;
+
+/// Takes octets, one piece after another. A sink that fails takes no more octets and reports the fault at its end, so a
+/// printer has no errors.
+pub trait Sink {
+    // From the sink before it took these octets to the sink after it.
+    ghost takes: { Self → List ℕ → Self → Type 0 };
+
+    /// Takes octets.
+    fn put(&mut self, octets: &[u8])
+        ensures { takes self.old octets.now self.new };
+
+    /// Takes one octet.
+    fn put_octet(&mut self, octet: u8)
+        ensures { takes self.old (octet ∷ []) self.new };
+
+    // Nothing is taken between two calls, and what two calls take is one behind the other.
+    ghost nothing: { (s : Self) → takes s [] s };
+
+    ghost both: { (a b c : Self) (x y : List ℕ) → takes a x b → takes b y c → takes a (x ++ y) c };
+}
+
+/// Appends octets to a vector. The vector is exactly what was put if no allocation failed.
+pub struct VectorSink<'v> {
+    octets: &'v mut Vec<u8>,
+    failed: bool,
+}
+
+impl<'v> VectorSink<'v> {
+    /// A sink that appends to this vector.
+    pub fn new(octets: &'v mut Vec<u8>) -> VectorSink<'v>
+        ensures lender { lender_of result ≡ octets.entry.ghost_name }
+        ensures text { text_of result ≡ octets.old.items }
+        ensures failed { has_failed result ≡ false }
+    {
+        VectorSink {
+            octets,
+            failed: false,
+        }
+    }
+
+    /// Ends the sink.
+    ///
+    /// # Errors
+    ///
+    /// `AllocError` if memory ran out for some octets. Then the vector lacks them.
+    pub fn end(self) -> Result<(), AllocError>
+        ensures text { self.exit.0.now.items ≡ text_of self.entry }
+        ensures ok { OnOk result (has_failed self.entry ≡ false) }
+    {
+        let VectorSink { octets: _, failed } = self;
+        if failed {
+            return Err(AllocError);
+        }
+        Ok(())
+    }
+}
+
+impl<'v> Sink for VectorSink<'v> {
+    ghost takes = { VectorTakes };
+
+    fn put(&mut self, octets: &[u8]) {
+        if self.octets.extend_from_slice(octets).is_err() {
+            self.failed = true;
+        }
+    }
+
+    fn put_octet(&mut self, octet: u8) {
+        if self.octets.push(octet).is_err() {
+            self.failed = true;
+        }
+    }
+
+    ghost nothing = { vector_takes_nothing };
+
+    ghost both = { vector_takes_both };
+}
+
+/// Counts octets.
+#[derive(Clone, Copy, Debug)]
+pub struct Counter {
+    count: u64,
+}
+
+impl Counter {
+    /// A counter of no octets.
+    pub fn new() -> Counter
+        ensures { count_of result ≡ 0 }
+    {
+        Counter { count: 0 }
+    }
+
+    /// How many octets were put. It stops at the greatest `u64`.
+    pub fn count(&self) -> u64
+        ensures { result ≡ count_of self.now }
+    {
+        self.count
+    }
+}
+
+impl Sink for Counter {
+    ghost takes = { IsCounted };
+
+    fn put(&mut self, octets: &[u8]) {
+        self.count = self.count.saturating_add(octets.len() as u64);
+    }
+
+    fn put_octet(&mut self, _octet: u8) {
+        self.count = self.count.saturating_add(1);
+    }
+
+    ghost nothing = { nothing_counted };
+
+    ghost both = { both_counted };
+}
