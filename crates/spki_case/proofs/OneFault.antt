@@ -31,7 +31,7 @@ one-part p (faults.Acl x) faults.Shape a b = absurd b
 one-part p (faults.Acl x) faults.Memory a b = absurd b
 one-part p (faults.Acl x) (faults.Form y) a b = absurd b
 one-part p (faults.Accepted x) (faults.Acl y) a b = absurd (b.none a.before.0 a.before.1)
-one-part p (faults.Accepted x) (faults.Accepted y) a b = ap faults.Accepted (some-one a.refused.named b.refused.named)
+one-part p (faults.Accepted x) (faults.Accepted y) a b = ap faults.Accepted (some-one a.named b.named)
 one-part p (faults.Accepted x) (faults.Sequence y) a b = absurd (a.none b.before.1 b.before.2)
 one-part p (faults.Accepted x) (faults.Key y) a b = absurd (a.none b.before.0.1 b.before.0.2)
 one-part p (faults.Accepted x) (faults.Request y) a b = absurd (a.none b.before.0.0.1 b.before.0.0.2)
@@ -107,5 +107,5 @@ one-rows_fault v f g (inl a) (inr b) = absurd (a.none b.members b.written)
 one-rows_fault v f g (inr a) (inl b) = absurd (b.none a.members a.written)
 one-rows_fault v f g (inr a) (inr b) =
     let same : a.members ≡ b.members = behind_head (codes "accepted") a.members b.members (sym a.written ∙ b.written) in
-    let one : a.lacking ≡ b.lacking = some-one (ap rows_fault (sym same) ∙ a.refused.named) b.refused.named in
+    let one : a.lacking ≡ b.lacking = some-one (ap rows_fault (sym same) ∙ a.first) b.first in
     a.named ∙ ap rows_faults.Row one ∙ sym b.named

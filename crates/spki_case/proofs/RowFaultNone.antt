@@ -9,6 +9,7 @@ use Rattle.spki_tag.specs.FaultOf.{request_fault}
 use Rattle.spki_tag.proofs.Faultless.{request_none_exactly}
 use Rattle.spki_cert.specs.declared.hash.HashAlg.{HashAlg}
 use Rattle.spki_cert.specs.declared.hash.HashAlg.TheVariants.{Sha1, Sha256, Sha512}
+use Rattle.spki_cert.specs.declared.fault.CertFault.{CertFault}
 use Rattle.spki_cert.specs.declared.fault.CertFaultKind.TheVariants.{HashAlg as OtherAlg}
 use Rattle.spki_cert.specs.Readings.{HashOf}
 use Rattle.spki_cert.specs.Fields.{behind_head}
@@ -82,6 +83,9 @@ row-none v = (row-read v, λ some. row-faultless v some.0 some.1)
 pub rows-none : (vs : List Value) → (rows_fault vs ≡ None) ↔ ((rows : List Row) × AllZip RowOf vs rows)
 unfolding rows_fault
 rows-none vs = each-none row_fault RowOf row-none 1 vs
+
+pub rows-refused : (vs : List Value) (fault : CertFault) → rows_fault vs ≡ Some fault → (rows : List Row) → ¬ AllZip RowOf vs rows
+rows-refused vs fault e rows read = absurd (let f = sym ((rows-none vs).1 (rows, read)) ∙ e in cc)
 
 -- ---- the parts of a case
 

@@ -3,7 +3,6 @@ use Rattle.std.specs.Prelude.{◌≡◌, ◌≢◌, ◌⊎◌, ℕ, List, [], �
 use Rattle.std.specs.List.{AllZip}
 use Rattle.sexpr_core.specs.Value.{Value, plain, group}
 use Rattle.spki_tag.specs.Request.{Request, IsRequest, request_value}
-use Rattle.spki_tag.specs.Faults.{RequestShows}
 use Rattle.spki_tag.specs.declared.fault.TagFault.{TagFault}
 use Rattle.spki_tag.specs.declared.fault.TagFault.TheVariants as tag_faults
 use Rattle.spki_cert.specs.declared.entry.Entry.{Entry}
@@ -12,16 +11,16 @@ use Rattle.spki_cert.specs.declared.fault.CertFaultKind.TheVariants as kinds
 use Rattle.spki_cert.specs.declared.principal.Policy.TheVariants.{Open, Strict}
 use Rattle.spki_cert.specs.declared.principal.Policy.{Policy}
 use Rattle.spki_cert.specs.Readings.{KeyOf, DateOf}
-use Rattle.spki_cert.specs.Entries.{AclOf, AclRefused}
+use Rattle.spki_cert.specs.Entries.{AclOf}
 use Rattle.spki_cert.specs.declared.certificate.SeqItem.{SeqItem}
-use Rattle.spki_cert.specs.Sequences.{SeqOf, SeqRefused}
-use Rattle.spki_cert.specs.Faults.{Shows}
+use Rattle.spki_cert.specs.Sequences.{SeqOf}
 use Rattle.spki_tag.specs.FaultOf.{request_fault}
 use Rattle.spki_cert.specs.FixedFaults.{key_fault}
 use Rattle.spki_cert.specs.EntryFaults.{acl_fault}
 use Rattle.spki_cert.specs.SequenceFaults.{sequence_fault}
 use Rattle.spki_case.specs.Case.{Case, Row}
-use Rattle.spki_case.specs.Rows.{RowOf, RowsRefused}
+use Rattle.spki_case.specs.Rows.{RowOf}
+use Rattle.spki_case.specs.RowFaults.{rows_fault}
 use Rattle.spki_case.specs.Texts.{IsTextOf, IsMalformed}
 use Rattle.spki_case.specs.declared.cases.CaseFault.{CaseFault}
 use Rattle.spki_case.specs.declared.cases.CaseFault.TheVariants as faults
@@ -109,21 +108,20 @@ ReadsRequest p = ReadsKey p × (g : Request) × RequestOf p.request g
 -- The access list is refused; the fault names one of its entries, or the whole list.
 pub record AclRefusedIn (p : Parts) (fault : CertFault) : Type 0 where
   pub found : fault.kind ≢ kinds.Memory
-  pub refused : AclRefused (acl_value p) fault
   pub named : acl_fault (acl_value p) ≡ Some fault
   pub none : (es : List Entry) → ¬ AclOf (acl_value p) es
 
 -- The accepted list is refused; the fault names one of its rows.
 pub record RowsRefusedIn (p : Parts) (fault : CertFault) : Type 0 where
   pub before : ReadsAcl p
-  pub refused : RowsRefused p.rows fault
+  pub found : fault.kind ≢ kinds.Memory
+  pub named : rows_fault p.rows ≡ Some fault
   pub none : (rows : List Row) → ¬ AllZip RowOf p.rows rows
 
 -- The sequence is refused; the fault names one of its items, or the whole sequence.
 pub record SequenceRefusedIn (p : Parts) (fault : CertFault) : Type 0 where
   pub before : ReadsRows p
   pub found : fault.kind ≢ kinds.Memory
-  pub refused : SeqRefused (sequence_value p) fault
   pub named : sequence_fault (sequence_value p) ≡ Some fault
   pub none : (is : List SeqItem) → ¬ SeqOf (sequence_value p) is
 
@@ -132,7 +130,6 @@ pub record KeyRefusedIn (p : Parts) (fault : CertFault) : Type 0 where
   pub before : ReadsItems p
   pub outer : fault.item ≡ 0
   pub found : fault.kind ≢ kinds.Memory
-  pub shows : Shows fault.kind p.key
   pub named : key_fault p.key ≡ Some fault.kind
   pub none : (key : List ℕ) → ¬ KeyOf p.key key
 
@@ -140,7 +137,6 @@ pub record KeyRefusedIn (p : Parts) (fault : CertFault) : Type 0 where
 pub record RequestRefusedIn (p : Parts) (fault : TagFault) : Type 0 where
   pub before : ReadsKey p
   pub found : fault ≢ tag_faults.Memory
-  pub shows : RequestShows fault p.request
   pub named : request_fault p.request ≡ Some fault
   pub none : (g : Request) → ¬ RequestOf p.request g
 

@@ -1,11 +1,13 @@
 -- The separate accepted list of a value, and what its rows state.
-use Rattle.std.specs.Prelude.{◌≡◌, ◌≢◌, ◌⊎◌, List, ℕ, codes, IsTrue}
+use Rattle.std.specs.Prelude.{◌≡◌, ◌≢◌, ◌⊎◌, List, ℕ, Some, codes, IsTrue}
 use Rattle.std.specs.List.{AllZip}
 use Rattle.sexpr_core.specs.Value.{Value}
 use Rattle.spki_cert.specs.declared.fault.CertFault.{CertFault}
+use Rattle.spki_cert.specs.declared.fault.CertFaultKind.TheVariants as kinds
 use Rattle.spki_case.specs.Case.{Row, Verified, accepts}
 use Rattle.spki_case.specs.CaseForm.{headed}
-use Rattle.spki_case.specs.Rows.{RowOf, RowsRefused}
+use Rattle.spki_case.specs.Rows.{RowOf}
+use Rattle.spki_case.specs.RowFaults.{rows_fault}
 use Rattle.spki_case.specs.Texts.{IsTextOf, IsMalformed}
 use Rattle.spki_case.specs.declared.rows.RowsFault.{RowsFault}
 use Rattle.spki_case.specs.declared.rows.RowsFault.TheVariants as faults
@@ -37,7 +39,8 @@ pub record LacksRow (v : Value) (fault : RowsFault) : Type 0 where
   pub written : v ≡ accepted_value members
   pub lacking : CertFault
   pub named : fault ≡ faults.Row lacking
-  pub refused : RowsRefused members lacking
+  pub found : lacking.kind ≢ kinds.Memory
+  pub first : rows_fault members ≡ Some lacking
   pub none : (rows : List Row) → ¬ AllZip RowOf members rows
 
 -- What a fault means for a value, except for Memory.

@@ -1,11 +1,10 @@
 //! Reads the rows of an accepted list.
 
-ghost use Rattle.std.specs.Prelude.{◌≡◌, ◌≢◌, ◌<◌, ◌↔◌, ℕ, List, length, map, Some, None, IfOk, IfErr, IsErrOf};
+ghost use Rattle.std.specs.Prelude.{◌≡◌, ◌≢◌, ◌<◌, ◌↔◌, length, map, Some, None, IfOk, IfErr, IsErrOf};
 ghost use Rattle.spki_cert.specs.Readings.{HashOf};
 ghost use Rattle.std.specs.List.{AllZip};
-ghost use Rattle.spki_case.specs.Case as model;
-ghost use Rattle.spki_case.specs.Rows.{RowOf, RowShows, RowsRefused, HashShows};
-ghost use Rattle.spki_case.specs.RowFaults.{sha256_fault, row_fault};
+ghost use Rattle.spki_case.specs.Rows.{RowOf};
+ghost use Rattle.spki_case.specs.RowFaults.{sha256_fault, row_fault, rows_fault};
 ghost use Rattle.spki_case.specs.View.{row_of, rows_of};
 ghost use Rattle.spki_case.specs.Texts.{IsOuter};
 ghost use Rattle.spki_case.specs.RowsForm.{RowsOf, NoRows, IsRowsText, RowsTextRefused};
@@ -81,8 +80,6 @@ fn fault_of_row(fault: CertFault) -> RowsFault
 /// Reads the row of a node: `(by key hash value)`. Allocates nothing.
 fn row_at<'a>(node: &Node<'_, 'a>) -> Result<Row<'a>, CertFaultKind>
     ensures row { IfOk result (λ row. RowOf node.now (row_of row)) }
-    ensures refused { IfErr result (λ _. (row : model.Row) → ¬ RowOf node.now row) }
-    ensures shown { IfErr result (λ kind. (kind ≢ CertFaultKind.Memory) × RowShows kind node.now) }
     ensures faultless { IfOk result (λ _. row_fault node.now ≡ None) }
     ensures named { IfErr result (λ kind. row_fault node.now ≡ Some kind) }
 {
@@ -113,8 +110,6 @@ fn row_at<'a>(node: &Node<'_, 'a>) -> Result<Row<'a>, CertFaultKind>
 /// Reads the digest of a hash by SHA-256.
 fn sha256_of<'a>(node: &Node<'_, 'a>) -> Result<Octets<'a>, CertFaultKind>
     ensures digest { IfOk result (λ digest. HashOf node.now HashAlg.Sha256 digest) }
-    ensures refused { IfErr result (λ _. (digest : List ℕ) → ¬ HashOf node.now HashAlg.Sha256 digest) }
-    ensures shown { IfErr result (λ kind. (kind ≢ CertFaultKind.Memory) × HashShows kind node.now) }
     ensures faultless { IfOk result (λ _. sha256_fault node.now ≡ None) }
     ensures named { IfErr result (λ kind. sha256_fault node.now ≡ Some kind) }
 {
@@ -128,7 +123,7 @@ fn sha256_of<'a>(node: &Node<'_, 'a>) -> Result<Octets<'a>, CertFaultKind>
 /// Reads the rows of an accepted list, after its head.
 fn read_rows<'a>(alloc: Global, members: Members<'_, 'a>) -> Result<Vec<Row<'a>>, CertFault>
     ensures rows { IfOk result (λ rows. AllZip RowOf members.entry (map row_of rows.items)) }
-    ensures refused { IfErr result (λ fault. fault.kind ≢ CertFaultKind.Memory → RowsRefused members.entry fault) }
+    ensures named { IfErr result (λ fault. fault.kind ≢ CertFaultKind.Memory → rows_fault members.entry ≡ Some fault) }
 {
     let mut rest = members;
     let mut rows = Vec::new(alloc);
@@ -157,7 +152,7 @@ pub(crate) fn table_of<'a>(
     members: Members<'_, 'a>,
 ) -> Result<AcceptedTable<'a>, CertFault>
     ensures rows { IfOk result (λ table. AllZip RowOf members.entry (rows_of table)) }
-    ensures refused { IfErr result (λ fault. fault.kind ≢ CertFaultKind.Memory → RowsRefused members.entry fault) }
+    ensures named { IfErr result (λ fault. fault.kind ≢ CertFaultKind.Memory → rows_fault members.entry ≡ Some fault) }
 {
     let rows = read_rows(alloc, members)?;
     match AcceptedTable::new(alloc, rows) {

@@ -11,11 +11,10 @@ use Rattle.spki_cert.specs.declared.principal.Principal.{Principal}
 use Rattle.spki_cert.specs.declared.principal.Principal.TheVariants.{Key, Hash}
 use Rattle.spki_cert.specs.Subjects.{PrincipalOf, WhoOf, plains}
 use Rattle.spki_cert.specs.Fields.{is_headed, behind_head}
-use Rattle.spki_cert.specs.Entries.{behind_version}
 use Rattle.spki_cert.specs.Places.{fault_at, sole_fault}
 use Rattle.spki_cert.specs.SubjectFaults.{is_name, subject_fault, entry_subject_fault, is_relative, begins_named}
 use Rattle.spki_cert.specs.FieldFaults.{has, fields_fault, version_fault, entry_field_fault, is_both_ways}
-use Rattle.spki_cert.specs.EntryFaults.{entry_fault, at_item, each_looked, acl_version_fault, outer_fault, entries_fault, acl_fault}
+use Rattle.spki_cert.specs.EntryFaults.{entry_fault, at_item, each_looked, acl_version_fault, outer_fault, entries_fault, acl_fault, behind_version}
 use Rattle.spki_cert.proofs.Groups.{not-headed, behind-group}
 use Rattle.spki_cert.proofs.SubjectFaultLaws.{principal-else}
 use Rattle.spki_cert.proofs.Looking.{of-form, of-no_form, one-look}

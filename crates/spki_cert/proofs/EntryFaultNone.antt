@@ -1,17 +1,20 @@
 -- A value has no fault as an entry or as an access list exactly where it is one.
-use Rattle.std.proofs.Common.{◌≡◌, ℕ, ◌+◌, List, [], ◌∷◌, ◌++◌, Bool, true, false, ◌&&◌, ◌||◌, Option, Some, None, refl, sym, ap, ◌∙◌}
+use Rattle.std.proofs.Common.{◌≡◌, ℕ, ◌+◌, List, [], ◌∷◌, ◌++◌, length, arith, Bool, true, false, ◌&&◌, ◌||◌, Option, Some, None, refl, sym, ap, ◌∙◌}
 use Rattle.std.specs.Prelude.{codes, ◌↔◌, not, if◌then◌else◌}
 use Rattle.std.specs.List.{AllZip}
 use Rattle.sexpr_core.specs.Value.{Value, plain, group}
 use Rattle.spki_tag.specs.Read.{ReadsAs}
 use Rattle.spki_tag.specs.FirstFault.{first_fault, unless}
+use Rattle.spki_cert.specs.declared.fault.CertFault.{CertFault}
 use Rattle.spki_cert.specs.declared.fault.CertFaultKind.{CertFaultKind}
 use Rattle.spki_cert.specs.declared.fault.CertFaultKind.TheVariants.{Shape}
 use Rattle.spki_cert.specs.declared.window.Window.{Window}
 use Rattle.spki_cert.specs.declared.entry.Entry.{Entry}
 use Rattle.spki_cert.specs.Readings.{DateOf}
 use Rattle.spki_cert.specs.Fields.{is_headed, behind_head, Sole, Given, ValidOf, IsTimeField, IsField, propagate, tag, time, comment, AreFields, propagates, WindowOf, directly, in_valid}
-use Rattle.spki_cert.specs.Entries.{EntryOf, AclOf, IsVersion, BeginsWell, behind_version}
+use Rattle.spki_cert.specs.Refusals.{IsRefusedAt}
+use Rattle.spki_cert.specs.Entries.{EntryOf, AclOf, IsVersion, BeginsWell}
+use Rattle.spki_cert.specs.EntryFaults.{behind_version}
 use Rattle.spki_cert.specs.Places.{sole_fault}
 use Rattle.spki_cert.specs.SubjectFaults.{entry_subject_fault}
 use Rattle.spki_cert.specs.FieldFaults.{has, fields_fault, version_fault, entry_field_fault, is_both_ways}
@@ -156,6 +159,52 @@ module _ {A : Type 0} (fault_of : Value → Option CertFaultKind) (R : Value →
   pub each-none : (n : ℕ) (vs : List Value) → (first_fault (each_looked fault_of n vs) ≡ None) ↔ ((xs : List A) × AllZip R vs xs)
   each-none n vs = (each-read n vs, λ some. each-faultless n vs some.0 some.1)
 
+  -- the first that has a fault
+  abbrev First : CertFault → ℕ → List Value → Type 0
+  First fault n vs =
+      (front : List Value) × (v : Value) × (behind : List Value) × (vs ≡ front ++ v ∷ behind) × (fault.item ≡ length front + n)
+      × ((xs : List A) × AllZip R front xs) × (fault_of v ≡ Some fault.kind)
+
+  pub each-first : (fault : CertFault) (n : ℕ) (vs : List Value) → first_fault (each_looked fault_of n vs) ≡ Some fault → First fault n vs
+  each-first fault n [] e = absurd (cc)
+  each-first fault n (v ∷ vs) e = by (fault_of v) refl e (each-first fault (n + 1) vs)
+    where
+      by : (o : Option CertFaultKind) → fault_of v ≡ o → first_fault (at_item n o ∷ each_looked fault_of (n + 1) vs) ≡ Some fault
+          → (first_fault (each_looked fault_of (n + 1) vs) ≡ Some fault → First fault (n + 1) vs) → First fault n (v ∷ vs)
+      by (Some kind) f g more =
+          let same : record { item = n; kind = kind } ≡ fault = cc in
+          let item : n ≡ fault.item = ap (λ (x : CertFault). x.item) same in
+          ([], v, vs, refl, omega (arith, item), ([], tt), f ∙ ap (λ (x : CertFault). Some x.kind) same)
+      by None f g more =
+          let first = more g in
+          let this = (none v).0 f in (
+            v ∷ first.0,
+            first.1,
+            first.2,
+            ap (λ (ws : List Value). v ∷ ws) first.3,
+            omega (arith, first.4),
+            (this.0 ∷ first.5.0, (this.1, first.5.1)),
+            first.6,
+          )
+
+pub entries-refused : (vs : List Value) (fault : CertFault) → entries_fault vs ≡ Some fault
+    → (v : Value) × IsRefusedAt EntryOf vs fault.item v × (entry_fault v ≡ Some fault.kind)
+unfolding entries_fault
+entries-refused vs fault e =
+    let first = each-first entry_fault EntryOf entry-none fault 1 vs e in (
+      first.1,
+      record {
+        front = first.0;
+        behind = first.2;
+        parts = first.3;
+        place = first.4;
+        before = first.5.0;
+        readings = first.5.1;
+        none = entry-refused first.1 fault.kind first.6;
+      },
+      first.6,
+    )
+
 -- ---- access lists
 
 abbrev SomeList : Value → Type 0
@@ -215,3 +264,6 @@ acl-faultless v es read =
 
 pub acl-none : (v : Value) → (acl_fault v ≡ None) ↔ SomeList v
 acl-none v = (acl-whole v, λ some. acl-faultless v some.0 some.1)
+
+pub acl-refused : (v : Value) (fault : CertFault) → acl_fault v ≡ Some fault → (es : List Entry) → AclOf v es → ⊥
+acl-refused v fault e es read = absurd (let f = sym (acl-faultless v es read) ∙ e in cc)

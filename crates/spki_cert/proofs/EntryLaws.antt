@@ -1,5 +1,5 @@
 -- Entries and access lists that were read, and those that are none.
-use Rattle.std.proofs.Common.{◌≡◌, ℕ, ◌⊎◌, inl, inr, Bool, true, false, cond, List, [], ◌∷◌, ◌++◌, Option, Some, None, refl, sym, ap, subst, ◌∙◌}
+use Rattle.std.proofs.Common.{◌≡◌, ℕ, inl, inr, Bool, true, false, cond, List, [], ◌∷◌, ◌++◌, Option, Some, None, refl, sym, ap, subst, ◌∙◌}
 use Rattle.std.specs.Prelude.{codes}
 use Rattle.std.specs.List.{AllZip}
 use Rattle.sexpr_core.specs.Value.{Value, plain, group}
@@ -8,18 +8,13 @@ use Rattle.spki_cert.specs.declared.entry.Entry.{Entry}
 use Rattle.spki_cert.specs.declared.entry.Subject.{Subject}
 use Rattle.spki_cert.specs.declared.window.Window.{Window}
 use Rattle.spki_cert.specs.declared.fields.Known.{Known}
-use Rattle.spki_cert.specs.declared.fault.CertFault.{CertFault}
-use Rattle.spki_cert.specs.declared.fault.CertFaultKind.{CertFaultKind}
-use Rattle.spki_cert.specs.declared.fault.CertFaultKind.TheVariants as kinds
 use Rattle.spki_cert.specs.Readings.{DateOf}
 use Rattle.spki_cert.specs.Subjects.{SubjectOf, RelativeOf, PrincipalOf, plains}
 use Rattle.spki_cert.specs.Fields.{is_headed, Sole, Given, ValidOf, LimitsAre, WindowOf, directly, in_valid, version_field}
-use Rattle.spki_cert.specs.Refusals.{IsRefusedAt}
-use Rattle.spki_cert.specs.Faults.{Shows, HasRelative, IsUnknownVersion}
-use Rattle.spki_cert.specs.Entries.{EntryOf, AclOf, AclRefused, IsVersion, BeginsMisfit, BeginsWell, behind_version, OuterRefused}
+use Rattle.spki_cert.specs.Entries.{EntryOf, AclOf, IsVersion, BeginsWell}
+use Rattle.spki_cert.specs.EntryFaults.{behind_version}
 use Rattle.spki_cert.specs.Inner.Gathering.{KnownOf, IsOneWay}
 use Rattle.spki_cert.proofs.Groups.{same_others, not-headed}
-use Rattle.spki_cert.proofs.Showing.{shown-here}
 use Rattle.spki_cert.proofs.SubjectLaws.{name-is_no_principal, string-is_no_principal}
 
 -- ---- windows
@@ -46,10 +41,6 @@ relative-is_no_subject v names relative s (inr read) =
     let g : read.owner ≡ plain relative.first = cc in
     string-is_no_principal relative.first s.principal (subst (λ (w : Value). PrincipalOf w s.principal) g read.owner_is)
 
-pub relative-shown : (v : Value) (names : List (List ℕ)) → RelativeOf v names → (rest : List Value) → Shows kinds.RelativeInEntry (group (plain (codes "entry") ∷ v ∷ rest))
-relative-shown v names relative rest =
-    shown-here HasRelative (group (plain (codes "entry") ∷ v ∷ rest)) (record { subject = v; names = names; relative = relative; rest = rest; written = refl })
-
 -- ---- entries in a row
 
 pub items-push : {A : Type 0} (R : Value → A → Type 0) (vs : List Value) (es : List A) (v : Value) (e : A) → AllZip R vs es → R v e → AllZip R (vs ++ v ∷ []) (es ++ e ∷ [])
@@ -57,19 +48,6 @@ items-push R [] [] v e zip here = (here, tt)
 items-push R [] (y ∷ ys) v e zip here = absurd zip
 items-push R (x ∷ xs) [] v e zip here = absurd zip
 items-push R (x ∷ xs) (y ∷ ys) v e zip here = (zip.0, items-push R xs ys v e zip.1 here)
-
--- the item and its reading at one place
-pub item-at : {A : Type 0} (R : Value → A → Type 0) (xs : List Value) (v : Value) (ys : List Value) (es : List A) → AllZip R (xs ++ v ∷ ys) es → (e : A) × R v e
-item-at R [] v ys [] zip = absurd zip
-item-at R [] v ys (e ∷ es) zip = (e, zip.0)
-item-at R (x ∷ xs) v ys [] zip = absurd zip
-item-at R (x ∷ xs) v ys (e ∷ es) zip = item-at R xs v ys es zip.1
-
--- no list of items has a member that is none
-pub no-items : {A : Type 0} (R : Value → A → Type 0) (vs : List Value) (item : ℕ) (v : Value) → IsRefusedAt R vs item v → (es : List A) → AllZip R vs es → ⊥
-no-items R vs item v r es zip =
-    let here = item-at R r.front v r.behind es (subst (λ (ws : List Value). AllZip R ws es) r.parts zip) in
-    r.none here.0 here.1
 
 -- ---- access lists
 
@@ -83,24 +61,6 @@ entries-behind [] (x ∷ xs) [] is zip = absurd zip
 entries-behind [] (x ∷ xs) (e ∷ es) is zip = ap (λ (b : Bool). cond b xs (x ∷ xs)) (entry-unversioned x e zip.0)
 entries-behind (w ∷ []) entries es is zip = ap (λ (b : Bool). cond b entries (w ∷ entries)) (ap (is_headed (codes "version")) is)
 entries-behind (w ∷ x ∷ xs) entries es is zip = absurd is
-
-no-misfit : (version entries : List Value) (es : List Entry) → IsVersion version → AllZip EntryOf entries es → BeginsMisfit (version ++ entries) → ⊥
-no-misfit [] [] es is zip misfit = misfit
-no-misfit [] (x ∷ xs) [] is zip misfit = absurd zip
-no-misfit [] (x ∷ xs) (e ∷ es) is zip misfit = absurd (let f : true ≡ false = sym misfit.0 ∙ entry-unversioned x e zip.0 in cc)
-no-misfit (w ∷ []) entries es is zip misfit = misfit.1 is
-no-misfit (w ∷ x ∷ xs) entries es is zip misfit = absurd is
-
--- what is refused is no access list
-pub refused-acl : (v : Value) (fault : CertFault) → AclRefused v fault → (es : List Entry) → AclOf v es → ⊥
-refused-acl v fault (inl (zero_is, inl other)) es read = other.1 (read.version ++ read.entries) read.written
-refused-acl v fault (inl (zero_is, inr outer)) es read =
-    let e : outer.0 ≡ read.version ++ read.entries = same_others v (codes "acl") outer.0 (read.version ++ read.entries) outer.1 read.written in
-    no-misfit read.version read.entries es read.version_is read.each (subst BeginsMisfit e outer.2)
-refused-acl v fault (inr refused) es read =
-    let e : refused.all ≡ read.version ++ read.entries = same_others v (codes "acl") refused.all (read.version ++ read.entries) refused.written read.written in
-    let f : behind_version refused.all ≡ read.entries = ap behind_version e ∙ entries-behind read.version read.entries es read.version_is read.each in
-    no-items EntryOf (behind_version refused.all) fault.item refused.refused refused.place es (subst (λ (vs : List Value). AllZip EntryOf vs es) (sym f) read.each)
 
 -- ---- the outer list
 
@@ -117,18 +77,6 @@ versioned v all first others rest e f g h =
       e ∙ ap (λ (vs : List Value). group (plain (codes "acl") ∷ vs)) f,
       (λ _. version-written first rest g h),
       sym (ap (λ (b : Bool). cond b others (first ∷ others)) here),
-    )
-
--- a version that is none
-pub misfit : (v : Value) (all : List Value) (first : Value) (others rest : List Value) (kind : CertFaultKind) → v ≡ group (plain (codes "acl") ∷ all) → all ≡ first ∷ others
-    → first ≡ group (plain (codes "version") ∷ rest) → (rest ≡ plain (codes "0") ∷ [] → ⊥)
-    → (kind ≡ kinds.Shape) ⊎ ((kind ≡ kinds.UnknownVersion) × IsUnknownVersion first) → OuterRefused v kind
-misfit v all first others rest kind e f g none shown =
-    inr (
-      first ∷ others,
-      e ∙ ap (λ (vs : List Value). group (plain (codes "acl") ∷ vs)) f,
-      (ap (is_headed (codes "version")) g, λ same. none (same_others first (codes "version") rest (plain (codes "0") ∷ []) g same)),
-      shown,
     )
 
 -- no version stands first

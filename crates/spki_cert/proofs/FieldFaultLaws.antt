@@ -334,7 +334,7 @@ head-group (sexpr.list (sexpr.more (sexpr.string None word) others)) head e =
     let same : word ≡ head = cc in (members others, λ i. sexpr.list (sexpr.more (sexpr.string None (same i)) (sym (values-members others) i)))
 
 -- a field whose head isn't new, or that has none
-pub field-not_new : (place : Place) (before : List Value) (heads : List (List ℕ)) (k : Known) (v : Value) → AreRead place before heads k
+pub field-not_new : (place : Place) (before : List Value) (heads : List (List ℕ)) (k : Known) (v : Value) → AreRead before heads k
     → ((head : List ℕ) → IsNew v heads head → ⊥) → first_fault (field_looked (fault_in place) before v) ≡ Some Shape
 field-not_new place before heads k v read none = by (head_of v) refl
   where
@@ -349,9 +349,9 @@ field-not_new place before heads k v read none = by (head_of v) refl
         field-again (fault_in place) before v
         (again-headed head before v form.0 form.1 ∙ sym (read.heads_are head) ∙ among head form.0 form.1 (is_word_among heads head) refl)
 
-pub field-is_new : (place : Place) (before : List Value) (heads : List (List ℕ)) (k : Known) (v : Value) (head : List ℕ) → AreRead place before heads k → IsNew v heads head
+pub field-is_new : (before : List Value) (heads : List (List ℕ)) (k : Known) (v : Value) (head : List ℕ) → AreRead before heads k → IsNew v heads head
     → is_again before v ≡ false
-field-is_new place before heads k v head read new = again-headed head before v new.rest new.written ∙ sym (read.heads_are head) ∙ new.fresh
+field-is_new before heads k v head read new = again-headed head before v new.rest new.written ∙ sym (read.heads_are head) ∙ new.fresh
 
 -- ---- clashes
 

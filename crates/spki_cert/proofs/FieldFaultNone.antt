@@ -24,7 +24,9 @@ use Rattle.spki_cert.specs.Places.{sole_fault, unless_none}
 use Rattle.spki_cert.specs.FixedFaults.{date_fault}
 use Rattle.spki_cert.specs.SubjectFaults.{subject_fault, issuer_fault}
 use Rattle.spki_cert.specs.FieldFaults.{is_again, fields_looked, fields_fault, is_zero, version_fault, limit_fault, time_fault, as_tag, kind_of_tag, entry_field_fault, is_unread, cert_field_fault}
-use Rattle.spki_cert.specs.Inner.Gathering.{is_word_among}
+use Rattle.spki_cert.specs.declared.fields.Place.{Place}
+use Rattle.spki_cert.specs.declared.fields.Place.TheVariants as places
+use Rattle.spki_cert.specs.Inner.Gathering.{is_word_among, fault_in, IsFieldOf}
 use Rattle.spki_cert.proofs.Groups.{headed-by, head-same, behind-group}
 use Rattle.spki_cert.proofs.Looking.{unless-none, none-found, sole-read, sole-one}
 use Rattle.spki_cert.proofs.GivenLaws.{each-push, each-at, contents-headed, contents-other, once-before, once-push}
@@ -303,3 +305,7 @@ cert_field-none v = (cert_field-read v, cert_field-faultless v)
 
 pub cert_fields-none : (vs : List Value) → (fields_fault cert_field_fault vs ≡ None) ↔ AreFields IsCertField vs
 cert_fields-none vs = fields-none cert_field_fault IsCertField cert_field-none cert-word vs
+
+pub fields-read : (place : Place) (vs : List Value) → fields_fault (fault_in place) vs ≡ None → AreFields (IsFieldOf place) vs
+fields-read places.Entry vs e = (entry_fields-none vs).0 e
+fields-read places.Certificate vs e = (cert_fields-none vs).0 e

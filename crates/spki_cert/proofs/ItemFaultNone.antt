@@ -10,7 +10,6 @@ use Rattle.spki_tag.specs.Read.{ReadsAs}
 use Rattle.spki_tag.specs.FirstFault.{first_fault, unless}
 use Rattle.spki_cert.specs.declared.hash.HashAlg.{HashAlg}
 use Rattle.spki_cert.specs.declared.fault.CertFault.{CertFault}
-use Rattle.spki_cert.specs.declared.fault.CertFaultKind.{CertFaultKind}
 use Rattle.spki_cert.specs.declared.fault.CertFaultKind.TheVariants.{Shape, UnknownOp, UnsignedCert, StraySignature}
 use Rattle.spki_cert.specs.declared.principal.Principal.{Principal}
 use Rattle.spki_cert.specs.declared.entry.Subject.{Subject}
@@ -326,9 +325,6 @@ item-faultless v (items.Signature s) read = item-signature v (read.digest ∷ re
 pub item-none : (v : Value) → (item_fault v ≡ None) ↔ SomeItem v
 item-none v = (item-read v, λ some. item-faultless v some.0 some.1)
 
-pub item-refused : (v : Value) (kind : CertFaultKind) → item_fault v ≡ Some kind → (item : SeqItem) → ItemOf v item → ⊥
-item-refused v kind e item read = absurd (let f = sym (item-faultless v item read) ∙ e in cc)
-
 -- ---- items in their places
 
 -- this fault, where a signature stands
@@ -411,3 +407,6 @@ sequence-faultless v is read = sequence-items v read.values None read.written (i
 
 pub sequence-none : (v : Value) → (sequence_fault v ≡ None) ↔ SomeSequence v
 sequence-none v = (sequence-read v, λ some. sequence-faultless v some.0 some.1)
+
+pub sequence-refused : (v : Value) (fault : CertFault) → sequence_fault v ≡ Some fault → (is : List SeqItem) → SeqOf v is → ⊥
+sequence-refused v fault e is read = absurd (let f = sym (sequence-faultless v is read) ∙ e in cc)

@@ -1,5 +1,5 @@
 -- What is known of fields that were read one after the other.
-use Rattle.std.proofs.Common.{◌≡◌, ℕ, ◌||◌, Bool, true, false, List, [], ◌∷◌, ◌++◌, Some, None, refl, sym, ap, ◌∙◌, arith}
+use Rattle.std.proofs.Common.{◌≡◌, ℕ, ◌||◌, Bool, true, false, List, [], ◌∷◌, ◌++◌, Some, None, refl, sym, ap, ◌∙◌}
 use Rattle.std.specs.Prelude.{codes}
 use Rattle.std.specs.Str.{bytes_eq}
 use Rattle.std.specs.List.{list_any}
@@ -7,14 +7,13 @@ use Rattle.std.proofs.lemmas.List.Folds.{list_any-append}
 use Rattle.sexpr_core.specs.Value.{Value, plain, group}
 use Rattle.spki_tag.specs.Read.{ReadsAs}
 use Rattle.spki_cert.specs.declared.fields.Known.{Known}
-use Rattle.spki_cert.specs.declared.fields.Place.{Place}
 use Rattle.spki_cert.specs.declared.fields.Said.{Said}
 use Rattle.spki_cert.specs.declared.fields.Said.TheVariants as said
 use Rattle.spki_cert.specs.Readings.{DateOf}
 use Rattle.spki_cert.specs.Fields.{is_headed, contents, Sole, Given, ValidOf}
-use Rattle.spki_cert.specs.Inner.Gathering.{IssuerAt, WhoAt, Headed, IsSilent, Says, gather, KnownOf, IsFieldOf, is_word_among, IsNew, AreRead}
+use Rattle.spki_cert.specs.Inner.Gathering.{IssuerAt, WhoAt, Headed, IsSilent, Says, gather, KnownOf, is_word_among, IsNew, AreRead}
 use Rattle.spki_cert.proofs.Groups.{head-same, headed-by, behind-group}
-use Rattle.spki_cert.proofs.GivenLaws.{each-push, contents-headed, contents-other, once-push, given-kept, given-first}
+use Rattle.spki_cert.proofs.GivenLaws.{contents-headed, contents-other, given-kept, given-first}
 
 -- ---- whether a head was met
 
@@ -35,9 +34,9 @@ headed-none word (x ∷ xs) e = by (headed-none word xs) (is_headed word x) refl
     by below false h = ap (λ (b : Bool). b || list_any (is_headed word) xs) h ∙ below (sym (contents-other word x xs h) ∙ e)
 
 -- the head of a new field wasn't met
-pub new-first : (place : Place) (xs : List Value) (heads : List (List ℕ)) (k : Known) (v : Value) (head : List ℕ) → AreRead place xs heads k → IsNew v heads head
+pub new-first : (xs : List Value) (heads : List (List ℕ)) (k : Known) (v : Value) (head : List ℕ) → AreRead xs heads k → IsNew v heads head
     → (word : List ℕ) → is_headed word v ≡ true → contents word xs ≡ []
-new-first place xs heads k v head read new word e =
+new-first xs heads k v head read new word e =
     let same : head ≡ word = head-same v head word new.rest new.written e in
     none-headed word xs (sym (read.heads_are word) ∙ ap (is_word_among heads) (sym same) ∙ new.fresh)
 
@@ -141,22 +140,15 @@ gather-more xs v k (said.Valid w) known says fresh = record {
 
 -- ---- all fields
 
-pub read-none : (place : Place) → AreRead place [] [] (record { issuer = None; subject = None; tag = None; limits = record { not_before = None; not_after = None }; valid = None })
-read-none place = record {
-  are_fields = record { each = tt; once = (λ word. omega arith) };
+pub read-none : AreRead [] [] (record { issuer = None; subject = None; tag = None; limits = record { not_before = None; not_after = None }; valid = None })
+read-none = record {
   heads_are = (λ word. refl);
   known = record { issuer_is = refl; subject_is = refl; tag_is = refl; limits_are = (refl, refl); valid_is = refl };
 }
 
-pub read-more : (place : Place) (xs : List Value) (heads : List (List ℕ)) (k : Known) (v : Value) (head : List ℕ) (s : Said)
-    → AreRead place xs heads k → IsNew v heads head → IsFieldOf place v → Says v s → AreRead place (xs ++ v ∷ []) (heads ++ head ∷ []) (gather k s)
-read-more place xs heads k v head s read new field says =
-    let fresh = new-first place xs heads k v head read new in
-    record {
-      are_fields = record {
-        each = each-push (IsFieldOf place) xs v read.are_fields.each field;
-        once = once-push xs v read.are_fields.once fresh;
-      };
-      heads_are = heads-push xs heads v head new.rest new.written read.heads_are;
-      known = gather-more xs v k s read.known says fresh;
-    }
+pub read-more : (xs : List Value) (heads : List (List ℕ)) (k : Known) (v : Value) (head : List ℕ) (s : Said)
+    → AreRead xs heads k → IsNew v heads head → Says v s → AreRead (xs ++ v ∷ []) (heads ++ head ∷ []) (gather k s)
+read-more xs heads k v head s read new says = record {
+  heads_are = heads-push xs heads v head new.rest new.written read.heads_are;
+  known = gather-more xs v k s read.known says (new-first xs heads k v head read new);
+}

@@ -1,5 +1,7 @@
 -- What is looked at in a value whose form is known.
-use Rattle.std.proofs.Common.{◌≡◌, ℕ, List, [], ◌∷◌, ◌++◌, Bool, true, false, Option, Some, None, refl, ap, ◌∙◌}
+use Rattle.std.proofs.Common.{◌≡◌, ℕ, List, [], ◌∷◌, ◌++◌, Bool, true, false, Option, Some, None, Result, Ok, Err, refl, sym, subst, ap, ◌∙◌}
+use Rattle.std.specs.Prelude.{IfErr}
+use Rattle.std.specs.Result.{IsErrAnd}
 use Rattle.sexpr_core.specs.Value.{Value, plain, group, members, values}
 use Rattle.sexpr_core.specs.Value as sexpr
 use Rattle.sexpr_core.specs.Shapes.{IsNoString, IsNotHeaded}
@@ -77,3 +79,10 @@ pub sole-read : {A : Type 0} (other : A) (fault_of : Value → Option A) (vs : L
 sole-read other fault_of [] e = absurd (cc)
 sole-read other fault_of (v ∷ []) e = (v, refl, (none-found (fault_of v) (None ∷ []) e).0)
 sole-read other fault_of (v ∷ w ∷ vs) e = absurd (let f = (none-found (fault_of v) (Some other ∷ []) e).1 in cc)
+
+-- ---- errors that are passed on
+
+-- what holds of the error that a call answered holds of the one that is passed on
+pub carried : {T E : Type 0} (r : Result T E) (e : E) (P : E → Type 0) → IsErrAnd r (λ x. x ≡ e) → P e → IfErr r P
+carried (Ok t) e P h p = tt
+carried (Err x) e P h p = subst P (sym h) p

@@ -23,7 +23,8 @@ use Rattle.spki_cert.specs.declared.certificate.SeqItem.TheVariants as items
 use Rattle.spki_cert.specs.Readings.{KeyOf, HashOf, DateOf, alg_name}
 use Rattle.spki_cert.specs.Subjects.{PrincipalOf, plains, NameOf, IsWho, SubjectOf, IssuedTo, IssuerOf}
 use Rattle.spki_cert.specs.Fields.{Sole, Given, LimitsAre, ValidOf, WindowOf, directly, in_valid, TagOf, propagates, IssuerIn}
-use Rattle.spki_cert.specs.Entries.{EntryOf, AclOf, behind_version}
+use Rattle.spki_cert.specs.Entries.{EntryOf, AclOf}
+use Rattle.spki_cert.specs.EntryFaults.{behind_version}
 use Rattle.spki_cert.specs.Certificates.{IssuedBy, IssuedFor, AuthCertOf, NameCertOf, SignatureOf, DoHashOf}
 use Rattle.spki_cert.specs.Sequences.{ItemOf, SeqOf}
 use Rattle.spki_cert.proofs.Groups.{same_others, same_second, same_rest, apart}

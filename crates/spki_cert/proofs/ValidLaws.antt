@@ -1,35 +1,13 @@
 -- Limits and versions that were read, and those that are none.
-use Rattle.std.proofs.Common.{◌≡◌, ◌≢◌, ℕ, inl, inr, true, false, List, [], ◌∷◌, ◌++◌, Option, Some, None, refl, sym, ap, subst, ◌∙◌, arith}
-use Rattle.std.specs.Prelude.{codes, not}
-use Rattle.std.specs.Str.{bytes_eq}
-use Rattle.std.proofs.lemmas.Slice.Eq.{bytes_eq-Decides}
-use Rattle.sexpr_core.specs.Value.{Value, string, plain, group}
+use Rattle.std.proofs.Common.{◌≡◌, ℕ, inl, inr, true, false, List, [], ◌∷◌, ◌++◌, Some, None, refl, sym, ap, subst, ◌∙◌, arith}
+use Rattle.std.specs.Prelude.{codes}
+use Rattle.sexpr_core.specs.Value.{Value, plain, group}
 use Rattle.spki_cert.specs.declared.window.Window.{Window}
 use Rattle.spki_cert.specs.Readings.{DateOf}
 use Rattle.spki_cert.specs.Fields.{is_headed, contents, Sole, IsLimitField, ValidOf}
-use Rattle.spki_cert.specs.Faults.{IsUnknownVersion}
 use Rattle.spki_cert.specs.Inner.Gathering.{Headed, AddsLimit, first, last}
 use Rattle.spki_cert.proofs.Groups.{same_others, apart, head-same, headed-by, behind-group}
 use Rattle.spki_cert.proofs.GivenLaws.{each-push, once-push, given-kept, given-first, given-none}
-
--- ---- versions
-
-pub is-unknown_version : (members : List Value) (number : Value) (rest : List Value) (hint : Option (List ℕ)) (octets : List ℕ)
-    → members ≡ number ∷ rest → string hint octets ≡ number → string hint octets ≢ plain (codes "0")
-    → IsUnknownVersion (group (plain (codes "version") ∷ members))
-is-unknown_version members number rest hint octets e f other = record {
-  hint = hint;
-  octets = octets;
-  rest = rest;
-  unknown = other;
-  written = ap (λ (vs : List Value). group (plain (codes "version") ∷ vs)) (e ∙ ap (λ (v : Value). v ∷ rest) (sym f));
-}
-
-pub other-octets : (body zero word : List ℕ) → true ≡ not (bytes_eq body zero) → zero ≡ word → string None body ≢ plain word
-other-octets body zero word e f g =
-    let same : body ≡ word = cc in
-    let test : bytes_eq body zero ≡ true = (bytes_eq-Decides body zero).1 (same ∙ sym f) in
-    absurd (let h : true ≡ false = e ∙ ap not test in cc)
 
 -- ---- one limit
 

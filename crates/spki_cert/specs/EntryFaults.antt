@@ -7,7 +7,6 @@ use Rattle.spki_cert.specs.declared.fault.CertFault.{CertFault}
 use Rattle.spki_cert.specs.declared.fault.CertFaultKind.{CertFaultKind}
 use Rattle.spki_cert.specs.declared.fault.CertFaultKind.TheVariants.{Shape}
 use Rattle.spki_cert.specs.Fields.{is_headed, behind_head}
-use Rattle.spki_cert.specs.Entries.{behind_version}
 use Rattle.spki_cert.specs.Places.{fault_at, sole_fault}
 use Rattle.spki_cert.specs.SubjectFaults.{entry_subject_fault}
 use Rattle.spki_cert.specs.FieldFaults.{has, fields_fault, version_fault, entry_field_fault, is_both_ways}
@@ -44,6 +43,11 @@ acl_version_fault (v ∷ vs) = if is_headed (codes "version") v then sole_fault 
 -- the fault of the outer list: of its head, and of its version
 unfoldable pub outer_fault : Value → Option CertFaultKind
 outer_fault v = first_fault (unless (is_headed (codes "acl") v) Shape ∷ acl_version_fault (behind_head v) ∷ [])
+
+-- the entries; a version in front of them is skipped
+abbrev pub behind_version : List Value → List Value
+behind_version [] = []
+behind_version (v ∷ vs) = if is_headed (codes "version") v then vs else v ∷ vs
 
 -- the entries after the head and the version, in order
 unfoldable pub entries_fault : List Value → Option CertFault

@@ -7,13 +7,12 @@ pub mod Places
 pub mod FixedFaults
 pub mod SubjectFaults
 pub mod FieldFaults
-pub mod Faults
 pub mod Refusals
+pub mod EntryFaults
+pub mod ItemFaults
 pub mod Entries
 pub mod Certificates
 pub mod Sequences
-pub mod EntryFaults
-pub mod ItemFaults
 pub mod SequenceFaults
 pub mod Sought
 pub mod Inner

@@ -6,11 +6,9 @@ ghost use Rattle.sexpr_core.specs.Value.{Value, node, plain, group};
 ghost use Rattle.spki_cert.specs.declared.entry.Entry as spec;
 ghost use Rattle.spki_cert.specs.declared.entry.Subject as subjects;
 ghost use Rattle.spki_cert.specs.Subjects.{SubjectOf};
-ghost use Rattle.spki_cert.specs.Faults.{Shows};
-ghost use Rattle.spki_cert.specs.Refusals.{IsRefusedAt};
 ghost use Rattle.spki_cert.specs.SubjectFaults.{entry_subject_fault};
-ghost use Rattle.spki_cert.specs.EntryFaults.{entry_fault, entries_fault, outer_fault, acl_fault};
-ghost use Rattle.spki_cert.specs.Entries.{EntryOf, AclOf, AclRefused, OuterRefused, BeginsWell, behind_version};
+ghost use Rattle.spki_cert.specs.EntryFaults.{entry_fault, entries_fault, outer_fault, acl_fault, behind_version};
+ghost use Rattle.spki_cert.specs.Entries.{EntryOf, AclOf, BeginsWell};
 
 use crate::entry::{Entry, Subject};
 use crate::fault::{CertFault, CertFaultKind};
@@ -50,7 +48,6 @@ pub fn entry_of<'a>(alloc: Global, node: &Node<'_, 'a>) -> Result<Entry<'a>, Cer
     ensures refused { IfErr result (λ kind. kind ≢ CertFaultKind.Memory → (e : spec.Entry) → EntryOf node.now e → ⊥) }
     ensures faultless { IfOk result (λ _. entry_fault node.now ≡ None) }
     ensures named { IfErr result (λ kind. kind ≢ CertFaultKind.Memory → entry_fault node.now ≡ Some kind) }
-    ensures shown { IfErr result (λ kind. Shows kind node.now) }
 {
     let Some(rest) = node.headed(b"entry") else {
         return Err(CertFaultKind::Shape);
@@ -85,8 +82,6 @@ fn entries_of<'a>(alloc: Global, members: Members<'_, 'a>) -> Result<Vec<Entry<'
     ensures entries { IfOk result (λ entries. AllZip EntryOf members.entry entries.items) }
     ensures faultless { IfOk result (λ _. entries_fault members.entry ≡ None) }
     ensures named { IfErr result (λ fault. fault.kind ≢ CertFaultKind.Memory → entries_fault members.entry ≡ Some fault) }
-    ensures refused { IfErr result (λ fault. fault.kind ≢ CertFaultKind.Memory →
-        (v : Value) × IsRefusedAt EntryOf members.entry fault.item v × Shows fault.kind v) }
 {
     let mut rest = members;
     let mut entries = Vec::new(alloc);
@@ -115,7 +110,6 @@ fn behind_version<'d, 'a>(node: &Node<'d, 'a>) -> Result<Members<'d, 'a>, CertFa
         × BeginsWell all × (entries ≡ behind_version all)) }
     ensures faultless { IfOk result (λ _. outer_fault node.now ≡ None) }
     ensures named { IfErr result (λ kind. outer_fault node.now ≡ Some kind) }
-    ensures refused { IfErr result (λ kind. OuterRefused node.now kind) }
 {
     let Some(all) = node.headed(b"acl") else {
         return Err(CertFaultKind::Shape);
@@ -140,8 +134,6 @@ pub fn acl_of<'a>(alloc: Global, node: &Node<'_, 'a>) -> Result<Vec<Entry<'a>>, 
     // The fault is the first from the left, and what is read has none.
     ensures named { IfErr result (λ fault. fault.kind ≢ CertFaultKind.Memory → acl_fault node.now ≡ Some fault) }
     ensures faultless { IfOk result (λ _. acl_fault node.now ≡ None) }
-    // The item of the fault is the one that is refused, and the fault is true of it.
-    ensures refused { IfErr result (λ fault. fault.kind ≢ CertFaultKind.Memory → AclRefused node.now fault) }
 {
     match behind_version(node) {
         Ok(members) => entries_of(alloc, members),
@@ -172,9 +164,6 @@ pub fn read_acl<'a>(
     ensures named { IfSome (node document.now n.0) (λ value.
         IfErr result (λ fault. fault.kind ≢ CertFaultKind.Memory → acl_fault value ≡ Some fault)) }
     ensures faultless { IfSome (node document.now n.0) (λ value. IfOk result (λ _. acl_fault value ≡ None)) }
-    // The item of the fault is refused, the entries before it can be read, and the fault is true of it.
-    ensures refused { IfSome (node document.now n.0) (λ value.
-        IfErr result (λ fault. fault.kind ≢ CertFaultKind.Memory → AclRefused value fault)) }
 {
     match document.node(n) {
         Some(value) => acl_of(alloc, &value),

@@ -2,7 +2,6 @@
 
 ghost use Rattle.std.specs.Prelude.{◌≡◌, ◌≢◌, Some, None, IfOk, IfErr};
 ghost use Rattle.sexpr_core.specs.Value.{Value};
-ghost use Rattle.spki_cert.specs.Faults.{Shows};
 ghost use Rattle.spki_cert.specs.ItemFaults.{cert_fault};
 ghost use Rattle.spki_cert.specs.Inner.Gathering.{parts_fault, PartsOf, CertOf, IsSubjectOf};
 
@@ -81,7 +80,6 @@ fn parts_of<'a>(alloc: Global, members: Members<'_, 'a>) -> Result<CertParts<'a>
 /// Reads the certificate of a node: an authorization certificate if the issuer is a principal, otherwise a name certificate.
 pub(crate) fn cert_of<'a>(alloc: Global, node: &Node<'_, 'a>) -> Result<SeqItem<'a>, CertFaultKind>
     ensures found { IfOk result (λ item. CertOf node.now item) }
-    ensures faultless { IfOk result (λ _. cert_fault node.now ≡ None) }
     ensures named { IfErr result (λ kind. kind ≢ CertFaultKind.Memory → cert_fault node.now ≡ Some kind) }
 {
     let Some(members) = node.headed(b"cert") else {

@@ -5,8 +5,7 @@ ghost use Rattle.sexpr_core.specs.Value.{Value, plain, group};
 ghost use Rattle.spki_tag.specs.Read.{ReadsAs};
 ghost use Rattle.spki_tag.specs.Tag as tags;
 ghost use Rattle.spki_cert.specs.declared.principal.Principal.{Principal};
-ghost use Rattle.spki_cert.specs.Fields.{Sole, IssuerIn, WhoIn, IsTimeField, IsField, IsCertField, IsUnread, AreFields, propagates};
-ghost use Rattle.spki_cert.specs.Faults.{Shows};
+ghost use Rattle.spki_cert.specs.Fields.{Sole, IssuerIn, WhoIn, IsUnread, AreFields, propagates};
 ghost use Rattle.spki_cert.specs.Places.{sole_fault};
 ghost use Rattle.spki_cert.specs.SubjectFaults.{subject_fault, issuer_fault};
 ghost use Rattle.spki_cert.specs.FieldFaults.{kind_of_tag, fields_fault, time_fault, entry_field_fault, cert_field_fault};
@@ -130,7 +129,6 @@ fn subject_in<'a>(alloc: Global, members: Members<'_, 'a>) -> Result<Who<'a>, Ce
 /// Reads a field that an entry and a certificate may have.
 fn said_in_both<'a>(alloc: Global, field: &Node) -> Result<Said<'a>, CertFaultKind>
     ensures says { IfOk result (λ said. Says field.now said) }
-    ensures found { IfOk result (λ _. IsField field.now) }
     ensures faultless { IfOk result (λ _. entry_field_fault field.now ≡ None) }
     ensures named { IfErr result (λ kind. kind ≢ CertFaultKind.Memory → entry_field_fault field.now ≡ Some kind) }
 {
@@ -153,7 +151,6 @@ fn said_in_both<'a>(alloc: Global, field: &Node) -> Result<Said<'a>, CertFaultKi
 /// Reads a field of validity.
 fn said_of_time<'a>(field: &Node) -> Result<Said<'a>, CertFaultKind>
     ensures says { IfOk result (λ said. Says field.now said) }
-    ensures found { IfOk result (λ _. IsTimeField field.now) }
     ensures faultless { IfOk result (λ _. time_fault field.now ≡ None) }
     ensures named { IfErr result (λ kind. time_fault field.now ≡ Some kind) }
     ensures fault { IfErr result (λ kind. kind ≢ CertFaultKind.Memory) }
@@ -176,7 +173,6 @@ fn said_of_time<'a>(field: &Node) -> Result<Said<'a>, CertFaultKind>
 /// Reads a field of a certificate.
 fn said_in_certificate<'a>(alloc: Global, field: &Node<'_, 'a>) -> Result<Said<'a>, CertFaultKind>
     ensures says { IfOk result (λ said. Says field.now said) }
-    ensures found { IfOk result (λ _. IsCertField field.now) }
     ensures faultless { IfOk result (λ _. cert_field_fault field.now ≡ None) }
     ensures named { IfErr result (λ kind. kind ≢ CertFaultKind.Memory → cert_field_fault field.now ≡ Some kind) }
 {
@@ -215,7 +211,6 @@ fn is_unread(field: &Node) -> bool
 /// Reads one more field.
 fn said_by<'a>(alloc: Global, place: Place, field: &Node<'_, 'a>) -> Result<Said<'a>, CertFaultKind>
     ensures says { IfOk result (λ said. Says field.now said) }
-    ensures found { IfOk result (λ _. IsFieldOf place field.now) }
     ensures faultless { IfOk result (λ _. fault_in place field.now ≡ None) }
     ensures named { IfErr result (λ kind. kind ≢ CertFaultKind.Memory → fault_in place field.now ≡ Some kind) }
 {
@@ -271,8 +266,8 @@ pub(crate) fn fields_of<'a>(
     place: Place,
     members: Members<'_, 'a>,
 ) -> Result<Fields<'a>, CertFaultKind>
-    ensures found { IfOk result (λ fields. AreFields (IsFieldOf place) members.entry
-        × (fields.propagate ≡ propagates members.entry) × KnownOf members.entry fields.known) }
+    ensures found { IfOk result (λ fields. (fields.propagate ≡ propagates members.entry) × KnownOf members.entry fields.known) }
+    ensures are_fields { IfOk result (λ _. AreFields (IsFieldOf place) members.entry) }
     ensures faultless { IfOk result (λ _. fields_fault (fault_in place) members.entry ≡ None) }
     ensures named { IfErr result (λ kind. kind ≢ CertFaultKind.Memory → fields_fault (fault_in place) members.entry ≡ Some kind) }
 {

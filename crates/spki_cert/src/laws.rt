@@ -3,7 +3,7 @@
 ghost use Rattle.std.specs.Prelude.{◌≡◌, ◌↔◌, ◌⊎◌, ℕ, List, Option, Some, None};
 ghost use Rattle.sexpr_core.specs.Value.{Value};
 ghost use Rattle.spki_cert.specs.declared.hash.HashAlg.{HashAlg};
-ghost use Rattle.spki_cert.specs.declared.fault.CertFaultKind.{CertFaultKind};
+ghost use Rattle.spki_cert.specs.declared.fault.CertFault.{CertFault};
 ghost use Rattle.spki_cert.specs.declared.principal.Principal.{Principal};
 ghost use Rattle.spki_cert.specs.declared.entry.Entry.{Entry};
 ghost use Rattle.spki_cert.specs.declared.entry.Subject.{Subject};
@@ -13,13 +13,13 @@ ghost use Rattle.spki_cert.specs.declared.certificate.SeqItem.{SeqItem};
 ghost use Rattle.spki_cert.specs.declared.certificate.Signature.{Signature};
 ghost use Rattle.spki_cert.specs.Readings.{KeyOf, HashOf, DateOf};
 ghost use Rattle.spki_cert.specs.Subjects.{PrincipalOf, WhoOf, SubjectOf, IssuerOf};
-ghost use Rattle.spki_cert.specs.Faults.{Shows};
 ghost use Rattle.spki_cert.specs.FixedFaults.{key_fault, hash_fault, date_fault};
 ghost use Rattle.spki_cert.specs.SubjectFaults.{principal_fault, subject_fault, entry_subject_fault, issuer_fault};
 ghost use Rattle.spki_cert.specs.Fields.{AreFields, IsLimitField, IsField, IsCertField};
 ghost use Rattle.spki_cert.specs.FieldFaults.{fields_fault, limit_fault, entry_field_fault, cert_field_fault};
-ghost use Rattle.spki_cert.specs.EntryFaults.{entry_fault, acl_fault};
+ghost use Rattle.spki_cert.specs.EntryFaults.{entry_fault, entries_fault, acl_fault};
 ghost use Rattle.spki_cert.specs.Entries.{EntryOf, AclOf};
+ghost use Rattle.spki_cert.specs.Refusals.{IsRefusedAt};
 ghost use Rattle.spki_cert.specs.Certificates.{AuthCertOf, NameCertOf, SignatureOf, DoHashOf};
 ghost use Rattle.spki_cert.specs.ItemFaults.{signature_fault, do_fault, cert_fault, item_fault};
 ghost use Rattle.spki_cert.specs.Sequences.{ItemOf, SeqOf};
@@ -93,11 +93,9 @@ pub fn no_sequence_fault()
     ensures sequence { (v : Value) → (sequence_fault v ≡ None) ↔ ((is : List SeqItem) × SeqOf v is) }
 {}
 
-/// The fault of a value as a key, a hash, a principal, an entry or an item of a sequence shows on it.
-pub fn fault_shows()
-    ensures key { (v : Value) (kind : CertFaultKind) → key_fault v ≡ Some kind → Shows kind v }
-    ensures hash { (v : Value) (kind : CertFaultKind) → hash_fault v ≡ Some kind → Shows kind v }
-    ensures principal { (v : Value) (kind : CertFaultKind) → principal_fault v ≡ Some kind → Shows kind v }
-    ensures entry { (v : Value) (kind : CertFaultKind) → entry_fault v ≡ Some kind → Shows kind v }
-    ensures item { (v : Value) (kind : CertFaultKind) → item_fault v ≡ Some kind → Shows kind v }
+/// If some entries have a fault, it names the first of them that has one, by its number from 1: the entries before it have
+/// readings, it has none, and its own fault is the one that is named.
+pub fn refused_entry()
+    ensures { (vs : List Value) (fault : CertFault) → entries_fault vs ≡ Some fault
+        → (v : Value) × IsRefusedAt EntryOf vs fault.item v × (entry_fault v ≡ Some fault.kind) }
 {}

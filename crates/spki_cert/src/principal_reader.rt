@@ -4,11 +4,10 @@ ghost use Rattle.std.specs.Prelude.{◌≡◌, ◌≢◌, false, ◌∷◌, ◌+
 ghost use Rattle.sexpr_core.specs.Value.{Value, plain, group};
 ghost use Rattle.spki_cert.specs.declared.principal.Principal.{Principal};
 ghost use Rattle.spki_cert.specs.Subjects.{PrincipalOf, IsWho, WhoOf, IssuerOf, plains};
-ghost use Rattle.spki_cert.specs.Faults.{Shows};
 ghost use Rattle.std.specs.List.{list_all};
 ghost use Rattle.spki_tag.specs.FirstFault.{unless};
 ghost use Rattle.spki_cert.specs.SubjectFaults.{principal_fault, is_name, names_fault, subject_fault, issuer_fault};
-ghost use Rattle.spki_cert.specs.Inner.Gathering.{NamesWho, SubjectShows};
+ghost use Rattle.spki_cert.specs.Inner.Gathering.{NamesWho};
 
 use crate::fault::CertFaultKind;
 use crate::octets::Octets;
@@ -42,7 +41,6 @@ pub fn principal_of<'a>(node: &Node<'_, 'a>) -> Result<Principal<'a>, CertFaultK
     ensures refused { IfErr result (λ _. (principal : Principal) → PrincipalOf node.now principal → ⊥) }
     ensures faultless { IfOk result (λ _. principal_fault node.now ≡ None) }
     ensures named { IfErr result (λ kind. principal_fault node.now ≡ Some kind) }
-    ensures shown { IfErr result (λ kind. Shows kind node.now) }
     ensures fault { IfErr result (λ kind. kind ≢ CertFaultKind.Memory) }
 {
     match node.headed(b"hash") {

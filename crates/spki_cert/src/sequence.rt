@@ -4,12 +4,10 @@ ghost use Rattle.std.specs.Prelude.{◌≡◌, ◌≢◌, ◌∷◌, ◌+◌, Is
 ghost use Rattle.std.specs.List.{AllZip};
 ghost use Rattle.sexpr_core.specs.Value.{Value, node};
 ghost use Rattle.spki_cert.specs.declared.certificate.SeqItem as spec;
-ghost use Rattle.spki_cert.specs.Faults.{Shows};
 ghost use Rattle.spki_cert.specs.Fields.{is_headed};
-ghost use Rattle.spki_cert.specs.Sequences.{ItemOf, IsInPlace, AreInPlace, waits_after, SeqOf, ItemsRefused, SeqRefused};
+ghost use Rattle.spki_cert.specs.Sequences.{ItemOf, IsInPlace, AreInPlace, waits_after, SeqOf};
 ghost use Rattle.spki_cert.specs.SequenceFaults.{place_fault, waiting, items_fault, sequence_fault};
 ghost use Rattle.spki_cert.specs.ItemFaults.{item_fault};
-ghost use Rattle.spki_cert.specs.Inner.Gathering.{IsMisplaced};
 
 use crate::certificate::SeqItem;
 use crate::certificate_reader::cert_of;
@@ -33,7 +31,6 @@ fn is_headed(node: &Node, word: &[u8]) -> bool
 /// Reads the item of a node: a certificate, a signature, an operation, or otherwise a key.
 fn item_of<'a>(alloc: Global, node: &Node<'_, 'a>) -> Result<SeqItem<'a>, CertFaultKind>
     ensures found { IfOk result (λ item. ItemOf node.now item) }
-    ensures faultless { IfOk result (λ _. item_fault node.now ≡ None) }
     ensures named { IfErr result (λ kind. kind ≢ CertFaultKind.Memory → item_fault node.now ≡ Some kind) }
 {
     if let Some(_) = node.headed(b"cert") {
@@ -51,7 +48,6 @@ fn item_of<'a>(alloc: Global, node: &Node<'_, 'a>) -> Result<SeqItem<'a>, CertFa
 /// Checks that an item may follow the others, if `waits` is the certificate that is still without its signature.
 fn check_place(node: &Node, waits: Option<usize>, number: usize) -> Result<(), CertFault>
     ensures found { IfOk result (λ _. IsInPlace (is_some waits) node.now) }
-    ensures refused { IfErr result (λ fault. IsMisplaced waits number node.now fault) }
     ensures faultless { IfOk result (λ _. place_fault waits number node.now ≡ None) }
     ensures named { IfErr result (λ fault. place_fault waits number node.now ≡ Some fault) }
 {
@@ -94,7 +90,6 @@ fn waiting(node: &Node, before: Option<usize>, number: usize) -> Option<usize>
 fn items_of<'a>(alloc: Global, members: Members<'_, 'a>) -> Result<Vec<SeqItem<'a>>, CertFault>
     ensures items { IfOk result (λ items. AllZip ItemOf members.entry items.items) }
     ensures in_place { IfOk result (λ _. AreInPlace false members.entry × (waits_after false members.entry ≡ false)) }
-    ensures refused { IfErr result (λ fault. fault.kind ≢ CertFaultKind.Memory → ItemsRefused members.entry fault) }
     ensures faultless { IfOk result (λ _. items_fault members.entry ≡ None) }
     ensures named { IfErr result (λ fault. fault.kind ≢ CertFaultKind.Memory → items_fault members.entry ≡ Some fault) }
 {
@@ -134,8 +129,6 @@ pub fn sequence_of<'a>(alloc: Global, node: &Node<'_, 'a>) -> Result<Vec<SeqItem
     // The fault is the first from the left, and what is read has none.
     ensures named { IfErr result (λ fault. fault.kind ≢ CertFaultKind.Memory → sequence_fault node.now ≡ Some fault) }
     ensures faultless { IfOk result (λ _. sequence_fault node.now ≡ None) }
-    // The item of the fault is the one that is refused, and the fault is true of it.
-    ensures refused { IfErr result (λ fault. fault.kind ≢ CertFaultKind.Memory → SeqRefused node.now fault) }
 {
     match node.headed(b"sequence") {
         Some(members) => items_of(alloc, members),
@@ -171,9 +164,6 @@ pub fn read_sequence<'a>(
     ensures named { IfSome (node document.now n.0) (λ value.
         IfErr result (λ fault. fault.kind ≢ CertFaultKind.Memory → sequence_fault value ≡ Some fault)) }
     ensures faultless { IfSome (node document.now n.0) (λ value. IfOk result (λ _. sequence_fault value ≡ None)) }
-    // The item of the fault is refused, the items before it can be read, and the fault is true of it.
-    ensures refused { IfSome (node document.now n.0) (λ value.
-        IfErr result (λ fault. fault.kind ≢ CertFaultKind.Memory → SeqRefused value fault)) }
 {
     match document.node(n) {
         Some(value) => sequence_of(alloc, &value),

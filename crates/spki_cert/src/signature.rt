@@ -3,7 +3,6 @@
 ghost use Rattle.std.specs.Prelude.{◌≡◌, ◌≢◌, Some, None, IfOk, IfErr};
 ghost use Rattle.spki_cert.specs.declared.certificate.Signature as spec;
 ghost use Rattle.spki_cert.specs.declared.hash.HashAlg.{HashAlg};
-ghost use Rattle.spki_cert.specs.Faults.{Shows};
 ghost use Rattle.spki_cert.specs.ItemFaults.{signature_fault, do_fault};
 ghost use Rattle.spki_cert.specs.Certificates.{SignatureOf, DoHashOf};
 
@@ -18,7 +17,6 @@ use sexpr_core::syntax::Node;
 /// Reads the signature of a node.
 pub(crate) fn signature_of<'a>(node: &Node<'_, 'a>) -> Result<Signature<'a>, CertFaultKind>
     ensures found { IfOk result (λ signature. SignatureOf node.now signature) }
-    ensures faultless { IfOk result (λ _. signature_fault node.now ≡ None) }
     ensures named { IfErr result (λ kind. signature_fault node.now ≡ Some kind) }
     ensures fault { IfErr result (λ kind. kind ≢ CertFaultKind.Memory) }
 {
@@ -50,7 +48,6 @@ pub(crate) fn signature_of<'a>(node: &Node<'_, 'a>) -> Result<Signature<'a>, Cer
 /// Reads the algorithm of an operation: `(do hash alg)`.
 pub(crate) fn do_hash_of(node: &Node) -> Result<HashAlg, CertFaultKind>
     ensures found { IfOk result (λ alg. DoHashOf node.now alg) }
-    ensures faultless { IfOk result (λ _. do_fault node.now ≡ None) }
     ensures named { IfErr result (λ kind. do_fault node.now ≡ Some kind) }
     ensures fault { IfErr result (λ kind. kind ≢ CertFaultKind.Memory) }
 {

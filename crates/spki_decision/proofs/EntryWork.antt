@@ -1,11 +1,11 @@
 -- The work of the entries of a case, one after another.
-use Rattle.std.proofs.Common.{◌≡◌, ◌⊎◌, inl, inr, ℕ, zero, suc, ◌+◌, ◌≤◌, ◌<◌, List, Option, Some, None, refl, sym, ◌∙◌, ap, subst, arith, add-one, length, slice_get}
+use Rattle.std.proofs.Common.{◌≡◌, ◌⊎◌, inl, inr, ℕ, zero, suc, ◌+◌, ◌≤◌, ◌<◌, List, Option, Some, None, refl, sym, ◌∙◌, subst, arith, add-one, length, slice_get}
 use Rattle.std.proofs.lemmas.Bool.{cases_lt}
 use Rattle.std.proofs.lemmas.Option.{slice_get_within}
 use Rattle.spki_cert.specs.declared.entry.Entry.{Entry}
 use Rattle.spki_reduce.specs.Tuples.{Tuple, five}
 use Rattle.spki_reduce.specs.Views.{entry_tuple}
-use Rattle.spki_reduce.specs.Work.{IsWork, IsWorkOf, Takes, IsOver, IsOverworked}
+use Rattle.spki_reduce.specs.Work.{IsWork, Takes, IsOver, IsOverworked}
 use Rattle.spki_reduce.proofs.Working.{one_work, grows, over, within}
 use Rattle.spki_case.specs.Case.{Case}
 use Rattle.spki_decision.specs.Reduced.{IsEntryWork, IsWithinWork, HasMuchWork}

@@ -6,7 +6,7 @@ use Rattle.spki_reduce.specs.Tuples.{Issuer, FiveTuple, Tuple, five, four}
 use Rattle.spki_reduce.specs.Views.{entry_tuple}
 use Rattle.spki_reduce.specs.Rules.{Issues, Joins}
 use Rattle.spki_reduce.specs.Derivation.{Derives, from_left}
-use Rattle.spki_reduce.proofs.Bracketing.{front, from_left-leaves, supported}
+use Rattle.spki_reduce.proofs.Bracketing.{front, supported}
 use Rattle.spki_case.specs.Case.{Case}
 use Rattle.spki_decision.specs.Supported.{Supported}
 use Rattle.spki_decision.specs.LeftOut.{key_of, first_key, IsOf}

@@ -1,19 +1,18 @@
 -- What is required of a subject before a step, if this is required after it.
-use Rattle.std.proofs.Common.{◌≡◌, ◌≢◌, ◌↔◌, ℕ, zero, suc, ◌+◌, Bool, true, false, List, [], ◌∷◌, ◌++◌, Option, Some, None, refl, sym, ◌∙◌, ap, subst, map, append_assoc, take, drop, slice_get, add-one, drop-cons, append-nil, take_all, length, get_or, ◌-◌, ◌<◌, arith}
+use Rattle.std.proofs.Common.{◌≡◌, ◌≢◌, ℕ, zero, suc, ◌+◌, Bool, true, false, List, [], ◌∷◌, ◌++◌, Option, Some, None, refl, sym, ◌∙◌, ap, subst, append_assoc, take, drop, slice_get, add-one, drop-cons, append-nil, take_all, length, get_or, ◌-◌, ◌<◌, arith}
 use Rattle.std.proofs.lemmas.List.{map-append, append_cancel_left, take-append-drop, take_more}
 use Rattle.std.proofs.lemmas.Option.{slice_get_within, get_or_from_slice_get}
 use Rattle.std.proofs.Math.Seq.{take-suc}
 use Rattle.spki_cert.specs.declared.principal.Policy.{Policy}
-use Rattle.spki_cert.specs.declared.principal.Principal.{Principal}
 use Rattle.spki_cert.specs.Naming.{names}
 use Rattle.spki_reduce.specs.declared.tuple.Step.{Step}
-use Rattle.spki_reduce.specs.Tuples.{FiveTuple, FourTuple, Tuple, own, key, five, four}
-use Rattle.spki_reduce.specs.Rules.{Joins, Delegate, Resolve, delegated, resolved}
+use Rattle.spki_reduce.specs.Tuples.{FiveTuple, FourTuple, Tuple, four}
+use Rattle.spki_reduce.specs.Rules.{resolved}
 use Rattle.spki_reduce.specs.Views.{step_tuple}
 use Rattle.spki_reduce.specs.Chain.{tuples_of}
 use Rattle.spki_decision.specs.declared.required_subject.RequiredSubject.{RequiredSubject}
-use Rattle.spki_decision.specs.Membership.{Leads, Meets, IsMetBy, IsRequiredBy, Becomes, IsRequiredBefore}
-use Rattle.spki_decision.proofs.Leading.{Goes, leads_alone, leads_first, leads_behind}
+use Rattle.spki_decision.specs.Membership.{IsRequiredBy, IsRequiredBefore}
+use Rattle.spki_decision.proofs.Leading.{leads_alone, leads_first, leads_behind}
 
 never : (b : Bool) → b ≡ false → b ≡ true → ⊥
 never b e f = let g : false ≡ true = sym e ∙ f in cc

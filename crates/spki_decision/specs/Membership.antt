@@ -10,8 +10,6 @@ use Rattle.spki_tag.specs.Tag.{contains}
 use Rattle.spki_reduce.specs.Tuples.{FiveTuple, Tuple, five}
 use Rattle.spki_reduce.specs.Rules.{IsFor, Joins}
 use Rattle.spki_reduce.specs.Derivation.{Derives, from_left}
-use Rattle.spki_reduce.specs.Restrictions.{in_each, within_each}
-use Rattle.spki_reduce.specs.Chain.{all_tags, all_windows}
 use Rattle.spki_reduce.specs.Views.{entry_tuple}
 use Rattle.spki_case.specs.Case.{Case}
 use Rattle.spki_decision.specs.declared.membership.Membership.{Membership}

@@ -5,7 +5,6 @@ use Rattle.sexpr_core.specs.Value.{Value}
 use Rattle.spki_tag.specs.declared.fault.TagFault.{TagFault}
 use Rattle.spki_tag.specs.declared.fault.TagFault.TheVariants as tag_faults
 use Rattle.spki_tag.specs.FaultOf.{IsNamed, tag_fault}
-use Rattle.spki_tag.specs.Faults.{TagShows}
 use Rattle.spki_tag.specs.Read.{ReadsAs, IsNoTag}
 use Rattle.spki_tag.specs.Tag.{Tag}
 use Rattle.spki_tag.proofs.Named.{named-sure}
@@ -26,28 +25,27 @@ lifted v ms (Some p) e h = e ∙ ap (headed (codes "intersect")) h
 
 -- the first isn't a tag
 pub first_refused : (v a b : Value) (fault : TagFault) (outer : IntersectFault) → v ≡ intersect_value a b
-    → IsNoTag fault a → TagShows fault a → IsNamed fault (tag_fault a)
+    → IsNoTag fault a → IsNamed fault (tag_fault a)
     → IsOuter (fault ≡ tag_faults.Memory) intersect.Memory (intersect.First fault) outer → outer ≢ intersect.Memory
     → ValueNotMet v outer
-first_refused v a b fault outer e none shows named (inl (inside, is)) found = absurd (found is)
-first_refused v a b fault outer e none shows named (inr (known, is)) found =
+first_refused v a b fault outer e none named (inl (inside, is)) found = absurd (found is)
+first_refused v a b fault outer e none named (inr (known, is)) found =
     subst (ValueNotMet v) (sym is) (record {
       first = a;
       second = b;
       written = e;
       found = known;
       named = named-sure fault (tag_fault a) named known;
-      shows = shows;
       none = none;
     })
 
 -- the first is one, and the second isn't
 pub second_refused : (v a b : Value) (t : Tag) (fault : TagFault) (outer : IntersectFault) → v ≡ intersect_value a b
-    → ReadsAs a t → IsNoTag fault b → TagShows fault b → IsNamed fault (tag_fault b)
+    → ReadsAs a t → IsNoTag fault b → IsNamed fault (tag_fault b)
     → IsOuter (fault ≡ tag_faults.Memory) intersect.Memory (intersect.Second fault) outer → outer ≢ intersect.Memory
     → ValueNotMet v outer
-second_refused v a b t fault outer e read none shows named (inl (inside, is)) found = absurd (found is)
-second_refused v a b t fault outer e read none shows named (inr (known, is)) found =
+second_refused v a b t fault outer e read none named (inl (inside, is)) found = absurd (found is)
+second_refused v a b t fault outer e read none named (inr (known, is)) found =
     subst (ValueNotMet v) (sym is) (record {
       first = a;
       second = b;
@@ -56,6 +54,5 @@ second_refused v a b t fault outer e read none shows named (inr (known, is)) fou
       first_read = read;
       found = known;
       named = named-sure fault (tag_fault b) named known;
-      shows = shows;
       none = none;
     })

@@ -9,7 +9,6 @@ use Rattle.spki_tag.specs.Request.{Request, IsRequest}
 use Rattle.spki_tag.specs.Tag.{Tag, IsNormalTag, contains, nodes, ldepth}
 use Rattle.spki_tag.specs.Meet.{meet}
 use Rattle.spki_tag.specs.FaultOf.{tag_fault}
-use Rattle.spki_tag.specs.Faults.{TagShows}
 use Rattle.spki_tag.specs.Read.{ReadsAs, IsNoTag}
 use Rattle.spki_case.specs.CaseForm.{headed}
 use Rattle.spki_case.specs.Texts.{IsTextOf, IsMalformed}
@@ -47,7 +46,6 @@ pub record NoFirst (v : Value) (fault : TagFault) : Type 0 where
   pub written : v ≡ intersect_value first second
   pub found : fault ≢ tag_faults.Memory
   pub named : tag_fault first ≡ Some fault
-  pub shows : TagShows fault first
   pub none : IsNoTag fault first
 
 -- the value is (intersect A B), A is a tag, B is none, and the fault is that of B
@@ -59,7 +57,6 @@ pub record NoSecond (v : Value) (fault : TagFault) : Type 0 where
   pub first_read : ReadsAs first a
   pub found : fault ≢ tag_faults.Memory
   pub named : tag_fault second ≡ Some fault
-  pub shows : TagShows fault second
   pub none : IsNoTag fault second
 
 -- the value is (intersect A B), both are tags, and the product of their nodes is too large

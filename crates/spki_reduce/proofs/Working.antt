@@ -6,7 +6,7 @@ use Rattle.spki_cert.specs.declared.principal.Policy.{Policy}
 use Rattle.spki_reduce.specs.declared.fold.Cause.{Cause}
 use Rattle.spki_reduce.specs.declared.tuple.Five.{Five}
 use Rattle.spki_reduce.specs.declared.tuple.Step.{Step}
-use Rattle.spki_reduce.specs.Tuples.{FiveTuple, Tuple, five, tags_of}
+use Rattle.spki_reduce.specs.Tuples.{Tuple, five, tags_of}
 use Rattle.spki_reduce.specs.Views.{five_tuple, step_tuple}
 use Rattle.spki_reduce.specs.Derivation.{from_left}
 use Rattle.spki_reduce.specs.Restrictions.{met, nodes_product}
@@ -15,7 +15,7 @@ use Rattle.spki_reduce.specs.Work.{Reaches, ReachedAt, IsCost, IsWork, IsWorkOf,
 use Rattle.spki_reduce.proofs.Bracketing.{one_root}
 use Rattle.spki_reduce.proofs.Folding.{reaches, reaches_back}
 use Rattle.spki_reduce.proofs.Chains.{step_stands, through}
-use Rattle.spki_reduce.proofs.Through.{AreTagged, steps_tagged, unstopped}
+use Rattle.spki_reduce.proofs.Through.{AreTagged, unstopped}
 
 -- ---- the code's steps
 

@@ -132,8 +132,8 @@ impl<'a> Five<'a> {
         })
     }
 
-    /// The cost of joining this authorization with a step: the product of the numbers of nodes of both tags, if they join whatever their
-    /// tags are; otherwise 0. A definition has no tag.
+    /// The cost of joining this authorization with a step, if they join whatever their tags are: the product of the numbers of nodes of both
+    /// tags. A definition has no tag, so it costs the number of nodes of this authorization's tag. The cost is 0 if they do not join.
     fn cost_with(&self, step: &Step<'a>, policy: Policy) -> usize
         ensures { IsCostOf policy (five_tuple self.now) self.now.tag (step_tuple step.now) result }
     {

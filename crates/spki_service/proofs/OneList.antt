@@ -5,7 +5,8 @@ use Rattle.sexpr_core.specs.declared.fault.FormFault.{FormFault}
 use Rattle.sexpr_core.specs.Value.{Value, canon}
 use Rattle.sexpr_text.specs.Spelling.{IsTextWithin}
 use Rattle.spki_cert.specs.declared.entry.Entry.{Entry}
-use Rattle.spki_cert.specs.Entries.{AclOf, behind_version}
+use Rattle.spki_cert.specs.Entries.{AclOf}
+use Rattle.spki_cert.specs.EntryFaults.{behind_version}
 use Rattle.spki_cert.proofs.Groups.{same_others}
 use Rattle.spki_cert.proofs.EntryLaws.{entries-behind}
 use Rattle.spki_service.specs.declared.list_fault.AclFault.{AclFault}

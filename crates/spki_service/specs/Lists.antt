@@ -6,7 +6,7 @@ use Rattle.sexpr_text.specs.Spelling.{IsTextWithin}
 use Rattle.spki_cert.specs.declared.entry.Entry.{Entry}
 use Rattle.spki_cert.specs.declared.fault.CertFault.{CertFault}
 use Rattle.spki_cert.specs.declared.fault.CertFaultKind.TheVariants as kinds
-use Rattle.spki_cert.specs.Entries.{AclOf, AclRefused}
+use Rattle.spki_cert.specs.Entries.{AclOf}
 use Rattle.spki_cert.specs.EntryFaults.{acl_fault}
 use Rattle.spki_service.specs.declared.list_fault.AclFault.{AclFault}
 use Rattle.spki_service.specs.declared.list_fault.AclFault.TheVariants as faults
@@ -15,7 +15,6 @@ use Rattle.spki_service.specs.Form.{RefusesForm, Reads, LacksForm}
 -- The value is no access list. The fault names one of its entries, or the whole list, and is the first one from the left.
 pub record IsNoAcl (fault : CertFault) (v : Value) : Type 0 where
   pub found : fault.kind ≢ kinds.Memory
-  pub refused : AclRefused v fault
   pub named : acl_fault v ≡ Some fault
   pub none : (es : List Entry) → ¬ AclOf v es
 

@@ -4,7 +4,6 @@ use Rattle.sexpr_core.specs.declared.fault.FormFault.{FormFault}
 use Rattle.sexpr_core.specs.Value.{Value, plain, group, canon}
 use Rattle.sexpr_text.specs.Spelling.{IsTextWithin}
 use Rattle.spki_tag.specs.Request.{Request}
-use Rattle.spki_tag.specs.Faults.{RequestShows}
 use Rattle.spki_tag.specs.FaultOf.{request_fault}
 use Rattle.spki_tag.specs.declared.fault.TagFault.{TagFault}
 use Rattle.spki_tag.specs.declared.fault.TagFault.TheVariants as tag_faults
@@ -13,10 +12,9 @@ use Rattle.spki_cert.specs.declared.fault.CertFaultKind.{CertFaultKind}
 use Rattle.spki_cert.specs.declared.fault.CertFaultKind.TheVariants as kinds
 use Rattle.spki_cert.specs.declared.certificate.SeqItem.{SeqItem}
 use Rattle.spki_cert.specs.Readings.{KeyOf, DateOf}
-use Rattle.spki_cert.specs.Sequences.{SeqOf, SeqRefused}
+use Rattle.spki_cert.specs.Sequences.{SeqOf}
 use Rattle.spki_cert.specs.SequenceFaults.{sequence_fault}
 use Rattle.spki_cert.specs.FixedFaults.{key_fault}
-use Rattle.spki_cert.specs.Faults.{Shows}
 use Rattle.spki_case.specs.Case.{Case}
 use Rattle.spki_case.specs.CaseForm.{RequestOf}
 use Rattle.spki_service.specs.declared.question.Question.{Question}
@@ -73,21 +71,18 @@ pub record IsAskedCase (q : Question) (c : Case) : Type 0 where
 -- The value is no sequence. The fault names one of its items, or the whole sequence, and is the first one from the left.
 pub record IsNoSequenceFor (fault : CertFault) (v : Value) : Type 0 where
   pub found : fault.kind ≢ kinds.Memory
-  pub refused : SeqRefused v fault
   pub named : sequence_fault v ≡ Some fault
   pub none : (items : List SeqItem) → ¬ SeqOf v items
 
 -- The value is no key, and the fault is its first fault.
 pub record IsNoKeyFor (kind : CertFaultKind) (v : Value) : Type 0 where
   pub found : kind ≢ kinds.Memory
-  pub shows : Shows kind v
   pub named : key_fault v ≡ Some kind
   pub none : (key : List ℕ) → ¬ KeyOf v key
 
 -- The value is no request, and the fault is its first fault.
 pub record IsNoRequestFor (fault : TagFault) (v : Value) : Type 0 where
   pub found : fault ≢ tag_faults.Memory
-  pub shows : RequestShows fault v
   pub named : request_fault v ≡ Some fault
   pub none : (g : Request) → ¬ RequestOf v g
 

@@ -11,12 +11,10 @@ use Rattle.sexpr_core.specs.Value.{Value, Values, plain, values, group, members}
 use Rattle.spki_tag.specs.declared.fault.TagFault.{TagFault}
 use Rattle.spki_tag.specs.declared.fault.TagFault.TheVariants as faults
 use Rattle.spki_tag.specs.FirstFault.{first_fault, unless}
-use Rattle.spki_tag.specs.FaultOf.{tags_in, tags_in_list, tags_in_set, tags_in_all, own_fault, list_fault, star_fault, range_fault, limits_fault, looks}
-use Rattle.spki_tag.specs.Faults.{is_word, tag_nodes, list_nodes, set_nodes, tag_nodes_all}
+use Rattle.spki_tag.specs.FaultOf.{tags_in, tags_in_set, tags_in_all, own_fault, list_fault, star_fault, range_fault, limits_fault, looks}
 use Rattle.spki_tag.specs.Request.{IsHead}
 use Rattle.spki_tag.specs.Tag.{Tag, Tags, Limit, Ordering, alpha, time, date, star, string, prefix, range, list, set, none, more, IsTag, AreTags, tag_value, tag_values, ordering_name, low_values, up_values, nodes, nodes_all}
 use Rattle.spki_tag.specs.Read.{most_read}
-use Rattle.spki_tag.proofs.Shown.{tag_nodes-of, tag_nodes_all-of}
 
 -- ---- the first fault of two lists of looks
 
@@ -36,39 +34,6 @@ looks-append n [] vs = ap (λ m. looks m vs) (omega arith)
 looks-append n (u ∷ us) vs =
     ap (λ (fs : List (Option TagFault)). unless (nat_lt n 1024) faults.TooManyNodes ∷ own_fault u ∷ fs)
     (looks-append (n + 1) us vs ∙ ap (λ m. looks (n + 1) us ++ looks m vs) (omega arith))
-
--- ---- the number of tags
-
-list_by : (b : Bool) (v : Value) (vs : Values) → length (tags_in_set vs) ≡ set_nodes vs → length (tags_in v) ≡ tag_nodes v
-    → length (tags_in_all vs) ≡ tag_nodes_all vs
-    → length (if b then tags_in_set vs else tags_in v ++ tags_in_all vs)
-    ≡ (if b then set_nodes vs else tag_nodes v + tag_nodes_all vs)
-list_by true v vs e f g = e
-list_by false v vs e f g = omega (arith, length-append (tags_in v) (tags_in_all vs), f, g)
-
-set_by : (b : Bool) (vs : Values) → length (tags_in_all vs) ≡ tag_nodes_all vs
-    → length (if b then tags_in_all vs else []) ≡ (if b then tag_nodes_all vs else 0)
-set_by true vs e = e
-set_by false vs e = refl
-
-mutual
-  -- there are as many tags in a value as nodes
-  pub tags_in-count : (v : Value) → length (tags_in v) ≡ tag_nodes v
-  tags_in-count (value.string hint octets) = refl
-  tags_in-count (value.list vs) = omega (arith, list-count vs)
-
-  list-count : (vs : Values) → length (tags_in_list vs) ≡ list_nodes vs
-  list-count value.none = refl
-  list-count (value.more v vs) = list_by (is_word (codes "*") v) v vs (set-count vs) (tags_in-count v) (tags_in_all-count vs)
-
-  set-count : (vs : Values) → length (tags_in_set vs) ≡ set_nodes vs
-  set-count value.none = refl
-  set-count (value.more v vs) = set_by (is_word (codes "set") v) vs (tags_in_all-count vs)
-
-  pub tags_in_all-count : (vs : Values) → length (tags_in_all vs) ≡ tag_nodes_all vs
-  tags_in_all-count value.none = refl
-  tags_in_all-count (value.more v vs) =
-      omega (arith, length-append (tags_in v) (tags_in_all vs), tags_in-count v, tags_in_all-count vs)
 
 -- ---- one look
 
@@ -180,13 +145,29 @@ mutual
   tags-fine (more w ws) h =
       both IsFine (tags_in (tag_value w)) (tags_in_all (tag_values ws)) (tag-fine w h.0) (tags-fine ws h.1)
 
+mutual
+  -- there are as many tags in a written tag as nodes
+  pub tags-count : (w : Tag) → IsTag w → length (tags_in (tag_value w)) ≡ nodes w
+  tags-count star h = refl
+  tags-count (string octets) h = refl
+  tags-count (prefix octets) h = refl
+  tags-count (range ordering low up) h = refl
+  tags-count (list head further) h =
+      omega (arith, ap (λ (us : List Value). length us) (tags_in-list head (tag_values further) h.0), tags-count_all further h.1)
+  tags-count (set ws) h = omega (arith, tags-count_all ws h)
+
+  pub tags-count_all : (ws : Tags) → AreTags ws → length (tags_in_all (tag_values ws)) ≡ nodes_all ws
+  tags-count_all none h = refl
+  tags-count_all (more w ws) h =
+      omega (arith, length-append (tags_in (tag_value w)) (tags_in_all (tag_values ws)), tags-count w h.0, tags-count_all ws h.1)
+
 -- tags of few enough nodes
 pub tag-past : (n : ℕ) (w : Tag) → IsTag w → n + nodes w ≤ most_read → first_fault (looks n (tags_in (tag_value w))) ≡ None
 tag-past n w h few =
-    looks-fine n (tags_in (tag_value w)) (omega (arith, tags_in-count (tag_value w), tag_nodes-of w h)) (tag-fine w h)
+    looks-fine n (tags_in (tag_value w)) (omega (arith, tags-count w h)) (tag-fine w h)
 
 pub tags-past : (n : ℕ) (ws : Tags) → AreTags ws → n + nodes_all ws ≤ most_read
     → first_fault (looks n (tags_in_all (tag_values ws))) ≡ None
 tags-past n ws h few =
-    looks-fine n (tags_in_all (tag_values ws)) (omega (arith, tags_in_all-count (tag_values ws), tag_nodes_all-of ws h))
+    looks-fine n (tags_in_all (tag_values ws)) (omega (arith, tags-count_all ws h))
     (tags-fine ws h)

@@ -1,6 +1,6 @@
 -- A value without a fault is one that is written as a tag, or as a request.
-use Rattle.std.proofs.Common.{◌≡◌, ℕ, ◌+◌, ◌≤◌, ◌<◌, Bool, true, false, not, ◌↔◌, List, [], ◌∷◌, ◌++◌, map, length, Option, Some, None, refl, sym, ap, ◌∙◌, subst, arith, nat_lt, true≢false}
-use Rattle.std.specs.Prelude.{codes, if◌then◌else◌, slice_index}
+use Rattle.std.proofs.Common.{◌≡◌, ℕ, ◌+◌, ◌≤◌, ◌<◌, Bool, true, false, not, ◌↔◌, List, [], ◌∷◌, ◌++◌, map, length, Option, Some, None, Result, Ok, Err, inl, inr, refl, sym, ap, ◌∙◌, subst, arith, nat_lt, true≢false}
+use Rattle.std.specs.Prelude.{codes, if◌then◌else◌, slice_index, IfErr}
 use Rattle.std.specs.List.{AllByRecursion}
 use Rattle.std.specs.Str.{bytes_eq}
 use Rattle.std.specs.Cmp.Lexicographic.{same_text, other_text}
@@ -14,16 +14,14 @@ use Rattle.sexpr_core.specs.Value.{Value, Values, plain, values, group, members}
 use Rattle.spki_tag.specs.declared.fault.TagFault.{TagFault}
 use Rattle.spki_tag.specs.declared.fault.TagFault.TheVariants as faults
 use Rattle.spki_tag.specs.FirstFault.{first_fault, unless}
-use Rattle.spki_tag.specs.FaultOf.{tags_in, tags_in_list, tags_in_set, tags_in_all, own_fault, list_fault, star_fault, form_fault, prefix_fault, range_fault, limits_fault, are_limits, is_ordering, is_hinted, looks, tag_fault, part_fault, request_fault}
+use Rattle.spki_tag.specs.FaultOf.{tags_in, tags_in_list, tags_in_set, tags_in_all, own_fault, list_fault, star_fault, form_fault, prefix_fault, range_fault, limits_fault, are_limits, is_ordering, is_hinted, looks, tag_fault, part_fault, request_fault, IsNamed}
 use Rattle.spki_tag.specs.Request as request
 use Rattle.spki_tag.specs.Request.{Request, Requests, AreOctets, IsHead, IsRequest, AreRequests, request_value, request_values}
 use Rattle.spki_tag.specs.Tag.{Tag, Tags, Ordering, alpha, time, date, star, string, prefix, range, list, set, none, more, IsTag, AreTags, tag_value, tag_values, ordering_name, starred, nodes}
-use Rattle.spki_tag.specs.Read.{most_read}
-use Rattle.spki_tag.proofs.FaultWalk.{IsFine, tags_in-count, tag-past}
+use Rattle.spki_tag.specs.Read.{most_read, IsNoTag, IsNoRequest}
+use Rattle.spki_tag.proofs.FaultWalk.{IsFine, tags-count, tag-past}
 use Rattle.spki_tag.proofs.Named.{limits-of}
 use Rattle.spki_tag.proofs.NamedRequests.{IsFinePart, request-faultless}
-use Rattle.spki_tag.proofs.Shown.{tag_nodes-of}
-use Rattle.spki_tag.specs.Faults.{tag_nodes}
 use Rattle.std.specs.List.{list_any}
 use Rattle.std.proofs.Common.{◌||◌}
 
@@ -182,7 +180,7 @@ unfolding tag_fault
 tag_none v e =
     let p = looks-none 0 (tags_in v) (omega arith) e in
     let t = tag-of v p.0 in
-    (t.0, t.1, t.2, omega (arith, p.1, tags_in-count v, ap tag_nodes t.2, tag_nodes-of t.0 t.1))
+    (t.0, t.1, t.2, omega (arith, p.1, ap (λ (u : Value). length (tags_in u)) t.2, tags-count t.0 t.1))
 
 pub tag_some : (v : Value) → ((w : Tag) × IsTag w × (tag_value w ≡ v) × (nodes w ≤ 1024)) → tag_fault v ≡ None
 unfolding tag_fault
@@ -191,6 +189,12 @@ tag_some v t =
 
 pub tag_none_exactly : (v : Value) → (tag_fault v ≡ None) ↔ ((w : Tag) × IsTag w × (tag_value w ≡ v) × (nodes w ≤ 1024))
 tag_none_exactly v = (tag_none v, tag_some v)
+
+-- a value with a fault is no tag
+pub tag_refused : (fault : TagFault) (v : Value) → IsNamed fault (tag_fault v) → IsNoTag fault v
+unfolding IsNamed
+tag_refused fault v (inl e) w h few spelled = e
+tag_refused fault v (inr e) w h few spelled = absurd (none_is_not_some fault (sym e ∙ tag_some v (w, h, spelled, few)))
 
 -- ---- the request that a value is
 
@@ -257,3 +261,14 @@ request_none v o e = request-of v o (parts-none (value.nodes v) e)
 pub request_none_exactly : (v : Value) → HasOctets v
     → (request_fault v ≡ None) ↔ ((g : Request) × IsRequest g × (request_value g ≡ v))
 request_none_exactly v o = (request_none v o, λ g. request-faultless v g.0 g.1 g.2)
+
+-- a value with a fault is no request
+request_refused : (fault : TagFault) (v : Value) → IsNamed fault (request_fault v) → IsNoRequest fault v
+unfolding IsNamed
+request_refused fault v (inl e) g h written = e
+request_refused fault v (inr e) g h written = absurd (none_is_not_some fault (sym e ∙ request-faultless v g h written))
+
+pub result_refused : {A : Type 0} (r : Result A TagFault) (v : Value) → IfErr r (λ fault. IsNamed fault (request_fault v))
+    → IfErr r (λ fault. IsNoRequest fault v)
+result_refused (Ok g) v h = tt
+result_refused (Err fault) v h = request_refused fault v h

@@ -8,9 +8,6 @@ pub mod Depth
 pub mod NormalTag
 pub mod MeetSteps
 pub mod OneTag
-pub mod Shown
-pub mod Refusals
-pub mod Found
 pub mod Spelling
 pub mod Merging
 pub mod Requests
@@ -29,5 +26,4 @@ pub mod Named
 pub mod NamedRequests
 pub mod Faultless
 pub mod MeetEquations
-pub mod FaultShows
 pub mod PlainMeets

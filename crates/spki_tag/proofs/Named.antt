@@ -13,16 +13,16 @@ use Rattle.spki_tag.specs.declared.fault.TagFault.{TagFault}
 use Rattle.spki_tag.specs.declared.fault.TagFault.TheVariants as faults
 use Rattle.spki_tag.specs.FirstFault.{first_fault, unless}
 use Rattle.spki_tag.specs.FaultOf.{IsNamed, tags_in, tags_in_list, tags_in_all, own_fault, list_fault, star_fault, form_fault, prefix_fault, range_fault, limits_fault, group_fault, are_limits, is_ordering, is_hinted, is_limit, looks, tag_fault}
-use Rattle.spki_tag.specs.Faults.{IsHinted}
 use Rattle.spki_tag.specs.Request.{IsHead}
-use Rattle.spki_tag.specs.Steps.{fault_after, fault_after_all}
-use Rattle.spki_tag.specs.Faults.{AreNoLimits}
-use Rattle.spki_tag.specs.Steps.{IsRead}
-use Rattle.spki_tag.specs.Tag.{Tag, tags, tag_value, tag_values, starred, Limit, limit_values, low_values, up_values, Ordering, alpha, time, date, ordering_name}
+use Rattle.spki_tag.specs.Steps.{IsRead, AreNoLimits, fault_after, fault_after_all}
+use Rattle.spki_tag.specs.Tag.{Tag, tags, tag_value, starred, Limit, limit_values, low_values, up_values, Ordering, alpha, time, date, ordering_name}
 use Rattle.spki_tag.specs.Read.{most_read}
-use Rattle.spki_tag.proofs.FaultWalk.{first-none, first-some, looks-append, look-past, look-own, look-full, tag-past, tags-past, tags_in_all-count, list-fine, tags_in-list}
+use Rattle.spki_tag.proofs.FaultWalk.{first-none, first-some, looks-append, look-past, look-own, look-full, tag-past, tags-past, tags-count_all, list-fine, tags_in-list}
 use Rattle.spki_tag.proofs.Spelling.{IsReadSoFar, tag_values-tags}
-use Rattle.spki_tag.proofs.Shown.{tag_nodes_all-of}
+
+-- a string with a display hint
+abbrev pub IsHinted : Value → Type 0
+IsHinted w = (hint octets : List ℕ) × (w ≡ value.string (Some hint) octets)
 
 -- ---- what is named
 
@@ -310,7 +310,7 @@ so_far-named fault used counted vs left further ts v so_far e =
     (subst (λ us. first_fault (looks used (tags_in_all us)) ≡ None) same
     (tags-past used (tags so_far.ws) so_far.written (omega (arith, so_far.sum, so_far.few))))
     (subst (λ us. counted ≡ used + length (tags_in_all us)) same
-    (omega (arith, so_far.sum, tags_in_all-count (tag_values (tags so_far.ws)), tag_nodes_all-of (tags so_far.ws) so_far.written)))
+    (omega (arith, so_far.sum, tags-count_all (tags so_far.ws) so_far.written)))
     found))
 
 -- ---- the whole

@@ -3,11 +3,8 @@ use Rattle.std.proofs.Common.{◌≡◌, ℕ, List, [], ◌∷◌, ◌++◌, map
 use Rattle.std.proofs.lemmas.List.{map_push}
 use Rattle.sexpr_core.specs.Value as value
 use Rattle.sexpr_core.specs.Value.{Value, Values, plain, values, group}
-use Rattle.spki_tag.specs.declared.fault.TagFault.{TagFault}
 use Rattle.spki_tag.specs.Request.{Request, Requests, requests, string, list, none, more, IsRequest, AreRequests, request_value, request_values}
-use Rattle.spki_tag.specs.Faults.{RequestShows}
-use Rattle.spki_tag.specs.Steps.{RequestsShow, AreReadRequests}
-use Rattle.spki_tag.proofs.Shown.{request_shows-more, parts-all, parts-further, parts-member}
+use Rattle.spki_tag.specs.Steps.{AreReadRequests}
 use Rattle.spki_tag.proofs.Weight.{weight, weights, weight_le-weights}
 
 -- ---- a request is the only one that is written so
@@ -42,15 +39,6 @@ pub request_values-requests : (gs : List Request) → request_values (requests g
 request_values-requests [] = refl
 request_values-requests (g ∷ gs) = ap (value.more (request_value g)) (request_values-requests gs)
 
--- ---- lists
-
--- what a fault shows of the members behind the head it shows of the list
-pub list_shows : (fault : TagFault) (head : List ℕ) (vs : List Value) → RequestsShow fault vs
-    → RequestShows fault (group (plain head ∷ vs))
-list_shows fault head vs shows =
-    request_shows-more fault (value.nodes_all (values vs)) (value.nodes (group (plain head ∷ vs)))
-    (λ w m. parts-all (plain head ∷ vs) w (parts-further (plain head) vs w m)) shows
-
 -- ---- the loop over the members
 
 -- the members so far were read as requests, and these are left
@@ -69,13 +57,6 @@ so_far_push vs left further gs v g so_far e k r = record {
       ∙ ap (λ (x : Value). map request_value gs ++ x ∷ further) r
       ∙ ap (λ (us : List Value). map request_value gs ++ us) (sym e) ∙ so_far.spelled;
 }
-
-pub so_far_shows : (fault : TagFault) (vs left further : List Value) (gs : List Request) (v : Value)
-    → AreReadSoFar vs gs left → left ≡ v ∷ further → RequestShows fault v → RequestsShow fault vs
-so_far_shows fault vs left further gs v so_far e shows =
-    subst (RequestsShow fault) (ap (λ (us : List Value). map request_value gs ++ us) (sym e) ∙ so_far.spelled)
-    (request_shows-more fault (value.nodes v) (value.nodes_all (values (map request_value gs ++ v ∷ further)))
-    (parts-member (map request_value gs) v further) shows)
 
 -- a member that is left weighs no more than all
 pub so_far_weight : (vs left further : List Value) (gs : List Request) (v : Value) → AreReadSoFar vs gs left

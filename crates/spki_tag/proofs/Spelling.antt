@@ -4,18 +4,14 @@ use Rattle.std.specs.Prelude.{codes}
 use Rattle.std.proofs.lemmas.List.{map_push}
 use Rattle.sexpr_core.specs.Value as value
 use Rattle.sexpr_core.specs.Value.{Value, Values, plain, values, group}
-use Rattle.spki_tag.specs.declared.fault.TagFault.{TagFault}
-use Rattle.spki_tag.specs.declared.fault.TagFault.TheVariants as faults
 use Rattle.spki_tag.specs.Request.{IsHead}
 use Rattle.spki_tag.specs.Tag.{Tag, tags, list, set, IsTag, AreTags, tag_value, tag_values, starred, nodes, nodes_all, most_nodes}
 use Rattle.spki_tag.specs.Meet.{listed}
 use Rattle.spki_tag.specs.NormalForm.{AreNormal}
 use Rattle.spki_tag.specs.Normal.{spread, set_of, normals}
 use Rattle.spki_tag.specs.Read.{most_read}
-use Rattle.spki_tag.specs.Faults.{TagShows, tag_nodes, tag_nodes_all}
-use Rattle.spki_tag.specs.Steps.{TagShowsAfter, TagsShowAfter, IsRead, AreRead}
+use Rattle.spki_tag.specs.Steps.{IsRead, AreRead}
 use Rattle.spki_tag.proofs.NormalOf.{AreNormalOf, AreNormal-of, nodes_all-of, normals-of, normals-push}
-use Rattle.spki_tag.proofs.Shown.{tag_shows-more, parts-all, parts-further, parts-member, tag_nodes-plain, tag_nodes_all-read}
 use Rattle.spki_tag.proofs.Weight.{weight, weights, weight_le-weights}
 
 -- ---- the members of a list, one after the other
@@ -59,16 +55,6 @@ so_far_push used counted after vs left further ts v t so_far e r = record {
   few = r.few;
 }
 
-pub so_far_shows : (fault : TagFault) (used counted : ℕ) (vs left further : List Value) (ts : List Tag) (v : Value)
-    → IsReadSoFar used vs ts counted left → left ≡ v ∷ further → TagShowsAfter counted fault v
-    → TagsShowAfter used fault vs
-so_far_shows fault used counted vs left further ts v so_far e shows =
-    let some = tag_nodes_all-read so_far.ws v further so_far.written in
-    subst (TagsShowAfter used fault) (ap (λ (us : List Value). map tag_value so_far.ws ++ us) (sym e) ∙ so_far.spelled)
-    (tag_shows-more fault (value.nodes v) (value.nodes_all (values (map tag_value so_far.ws ++ v ∷ further)))
-    (counted + tag_nodes v) (used + tag_nodes_all (values (map tag_value so_far.ws ++ v ∷ further)))
-    (parts-member (map tag_value so_far.ws) v further) (omega (arith, so_far.sum)) shows)
-
 -- ---- what was read
 
 -- a list of members that were read
@@ -106,50 +92,6 @@ members_fit used after vs ts r = omega (arith, r.counted, r.few, nodes_all-of (t
 
 pub members_normal : (used after : ℕ) (vs : List Value) (ts : List Tag) → AreRead used vs ts after → AreNormal ts
 members_normal used after vs ts r = AreNormal-of (tags r.ws) ts (each_normal used after vs ts r)
-
--- ---- lists
-
--- what a fault shows of the members behind the head it shows of the list
-pub list_shows : (fault : TagFault) (used : ℕ) (head : List ℕ) (vs : List Value) → IsHead head
-    → TagsShowAfter (used + 2) fault vs → TagShowsAfter used fault (group (plain head ∷ vs))
-list_shows fault used head vs h shows =
-    let n = tag_nodes-plain head (values vs) h in
-    tag_shows-more fault (value.nodes_all (values vs)) (value.nodes (group (plain head ∷ vs)))
-    (used + 2 + tag_nodes_all (values vs)) (used + tag_nodes (group (plain head ∷ vs)))
-    (λ w m. parts-all (plain head ∷ vs) w (parts-further (plain head) vs w m)) (omega arith) shows
-
--- the same of a set
-pub set_shows : (fault : TagFault) (used : ℕ) (vs : List Value)
-    → TagsShowAfter (used + 1) fault vs → TagShowsAfter used fault (starred (codes "set") (values vs))
-set_shows fault used vs shows =
-    tag_shows-more fault (value.nodes_all (values vs)) (value.nodes (starred (codes "set") (values vs)))
-    (used + 1 + tag_nodes_all (values vs)) (used + tag_nodes (starred (codes "set") (values vs)))
-    (λ w m. parts-all (plain (codes "*") ∷ plain (codes "set") ∷ vs) w
-    (parts-further (plain (codes "*")) (plain (codes "set") ∷ vs) w (parts-further (plain (codes "set")) vs w m)))
-    (omega arith) shows
-
--- what shows of a value shows where nodes were counted before it
-pub shows_after : (fault : TagFault) (used : ℕ) (v : Value) → TagShows fault v → TagShowsAfter used fault v
-shows_after fault used v shows =
-    tag_shows-more fault (value.nodes v) (value.nodes v) (tag_nodes v) (used + tag_nodes v) (λ w m. m) (omega arith) shows
-
--- what shows where none were counted before
-pub shows_at_first : (fault : TagFault) (v : Value) → TagShowsAfter 0 fault v → TagShows fault v
-shows_at_first fault v shows =
-    tag_shows-more fault (value.nodes v) (value.nodes v) (0 + tag_nodes v) (tag_nodes v) (λ w m. m) (omega arith) shows
-
--- a list whose head is one node too many
-pub no_room_for_head : (used : ℕ) (head : List ℕ) (vs : List Value) → IsHead head → most_read ≤ used + 1
-    → TagShowsAfter used faults.TooManyNodes (group (plain head ∷ vs))
-no_room_for_head used head vs h full = omega (arith, full, tag_nodes-plain head (values vs) h)
-
-some_nodes : (v : Value) → 1 ≤ tag_nodes v
-some_nodes (value.string hint octets) = omega arith
-some_nodes (value.list vs) = omega arith
-
--- there is no room for one node more
-pub no_room : (used : ℕ) (v : Value) → most_read ≤ used → TagShowsAfter used faults.TooManyNodes v
-no_room used v full = omega (arith, full, some_nodes v)
 
 -- a member that is left weighs no more than all
 pub so_far_weight : (used counted : ℕ) (vs left further : List Value) (ts : List Tag) (v : Value)

@@ -7,9 +7,14 @@ use Rattle.sexpr_core.specs.Value.{Value, Values, string, list, none, more, memb
 use Rattle.spki_tag.specs.declared.fault.TagFault.{TagFault}
 use Rattle.spki_tag.specs.declared.fault.TagFault.TheVariants.{EmptyList, ListHead, Hint, UnknownStar, RangeOrdering, RangeLimit, TooManyNodes, StarInRequest, Memory}
 use Rattle.spki_tag.specs.FirstFault.{first_fault, unless}
-use Rattle.spki_tag.specs.Faults.{is_word}
 
 -- ---- the tags in a written tag
+
+-- a word without a display hint
+abbrev pub is_word : List ℕ → Value → Bool
+is_word word (string None octets) = bytes_eq octets word
+is_word word (string (Some hint) octets) = false
+is_word word (list vs) = false
 
 abbrev mutual
   -- The tags in a written tag, itself first, depth first from the left. The tags in a list are its members, with the head,

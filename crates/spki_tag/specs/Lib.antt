@@ -1,7 +1,6 @@
 pub mod Time
 pub mod Request
 pub mod Tag
-pub mod Faults
 pub mod FirstFault
 pub mod FaultOf
 pub mod Read

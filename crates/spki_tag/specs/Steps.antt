@@ -1,26 +1,16 @@
 -- The results of the readers' steps.
-use Rattle.std.specs.Prelude.{◌≡◌, ◌≢◌, ℕ, ◌+◌, ◌≤◌, List, ◌∷◌, ◌++◌, map, Option, Some, codes}
+use Rattle.std.specs.Prelude.{◌≡◌, ◌≢◌, ℕ, ◌+◌, ◌≤◌, List, ◌++◌, map, Option, Some}
 use Rattle.spki_tag.specs.declared.fault.TagFault.{TagFault}
 use Rattle.sexpr_core.specs.Value.{Value, values, plain}
 use Rattle.sexpr_core.specs.Value as value
-use Rattle.spki_tag.specs.Faults.{TagShows, TagShowsIn, RequestShowsIn, tag_nodes, tag_nodes_all}
 use Rattle.spki_tag.specs.FirstFault.{first_fault}
 use Rattle.spki_tag.specs.FaultOf.{tags_in, tags_in_all, looks, part_fault}
 use Rattle.spki_tag.specs.Request.{Request, requests, AreRequests, request_value}
-use Rattle.spki_tag.specs.Tag.{Tag, Ordering, Limit, IsTag, AreTags, tags, tag_value, ordering_name, limit_values, low_values, up_values, starred, nodes, nodes_all}
+use Rattle.spki_tag.specs.Tag.{Tag, Limit, IsTag, AreTags, tags, tag_value, limit_values, low_values, up_values, nodes, nodes_all}
 use Rattle.spki_tag.specs.Read.{most_read}
 use Rattle.spki_tag.specs.Normal.{normal, normals}
 
 -- ---- tags
-
--- what a fault means for a tag, if so many nodes were counted before it
-abbrev pub TagShowsAfter : ℕ → TagFault → Value → Type 0
-TagShowsAfter used fault v = TagShowsIn fault (value.nodes v) (used + tag_nodes v)
-
--- the same for the members of a list
-abbrev pub TagsShowAfter : ℕ → TagFault → List Value → Type 0
-TagsShowAfter used fault vs =
-    TagShowsIn fault (value.nodes_all (values vs)) (used + tag_nodes_all (values vs))
 
 -- the first fault of a tag, if so many nodes were counted before it
 unfoldable pub fault_after : ℕ → Value → Option TagFault
@@ -50,9 +40,9 @@ pub record AreRead (used : ℕ) (vs : List Value) (ts : List Tag) (after : ℕ) 
 
 -- ---- ranges
 
--- what a fault means for a range with this ordering
-abbrev pub OrderingShows : TagFault → Value → Type 0
-OrderingShows fault v = (vs : List Value) → TagShows fault (starred (codes "range") (values (v ∷ vs)))
+-- the values are not at most one lower limit and then at most one upper limit
+abbrev pub AreNoLimits : List Value → Type 0
+AreNoLimits vs = (low up : Option Limit) → low_values low ++ up_values up ≢ vs
 
 -- not a limit after one of two words
 abbrev pub IsNoLimit : List ℕ → List ℕ → List Value → Type 0
@@ -62,16 +52,7 @@ IsNoLimit strict inclusive vs = (limit : Limit) → limit_values strict inclusiv
 abbrev pub AreLimits : Option Limit → Option Limit → List Value → Type 0
 AreLimits low up vs = low_values low ++ up_values up ≡ vs
 
--- what a fault means for a range with these limits
-abbrev pub LimitsShow : TagFault → List Value → Type 0
-LimitsShow fault vs =
-    (ordering : Ordering) → TagShows fault (starred (codes "range") (values (plain (ordering_name ordering) ∷ vs)))
-
 -- ---- requests
-
--- what a fault means for the members of a list
-abbrev pub RequestsShow : TagFault → List Value → Type 0
-RequestsShow fault vs = RequestShowsIn fault (value.nodes_all (values vs))
 
 -- the first fault of the members of a list
 unfoldable pub fault_of_requests : List Value → Option TagFault

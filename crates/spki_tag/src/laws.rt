@@ -5,7 +5,6 @@ ghost use Rattle.std.specs.List.{starts_with};
 ghost use Rattle.sexpr_core.specs.Octets.{HasOctets};
 ghost use Rattle.sexpr_core.specs.Value.{Value};
 ghost use Rattle.spki_tag.specs.FaultOf.{request_fault, tag_fault, tags_in};
-ghost use Rattle.spki_tag.specs.Faults.{TagShows, tag_nodes};
 ghost use Rattle.spki_tag.specs.declared.fault.TagFault.{TagFault};
 ghost use Rattle.spki_tag.specs.Index.{may_share, places_where, tags_at};
 ghost use Rattle.spki_tag.specs.Meet.{least_above, strict_limit, from, meet, nothing, row};
@@ -42,24 +41,14 @@ pub fn request_fault_none()
         → (request_fault v ≡ None) ↔ ((g : Request) × IsRequest g × (request_value g ≡ v)) }
 {}
 
-/// What the fault of a value as a tag means is true of the value.
-pub fn tag_fault_shows()
-    ensures { (v : Value) (fault : TagFault) → tag_fault v ≡ Some fault → TagShows fault v }
-{}
-
-/// A value contains as many tags as it has nodes of tags.
+/// A written tag contains as many tags as it has nodes.
 pub fn tags_counted()
-    ensures { (v : Value) → length (tags_in v) ≡ tag_nodes v }
+    ensures { (t : Tag) → IsTag t → length (tags_in (tag_value t)) ≡ nodes t }
 {}
 
 /// The normal form of a written tag is in normal form, contains the same requests and has no more nodes.
 pub fn normal_form()
     ensures { (t : Tag) → IsTag t → IsNormalOf t (normal t) }
-{}
-
-/// The value of a written tag has as many nodes of tags as the tag has nodes.
-pub fn nodes_as_written()
-    ensures { (t : Tag) → IsTag t → tag_nodes (tag_value t) ≡ nodes t }
 {}
 
 /// A prefix contains the strings from itself to below the least string above all strings that start with it.

@@ -5,9 +5,8 @@ ghost use Rattle.std.specs.List.{list_any};
 ghost use Rattle.sexpr_core.specs.Value.{Value, plain, values};
 ghost use Rattle.spki_tag.specs.Leaves.{ordering_of, limit_of, leaf_tag};
 ghost use Rattle.spki_tag.specs.Tag.{Ordering, tag_value, starred, ordering_name, limit_values};
-ghost use Rattle.spki_tag.specs.Faults.{AreNoLimits, TagShows};
 ghost use Rattle.spki_tag.specs.FaultOf.{IsNamed, is_hinted, limits_fault, range_fault};
-ghost use Rattle.spki_tag.specs.Steps.{AreLimits, IsNoLimit, LimitsShow, OrderingShows};
+ghost use Rattle.spki_tag.specs.Steps.{AreLimits, AreNoLimits, IsNoLimit};
 
 use crate::fault::TagFault;
 use crate::leaf::{Leaf, Limit, RangeOrdering};
@@ -52,7 +51,6 @@ fn ordering_named(name: &[u8]) -> Option<RangeOrdering>
 /// Reads the name of an ordering.
 fn read_ordering(name: &Node<'_, '_>) -> Result<RangeOrdering, TagFault>
     ensures read { IfOk result (λ ordering. name.now ≡ plain (ordering_name (ordering_of ordering))) }
-    ensures shows { IfErr result (λ fault. OrderingShows fault name.now) }
     ensures named { IfErr result (λ fault. (vs : List Value) → range_fault (name.now ∷ vs) ≡ Some fault) }
 {
     match name.kind() {
@@ -177,7 +175,6 @@ fn values_of<'d, 'a>(
 /// Reads the members after a range's ordering.
 fn read_limits(alloc: Global, rest: Members<'_, '_>) -> Result<Limits, TagFault>
     ensures read { IfOk result (λ p. AreLimits (limit_of p.0) (limit_of p.1) rest.entry) }
-    ensures shows { IfErr result (λ fault. LimitsShow fault rest.entry) }
     ensures named { IfErr result (λ fault. IsNamed fault (limits_fault rest.entry)) }
 {
     let values = values_of(alloc, rest)?;
@@ -193,7 +190,6 @@ fn read_limits(alloc: Global, rest: Members<'_, '_>) -> Result<Limits, TagFault>
 /// Reads the members after `*` and `range`.
 pub(crate) fn read_range(alloc: Global, further: Members<'_, '_>) -> Result<Leaf, TagFault>
     ensures read { IfOk result (λ leaf. tag_value (leaf_tag leaf) ≡ starred (codes "range") (values further.entry)) }
-    ensures shows { IfErr result (λ fault. TagShows fault (starred (codes "range") (values further.entry))) }
     ensures named { IfErr result (λ fault. IsNamed fault (range_fault further.entry)) }
 {
     match further.split_first() {

@@ -7,8 +7,7 @@ ghost use Rattle.spki_tag.specs.Tag.{Tag, IsTag, tag_value, starred, nodes};
 ghost use Rattle.spki_tag.specs.Request.{IsHead};
 ghost use Rattle.spki_tag.specs.Read.{ReadsAs, IsNoTag, most_read};
 ghost use Rattle.spki_tag.specs.FaultOf.{IsNamed, group_fault, list_fault, prefix_fault, tag_fault};
-ghost use Rattle.spki_tag.specs.Faults.{TagShows, RequestShows};
-ghost use Rattle.spki_tag.specs.Steps.{IsRead, AreRead, TagShowsAfter, TagsShowAfter, fault_after, fault_after_all};
+ghost use Rattle.spki_tag.specs.Steps.{IsRead, AreRead, fault_after, fault_after_all};
 
 use crate::fault::TagFault;
 use crate::leaf::Leaf;
@@ -26,8 +25,6 @@ const MOST_READ: usize = 1024;
 /// The octets of the first member of a list, which must be a string without a display hint.
 pub(crate) fn head_of<'a>(first: &Node<'_, 'a>) -> Result<&'a [u8], TagFault>
     ensures string { IfOk result (λ head. first.now ≡ plain head.now) }
-    ensures shows { IfErr result (λ fault. (vs : List Value)
-        → TagShows fault (group (first.now ∷ vs)) × RequestShows fault (group (first.now ∷ vs))) }
     ensures named { IfErr result (λ fault. (vs : List Value)
         → (list_fault (first.now ∷ vs) ≡ Some fault) × (group_fault (first.now ∷ vs) ≡ Some fault)) }
 {
@@ -41,7 +38,6 @@ pub(crate) fn head_of<'a>(first: &Node<'_, 'a>) -> Result<&'a [u8], TagFault>
 /// Reads the members after `*` and `prefix`.
 fn read_prefix(alloc: Global, further: Members<'_, '_>) -> Result<Leaf, TagFault>
     ensures read { IfOk result (λ leaf. tag_value (leaf_tag leaf) ≡ starred (codes "prefix") (values further.entry)) }
-    ensures shows { IfErr result (λ fault. TagShows fault (starred (codes "prefix") (values further.entry))) }
     ensures named { IfErr result (λ fault. IsNamed fault (prefix_fault further.entry)) }
 {
     match further.split_first() {
@@ -65,7 +61,6 @@ fn read_prefix(alloc: Global, further: Members<'_, '_>) -> Result<Leaf, TagFault
 #[cycle(read)]
 fn read_tag(alloc: Global, value: &Node<'_, '_>, used: usize) -> Result<(Tag, usize), TagFault>
     ensures read { IfOk result (λ p. IsRead used value.now p.0 p.1) }
-    ensures shows { IfErr result (λ fault. TagShowsAfter used fault value.now) }
     ensures named { IfErr result (λ fault. IsNamed fault (fault_after used value.now)) }
 {
     if used >= MOST_READ {
@@ -86,7 +81,6 @@ fn read_tag(alloc: Global, value: &Node<'_, '_>, used: usize) -> Result<(Tag, us
 fn read_list(alloc: Global, members: Members<'_, '_>, used: usize) -> Result<(Tag, usize), TagFault>
     requires { used < most_read }
     ensures read { IfOk result (λ p. IsRead used (group members.entry) p.0 p.1) }
-    ensures shows { IfErr result (λ fault. TagShowsAfter used fault (group members.entry)) }
     ensures named { IfErr result (λ fault. IsNamed fault (fault_after used (group members.entry))) }
 {
     match members.split_first() {
@@ -111,7 +105,6 @@ fn read_starred(
 ) -> Result<(Tag, usize), TagFault>
     requires { used < most_read }
     ensures read { IfOk result (λ p. IsRead used (group (plain (codes "*") ∷ further.entry)) p.0 p.1) }
-    ensures shows { IfErr result (λ fault. TagShowsAfter used fault (group (plain (codes "*") ∷ further.entry))) }
     ensures named { IfErr result (λ fault. IsNamed fault (fault_after used (group (plain (codes "*") ∷ further.entry)))) }
 {
     match further.split_first() {
@@ -134,7 +127,6 @@ fn read_form(
 ) -> Result<(Tag, usize), TagFault>
     requires { used < most_read }
     ensures read { IfOk result (λ p. IsRead used (starred word.now (values further.entry)) p.0 p.1) }
-    ensures shows { IfErr result (λ fault. TagShowsAfter used fault (starred word.now (values further.entry))) }
     ensures named { IfErr result (λ fault. IsNamed fault (fault_after used (starred word.now (values further.entry)))) }
 {
     if word == b"set".as_slice() {
@@ -153,7 +145,6 @@ fn read_form(
 fn read_set(alloc: Global, further: Members<'_, '_>, used: usize) -> Result<(Tag, usize), TagFault>
     requires { used < most_read }
     ensures read { IfOk result (λ p. IsRead used (starred (codes "set") (values further.entry)) p.0 p.1) }
-    ensures shows { IfErr result (λ fault. TagShowsAfter used fault (starred (codes "set") (values further.entry))) }
     ensures named { IfErr result (λ fault. IsNamed fault (fault_after used (starred (codes "set") (values further.entry)))) }
 {
     let (members, after) = read_members(alloc, further, used + 1)?;
@@ -171,7 +162,6 @@ fn read_plain_list(
     requires room { used < most_read }
     requires head { IsHead head.now }
     ensures read { IfOk result (λ p. IsRead used (group (plain head.now ∷ further.entry)) p.0 p.1) }
-    ensures shows { IfErr result (λ fault. TagShowsAfter used fault (group (plain head.now ∷ further.entry))) }
     ensures named { IfErr result (λ fault. IsNamed fault (fault_after used (group (plain head.now ∷ further.entry)))) }
 {
     if used + 1 >= MOST_READ {
@@ -191,7 +181,6 @@ fn read_members(
 ) -> Result<(Vec<Tag>, usize), TagFault>
     requires { used ≤ most_read }
     ensures read { IfOk result (λ p. AreRead used members.entry p.0.items p.1) }
-    ensures shows { IfErr result (λ fault. TagsShowAfter used fault members.entry) }
     ensures named { IfErr result (λ fault. IsNamed fault (fault_after_all used members.entry)) }
 {
     let mut tags = Vec::new(alloc);
@@ -221,7 +210,6 @@ impl Tag {
         ensures only { (t : Tag) → IsTag t → nodes t ≤ most_read → tag_value t ≡ value.now
             → IsOkUnless result TagFault.Memory }
         ensures refused { IfErr result (λ fault. IsNoTag fault value.now) }
-        ensures shows { IfErr result (λ fault. TagShows fault value.now) }
         ensures named { IfErr result (λ fault. IsNamed fault (tag_fault value.now)) }
         ensures faultless { IfOk result (λ tag. tag_fault value.now ≡ None) }
     {
@@ -240,7 +228,6 @@ impl Tag {
         ensures only { IfSome (node document.now n.0) (λ value.
             (t : Tag) → IsTag t → nodes t ≤ most_read → tag_value t ≡ value → IsOkUnless result TagFault.Memory) }
         ensures refused { IfSome (node document.now n.0) (λ value. IfErr result (λ fault. IsNoTag fault value)) }
-        ensures shows { IfSome (node document.now n.0) (λ value. IfErr result (λ fault. TagShows fault value)) }
         ensures named { IfSome (node document.now n.0) (λ value. IfErr result (λ fault. IsNamed fault (tag_fault value))) }
         ensures faultless { IfSome (node document.now n.0) (λ value. IfOk result (λ tag. tag_fault value ≡ None)) }
     {

@@ -3,11 +3,10 @@
 ghost use Rattle.std.specs.Prelude.{◌≡◌, ◌∷◌, None, IfOk, IfErr, IfSome, IsSome};
 ghost use Rattle.sexpr_core.specs.Value.{plain, group, node};
 ghost use Rattle.spki_tag.specs.FaultOf.{IsNamed, request_fault};
-ghost use Rattle.spki_tag.specs.Faults.{RequestShows};
 ghost use Rattle.spki_tag.specs.Read.{IsNoRequest};
 ghost use Rattle.spki_tag.specs.Request as spec;
 ghost use Rattle.spki_tag.specs.Request.{IsHead, IsRequest, request_value};
-ghost use Rattle.spki_tag.specs.Steps.{AreReadRequests, RequestsShow, fault_of_requests};
+ghost use Rattle.spki_tag.specs.Steps.{AreReadRequests, fault_of_requests};
 
 use crate::fault::TagFault;
 use crate::reader::head_of;
@@ -79,7 +78,6 @@ impl Ground {
 fn read_request(alloc: Global, value: &Node<'_, '_>) -> Result<Ground, TagFault>
     ensures request { IfOk result (λ g. IsRequest g) }
     ensures read { IfOk result (λ g. request_value g ≡ value.now) }
-    ensures shows { IfErr result (λ fault. RequestShows fault value.now) }
     ensures named { IfErr result (λ fault. IsNamed fault (request_fault value.now)) }
 {
     match value.kind() {
@@ -94,7 +92,6 @@ fn read_request(alloc: Global, value: &Node<'_, '_>) -> Result<Ground, TagFault>
 fn read_request_list(alloc: Global, members: Members<'_, '_>) -> Result<Ground, TagFault>
     ensures request { IfOk result (λ g. IsRequest g) }
     ensures read { IfOk result (λ g. request_value g ≡ group members.entry) }
-    ensures shows { IfErr result (λ fault. RequestShows fault (group members.entry)) }
     ensures named { IfErr result (λ fault. IsNamed fault (request_fault (group members.entry))) }
 {
     match members.split_first() {
@@ -116,7 +113,6 @@ fn read_headed(alloc: Global, head: &[u8], further: Members<'_, '_>) -> Result<G
     requires { IsHead head.now }
     ensures request { IfOk result (λ g. IsRequest g) }
     ensures read { IfOk result (λ g. request_value g ≡ group (plain head.now ∷ further.entry)) }
-    ensures shows { IfErr result (λ fault. RequestShows fault (group (plain head.now ∷ further.entry))) }
     ensures named { IfErr result (λ fault. IsNamed fault (request_fault (group (plain head.now ∷ further.entry)))) }
 {
     let members = read_request_members(alloc, further)?;
@@ -128,7 +124,6 @@ fn read_headed(alloc: Global, head: &[u8], further: Members<'_, '_>) -> Result<G
 #[cycle(read_request)]
 fn read_request_members(alloc: Global, members: Members<'_, '_>) -> Result<Vec<Ground>, TagFault>
     ensures read { IfOk result (λ gs. AreReadRequests members.entry gs.items) }
-    ensures shows { IfErr result (λ fault. RequestsShow fault members.entry) }
     ensures named { IfErr result (λ fault. IsNamed fault (fault_of_requests members.entry)) }
 {
     let mut requests = Vec::new(alloc);
@@ -152,7 +147,6 @@ impl Ground {
         ensures request { IfOk result (λ g. IsRequest g) }
         ensures read { IfOk result (λ g. request_value g ≡ value.now) }
         ensures refused { IfErr result (λ fault. IsNoRequest fault value.now) }
-        ensures shows { IfErr result (λ fault. RequestShows fault value.now) }
         ensures named { IfErr result (λ fault. IsNamed fault (request_fault value.now)) }
         ensures faultless { IfOk result (λ g. request_fault value.now ≡ None) }
     {
@@ -169,7 +163,6 @@ impl Ground {
         ensures request { IfOk result (λ g. IsRequest g) }
         ensures read { IfSome (node document.now n.0) (λ value. IfOk result (λ g. request_value g ≡ value)) }
         ensures refused { IfSome (node document.now n.0) (λ value. IfErr result (λ fault. IsNoRequest fault value)) }
-        ensures shows { IfSome (node document.now n.0) (λ value. IfErr result (λ fault. RequestShows fault value)) }
         ensures named { IfSome (node document.now n.0) (λ value. IfErr result (λ fault. IsNamed fault (request_fault value))) }
         ensures faultless { IfSome (node document.now n.0) (λ value. IfOk result (λ g. request_fault value ≡ None)) }
     {

@@ -1,8 +1,9 @@
 //! A caller of `spki_guard` that makes a case of its parts.
 
-ghost use Rattle.std.specs.Prelude.{◌≡◌, ◌≢◌, List, IfOk, IfErr};
+ghost use Rattle.std.specs.Prelude.{◌≡◌, ◌≢◌, List, Some, IfOk, IfErr};
 ghost use Rattle.spki_cert.specs.declared.certificate.SeqItem.{SeqItem};
-ghost use Rattle.spki_cert.specs.Sequences.{SeqOf, SeqRefused};
+ghost use Rattle.spki_cert.specs.Sequences.{SeqOf};
+ghost use Rattle.spki_cert.specs.SequenceFaults.{sequence_fault};
 ghost use Rattle.spki_case.specs.View.{model};
 ghost use Rattle.test_callers.specs.Asking.{asked_case};
 
@@ -37,7 +38,7 @@ pub fn case_of<'a>(
 ) -> Result<Case<'a>, CertFault>
     ensures case { IfOk result (λ case. (items : List SeqItem) × SeqOf shown.now items
         × (model case ≡ asked_case acl.entry.items items question.entry)) }
-    ensures refused { IfErr result (λ fault. fault.kind ≢ CertFaultKind.Memory → SeqRefused shown.now fault) }
+    ensures named { IfErr result (λ fault. fault.kind ≢ CertFaultKind.Memory → sequence_fault shown.now ≡ Some fault) }
 {
     let sequence = sequence_of(alloc, shown)?;
     let Ok(accepted) = AcceptedTable::new(alloc, Vec::new(alloc)) else {

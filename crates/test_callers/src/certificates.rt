@@ -1,10 +1,10 @@
 //! A caller of `spki_cert`.
 
-ghost use Rattle.std.specs.Prelude.{◌≡◌, ◌≢◌, ℕ, List, IfOk, IfErr, OnErr, MatchOption};
+ghost use Rattle.std.specs.Prelude.{◌≡◌, ◌≢◌, ℕ, List, Some, IfOk, IfErr, OnErr, MatchOption};
 ghost use Rattle.spki_cert.specs.declared.hash.HashAlg.TheVariants.{Sha256};
 ghost use Rattle.spki_cert.specs.Naming.{digest_of};
 ghost use Rattle.spki_cert.specs.Readings.{KeyOf, IsNoKey};
-ghost use Rattle.spki_cert.specs.Faults.{Shows};
+ghost use Rattle.spki_cert.specs.FixedFaults.{key_fault};
 
 use sexpr_core::Doc;
 use spki_cert::{CertFaultKind, HashAlg, Key, key_of};
@@ -19,7 +19,7 @@ pub fn pinned_key<'a>(document: &Doc<'a>, pin: &[u8]) -> Result<Option<Key<'a>>,
         × MatchOption found (digest_of Sha256 octets ≢ pin.now)
         (λ key. (key ≡ octets) × (digest_of Sha256 octets ≡ pin.now))) }
     ensures refused { OnErr result (IsNoKey document.now) }
-    ensures shown { IfErr result (λ kind. Shows kind document.now) }
+    ensures named { IfErr result (λ kind. key_fault document.now ≡ Some kind) }
 {
     let key = key_of(&document.top())?;
     if HashAlg::Sha256.fits(pin, key.as_slice()) {

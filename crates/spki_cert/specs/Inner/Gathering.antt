@@ -1,7 +1,7 @@
 -- What is known while subjects and fields are read.
-use Rattle.std.specs.Prelude.{◌≡◌, ◌≢◌, ℕ, ◌⊎◌, Bool, true, false, List, [], ◌∷◌, ◌++◌, ◌+◌, length, Option, Some, None, codes, is_some, not}
+use Rattle.std.specs.Prelude.{◌≡◌, ◌≢◌, ℕ, ◌⊎◌, Bool, true, false, List, [], ◌∷◌, Option, Some, None, codes, is_some, not}
 use Rattle.std.specs.Str.{bytes_eq}
-use Rattle.std.specs.List.{AllByRecursion, list_any}
+use Rattle.std.specs.List.{list_any}
 use Rattle.sexpr_core.specs.Value.{Value, plain, group}
 use Rattle.spki_tag.specs.Read.{ReadsAs}
 use Rattle.spki_cert.specs.declared.principal.Principal.{Principal}
@@ -21,7 +21,6 @@ use Rattle.spki_cert.specs.declared.entry.Subject.{Subject}
 use Rattle.spki_cert.specs.declared.certificate_reader.CertParts.{CertParts}
 use Rattle.spki_cert.specs.declared.certificate.SeqItem.{SeqItem}
 use Rattle.spki_cert.specs.declared.certificate.SeqItem.TheVariants as items
-use Rattle.spki_cert.specs.declared.fault.CertFault.{CertFault}
 use Rattle.spki_tag.specs.FirstFault.{first_fault, unless}
 use Rattle.spki_cert.specs.declared.hash.HashAlg.{HashAlg}
 use Rattle.spki_cert.specs.FixedFaults.{is_plain, any_octets, is_sized}
@@ -30,8 +29,7 @@ use Rattle.spki_cert.specs.Readings.{DateOf}
 use Rattle.spki_cert.specs.Subjects.{PrincipalOf, plains}
 use Rattle.spki_cert.specs.Fields.{is_headed, Sole, Given, IssuerIn, WhoIn, LimitsAre, ValidOf, IsField, IsCertField, AreFields, propagates, WindowOf}
 use Rattle.spki_cert.specs.Certificates.{IssuedBy, IssuedFor, AuthCertOf, NameCertOf}
-use Rattle.spki_cert.specs.Sequences.{AreInPlace, waits_after}
-use Rattle.spki_cert.specs.Faults.{Shows, IsUnknownVersion}
+use Rattle.spki_cert.specs.Sequences.{waits_after}
 
 -- ---- subjects
 
@@ -42,18 +40,6 @@ NamesWho vs None names =
 NamesWho vs (Some principal) names =
     (owner : Value) × (first : List ℕ) × (others : List (List ℕ))
     × PrincipalOf owner principal × (names ≡ first ∷ others) × (vs ≡ owner ∷ plains names)
-
--- a fault of a subject is true of the list that contains it: of the entry, or of the field subject
-abbrev pub SubjectShows : CertFaultKind → Value → Type 0
-SubjectShows kind v =
-    (word : List ℕ) (rest : List Value) → (word ≡ codes "entry") ⊎ (word ≡ codes "subject") → Shows kind (group (plain word ∷ v ∷ rest))
-
--- a fault of an algorithm is true of the list that contains it: after hash, or after do and hash
-abbrev pub AlgShows : CertFaultKind → Value → Type 0
-AlgShows kind v =
-    (w : Value) (rest : List Value)
-    → (w ≡ group (plain (codes "hash") ∷ v ∷ rest)) ⊎ (w ≡ group (plain (codes "do") ∷ plain (codes "hash") ∷ v ∷ rest))
-    → Shows kind w
 
 -- the fault of the digest of an algorithm
 abbrev pub digest_fault : HashAlg → Value → Option CertFaultKind
@@ -164,8 +150,7 @@ pub record IsNew (v : Value) (heads : List (List ℕ)) (head : List ℕ) : Type 
   pub fresh : is_word_among heads head ≡ false
 
 -- fields that were read, with these heads
-pub record AreRead (place : Place) (fields : List Value) (heads : List (List ℕ)) (k : Known) : Type 0 where
-  pub are_fields : AreFields (IsFieldOf place) fields
+pub record AreRead (fields : List Value) (heads : List (List ℕ)) (k : Known) : Type 0 where
   pub heads_are : (word : List ℕ) → is_word_among heads word ≡ list_any (is_headed word) fields
   pub known : KnownOf fields k
 
@@ -179,12 +164,6 @@ IsOneWay limits (Some window) w = (limits.not_before ≡ None) × (limits.not_af
 abbrev pub IsBothWays : Window → Option Window → Type 0
 IsBothWays limits None = ⊥
 IsBothWays limits (Some window) = (is_some limits.not_before ≡ true) ⊎ (is_some limits.not_after ≡ true)
-
--- ---- versions
-
--- why a version is refused
-abbrev pub IsVersionFault : CertFaultKind → Value → Type 0
-IsVersionFault kind v = (kind ≡ kinds.Shape) ⊎ ((kind ≡ kinds.UnknownVersion) × IsUnknownVersion v)
 
 -- ---- certificates
 
@@ -224,26 +203,7 @@ CertOf v (items.Signature s) = ⊥
 
 -- ---- sequences
 
--- The certificate among these items that is still without its signature, by its number.
-pub record WaitsAt (vs : List Value) (item : ℕ) : Type 0 where
-  pub front : List Value
-  pub cert : Value
-  pub between : List Value
-  pub parts : vs ≡ front ++ cert ∷ between
-  pub place : item ≡ length front + 1
-  pub in_place : AreInPlace false front
-  pub all_signed : waits_after false front ≡ false
-  pub is_cert : is_headed (codes "cert") cert ≡ true
-  pub only_do : AllByRecursion (λ w. is_headed (codes "do") w ≡ true) between
-
+-- the certificate among these items that is still without its signature, if there is one
 abbrev pub Waits : List Value → Option ℕ → Type 0
 Waits vs None = waits_after false vs ≡ false
-Waits vs (Some item) = WaitsAt vs item
-
--- the fault of an item's place
-abbrev pub IsMisplaced : Option ℕ → ℕ → Value → CertFault → Type 0
-IsMisplaced None number v fault =
-    (fault.item ≡ number) × (fault.kind ≡ kinds.StraySignature) × (is_headed (codes "signature") v ≡ true)
-IsMisplaced (Some item) number v fault =
-    (fault.item ≡ item) × (fault.kind ≡ kinds.UnsignedCert)
-    × (is_headed (codes "do") v ≡ false) × (is_headed (codes "signature") v ≡ false)
+Waits vs (Some item) = waits_after false vs ≡ true

@@ -12,28 +12,14 @@ use Rattle.spki_case.specs.RowFaults.{row_fault}
 use Rattle.spki_case.proofs.RowFaultLaws.{first-row}
 use Rattle.spki_case.proofs.rows.read_rows.Goals as goal
 
-pub returns-in-Err-clause-refused : goal.returns-in-Err-clause-refused
-returns-in-Err-clause-refused c =
+pub returns-in-Err-clause-named : goal.returns-in-Err-clause-named
+returns-in-Err-clause-named c =
     let i = c.loop-member.invariant in
-    let kept = map row_of c.loop-member.rows.items in
-    let long = AllZip-long RowOf i.0 kept i.2 in
+    let long = AllZip-long RowOf i.0 (map row_of c.loop-member.rows.items) i.2 in
     let same = length-map c.loop-member.rows.items row_of in
-    λ known. record {
-      found = known;
-      refused = c.in-Some.member;
-      place = record {
-        front = i.0;
-        behind = c.in-Some.others;
-        parts = split c.args.members i.0 c.loop-member.rest c.in-Some.others c.in-Some.member i.1 c.in-Some.ensures;
-        place = (let e = c.len-item.ensures in omega arith);
-        before = kept;
-        readings = i.2;
-        none = c.in-Err.ensures.refused;
-      };
-      shown = c.in-Err.ensures.shown.1;
-      named = first-row c.args.members i.0 c.loop-member.rest c.in-Some.others c.in-Some.member _ i.3 c.in-Some.ensures c.in-Err.ensures.named
-          (let e = c.len-item.ensures in omega arith);
-    }
+    λ known.
+    first-row c.args.members i.0 c.loop-member.rest c.in-Some.others c.in-Some.member _ i.3 c.in-Some.ensures c.in-Err.ensures.named
+    (let e = c.len-item.ensures in omega arith)
 
 pub loop-member-preserved : goal.loop-member-preserved
 loop-member-preserved c =

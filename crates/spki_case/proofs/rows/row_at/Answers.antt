@@ -1,44 +1,10 @@
-use Rattle.std.proofs.Common.{◌∷◌, [], ◌≡◌, Some, rules}
-use Rattle.std.specs.Prelude.{◌≢◌}
+use Rattle.std.proofs.Common.{[], ◌≡◌, Some, rules}
 use Rattle.spki_cert.specs.declared.fault.CertFaultKind.{CertFaultKind}
-use Rattle.spki_cert.specs.declared.fault.CertFaultKind.TheVariants as kinds
-use Rattle.spki_cert.proofs.Showing.{carried}
+use Rattle.spki_cert.proofs.Looking.{carried}
 use Rattle.spki_cert.proofs.Triples.{triple-unheaded, triple-empty, triple-first, triple-one, triple-second, triple-two, triple-surplus, triple-whole}
-use Rattle.spki_case.specs.Case.{Row}
-use Rattle.spki_case.specs.Rows.{RowOf, RowShows}
-use Rattle.spki_case.proofs.RowLaws.{no_key, no_sha256, shown_by_key, shown_by_hash}
 use Rattle.spki_case.specs.RowFaults.{row_fault}
 use Rattle.spki_case.proofs.RowFaultLaws.{row-looks}
 use Rattle.spki_case.proofs.rows.row_at.Goals as goal
-
-pub returns-in_default-clause-refused : goal.returns-in_default-clause-refused
-returns-in_default-clause-refused c = λ row r. c.in_default.ensures (r.key ∷ r.hash ∷ r.value ∷ []) r.written
-
-pub returns-in_err-key-clause-refused : goal.returns-in_err-key-clause-refused
-returns-in_err-key-clause-refused c =
-    carried c.from_residual.result _ (λ (_ : CertFaultKind). (row : Row) → ¬ RowOf c.args.node.now row) c.from_residual.ensures.1
-    (no_key c.args.node.now c.in-Some-split_first.key c.in-Some.rest c.in-Some-split_first.rest c.in-Some.ensures c.in-Some-split_first.ensures c.in_err-key.ensures.refused)
-
-pub returns-in_err-key-clause-shown : goal.returns-in_err-key-clause-shown
-returns-in_err-key-clause-shown c =
-    carried c.from_residual.result _ (λ (kind : CertFaultKind). (kind ≢ kinds.Memory) × RowShows kind c.args.node.now) c.from_residual.ensures.1 (
-      c.in_err-key.ensures.fault,
-      shown_by_key _ c.args.node.now c.in-Some-split_first.key c.in-Some.rest c.in-Some-split_first.rest c.in-Some.ensures c.in-Some-split_first.ensures c.in_err-key.ensures.shown,
-    )
-
-pub returns-in_err-digest-clause-refused : goal.returns-in_err-digest-clause-refused
-returns-in_err-digest-clause-refused c =
-    carried c.from_residual-in_err-digest.result _ (λ (_ : CertFaultKind). (row : Row) → ¬ RowOf c.args.node.now row) c.from_residual-in_err-digest.ensures.1
-    (no_sha256 c.args.node.now c.in-Some-split_first.key c.in-Some-split_first-2.hash c.in-Some.rest c.in-Some-split_first.rest c.in-Some-split_first-2.rest
-    c.in-Some.ensures c.in-Some-split_first.ensures c.in-Some-split_first-2.ensures c.in_err-digest.ensures.refused)
-
-pub returns-in_err-digest-clause-shown : goal.returns-in_err-digest-clause-shown
-returns-in_err-digest-clause-shown c =
-    carried c.from_residual-in_err-digest.result _ (λ (kind : CertFaultKind). (kind ≢ kinds.Memory) × RowShows kind c.args.node.now) c.from_residual-in_err-digest.ensures.1 (
-      c.in_err-digest.ensures.shown.0,
-      shown_by_hash _ c.args.node.now c.in-Some-split_first.key c.in-Some-split_first-2.hash c.in-Some.rest c.in-Some-split_first.rest c.in-Some-split_first-2.rest
-          c.in-Some.ensures c.in-Some-split_first.ensures c.in-Some-split_first-2.ensures c.in_err-digest.ensures.shown.1,
-    )
 
 pub returns-in_default-clause-named : goal.returns-in_default-clause-named
 returns-in_default-clause-named c = triple-unheaded row-looks c.args.node.now c.in_default.ensures

@@ -1,17 +1,9 @@
-use Rattle.std.proofs.Common.{ℕ, List, ◌≡◌, Some, refl, inr}
-use Rattle.spki_cert.specs.declared.hash.HashAlg.TheVariants.{Sha256}
+use Rattle.std.proofs.Common.{◌≡◌, Some}
 use Rattle.spki_cert.specs.declared.fault.CertFaultKind.{CertFaultKind}
-use Rattle.spki_cert.specs.Readings.{HashOf}
-use Rattle.spki_cert.proofs.OneReading.{hash-one}
-use Rattle.spki_cert.proofs.Showing.{carried}
+use Rattle.spki_cert.proofs.Looking.{carried}
 use Rattle.spki_case.specs.RowFaults.{sha256_fault}
 use Rattle.spki_case.proofs.RowFaultLaws.{sha256-hash, sha256-whole, sha256-other, not-sha256}
 use Rattle.spki_case.proofs.rows.sha256_of.Goals as goal
-
-pub returns-in_err-alg-clause-refused : goal.returns-in_err-alg-clause-refused
-returns-in_err-alg-clause-refused c =
-    carried c.from_residual.result _ (λ (_ : CertFaultKind). (digest : List ℕ) → ¬ HashOf c.args.node.now Sha256 digest) c.from_residual.ensures.1
-    (λ digest h. c.in_err-alg.ensures.refused Sha256 digest h)
 
 pub returns-in_err-alg-clause-named : goal.returns-in_err-alg-clause-named
 returns-in_err-alg-clause-named c =
@@ -22,14 +14,6 @@ pub returns-in-Sha256-clause-faultless : goal.returns-in-Sha256-clause-faultless
 returns-in-Sha256-clause-faultless c =
     sha256-whole c.args.node.now c.in_ok-alg.alg _ c.in_ok-alg.ensures.faultless c.in_ok-alg.ensures.hash c.in-Sha256.is
 
-pub returns-in-Sha1 : goal.returns-in-Sha1
-returns-in-Sha1 c =
-    let other = not-sha256 c.in_ok-alg.alg c.in-Sha1.is in
-    let read = c.in_ok-alg.ensures.hash in
-    record {
-      digest = tt;
-      refused = λ digest h. absurd (other (hash-one c.args.node.now c.in_ok-alg.alg Sha256 c.in_ok-alg.digest digest read h).0);
-      shown = (λ e. absurd (cc), inr (refl, c.in_ok-alg.alg, c.in_ok-alg.digest, read, other));
-      faultless = tt;
-      named = sha256-other c.args.node.now c.in_ok-alg.alg _ c.in_ok-alg.ensures.faultless read other;
-    }
+pub returns-in-Sha1-clause-named : goal.returns-in-Sha1-clause-named
+returns-in-Sha1-clause-named c =
+    sha256-other c.args.node.now c.in_ok-alg.alg _ c.in_ok-alg.ensures.faultless c.in_ok-alg.ensures.hash (not-sha256 c.in_ok-alg.alg c.in-Sha1.is)

@@ -1,12 +1,9 @@
-use Rattle.std.proofs.Common.{subst, sym, ◌∙◌, ◌≡◌, Some}
+use Rattle.std.proofs.Common.{◌∙◌, ◌≡◌, Some}
 use Rattle.std.specs.Prelude.{codes}
-use Rattle.sexpr_core.specs.Value.{Value}
 use Rattle.spki_cert.specs.declared.fault.CertFaultKind.{CertFaultKind}
-use Rattle.spki_cert.specs.Entries.{OuterRefused}
-use Rattle.spki_cert.specs.Inner.Gathering.{IsVersionFault}
-use Rattle.spki_cert.proofs.Showing.{carried}
+use Rattle.spki_cert.proofs.Looking.{carried}
 use Rattle.spki_cert.proofs.Groups.{same_others}
-use Rattle.spki_cert.proofs.EntryLaws.{unversioned, misfit}
+use Rattle.spki_cert.proofs.EntryLaws.{unversioned}
 use Rattle.spki_cert.specs.EntryFaults.{outer_fault}
 use Rattle.spki_cert.proofs.EntryFaultLaws.{outer-unheaded, outer-empty, outer-unversioned, outer-versioned}
 use Rattle.spki_cert.proofs.acl.behind_version.Goals as goal
@@ -17,13 +14,6 @@ returns-in_default-headed-2-clause-found c =
     let found = unversioned c.args.node.now c.in-Some-headed.members c.in-Some-split_first.first c.in-Some-split_first.others
     c.in-Some-headed.ensures c.in-Some-split_first.ensures c.in_default-headed-2.ensures in
     (found.0, found.1, found.2, same ∙ found.3)
-
-pub returns-in_err-check_version-clause-refused : goal.returns-in_err-check_version-clause-refused
-returns-in_err-check_version-clause-refused c =
-    carried c.from_residual.result _ (λ (kind : CertFaultKind). OuterRefused c.args.node.now kind) c.from_residual.ensures.1
-    (misfit c.args.node.now c.in-Some-headed.members c.in-Some-split_first.first c.in-Some-split_first.others c.in-Some-headed-2.version _
-    c.in-Some-headed.ensures c.in-Some-split_first.ensures c.in-Some-headed-2.ensures c.in_err-check_version.ensures.refused
-    (subst (λ (v : Value). IsVersionFault c.in_err-check_version.field-0.0 v) (sym c.in-Some-headed-2.ensures) c.in_err-check_version.ensures.fault))
 
 pub returns-in_default-clause-named : goal.returns-in_default-clause-named
 returns-in_default-clause-named c = outer-unheaded c.args.node.now c.in_default.ensures

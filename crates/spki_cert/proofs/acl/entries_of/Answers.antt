@@ -9,24 +9,6 @@ use Rattle.spki_cert.specs.EntryFaults.{entry_fault, entries_fault}
 use Rattle.spki_cert.proofs.EntryFaultLaws.{items-all, items-fault, items-next, items-none}
 use Rattle.spki_cert.proofs.acl.entries_of.Goals as goal
 
-pub returns-in-Err-clause-refused : goal.returns-in-Err-clause-refused
-returns-in-Err-clause-refused c =
-    let i = c.loop-member.invariant in
-    let long = AllZip-long EntryOf i.0 c.loop-member.entries.items i.2 in
-    λ known. (
-      c.in-Some.member,
-      record {
-        front = i.0;
-        behind = c.in-Some.others;
-        parts = split c.args.members i.0 c.loop-member.rest c.in-Some.others c.in-Some.member i.1 c.in-Some.ensures;
-        place = (let e = c.len-item.ensures in omega arith);
-        before = c.loop-member.entries.items;
-        readings = i.2;
-        none = c.in-Err.ensures.refused known;
-      },
-      c.in-Err.ensures.shown,
-    )
-
 pub loop-member-preserved : goal.loop-member-preserved
 loop-member-preserved c =
     let i = c.loop-member.invariant in

@@ -3,10 +3,9 @@ use Rattle.std.specs.Prelude.{codes}
 use Rattle.sexpr_core.specs.Value.{Value, plain, group}
 use Rattle.spki_cert.specs.declared.fault.CertFaultKind.{CertFaultKind}
 use Rattle.spki_cert.specs.declared.fault.CertFaultKind.TheVariants.{Memory}
-use Rattle.spki_cert.proofs.Showing.{carried}
+use Rattle.spki_cert.proofs.Looking.{carried}
 use Rattle.std.proofs.lemmas.Result.{IfErr-weaker}
 use Rattle.spki_cert.proofs.EntryFaultNone.{entry-refused}
-use Rattle.spki_cert.proofs.FaultShows.{shown-named, entry-shows}
 use Rattle.std.specs.Prelude.{is_some}
 use Rattle.spki_tag.specs.Tag as tags
 use Rattle.spki_cert.specs.EntryFaults.{entry_fault}
@@ -37,19 +36,19 @@ returns-in_err-propagate-clause-named c =
 pub returns-in_default-one_way-clause-named : goal.returns-in_default-one_way-clause-named
 returns-in_default-one_way-clause-named c = λ _.
     entry-both_ways c.args.node.now _ _ c.in-Some-split_first.rest c.in-Some.ensures c.in-Some-split_first.ensures c.in_ok-subject.ensures.faultless c.in_ok-propagate.ensures.faultless
-    (both-ways c.in-Some-split_first.rest c.in_ok-propagate.field-0.known c.in_ok-propagate.ensures.found.2 c.in_default-one_way.ensures)
+    (both-ways c.in-Some-split_first.rest c.in_ok-propagate.field-0.known c.in_ok-propagate.ensures.found.1 c.in_default-one_way.ensures)
 
 pub returns-in_default-tag-clause-named : goal.returns-in_default-tag-clause-named
 returns-in_default-tag-clause-named c = λ _.
     entry-tagged c.args.node.now _ _ c.in-Some-split_first.rest false c.in-Some.ensures c.in-Some-split_first.ensures c.in_ok-subject.ensures.faultless c.in_ok-propagate.ensures.faultless
-    (one-way c.in-Some-split_first.rest c.in_ok-propagate.field-0.known _ c.in_ok-propagate.ensures.found.2 c.in-Some-one_way.ensures)
-    (has-tag c.in-Some-split_first.rest c.in_ok-propagate.field-0.known c.in_ok-propagate.ensures.found.2 ∙ ap (λ (t : Option tags.Tag). is_some t) c.in_default-tag.is)
+    (one-way c.in-Some-split_first.rest c.in_ok-propagate.field-0.known _ c.in_ok-propagate.ensures.found.1 c.in-Some-one_way.ensures)
+    (has-tag c.in-Some-split_first.rest c.in_ok-propagate.field-0.known c.in_ok-propagate.ensures.found.1 ∙ ap (λ (t : Option tags.Tag). is_some t) c.in_default-tag.is)
 
 pub returns-clause-faultless : goal.returns-clause-faultless
 returns-clause-faultless c =
     entry-tagged c.args.node.now _ _ c.in-Some-split_first.rest true c.in-Some.ensures c.in-Some-split_first.ensures c.in_ok-subject.ensures.faultless c.in_ok-propagate.ensures.faultless
-    (one-way c.in-Some-split_first.rest c.in_ok-propagate.field-0.known _ c.in_ok-propagate.ensures.found.2 c.in-Some-one_way.ensures)
-    (has-tag c.in-Some-split_first.rest c.in_ok-propagate.field-0.known c.in_ok-propagate.ensures.found.2 ∙ ap (λ (t : Option tags.Tag). is_some t) c.in-Some-tag.is)
+    (one-way c.in-Some-split_first.rest c.in_ok-propagate.field-0.known _ c.in_ok-propagate.ensures.found.1 c.in-Some-one_way.ensures)
+    (has-tag c.in-Some-split_first.rest c.in_ok-propagate.field-0.known c.in_ok-propagate.ensures.found.1 ∙ ap (λ (t : Option tags.Tag). is_some t) c.in-Some-tag.is)
 
 pub returns-in_default-clause-refused : goal.returns-in_default-clause-refused
 returns-in_default-clause-refused c = λ known. entry-refused c.args.node.now _ (returns-in_default-clause-named c known)
@@ -65,9 +64,3 @@ returns-in_default-one_way-clause-refused c = λ known. entry-refused c.args.nod
 
 pub returns-in_default-tag-clause-refused : goal.returns-in_default-tag-clause-refused
 returns-in_default-tag-clause-refused c = λ known. entry-refused c.args.node.now _ (returns-in_default-tag-clause-named c known)
-
-pub returns-in_err-subject-clause-shown : goal.returns-in_err-subject-clause-shown
-returns-in_err-subject-clause-shown c = IfErr-weaker c.from_residual.result _ _ (λ kind named. shown-named kind c.args.node.now (λ known. entry-shows c.args.node.now kind (named known))) (returns-in_err-subject-clause-named c)
-
-pub returns-in_err-propagate-clause-shown : goal.returns-in_err-propagate-clause-shown
-returns-in_err-propagate-clause-shown c = IfErr-weaker c.from_residual-in_err-propagate.result _ _ (λ kind named. shown-named kind c.args.node.now (λ known. entry-shows c.args.node.now kind (named known))) (returns-in_err-propagate-clause-named c)

@@ -3,7 +3,7 @@ use Rattle.spki_cert.specs.declared.principal.Principal.{Principal}
 use Rattle.spki_cert.specs.declared.fault.CertFaultKind.{CertFaultKind}
 use Rattle.spki_cert.specs.declared.fault.CertFaultKind.TheVariants.{Memory}
 use Rattle.spki_cert.specs.Subjects.{WhoOf}
-use Rattle.spki_cert.proofs.Showing.{carried}
+use Rattle.spki_cert.proofs.Looking.{carried}
 use Rattle.spki_cert.specs.SubjectFaults.{entry_subject_fault}
 use Rattle.spki_cert.proofs.EntryFaultLaws.{subject-found, subject-absolute, subject-relative}
 use Rattle.spki_cert.proofs.acl.entry_subject.Goals as goal

@@ -2,7 +2,7 @@ use Rattle.std.proofs.Common.{◌≢◌, Option, ℕ, List, ◌≡◌, Some, tru
 use Rattle.spki_tag.specs.Tag as tags
 use Rattle.spki_cert.specs.declared.fault.CertFaultKind.{CertFaultKind}
 use Rattle.spki_cert.specs.declared.fault.CertFaultKind.TheVariants.{Memory}
-use Rattle.spki_cert.proofs.Showing.{carried}
+use Rattle.spki_cert.proofs.Looking.{carried}
 use Rattle.std.specs.Prelude.{is_some}
 use Rattle.spki_cert.specs.ItemFaults.{cert_fault}
 use Rattle.spki_cert.proofs.SequenceFaultLaws.{cert-unheaded, cert-parts, cert-tagged, tagged-right}
@@ -16,12 +16,6 @@ returns-in_err-issuer-clause-named c =
     carried c.from_residual.result _ (λ (kind : CertFaultKind). kind ≢ Memory → cert_fault c.args.node.now ≡ Some kind) c.from_residual.ensures.1
     (λ known. cert-parts c.args.node.now _ _ c.in-Some.ensures (c.in_err-issuer.ensures.named known))
 
-pub returns-in-None-Some-clause-faultless : goal.returns-in-None-Some-clause-faultless
-returns-in-None-Some-clause-faultless c =
-    cert-tagged c.args.node.now c.in-Some.members true c.in-Some.ensures c.in_ok-issuer.ensures.faultless
-    (tagged-right c.in-Some.members c.in_ok-issuer.field-0 false true c.in_ok-issuer.field-0.propagate c.in_ok-issuer.ensures.found
-    (ap (λ (x : Option (List ℕ)). is_some x) c.in-None-Some.is-0) (ap (λ (x : Option tags.Tag). is_some x) c.in-None-Some.is-1) refl)
-
 pub returns-in-None-None-clause-named : goal.returns-in-None-None-clause-named
 returns-in-None-None-clause-named c = λ _.
     cert-tagged c.args.node.now c.in-Some.members false c.in-Some.ensures c.in_ok-issuer.ensures.faultless
@@ -33,12 +27,6 @@ returns-then-propagate-clause-named c = λ _.
     cert-tagged c.args.node.now c.in-Some.members false c.in-Some.ensures c.in_ok-issuer.ensures.faultless
     (tagged-right c.in-Some.members c.in_ok-issuer.field-0 true false true c.in_ok-issuer.ensures.found
     (ap (λ (x : Option (List ℕ)). is_some x) c.in-Some-None.is-0) (ap (λ (x : Option tags.Tag). is_some x) c.in-Some-None.is-1) c.if-propagate.true)
-
-pub returns-in-Some-None-clause-faultless : goal.returns-in-Some-None-clause-faultless
-returns-in-Some-None-clause-faultless c =
-    cert-tagged c.args.node.now c.in-Some.members true c.in-Some.ensures c.in_ok-issuer.ensures.faultless
-    (tagged-right c.in-Some.members c.in_ok-issuer.field-0 true false false c.in_ok-issuer.ensures.found
-    (ap (λ (x : Option (List ℕ)). is_some x) c.in-Some-None.is-0) (ap (λ (x : Option tags.Tag). is_some x) c.in-Some-None.is-1) c.if-propagate.false)
 
 pub returns-clause-named : goal.returns-clause-named
 returns-clause-named c = λ _.

@@ -3,12 +3,13 @@ use Rattle.spki_cert.specs.declared.fault.CertFaultKind.{CertFaultKind}
 use Rattle.spki_cert.specs.declared.fault.CertFaultKind.TheVariants.{Memory}
 use Rattle.spki_cert.specs.declared.fields.Known.{Known}
 use Rattle.spki_cert.specs.Inner.Gathering.{AreRead, IsNew, gather, fault_in}
-use Rattle.spki_cert.proofs.Showing.{carried}
+use Rattle.spki_cert.proofs.Looking.{carried}
 use Rattle.spki_cert.proofs.Groups.{split, moved}
 use Rattle.spki_cert.proofs.KnownLaws.{read-none, read-more}
 use Rattle.spki_cert.specs.declared.fault.CertFaultKind.TheVariants.{Shape}
 use Rattle.spki_cert.specs.FieldFaults.{fields_fault}
 use Rattle.spki_cert.proofs.FieldFaultLaws.{left-all, left-fault, left-next, left-none, field-new, field-not_new, field-is_new}
+use Rattle.spki_cert.proofs.FieldFaultNone.{fields-read}
 use Rattle.spki_cert.proofs.fields.fields_of.Goals as goal
 
 pub loop-field-preserved : goal.loop-field-preserved
@@ -17,16 +18,16 @@ loop-field-preserved c =
     let e : c.args.members ≡ i.0 ++ c.in-Some.field ∷ c.in-Some.others = split c.args.members i.0 c.loop-field.rest c.in-Some.others c.in-Some.field i.1 c.in-Some.ensures in
     let new : IsNew c.in-Some.field c.loop-field.heads.items c.in-Some-new_head.head.now =
     subst (λ (hs : List (List ℕ)). IsNew c.in-Some.field hs c.in-Some-new_head.head.now) c.deref.ensures.value c.in-Some-new_head.ensures in
-    let more = read-more c.args.place i.0 c.loop-field.heads.items c.loop-field.known c.in-Some.field c.in-Some-new_head.head.now c.in_ok-said.said
-    i.2 new c.in_ok-said.ensures.found c.in_ok-said.ensures.says in (
+    let more = read-more i.0 c.loop-field.heads.items c.loop-field.known c.in-Some.field c.in-Some-new_head.head.now c.in_ok-said.said
+    i.2 new c.in_ok-said.ensures.says in (
       i.0 ++ c.in-Some.field ∷ [],
       moved c.args.members i.0 c.in-Some.others c.in-Some.field e,
-      subst (λ (k : Known). AreRead c.args.place (i.0 ++ c.in-Some.field ∷ []) c.push.new.self.items k) (sym c.add.ensures)
-          (subst (λ (hs : List (List ℕ)). AreRead c.args.place (i.0 ++ c.in-Some.field ∷ []) hs (gather c.loop-field.known c.in_ok-said.said))
+      subst (λ (k : Known). AreRead (i.0 ++ c.in-Some.field ∷ []) c.push.new.self.items k) (sym c.add.ensures)
+          (subst (λ (hs : List (List ℕ)). AreRead (i.0 ++ c.in-Some.field ∷ []) hs (gather c.loop-field.known c.in_ok-said.said))
           (sym (c.in_ok-push.ensures.items ∙ ap (λ (h : List ℕ). c.loop-field.heads.items ++ h ∷ []) c.new.ensures)) more),
       left-next (fault_in c.args.place) c.args.members i.0 c.loop-field.rest c.in-Some.others c.in-Some.field i.3 c.in-Some.ensures
           (field-new (fault_in c.args.place) i.0 c.in-Some.field _
-          (field-is_new c.args.place i.0 c.loop-field.heads.items c.loop-field.known c.in-Some.field c.in-Some-new_head.head.now i.2 new) c.in_ok-said.ensures.faultless),
+          (field-is_new i.0 c.loop-field.heads.items c.loop-field.known c.in-Some.field c.in-Some-new_head.head.now i.2 new) c.in_ok-said.ensures.faultless),
     )
 
 pub loop-field-init : goal.loop-field-init
@@ -34,8 +35,8 @@ loop-field-init c = (
   [],
   refl,
   subst
-      (λ (hs : List (List ℕ)). AreRead c.args.place [] hs (record { issuer = None; subject = None; tag = None; limits = record { not_before = None; not_after = None }; valid = None }))
-      (sym c.new-heads.ensures.items) (read-none c.args.place),
+      (λ (hs : List (List ℕ)). AreRead [] hs (record { issuer = None; subject = None; tag = None; limits = record { not_before = None; not_after = None }; valid = None }))
+      (sym c.new-heads.ensures.items) read-none,
   left-all (fault_in c.args.place) c.args.members,
 )
 
@@ -57,9 +58,12 @@ returns-in_err-said-clause-named c =
     (λ known.
     left-fault (fault_in c.args.place) c.args.members i.0 c.loop-field.rest c.in-Some.others c.in-Some.field _ i.3 c.in-Some.ensures
     (field-new (fault_in c.args.place) i.0 c.in-Some.field _
-    (field-is_new c.args.place i.0 c.loop-field.heads.items c.loop-field.known c.in-Some.field c.in-Some-new_head.head.now i.2 new) (c.in_err-said.ensures.named known)))
+    (field-is_new i.0 c.loop-field.heads.items c.loop-field.known c.in-Some.field c.in-Some-new_head.head.now i.2 new) (c.in_err-said.ensures.named known)))
 
 pub returns-clause-faultless : goal.returns-clause-faultless
 returns-clause-faultless c =
     let i = c.loop-field.invariant in
     let e : c.loop-field.rest ≡ [] = search rules in left-none (fault_in c.args.place) c.args.members i.0 c.loop-field.rest i.3 e
+
+pub returns-clause-are_fields : goal.returns-clause-are_fields
+returns-clause-are_fields c = fields-read c.args.place c.args.members (returns-clause-faultless c)

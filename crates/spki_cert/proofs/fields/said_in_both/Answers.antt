@@ -2,23 +2,13 @@ use Rattle.std.proofs.Common.{◌≢◌, ◌≡◌, ◌∙◌, Some, [], List, a
 use Rattle.std.proofs.lemmas.Result.{IfErr-weaker, IfOk-weaker}
 use Rattle.spki_cert.specs.declared.fault.CertFaultKind.{CertFaultKind}
 use Rattle.spki_cert.specs.declared.fault.CertFaultKind.TheVariants.{Memory}
-use Rattle.spki_cert.specs.Fields.{tag, time, comment}
-use Rattle.spki_cert.proofs.Showing.{carried}
+use Rattle.spki_cert.proofs.Looking.{carried}
 use Rattle.sexpr_core.specs.Value.{Value}
 use Rattle.spki_cert.specs.declared.fault.CertFaultKind.TheVariants.{Shape}
 use Rattle.spki_cert.specs.Places.{unless_none}
 use Rattle.spki_cert.specs.FieldFaults.{entry_field_fault}
 use Rattle.spki_cert.proofs.FieldFaultLaws.{entry-tag_field, entry-propagate, entry-comment, entry-time, none-some}
 use Rattle.spki_cert.proofs.fields.said_in_both.Goals as goal
-
-pub returns-in-Some-clause-found : goal.returns-in-Some-clause-found
-returns-in-Some-clause-found c = tag c.in-Some.members c.in_ok-tag_in.field-0 c.in-Some.ensures c.in_ok-tag_in.ensures.found
-
-pub returns-in-Some-headed-2-clause-found : goal.returns-in-Some-headed-2-clause-found
-returns-in-Some-headed-2-clause-found c = comment c.in-Some-headed-2.field-0 c.in-Some-headed-2.ensures
-
-pub returns-clause-found : goal.returns-clause-found
-returns-clause-found c = IfOk-weaker c.said_of_time.result _ _ (λ _ f. time f) c.said_of_time.ensures.found
 
 pub returns-in_err-tag_in-clause-named : goal.returns-in_err-tag_in-clause-named
 returns-in_err-tag_in-clause-named c =

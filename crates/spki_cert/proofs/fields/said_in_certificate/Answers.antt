@@ -2,23 +2,10 @@ use Rattle.std.proofs.Common.{◌≢◌, ◌≡◌, ◌∙◌, Some}
 use Rattle.std.proofs.lemmas.Result.{IfErr-weaker, IfOk-weaker}
 use Rattle.spki_cert.specs.declared.fault.CertFaultKind.{CertFaultKind}
 use Rattle.spki_cert.specs.declared.fault.CertFaultKind.TheVariants.{Memory}
-use Rattle.spki_cert.specs.Fields.{common, issuer, subject, unread}
-use Rattle.spki_cert.proofs.Showing.{carried}
+use Rattle.spki_cert.proofs.Looking.{carried}
 use Rattle.spki_cert.specs.FieldFaults.{cert_field_fault}
 use Rattle.spki_cert.proofs.FieldFaultLaws.{cert-issuer_field, cert-subject_field, cert-version_field, cert-unread, cert-common}
 use Rattle.spki_cert.proofs.fields.said_in_certificate.Goals as goal
-
-pub returns-in-Some-clause-found : goal.returns-in-Some-clause-found
-returns-in-Some-clause-found c = issuer c.in-Some.members (c.in_ok-issuer_in.field-0.principal, c.in_ok-issuer_in.field-0.name) c.in-Some.ensures c.in_ok-issuer_in.ensures.found
-
-pub returns-in-Some-headed-clause-found : goal.returns-in-Some-headed-clause-found
-returns-in-Some-headed-clause-found c = subject c.in-Some-headed.members (c.in_ok-subject_in.field-0.principal, c.in_ok-subject_in.field-0.names.items) c.in-Some-headed.ensures c.in_ok-subject_in.ensures.found
-
-pub returns-then-is_unread-clause-found : goal.returns-then-is_unread-clause-found
-returns-then-is_unread-clause-found c = unread c.if-is_unread.ensures
-
-pub returns-clause-found : goal.returns-clause-found
-returns-clause-found c = IfOk-weaker c.said_in_both.result _ _ (λ _ f. common f) c.said_in_both.ensures.found
 
 pub returns-in_err-issuer_in-clause-named : goal.returns-in_err-issuer_in-clause-named
 returns-in_err-issuer_in-clause-named c =

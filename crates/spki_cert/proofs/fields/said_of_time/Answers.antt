@@ -1,17 +1,12 @@
 use Rattle.std.proofs.Common.{◌≡◌, ◌∙◌, refl, Some}
 use Rattle.std.specs.Prelude.{codes}
 use Rattle.spki_cert.specs.declared.fault.CertFaultKind.{CertFaultKind}
-use Rattle.spki_cert.specs.Fields.{valid as limits_field}
-use Rattle.spki_cert.proofs.Showing.{carried}
+use Rattle.spki_cert.proofs.Looking.{carried}
 use Rattle.spki_cert.specs.FieldFaults.{time_fault}
 use Rattle.spki_cert.proofs.Groups.{not-headed}
 use Rattle.spki_cert.proofs.SubjectFaultLaws.{headed-else}
 use Rattle.spki_cert.proofs.FieldFaultLaws.{time-valid as time-valid_field, time-limit, limit-first, limit-last, limit-online, limit-other}
 use Rattle.spki_cert.proofs.fields.said_of_time.Goals as goal
-
-pub returns-in-Some-headed-2-clause-found : goal.returns-in-Some-headed-2-clause-found
-returns-in-Some-headed-2-clause-found c =
-    limits_field c.in-Some-headed-2.members c.in_ok-valid_in.field-0 c.in-Some-headed-2.ensures c.in_ok-valid_in.ensures.found
 
 pub returns-in_err-date_in-clause-named : goal.returns-in_err-date_in-clause-named
 returns-in_err-date_in-clause-named c =

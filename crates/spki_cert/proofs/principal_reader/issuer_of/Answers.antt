@@ -1,5 +1,5 @@
 use Rattle.spki_cert.specs.declared.fault.CertFaultKind.{CertFaultKind}
-use Rattle.spki_cert.proofs.Showing.{carried}
+use Rattle.spki_cert.proofs.Looking.{carried}
 use Rattle.std.proofs.Common.{◌≡◌, [], Some, rules}
 use Rattle.spki_cert.specs.SubjectFaults.{issuer_fault}
 use Rattle.spki_cert.proofs.SubjectFaultLaws.{issuer-principal, issuer-empty, issuer-owner_fault, issuer-nameless, issuer-no_name, issuer-surplus, issuer-whole}

@@ -1,5 +1,5 @@
 use Rattle.spki_cert.specs.declared.fault.CertFaultKind.{CertFaultKind}
-use Rattle.spki_cert.proofs.Showing.{carried}
+use Rattle.spki_cert.proofs.Looking.{carried}
 use Rattle.spki_cert.proofs.SubjectLaws.{principal-names}
 use Rattle.std.proofs.Common.{◌≡◌, ◌≢◌, Some, sym, true, false, [], rules, ◌++◌, ◌∙◌, ap, List, ℕ}
 use Rattle.spki_cert.specs.declared.fault.CertFaultKind.TheVariants.{Memory}

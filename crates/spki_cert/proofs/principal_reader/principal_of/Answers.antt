@@ -1,4 +1,4 @@
-use Rattle.spki_cert.proofs.Showing.{carried}
+use Rattle.spki_cert.proofs.Looking.{carried}
 use Rattle.spki_cert.proofs.SubjectLaws.{IsNoPrincipal, no-principal, unheaded-is_no_hash}
 use Rattle.std.proofs.Common.{◌≡◌, Some}
 use Rattle.spki_cert.specs.declared.fault.CertFaultKind.{CertFaultKind}

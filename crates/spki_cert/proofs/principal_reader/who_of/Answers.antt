@@ -1,21 +1,13 @@
-use Rattle.std.proofs.Common.{◌≡◌, ◌≢◌, ◌⊎◌, ◌∷◌, List, ℕ, ap}
-use Rattle.std.specs.Prelude.{codes}
+use Rattle.std.proofs.Common.{◌≡◌, ◌≢◌}
 use Rattle.std.proofs.lemmas.Result.{IfErr-weaker}
-use Rattle.sexpr_core.specs.Value.{Value, plain, group}
 use Rattle.spki_cert.specs.declared.fault.CertFaultKind.{CertFaultKind}
 use Rattle.spki_cert.specs.declared.fault.CertFaultKind.TheVariants.{Memory}
-use Rattle.spki_cert.specs.Faults.{HasSubject}
-use Rattle.spki_cert.proofs.Showing.{carried}
+use Rattle.spki_cert.proofs.Looking.{carried}
 use Rattle.std.proofs.Common.{Some}
 use Rattle.std.proofs.lemmas.Result.{IfOk-weaker}
 use Rattle.spki_cert.specs.SubjectFaults.{subject_fault}
 use Rattle.spki_cert.proofs.SubjectFaultLaws.{subject-threshold, subject-keyholder, subject-principal, subject-names}
 use Rattle.spki_cert.proofs.principal_reader.who_of.Goals as goal
-
--- where a subject is a list with this head, it shows
-with-subject : (head : List ℕ) (v : Value) (vs : List Value) → v ≡ group (plain head ∷ vs) → (word : List ℕ) (rest : List Value) → (word ≡ codes "entry") ⊎ (word ≡ codes "subject") → HasSubject head (group (plain word ∷ v ∷ rest))
-with-subject head v vs e word rest is =
-    record { word = word; word_is = is; subject = vs; rest = rest; written = ap (λ (u : Value). group (plain word ∷ u ∷ rest)) e }
 
 pub returns-in-Some-clause-named : goal.returns-in-Some-clause-named
 returns-in-Some-clause-named c = λ _. subject-threshold c.args.node.now _ c.in-Some.ensures

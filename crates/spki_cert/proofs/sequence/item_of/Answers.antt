@@ -1,15 +1,11 @@
 use Rattle.std.proofs.Common.{◌≢◌, ◌≡◌, ◌∙◌, Some}
-use Rattle.std.proofs.lemmas.Result.{IfErr-weaker, IfOk-weaker}
+use Rattle.std.proofs.lemmas.Result.{IfErr-weaker}
 use Rattle.spki_cert.specs.declared.fault.CertFaultKind.{CertFaultKind}
 use Rattle.spki_cert.specs.declared.fault.CertFaultKind.TheVariants.{Memory}
-use Rattle.spki_cert.proofs.Showing.{carried}
+use Rattle.spki_cert.proofs.Looking.{carried}
 use Rattle.spki_cert.specs.ItemFaults.{item_fault}
 use Rattle.spki_cert.proofs.SequenceFaultLaws.{item-cert, item-signature, item-do, item-key}
 use Rattle.spki_cert.proofs.sequence.item_of.Goals as goal
-
-pub returns-in-Some-clause-faultless : goal.returns-in-Some-clause-faultless
-returns-in-Some-clause-faultless c =
-    IfOk-weaker c.cert_of.result _ _ (λ _ faultless. item-cert c.args.node.now _ c.in-Some.ensures ∙ faultless) c.cert_of.ensures.faultless
 
 pub returns-in-Some-clause-named : goal.returns-in-Some-clause-named
 returns-in-Some-clause-named c =
@@ -20,22 +16,12 @@ returns-in_err-signature_of-clause-named c =
     carried c.from_residual.result _ (λ (kind : CertFaultKind). kind ≢ Memory → item_fault c.args.node.now ≡ Some kind) c.from_residual.ensures.1
     (λ known. item-signature c.args.node.now _ c.in-Some-headed.ensures ∙ c.in_err-signature_of.ensures.named)
 
-pub returns-in-Some-headed-clause-faultless : goal.returns-in-Some-headed-clause-faultless
-returns-in-Some-headed-clause-faultless c = item-signature c.args.node.now _ c.in-Some-headed.ensures ∙ c.in_ok-signature_of.ensures.faultless
-
 pub returns-in_err-do_hash_of-clause-named : goal.returns-in_err-do_hash_of-clause-named
 returns-in_err-do_hash_of-clause-named c =
     carried c.from_residual-in_err-do_hash_of.result _ (λ (kind : CertFaultKind). kind ≢ Memory → item_fault c.args.node.now ≡ Some kind) c.from_residual-in_err-do_hash_of.ensures.1
     (λ known. item-do c.args.node.now _ c.in-Some-headed-2.ensures ∙ c.in_err-do_hash_of.ensures.named)
 
-pub returns-in-Some-headed-2-clause-faultless : goal.returns-in-Some-headed-2-clause-faultless
-returns-in-Some-headed-2-clause-faultless c = item-do c.args.node.now _ c.in-Some-headed-2.ensures ∙ c.in_ok-do_hash_of.ensures.faultless
-
 pub returns-in_err-key_of-clause-named : goal.returns-in_err-key_of-clause-named
 returns-in_err-key_of-clause-named c =
     carried c.from_residual-in_err-key_of.result _ (λ (kind : CertFaultKind). kind ≢ Memory → item_fault c.args.node.now ≡ Some kind) c.from_residual-in_err-key_of.ensures.1
     (λ known. item-key c.args.node.now c.in_default.ensures c.in_default-headed.ensures c.in_default-headed-2.ensures ∙ c.in_err-key_of.ensures.named)
-
-pub returns-clause-faultless : goal.returns-clause-faultless
-returns-clause-faultless c =
-    item-key c.args.node.now c.in_default.ensures c.in_default-headed.ensures c.in_default-headed-2.ensures ∙ c.in_ok-key_of.ensures.faultless

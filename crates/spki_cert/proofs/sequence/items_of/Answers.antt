@@ -4,48 +4,16 @@ use Rattle.std.proofs.lemmas.Slice.Zip.{AllZip-long}
 use Rattle.spki_cert.specs.declared.certificate.SeqItem.{SeqItem}
 use Rattle.spki_cert.specs.declared.fault.CertFault.{CertFault}
 use Rattle.spki_cert.specs.declared.fault.CertFaultKind.TheVariants.{Memory}
-use Rattle.spki_cert.specs.Sequences.{ItemOf, ItemsRefused, item}
+use Rattle.spki_cert.specs.Sequences.{ItemOf}
 use Rattle.spki_cert.specs.Inner.Gathering.{Waits}
 use Rattle.spki_cert.proofs.Groups.{split, moved}
-use Rattle.spki_cert.proofs.Showing.{carried}
+use Rattle.spki_cert.proofs.Looking.{carried}
 use Rattle.spki_cert.proofs.EntryLaws.{items-push}
-use Rattle.spki_cert.proofs.SeqLaws.{place-more, waits-more, misplaced}
+use Rattle.spki_cert.proofs.SeqLaws.{place-more, waits-more}
 use Rattle.spki_cert.specs.SequenceFaults.{items_fault}
-use Rattle.spki_cert.proofs.ItemFaultNone.{item-refused}
-use Rattle.spki_cert.proofs.FaultShows.{item-shows}
+use Rattle.spki_cert.proofs.ItemFaultNone.{item-none}
 use Rattle.spki_cert.proofs.SequenceFaultLaws.{sequence-all, sequence-place, sequence-item, sequence-next, sequence-end}
 use Rattle.spki_cert.proofs.sequence.items_of.Goals as goal
-
-pub returns-in_err-check_place-clause-refused : goal.returns-in_err-check_place-clause-refused
-returns-in_err-check_place-clause-refused c =
-    let i = c.loop-member.invariant in
-    let v = c.in-Some.member in
-    let e = split c.args.members i.0 c.loop-member.rest c.in-Some.others v i.1 c.in-Some.ensures in
-    let long = AllZip-long ItemOf i.0 c.loop-member.items.items i.2 in
-    let number : c.len-item.result + 1 ≡ length i.0 + 1 = (let f = c.len-item.ensures in omega arith) in
-    carried c.from_residual.result _ (λ (fault : CertFault). fault.kind ≢ Memory → ItemsRefused c.args.members fault) c.from_residual.ensures.1
-    (λ _. misplaced c.args.members i.0 v c.in-Some.others c.loop-member.items.items c.loop-member.waits (c.len-item.result + 1) _ e i.2 i.3 i.4 number c.in_err-check_place.ensures.refused)
-
-pub returns-in-Err-clause-refused : goal.returns-in-Err-clause-refused
-returns-in-Err-clause-refused c =
-    let i = c.loop-member.invariant in
-    let v = c.in-Some.member in
-    let e = split c.args.members i.0 c.loop-member.rest c.in-Some.others v i.1 c.in-Some.ensures in
-    let long = AllZip-long ItemOf i.0 c.loop-member.items.items i.2 in
-    λ known. item (record {
-      refused = v;
-      place = record {
-        front = i.0;
-        behind = c.in-Some.others;
-        parts = e;
-        place = (let f = c.len-item.ensures in omega arith);
-        before = c.loop-member.items.items;
-        readings = i.2;
-        none = item-refused v _ (c.in-Err.ensures.named known);
-      };
-      in_place = place-more i.0 v c.loop-member.waits i.4 i.3 c.in_ok-check_place.ensures.found;
-      shown = item-shows v _ (c.in-Err.ensures.named known);
-    })
 
 pub loop-member-preserved : goal.loop-member-preserved
 loop-member-preserved c =
@@ -60,9 +28,9 @@ loop-member-preserved c =
       subst (λ (is : List SeqItem). AllZip ItemOf (i.0 ++ v ∷ []) is) (sym c.in-Ok-push.ensures.items) more,
       place-more i.0 v c.loop-member.waits i.4 i.3 c.in_ok-check_place.ensures.found,
       subst (λ (o : Option ℕ). Waits (i.0 ++ v ∷ []) o) (sym c.waiting-waits.ensures)
-          (waits-more i.0 v c.loop-member.waits (c.len-item.result + 1) i.4 i.3 c.in_ok-check_place.ensures.found number),
+          (waits-more i.0 v c.loop-member.waits (c.len-item.result + 1) i.4),
       sequence-next c.args.members i.0 c.loop-member.rest c.in-Some.others c.loop-member.waits _ v (c.len-item.result + 1) i.5 c.in-Some.ensures number
-          c.in_ok-check_place.ensures.faultless c.in-Ok.ensures.faultless c.waiting-waits.ensures,
+          c.in_ok-check_place.ensures.faultless ((item-none v).1 (c.in-Ok.read, c.in-Ok.ensures.found)) c.waiting-waits.ensures,
     )
 
 pub loop-member-init : goal.loop-member-init

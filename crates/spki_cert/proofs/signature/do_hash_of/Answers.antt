@@ -1,10 +1,10 @@
-use Rattle.std.proofs.Common.{◌≡◌, Some, rules, []}
+use Rattle.std.proofs.Common.{◌≡◌, Some, rules}
 use Rattle.std.specs.Prelude.{codes}
 use Rattle.sexpr_core.specs.Value.{plain}
 use Rattle.spki_cert.specs.declared.fault.CertFaultKind.{CertFaultKind}
 use Rattle.spki_cert.specs.ItemFaults.{do_fault}
-use Rattle.spki_cert.proofs.Showing.{carried}
-use Rattle.spki_cert.proofs.ItemFaultLaws.{do-unheaded, do-empty, do-no_word, do-other_word, do-no_alg, do-alg, do-surplus, do-whole}
+use Rattle.spki_cert.proofs.Looking.{carried}
+use Rattle.spki_cert.proofs.ItemFaultLaws.{do-unheaded, do-empty, do-no_word, do-other_word, do-no_alg, do-alg, do-surplus}
 use Rattle.spki_cert.proofs.signature.do_hash_of.Goals as goal
 
 pub returns-in_default-clause-named : goal.returns-in_default-clause-named
@@ -31,12 +31,6 @@ returns-in_err-alg-clause-named c =
     let e : c.in-Some-split_first.operation ≡ plain (codes "hash") = search rules in
     carried c.from_residual.result _ (λ (kind : CertFaultKind). do_fault c.args.node.now ≡ Some kind) c.from_residual.ensures.1
     (do-alg c.args.node.now _ _ _ _ _ _ c.in-Some.ensures c.in-Some-split_first.ensures e c.in-Some-split_first-2.ensures c.in_err-alg.ensures.first)
-
-pub returns-then-is_empty-clause-faultless : goal.returns-then-is_empty-clause-faultless
-returns-then-is_empty-clause-faultless c =
-    let e : c.in-Some-split_first.operation ≡ plain (codes "hash") = search rules in
-    let f : c.in-Some-split_first-2.more ≡ [] = search rules in
-    do-whole c.args.node.now _ _ _ _ _ c.in-Some.ensures c.in-Some-split_first.ensures e c.in-Some-split_first-2.ensures c.in_ok-alg.ensures.faultless f
 
 pub returns-else-is_empty-clause-named : goal.returns-else-is_empty-clause-named
 returns-else-is_empty-clause-named c =

@@ -1,9 +1,9 @@
-use Rattle.std.proofs.Common.{[], ◌≡◌, Some, rules}
+use Rattle.std.proofs.Common.{◌≡◌, Some}
 use Rattle.spki_cert.specs.declared.fault.CertFaultKind.{CertFaultKind}
-use Rattle.spki_cert.proofs.Showing.{carried}
+use Rattle.spki_cert.proofs.Looking.{carried}
 use Rattle.spki_cert.specs.ItemFaults.{signature_fault}
 use Rattle.spki_cert.proofs.ItemFaultLaws.{signature-looks}
-use Rattle.spki_cert.proofs.Triples.{triple-unheaded, triple-empty, triple-first, triple-one, triple-second, triple-two, triple-surplus, triple-whole}
+use Rattle.spki_cert.proofs.Triples.{triple-unheaded, triple-empty, triple-first, triple-one, triple-second, triple-two, triple-surplus}
 use Rattle.spki_cert.proofs.signature.signature_of.Goals as goal
 
 pub returns-in_default-clause-named : goal.returns-in_default-clause-named
@@ -36,9 +36,3 @@ pub returns-then-not-is_empty-clause-named : goal.returns-then-not-is_empty-clau
 returns-then-not-is_empty-clause-named c =
     triple-surplus signature-looks c.args.node.now _ _ _ _ _ _ _ c.in-Some.ensures c.in-Some-split_first.ensures c.in_ok-alg.ensures.faultless c.in-Some-split_first-2.ensures
     c.in_ok-signer.ensures.faultless c.in-Some-split_first-3.ensures (λ e. absurd (let f = c.if-not-is_empty.ensures.1 e in cc))
-
-pub returns-clause-faultless : goal.returns-clause-faultless
-returns-clause-faultless c =
-    let e : c.in-Some-split_first-3.more ≡ [] = search rules in
-    triple-whole signature-looks c.args.node.now _ _ _ _ _ _ _ c.in-Some.ensures c.in-Some-split_first.ensures c.in_ok-alg.ensures.faultless c.in-Some-split_first-2.ensures
-    c.in_ok-signer.ensures.faultless c.in-Some-split_first-3.ensures e

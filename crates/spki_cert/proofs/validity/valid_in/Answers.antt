@@ -1,6 +1,6 @@
 use Rattle.std.proofs.Common.{◌≡◌, ◌∷◌, ◌++◌, [], refl, Some, rules}
 use Rattle.spki_cert.specs.declared.fault.CertFaultKind.{CertFaultKind}
-use Rattle.spki_cert.proofs.Showing.{carried}
+use Rattle.spki_cert.proofs.Looking.{carried}
 use Rattle.spki_cert.proofs.Groups.{split, moved}
 use Rattle.spki_cert.proofs.ValidLaws.{valid-none, valid-more}
 use Rattle.spki_cert.specs.FieldFaults.{limit_fault, fields_fault}

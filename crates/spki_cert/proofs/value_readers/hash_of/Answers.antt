@@ -3,7 +3,7 @@ use Rattle.sexpr_core.specs.Value.{plain}
 use Rattle.spki_cert.specs.Readings.{alg_name}
 use Rattle.spki_cert.specs.declared.fault.CertFaultKind.{CertFaultKind}
 use Rattle.spki_cert.specs.FixedFaults.{hash_fault}
-use Rattle.spki_cert.proofs.Showing.{carried}
+use Rattle.spki_cert.proofs.Looking.{carried}
 use Rattle.spki_cert.proofs.FixedLaws.{hash-unheaded, hash-empty, hash-alg_fault, hash-no_digest, hash-digest_fault, hash-whole, hash-surplus}
 use Rattle.spki_cert.proofs.value_readers.hash_of.Goals as goal
 

@@ -1,4 +1,4 @@
-use Rattle.std.proofs.Common.{◌≡◌, ◌≢◌, ◌∷◌, drop, rules, subst, sym}
+use Rattle.std.proofs.Common.{◌≡◌, ◌∷◌, drop}
 use Rattle.spki_decision.proofs.RequiredSubjects.{begins_more, begins_not}
 use Rattle.spki_decision.proofs.required_subject.names_after.Goals as goal
 

@@ -1,4 +1,4 @@
-use Rattle.std.proofs.Common.{◌≡◌, ◌-◌, ◌+◌, Some, None, [], ap, ◌∙◌, refl, arith, length, take}
+use Rattle.std.proofs.Common.{◌≡◌, ◌-◌, ◌+◌, Some, None, ap, ◌∙◌, refl, arith, length, take}
 use Rattle.spki_decision.proofs.RequiredSubjects.{begin_from, last_of, one_before, none_from, whole_from}
 use Rattle.spki_decision.proofs.required_subject.required_subject.Goals as goal
 

@@ -1,15 +1,13 @@
-use Rattle.std.proofs.Common.{◌≡◌, ◌+◌, ◌≤◌, ◌∷◌, [], ◌++◌, All, take, false, refl, sym, ap, ◌∙◌, subst, arith, append-nil}
-use Rattle.std.specs.Prelude.{◌||◌}
+use Rattle.std.proofs.Common.{◌≡◌, ◌+◌, ◌≤◌, ◌∷◌, [], ◌++◌, All, take, false, sym, ap, ◌∙◌, subst, arith, append-nil}
 use Rattle.std.proofs.lemmas.List.{take_more, map-append}
 use Rattle.std.proofs.lemmas.List.Elements.{All-push, All-weaker}
 use Rattle.std.proofs.lemmas.Grind.{flat_map-append}
-use Rattle.spki_tag.specs.Tag.{tags, nodes_all, nests_set, some_nests_set}
+use Rattle.spki_tag.specs.Tag.{tags, nodes_all, some_nests_set}
 use Rattle.spki_tag.proofs.Bounds.{append-nodes}
 use Rattle.spki_reduce.specs.Tuples.{Tuple, tags_of}
 use Rattle.spki_reduce.specs.Views.{step_tuple}
 use Rattle.spki_reduce.specs.Restrictions.{nodes_product}
 use Rattle.spki_reduce.specs.Chain.{tuples_of, all_tags}
-use Rattle.spki_decision.specs.declared.sizes.PlainNodes.{PlainNodes}
 use Rattle.spki_decision.proofs.PlainChains.{append-sets, none_of}
 use Rattle.spki_decision.proofs.sizes.plain_of.Goals as goal
 

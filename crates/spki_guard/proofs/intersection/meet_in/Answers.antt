@@ -36,10 +36,10 @@ returns-clause-read c =
 pub returns-in-Err-clause-refused : goal.returns-in-Err-clause-refused
 returns-in-Err-clause-refused c =
     first_refused c.args.node.now c.in-Some.operands.first c.in-Some.operands.second c.in-Err.fault c.fault_of_first.result
-    c.in-Some.ensures c.in-Err.ensures.refused c.in-Err.ensures.shows c.in-Err.ensures.named c.fault_of_first.ensures
+    c.in-Some.ensures c.in-Err.ensures.refused c.in-Err.ensures.named c.fault_of_first.ensures
 
 pub returns-in-Err-of-clause-refused : goal.returns-in-Err-of-clause-refused
 returns-in-Err-of-clause-refused c =
     second_refused c.args.node.now c.in-Some.operands.first c.in-Some.operands.second c.in-Ok.tag c.in-Err-of.fault c.fault_of_second.result
-    c.in-Some.ensures c.in-Ok.ensures.read c.in-Err-of.ensures.refused c.in-Err-of.ensures.shows c.in-Err-of.ensures.named
+    c.in-Some.ensures c.in-Ok.ensures.read c.in-Err-of.ensures.refused c.in-Err-of.ensures.named
     c.fault_of_second.ensures

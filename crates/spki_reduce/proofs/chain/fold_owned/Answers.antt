@@ -4,10 +4,10 @@ use Rattle.spki_reduce.specs.Tuples.{five}
 use Rattle.spki_reduce.specs.Views.{five_tuple, step_tuple}
 use Rattle.spki_reduce.specs.Chain.{tuples_of}
 use Rattle.spki_reduce.proofs.Folding.{same_issuer}
-use Rattle.spki_reduce.proofs.Chains.{stops_here, goes_on, met_here, too_large, too_large_here, excluded, unsupported}
+use Rattle.spki_reduce.proofs.Chains.{stops_here, goes_on, met_here, too_large_here, excluded, unsupported}
 use Rattle.std.proofs.lemmas.List.{length-map}
 use Rattle.spki_reduce.proofs.Through.{small_here, small_stopped, steps_tagged}
-use Rattle.spki_reduce.proofs.Working.{work_here, work_stopped, work_all, taken, over}
+use Rattle.spki_reduce.proofs.Working.{work_here, work_stopped, taken, over}
 use Rattle.spki_reduce.proofs.chain.fold_owned.Goals as goal
 
 -- what the exit of a `?` returns

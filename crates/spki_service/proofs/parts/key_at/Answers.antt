@@ -7,5 +7,5 @@ returns-in-Err-clause-refused c = λ known.
     record {
       inner = c.in-Err.kind;
       named = refl;
-      refused = record { found = e.fault; shows = e.shown; named = e.named; none = λ key h. e.refused key h };
+      refused = record { found = e.fault; named = e.named; none = λ key h. e.refused key h };
     }

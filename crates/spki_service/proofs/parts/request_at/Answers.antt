@@ -19,7 +19,6 @@ returns-in-Err-clause-refused c = λ known.
         named = h.1;
         refused = record {
           found = h.0;
-          shows = e.shows;
           named = request-named c.in-Err.fault _ e.named h.0;
           none = λ g r. h.0 (e.refused g r.is_request r.written);
         };

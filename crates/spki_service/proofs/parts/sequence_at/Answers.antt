@@ -1,5 +1,5 @@
 use Rattle.std.proofs.Common.{inl, inr}
-use Rattle.spki_cert.proofs.SeqLaws.{refused-sequence}
+use Rattle.spki_cert.proofs.ItemFaultNone.{sequence-refused}
 use Rattle.spki_case.proofs.Signed.{signed}
 use Rattle.spki_service.proofs.parts.sequence_at.Goals as goal
 
@@ -14,9 +14,8 @@ returns-in-Err-clause-refused c = λ known. elim c.fault_of_sequence.ensures [
     named = h.1;
     refused = record {
       found = h.0;
-      refused = c.in-Err.ensures.refused h.0;
       named = c.in-Err.ensures.named h.0;
-      none = refused-sequence c.args.node.now c.in-Err.fault (c.in-Err.ensures.refused h.0);
+      none = sequence-refused c.args.node.now c.in-Err.fault (c.in-Err.ensures.named h.0);
     };
   }
 ]

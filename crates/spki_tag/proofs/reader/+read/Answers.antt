@@ -1,54 +1,18 @@
-use Rattle.std.specs.Prelude.{codes}
-use Rattle.std.specs.Cmp.Lexicographic.{same_text}
-use Rattle.std.proofs.Common.{◌≡◌, ◌∙◌, ◌+◌, sym, arith}
-use Rattle.std.proofs.lemmas.Result.{err_from_is_err_and}
+use Rattle.std.proofs.Common.{◌+◌, sym, arith}
 use Rattle.std.proofs.Common.{[], refl, ap}
 use Rattle.spki_tag.specs.FaultOf.{own_fault}
 use Rattle.spki_tag.proofs.Named.{named-first, out_of_memory, passed, prefix-itself, range-itself, unknown-itself, list-itself, so_far-named, no_room_for_head-named, list-members, set-members, star-itself, star-list, star-hinted, full, itself}
-use Rattle.spki_tag.proofs.Spelling.{so_far_weight, so_far_shows, so_far_push, no_room, no_room_for_head, list_shows, set_shows, list_is_read, set_is_read, members_fit, members_normal}
-use Rattle.spki_tag.proofs.Found.{form_shows, empty_list, hinted_itself, list_head_shows, list_behind_star, hinted_behind_star, unknown_word}
+use Rattle.spki_tag.proofs.Spelling.{so_far_weight, so_far_push, list_is_read, set_is_read, members_fit, members_normal}
 use Rattle.spki_tag.proofs.reader.+read.Goals as goal
-
-pub read_list-returns-in_err-head-in-Some-clause-shows : goal.read_list-returns-in_err-head-in-Some-clause-shows
-read_list-returns-in_err-head-in-Some-clause-shows t c =
-    let p = err_from_is_err_and c.from_residual.result c.from_residual.ensures.1 in
-    rw (p.1, p.2)
-    (list_head_shows _ c.args.used c.args.members c.in-Some.first c.in-Some.further c.in-Some.ensures (c.in_err-head-in-Some.ensures.shows c.in-Some.further).0)
-
-pub read_list-returns-in-None-clause-shows : goal.read_list-returns-in-None-clause-shows
-read_list-returns-in-None-clause-shows t c = empty_list c.args.members c.in-None.ensures
 
 pub read_members-read_tag-requires : goal.read_members-read_tag-requires
 read_members-read_tag-requires t c =
     (omega (arith, c.decreases, so_far_weight c.args.used c.loop-first.counted c.args.members c.loop-first.left c.in-Some.further c.loop-first.tags.items c.in-Some.first c.loop-first.invariant c.in-Some.ensures), tt)
 
-pub read_members-returns-in_err-tag-clause-shows : goal.read_members-returns-in_err-tag-clause-shows
-read_members-returns-in_err-tag-clause-shows t c =
-    let p = err_from_is_err_and c.from_residual.result c.from_residual.ensures.1 in
-    rw (p.1, p.2)
-    (so_far_shows _ c.args.used c.loop-first.counted c.args.members c.loop-first.left c.in-Some.further c.loop-first.tags.items c.in-Some.first c.loop-first.invariant c.in-Some.ensures c.in_err-tag.ensures.shows)
-
 pub read_members-loop-first-preserved : goal.read_members-loop-first-preserved
 read_members-loop-first-preserved t c =
     rw c.in_ok-push.ensures.items
     (so_far_push c.args.used c.loop-first.counted c.in_ok-tag.after c.args.members c.loop-first.left c.in-Some.further c.loop-first.tags.items c.in-Some.first c.in_ok-tag.tag c.loop-first.invariant c.in-Some.ensures c.in_ok-tag.ensures.read)
-
-pub read_plain_list-returns-then-used-ge-MOST_READ-clause-shows : goal.read_plain_list-returns-then-used-ge-MOST_READ-clause-shows
-read_plain_list-returns-then-used-ge-MOST_READ-clause-shows t c =
-    no_room_for_head c.args.used c.args.head.now c.args.further c.requires.head (omega arith)
-
-pub read_plain_list-returns-in_err-members-clause-shows : goal.read_plain_list-returns-in_err-members-clause-shows
-read_plain_list-returns-in_err-members-clause-shows t c =
-    let p = err_from_is_err_and c.from_residual.result c.from_residual.ensures.1 in
-    rw (p.1, p.2) (list_shows _ c.args.used c.args.head.now c.args.further c.requires.head c.in_err-members.ensures.shows)
-
-pub read_tag-returns-then-used-ge-MOST_READ-clause-shows : goal.read_tag-returns-then-used-ge-MOST_READ-clause-shows
-read_tag-returns-then-used-ge-MOST_READ-clause-shows t c = no_room c.args.used c.args.value.now (omega arith)
-
-pub read_tag-returns-in-String-Some-default-clause-shows : goal.read_tag-returns-in-String-Some-default-clause-shows
-read_tag-returns-in-String-Some-default-clause-shows t c =
-    let e = rw c.in-String-Some-default.hint-is at c.in-String-Some-default.ensures in
-    hinted_itself c.args.value.now (c.in-String-Some-default.hint-0.now, c.in-String-Some-default.body.now, sym e)
 
 pub read_plain_list-list_of-requires-clause-room : goal.read_plain_list-list_of-requires-clause-room
 read_plain_list-list_of-requires-clause-room t c =
@@ -63,11 +27,6 @@ read_plain_list-returns-clause-read t c =
     list_is_read c.args.used c.in_ok-members.after c.args.head.now c.args.further c.in_ok-members.members.items c.list_of.result c.requires.head c.in_ok-members.ensures.read
     (rw c.in_ok-octets.ensures.ok at c.list_of.ensures)
 
-pub read_set-returns-in_err-members-clause-shows : goal.read_set-returns-in_err-members-clause-shows
-read_set-returns-in_err-members-clause-shows t c =
-    let p = err_from_is_err_and c.from_residual.result c.from_residual.ensures.1 in
-    rw (p.1, p.2) (set_shows _ c.args.used c.args.further c.in_err-members.ensures.shows)
-
 pub read_set-set_of-requires-clause-room : goal.read_set-set_of-requires-clause-room
 read_set-set_of-requires-clause-room t c =
     omega (arith, members_fit (c.args.used + 1) c.in_ok-members.after c.args.further c.in_ok-members.members.items c.in_ok-members.ensures.read)
@@ -79,27 +38,6 @@ read_set-set_of-requires-clause-normal t c =
 pub read_set-returns-clause-read : goal.read_set-returns-clause-read
 read_set-returns-clause-read t c =
     set_is_read c.args.used c.in_ok-members.after c.args.further c.in_ok-members.members.items c.in_ok-set_of.field-0 c.in_ok-members.ensures.read c.in_ok-set_of.ensures
-
-pub read_starred-returns-in-List-clause-shows : goal.read_starred-returns-in-List-clause-shows
-read_starred-returns-in-List-clause-shows t c =
-    list_behind_star c.args.further c.in-Some.form c.in-List.field-0 c.in-Some.rest c.in-Some.ensures c.in-List.ensures
-
-pub read_starred-returns-in-String-Some-default-clause-shows : goal.read_starred-returns-in-String-Some-default-clause-shows
-read_starred-returns-in-String-Some-default-clause-shows t c =
-    let e = rw c.in-String-Some-default.hint-is at c.in-String-Some-default.ensures in
-    hinted_behind_star c.args.further c.in-Some.form c.in-Some.rest c.in-Some.ensures
-    (c.in-String-Some-default.hint-0.now, c.in-String-Some-default.body.now, sym e)
-
-pub read_form-returns-else-eq-3-clause-shows : goal.read_form-returns-else-eq-3-clause-shows
-read_form-returns-else-eq-3-clause-shows t c =
-    unknown_word c.args.word.now c.args.further (rw c.as_slice.ensures at c.if-eq.ensures)
-    (rw c.as_slice-else-eq.ensures at c.if-eq-2.ensures) (rw c.as_slice-else-eq-2.ensures at c.if-eq-3.ensures)
-
-pub read_form-returns-in_err-read_prefix-clause-shows : goal.read_form-returns-in_err-read_prefix-clause-shows
-read_form-returns-in_err-read_prefix-clause-shows t c =
-    let p = err_from_is_err_and c.from_residual.result c.from_residual.ensures.1 in
-    let w : c.args.word.now ≡ codes "prefix" = same_text _ _ c.if-eq-2.ensures ∙ c.as_slice-else-eq.ensures in
-    rw (p.1, p.2) (form_shows _ c.args.used c.args.word.now (codes "prefix") c.args.further w c.in_err-read_prefix.ensures.shows)
 
 pub read_form-returns-in_err-read_prefix-clause-named : goal.read_form-returns-in_err-read_prefix-clause-named
 read_form-returns-in_err-read_prefix-clause-named t c =

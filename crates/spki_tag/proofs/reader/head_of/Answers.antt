@@ -1,15 +1,6 @@
 use Rattle.std.proofs.Common.{sym}
 use Rattle.spki_tag.proofs.Named.{head-list, head-hinted}
-use Rattle.spki_tag.proofs.Found.{list_is_no_head, hinted_is_no_head}
 use Rattle.spki_tag.proofs.reader.head_of.Goals as goal
-
-pub returns-in-List-clause-shows : goal.returns-in-List-clause-shows
-returns-in-List-clause-shows c = list_is_no_head c.args.first.now c.in-List.field-0 c.in-List.ensures
-
-pub returns-in-String-Some-default-clause-shows : goal.returns-in-String-Some-default-clause-shows
-returns-in-String-Some-default-clause-shows c =
-    let e = rw c.in-String-Some-default.hint-is at c.in-String-Some-default.ensures in
-    hinted_is_no_head c.args.first.now (c.in-String-Some-default.hint-0.now, c.in-String-Some-default.body.now, sym e)
 
 pub returns-in-List-clause-named : goal.returns-in-List-clause-named
 returns-in-List-clause-named c = head-list c.args.first.now c.in-List.field-0 c.in-List.ensures

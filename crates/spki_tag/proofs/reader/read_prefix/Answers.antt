@@ -2,26 +2,7 @@ use Rattle.std.proofs.Common.{true≢false, sym, ◌∙◌}
 use Rattle.std.proofs.Common.{ap}
 use Rattle.spki_tag.specs.FaultOf.{prefix_fault}
 use Rattle.spki_tag.proofs.Named.{named-first, out_of_memory, prefix-more, prefix-list, prefix-hinted}
-use Rattle.spki_tag.proofs.Found.{prefix_missing, prefix_more, prefix_list, prefix_hinted}
 use Rattle.spki_tag.proofs.reader.read_prefix.Goals as goal
-
-pub returns-then-not-is_empty-clause-shows : goal.returns-then-not-is_empty-clause-shows
-returns-then-not-is_empty-clause-shows c =
-    prefix_more c.args.further c.in-Some.prefix c.in-Some.rest c.in-Some.ensures
-    (λ e. true≢false (sym (c.is_empty.ensures.1 e) ∙ c.if-not-is_empty.true))
-
-pub returns-in-None-clause-shows : goal.returns-in-None-clause-shows
-returns-in-None-clause-shows c = prefix_missing c.args.further c.in-None.ensures
-
-pub returns-in-List-clause-shows : goal.returns-in-List-clause-shows
-returns-in-List-clause-shows c =
-    prefix_list c.args.further c.in-Some.prefix c.in-Some.rest c.in-List.field-0 c.in-Some.ensures c.in-List.ensures
-
-pub returns-in-String-Some-default-clause-shows : goal.returns-in-String-Some-default-clause-shows
-returns-in-String-Some-default-clause-shows c =
-    let e = rw c.in-String-Some-default.hint-is at c.in-String-Some-default.ensures in
-    prefix_hinted c.args.further c.in-Some.prefix c.in-Some.rest c.in-Some.ensures
-    (c.in-String-Some-default.hint-0.now, c.in-String-Some-default.body.now, sym e)
 
 pub returns-then-not-is_empty-clause-named : goal.returns-then-not-is_empty-clause-named
 returns-then-not-is_empty-clause-named c =

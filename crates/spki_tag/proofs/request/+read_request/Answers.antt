@@ -1,58 +1,26 @@
 use Rattle.std.proofs.Common.{◌≡◌, ap, sym, ◌∙◌, arith}
 use Rattle.std.specs.Prelude.{codes}
 use Rattle.std.specs.Cmp.Lexicographic.{same_text}
-use Rattle.std.proofs.lemmas.Result.{err_from_is_err_and}
 use Rattle.sexpr_core.specs.Value.{plain}
-use Rattle.spki_tag.proofs.Found.{empty_list, hinted_itself, request_head_shows, star_shows}
-use Rattle.spki_tag.proofs.Requests.{so_far_weight, so_far_shows, so_far_push, list_shows, list_is_request}
+use Rattle.spki_tag.proofs.Requests.{so_far_weight, so_far_push, list_is_request}
 use Rattle.std.proofs.Common.{[], refl}
 use Rattle.spki_tag.specs.FaultOf.{part_fault}
 use Rattle.spki_tag.proofs.Named.{named-first, out_of_memory, passed}
 use Rattle.spki_tag.proofs.NamedRequests.{group-itself, star-group, group-members, so_far-named, part-itself}
 use Rattle.spki_tag.proofs.request.+read_request.Goals as goal
 
-pub read_request_list-returns-in_err-head-in-Some-clause-shows : goal.read_request_list-returns-in_err-head-in-Some-clause-shows
-read_request_list-returns-in_err-head-in-Some-clause-shows t c =
-    let p = err_from_is_err_and c.from_residual.result c.from_residual.ensures.1 in
-    rw (p.1, p.2)
-    (request_head_shows _ c.args.members c.in-Some.first c.in-Some.further c.in-Some.ensures (c.in_err-head-in-Some.ensures.shows c.in-Some.further).1)
-
-pub read_request_list-returns-in-None-clause-shows : goal.read_request_list-returns-in-None-clause-shows
-read_request_list-returns-in-None-clause-shows t c = empty_list c.args.members c.in-None.ensures
-
-pub read_request_list-returns-then-eq-clause-shows : goal.read_request_list-returns-then-eq-clause-shows
-read_request_list-returns-then-eq-clause-shows t c =
-    let star : c.in_ok-head-in-Some.head.now ≡ codes "*" = same_text _ _ c.if-eq.ensures ∙ c.as_slice.ensures in
-    star_shows c.args.members c.in-Some.first c.in-Some.further c.in-Some.ensures (c.in_ok-head-in-Some.ensures.string ∙ ap plain star)
-
 pub read_request_members-read_request-requires : goal.read_request_members-read_request-requires
 read_request_members-read_request-requires t c =
     (omega (arith, c.decreases, so_far_weight c.args.members c.loop-first.left c.in-Some.further c.loop-first.requests.items c.in-Some.first c.loop-first.invariant c.in-Some.ensures), tt)
-
-pub read_request_members-returns-in_err-read_request-clause-shows : goal.read_request_members-returns-in_err-read_request-clause-shows
-read_request_members-returns-in_err-read_request-clause-shows t c =
-    let p = err_from_is_err_and c.from_residual.result c.from_residual.ensures.1 in
-    rw (p.1, p.2)
-    (so_far_shows _ c.args.members c.loop-first.left c.in-Some.further c.loop-first.requests.items c.in-Some.first c.loop-first.invariant c.in-Some.ensures c.in_err-read_request.ensures.shows)
 
 pub read_request_members-loop-first-preserved : goal.read_request_members-loop-first-preserved
 read_request_members-loop-first-preserved t c =
     rw c.in_ok-push.ensures.items
     (so_far_push c.args.members c.loop-first.left c.in-Some.further c.loop-first.requests.items c.in-Some.first c.in_ok-read_request.field-0 c.loop-first.invariant c.in-Some.ensures c.in_ok-read_request.ensures.request c.in_ok-read_request.ensures.read)
 
-pub read_headed-returns-in_err-members-clause-shows : goal.read_headed-returns-in_err-members-clause-shows
-read_headed-returns-in_err-members-clause-shows t c =
-    let p = err_from_is_err_and c.from_residual.result c.from_residual.ensures.1 in
-    rw (p.1, p.2) (list_shows _ c.args.head.now c.args.further c.in_err-members.ensures.shows)
-
 pub read_headed-returns-clause-read : goal.read_headed-returns-clause-read
 read_headed-returns-clause-read t c =
     rw (c.list.ensures, c.in_ok-octets.ensures.items) (list_is_request c.args.head.now c.args.further c.in_ok-members.members.items c.in_ok-members.ensures.read)
-
-pub read_request-returns-in-String-Some-default-clause-shows : goal.read_request-returns-in-String-Some-default-clause-shows
-read_request-returns-in-String-Some-default-clause-shows t c =
-    let e = rw c.in-String-Some-default.hint-is at c.in-String-Some-default.ensures in
-    hinted_itself c.args.value.now (c.in-String-Some-default.hint-0.now, c.in-String-Some-default.body.now, sym e)
 
 pub read_request_list-returns-in_err-head-in-Some-clause-named : goal.read_request_list-returns-in_err-head-in-Some-clause-named
 read_request_list-returns-in_err-head-in-Some-clause-named t c =

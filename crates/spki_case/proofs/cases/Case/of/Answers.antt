@@ -1,14 +1,10 @@
-use Rattle.std.proofs.Common.{◌≢◌, List, refl, sym, subst, ◌∙◌, rules, inl, inr, Option, Some, ◌≡◌}
-use Rattle.sexpr_core.specs.Value.{Value}
+use Rattle.std.proofs.Common.{◌≢◌, refl, sym, ◌∙◌, rules, inl, inr, Option, Some, ◌≡◌}
 use Rattle.spki_cert.specs.declared.fault.CertFaultKind.TheVariants as kinds
-use Rattle.spki_cert.specs.Entries.{AclRefused}
-use Rattle.spki_cert.specs.Sequences.{SeqRefused}
-use Rattle.spki_cert.proofs.EntryLaws.{refused-acl}
-use Rattle.spki_cert.proofs.SeqLaws.{refused-sequence}
+use Rattle.spki_cert.proofs.EntryFaultNone.{acl-refused}
+use Rattle.spki_cert.proofs.ItemFaultNone.{sequence-refused}
 use Rattle.spki_case.specs.CaseForm.{Parts, acl_value, sequence_value, ReadsAcl, ReadsRows, ReadsItems, ReadsKey, ReadsRequest}
-use Rattle.spki_case.specs.Rows.{RowsRefused}
 use Rattle.spki_case.proofs.Lacking.{lacks}
-use Rattle.spki_case.proofs.RowLaws.{no_rows_at}
+use Rattle.spki_case.proofs.RowFaultNone.{rows-refused}
 use Rattle.spki_case.proofs.Signed.{signed}
 use Rattle.spki_tag.specs.declared.fault.TagFault.{TagFault}
 use Rattle.spki_tag.specs.declared.fault.TagFault.TheVariants as tag_faults
@@ -25,12 +21,11 @@ returns-in-Err-clause-refused c =
     let h = c.in-Some.ensures in
     let parts : Parts = h.0 in
     lacks c.args.node.now parts _ _ c.fault_of_acl.result h.1 c.fault_of_acl.ensures (λ known.
-    let refused : AclRefused (acl_value parts) c.in-Err.fault = subst (λ (v : Value). AclRefused v c.in-Err.fault) h.2.acl (c.in-Err.ensures.refused known) in
+    let named = rw h.2.acl at (c.in-Err.ensures.named known) in
     record {
       found = known;
-      refused = refused;
-      named = rw h.2.acl at (c.in-Err.ensures.named known);
-      none = refused-acl (acl_value parts) c.in-Err.fault refused;
+      named = named;
+      none = acl-refused (acl_value parts) c.in-Err.fault named;
     })
 
 pub returns-in-Err-table_of-clause-refused : goal.returns-in-Err-table_of-clause-refused
@@ -39,9 +34,8 @@ returns-in-Err-table_of-clause-refused c =
     let parts : Parts = h.0 in
     let reads : ReadsAcl parts = search rules in
     lacks c.args.node.now parts _ _ c.fault_of_rows.result h.1 c.fault_of_rows.ensures (λ known.
-    let refused : RowsRefused parts.rows c.in-Err-table_of.fault =
-    subst (λ (vs : List Value). RowsRefused vs c.in-Err-table_of.fault) h.2.rows (c.in-Err-table_of.ensures.refused known) in
-    record { before = reads; refused = refused; none = no_rows_at parts.rows c.in-Err-table_of.fault refused })
+    let named = rw h.2.rows at (c.in-Err-table_of.ensures.named known) in
+    record { before = reads; found = known; named = named; none = rows-refused parts.rows c.in-Err-table_of.fault named })
 
 pub returns-in-Err-sequence_of-clause-refused : goal.returns-in-Err-sequence_of-clause-refused
 returns-in-Err-sequence_of-clause-refused c =
@@ -49,14 +43,12 @@ returns-in-Err-sequence_of-clause-refused c =
     let parts : Parts = h.0 in
     let reads : ReadsRows parts = search rules in
     lacks c.args.node.now parts _ _ c.fault_of_sequence.result h.1 c.fault_of_sequence.ensures (λ known.
-    let refused : SeqRefused (sequence_value parts) c.in-Err-sequence_of.fault =
-    subst (λ (v : Value). SeqRefused v c.in-Err-sequence_of.fault) h.2.sequence (c.in-Err-sequence_of.ensures.refused known) in
+    let named = rw h.2.sequence at (c.in-Err-sequence_of.ensures.named known) in
     record {
       before = reads;
       found = known;
-      refused = refused;
-      named = rw h.2.sequence at (c.in-Err-sequence_of.ensures.named known);
-      none = refused-sequence (sequence_value parts) c.in-Err-sequence_of.fault refused;
+      named = named;
+      none = sequence-refused (sequence_value parts) c.in-Err-sequence_of.fault named;
     })
 
 pub returns-in-Err-key_of-clause-refused : goal.returns-in-Err-key_of-clause-refused
@@ -72,7 +64,6 @@ returns-in-Err-key_of-clause-refused c =
         before = reads;
         outer = rw c.fault_of_part.ensures refl;
         found = found;
-        shows = (let shown = rw h.2.key at c.in-Err-key_of.ensures.shown in rw c.fault_of_part.ensures shown);
         named = (let named = rw h.2.key at c.in-Err-key_of.ensures.named in rw c.fault_of_part.ensures named);
         none = λ key e. c.in-Err-key_of.ensures.refused key (rw h.2.key e);
       };
@@ -86,7 +77,6 @@ returns-in-Err-of-clause-refused c =
     lacks c.args.node.now parts _ _ c.fault_of_request.result h.1 c.fault_of_request.ensures (λ known. record {
       before = reads;
       found = known;
-      shows = (rw h.2.request at c.in-Err-of.ensures.shows);
       named = request-named c.in-Err-of.fault _ (rw h.2.request at c.in-Err-of.ensures.named) known;
       none = λ g e. known (c.in-Err-of.ensures.refused g e.is_request (e.written ∙ sym h.2.request));
     })

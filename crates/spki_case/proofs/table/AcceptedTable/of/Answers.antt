@@ -3,4 +3,4 @@ use Rattle.spki_case.proofs.table.AcceptedTable.of.Goals as goal
 
 pub returns-in-Err-clause-refused : goal.returns-in-Err-clause-refused
 returns-in-Err-clause-refused c =
-    lacks_row c.args.node.now c.in-Some.rows c.in-Err.fault _ c.fault_of_row.result c.in-Some.ensures c.fault_of_row.ensures c.in-Err.ensures.refused
+    lacks_row c.args.node.now c.in-Some.rows c.in-Err.fault c.fault_of_row.result c.in-Some.ensures c.fault_of_row.ensures c.in-Err.ensures.named

@@ -1,6 +1,6 @@
-use Rattle.std.proofs.Common.{◌≡◌, ◌+◌, ◌*◌, ◌≤◌, false, subst, sym, ◌∙◌, ap, arith}
+use Rattle.std.proofs.Common.{◌≡◌, ◌+◌, ◌*◌, ◌≤◌, false, subst, sym, ◌∙◌, arith}
 use borrow.Author.Tests.{leb-true}
-use Rattle.std.proofs.Math.Nat.{mul-le-mul_left, mul-le-mul_right}
+use Rattle.std.proofs.Math.Nat.{mul-le-mul_left}
 use Rattle.spki_tag.specs.Tag.{nodes, nests_set}
 use Rattle.spki_reduce.specs.Chain.{tuples_of}
 use Rattle.spki_decision.specs.Sizes.{ArePlain}

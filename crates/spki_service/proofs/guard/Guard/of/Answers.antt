@@ -1,5 +1,5 @@
 use Rattle.std.proofs.Common.{◌≡◌, ap, length, arith}
-use Rattle.spki_cert.proofs.EntryLaws.{refused-acl}
+use Rattle.spki_cert.proofs.EntryFaultNone.{acl-refused}
 use Rattle.spki_service.proofs.Reading.{named_fault, texts_held, value_held, many}
 use Rattle.spki_service.proofs.guard.Guard.of.Goals as goal
 
@@ -7,9 +7,8 @@ pub returns-in-Err-clause-refused : goal.returns-in-Err-clause-refused
 returns-in-Err-clause-refused c found =
     named_fault c.args.list.now c.in-Err.fault c.fault_of_acl.result c.fault_of_acl.ensures (λ known. record {
       found = known;
-      refused = c.in-Err.ensures.refused known;
       named = c.in-Err.ensures.named known;
-      none = refused-acl c.args.list.now c.in-Err.fault (c.in-Err.ensures.refused known);
+      none = acl-refused c.args.list.now c.in-Err.fault (c.in-Err.ensures.named known);
     }) found
 
 pub invariant_of-result : goal.invariant_of-result
