@@ -16,7 +16,7 @@ use Rattle.spki_guard.specs.declared.answers.Verdict.{Verdict}
 use Rattle.spki_guard.specs.declared.question_answers.Wish.{Wish}
 use Rattle.spki_guard.specs.declared.question_answers.Wish.TheVariants.{Decide, Explain, Reduce}
 use Rattle.spki_guard.specs.Answer.{IsLineOf}
-use Rattle.spki_guard.specs.Held.{ReadsQuestion, IsUnreadFor, IsUnreadQuestion, WritesAsked, IsTooLargeFor, AnswersAsked, AnswersHeld, IsAnswerHeld, HasOtherCount, ListsSigned, beside, marked, joined, lengths_of, signed_texts}
+use Rattle.spki_guard.specs.Held.{ReadsQuestion, IsUnreadFor, IsUnreadQuestion, WritesAsked, IsTooLargeFor, AnswersAsked, AnswersHeld, IsAnswerHeld, HasOtherCount, beside, marked}
 use Rattle.spki_guard.specs.HeldLines.{refused_question}
 use Rattle.spki_guard.specs.Run.{RefusesForMemory}
 use Rattle.spki_guard.proofs.OneLine.{decision_line, explanation_line, reduction_line}
@@ -47,21 +47,6 @@ module _ (held : Held) (q : Question) where
   unread_one x y output line (inl m) (inr n) found known = absurd (known n)
   unread_one x y output line (inl m) (inl n) found known =
       (m.verdict_is ∙ sym n.verdict_is, m.line ∙ ap refused_question (faults_one m.fault n.fault m.refused n.refused) ∙ sym n.line)
-
-  -- ---- what a verifier is asked
-
-  pub listed_one : (octets others lengths numbers : List ℕ) → ListsSigned held q octets lengths → ListsSigned held q others numbers
-      → (octets ≡ others) × (lengths ≡ numbers)
-  listed_one octets others lengths numbers m n =
-      let same : m.case_read ≡ n.case_read = case_one m.case_read n.case_read m.read n.read in (
-        m.octets_are ∙ ap (λ c. joined (signed_texts (asked c))) same ∙ sym n.octets_are,
-        m.lengths_are ∙ ap (λ c. lengths_of (signed_texts (asked c))) same ∙ sym n.lengths_are,
-      )
-
-  pub listed_or_not : (octets lengths : List ℕ) (verdict : Verdict) (output : List ℕ) → ListsSigned held q octets lengths
-      → IsUnreadQuestion held q verdict output → RefusesForMemory verdict output
-  listed_or_not octets lengths verdict output m (inl n) = absurd (read_or_not m.case_read n.fault m.read n.refused)
-  listed_or_not octets lengths verdict output m (inr n) = n
 
   -- ---- as many marks
 

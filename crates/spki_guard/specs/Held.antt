@@ -130,27 +130,3 @@ pub record HasOtherCount (held : Held) (q : Question) (marks : List Bool) : Type
   pub case_read : Case
   pub read : ReadsQuestion held q case_read
   pub other : length marks ≢ length (asked case_read)
-
--- ---- what a verifier is asked
-
--- the key, the message and the value of each signature, in order
-abbrev pub signed_texts : List Signed → List (List ℕ)
-signed_texts [] = []
-signed_texts (s ∷ signed) = s.key ∷ s.message ∷ s.value ∷ signed_texts signed
-
--- one after another
-abbrev pub joined : List (List ℕ) → List ℕ
-joined [] = []
-joined (text ∷ texts) = text ++ joined texts
-
--- how many octets each has
-abbrev pub lengths_of : List (List ℕ) → List ℕ
-lengths_of [] = []
-lengths_of (text ∷ texts) = length text ∷ lengths_of texts
-
--- The question is read; these are what a verifier is asked of it, one after another, and the length of each.
-pub record ListsSigned (held : Held) (q : Question) (octets : List ℕ) (lengths : List ℕ) : Type 0 where
-  pub case_read : Case
-  pub read : ReadsQuestion held q case_read
-  pub octets_are : octets ≡ joined (signed_texts (asked case_read))
-  pub lengths_are : lengths ≡ lengths_of (signed_texts (asked case_read))

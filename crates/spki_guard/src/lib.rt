@@ -21,7 +21,7 @@ pub use intersection::{IntersectFault, intersect};
 pub use metered_io::Metered;
 pub use opened_answers::{answer_opened, open_question};
 pub use program::run_words;
-pub use question_answers::{SignedOctets, Wish, answer_question, refused_list, signed_octets};
+pub use question_answers::{Wish, answer_question, refused_list};
 pub use runs::run;
 pub use separate_rows::{check_accepted, one_answer_apart};
 pub use spki_case::{AcceptedTable, Case, CaseFault, Row, RowsFault, Verifier};

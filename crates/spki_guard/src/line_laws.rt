@@ -11,7 +11,7 @@ ghost use Rattle.spki_guard.specs.declared.answers.Verdict.{Verdict};
 ghost use Rattle.spki_guard.specs.declared.question_answers.Wish.{Wish};
 ghost use Rattle.spki_guard.specs.declared.intersection.IntersectFault.TheVariants as intersect;
 ghost use Rattle.spki_guard.specs.Answer.{AnswersRead, RefusesAnswer};
-ghost use Rattle.spki_guard.specs.Held.{IsAnswerHeld, HasOtherCount, IsUnreadQuestion, ListsSigned};
+ghost use Rattle.spki_guard.specs.Held.{IsAnswerHeld, HasOtherCount, IsUnreadQuestion};
 ghost use Rattle.spki_guard.specs.Run.{RefusesForMemory};
 ghost use Rattle.spki_words.specs.declared.commands.Command.{Command};
 
@@ -47,14 +47,9 @@ pub fn one_answer_held()
         → HasOtherCount held q marks → IsAnswerHeld wish held q marks x output → RefusesForMemory x output }
 {}
 
-/// Unless memory ran out, a question has one list of octets and lengths that a verifier is asked, or one refusal, and never both. So
-/// `signed_octets` returns one result.
-pub fn one_signed_list()
-    ensures same { (held : Held) (q : Question) (octets others lengths numbers : List ℕ)
-        → ListsSigned held q octets lengths → ListsSigned held q others numbers → (octets ≡ others) × (lengths ≡ numbers) }
-    ensures listed { (held : Held) (q : Question) (octets lengths : List ℕ) (x : Verdict) (output : List ℕ)
-        → ListsSigned held q octets lengths → IsUnreadQuestion held q x output → RefusesForMemory x output }
-    ensures refused { (held : Held) (q : Question) (x y : Verdict) (output line : List ℕ)
+/// A question that is refused has one refusal, unless memory ran out. So `open_question` refuses it in one line.
+pub fn one_refused_question()
+    ensures { (held : Held) (q : Question) (x y : Verdict) (output line : List ℕ)
         → IsUnreadQuestion held q x output → IsUnreadQuestion held q y line
         → ¬ RefusesForMemory x output → ¬ RefusesForMemory y line → (x ≡ y) × (output ≡ line) }
 {}

@@ -1,9 +1,8 @@
 //! The answers to questions that are asked of a guard, as lines.
-ghost use Rattle.std.specs.Prelude.{◌≡◌, ◌≢◌, ◌++◌, ◌⊎◌, ◌∷◌, [], ℕ, List, length, map, IfOk, IfErr, IfSome, IsNone, IsErrOf, OnOk};
+ghost use Rattle.std.specs.Prelude.{◌≡◌, ◌≢◌, ◌⊎◌, length, IfOk, IfSome, IsNone, IsErrOf};
 ghost use Rattle.spki_decision.specs.Asked.{asked};
-ghost use Rattle.spki_decision.specs.Views.{signed_of};
 ghost use Rattle.spki_guard.specs.Answer.{written_by};
-ghost use Rattle.spki_guard.specs.Held.{IsAnswerHeld, HasOtherCount, IsUnreadQuestion, ListsSigned, AnswersAsked, WritesAsked, IsTooLargeFor, marked, joined, lengths_of, signed_texts};
+ghost use Rattle.spki_guard.specs.Held.{IsAnswerHeld, HasOtherCount, AnswersAsked, WritesAsked, IsTooLargeFor, marked};
 ghost use Rattle.spki_guard.specs.HeldLines.{refused_list, refused_question};
 ghost use Rattle.spki_guard.specs.Lines.{refused_memory};
 ghost use Rattle.spki_guard.specs.Run.{RefusesForMemory};
@@ -12,7 +11,7 @@ use crate::answers::{Answer, Output, Refusal, Verdict, decision_line, out_of_mem
 use crate::guard_refusals::{push_refused_list, push_refused_question};
 use crate::reports::{push_explanation, push_reduction};
 use spki_decision::GuardFault;
-use spki_service::{AclFault, AskFault, Asked, Guard, Question, Signed};
+use spki_service::{AclFault, AskFault, Asked, Guard, Question};
 use std::alloc::{AllocError, Global};
 
 /// What a question is asked for.
@@ -24,16 +23,6 @@ pub enum Wish {
     Explain,
     /// What each entry and the certificates become.
     Reduce,
-}
-
-/// What a verifier is asked of a question. For each signature, in order, it is the issuer's key, the message and the signature's
-/// value, each in canonical form.
-#[derive(Drop)]
-pub struct SignedOctets {
-    /// The octets of these texts, each text directly after the one before it.
-    pub octets: Vec<u8>,
-    /// How many octets each text has: three numbers for each signature.
-    pub lengths: Vec<usize>,
 }
 
 /// Answers a question that is asked of a guard (RFC 2693, section 6). The lines are those that `run` writes for the case of the
@@ -64,32 +53,6 @@ pub fn answer_question(
     match guard.ask(alloc, &texts) {
         Ok(asked) => answer_asked(alloc, wish, &asked, marks),
         Err(fault) => Some(refuse_question(alloc, fault)),
-    }
-}
-
-/// Lists what a verifier is asked of a question: the texts of `Asked::signed`, as octets.
-///
-/// # Errors
-///
-/// If the question is refused: the line that `answer_question` returns for it. If memory ran out: `refused Memory`.
-pub fn signed_octets(
-    alloc: Global,
-    guard: &Guard,
-    question: &Question<'_>,
-) -> Result<SignedOctets, Answer>
-    ensures listed { IfOk result (λ s. ListsSigned guard.now question.now s.octets.items s.lengths.items) }
-    ensures refused { IfErr result (λ a. IsUnreadQuestion guard.now question.now a.verdict (written_by a)) }
-{
-    let texts = match guard.texts(alloc, question) {
-        Ok(texts) => texts,
-        Err(fault) => return Err(refuse_question(alloc, fault)),
-    };
-    match guard.ask(alloc, &texts) {
-        Ok(asked) => match joined(alloc, asked.signed()) {
-            Ok(octets) => Ok(octets),
-            Err(_) => Err(out_of_memory()),
-        },
-        Err(fault) => Err(refuse_question(alloc, fault)),
     }
 }
 
@@ -183,31 +146,6 @@ fn reduced(alloc: Global, read: &Asked, marks: &[bool]) -> Result<Answer, GuardF
         verdict,
         output: Output::Made(lines),
     })
-}
-
-/// The octets of signatures.
-fn joined(alloc: Global, signed: &[Signed]) -> Result<SignedOctets, AllocError>
-    ensures octets { IfOk result (λ s. s.octets.items ≡ joined (signed_texts (map signed_of signed.now))) }
-    ensures lengths { IfOk result (λ s. s.lengths.items ≡ lengths_of (signed_texts (map signed_of signed.now))) }
-{
-    let mut octets = Vec::new(alloc);
-    let mut lengths = Vec::new(alloc);
-    for one in signed {
-        append(&mut octets, &mut lengths, one.key.as_slice())?;
-        append(&mut octets, &mut lengths, one.message.as_slice())?;
-        append(&mut octets, &mut lengths, one.value.as_slice())?;
-    }
-    Ok(SignedOctets { octets, lengths })
-}
-
-/// Appends octets, and their count to the lengths.
-fn append(octets: &mut Vec<u8>, lengths: &mut Vec<usize>, more: &[u8]) -> Result<(), AllocError>
-    ensures octets { OnOk result (octets.new.items ≡ octets.old.items ++ more.now) }
-    ensures lengths { OnOk result (lengths.new.items ≡ lengths.old.items ++ length more.now ∷ []) }
-{
-    octets.extend_from_slice(more)?;
-    lengths.push(more.len())?;
-    Ok(())
 }
 
 /// The answer to a question that is refused: its line, or that memory ran out if there is none for the line.
