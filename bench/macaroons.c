@@ -102,7 +102,7 @@ int main(int count, char **words)
     length = fread(text, 1, sizeof text, file);
     fclose(file);
     mint();
-    held = held_in(words[2], NULL);
+    held = held_in(words[2], &highest);
     if (list_signed(&held) != SPKI_DONE) return 1;
     return count == 3 ? print_times() : repeat(strtoul(words[3], NULL, 10), strtol(words[4], NULL, 10));
 }

@@ -10,10 +10,13 @@
 
 enum { PARTS = 5, MOST_LISTED = 65536 };
 
+static const struct spki_limits highest = SPKI_HIGHEST_LIMITS;
+
 struct held {
     struct spki_text list;
     struct spki_question question;
     spki_guard *guard;
+    spki_asked *asked;
     unsigned char *verified, *buffer;
     size_t count, room;
 };
@@ -39,32 +42,37 @@ static spki_guard *open_guard(struct spki_text list, const struct spki_limits *l
     return guard;
 }
 
-/* Lists the signatures, as a service does before it verifies them. */
+/* Opens the question and lists the signatures, as a service does before it verifies them. */
 static enum spki_status list_signed(struct held *held)
 {
-    static _Thread_local struct spki_signed listed[MOST_LISTED];
+    struct spki_signed signature;
     size_t needed;
-    return spki_guard_signed(held->guard, &held->question, listed, MOST_LISTED, &held->count, held->buffer, held->room, &needed);
+    spki_asked_close(held->asked);
+    enum spki_status status = spki_guard_ask(held->guard, &held->question, &held->asked, held->buffer, held->room, &needed);
+    held->count = 0;
+    while (spki_asked_signature(held->asked, held->count, &signature) == SPKI_DONE)
+        held->count++;
+    return status;
 }
 
-/* A call that answers a question. */
-typedef enum spki_status wish(const spki_guard *, const struct spki_question *, const unsigned char *, size_t, void *, size_t, size_t *);
+/* A call that answers an opened question. */
+typedef enum spki_status wish(const spki_asked *, const unsigned char *, size_t, void *, size_t, size_t *);
 
 static enum spki_status answered(struct held *held, wish *call)
 {
     size_t needed;
-    return call(held->guard, &held->question, held->verified, held->count, held->buffer, held->room, &needed);
+    return call(held->asked, held->verified, held->count, held->buffer, held->room, &needed);
 }
 
 static enum spki_status decided(struct held *held)
 {
-    return answered(held, spki_guard_decide);
+    return answered(held, spki_asked_decide);
 }
 
-/* The guard and the question of a file, and the number of the signatures that are asked of. */
+/* The guard and the question of a file. */
 static struct held held_in(const char *path, const struct spki_limits *limits)
 {
-    struct held held = {.room = 64 << 20};
+    struct held held = {.room = 64 << 20, .question.size = sizeof held.question};
     FILE *file = fopen(path, "rb");
     if (!file)
         exit(2);

@@ -52,7 +52,7 @@ static double time_of(enum spki_status (*call)(struct held *), struct held *held
 
 static void decide_file(const char *path)
 {
-    struct held held = held_in(path, NULL);
+    struct held held = held_in(path, &highest);
     double listing = 0, deciding = 0;
     for (int round = 0; round < ROUNDS; round++) {
         keep_least(&listing, time_of(list_signed, &held, SPKI_DONE));
@@ -100,7 +100,7 @@ static void forget_peak(void)
 static wish *wish_of(const char *word)
 {
     static const struct { const char *word; wish *call; } wishes[] = {
-        {"decide", spki_guard_decide}, {"explain", spki_guard_explain}, {"reduce", spki_guard_reduce}};
+        {"decide", spki_asked_decide}, {"explain", spki_asked_explain}, {"reduce", spki_asked_reduce}};
     for (size_t i = 0; i < sizeof wishes / sizeof *wishes; i++)
         if (!strcmp(word, wishes[i].word))
             return wishes[i].call;
@@ -109,7 +109,8 @@ static wish *wish_of(const char *word)
 
 static void ask_widest(const char *word, const char *path)
 {
-    const struct spki_limits limits = {65536, SPKI_MOST_NODES, SPKI_USUAL_WORK, SPKI_USUAL_ANSWER};
+    struct spki_limits limits = SPKI_USUAL_LIMITS;
+    limits.certificates = limits.words = SIZE_MAX;
     wish *call = wish_of(word);
     struct held held = held_in(path, &limits);
     /* The room for answers is the caller's, and is no part of what the question takes. */
@@ -194,7 +195,7 @@ static void ask_by_threads(size_t threads, const char *path)
     void *(*const works[])(void *) = {decide_on, count_on};
     struct rate one[2] = {{0, 0}}, many[2] = {{0, 0}};
     for (size_t i = 0; i < threads && i < MOST_THREADS; i++) {
-        of_threads[i] = held_in(path, NULL);
+        of_threads[i] = held_in(path, &highest);
         list_signed(&of_threads[i]);
     }
     for (int turn = 0; turn < TURNS * 2; turn++) {
@@ -207,7 +208,7 @@ static void ask_by_threads(size_t threads, const char *path)
 
 static void repeat(const char *path, long calls)
 {
-    struct held held = held_in(path, NULL);
+    struct held held = held_in(path, &highest);
     if (list_signed(&held) != SPKI_DONE)
         exit(4);
     for (long i = 0; i < calls; i++)
@@ -217,7 +218,7 @@ static void repeat(const char *path, long calls)
 
 static void ask(const char *path, long calls)
 {
-    struct held held = held_in(path, NULL);
+    struct held held = held_in(path, &highest);
     for (long i = 0; i < calls; i++)
         if (list_signed(&held) != SPKI_DONE || decided(&held) != SPKI_YES)
             exit(4);
@@ -227,7 +228,7 @@ static void reopen(const char *path, long calls)
 {
     struct spki_text list = whole_file(path);
     for (long i = 0; i < calls; i++)
-        spki_guard_close(open_guard(list, NULL));
+        spki_guard_close(open_guard(list, &highest));
 }
 
 static void answer(const char *path, long calls)

@@ -1,5 +1,5 @@
 -- A question has one refusal, or none if it is read and within the limits.
-use Rattle.std.proofs.Common.{◌≡◌, ◌⊎◌, ℕ, ◌≤◌, inl, inr, refl, sym, subst, ap, ◌∙◌, arith}
+use Rattle.std.proofs.Common.{◌≡◌, ◌⊎◌, ℕ, ◌<◌, ◌≤◌, inl, inr, refl, sym, subst, ap, ◌∙◌, arith}
 use Rattle.spki_case.specs.Case.{Case}
 use Rattle.spki_service.specs.declared.question.Question.{Question}
 use Rattle.spki_service.specs.declared.question.AskFault.{AskFault}
@@ -11,7 +11,7 @@ use Rattle.spki_service.proofs.OneAsking.{items_one, wanted_one, both, unrefused
 
 module _ (certificates words : ℕ) (q : Question) where
   -- a refusal for too many certificates, or for too many strings
-  TooMany : AskFault → Type 0
+  abbrev TooMany : AskFault → Type 0
   TooMany fault = ((fault ≡ faults.TooManyCertificates) × HasManyCertificates certificates q)
       ⊎ ((fault ≡ faults.TooManyWords) × HasManyStrings certificates words q)
 

@@ -2,7 +2,7 @@ use Rattle.std.proofs.Common.{None, Ok, ◌∙◌, sym, subst, List}
 use Rattle.spki_decision.specs.Asked.{Signed, asked, IsFirstRefused, RefusedAt}
 use Rattle.spki_service.specs.Asking.{MarksAccept}
 use Rattle.spki_service.proofs.Outcomes.{decided_all, decided_none}
-use Rattle.spki_service.proofs.openings.Opened.decide_by.Goals as goal
+use Rattle.spki_service.proofs.opened.Opened.decide_by.Goals as goal
 
 pub returns-in-None : goal.returns-in-None
 returns-in-None c kept =

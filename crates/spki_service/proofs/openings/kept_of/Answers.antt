@@ -1,0 +1,23 @@
+use Rattle.std.proofs.Common.{ap, map, ◌∙◌}
+use Rattle.spki_decision.specs.Asked.{asked}
+use Rattle.spki_decision.specs.Views.{signed_of}
+use Rattle.spki_service.proofs.openings.kept_of.Goals as goal
+
+pub returns-clause-kept : goal.returns-clause-kept
+returns-clause-kept c =
+    let read = c.in_ok-read.ensures in
+    record {
+      read = c.in_ok-read.read;
+      is = record {
+        entries = read.entries;
+        is = read.asked;
+        policy = read.policy;
+        nodes = read.nodes;
+        work = read.work;
+        answer = read.answer;
+        few = read.few;
+        short = read.short;
+      };
+      signed_are = c.in_ok-signed.ensures ∙ c.signed.ensures;
+      decision_is = c.in_ok-decision.ensures;
+    }
