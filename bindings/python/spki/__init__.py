@@ -32,7 +32,7 @@ from types import TracebackType
 from typing import TypeVar, cast
 
 from . import _library as of
-from ._library import library
+from ._library import at_once, library
 from ._values import Decision, Explanation, Limits, NoDecision, Policy, Question, Reason, Reduction, Refused, Signature, mark_of, octets_of, whole
 
 __version__ = "0.1.0"
@@ -91,7 +91,7 @@ class Asked(_Open, NoDecision):
         """`Guard.ask` makes it."""
         self._handle = handle = _AskedHandle()
         _expect(*_answered(library.spki_guard_ask, guard, question._given, byref(handle)))
-        self._count: int = library.spki_asked_count(handle)
+        self._count: int = at_once.spki_asked_count(handle)
 
     def __len__(self) -> int:
         """The number of its signatures."""
@@ -102,7 +102,7 @@ class Asked(_Open, NoDecision):
         handle, found = self._held(), []
         for place in range(self._count):
             key, message, value, at, length = self._signature(place, handle)
-            found.append(Signature(key, message, value, None if at is None else ctypes.string_at(at, length)))
+            found.append(Signature(key, message, value, of.copied(at, length) if at else None))
         return found
 
     def marks(self, verify: Verify) -> list[bool]:
@@ -122,21 +122,23 @@ class Asked(_Open, NoDecision):
         """Which right remains of each entry after all certificates. Raises `Refused` if it is too large."""
         return Reduction(self._lines(library.spki_asked_reduce, marks))
 
-    def _signature(self, place: int, handle: c_void_p) -> tuple[bytes, bytes, bytes, int | None, int]:
+    def _signature(self, place: int, handle: c_void_p) -> tuple[bytes, bytes, bytes, int, int]:
         """The texts of a signature, and where the octets of its value are. The handle is open until they are copied."""
-        it, copied = of.Signed(), ctypes.string_at
-        _expect(library.spki_asked_signature(handle, place, it), b"")
-        key, key_length, message, message_length, value, value_length, _, octets_length = of.SIGNED.unpack(it)
-        return copied(key, key_length), copied(message, message_length), copied(value, value_length), it.octets, octets_length
+        it, copied = of.Signed(), of.copied
+        if (status := at_once.spki_asked_signature(handle, place, it)) != of.DONE:
+            raise _refused(status, b"")
+        key, key_length, message, message_length, value, value_length, octets, octets_length = of.SIGNED.unpack(it)
+        return copied(key, key_length), copied(message, message_length), copied(value, value_length), octets, octets_length
 
     def _verified(self, verify: Verify) -> bytes:
         """1 for each signature that is valid up to the first that is not, 0 for this one and all after it."""
-        handle = self._held()
-        for place in range(self._count):
-            key, message, value, *_ = self._signature(place, handle)
-            if not mark_of(verify(key, message, value)):
-                return b"\1" * place + bytes(self._count - place)
-        return b"\1" * self._count
+        handle, count = self._held(), self._count
+        for place in range(count):
+            key, message, value, _, _ = self._signature(place, handle)
+            if (answer := verify(key, message, value)) is not True:
+                mark_of(answer)
+                return b"\1" * place + bytes(count - place)
+        return b"\1" * count
 
     def _octets(self, marks: Iterable[bool]) -> bytes:
         """The marks as the library takes them."""

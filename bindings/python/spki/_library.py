@@ -4,7 +4,7 @@ import ctypes.util
 import os
 import struct
 from collections.abc import Callable
-from ctypes import POINTER, Structure, c_char_p, c_int, c_int64, c_size_t, c_uint, c_void_p
+from ctypes import POINTER, Structure, c_char_p, c_int, c_int64, c_size_t, c_ssize_t, c_uint, c_void_p
 
 NO, REFUSED, TOO_SMALL, DONE, NO_MEMORY, YES = 1, 2, 4, 6, 8, 9
 CANONICAL, ADVANCED, TRANSPORT = 0, 1, 2
@@ -39,6 +39,8 @@ class Signed(Structure):
 
 # The same as numbers. A null address is 0.
 SIGNED = struct.Struct("8N")
+# The octets at an address, as ctypes.string_at gives them in more steps.
+copied: Callable[[int, int], bytes] = ctypes.PYFUNCTYPE(ctypes.py_object, c_void_p, c_ssize_t)(("PyBytes_FromStringAndSize", ctypes.pythonapi))
 
 
 def found() -> str:
@@ -63,6 +65,8 @@ def checked(path: str) -> ctypes.CDLL:
 
 
 library = checked(found())
+# The same library for calls that take less time than letting other threads of Python run meanwhile.
+at_once = ctypes.PyDLL(library._name)
 _answer = [c_void_p, c_size_t, c_void_p]
 for _name, _types in {
     "guard_open": [c_char_p, c_size_t, c_uint, POINTER(Limits), c_void_p, *_answer], "guard_close": [c_void_p], "guard_entries": [c_void_p],
@@ -71,6 +75,7 @@ for _name, _types in {
     **{f"asked_{wish}": [c_void_p, c_char_p, c_size_t, *_answer] for wish in ("decide", "explain", "reduce")},
     "string": [c_char_p, c_size_t, c_void_p, c_size_t, c_void_p, c_void_p], "answer": [c_int, c_char_p, c_size_t, *_answer],
 }.items():
-    getattr(library, f"spki_{_name}").argtypes = _types
+    for _loaded in (library, at_once):
+        getattr(_loaded, f"spki_{_name}").argtypes = _types
 library.spki_guard_close.restype = library.spki_asked_close.restype = None
-library.spki_guard_entries.restype = library.spki_asked_count.restype = c_size_t
+library.spki_guard_entries.restype = at_once.spki_asked_count.restype = c_size_t
