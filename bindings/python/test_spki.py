@@ -340,16 +340,18 @@ class Guards(unittest.TestCase):
         closed = []
         closing = mock.patch.object(spki._GuardHandle.__del__, "__defaults__", (closed.append,)), \
             mock.patch.object(spki._AskedHandle.__del__, "__defaults__", (closed.append,))
-        with closing[0], closing[1]:
+        with closing[0], closing[1], mock.patch.object(_library, "close", closed.append):
             guard = spki.Guard(LIST)
             opened = guard.ask(asked())
             self.assertTrue(guard.decide(asked(), right))
+            with self.assertRaises(ZeroDivisionError):
+                guard.decide(asked(), lambda *signed: 1 / 0)
             guard.close()
             opened.close()
             opened.close()
             guard.close()
             del guard, opened
-        self.assertEqual([type(it).__name__ for it in closed], ["_AskedHandle", "_GuardHandle", "_AskedHandle"])
+        self.assertEqual([type(it).__name__ for it in closed], ["c_void_p", "c_void_p", "_GuardHandle", "_AskedHandle"])
 
 
 class Texts(unittest.TestCase):
@@ -379,7 +381,7 @@ class Texts(unittest.TestCase):
     def test_an_unknown_status_is_no_answer(self):
         opened = spki.Guard(LIST).ask(asked())
         for status in (0, 3, 5, 7, 10):
-            with mock.patch.object(spki.library, "spki_asked_decide", return_value=status), self.assertRaises(RuntimeError):
+            with mock.patch.object(_library, "decide", return_value=status), self.assertRaises(RuntimeError):
                 opened.decide([True])
 
 

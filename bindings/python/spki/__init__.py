@@ -26,13 +26,13 @@ from __future__ import annotations
 
 import ctypes
 from collections.abc import Callable, Iterable
-from ctypes import byref, c_char, c_size_t, c_void_p
+from ctypes import addressof, byref, c_char, c_size_t, c_void_p
 from dataclasses import fields
 from types import TracebackType
 from typing import TypeVar, cast
 
 from . import _library as of
-from ._library import at_once, library
+from ._library import library
 from ._values import Decision, Explanation, Limits, NoDecision, Policy, Question, Reason, Reduction, Refused, Signature, mark_of, octets_of, whole
 
 __version__ = "0.1.0"
@@ -57,7 +57,7 @@ class _GuardHandle(c_void_p):
 class _AskedHandle(c_void_p):
     """An opened question of the library, closed likewise."""
 
-    def __del__(self, close: Callable[[c_void_p], None] = library.spki_asked_close) -> None:
+    def __del__(self, close: Callable[[c_void_p], None] = of.close) -> None:
         close(self)
 
 
@@ -89,9 +89,8 @@ class Asked(_Open, NoDecision):
 
     def __init__(self, guard: c_void_p, question: Question) -> None:
         """`Guard.ask` makes it."""
-        self._handle = handle = _AskedHandle()
-        _expect(*_answered(library.spki_guard_ask, guard, question._given, byref(handle)))
-        self._count: int = at_once.spki_asked_count(handle)
+        self._handle = _AskedHandle(_asked(guard, question))
+        self._count = of.count(self._handle)
 
     def __len__(self) -> int:
         """The number of its signatures."""
@@ -99,46 +98,25 @@ class Asked(_Open, NoDecision):
 
     def signatures(self) -> list[Signature]:
         """The signatures on which the answers depend, in order. A service verifies them as it likes: one by one, together, or elsewhere."""
-        handle, found = self._held(), []
-        for place in range(self._count):
-            key, message, value, at, length = self._signature(place, handle)
-            found.append(Signature(key, message, value, of.copied(at, length) if at else None))
-        return found
+        handle = self._held()
+        return [_signature(handle, place) for place in range(self._count)]
 
     def marks(self, verify: Verify) -> list[bool]:
         """What `verify(key, message, value)` answers for each signature, in order. It is not called after the first `False`, and the marks
         after this one are `False` too. Raises `TypeError` if it answers anything but `True` or `False`, such as a coroutine."""
-        return list(map(bool, self._verified(verify)))
+        return list(map(bool, _verified(self._held(), self._count, verify)))
 
     def decide(self, marks: Iterable[bool]) -> Decision:
         """Whether the request is granted, if exactly the signatures are valid whose marks are `True`. There is one mark for each."""
-        return self._decided(self._octets(marks))
+        return _decided(self._held(), self._octets(marks))
 
     def explain(self, marks: Iterable[bool]) -> Explanation:
         """Says of each entry why it grants the request or does not. Raises `Refused` if it is too large."""
-        return Explanation(self._lines(library.spki_asked_explain, marks))
+        return Explanation(_lines(of.explain, self._held(), self._octets(marks)))
 
     def reduce(self, marks: Iterable[bool]) -> Reduction:
         """Which right remains of each entry after all certificates. Raises `Refused` if it is too large."""
-        return Reduction(self._lines(library.spki_asked_reduce, marks))
-
-    def _signature(self, place: int, handle: c_void_p) -> tuple[bytes, bytes, bytes, int, int]:
-        """The texts of a signature, and where the octets of its value are. The handle is open until they are copied."""
-        it, copied = of.Signed(), of.copied
-        if (status := at_once.spki_asked_signature(handle, place, it)) != of.DONE:
-            raise _refused(status, b"")
-        key, key_length, message, message_length, value, value_length, octets, octets_length = of.SIGNED.unpack(it)
-        return copied(key, key_length), copied(message, message_length), copied(value, value_length), octets, octets_length
-
-    def _verified(self, verify: Verify) -> bytes:
-        """1 for each signature that is valid up to the first that is not, 0 for this one and all after it."""
-        handle, count = self._held(), self._count
-        for place in range(count):
-            key, message, value, _, _ = self._signature(place, handle)
-            if (answer := verify(key, message, value)) is not True:
-                mark_of(answer)
-                return b"\1" * place + bytes(count - place)
-        return b"\1" * count
+        return Reduction(_lines(of.reduce, self._held(), self._octets(marks)))
 
     def _octets(self, marks: Iterable[bool]) -> bytes:
         """The marks as the library takes them."""
@@ -146,20 +124,6 @@ class Asked(_Open, NoDecision):
         if len(verified) != self._count:
             raise ValueError(f"there are {self._count} signatures and {len(verified)} marks")
         return verified
-
-    def _decided(self, verified: bytes) -> Decision:
-        status, line = _answered(library.spki_asked_decide, self._held(), verified, self._count)
-        if status == of.YES:
-            return Decision(int(line.removeprefix(b"yes entry ")))
-        if status == of.NO:
-            return Decision(None)
-        raise _refused(status, line)
-
-    def _lines(self, call: Callable[..., int], marks: Iterable[bool]) -> str:
-        """The lines of a call that decides nothing."""
-        status, lines = _answered(call, self._held(), self._octets(marks), self._count)
-        _expect(status, lines)
-        return lines.decode().rstrip("\n")
 
 
 class Guard(_Open):
@@ -187,14 +151,16 @@ class Guard(_Open):
 
     def ask(self, question: Question) -> Asked:
         """Opens a question. Raises `Refused` if a part of it cannot be read."""
-        if not isinstance(question, Question):
-            raise TypeError(f"a guard is asked a `Question`, and not {type(question).__name__}")
         return Asked(self._held(), question)
 
     def decide(self, question: Question, verify: Verify) -> Decision:
         """Whether the question's request is granted. Raises `Refused` if a part of the question cannot be read."""
-        asked = self.ask(question)
-        return asked._decided(asked._verified(verify))
+        # (the same as `ask`, `marks` and `decide`, without an object for the question, which no other thread can close)
+        handle = c_void_p(_asked(self._held(), question))
+        try:
+            return _decided(handle, _verified(handle, of.count(handle), verify))
+        finally:
+            of.close(handle)
 
     def explain(self, question: Question, verify: Verify) -> Explanation:
         """Says of each entry why it grants the request or does not. Raises `Refused` as `decide` does."""
@@ -251,32 +217,101 @@ def _converted(command: int, text: bytes) -> bytes:
 
 
 class _Room:
-    """Memory for the answer of one call."""
+    """Memory for the answer of one call, and what the call is given of it."""
 
     def __init__(self, octets: int) -> None:
-        self.buffer, self.octets, self.needed = (c_char * octets)(), octets, c_size_t()
-        self.at_needed = byref(self.needed)
+        self.buffer, self.needed, self.opened, self.signed = (c_char * octets)(), c_size_t(), c_void_p(), bytearray(of.SIGNED.size)
+        self.at_buffer, self.octets = c_void_p(addressof(self.buffer)), c_size_t(octets)
+        self.at_needed, self.at_opened = c_void_p(addressof(self.needed)), c_void_p(addressof(self.opened))
+        self.at_signed = c_void_p(addressof((c_char * of.SIGNED.size).from_buffer(self.signed)))
+
+    def answer(self) -> bytes:
+        """What the last call has written."""
+        # (a slice of this array is bytes, which its declared type does not say)
+        return cast(bytes, self.buffer[:self.needed.value])
 
 
-# Rooms that no call uses: at most as many as calls were under way at the same time. Making one takes half a microsecond.
+# Rooms that no call uses: at most as many as calls were under way at the same time. Making one takes some microseconds.
 _spare: list[_Room] = []
+_places = [c_size_t(place) for place in range(64)]
+
+
+def _taken() -> _Room:
+    """A room that no other call has."""
+    try:
+        return _spare.pop()
+    except IndexError:
+        return _Room(_USUAL)
 
 
 def _answered(call: Callable[..., int], *given: object) -> tuple[int, bytes]:
     """The status and the answer of a call, which is repeated if its buffer is not large enough."""
-    try:
-        room = _spare.pop()
-    except IndexError:
-        room = _Room(_USUAL)
-    status = call(*given, room.buffer, room.octets, room.at_needed)
-    # (a slice of this array is bytes, which its declared type does not say)
-    answer = cast(bytes, room.buffer[:room.needed.value])
-    _spare.append(room)
+    room = _taken()
+    status = call(*given, room.at_buffer, room.octets, room.at_needed)
+    answer = room.answer() if status != of.TOO_SMALL else b""
     if status == of.TOO_SMALL:
-        room = _Room(room.needed.value)
-        status = call(*given, room.buffer, room.octets, room.at_needed)
-        answer = cast(bytes, room.buffer[:room.needed.value])
+        larger = _Room(room.needed.value)
+        status, answer = call(*given, larger.at_buffer, larger.octets, larger.at_needed), larger.answer()
+    _spare.append(room)
     return status, answer
+
+
+def _asked(guard: c_void_p, question: Question) -> int | None:
+    """The address of an opened question."""
+    if not isinstance(question, Question):
+        raise TypeError(f"a guard is asked a `Question`, and not {type(question).__name__}")
+    room = _taken()
+    status = of.ask(guard, question._at, room.at_opened, room.at_buffer, room.octets, room.at_needed)
+    opened, answer = room.opened.value, room.answer()
+    _spare.append(room)
+    _expect(status, answer)
+    return opened
+
+
+def _texts(handle: c_void_p, place: int) -> tuple[int, ...]:
+    """Where the texts of a signature are, and how long they are."""
+    room = _taken()
+    status = of.signature(handle, _places[place] if place < len(_places) else c_size_t(place), room.at_signed)
+    numbers = of.SIGNED.unpack(room.signed)
+    _spare.append(room)
+    _expect(status, b"")
+    return numbers
+
+
+def _signature(handle: c_void_p, place: int) -> Signature:
+    """A signature of an opened question."""
+    numbers = _texts(handle, place)
+    key, message, value, octets = (of.memory[at:at + length] for at, length in zip(numbers[::2], numbers[1::2]))
+    return Signature(key, message, value, octets if numbers[6] else None)
+
+
+def _verified(handle: c_void_p, count: int, verify: Verify) -> bytes:
+    """1 for each signature that is valid up to the first that is not, 0 for this one and all after it."""
+    memory = of.memory
+    for place in range(count):
+        key, key_length, message, message_length, value, value_length, _, _ = _texts(handle, place)
+        answer = verify(memory[key:key + key_length], memory[message:message + message_length], memory[value:value + value_length])
+        if answer is not True:
+            mark_of(answer)
+            return b"\1" * place + bytes(count - place)
+    return b"\1" * count
+
+
+def _decided(handle: c_void_p, verified: bytes) -> Decision:
+    """The decision by marks."""
+    status, line = _answered(of.decide, handle, verified, c_size_t(len(verified)))
+    if status == of.YES:
+        return Decision(int(line[len("yes entry "):]))
+    if status == of.NO:
+        return Decision(None)
+    raise _refused(status, line)
+
+
+def _lines(call: of.Answers, handle: c_void_p, verified: bytes) -> str:
+    """The lines of a call that decides nothing."""
+    status, lines = _answered(call, handle, verified, c_size_t(len(verified)))
+    _expect(status, lines)
+    return lines.decode().rstrip("\n")
 
 
 def _expect(status: int, answer: bytes) -> None:

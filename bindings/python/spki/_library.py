@@ -4,7 +4,8 @@ import ctypes.util
 import os
 import struct
 from collections.abc import Callable
-from ctypes import POINTER, Structure, c_char_p, c_int, c_int64, c_size_t, c_ssize_t, c_uint, c_void_p
+from ctypes import POINTER, Structure, c_char_p, c_int, c_int64, c_size_t, c_uint, c_void_p
+from typing import Protocol, cast
 
 NO, REFUSED, TOO_SMALL, DONE, NO_MEMORY, YES = 1, 2, 4, 6, 8, 9
 CANONICAL, ADVANCED, TRANSPORT = 0, 1, 2
@@ -39,8 +40,16 @@ class Signed(Structure):
 
 # The same as numbers. A null address is 0.
 SIGNED = struct.Struct("8N")
-# The octets at an address, as ctypes.string_at gives them in more steps.
-copied: Callable[[int, int], bytes] = ctypes.PYFUNCTYPE(ctypes.py_object, c_void_p, c_ssize_t)(("PyBytes_FromStringAndSize", ctypes.pythonapi))
+
+
+class Memory(Protocol):
+    """The memory of this process."""
+
+    def __getitem__(self, places: slice) -> bytes:
+        """A copy of the octets from one address to another, as ctypes.string_at makes it in more steps."""
+
+
+memory = cast(Memory, (ctypes.c_char * (2 ** 63 - 1)).from_address(0))
 
 
 def found() -> str:
@@ -65,17 +74,23 @@ def checked(path: str) -> ctypes.CDLL:
 
 
 library = checked(found())
-# The same library for calls that take less time than letting other threads of Python run meanwhile.
+# (the same library, for calls that take less time than letting other threads of Python run meanwhile)
 at_once = ctypes.PyDLL(library._name)
+# The calls about a question. ctypes converts none of their arguments: they are objects of ctypes and octets, as mypy checks.
+ask: Callable[[c_void_p, c_void_p, c_void_p, c_void_p, c_size_t, c_void_p], int] = library.spki_guard_ask
+signature: Callable[[c_void_p, c_size_t, c_void_p], int] = at_once.spki_asked_signature
+count: Callable[[c_void_p], int] = at_once.spki_asked_count
+close: Callable[[c_void_p], None] = library.spki_asked_close
+Answers = Callable[[c_void_p, bytes, c_size_t, c_void_p, c_size_t, c_void_p], int]
+decide: Answers = library.spki_asked_decide
+explain: Answers = library.spki_asked_explain
+reduce: Answers = library.spki_asked_reduce
+
 _answer = [c_void_p, c_size_t, c_void_p]
 for _name, _types in {
     "guard_open": [c_char_p, c_size_t, c_uint, POINTER(Limits), c_void_p, *_answer], "guard_close": [c_void_p], "guard_entries": [c_void_p],
-    "guard_ask": [c_void_p, POINTER(Question), c_void_p, *_answer], "asked_close": [c_void_p], "asked_count": [c_void_p],
-    "asked_signature": [c_void_p, c_size_t, POINTER(Signed)],
-    **{f"asked_{wish}": [c_void_p, c_char_p, c_size_t, *_answer] for wish in ("decide", "explain", "reduce")},
     "string": [c_char_p, c_size_t, c_void_p, c_size_t, c_void_p, c_void_p], "answer": [c_int, c_char_p, c_size_t, *_answer],
 }.items():
-    for _loaded in (library, at_once):
-        getattr(_loaded, f"spki_{_name}").argtypes = _types
+    getattr(library, f"spki_{_name}").argtypes = _types
 library.spki_guard_close.restype = library.spki_asked_close.restype = None
 library.spki_guard_entries.restype = at_once.spki_asked_count.restype = c_size_t

@@ -5,7 +5,7 @@ import ctypes
 import enum
 import re
 from collections.abc import Iterator, Sequence
-from ctypes import c_int64, c_size_t, pointer
+from ctypes import addressof, c_int64, c_size_t, c_void_p, pointer
 from dataclasses import dataclass, fields
 from typing import NamedTuple
 
@@ -100,6 +100,7 @@ class Question:
             given.moment = text_of(moment)
         else:
             given.seconds = pointer(c_int64(seconds_of(moment)))
+        self._at = c_void_p(addressof(given))
 
 
 class Signature(NamedTuple):
