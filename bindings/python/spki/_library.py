@@ -3,6 +3,7 @@ import ctypes
 import ctypes.util
 import os
 import struct
+import sys
 from collections.abc import Callable
 from ctypes import POINTER, Structure, c_char_p, c_int, c_int64, c_size_t, c_uint, c_void_p
 from typing import Protocol, cast
@@ -49,7 +50,7 @@ class Memory(Protocol):
         """A copy of the octets from one address to another, as ctypes.string_at makes it in more steps."""
 
 
-memory = cast(Memory, (ctypes.c_char * (2 ** 63 - 1)).from_address(0))
+memory = cast(Memory, (ctypes.c_char * sys.maxsize).from_address(0))
 
 
 def found() -> str:
