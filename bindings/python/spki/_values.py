@@ -85,9 +85,8 @@ class Question:
         """
         if (words is None) == (text is None):
             raise TypeError("a request is given by `words` or by `text`, and not by both")
-        self.key = octets_of(key)
-        """The client's key, as it was given."""
-        self._given = given = of.Question(ctypes.sizeof(of.Question), text_of(sequence), text_of(key))
+        self._key = octets_of(key)
+        self._given = given = of.Question(ctypes.sizeof(of.Question), text_of(sequence), text_of(self._key))
         if text is not None:
             given.request = text_of(text)
         elif words is not None:
@@ -101,6 +100,11 @@ class Question:
         else:
             given.seconds = pointer(c_int64(seconds_of(moment)))
         self._at = c_void_p(addressof(given))
+
+    @property
+    def key(self) -> bytes:
+        """The client's key, as it was given."""
+        return self._key
 
 
 class Signature(NamedTuple):
