@@ -12,10 +12,11 @@ import (
 	"math/big"
 )
 
-// The fewest and the most bits of a modulus of RSA, and the most of an exponent, which Go does not take longer.
+// The fewest and the most bits of a modulus of RSA, and the most of an exponent, which Go does not take longer. A stranger may send 16
+// certificates with keys of its own, and a signature by a key of 16,384 bits would take 8 times as long as one of 4,096 bits.
 const (
 	LeastBits        = 2048
-	MostBits         = 16_384
+	MostBits         = 4096
 	MostExponentBits = 31
 )
 

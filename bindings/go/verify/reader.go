@@ -21,7 +21,7 @@ func (r *reader) skips(text string) bool {
 
 // string returns the string that the rest begins with, and goes behind it. It has at most so many octets.
 func (r *reader) string(most int) ([]byte, bool) {
-	colon := bytes.IndexByte(r.rest[:min(len(r.rest), len("16384:"))], ':')
+	colon := bytes.IndexByte(r.rest[:min(len(r.rest), len("4096:"))], ':')
 	if colon < 0 {
 		return nil, false
 	}

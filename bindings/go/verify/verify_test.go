@@ -135,7 +135,7 @@ func TestWeakKeysOfRSA(t *testing.T) {
 	}
 	for name, text := range map[string][]byte{
 		"2047 bits": rsaText(number(short), e), "2047 bits, padded": rsaText(padded, e), "even": rsaText(number(even), e),
-		"16385 bits": rsaText(long, e), "nothing": rsaText(nil, e), "e is nothing": rsaText(number(strong), nil),
+		"4097 bits": rsaText(long, e), "nothing": rsaText(nil, e), "e is nothing": rsaText(number(strong), nil),
 		"e is 1": rsaText(number(strong), []byte{1}), "e is even": rsaText(number(strong), []byte{1, 0, 0}),
 		"e is padded": rsaText(number(strong), []byte{0, 1, 0, 1}), "e has 32 bits": rsaText(number(strong), []byte{0, 0x80, 0, 0, 1}),
 		"no octet 00 in front": rsaText(number(strong)[1:], e), "two of them": rsaText(append([]byte{0}, number(strong)...), e),
