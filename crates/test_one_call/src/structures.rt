@@ -99,7 +99,10 @@ fn window(alloc: Global, from: &[u8], until: &[u8]) -> Result<Window, Failure> {
 
 fn holds(alloc: Global, from: &[u8], until: &[u8], text: &[u8]) -> Result<Vec<u8>, Failure> {
     let moment = date(alloc, text)?;
-    let limits = window(alloc, from, until)?;
+    let limits = Window {
+        not_before: limit(alloc, from)?,
+        not_after: limit(alloc, until)?,
+    };
     yes_or_no(alloc, limits.holds(&moment))
 }
 
