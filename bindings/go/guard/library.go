@@ -27,8 +27,8 @@ type status = C.enum_spki_status
 
 // A handle is an open guard, and an opened is a question that was read by it. Each is closed once.
 type (
-	handle = *C.library_guard
-	opened = *C.library_asked
+	handle = *C.spki_guard
+	opened = *C.spki_asked
 )
 
 // A wish says which answer to a question is asked for.
@@ -64,6 +64,17 @@ func size(limit int) C.size_t {
 	return C.size_t(limit)
 }
 
+// policyOf is a policy as the library takes it. One that does not exist is no policy of the library either.
+func policyOf(policy Policy) C.enum_spki_policy {
+	switch policy {
+	case Strict:
+		return C.SPKI_STRICT
+	case AllowSHA1:
+		return C.SPKI_OPEN
+	}
+	return ^C.enum_spki_policy(0)
+}
+
 // answered calls until the buffer, which begins with so much room, is large enough for the answer.
 func answered(room int, call func(buffer unsafe.Pointer, room C.size_t, needed *C.size_t) status) (status, []byte) {
 	for {
@@ -89,16 +100,16 @@ func failed(met status, line []byte) error {
 
 // open reads an access list.
 func open(list []byte, policy Policy, limits Limits) (handle, error) {
-	if met := C.GoString(C.library_version()); !isOurs(met) {
+	if met := C.GoString(C.spki_version()); !isOurs(met) {
 		return nil, fmt.Errorf("libspki_c has the version %s, and this module needs %s", met, Version)
 	}
-	if policy != Strict && policy != AllowSHA1 {
-		return nil, ErrMisused
+	given := C.struct_spki_limits{
+		octets: size(limits.Octets), certificates: size(limits.Certificates), words: size(limits.Words),
+		nodes: size(limits.Nodes), work: size(limits.Work), answer: size(limits.Answer),
 	}
 	var guard handle
 	met, line := answered(roomForLine, func(buffer unsafe.Pointer, room C.size_t, needed *C.size_t) status {
-		return C.library_open(text(list), C.int(policy), size(limits.Octets), size(limits.Certificates), size(limits.Words),
-			size(limits.Nodes), size(limits.Work), size(limits.Answer), &guard, buffer, room, needed)
+		return C.library_open(text(list), policyOf(policy), given, &guard, buffer, room, needed)
 	})
 	if met != C.SPKI_DONE || guard == nil {
 		return nil, failed(met, line)
@@ -108,31 +119,30 @@ func open(list []byte, policy Policy, limits Limits) (handle, error) {
 
 // closeGuard frees a guard, once its questions are closed too.
 func closeGuard(guard handle) {
-	C.library_close(guard)
+	C.spki_guard_close(guard)
 }
 
 // entries returns the number of entries of a guard's list.
 func entries(guard handle) int {
-	return int(C.library_entries(guard))
+	return int(C.spki_guard_entries(guard))
 }
 
 // ask reads a question. Its strings are lent in one piece, with their lengths.
 func ask(guard handle, question *Question) (opened, error) {
 	joined, lengths := question.joined()
-	var seconds C.int64_t
-	bySeconds := C.int(0)
-	if !question.Time.IsZero() {
-		seconds, bySeconds = C.int64_t(question.Time.Unix()), 1
+	parts := C.struct_library_question{
+		sequence: text(question.Sequence), key: text(question.Key), request: text(question.Request), joined: text(joined),
+		moment: text(question.Moment), word_count: C.size_t(len(question.Words)),
 	}
-	byWords := C.int(0)
 	if question.Words != nil {
-		byWords = 1
+		parts.by_words = 1
+	}
+	if !question.Time.IsZero() {
+		parts.by_seconds, parts.seconds = 1, C.int64_t(question.Time.Unix())
 	}
 	var asked opened
 	met, line := answered(roomForLine, func(buffer unsafe.Pointer, room C.size_t, needed *C.size_t) status {
-		return C.library_ask(guard, text(question.Sequence), text(question.Key), text(question.Request), byWords, text(joined),
-			(*C.size_t)(unsafe.Pointer(&lengths[0])), C.size_t(len(question.Words)), text(question.Moment), bySeconds, seconds, &asked,
-			buffer, room, needed)
+		return C.library_ask(guard, parts, (*C.size_t)(unsafe.Pointer(&lengths[0])), &asked, buffer, room, needed)
 	})
 	if met != C.SPKI_DONE || asked == nil {
 		return nil, failed(met, line)
@@ -142,11 +152,11 @@ func ask(guard handle, question *Question) (opened, error) {
 
 // signatures returns what is to be verified, in one piece of Go's memory.
 func signatures(asked opened) []Signature {
-	lent := make([]C.struct_spki_signed, C.library_count(asked))
+	lent := make([]C.struct_spki_signed, C.spki_asked_count(asked))
 	length := 0
 	for place := range lent {
 		signed := &lent[place]
-		if C.library_signature(asked, C.size_t(place), signed) != C.SPKI_DONE {
+		if C.spki_asked_signature(asked, C.size_t(place), signed) != C.SPKI_DONE {
 			return nil
 		}
 		length += int(signed.key.length + signed.message.length + signed.value.length)
@@ -194,7 +204,7 @@ func lines(asked opened, wish wish, marks []byte) (string, error) {
 
 // closeAsked frees a question.
 func closeAsked(asked opened) {
-	C.library_close_asked(asked)
+	C.spki_asked_close(asked)
 }
 
 // converted returns a text in another form.
