@@ -19,8 +19,8 @@ returns-in-Ok-clause-none c q opened none =
       other = c.answer_asked.ensures.none none;
     }
 
-pub returns-clause-answer : goal.returns-clause-answer
-returns-clause-answer c q opened =
+pub returns-in-Err-clause-answer : goal.returns-in-Err-clause-answer
+returns-in-Err-clause-answer c q opened =
     let refused = c.refuse_question.ensures in
     inr (unread c.args.opened.now.guard q c.in-Err.fault _ _ (λ long. omega (arith, opened.short, long))
     (c.in-Err.ensures.refused q opened.texts)
