@@ -7,4 +7,4 @@ pub returns-in-Ok-clause-answer : goal.returns-in-Ok-clause-answer
 returns-in-Ok-clause-answer c q opened =
     let d = c.decide_by.ensures opened.kept in
     opened_decided q c.args.opened.now c.args.marks.now opened d.0 c.decide_by.result c.in-Ok.answer.verdict (written_by c.in-Ok.answer)
-    d.1 d.2.0 d.2.1 (search rules) c.in-Ok.ensures
+    d.1 d.2 d.3 (search rules) c.in-Ok.ensures
