@@ -5,3 +5,4 @@ pub mod BoxPointerValues
 pub mod Members
 pub mod OneCommand
 pub mod StringPlaces
+pub mod Ambiguity

@@ -1,5 +1,6 @@
 -- The octets of a string stand at the end of its canonical text.
-use Rattle.std.proofs.Common.{◌≡◌, ℕ, ◌+◌, ◌-◌, ◌≤◌, List, [], ◌∷◌, ◌++◌, length, Option, Some, None, refl, sym, ap, ◌∙◌, subst, arith, append_assoc}
+use Rattle.std.proofs.Common.{◌≡◌, ℕ, ◌+◌, ◌-◌, ◌≤◌, List, [], ◌∷◌, ◌++◌, length, take, drop, Option, Some, None, refl, sym, ap, ◌∙◌, subst, arith, append_assoc}
+use Rattle.std.proofs.Math.Seq.{drop-append_seam, take-append_seam}
 use Rattle.std.proofs.lemmas.List.{length-append}
 use Rattle.sexpr_core.specs.Characters.{char}
 use Rattle.sexpr_core.specs.Value.{Value, string, canon, decimal, verbatim}
@@ -49,3 +50,18 @@ string_short v hint octets whole is all =
     let long = ap length (all ∙ ap canon (sym is) ∙ with_front hint octets) in
     let both = length-append (front_of hint octets) octets in
     omega (arith, long, both)
+
+-- the octets that lie at a place of a text are the part of the text there
+pub part_at : (text octets : List ℕ) (at count : ℕ) → LiesAt text octets at → count ≡ length octets
+    → take (at + count - at) (drop at text) ≡ octets
+part_at text octets at count l counted =
+    let many : at + count - at ≡ length octets = omega (arith, counted) in
+    let front : drop at text ≡ octets ++ l.behind =
+    ap (drop at) l.parts ∙ ap (λ n. drop n (l.before ++ (octets ++ l.behind))) (sym l.begins) ∙ drop-append_seam l.before (octets ++ l.behind) in
+    ap (λ n. take n (drop at text)) many ∙ ap (take (length octets)) front ∙ take-append_seam octets l.behind
+
+-- what stands at a place of a text is the string, as the part of the text there
+pub string_at : (text : List ℕ) (there : Option (List ℕ)) (at count : ℕ) → StandsIn text there at count
+    → Some (take (at + count - at) (drop at text)) ≡ there
+string_at text there at count stands =
+    ap Some (part_at text stands.octets at count stands.place stands.counted) ∙ sym stands.there_is

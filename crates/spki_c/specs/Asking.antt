@@ -19,10 +19,14 @@ marks_from octets = map (λ n. n == 1) octets
 
 -- ---- the question of parts
 
+-- a moment is given both as a text and in seconds
+abbrev pub HasBothMoments : List ℕ → List ℤ → Type 0
+HasBothMoments text seconds = (seconds ≢ []) × (text ≢ [])
+
 -- a request is given both by its strings and as a text, or a moment both in seconds and as a text
 abbrev pub IsAmbiguous : Parts → Type 0
 IsAmbiguous parts =
-    ((parts.is_worded ≡ true) × (parts.request.now ≢ [])) ⊎ ((parts.seconds.now ≢ []) × (parts.moment.now ≢ []))
+    ((parts.is_worded ≡ true) × (parts.request.now ≢ [])) ⊎ HasBothMoments parts.moment.now parts.seconds.now
 
 -- the request: its strings if it is given by them, and otherwise its text
 abbrev pub IsRequestOf : Parts → Wanted → Type 0
@@ -30,16 +34,18 @@ IsRequestOf parts (wanted.Text text) = (parts.is_worded ≡ false) × (text.now 
 IsRequestOf parts (wanted.Words words) = (parts.is_worded ≡ true) × (words.now ≡ parts.words.now) × (parts.request.now ≡ [])
 
 -- the moment: the first of the seconds, or the text if there are none
-abbrev pub IsMomentOf : Parts → Instant → Type 0
-IsMomentOf parts (moments.Text text) = (parts.seconds.now ≡ []) × (text.now ≡ parts.moment.now)
-IsMomentOf parts (moments.Seconds n) = ((rest : List ℤ) × (parts.seconds.now ≡ n ∷ rest)) × (parts.moment.now ≡ [])
+abbrev pub IsMomentOf : List ℕ → List ℤ → Instant → Type 0
+IsMomentOf text [] (moments.Text octets) = octets.now ≡ text
+IsMomentOf text [] (moments.Seconds n) = ⊥
+IsMomentOf text (first ∷ others) (moments.Text octets) = ⊥
+IsMomentOf text (first ∷ others) (moments.Seconds n) = (n ≡ first) × (text ≡ [])
 
 -- The question has these parts.
 pub record IsQuestionOf (parts : Parts) (q : Question) : Type 0 where
   pub sequence_is : q.sequence.now ≡ parts.sequence.now
   pub key_is : q.key.now ≡ parts.key.now
   pub request_is : IsRequestOf parts q.request
-  pub moment_is : IsMomentOf parts q.moment
+  pub moment_is : IsMomentOf parts.moment.now parts.seconds.now q.moment
 
 -- ---- opened
 

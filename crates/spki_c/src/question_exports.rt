@@ -34,9 +34,9 @@ pub extern "C" fn spki_c_guard_ask(
     needed: &mut usize,
 ) -> u32
     requires empty { handle.old.held ≡ None }
-    ensures asked { (q : Question) → IsQuestionOf parts.now q
-        → IsHeldQuestion lent.old.guard q handle.new.held buffer.old buffer.new needed.new result
-        ⊎ IsUnheld lent.old.guard q handle.old handle.new buffer.old buffer.new needed.new result }
+    ensures asked { ¬ IsAmbiguous parts.now → (q : Question) × IsQuestionOf parts.now q
+        × (IsHeldQuestion lent.old.guard q handle.new.held buffer.old buffer.new needed.new result
+        ⊎ IsUnheld lent.old.guard q handle.old handle.new buffer.old buffer.new needed.new result) }
     ensures ambiguous { IsAmbiguous parts.now
         → (handle.new ≡ handle.old) × IsMisuse buffer.old buffer.new needed.new result }
 {

@@ -1,6 +1,6 @@
 //! Questions from the parts that C passes, and marks from octets.
 ghost use Rattle.std.specs.Prelude.{IfOk, MatchOption, ◌≡◌};
-ghost use Rattle.spki_c.specs.Asking.{IsAmbiguous, IsQuestionOf, IsRequestOf, IsMomentOf, marks_from};
+ghost use Rattle.spki_c.specs.Asking.{HasBothMoments, IsAmbiguous, IsQuestionOf, IsRequestOf, IsMomentOf, marks_from};
 
 use spki_guard::{Instant, Question, Wanted};
 use std::alloc::{AllocError, Global};
@@ -32,7 +32,7 @@ pub(crate) fn question_of<'a>(parts: &Parts<'a>) -> Option<Question<'a>>
         sequence: parts.sequence,
         key: parts.key,
         request: wanted_of(parts)?,
-        moment: instant_of(parts)?,
+        moment: instant_of(parts.moment, parts.seconds)?,
     })
 }
 
@@ -51,13 +51,13 @@ fn wanted_of<'a>(parts: &Parts<'a>) -> Option<Wanted<'a>>
 }
 
 /// The moment: the first of the seconds, or its text. None if it has both.
-fn instant_of<'a>(parts: &Parts<'a>) -> Option<Instant<'a>>
-    ensures { MatchOption result (IsAmbiguous parts.now) (IsMomentOf parts.now) }
+fn instant_of<'a>(moment: &'a [u8], seconds: &[i64]) -> Option<Instant<'a>>
+    ensures { MatchOption result (HasBothMoments moment.entry.now seconds.now) (IsMomentOf moment.entry.now seconds.now) }
 {
-    match parts.seconds {
-        [] => Some(Instant::Text(parts.moment)),
+    match seconds {
+        [] => Some(Instant::Text(moment)),
         [first, ..] => {
-            if parts.moment.is_empty() {
+            if moment.is_empty() {
                 Some(Instant::Seconds(*first))
             } else {
                 None

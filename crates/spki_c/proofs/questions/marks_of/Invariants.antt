@@ -1,5 +1,5 @@
 use Rattle.std.proofs.Common.{◌≡◌, take}
-use Rattle.spki_c.specs.Guards.{marks_from}
+use Rattle.spki_c.specs.Asking.{marks_from}
 use Rattle.spki_c.proofs.questions.marks_of.Given as goal
 
 abbrev pub invariant-loop-octet : goal.invariant-loop-octet

@@ -1,11 +1,26 @@
-use Rattle.std.proofs.Common.{rules, ◌≡◌, IfOk, ℕ, ◌+◌, ◌-◌, ◌*◌, ◌<◌, ◌≤◌, length, ◌/◌, ◌%◌, Bool, true, false, nat_eq, nat_lt, List, [], ◌∷◌, ◌++◌, slice_index_or, slice_set, bit_and, bit_or, Fits, w8, w32, w64, Bor, MutBor}
-use Rattle.spki_c.specs.Signatures.{IsStringOf, IsSignature}
+use Rattle.std.proofs.Common.{◌≡◌, ◌++◌, List, ℕ, [], Some, None, sym, ap, subst, ◌∙◌, take, drop, ◌+◌, ◌-◌}
+use Rattle.sexpr_core.specs.Value.{Value, canon}
+use Rattle.sexpr_core.proofs.Texts.{canon_one}
+use Rattle.spki_c.specs.Strings.{octets_of, StandsIn}
+use Rattle.spki_c.proofs.StringPlaces.{string_at}
 use Rattle.spki_c.proofs.signatures.string_of.Goals as goal
 
--- src/signatures.rt:54:1
-pub returns-in-Some : goal.returns-in-Some
-returns-in-Some c = ?
+same_value : (text : List ℕ) (read v : Value) → text ≡ canon read → text ≡ canon v → read ≡ v
+same_value text read v is also = (canon_one read v [] [] (ap (λ (octets : List ℕ). octets ++ []) (sym is ∙ also))).0
 
--- src/signatures.rt:52:1
+pub returns-in-Some : goal.returns-in-Some
+returns-in-Some c v within is =
+    let top = c.top.ensures in
+    let place = c.in-Some.place in
+    let stands : StandsIn (canon c.top.result) (octets_of c.top.result) place.at place.length = c.in-Some.ensures in
+    let text : c.args.value.now ≡ canon c.top.result = c.in-Ok.ensures.read.0 ∙ ap canon (sym top) in
+    let here : StandsIn c.args.value.now (octets_of c.top.result) place.at place.length =
+    subst (λ (t : List ℕ). StandsIn t (octets_of c.top.result) place.at place.length) (sym text) stands in
+    string_at c.args.value.now (octets_of c.top.result) place.at place.length here
+    ∙ ap octets_of (same_value c.args.value.now c.top.result v text is)
+
 pub returns : goal.returns
-returns c = ?
+returns c v within is =
+    let top = c.top.ensures in
+    let text : c.args.value.now ≡ canon c.top.result = c.in-Ok.ensures.read.0 ∙ ap canon (sym top) in
+    sym (ap octets_of (sym (same_value c.args.value.now c.top.result v text is)) ∙ c.in-None.ensures)

@@ -24,10 +24,10 @@ use denote.Triple.Walked.{Stays, walk_of, says, stay_dropped, Goes-spent_ref, en
 use Rattle.std.proofs.VecSteps.Shapes.{after}
 use Rattle.spki_service.specs.contracts.opened.Opened.{the_row as G}
 use Rattle.spki_c.specs.contracts.question_handle.LentQuestion.{the_row as R}
-use Rattle.spki_c.specs.contracts.question_question_handle.LentQuestionQuestion.question as f
+use Rattle.spki_c.specs.contracts.question_handle.LentQuestion.question as f
 use Rattle.spki_c.proofs.question_handle.LentQuestion.TheLaws.{lowers}
-use Rattle.spki_c.proofs.question_question_handle.LentQuestionQuestion.question.Statement.{statement}
-use Rattle.spki_c.proofs.question_question_handle.LentQuestionQuestion.question.Code as code
+use Rattle.spki_c.proofs.question_handle.LentQuestion.question.Statement.{statement}
+use Rattle.spki_c.proofs.question_handle.LentQuestion.question.Code as code
 use Rattle.spki_c.proofs.LendingQuestion.{twice, lends}
 
 abbrev stayed : Stays f.ended.signature.params f.ended.kept
