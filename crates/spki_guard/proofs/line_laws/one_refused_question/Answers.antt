@@ -1,5 +1,5 @@
 use Rattle.spki_guard.proofs.OneHeld.{unread_one}
 use Rattle.spki_guard.proofs.line_laws.one_refused_question.Goals as goal
 
-pub returns-clause : goal.returns-clause
-returns-clause c = unread_one
+pub returns : goal.returns
+returns c = unread_one
