@@ -82,7 +82,7 @@ static void one_question(const char *list, const char *sequence, const char *key
         marks[0] = turn != 1;
         expect(spki_asked_decide(asked, marks, 1, line, sizeof line, &needed) == (turn == 1 ? SPKI_NO : SPKI_YES), "another decision");
         expect(spki_asked_explain(asked, marks, 1, line, sizeof line, &needed) == SPKI_DONE
-               && is(line, needed, turn == 1 ? "item 2 NotAccepted\n" : "entry 1 grants\n"), "another explanation");
+               && is(line, needed, turn == 1 ? "item 1 NotAccepted\n" : "entry 1 grants\n"), "another explanation");
         expect(spki_asked_reduce(asked, marks, 1, line, sizeof line, &needed) == SPKI_DONE && needed > 5, "another reduction");
     }
     expect(!spki_asked_count(none) && spki_asked_decide(none, marks, 1, line, sizeof line, &needed) == SPKI_MISUSED, "marks of another");
