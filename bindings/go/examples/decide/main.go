@@ -3,7 +3,8 @@
 // Usage: decide ACL SEQUENCE KEY WORD ..
 //
 // ACL is a file of the service, its access list. SEQUENCE and KEY are files of the client. The client must have proved that it holds the key:
-// this program does not check that. The request is the list of the WORDs, or the word where there is one.
+// this program does not check that. The request is the list of the WORDs, or the word where there is one. Keys and signatures have the forms of
+// docs/FORMATS.md, which `spki-cert` writes.
 package main
 
 import (
@@ -13,19 +14,14 @@ import (
 	"time"
 
 	"conguraki/spki/guard"
+	"conguraki/spki/verify"
 )
-
-// verify says whether a value is a signature of a message by a key. The keys of this example are words, and so are its signatures. A service
-// passes verify.Signature of the package conguraki/spki/verify.
-func verify(_, _, value []byte) bool {
-	return string(value) == "3:sig"
-}
 
 // isGranted says whether a request is granted. Each word is one string of it, whatever octets it has.
 //
 // THE CLIENT MUST HAVE PROVED THAT IT HOLDS THE KEY: a public key is public.
 func isGranted(list *guard.Guard, sequence, key []byte, words []string, now time.Time) (bool, error) {
-	decision, err := list.Decide(guard.Question{Sequence: sequence, Key: key, Words: words, Time: now}, verify)
+	decision, err := list.Decide(guard.Question{Sequence: sequence, Key: key, Words: words, Time: now}, verify.Signature)
 	if err != nil {
 		return false, err
 	}
