@@ -44,12 +44,21 @@ fn new_limits(alloc: Global, texts: &[Vec<u8>]) -> Result<Vec<u8>, Failure> {
         number(at(texts, 4)),
         number(at(texts, 5)),
     );
-    match Limits::new(octets, certificates, words, nodes, work, answer) {
-        None => word(alloc, "none"),
-        Some(limits) if limits == Limits::default() => word(alloc, "default"),
-        Some(limits) if limits == Limits::highest() => word(alloc, "highest"),
-        Some(_) => word(alloc, "others"),
+    let Some(limits) = Limits::new(octets, certificates, words, nodes, work, answer) else {
+        return word(alloc, "none");
+    };
+    word(alloc, name_of(&limits))
+}
+
+/// The name of limits.
+fn name_of(limits: &Limits) -> &'static str {
+    if *limits == Limits::default() {
+        return "default";
     }
+    if *limits == Limits::highest() {
+        return "highest";
+    }
+    "others"
 }
 
 /// The limits with these octets and nodes. A limit without digits is the greatest one, and `usual` octets are the default limits.
