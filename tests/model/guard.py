@@ -245,11 +245,11 @@ def answer(wish: str, list_text: bytes, asked: Parts, rows: list[Row], policy: i
     listed: list[Signed] = []
     try:
         guard = open_guard(list_text, policy == STRICT, limits)
-        if oddity in (*ASKED, *LISTED, *ANSWERED):
+        if oddity in ASKED:
             return misused(oddity)
         case = case_of(guard, asked, rows)
         listed = signed(case)
-        if oddity == OTHER_MARKS:
+        if oddity in (*LISTED, *ANSWERED, OTHER_MARKS):
             return misused(oddity)
         with intersection.limited(limits.nodes, None if wish == "decide" else limits.work):
             status, said = WISHES[wish](case, case.rows)
