@@ -50,7 +50,8 @@ def is_example(row: CallRow) -> bool:
     """Whether a row may be an example: it is short, it is not about depth, and no end or verifier of it fails by itself. The writer of `run`
     allocates what it keeps, so a request that is refused there is a fault of writing."""
     texts = b" ".join(row.texts)
-    return row.call != "run" and len(texts) <= MOST_OCTETS and not any(word in texts for word in (b"((((", b"( ( (", b"broken", b"interrupted", b"fails"))
+    is_short = row.call != "run" and len(texts) <= MOST_OCTETS
+    return is_short and not any(word in texts for word in (b"((((", b"( ( (", b"broken", b"interrupted", b"fails"))
 
 
 class OfCalls(unittest.TestCase):
