@@ -3,7 +3,8 @@ environment:
 
     SPKI_TEST_PROGRAM   another program than crates/spki/out/spki
     SPKI_TEST_ONE_CALL  another program than crates/test_one_call/out/test_one_call
-    SPKI_TEST_LIBRARY   another static library than crates/spki_c/out/libspki_c.a; the shared one lies beside it
+    SPKI_TEST_LIBRARY   another static library than crates/spki_c/out/libspki_c.a; the shared one lies beside it, and those for ARM in the
+                        folder aarch64-unknown-linux-gnu there
     SPKI_TEST_ALONE     the program alone is tested: there is no library
     SPKI_TEST_CASES     how many generated cases are compared with the model
     SPKI_TEST_LONG      the long tests too, which `.ci/deep` runs
@@ -12,7 +13,7 @@ environment:
 import os
 import unittest
 
-from support import LIBRARY, PROGRAM, TOP
+from support import ARM, LIBRARY, PROGRAM, TOP
 
 BY_RATTLE = os.path.join(TOP, "crates", "spki", "out", "spki.by-rattle")
 ONE_CALL = os.environ.get("SPKI_TEST_ONE_CALL", os.path.join(TOP, "crates", "test_one_call", "out", "test_one_call"))
@@ -41,6 +42,11 @@ def library() -> str:
 def shared() -> str:
     """The shared library that is tested."""
     return there(library().removesuffix(".a") + ".so")
+
+
+def arm() -> str:
+    """The static library for ARM that is tested. The shared one lies beside it."""
+    return there(os.path.join(os.path.dirname(library()), ARM, "libspki_c.a"))
 
 
 class OfProgram(unittest.TestCase):

@@ -67,10 +67,9 @@ def model_answer(asked: Question) -> Answer:
 
 
 class Library:
-    """The library for C programs, loaded into this process."""
+    """The library for C programs, loaded into this process or relayed to another machine."""
 
-    def __init__(self, path: str) -> None:
-        loaded = ctypes.CDLL(path)
+    def __init__(self, loaded: Any) -> None:
         self.guards = GuardDoor(loaded)
         buffer: list[Any] = [ctypes.c_char_p, ctypes.c_size_t, ctypes.POINTER(ctypes.c_size_t)]
         self.by_command, self.by_rows = loaded.spki_answer, loaded.spki_check_accepted
@@ -110,7 +109,7 @@ class Library:
         wanted = string_at(asked.text, asked.path)
         text, path = ctypes.create_string_buffer(asked.text, len(asked.text) + 1), (ctypes.c_size_t * len(asked.path))(*asked.path)
         octets, length = ctypes.c_void_p(), ctypes.c_size_t()
-        status = self.string(ctypes.addressof(text), len(asked.text), path, len(path), octets, length)
+        status = self.string(text, len(asked.text), path, len(path), octets, length)
         at = (octets.value or 0) - ctypes.addressof(text)
         if status != DONE:
             is_inside, found = octets.value is None and not length.value, b""
@@ -275,7 +274,7 @@ def shared_object(archive: str, folder: str) -> str:
 
 def compared(program: str, archive: str | None, folder: str, seed: str) -> Comparison:
     """What is compared: a program and a library, or a program alone."""
-    library = Library(shared_object(os.path.abspath(archive), folder)) if archive else None
+    library = Library(ctypes.CDLL(shared_object(os.path.abspath(archive), folder))) if archive else None
     return Comparison(library, os.path.abspath(program), seed)
 
 

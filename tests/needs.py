@@ -39,6 +39,8 @@ NEEDS = [Need(*words) for words in [
     ("ld", "binutils", "the library for C and what calls it"),
     ("objcopy", "binutils", "the library for C and what calls it"),
     ("g++", "g++", "the header for C++"),
+    ("aarch64-linux-gnu-gcc", "gcc-aarch64-linux-gnu", "the library for ARM"),
+    ("qemu-aarch64", "qemu-user", "what the library for ARM answers"),
     ("valgrind", "valgrind", "runs of the library and of the service in C under valgrind and helgrind; most benches"),
     ("pkg-config", "pkgconf", "what pkg-config says of the installed library"),
     ("cmake", "cmake", "finding the installed library by CMake"),
@@ -73,8 +75,9 @@ NEEDS = [Need(*words) for words in [
     ("/usr/lib/python3/dist-packages/selenium", "python3-selenium", "the page `tools/playground` in a browser"),
 ]]
 BY_NAME = {need.name: need for need in NEEDS}
-# What the library for C is built with.
+# What the library for C is built with, and that for ARM.
 LIBRARY = ("cc", "ld", "objcopy")
+ARM = (*LIBRARY, "aarch64-linux-gnu-gcc")
 INITDB = "/usr/lib/postgresql/*/bin/initdb"
 # Where Debian has its modules for Python, which another Python than Debian's does not look through.
 DEBIAN = "/usr/lib/python3/dist-packages"

@@ -22,11 +22,14 @@ from spki_cert_tool.sexp import canonical, on_one_line  # noqa: E402
 read: Callable[[bytes], Any] = sexp.read
 PROGRAM = os.path.join(TOP, "crates", "spki", "out", "spki")
 LIBRARY = os.path.join(TOP, "crates", "spki_c", "out", "libspki_c.a")
+# The target of the library for ARM, and the words before a program for it that run it here.
+ARM, ON_ARM = "aarch64-unknown-linux-gnu", ["qemu-aarch64", "-L", "/usr/aarch64-linux-gnu"]
 COMMANDS = ("canonical", "advanced", "transport", "intersect", "reduce", "check", "explain")
 SECONDS, SECONDS_TO_COMPILE = 120, 900
 
-__all__ = ["BENCH", "COMMANDS", "EXAMPLES", "LIBRARY", "PROGRAM", "SECONDS", "TESTS", "TOP", "braced", "canonical", "given_program", "group",
-           "is_compiled", "loaded", "on_one_line", "output_of", "read", "run", "string", "tables_here", "text_of", "toolchain"]
+__all__ = ["ARM", "BENCH", "COMMANDS", "EXAMPLES", "LIBRARY", "ON_ARM", "PROGRAM", "SECONDS", "TESTS", "TOP", "braced", "canonical",
+           "given_program", "group", "is_compiled", "loaded", "on_one_line", "output_of", "read", "run", "string", "tables_here", "text_of",
+           "toolchain"]
 
 
 def given_program(place=1):

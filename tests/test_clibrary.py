@@ -4,9 +4,11 @@
 canaries, with failing allocations, and then from several threads with 256 KiB of stack each: every command on each file of
 `examples/`, the rows of the tables, and cases whose rows of accepted signatures stand apart. It asks the static
 library and the shared one, each also under AddressSanitizer and under valgrind.
-`cguard.c` opens guards and asks them: right and wrong marks, misuse, buffers that are too small, requests by strings, failing
-allocations, and one guard from several threads. It too uses each library, also under AddressSanitizer, valgrind and helgrind. No
-allocation of the shared library fails, since it calls the C library itself.
+`cguard.c` opens guards and asks them: right and wrong marks, buffers that are too small, requests by strings, failing
+allocations, and one guard from several threads. They too use each library, also under
+AddressSanitizer, valgrind and helgrind. No allocation of the shared library fails, since it calls the C library itself.
+
+The libraries for ARM are asked short questions and open guards too, in an emulator.
 
 The symbols of both libraries must be the calls that the header declares and no others, and what they need a few functions of the C
 library. `linked.c` is compiled as C11 and as C++17, with all warnings, and linked with either library; and with two copies of the static
@@ -22,7 +24,7 @@ from concurrent.futures import ThreadPoolExecutor
 import built
 import needs
 from rows import rows_of
-from support import COMMANDS, EXAMPLES, TESTS, TOP, canonical, is_compiled, read, run, tables_here
+from support import COMMANDS, EXAMPLES, ON_ARM, TESTS, TOP, canonical, is_compiled, read, run, tables_here
 
 CRATE = os.path.join(TOP, "crates", "spki_c")
 CHECK_ACCEPTED = 7
@@ -32,10 +34,11 @@ REFUSALS = 40
 SHORT = 20_000
 SECONDS = 900
 WARNINGS = ["-Wall", "-Wextra", "-Wpedantic", "-Werror"]
-STRICT = ["cc", "-std=c11", *WARNINGS, "-O1", "-g", "-pthread"]
+STRICT = ["-std=c11", *WARNINGS, "-O1", "-g", "-pthread"]
 REFUSING = ["-Wl,--wrap=malloc,--wrap=realloc"]
 SANITIZED = ["-fsanitize=address,undefined", "-fno-sanitize-recover=all", "-fno-omit-frame-pointer"]
 CALL = re.compile(r"^\w[\w *]*\b(spki_\w+)\(", re.MULTILINE)
+WEAK = ("_ITM_", "__cxa_finalize", "__gmon_start__")
 NEEDED = {"malloc", "realloc", "free", "memcpy", "memmove", "memset", "memcmp"}
 VALGRIND = ["valgrind", "--quiet", "--leak-check=full", "--show-leak-kinds=all", "--error-exitcode=98"]
 HELGRIND = ["valgrind", "--tool=helgrind", "--quiet", "--error-exitcode=98"]
@@ -148,9 +151,9 @@ def otherwise(words, questions):
                      for (place, _, text, rows), met, wanted in faults)
 
 
-def symbols(library, *words):
+def symbols(library, *words, nm="nm"):
     """The symbols of a library that `nm` lists with these words, without their versions."""
-    listed = subprocess.run(["nm", "--format=just-symbols", *words, library], stdout=subprocess.PIPE, text=True, check=True).stdout
+    listed = subprocess.run([nm, "--format=just-symbols", *words, library], stdout=subprocess.PIPE, text=True, check=True).stdout
     return {line.split("@")[0] for line in listed.splitlines() if line and not line.endswith(":")}
 
 
@@ -199,9 +202,19 @@ def short_of(program):
 class OfC(built.OfLibrary):
     """A test of the libraries for C, in a folder of its own. Programs ask for the shared one by its own name."""
 
+    # How the names of the tools begin, and the words before a program that run it.
+    prefix = ""
+    by: list[str] = []
+
+    @classmethod
+    def libraries(cls):
+        """The libraries that are tested."""
+        return cls.library, cls.shared
+
     @classmethod
     def setUpClass(cls):
         super().setUpClass()
+        cls.library, cls.shared = cls.libraries()
         room = tempfile.TemporaryDirectory()
         cls.addClassCleanup(room.cleanup)
         cls.room, link = room.name, os.path.join(room.name, os.path.basename(cls.shared))
@@ -214,28 +227,40 @@ class OfC(built.OfLibrary):
         """A program in C, compiled with a library."""
         to = os.path.join(self.room, f"{source}-{library}-{len(more)}")
         if not os.path.exists(to):
-            words = [*STRICT, *more, "-o", to, os.path.join(TESTS, source), *self.linking[library], *REFUSING]
+            words = [f"{self.prefix}gcc" if self.prefix else "cc", *STRICT, *more, "-o", to, os.path.join(TESTS, source)]
+            words += [*self.linking[library], *REFUSING]
             self.assertTrue(is_compiled(*words), f"{source} is not compiled")
         return to
 
     def answers(self, questions, library, *more, by=(), threads=2, refusals=0):
         """The answers to questions must be those that are wanted."""
         print(f"{len(questions)} questions")
-        fault = otherwise([*by, self.compiled("clibrary.c", library, *more), str(threads), str(refusals)], questions)
+        fault = otherwise([*self.by, *by, self.compiled("clibrary.c", library, *more), str(threads), str(refusals)], questions)
         self.assertEqual(fault, "", fault)
+
+    def has_its_symbols(self, library, *words):
+        """A library must give the calls of the header and no other symbol, and need only what is known."""
+        nm = f"{self.prefix}nm"
+        # (the version of the calls is a symbol too)
+        given = {name for name in symbols(library, *words, "--defined-only", "--extern-only", nm=nm) if not name.startswith("SPKI_")}
+        self.assertEqual(given, calls_of_header())
+        # (the weak ones are those that the C compiler puts into each shared object)
+        needed = {name for name in symbols(library, *words, "--undefined-only", nm=nm) if not name.startswith(WEAK)}
+        self.assertLessEqual(needed, NEEDED)
+
+    def holds(self, source, library, *more, by=(), words=()):
+        """A program that asks as the header says must find nothing wrong, with a library."""
+        words = [*self.by, *by, self.compiled(source, library, *more), *words]
+        done = subprocess.run(words, capture_output=True, text=True, timeout=SECONDS)
+        self.assertEqual(done.returncode, 0, f"{' '.join(words)[:300]}: {done.stderr[-2000:]}")
+
+    def holds_guards(self, library, *more, by=(), threads=THREADS, refusals=0):
+        """Guards must do as the header says."""
+        self.holds("cguard.c", library, *more, by=by, words=[str(threads), str(refusals), *worked_question()])
 
 
 class Links(OfC):
     """The symbols, and how programs link."""
-
-    def has_its_symbols(self, library, *words):
-        """A library must give the calls of the header and no other symbol, and need only what is known."""
-        # (the version of the calls is a symbol too)
-        given = {name for name in symbols(library, *words, "--defined-only", "--extern-only") if not name.startswith("SPKI_")}
-        self.assertEqual(given, calls_of_header())
-        # (the weak ones are those that the C compiler puts into each shared object)
-        needed = {name for name in symbols(library, *words, "--undefined-only") if not name.startswith(("_ITM_", "__cxa_finalize", "__gmon_start__"))}
-        self.assertLessEqual(needed, NEEDED)
 
     def test_symbols_of_the_archive(self):
         self.has_its_symbols(self.library)
@@ -308,13 +333,34 @@ class SharedUnderValgrind(OfC):
 
 
 class Guards(OfC):
-    """`cguard.c`: guards that are held do as the header says, with each library and under what looks for faults of memory."""
+    """`cguard.c`, with each library and under what looks for faults of memory."""
 
-    def held(self, library, *more, by=(), threads=THREADS, refusals=0):
-        """Guards must do so with a library."""
-        words = [*by, self.compiled("cguard.c", library, *more), str(threads), str(refusals), *worked_question()]
-        done = subprocess.run(words, capture_output=True, text=True, timeout=SECONDS)
-        self.assertEqual(done.returncode, 0, f"{' '.join(words[:-3])}: {done.stderr[-2000:]}")
+
+@needs.needs(*needs.ARM, "qemu-aarch64")
+class OnArm(OfC):
+    """The libraries for ARM, in an emulator."""
+
+    prefix, by = "aarch64-linux-gnu-", ON_ARM
+
+    @classmethod
+    def libraries(cls):
+        return built.arm(), built.arm().removesuffix(".a") + ".so"
+
+    def test_symbols(self):
+        self.has_its_symbols(self.library)
+        self.has_its_symbols(self.shared, "--dynamic")
+
+    def test_static(self):
+        self.answers(short_of(self.program), "static", refusals=REFUSALS)
+
+    def test_shared(self):
+        self.answers(short_of(self.program), "shared")
+
+    def test_guards_of_static(self):
+        self.holds_guards("static", refusals=REFUSALS)
+
+    def test_guards_of_shared(self):
+        self.holds_guards("shared")
 
 
 def add_ways():
@@ -322,10 +368,10 @@ def add_ways():
     library itself."""
     valgrind = needs.needs("valgrind")
     for library, refused in (("static", REFUSALS), ("shared", 0)):
-        ways = {"": lambda self, it=library, refused=refused: self.held(it, refusals=refused),
-                "_under_address_sanitizer": lambda self, it=library, refused=refused: self.held(it, *SANITIZED, refusals=refused),
-                "_under_valgrind": valgrind(lambda self, it=library, refused=refused: self.held(it, by=VALGRIND, threads=2, refusals=refused)),
-                "_under_helgrind": valgrind(lambda self, it=library: self.held(it, by=HELGRIND))}
+        ways = {"": lambda self, it=library, most=refused: self.holds_guards(it, refusals=most),
+                "_under_address_sanitizer": lambda self, it=library, most=refused: self.holds_guards(it, *SANITIZED, refusals=most),
+                "_under_valgrind": valgrind(lambda self, it=library, most=refused: self.holds_guards(it, by=VALGRIND, threads=2, refusals=most)),
+                "_under_helgrind": valgrind(lambda self, it=library: self.holds_guards(it, by=HELGRIND))}
         for way, test in ways.items():
             setattr(Guards, f"test_{library}{way}", test)
 

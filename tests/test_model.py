@@ -18,13 +18,15 @@ from model import coverage
 from model.answers import COMMANDS, ModelDisagrees, answer
 from model.guard import WISHES
 from rows import rows_of, shown
-from support import tables_here, text_of
+from relayed import Relayed
+from support import ON_ARM, TESTS, is_compiled, tables_here, text_of
 
 # Words of docs/FORMATS.md for faults, causes, stops and statuses. In a line, and in the column for faults of a table, one may be any word.
 WORD = re.compile(r"\b(?:[A-Z][a-z]+(?:[A-Z][a-z]+)+|SPKI_[A-Z_]+)\b")
 LINE, ANY_WORD = re.compile(r"`(refused [^`]*)`"), re.compile(r"\b[A-Z]\w+")
 # The heading of a column is no such word. Allocations fail in tests/test_hostile.py and tests/test_clibrary.py.
 ELSEWHERE = {"Fault", "Faults", "Memory", "SPKI_NO_MEMORY"}
+CASES_ON_ARM = 2_000
 ASKED = (*COMMANDS, "check_accepted", *(f"guard {wish}" for wish in WISHES), "calls", "spki_string")
 
 
@@ -98,6 +100,23 @@ class Generated(built.OfProgram):
         self.assertEqual(others, set())
 
 
+@needs.needs(*needs.ARM, "qemu-aarch64")
+class GeneratedOnArm(built.OfProgram):
+    """The library for ARM on other cases, in an emulator."""
+
+    def test_cases(self) -> None:
+        seed, cases = secrets.token_hex(4), min(built.CASES, CASES_ON_ARM)
+        with tempfile.TemporaryDirectory() as folder:
+            relay = os.path.join(folder, "relay")
+            self.assertTrue(is_compiled("aarch64-linux-gnu-gcc", "-std=c11", "-O1", "-o", relay, os.path.join(TESTS, "relay.c"), built.arm()))
+            relayed = Relayed([*ON_ARM, relay])
+            comparison = differential.Comparison(differential.Library(relayed), self.program, seed)
+            differ, ended, _ = differential.compare(comparison, 0, cases, os.cpu_count() or 1)
+            told = [differential.told(comparison, number) for number in differ[:differential.SHOWN]]
+            relayed.close()
+        self.assertEqual((told, ended), ([], []), f"cases 0 to {cases}, seed {seed}")
+
+
 def made_test(command: str) -> Callable[[Generated], None]:
     """The test of the cases of a command."""
     return lambda self: self.agrees_on(command)
@@ -117,6 +136,8 @@ def part_of_the_program(self: Generated) -> None:
 
 for name in COMMANDS if built.IS_ALONE else ASKED:
     setattr(Generated, f"test_{name.replace(' ', '_')}", made_test(name))
-if not built.IS_ALONE:
+if built.IS_ALONE:
+    del GeneratedOnArm
+else:
     setattr(Generated, "test_rows_that_came", rows_that_came)
     setattr(Generated, "test_part_of_the_program", part_of_the_program)

@@ -1,4 +1,5 @@
-"""Makes the Debian packages in an empty folder, unpacks them, asks the program of the one, and looks for the files of the other."""
+"""Makes the Debian packages in an empty folder, unpacks them, asks the program of the one, and looks for the files of the other. That for ARM
+must have the libraries for ARM."""
 import os
 import tempfile
 
@@ -57,3 +58,23 @@ class Packages(built.OfLibrary):
         with open(os.path.join(EXAMPLES, "delegation.sexp"), "rb") as case:
             answer = run(os.path.join(self.folder, "spki", "usr", "bin", "spki"), "check", case.read())
         self.assertEqual(answer, (0, b"yes entry 1\n"))
+
+
+@needs.needs("dpkg-deb", *needs.ARM)
+class PackageForArm(built.OfLibrary):
+    """The package of the library for ARM."""
+
+    def test_libraries(self) -> None:
+        with tempfile.TemporaryDirectory() as room:
+            status, said = output_of(os.path.join(TOP, "packages.sh"), "--arm64", room, self.program, self.library)
+            self.assertEqual(status, 0, said)
+            package = os.path.join(room, f"libspki-dev_{text_of('VERSION').strip()}_arm64.deb")
+            self.assertEqual(output_of("dpkg-deb", "-f", package, "Architecture"), (0, "arm64\n"))
+            self.assertEqual(len([name for name in os.listdir(room) if name.endswith(".deb")]), len(FILES) + 1)
+            output_of("dpkg-deb", "-x", package, os.path.join(room, "unpacked"))
+            for name in FILES["libspki-dev"]:
+                self.assertTrue(os.path.exists(os.path.join(room, "unpacked", name)), name)
+            for end in ("a", "so"):
+                with open(os.path.join(room, "unpacked", "usr", "lib", f"libspki_c.{end}"), "rb") as packed, \
+                        open(f"{built.arm().removesuffix('a')}{end}", "rb") as library:
+                    self.assertEqual(packed.read(), library.read(), end)

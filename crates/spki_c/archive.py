@@ -10,8 +10,14 @@ these symbols have a version, such as SPKI_0.1, so that a program does not run w
 `rt ci` leaves the libraries below in a form that `rt lib` does not accept, so that it would prove all of them again. Right behind it,
 --over-gate builds over that form. --again links anew over the proved code of the last run, where only spki.c or spki.h has changed.
 
-Usage: crates/spki_c/archive.py [--over-gate | --again]
+--target aarch64-unknown-linux-gnu builds both for Linux on ARM with 64 bits, in out/aarch64-unknown-linux-gnu/. What is proved is the code for
+this target. The toolchain has its calls of `malloc`, `realloc` and `free` for x86-64 alone: those of heap.c take their place, which is
+trusted. Debian's gcc-aarch64-linux-gnu compiles and links.
+
+Usage: crates/spki_c/archive.py [--over-gate | --again] [--target TARGET]
 """
+import argparse
+import contextlib
 import importlib.machinery
 import importlib.util
 import os
@@ -23,10 +29,12 @@ import tempfile
 
 CRATE = os.path.realpath(os.path.dirname(__file__))
 ROOT = os.path.realpath(os.path.join(CRATE, "..", ".."))
-ARCHIVE = "out/libspki_c.a"
-SHARED = "out/libspki_c.so"
-PROVED = "out/proved/libspki_c.a"
-TOOLS = {"cc": "gcc", "ld": "binutils", "objcopy": "binutils", "ar": "binutils"}
+OWN, ARM = "x86_64-unknown-linux-gnu", "aarch64-unknown-linux-gnu"
+# Where `rt lib` leaves the proved code.
+MADE = "out/libspki_c.a"
+# Of each target: the folder of its libraries, its C compiler, how its other tools begin, and the Debian packages of the two.
+TARGETS = {OWN: ("out", "cc", "", "gcc", "binutils"),
+           ARM: (f"out/{ARM}", "aarch64-linux-gnu-gcc", "aarch64-linux-gnu-", "gcc-aarch64-linux-gnu", "binutils-aarch64-linux-gnu")}
 CALL = re.compile(r"^\w[\w *]*\b(spki_\w+)\(", re.MULTILINE)
 OF_C = ["-std=c11", "-O2", "-fPIC", "-Wall", "-Wextra", "-Wpedantic", "-Werror"]
 
@@ -39,23 +47,38 @@ def toolchain(path):
     return made.rtlib
 
 
-def built_over_gate(rt):
+def built_over_gate(rt, flags, to):
     """Whether the library is built over what `rt ci` left of the libraries below it."""
     crate = next(it for it in rt.crates_below(ROOT) if it.name == "spki_c")
     below = crate.below()
     if all(it.is_built() for it in below) or not all(os.path.isdir(it.rlib) for it in below):
         return False
     rt.Crate.cuts_libraries = True
-    os.makedirs("out", exist_ok=True)
-    return crate.compile([], ARCHIVE) == 0
+    return crate.compile(flags, to) == 0
 
 
-def build_proved(rt):
-    """Builds the proved code, and keeps it apart from what is linked of it."""
-    if sys.argv[1:] != ["--over-gate"] or not built_over_gate(toolchain(rt)):
-        subprocess.run(["rt", "lib"], check=True)
-    os.makedirs(os.path.dirname(PROVED), exist_ok=True)
-    os.replace(ARCHIVE, PROVED)
+@contextlib.contextmanager
+def put_aside(path):
+    """Keeps a file that a command would write over."""
+    aside = f"{path}.aside"
+    if os.path.exists(path):
+        os.replace(path, aside)
+    try:
+        yield
+    finally:
+        if os.path.exists(aside):
+            os.replace(aside, path)
+
+
+def build_proved(rt, asked, to):
+    """Builds the proved code for the target, and keeps it apart from what is linked of it."""
+    flags = [] if asked.target == OWN else [f"--target={asked.target}"]
+    os.makedirs(os.path.dirname(to), exist_ok=True)
+    if asked.over_gate and built_over_gate(toolchain(rt), flags, to):
+        return
+    with put_aside(MADE):
+        subprocess.run(["rt", "lib", *flags], check=True)
+        os.replace(MADE, to)
 
 
 def exports():
@@ -75,35 +98,54 @@ def versioned():
     return f"SPKI_{interface()} {{\n    global: {' '.join(name + ';' for name in exports())}\n    local: *;\n}};\n"
 
 
-def link(kit):
+def link(target, kit, proved):
     """Links the proved code and the C code into one object, and this into both libraries."""
     def run(*words):
         subprocess.run(words, check=True)
 
+    folder, cc, prefix, _, _ = TARGETS[target]
+    archive, shared = (os.path.join(folder, f"libspki_c.{end}") for end in ("a", "so"))
     with tempfile.TemporaryDirectory() as room:
-        of_c, whole, script = (os.path.join(room, name) for name in ("of_c.o", "spki_c.o", "versions"))
+        whole, script = (os.path.join(room, name) for name in ("spki_c.o", "versions"))
         with open(script, "w", encoding="ascii") as file:
             file.write(versioned())
-        run("cc", *OF_C, "-c", "-o", of_c, "spki.c")
-        run("ld", "-r", "-o", whole, of_c, "--whole-archive", PROVED, os.path.join(kit, "c", "liblibc_c.a"))
-        run("objcopy", *(f"--keep-global-symbol={name}" for name in exports()), whole)
-        for old in (ARCHIVE, SHARED):
+        of_c = []
+        for source in ["spki.c", *["heap.c"] * (target != OWN)]:
+            of_c.append(os.path.join(room, f"{source}.o"))
+            run(cc, *OF_C, "-c", "-o", of_c[-1], source)
+        of_kit = [os.path.join(kit, "c", "liblibc_c.a")] * (target == OWN)
+        run(f"{prefix}ld", "-r", "-o", whole, *of_c, "--whole-archive", proved, *of_kit)
+        run(f"{prefix}objcopy", *(f"--keep-global-symbol={name}" for name in exports()), whole)
+        for old in (archive, shared):
             if os.path.exists(old):
                 os.remove(old)
-        run("ar", "rcsD", ARCHIVE, whole)
-        run("cc", "-shared", "-o", SHARED, whole, f"-Wl,-soname,libspki_c.so.{interface()}", f"-Wl,--version-script={script}", "-Wl,-z,defs",
+        run(f"{prefix}ar", "rcsD", archive, whole)
+        run(cc, "-shared", "-o", shared, whole, f"-Wl,-soname,libspki_c.so.{interface()}", f"-Wl,--version-script={script}", "-Wl,-z,defs",
             "-Wl,-z,relro", "-Wl,-z,now")
 
 
+def arguments():
+    """What the command line asks for."""
+    asked = argparse.ArgumentParser(description="Builds the proved library for C programs, static and shared.")
+    how = asked.add_mutually_exclusive_group()
+    how.add_argument("--over-gate", action="store_true", help="over what rt ci has left of the libraries below")
+    how.add_argument("--again", action="store_true", help="over the proved code of the last run")
+    asked.add_argument("--target", choices=TARGETS, default=OWN, help="the system that the libraries are for")
+    return asked.parse_args()
+
+
 def main():
+    asked = arguments()
     os.chdir(CRATE)
-    for tool, package in TOOLS.items():
+    folder, cc, prefix, package_of_cc, package = TARGETS[asked.target]
+    for tool, name in {cc: package_of_cc, **dict.fromkeys([f"{prefix}{it}" for it in ("ld", "objcopy", "ar")], package)}.items():
         if not shutil.which(tool):
-            sys.exit(f"there is no {tool} (Debian: {package}): it links the library")
+            sys.exit(f"there is no {tool} (Debian: {name}): it links the library")
     rt = os.path.realpath(shutil.which("rt") or sys.exit("rt is not in the path: it builds the library"))
-    if sys.argv[1:] != ["--again"]:
-        build_proved(rt)
-    link(os.path.dirname(os.path.dirname(rt)))
+    proved = os.path.join(folder, "proved", "libspki_c.a")
+    if not asked.again:
+        build_proved(rt, asked, proved)
+    link(asked.target, os.path.dirname(os.path.dirname(rt)), proved)
 
 
 if __name__ == "__main__":
