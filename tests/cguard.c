@@ -1,5 +1,5 @@
 /* Asks a guard that is held from C as `spki.h` says: right and wrong marks, misuse, small buffers, two guards at once, buffers that change
- * once a question is opened, guards that are closed before their questions, refused memory, and several threads on one guard and on one
+ * once a question is opened, guards that are closed before their questions or beside them, refused memory, and several threads on one guard and on one
  * question. Is linked with --wrap=malloc and --wrap=realloc. Ends with 99 where a call does otherwise, with a line on standard error.
  *
  * Usage: cguard THREADS REFUSALS LIST SEQUENCE KEY     each of the last three is a text */
@@ -368,6 +368,33 @@ static void threads(size_t count)
     spki_guard_close(shared.guard);
 }
 
+/* Decides a question of its own and closes it. */
+static void *ends(void *given)
+{
+    spki_asked *asked = given;
+    unsigned char line[64];
+    size_t needed;
+    for (int turn = 0; turn < TURNS; turn++)
+        expect(spki_asked_decide(asked, NULL, 0, line, sizeof line, &needed) == SPKI_YES && is(line, needed, "yes entry 1\n"),
+               "another answer beside the end of the guard");
+    spki_asked_close(asked);
+    return NULL;
+}
+
+/* A guard is closed while other threads decide the questions that were opened with it, and close them. */
+static void closed_beside(size_t count)
+{
+    struct spki_question question = {.size = sizeof question, .sequence = text("(sequence)"), .key = text("(public-key (test b))"),
+                                     .request = text("x"), .seconds = &moment};
+    spki_guard *guard = opened("(acl (entry (public-key (test b)) (tag (*))))", SPKI_STRICT);
+    pthread_t each[MOST_THREADS];
+    for (size_t i = 0; i < count; i++)
+        expect(!pthread_create(&each[i], NULL, ends, asked_of(guard, &question)), "no thread");
+    spki_guard_close(guard);
+    for (size_t i = 0; i < count; i++)
+        pthread_join(each[i], NULL);
+}
+
 int main(int count, char **words)
 {
     expect(count == 6, "usage: cguard THREADS REFUSALS LIST SEQUENCE KEY");
@@ -382,5 +409,6 @@ int main(int count, char **words)
     strings_without_memory(strtoul(words[2], NULL, 10));
     refused_memory(strtoul(words[2], NULL, 10));
     threads(strtoul(words[1], NULL, 10));
+    closed_beside(strtoul(words[1], NULL, 10));
     return 0;
 }

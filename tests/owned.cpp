@@ -4,6 +4,7 @@
 #include <array>
 #include <cstdio>
 #include <string>
+#include <thread>
 #include <utility>
 
 #define CHECK(what)                                     \
@@ -96,7 +97,31 @@ static int literals()
     return 0;
 }
 
+// Threads ask one guard and one question, and each ends a question of its own, while the guard ends.
+static int threads()
+{
+    auto guard = std::make_unique<spki::guard>(list);
+    const spki::asked shared = guard->ask({shown, key, words, now});
+    std::array<int, 4> granted{};
+    std::vector<std::thread> asking, ending;
+    for (int &count : granted)
+        asking.emplace_back([&] {
+            for (int turn = 0; turn < 20; turn++)
+                count += guard->decide({shown, key, words, now}, is_sig) && shared.decide({1}) ? 1 : 0;
+        });
+    for (std::thread &thread : asking)
+        thread.join();
+    for (int &count : granted)
+        ending.emplace_back([&count, own = guard->ask({shown, key, words, now})] { count += own.decide({1}) ? 1 : 0; });
+    guard.reset();
+    for (std::thread &thread : ending)
+        thread.join();
+    for (int count : granted)
+        CHECK(count == 21);
+    return 0;
+}
+
 int main()
 {
-    return decisions() || opened() || refusals() || literals();
+    return decisions() || opened() || refusals() || literals() || threads();
 }

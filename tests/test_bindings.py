@@ -7,8 +7,8 @@ and the moment in seconds. The verifier accepts what the case's rows do. `decide
 
 Runs the tests of the Python module, mypy over its types, and of the crate its tests, those in its documents, clippy and the formatter. The
 examples `decide.c`, `decide.rs` and `decide.py`, which docs/GUIDE.md quotes, must grant and deny, by real keys and signatures. The header
-for C++ is called by `owned.cpp`. The module is installed by pip with the library inside. The crate must refuse a folder without a library. All
-must have the version of the file VERSION."""
+for C++ is called by `owned.cpp`. Threads in C++ and Rust run under helgrind. The module is installed by pip with the library inside. The
+crate must refuse a folder without a library. All must have the version of the file VERSION."""
 import functools
 import glob
 import hashlib
@@ -37,6 +37,7 @@ COMMANDS = {"decide": "check", "explain": "explain", "reduce": "reduce"}
 NO_CASE = (b"refused form", b"refused case")
 TOO_LARGE = b"refused TooLarge\n"
 SECONDS = 1800
+HELGRIND = ("valgrind", "--tool=helgrind", "--quiet", "--error-exitcode=98")
 
 
 class Asked(NamedTuple):
@@ -313,12 +314,20 @@ class InC(Binding):
 class InCpp(Binding):
     """The header for C++."""
 
-    def test_owners(self):
+    def owns(self, flags, *by):
+        """`owned.cpp` must compile with these flags and find nothing wrong."""
         with tempfile.TemporaryDirectory() as room:
             to, source = os.path.join(room, "owned"), os.path.join(TESTS, "owned.cpp")
-            flags = ["-std=c++17", "-Wall", "-Wextra", "-Wpedantic", "-Werror", "-g", "-fsanitize=address,undefined", "-I", CRATE]
-            self.assertEqual(output_of("g++", *flags, "-o", to, source, self.library, seconds=SECONDS), (0, ""))
-            self.assertEqual(output_of(to), (0, ""))
+            words = ["-std=c++17", "-Wall", "-Wextra", "-Wpedantic", "-Werror", "-g", "-pthread", *flags, "-I", CRATE]
+            self.assertEqual(output_of("g++", *words, "-o", to, source, self.library, seconds=SECONDS), (0, ""))
+            self.assertEqual(output_of(*by, to, seconds=SECONDS), (0, ""))
+
+    def test_owners(self):
+        self.owns(["-fsanitize=address,undefined"])
+
+    @needs.needs("valgrind")
+    def test_owners_under_helgrind(self):
+        self.owns([], *HELGRIND)
 
     def test_answers_that_are_no_bool(self):
         """A verifier that returns a number is not compiled."""
@@ -359,6 +368,14 @@ class InRust(Binding):
         lines = strings_in(self.does("run", "--quiet", "--example", "asked", given=b"".join(map(framed, asked))))
         fault = otherwise(asked, [line + b"\n" for line in lines])
         self.assertEqual(fault, "", fault)
+
+    @needs.needs("valgrind")
+    def test_threads_under_helgrind(self):
+        """Threads that decide by one guard and one question, and end them, do not meet in memory without order."""
+        self.does("build", "--quiet", "--example", "threads")
+        words = [*HELGRIND, f"--suppressions={TESTS}/rust.supp", os.path.join(RUST, "out", "debug", "examples", "threads")]
+        met = output_of(*words, seconds=SECONDS)
+        self.assertEqual(met, (0, "400 granted\n"))
 
     @needs.needs("openssl", "import cryptography")
     def test_example(self):

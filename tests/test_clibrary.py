@@ -5,7 +5,7 @@ canaries, with failing allocations, and then from several threads with 256 KiB o
 `examples/`, the rows of the tables, and cases whose rows of accepted signatures stand apart. It asks the static
 library and the shared one, each also under AddressSanitizer and under valgrind.
 `cguard.c` opens guards and asks them: right and wrong marks, buffers that are too small, requests by strings, failing
-allocations, and one guard from several threads. They too use each library, also under
+allocations, and one guard from several threads. `misuse.c` makes each call with each argument wrong. They too use each library, also under
 AddressSanitizer, valgrind and helgrind. No allocation of the shared library fails, since it calls the C library itself.
 
 The libraries for ARM are asked short questions and open guards too, in an emulator.
@@ -255,8 +255,9 @@ class OfC(built.OfLibrary):
         self.assertEqual(done.returncode, 0, f"{' '.join(words)[:300]}: {done.stderr[-2000:]}")
 
     def holds_guards(self, library, *more, by=(), threads=THREADS, refusals=0):
-        """Guards must do as the header says."""
+        """Guards must do as the header says, and misuse must be seen."""
         self.holds("cguard.c", library, *more, by=by, words=[str(threads), str(refusals), *worked_question()])
+        self.holds("misuse.c", library, *more, by=by)
 
 
 class Links(OfC):
@@ -333,7 +334,7 @@ class SharedUnderValgrind(OfC):
 
 
 class Guards(OfC):
-    """`cguard.c`, with each library and under what looks for faults of memory."""
+    """`cguard.c` and `misuse.c`, with each library and under what looks for faults of memory."""
 
 
 @needs.needs(*needs.ARM, "qemu-aarch64")

@@ -300,8 +300,12 @@ class Guards(unittest.TestCase):
         """Beside every call a guard and a question may be closed. A call answers as before, or raises ValueError."""
         calls = {"entries": lambda guard, opened: guard.entries == 1, "decide": lambda guard, opened: bool(guard.decide(asked(), right)),
                  "count": lambda guard, opened: len(opened) == 1, "signatures": lambda guard, opened: opened.signatures()[0][:3] == SIGNED,
-                 "marks": lambda guard, opened: opened.decide([True]) == spki.Decision(1),
-                 "explain": lambda guard, opened: str(opened.explain([True])) == "entry 1 grants"}
+                 "marks": lambda guard, opened: opened.marks(right) == [True], "ask": lambda guard, opened: len(guard.ask(asked())) == 1,
+                 "decide by marks": lambda guard, opened: opened.decide([True]) == spki.Decision(1),
+                 "explain": lambda guard, opened: str(guard.explain(asked(), right)) == "entry 1 grants",
+                 "explain by marks": lambda guard, opened: str(opened.explain([True])) == "entry 1 grants",
+                 "reduce": lambda guard, opened: str(guard.reduce(asked(), right)).startswith("entry 1 "),
+                 "reduce by marks": lambda guard, opened: str(opened.reduce([True])).startswith("entry 1 ")}
         for name, call in calls.items():
             for _ in range(200):
                 guard = spki.Guard(LIST)

@@ -1,0 +1,42 @@
+//! Threads that decide by one guard and one opened question. The last one to end closes the guard. `tests/test_bindings.py` runs it under helgrind.
+
+use spki::{Guard, Limits, Moment, Policy, Question, Request};
+use std::sync::Arc;
+use std::thread;
+
+const LIST: &[u8] = b"(acl (entry (public-key (test b)) (tag (ftp))))";
+const THREADS: usize = 4;
+const TURNS: usize = 50;
+
+fn question() -> Question<'static> {
+    Question::new(
+        b"(sequence)",
+        b"(public-key (test b))",
+        Request::Text(b"(ftp host)"),
+        Moment::Seconds(1_704_067_200),
+    )
+}
+
+/// How often a question is granted, each time anew and once opened.
+fn granted(guard: &Guard) -> usize {
+    let asked = guard.ask(&question()).expect("a question");
+    let anew = |_: &usize| guard.decide(&question(), |_, _, _| true).is_ok();
+    let opened = |_: &usize| asked.decide(&[]).is_ok();
+    (0..TURNS).filter(anew).count() + (0..TURNS).filter(opened).count()
+}
+
+fn main() {
+    let guard = Arc::new(Guard::read(LIST, Policy::Strict, Limits::default()).expect("a list"));
+    let threads: Vec<_> = (0..THREADS)
+        .map(|_| {
+            let guard = Arc::clone(&guard);
+            thread::spawn(move || granted(&guard))
+        })
+        .collect();
+    drop(guard);
+    let all: usize = threads
+        .into_iter()
+        .map(|it| it.join().expect("a count"))
+        .sum();
+    println!("{all} granted");
+}

@@ -1,0 +1,217 @@
+/* Makes each call of `spki.h` with each of its arguments null with a length, too long, or of another size, which must be misuse that changes
+ * nothing, and with what may be null. What no call can see is the caller's duty: a handle that was closed, or is of another library. Is linked
+ * with --wrap=malloc and --wrap=realloc. Ends with 99 where a call does otherwise, with a line on standard error. */
+#include "cguard.h"
+
+enum { UNTOUCHED = 0x5a };
+#define TOO_LONG ((size_t)PTRDIFF_MAX + 1)
+#define BUFFER buffer, sizeof buffer, &needed
+
+static const struct spki_text wrong[] = {{NULL, 1}, {NULL, TOO_LONG}, {"x", TOO_LONG}, {"x", SIZE_MAX}};
+enum { WRONG = sizeof wrong / sizeof *wrong };
+
+static unsigned char buffer[64], marks[256];
+static size_t needed;
+static spki_guard *guard;
+static spki_asked *asked;
+
+/* Where a call sets the handle of what it opens. */
+static spki_guard *no_guard;
+static spki_asked *no_asked;
+
+static void misused(enum spki_status status, const char *what)
+{
+    expect(status == SPKI_MISUSED && !needed, what);
+    for (size_t place = 0; place < sizeof buffer; place++)
+        expect(buffer[place] == UNTOUCHED, what);
+    needed = 12345;
+}
+
+static void opens_no_guard(enum spki_status status, const char *what)
+{
+    misused(status, what);
+    expect(!no_guard, what);
+    no_guard = guard;
+}
+
+static void opens_no_question(enum spki_status status, const char *what)
+{
+    misused(status, what);
+    expect(!no_asked, what);
+    no_asked = asked;
+}
+
+static void misused_question(const struct spki_question *question, const char *what)
+{
+    opens_no_question(spki_guard_ask(guard, question, &no_asked, BUFFER), what);
+}
+
+/* A question that is granted. */
+static struct spki_question granted(void)
+{
+    struct spki_question question = {.size = sizeof question, .sequence = text("(sequence)"), .key = text("(public-key (test b))"),
+                                     .request = text("x"), .seconds = &moment};
+    return question;
+}
+
+/* The texts and the marks of each call. */
+static void wrong_texts(struct spki_text it)
+{
+    const void *octets = &it;
+    opens_no_guard(spki_guard_open(it.octets, it.length, SPKI_STRICT, NULL, &no_guard, BUFFER), "spki_guard_open: list");
+    misused(spki_answer(SPKI_CHECK, it.octets, it.length, BUFFER), "spki_answer: text");
+    misused(spki_check_accepted(it.octets, it.length, "x", 1, BUFFER), "spki_check_accepted: text");
+    misused(spki_check_accepted("x", 1, it.octets, it.length, BUFFER), "spki_check_accepted: rows");
+    misused(spki_asked_decide(asked, it.octets, it.length, BUFFER), "spki_asked_decide: verified");
+    misused(spki_asked_explain(asked, it.octets, it.length, BUFFER), "spki_asked_explain: verified");
+    misused(spki_asked_reduce(asked, it.octets, it.length, BUFFER), "spki_asked_reduce: verified");
+    misused(spki_string(it.octets, it.length, NULL, 0, &octets, &needed), "spki_string: text");
+    expect(!octets, "spki_string: text");
+}
+
+/* The texts of a question, and its list of strings. */
+static void wrong_parts(struct spki_text it)
+{
+    struct spki_question question = granted();
+    struct spki_text words[2] = {text("x"), it}, *const parts[] = {&question.sequence, &question.key, &question.request, &question.moment};
+    for (size_t place = 0; place < sizeof parts / sizeof *parts; place++) {
+        question = granted();
+        question.seconds = parts[place] == &question.moment ? NULL : &moment;
+        *parts[place] = it;
+        misused_question(&question, "spki_guard_ask: a part");
+    }
+    question = granted();
+    question.request.length = 0;
+    question.words = words;
+    question.word_count = 2;
+    misused_question(&question, "spki_guard_ask: a string");
+    question.words = it.octets ? words : NULL;
+    question.word_count = it.length;
+    misused_question(&question, "spki_guard_ask: strings");
+}
+
+/* The buffers of each call. */
+static void wrong_buffers(struct spki_text it)
+{
+    struct spki_question question = granted();
+    void *to = it.octets ? buffer : NULL;
+    opens_no_guard(spki_guard_open("(acl)", 5, SPKI_STRICT, NULL, &no_guard, to, it.length, &needed), "spki_guard_open: buffer");
+    opens_no_question(spki_guard_ask(guard, &question, &no_asked, to, it.length, &needed), "spki_guard_ask: buffer");
+    misused(spki_answer(SPKI_CHECK, "x", 1, to, it.length, &needed), "spki_answer: buffer");
+    misused(spki_check_accepted("x", 1, "x", 1, to, it.length, &needed), "spki_check_accepted: buffer");
+    misused(spki_asked_decide(asked, NULL, 0, to, it.length, &needed), "spki_asked_decide: buffer");
+    misused(spki_asked_explain(asked, NULL, 0, to, it.length, &needed), "spki_asked_explain: buffer");
+    misused(spki_asked_reduce(asked, NULL, 0, to, it.length, &needed), "spki_asked_reduce: buffer");
+}
+
+static void wrong_sizes(void)
+{
+    struct spki_limits limits[] = {SPKI_USUAL_LIMITS, SPKI_USUAL_LIMITS, SPKI_USUAL_LIMITS, SPKI_USUAL_LIMITS, SPKI_USUAL_LIMITS};
+    struct spki_question question = granted();
+    static const size_t sizes[] = {0, sizeof question - 1, sizeof question + 1, SIZE_MAX};
+    limits[0].size = 0;
+    limits[1].size++;
+    limits[2].octets = SPKI_MOST_OCTETS + 1;
+    limits[3].nodes = SPKI_MOST_NODES + 1;
+    limits[4].octets = SIZE_MAX;
+    for (size_t place = 0; place < sizeof limits / sizeof *limits; place++) {
+        opens_no_guard(spki_guard_open("(acl)", 5, SPKI_STRICT, &limits[place], &no_guard, BUFFER), "spki_guard_open: limits");
+    }
+    for (size_t place = 0; place < sizeof sizes / sizeof *sizes; place++) {
+        question.size = sizes[place];
+        misused_question(&question, "spki_guard_ask: the size of the question");
+    }
+}
+
+/* Numbers that have no meaning: commands, policies, counts of marks, paths that are too long. */
+static void wrong_numbers(void)
+{
+    static const size_t path[1];
+    static const unsigned numbers[] = {7, 8, 255, 256, 65536, 0x80000000u, 0xffffffffu};
+    const void *octets = &path;
+    for (size_t place = 0; place < sizeof numbers / sizeof *numbers; place++) {
+        misused(spki_answer((enum spki_command)numbers[place], "x", 1, BUFFER), "spki_answer: command");
+        opens_no_guard(spki_guard_open("(acl)", 5, (enum spki_policy)numbers[place], NULL, &no_guard, BUFFER), "spki_guard_open: policy");
+    }
+    for (size_t count = 1; count <= sizeof marks; count *= 2) {
+        misused(spki_asked_decide(asked, marks, count, BUFFER), "spki_asked_decide: count");
+        misused(spki_asked_explain(asked, marks, count, BUFFER), "spki_asked_explain: count");
+        misused(spki_asked_reduce(asked, marks, count, BUFFER), "spki_asked_reduce: count");
+    }
+    misused(spki_string("1:a", 3, path, TOO_LONG / sizeof *path, &octets, &needed), "spki_string: depth");
+    misused(spki_string("1:a", 3, NULL, 1, &octets, &needed), "spki_string: path");
+    expect(!octets, "spki_string: path");
+}
+
+/* Handles and places of results that are null. */
+static void nulls(void)
+{
+    struct spki_question question = granted(), twice = question;
+    struct spki_signed signature;
+    memset(&signature, 1, sizeof signature);
+    misused(spki_guard_open("(acl)", 5, SPKI_STRICT, NULL, NULL, BUFFER), "spki_guard_open: guard");
+    opens_no_question(spki_guard_ask(NULL, &question, &no_asked, BUFFER), "spki_guard_ask: guard");
+    misused_question(NULL, "spki_guard_ask: question");
+    misused(spki_guard_ask(guard, &question, NULL, BUFFER), "spki_guard_ask: asked");
+    misused(spki_asked_decide(NULL, NULL, 0, BUFFER), "spki_asked_decide: asked");
+    misused(spki_asked_explain(NULL, NULL, 0, BUFFER), "spki_asked_explain: asked");
+    misused(spki_asked_reduce(NULL, NULL, 0, BUFFER), "spki_asked_reduce: asked");
+    misused(spki_string("1:a", 3, NULL, 0, NULL, &needed), "spki_string: octets");
+    expect(spki_asked_signature(asked, 0, NULL) == SPKI_MISUSED, "spki_asked_signature: signature");
+    expect(spki_asked_signature(NULL, 0, &signature) == SPKI_MISUSED && !signature.key.octets && !signature.octets.length,
+           "spki_asked_signature: asked");
+    expect(!spki_guard_entries(NULL) && !spki_asked_count(NULL), "the count of nothing");
+    spki_guard_close(NULL);
+    spki_asked_close(NULL);
+    twice.moment = text("19:2024-01-01_00:00:00");
+    misused_question(&twice, "spki_guard_ask: two moments");
+    twice = question;
+    twice.words = &twice.key;
+    misused_question(&twice, "spki_guard_ask: two requests");
+}
+
+/* What may be null: what has no octets, `needed`, limits. */
+static void allowed(void)
+{
+    static const size_t path[1];
+    struct spki_question question = granted();
+    struct spki_text empty = {NULL, 0};
+    const void *octets;
+    spki_guard *other = NULL;
+    spki_asked *opened_question = NULL;
+    expect(spki_guard_open("(acl)", 5, SPKI_OPEN, NULL, &other, NULL, 0, NULL) == SPKI_DONE && other, "an open guard without a buffer");
+    spki_guard_close(other);
+    question.words = &empty;
+    question.word_count = 1;
+    question.request = empty;
+    expect(spki_guard_ask(guard, &question, &opened_question, NULL, 0, NULL) == SPKI_DONE && opened_question, "a string without octets");
+    expect(spki_asked_decide(opened_question, NULL, 0, NULL, 0, NULL) == SPKI_TOO_SMALL, "a decision without a buffer");
+    expect(spki_asked_decide(opened_question, marks, 0, buffer, sizeof buffer, NULL) == SPKI_YES, "no marks with an address");
+    spki_asked_close(opened_question);
+    expect(spki_answer(SPKI_CANONICAL, NULL, 0, NULL, 0, NULL) == SPKI_TOO_SMALL, "no text");
+    expect(spki_check_accepted(NULL, 0, NULL, 0, NULL, 0, NULL) == SPKI_TOO_SMALL, "no case");
+    expect(spki_string("0:", 2, path, 0, &octets, NULL) == SPKI_DONE && octets, "a string without a length");
+}
+
+int main(void)
+{
+    struct spki_question question = granted();
+    guard = opened("(acl (entry (public-key (test b)) (tag (*))))", SPKI_STRICT);
+    asked = asked_of(guard, &question);
+    memset(buffer, UNTOUCHED, sizeof buffer);
+    no_guard = guard;
+    no_asked = asked;
+    for (size_t place = 0; place < WRONG; place++) {
+        wrong_texts(wrong[place]);
+        wrong_parts(wrong[place]);
+        wrong_buffers(wrong[place]);
+    }
+    wrong_sizes();
+    wrong_numbers();
+    nulls();
+    allowed();
+    decides(guard, &question, NULL, 0, SPKI_YES, "yes entry 1\n");
+    spki_asked_close(asked);
+    spki_guard_close(guard);
+    return 0;
+}
