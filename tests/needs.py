@@ -39,6 +39,7 @@ NEEDS = [Need(*words) for words in [
     ("ld", "binutils", "the library for C and what calls it"),
     ("objcopy", "binutils", "the library for C and what calls it"),
     ("g++", "g++", "the header for C++"),
+    ("clang", "clang", "calls of the library with fuzzed parts"),
     ("aarch64-linux-gnu-gcc", "gcc-aarch64-linux-gnu", "the library for ARM"),
     ("qemu-aarch64", "qemu-user", "what the library for ARM answers"),
     ("valgrind", "valgrind", "runs of the library and of the service in C under valgrind and helgrind; most benches"),

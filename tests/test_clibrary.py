@@ -8,6 +8,9 @@ library and the shared one, each also under AddressSanitizer and under valgrind.
 allocations, and one guard from several threads. `misuse.c` makes each call with each argument wrong. They too use each library, also under
 AddressSanitizer, valgrind and helgrind. No allocation of the shared library fails, since it calls the C library itself.
 
+`fuzz/calls.c` makes the parts of questions from fuzzed octets and compares the answers: from the files of `fuzz/corpus/`, and in `.ci/deep` for
+ten minutes. There spki.c is under AddressSanitizer too.
+
 The libraries for ARM are asked short questions and open guards too, in an emulator.
 
 The symbols of both libraries must be the calls that the header declares and no others, and what they need a few functions of the C
@@ -42,6 +45,8 @@ WEAK = ("_ITM_", "__cxa_finalize", "__gmon_start__")
 NEEDED = {"malloc", "realloc", "free", "memcpy", "memmove", "memset", "memcmp"}
 VALGRIND = ["valgrind", "--quiet", "--leak-check=full", "--show-leak-kinds=all", "--error-exitcode=98"]
 HELGRIND = ["valgrind", "--tool=helgrind", "--quiet", "--error-exitcode=98"]
+FUZZED = ["clang", "-g", "-O1", "-Wall", "-Wextra", "-Werror", "-fsanitize=fuzzer,address,undefined", "-fno-sanitize-recover=all", "-D_GNU_SOURCE"]
+FUZZ_SECONDS = 600
 MOMENT = "2024-01-01_00:00:00"
 NO_ROWS = b"(accepted)"
 
@@ -335,6 +340,33 @@ class SharedUnderValgrind(OfC):
 
 class Guards(OfC):
     """`cguard.c` and `misuse.c`, with each library and under what looks for faults of memory."""
+
+
+@needs.needs("clang", "openssl/evp.h")
+class Fuzzed(OfC):
+    """`fuzz/calls.c`: the answers to fuzzed parts, through an spki.c that is checked as well."""
+
+    def is_fuzzed(self, *flags):
+        """Fuzzing must find nothing. What it finds is kept in tests/out/."""
+        to, folder, kept = (os.path.join(*words) for words in ((self.room, "fuzz"), (TESTS, "fuzz"), (TESTS, "out")))
+        sources = [os.path.join(folder, "calls.c"), *(os.path.join(CRATE, name) for name in ("spki.c", "heap.c"))]
+        proved = os.path.join(os.path.dirname(built.library()), "proved", "libspki_c.a")
+        self.assertTrue(is_compiled(*FUZZED, "-o", to, *sources, proved, "-lcrypto"), "calls.c is not compiled")
+        corpus = shutil.copytree(os.path.join(folder, "corpus"), os.path.join(self.room, "corpus"), dirs_exist_ok=True)
+        os.makedirs(kept, exist_ok=True)
+        words = [to, "-max_len=1500", "-len_control=0", "-timeout=120", f"-artifact_prefix={kept}/fuzzed-", *flags, corpus]
+        done = subprocess.run(words, stdout=subprocess.PIPE, stderr=subprocess.STDOUT, text=True, errors="replace", timeout=2 * SECONDS)
+        self.assertEqual(done.returncode, 0, done.stdout[-4000:])
+
+    def test_corpus(self):
+        self.is_fuzzed("-runs=0")
+
+    def test_for_ten_minutes(self):
+        self.is_fuzzed(f"-max_total_time={FUZZ_SECONDS}", "-rss_limit_mb=2048")
+
+
+if not built.IS_LONG:
+    del Fuzzed.test_for_ten_minutes
 
 
 @needs.needs(*needs.ARM, "qemu-aarch64")

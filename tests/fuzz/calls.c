@@ -1,0 +1,370 @@
+/* Calls spki.h with parts that are made from fuzzed octets (libFuzzer), and compares the answers: a guard's with those to the case of the same
+ * parts, a decision with its explanation, a text with what it is converted to and back.
+ *
+ * The library is not instrumented, so libFuzzer is told of each new answer as of a new place in the code. */
+#include "pieces.h"
+
+#include <spki.h>
+#include <stdlib.h>
+
+enum { CANARIES = 16, CANARY = 0xa5, UNTOUCHED = 0x5a, MOST_MARKS = 64, ROOM = 256, COUNTERS = 4096 };
+
+__attribute__((section("__libfuzzer_extra_counters"))) static uint8_t met[COUNTERS];
+
+int LLVMFuzzerTestOneInput(const uint8_t *data, size_t size);
+
+static void holds(int is_so, const char *what)
+{
+    if (is_so)
+        return;
+    fprintf(stderr, "%s\n", what);
+    abort();
+}
+
+/* The answer of a call. */
+struct answer {
+    enum spki_status status;
+    size_t length;
+    unsigned char *octets;
+};
+
+/* Counts an answer by its status and the letters of its first line. */
+static void count(const struct answer *answer)
+{
+    uint32_t sum = (uint32_t)answer->status;
+    for (size_t place = 0; place < answer->length && answer->octets[place] != '\n' && place < 64; place++)
+        if (answer->octets[place] > '9')
+            sum = sum * 31 + answer->octets[place];
+    met[sum % COUNTERS] = 1;
+}
+
+/* A call whose answer goes to a buffer, and what it is called with. */
+typedef enum spki_status call(const void *with, void *buffer, size_t length, size_t *needed);
+
+/* Does a call with a buffer of this size between canaries. */
+static struct answer done(call *calls, const void *with, size_t size)
+{
+    struct answer answer = {0};
+    unsigned char *block = malloc(size + 2 * CANARIES), *buffer = block + CANARIES;
+    size_t written;
+    holds(block != NULL, "no memory");
+    memset(block, CANARY, size + 2 * CANARIES);
+    memset(buffer, UNTOUCHED, size);
+    answer.status = calls(with, buffer, size, &answer.length);
+    written = answer.status == SPKI_TOO_SMALL ? 0 : answer.length;
+    holds(answer.status == SPKI_TOO_SMALL ? answer.length > size : answer.length <= size, "another length is needed");
+    for (size_t place = written; place < size; place++)
+        holds(buffer[place] == UNTOUCHED, "the buffer is written where no answer stands");
+    for (size_t place = 0; place < CANARIES; place++)
+        holds(block[place] == CANARY && buffer[size + place] == CANARY, "the call writes past the buffer");
+    memmove(block, buffer, written);
+    answer.octets = block;
+    return answer;
+}
+
+/* Does a call with a buffer of some size, and once more if it is too small. The caller frees the octets. */
+static struct answer answered(struct input *in, call *calls, const void *with)
+{
+    static const size_t sizes[] = {ROOM, 0, 1, 11};
+    struct answer answer = done(calls, with, sizes[below(in, 4)]);
+    if (answer.status == SPKI_TOO_SMALL) {
+        free(answer.octets);
+        answer = done(calls, with, answer.length);
+        holds(answer.status != SPKI_TOO_SMALL, "the length that was needed is not enough");
+    }
+    count(&answer);
+    return answer;
+}
+
+static int is(const struct answer *answer, const char *wanted)
+{
+    return answer->length == strlen(wanted) && !memcmp(answer->octets, wanted, answer->length);
+}
+
+static int are_same(const struct answer *one, const struct answer *other)
+{
+    return one->status == other->status && one->length == other->length && !memcmp(one->octets, other->octets, one->length);
+}
+
+/* ---- texts */
+
+struct of_text {
+    enum spki_command command;
+    struct spki_text text, rows;
+};
+
+static enum spki_status answers_text(const void *with, void *buffer, size_t length, size_t *needed)
+{
+    const struct of_text *it = with;
+    return spki_answer(it->command, it->text.octets, it->text.length, buffer, length, needed);
+}
+
+static enum spki_status answers_rows(const void *with, void *buffer, size_t length, size_t *needed)
+{
+    const struct of_text *it = with;
+    return spki_check_accepted(it->text.octets, it->text.length, it->rows.octets, it->rows.length, buffer, length, needed);
+}
+
+static struct spki_text lent(const struct text *text)
+{
+    struct spki_text given = {text->octets, text->length};
+    return given;
+}
+
+/* Writes a text in another form, where it is one value. Its canonical form must stay the same. */
+static void convert(struct input *in, struct text *text)
+{
+    struct of_text with = {SPKI_CANONICAL, lent(text), {0}}, again = with;
+    struct answer own = answered(in, answers_text, &with), other, back;
+    with.command = (enum spki_command)below(in, 3);
+    other = answered(in, answers_text, &with);
+    holds(own.status == other.status, "a text is read as one form only");
+    again.text = (struct spki_text){other.octets, other.length};
+    back = answered(in, answers_text, &again);
+    holds(own.status != SPKI_DONE || are_same(&own, &back), "a text becomes another one in another form");
+    if (own.status == SPKI_DONE && other.length < MOST_OCTETS) {
+        text->length = 0;
+        put(text, other.octets, other.length);
+    }
+    free(own.octets);
+    free(other.octets);
+    free(back.octets);
+}
+
+/* Looks for a string in a text in canonical form. */
+static void find(struct input *in, struct spki_text text)
+{
+    size_t path[4], depth = below(in, 5), length = 12345;
+    const void *octets = &path;
+    enum spki_status status;
+    for (size_t place = 0; place < depth; place++)
+        path[place] = below(in, 5);
+    status = spki_string(text.octets, text.length, path, depth, &octets, &length);
+    holds(status == SPKI_DONE || status == SPKI_NONE, "a text in canonical form is refused");
+    holds(status == SPKI_DONE || (!octets && !length), "a string where there is none");
+    holds(status != SPKI_DONE || ((const char *)octets >= (const char *)text.octets
+                                  && (const char *)octets + length <= (const char *)text.octets + text.length), "a string outside its text");
+}
+
+/* ---- guards and questions */
+
+struct of_guard {
+    struct spki_text list;
+    enum spki_policy policy;
+    struct spki_limits *limits;
+    spki_guard **guard;
+};
+
+static enum spki_status opens(const void *with, void *buffer, size_t length, size_t *needed)
+{
+    const struct of_guard *it = with;
+    enum spki_status status = spki_guard_open(it->list.octets, it->list.length, it->policy, it->limits, it->guard, buffer, length, needed);
+    holds((status == SPKI_DONE) == (*it->guard != NULL), "a list without a guard, or a guard without a list");
+    return status;
+}
+
+struct of_question {
+    const spki_guard *guard;
+    struct spki_question *question;
+    spki_asked **asked;
+};
+
+static enum spki_status asks(const void *with, void *buffer, size_t length, size_t *needed)
+{
+    const struct of_question *it = with;
+    enum spki_status status = spki_guard_ask(it->guard, it->question, it->asked, buffer, length, needed);
+    holds((status == SPKI_DONE) == (*it->asked != NULL), "a question without a handle, or a handle without a question");
+    return status;
+}
+
+/* An opened question, its marks, and the call that answers it. */
+struct of_asked {
+    const spki_asked *asked;
+    size_t count;
+    unsigned char marks[MOST_MARKS];
+    enum spki_status (*answers)(const spki_asked *, const unsigned char *, size_t, void *, size_t, size_t *);
+};
+
+static enum spki_status answers_asked(const void *with, void *buffer, size_t length, size_t *needed)
+{
+    const struct of_asked *it = with;
+    return it->answers(it->asked, it->marks, it->count, buffer, length, needed);
+}
+
+/* Looks at the signatures of a question, marks them, and writes the rows of those that are marked. */
+static void mark(struct input *in, struct of_asked *with, struct text *rows)
+{
+    struct spki_signed it;
+    begin(rows, "accepted");
+    with->count = spki_asked_count(with->asked);
+    holds(with->count <= MOST_MARKS, "more signatures than certificates");
+    for (size_t place = 0; place < with->count; place++) {
+        struct text message = {0};
+        holds(spki_asked_signature(with->asked, place, &it) == SPKI_DONE, "no signature");
+        find(in, it.key);
+        find(in, it.message);
+        find(in, it.value);
+        with->marks[place] = mostly(in, 1, 3) == 1;
+        if (!with->marks[place])
+            continue;
+        begin(rows, "by");
+        put(rows, it.key.octets, it.key.length);
+        put(&message, it.message.octets, it.message.length);
+        put_hash(rows, &message, 0);
+        put(rows, it.value.octets, it.value.length);
+        end(rows);
+    }
+    end(rows);
+    holds(spki_asked_signature(with->asked, with->count, &it) == SPKI_NONE && !it.key.octets, "a signature too many");
+}
+
+/* The explanation must name the entry of the decision. */
+static void explain(struct input *in, struct of_asked *with, const struct answer *decision)
+{
+    struct answer lines;
+    char wanted[64] = "grants\n";
+    with->answers = spki_asked_explain;
+    lines = answered(in, answers_asked, with);
+    holds(lines.status == SPKI_DONE || is(&lines, "refused TooLarge\n"), "no explanation");
+    if (lines.status == SPKI_DONE) {
+        const unsigned char *found;
+        if (decision->status == SPKI_YES)
+            snprintf(wanted, sizeof wanted, "%.*s grants\n", (int)decision->length - 5, (const char *)decision->octets + 4);
+        found = memmem(lines.octets, lines.length, wanted, strlen(wanted));
+        holds((decision->status == SPKI_YES) == (found != NULL), "the explanation says otherwise than the decision");
+    }
+    free(lines.octets);
+    with->answers = spki_asked_reduce;
+    lines = answered(in, answers_asked, with);
+    holds(lines.status == SPKI_DONE || is(&lines, "refused TooLarge\n"), "no reduction");
+    free(lines.octets);
+}
+
+/* Adds a part to a case, in canonical form. */
+static void add(struct input *in, struct text *whole, const char *head, const struct text *part)
+{
+    struct of_text with = {SPKI_CANONICAL, lent(part), {0}};
+    struct answer canonical = answered(in, answers_text, &with);
+    holds(canonical.status == SPKI_DONE, "a part that was read is no value");
+    if (head)
+        begin(whole, head);
+    put(whole, canonical.octets, canonical.length);
+    if (head)
+        end(whole);
+    free(canonical.octets);
+}
+
+/* The case of the same parts must be decided alike, if its tags are not too large, by rows apart and by its own. */
+static void compare(struct input *in, const struct parts *parts, const struct text *rows, enum spki_policy policy, const struct answer *decision)
+{
+    static struct text whole[2];
+    struct of_text with = {SPKI_CHECK, {0}, lent(rows)};
+    for (int own = 0; own < 2; own++) {
+        struct answer said;
+        whole[own].length = 0;
+        begin(&whole[own], "case");
+        add(in, &whole[own], NULL, &parts->list);
+        put(&whole[own], own ? (const char *)rows->octets : "(8:accepted)", own ? rows->length : 12);
+        add(in, &whole[own], NULL, &parts->sequence);
+        add(in, &whole[own], "key", &parts->key);
+        add(in, &whole[own], "request", &parts->request);
+        add(in, &whole[own], "at", &parts->moment);
+        if (policy == SPKI_STRICT)
+            put(&whole[own], "(6:policy6:strict)", 18);
+        end(&whole[own]);
+        with.text = lent(&whole[own]);
+        said = answered(in, own ? answers_text : answers_rows, &with);
+        holds(are_same(&said, decision) || is(&said, "refused TooLarge\n") || whole[own].length > MOST_OCTETS - 64,
+              "the guard decides otherwise than the case");
+        free(said.octets);
+    }
+}
+
+/* Answers an opened question by marks. */
+static void decide(struct input *in, const struct parts *parts, const spki_asked *asked, enum spki_policy policy)
+{
+    static struct text rows;
+    struct of_asked with = {.asked = asked, .answers = spki_asked_decide};
+    struct answer decision, again;
+    rows.length = 0;
+    mark(in, &with, &rows);
+    decision = answered(in, answers_asked, &with);
+    holds(decision.status == SPKI_YES || is(&decision, "no\n"), "no decision");
+    compare(in, parts, &rows, policy, &decision);
+    explain(in, &with, &decision);
+    with.answers = spki_asked_decide;
+    again = answered(in, answers_asked, &with);
+    holds(are_same(&decision, &again), "another decision by the same marks");
+    free(again.octets);
+    memset(with.marks, 0, sizeof with.marks);
+    again = answered(in, answers_asked, &with);
+    holds(again.status == SPKI_NO || !with.count, "a grant without a valid signature");
+    free(again.octets);
+    free(decision.octets);
+    with.count++;
+    holds(spki_asked_decide(asked, with.marks, with.count, NULL, 0, NULL) == SPKI_MISUSED, "a mark too many");
+}
+
+/* The parts as a question, whose texts are copies that change once it is opened. */
+static void ask(struct input *in, const struct parts *parts, spki_guard *guard, enum spki_policy policy)
+{
+    static struct parts copy;
+    struct spki_text words[MOST_WORDS + 1];
+    struct spki_question question = {.size = sizeof question};
+    spki_asked *asked = NULL;
+    struct of_question with = {guard, &question, &asked};
+    struct answer answer;
+    copy = *parts;
+    question.sequence = lent(&copy.sequence);
+    question.key = lent(&copy.key);
+    for (size_t place = 0; place < copy.word_count; place++)
+        words[place] = lent(&copy.words[place]);
+    if (copy.is_worded) {
+        question.words = words;
+        question.word_count = copy.word_count;
+    } else {
+        question.request = lent(&copy.request);
+    }
+    if (copy.is_in_seconds)
+        question.seconds = &copy.seconds;
+    else
+        question.moment = lent(&copy.moment);
+    answer = done(asks, &with, ROOM);
+    holds(answer.status == SPKI_DONE || answer.status == SPKI_REFUSED, "a question is misuse");
+    count(&answer);
+    free(answer.octets);
+    memset(&copy, 0xff, sizeof copy);
+    spki_guard_close(guard);
+    if (asked)
+        decide(in, parts, asked, policy);
+    spki_asked_close(asked);
+}
+
+int LLVMFuzzerTestOneInput(const uint8_t *data, size_t size)
+{
+    static struct parts parts;
+    struct input in = {data, size};
+    struct text *const texts[] = {&parts.list, &parts.sequence, &parts.key, &parts.request, &parts.moment};
+    unsigned *const others[] = {NULL, NULL, NULL, &parts.is_worded, &parts.is_in_seconds};
+    struct spki_limits limits = SPKI_USUAL_LIMITS;
+    spki_guard *guard = NULL;
+    struct of_guard with = {{0}, (enum spki_policy)below(&in, 2), &limits, &guard};
+    struct answer answer;
+    limits.nodes = mostly(&in, 200, 20) * 50;
+    limits.work = mostly(&in, 200, 20) * 50;
+    limits.answer = mostly(&in, 200, 20) * 50;
+    make(&in, &parts);
+    for (size_t place = 0; place < sizeof texts / sizeof *texts; place++) {
+        if (!others[place] || !*others[place])
+            spoil(&in, texts[place]);
+        convert(&in, texts[place]);
+    }
+    with.list = lent(&parts.list);
+    answer = done(opens, &with, ROOM);
+    holds(answer.status == SPKI_DONE || answer.status == SPKI_REFUSED, "a list is misuse");
+    count(&answer);
+    free(answer.octets);
+    if (guard)
+        ask(&in, &parts, guard, with.policy);
+    return 0;
+}

@@ -1,0 +1,320 @@
+/* Makes the parts of a question from fuzzed octets. Most are valid: keys, tags, windows of time, and certificates with the digests that their
+ * signatures need. Some have an octet changed, and some lack their end. */
+#ifndef PIECES_H
+#define PIECES_H
+
+#include <openssl/sha.h>
+#include <stdint.h>
+#include <stdio.h>
+#include <string.h>
+
+enum { MOST_OCTETS = 32768, MOST_WORDS = 66, KEYS = 5, MOST_DEPTH = 3, MEMBERS = 4 };
+
+/* What is left of the input. Behind its end all octets are 0. */
+struct input {
+    const uint8_t *at;
+    size_t left;
+};
+
+/* A text in canonical form. What has no room is left out. */
+struct text {
+    size_t length;
+    unsigned char octets[MOST_OCTETS];
+};
+
+/* The parts of a question. The request is a text and strings, and the moment a text and seconds: one of the two is given. */
+struct parts {
+    struct text list, sequence, key, request, moment, words[MOST_WORDS];
+    size_t word_count;
+    int64_t seconds;
+    unsigned is_worded, is_in_seconds;
+};
+
+/* The question whose parts are made: tags are often those of its request. */
+static const struct parts *made;
+
+static unsigned below(struct input *in, unsigned count)
+{
+    if (!in->left)
+        return 0;
+    in->left--;
+    return *in->at++ % count;
+}
+
+/* The usual number in three of four cases, and behind the end of the input, otherwise any below a count. */
+static unsigned mostly(struct input *in, unsigned usual, unsigned count)
+{
+    return below(in, 4) == 3 ? below(in, count) : usual;
+}
+
+static void put(struct text *to, const void *octets, size_t length)
+{
+    if (length > sizeof to->octets - to->length)
+        return;
+    memcpy(to->octets + to->length, octets, length);
+    to->length += length;
+}
+
+static void put_string(struct text *to, const void *octets, size_t length)
+{
+    char head[24];
+    int digits = snprintf(head, sizeof head, "%zu:", length);
+    put(to, head, (size_t)digits);
+    put(to, octets, length);
+}
+
+static void word(struct text *to, const char *octets)
+{
+    put_string(to, octets, strlen(octets));
+}
+
+/* Begins a list with this head. `end` ends it. */
+static void begin(struct text *to, const char *head)
+{
+    put(to, "(", 1);
+    word(to, head);
+}
+
+static void end(struct text *to)
+{
+    put(to, ")", 1);
+}
+
+static void put_key(struct text *to, unsigned which)
+{
+    const char name[] = {(char)('a' + which), 0};
+    begin(to, "public-key");
+    begin(to, "test");
+    word(to, name);
+    end(to);
+    end(to);
+}
+
+/* A hash of a text by one of the three algorithms. */
+static void put_hash(struct text *to, const struct text *of, unsigned algorithm)
+{
+    static const char *const names[] = {"sha256", "sha512", "sha1"};
+    static const size_t lengths[] = {32, 64, 20};
+    unsigned char digest[64];
+    begin(to, "hash");
+    word(to, names[algorithm]);
+    if (algorithm == 0)
+        SHA256(of->octets, of->length, digest);
+    else if (algorithm == 1)
+        SHA512(of->octets, of->length, digest);
+    else
+        SHA1(of->octets, of->length, digest);
+    put_string(to, digest, lengths[algorithm]);
+    end(to);
+}
+
+static void put_principal(struct input *in, struct text *to, unsigned which)
+{
+    struct text key = {0};
+    if (below(in, 3) < 2) {
+        put_key(to, which);
+        return;
+    }
+    put_key(&key, which);
+    put_hash(to, &key, mostly(in, 0, 3));
+}
+
+static const char *const strings[] = {"ftp", "read", "write", "a", "", "10", "9", "/team/", "/team/x", "2024-01-01_00:00:00"};
+enum { STRINGS = sizeof strings / sizeof *strings };
+
+/* A principal, or a name of it, in an entry or a certificate. */
+static void put_subject(struct input *in, struct text *to, unsigned which)
+{
+    unsigned names = mostly(in, 0, 4);
+    begin(to, "subject");
+    if (names)
+        begin(to, "name");
+    put_principal(in, to, which);
+    while (names-- > 1)
+        word(to, strings[below(in, 4)]);
+    if (to->octets[to->length - 1] != ')')
+        end(to);
+    end(to);
+}
+
+static void put_range(struct input *in, struct text *to)
+{
+    static const char *const orders[] = {"alpha", "numeric", "time", "binary", "date"};
+    static const char *const bounds[] = {"g", "ge", "l", "le"};
+    unsigned limits = below(in, 3);
+    begin(to, "*");
+    word(to, "range");
+    word(to, orders[below(in, 5)]);
+    for (unsigned limit = 0; limit < limits; limit++) {
+        word(to, bounds[limit * 2 + below(in, 2)]);
+        word(to, strings[below(in, STRINGS)]);
+    }
+    end(to);
+}
+
+static void put_prefix(struct input *in, struct text *to)
+{
+    begin(to, "*");
+    word(to, "prefix");
+    word(to, strings[below(in, STRINGS)]);
+    end(to);
+}
+
+/* The first strings of the request: a tag that contains it. */
+static void put_requested(struct input *in, struct text *to)
+{
+    size_t count = made->word_count > 1 ? 1 + below(in, 64) % made->word_count : made->word_count;
+    if (made->word_count != 1)
+        put(to, "(", 1);
+    for (size_t place = 0; place < count; place++)
+        put_string(to, made->words[place].octets, made->words[place].length);
+    if (made->word_count != 1)
+        end(to);
+}
+
+/* A tag, with lists and sets in it to a depth. */
+static void put_tag(struct input *in, struct text *to, unsigned depth)
+{
+    static void (*const kinds[])(struct input *, struct text *) = {put_requested, put_prefix, put_range};
+    unsigned kind = below(in, depth ? 7 : 5), members = below(in, MEMBERS);
+    if (kind < 3) {
+        kinds[kind](in, to);
+    } else if (kind == 3) {
+        put(to, "(1:*)", 5);
+    } else if (kind == 4) {
+        word(to, strings[below(in, STRINGS)]);
+    } else {
+        begin(to, kind == 5 ? "*" : strings[below(in, 3)]);
+        if (kind == 5)
+            word(to, "set");
+        while (members--)
+            put_tag(in, to, depth - 1);
+        end(to);
+    }
+}
+
+static const struct {
+    int64_t seconds;
+    const char *date;
+} moments[] = {{1704067200, "2024-01-01_00:00:00"}, {1704067199, "2023-12-31_23:59:59"}, {951782400, "2000-02-29_00:00:00"},
+               {4102444800, "2100-01-01_00:00:00"}};
+enum { MOMENTS = sizeof moments / sizeof *moments };
+
+static void put_limit(struct input *in, struct text *to, const char *head, unsigned usual)
+{
+    begin(to, head);
+    word(to, moments[mostly(in, usual, MOMENTS)].date);
+    end(to);
+}
+
+/* What an entry and a certificate have in common: the right to delegate, the tag, the window. */
+static void put_fields(struct input *in, struct text *to)
+{
+    if (mostly(in, 1, 2)) {
+        begin(to, "propagate");
+        end(to);
+    }
+    begin(to, "tag");
+    put_tag(in, to, below(in, MOST_DEPTH + 1));
+    end(to);
+    if (below(in, 4) == 3)
+        put_limit(in, to, "not-before", 2);
+    if (below(in, 4) == 3)
+        put_limit(in, to, "not-after", 3);
+}
+
+/* A certificate and its signature. */
+static void put_certificate(struct input *in, struct text *to, unsigned place)
+{
+    static struct text message;
+    unsigned issuer = mostly(in, place, KEYS);
+    message.length = 0;
+    begin(&message, "cert");
+    begin(&message, "issuer");
+    put_principal(in, &message, issuer);
+    end(&message);
+    put_subject(in, &message, mostly(in, place + 1, KEYS));
+    put_fields(in, &message);
+    end(&message);
+    put(to, message.octets, message.length);
+    begin(to, "signature");
+    put_hash(to, &message, mostly(in, 0, 2));
+    put_principal(in, to, mostly(in, issuer, KEYS));
+    if (below(in, 4) < 3)
+        word(to, "sig");
+    else
+        put(to, "(3:sig1:x)", 10);
+    end(to);
+}
+
+static void put_entry(struct input *in, struct text *to)
+{
+    begin(to, "entry");
+    if (mostly(in, 1, 2)) {
+        put_principal(in, to, mostly(in, 0, KEYS));
+    } else {
+        begin(to, "name");
+        put_principal(in, to, mostly(in, 0, KEYS));
+        word(to, strings[below(in, 4)]);
+        end(to);
+    }
+    put_fields(in, to);
+    end(to);
+}
+
+/* Changes an octet, or cuts the text off, in one of sixteen cases. */
+static void spoil(struct input *in, struct text *text)
+{
+    unsigned how = below(in, 32), at = below(in, 256) * 256u + below(in, 256);
+    if (!text->length || how < 30 || !in->left)
+        return;
+    at %= text->length;
+    if (how == 30)
+        text->octets[at] = (unsigned char)below(in, 256);
+    else
+        text->length = at;
+}
+
+static void make_request(struct input *in, struct parts *parts)
+{
+    unsigned count = mostly(in, 2, MOST_WORDS);
+    parts->is_worded = below(in, 2);
+    parts->word_count = count;
+    for (unsigned place = 0; place < count; place++) {
+        const char *string = strings[below(in, STRINGS)];
+        parts->words[place].length = 0;
+        put(&parts->words[place], string, strlen(string));
+        put(&parts->words[place], "\0)(", mostly(in, 0, 4));
+    }
+    parts->request.length = 0;
+    if (count != 1)
+        put(&parts->request, "(", 1);
+    for (unsigned place = 0; place < count; place++)
+        put_string(&parts->request, parts->words[place].octets, parts->words[place].length);
+    if (count != 1)
+        end(&parts->request);
+}
+
+static void make(struct input *in, struct parts *parts)
+{
+    unsigned certificates = mostly(in, below(in, 4), 18), entries = 1 + below(in, 4), moment = mostly(in, 0, MOMENTS);
+    made = parts;
+    make_request(in, parts);
+    parts->list.length = parts->sequence.length = parts->key.length = parts->moment.length = 0;
+    begin(&parts->list, "acl");
+    while (entries--)
+        put_entry(in, &parts->list);
+    end(&parts->list);
+    begin(&parts->sequence, "sequence");
+    for (unsigned key = 0; key < KEYS && !below(in, 3); key++)
+        put_key(&parts->sequence, key);
+    for (unsigned place = 0; place < certificates; place++)
+        put_certificate(in, &parts->sequence, place);
+    end(&parts->sequence);
+    put_key(&parts->key, mostly(in, certificates, KEYS));
+    word(&parts->moment, moments[moment].date);
+    parts->seconds = moments[moment].seconds;
+    parts->is_in_seconds = below(in, 2);
+}
+
+#endif
