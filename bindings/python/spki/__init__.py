@@ -25,6 +25,7 @@ library's decisions are proved. The lines of this module are tested and not prov
 from __future__ import annotations
 
 import ctypes
+import functools
 from collections.abc import Callable, Iterable
 from ctypes import addressof, byref, c_char, c_size_t, c_void_p
 from dataclasses import fields
@@ -188,7 +189,7 @@ def string_at(text: bytes, *path: int) -> bytes | None:
         return None
     status = library.spki_string(text, len(text), (c_size_t * len(places))(*places), len(places), byref(octets), byref(length))
     if status == of.NO_MEMORY:
-        raise Refused("refused Memory")
+        raise _refused(status, b"")
     return ctypes.string_at(octets, length.value) if status == of.DONE else None
 
 
@@ -233,7 +234,7 @@ class _Room:
 
 # Rooms that no call uses: at most as many as calls were under way at the same time. Making one takes some microseconds.
 _spare: list[_Room] = []
-_places = [c_size_t(place) for place in range(64)]
+_numbers = [c_size_t(number) for number in range(64)]
 
 
 def _taken() -> _Room:
@@ -242,6 +243,11 @@ def _taken() -> _Room:
         return _spare.pop()
     except IndexError:
         return _Room(_USUAL)
+
+
+def _number(number: int) -> c_size_t:
+    """A number as the library takes it."""
+    return _numbers[number] if number < len(_numbers) else c_size_t(number)
 
 
 def _answered(call: Callable[..., int], *given: object) -> tuple[int, bytes]:
@@ -262,54 +268,66 @@ def _asked(guard: c_void_p, question: Question) -> int | None:
         raise TypeError(f"a guard is asked a `Question`, and not {type(question).__name__}")
     room = _taken()
     status = of.ask(guard, question._at, room.at_opened, room.at_buffer, room.octets, room.at_needed)
-    opened, answer = room.opened.value, room.answer()
+    opened, answer = room.opened.value, room.answer() if status != of.DONE else b""
     _spare.append(room)
     _expect(status, answer)
     return opened
 
 
-def _texts(handle: c_void_p, place: int) -> tuple[int, ...]:
+def _texts(handle: c_void_p, place: int, room: _Room) -> tuple[int, ...]:
     """Where the texts of a signature are, and how long they are."""
-    room = _taken()
-    status = of.signature(handle, _places[place] if place < len(_places) else c_size_t(place), room.at_signed)
-    numbers = of.SIGNED.unpack(room.signed)
-    _spare.append(room)
-    _expect(status, b"")
-    return numbers
+    status = of.signature(handle, _number(place), room.at_signed)
+    if status != of.DONE:
+        raise _refused(status, b"")
+    return of.SIGNED.unpack(room.signed)
 
 
 def _signature(handle: c_void_p, place: int) -> Signature:
     """A signature of an opened question."""
-    numbers = _texts(handle, place)
+    room = _taken()
+    numbers = _texts(handle, place, room)
+    _spare.append(room)
     key, message, value, octets = (of.memory[at:at + length] for at, length in zip(numbers[::2], numbers[1::2]))
     return Signature(key, message, value, octets if numbers[6] else None)
 
 
 def _verified(handle: c_void_p, count: int, verify: Verify) -> bytes:
     """1 for each signature that is valid up to the first that is not, 0 for this one and all after it."""
-    memory = of.memory
-    for place in range(count):
-        key, key_length, message, message_length, value, value_length, _, _ = _texts(handle, place)
-        answer = verify(memory[key:key + key_length], memory[message:message + message_length], memory[value:value + value_length])
-        if answer is not True:
-            mark_of(answer)
-            return b"\1" * place + bytes(count - place)
+    memory, room = of.memory, _taken()
+    try:
+        for place in range(count):
+            key, key_length, message, message_length, value, value_length, _, _ = _texts(handle, place, room)
+            answer = verify(memory[key:key + key_length], memory[message:message + message_length], memory[value:value + value_length])
+            if answer is not True:
+                mark_of(answer)
+                return b"\1" * place + bytes(count - place)
+    finally:
+        _spare.append(room)
     return b"\1" * count
 
 
 def _decided(handle: c_void_p, verified: bytes) -> Decision:
     """The decision by marks."""
-    status, line = _answered(of.decide, handle, verified, c_size_t(len(verified)))
+    # (each line of a decision fits)
+    room = _taken()
+    status, line = of.decide(handle, verified, _number(len(verified)), room.at_buffer, room.octets, room.at_needed), room.answer()
+    _spare.append(room)
     if status == of.YES:
-        return Decision(int(line[len("yes entry "):]))
+        return _granted(line)
     if status == of.NO:
         return Decision(None)
     raise _refused(status, line)
 
 
+@functools.lru_cache(1024)
+def _granted(line: bytes) -> Decision:
+    """The decision of a line, which does not change."""
+    return Decision(int(line[len("yes entry "):]))
+
+
 def _lines(call: of.Answers, handle: c_void_p, verified: bytes) -> str:
     """The lines of a call that decides nothing."""
-    status, lines = _answered(call, handle, verified, c_size_t(len(verified)))
+    status, lines = _answered(call, handle, verified, _number(len(verified)))
     _expect(status, lines)
     return lines.decode().rstrip("\n")
 
@@ -321,6 +339,8 @@ def _expect(status: int, answer: bytes) -> None:
 
 def _refused(status: int, answer: bytes) -> Exception:
     """The exception of a call that failed."""
+    if status == of.NO_MEMORY:
+        return Refused("refused Memory")
     if status != of.REFUSED:
         return RuntimeError(f"libspki_c answered with the status {status}, which this module does not know")
     return Refused(answer.decode().rstrip("\n"))
