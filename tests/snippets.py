@@ -1,10 +1,11 @@
-"""The snippets of README.md in C, Rust and Python. Each is put, as it stands on the page, into a program that asks what it says, with the
+"""The snippets of README.md in C, Rust, Python and Go. Each is put, as it stands on the page, into a program that asks what it says, with the
 library for C. The keys and signatures are words, as in examples/c/decide.c."""
 import os
 import subprocess
 import sys
 import textwrap
 
+import golang
 from support import EXAMPLES, TOP, on_one_line, read, run
 
 SECONDS = 600
@@ -82,9 +83,36 @@ SNIPPET
 
 
 print(ask(*map(os.fsencode, sys.argv[1:]), b"/builds/web"))
+""",
+    "Go": """
+package main
+
+import (
+    "bytes"
+    "fmt"
+    "os"
+    "time"
+
+    "conguraki/spki/guard"
+)
+
+func verify(_, _, value []byte) bool {
+    return bytes.Equal(value, []byte("3:sig"))
+}
+
+func ask(accessList, sequence, key []byte, path string) (bool, error) {
+SNIPPET
+    return isGranted, nil
+}
+
+func main() {
+    isGranted, err := ask([]byte(os.Args[1]), []byte(os.Args[2]), []byte(os.Args[3]), "/builds/web")
+    fmt.Println(map[bool]string{true: "granted", false: "denied"}[isGranted && err == nil])
+}
 """}
 # What they print for a yes and for a no.
-ANSWERS = {"C": ("granted\n", ""), "Rust": ('Ok("granted")\n', 'Ok("denied")\n'), "Python": ("granted\n", "denied\n")}
+ANSWERS = {"C": ("granted\n", ""), "Rust": ('Ok("granted")\n', 'Ok("denied")\n'), "Python": ("granted\n", "denied\n"),
+           "Go": ("granted\n", "denied\n")}
 MANIFEST = """
 [package]
 name = "snippet"
@@ -94,18 +122,31 @@ edition = "2021"
 [dependencies]
 spki = {{ path = "{crate}" }}
 """
+GO_MODULE = """
+module snippet
+
+go 1.19
+
+require conguraki/spki v0.1.0
+
+replace conguraki/spki => {module}
+"""
 
 
 def built(language, source, room, library):
     """The words by which a program is run, or None if it cannot be made; in a folder of its own."""
     folder = os.path.join(room, language)
     os.makedirs(os.path.join(folder, "src"), exist_ok=True)
-    names = {"C": "snippet.c", "Rust": os.path.join("src", "main.rs"), "Python": "snippet.py"}
+    names = {"C": "snippet.c", "Rust": os.path.join("src", "main.rs"), "Python": "snippet.py", "Go": "snippet.go"}
     path, made = os.path.join(folder, names[language]), os.path.join(folder, "snippet")
     with open(path, "w", encoding="utf-8") as file:
         file.write(source)
     if language == "Python":
         return [sys.executable, path]
+    if language == "Go":
+        with open(os.path.join(folder, "go.mod"), "w", encoding="utf-8") as file:
+            file.write(GO_MODULE.format(module=golang.MODULE))
+        return [made] if golang.go(folder, ["build", "-o", made, "."], library).returncode == 0 else None
     if language == "C":
         words = ["cc", "-std=c11", "-Wall", "-Wextra", "-Wpedantic", "-Werror", "-I", CRATE, "-o", made, path, library]
     else:

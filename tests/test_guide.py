@@ -9,7 +9,7 @@ The lines up to the next command are what it should write. The commands of a pag
 the program as `spki`, tools/locate as `locate` and cert/spki-cert as `spki-cert`, which has the built library. They run once in `sh`, and
 once in `bash`.
 
-An indented block below a paragraph that begins with `**C.**`, `**Rust.**` or `**Python.**` is a snippet: snippets.py compiles it and runs
+An indented block below a paragraph that begins with `**C.**`, `**Rust.**`, `**Python.**` or `**Go.**` is a snippet: snippets.py compiles it and runs
 it. The lines of another indented block are commands, which must succeed and print what INDENTED says. They run in a copy of what they
 name. The command of the toolchain, `rt try`, runs in this repository, where it takes about a minute. It is not run again while the crates
 below the program, the toolchain and what it reads are the same.
@@ -44,7 +44,7 @@ END = "---- end of command ----"
 # The folders of the examples that pages quote. tests/test_bindings.py runs them.
 PROGRAMS = ("examples/c", "bindings/rust/examples", "bindings/python/examples")
 FENCED = re.compile(r"^```.*?^```$", re.MULTILINE | re.DOTALL)
-SNIPPET_BELOW = re.compile(r"\*\*(C|Rust|Python)\.\*\*")
+SNIPPET_BELOW = re.compile(r"\*\*(C|Rust|Python|Go)\.\*\*")
 # The commands of the toolchain, and what each prints.
 OF_TOOLCHAIN = {"cd crates/spki && rt try -- check < ../../examples/delegation.sexp": "yes entry 1\n"}
 SECONDS_OF_TOOLCHAIN = 1200
@@ -282,3 +282,7 @@ class Snippets(built.OfLibrary):
 
     def test_python(self) -> None:
         self.is_right("Python")
+
+    @needs.needs("go")
+    def test_go(self) -> None:
+        self.is_right("Go")
