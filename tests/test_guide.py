@@ -46,7 +46,7 @@ PROGRAMS = ("examples/c", "bindings/rust/examples", "bindings/python/examples")
 FENCED = re.compile(r"^```.*?^```$", re.MULTILINE | re.DOTALL)
 SNIPPET_BELOW = re.compile(r"\*\*(C|Rust|Python|Go)\.\*\*")
 # The commands of the toolchain, and what each prints.
-OF_TOOLCHAIN = {"cd crates/spki && rt try -- check < ../../examples/delegation.sexp": "yes entry 1\n"}
+OF_TOOLCHAIN = {"(cd crates/spki && rt try -- check < ../../examples/delegation.sexp)": "yes entry 1\n"}
 SECONDS_OF_TOOLCHAIN = 1200
 # The other indented commands, and what each prints. Those with None are left out: see above.
 INDENTED = {
