@@ -10,14 +10,12 @@ the program as `spki`, tools/locate as `locate` and cert/spki-cert as `spki-cert
 once in `bash`.
 
 An indented block below a paragraph that begins with `**C.**`, `**Rust.**`, `**Python.**` or `**Go.**` is a snippet: snippets.py compiles it and runs
-it. The lines of another indented block are commands, which must succeed and print what INDENTED says. They run in a copy of what they
-name. The command of the toolchain, `rt try`, runs in this repository, where it takes about a minute. It is not run again while the crates
-below the program, the toolchain and what it reads are the same.
+it. tests/test_cert.py runs the block of the first certificate. The line of another indented block is a command of the toolchain, `rt try`. It runs
+in this repository, where it takes about a minute. It is not run again while the crates below the program, the toolchain and what it reads are
+the same.
 
 These commands are left out:
 
-- `crates/spki_c/archive.py`, since it builds the library that this test is given.
-- `./decide ..`, which is the usage of three programs. tests/test_bindings.py runs them.
 - Those in tables. They build, install, prove or test, and most take minutes to hours. tests/test_installed.py and tests/test_packaged.py
   install. The scripts of the other rows are parts of `.ci/run` or `.ci/deep`.
 - Those of other pages, such as examples/README.md, which this test does not read."""
@@ -25,7 +23,6 @@ import itertools
 import os
 import re
 import shlex
-import shutil
 import subprocess
 import tempfile
 import textwrap
@@ -48,12 +45,6 @@ SNIPPET_BELOW = re.compile(r"\*\*(C|Rust|Python|Go)\.\*\*")
 # The commands of the toolchain, and what each prints.
 OF_TOOLCHAIN = {"(cd crates/spki && rt try -- check < ../../examples/delegation.sexp)": "yes entry 1\n"}
 SECONDS_OF_TOOLCHAIN = 1200
-# The other indented commands, and what each prints. Those with None are left out: see above.
-INDENTED = {
-    "crates/spki_c/archive.py": None,
-    "cd examples/c && cc -std=c11 -o service -I ../../crates/spki_c service.c verify_openssl.c ../../crates/spki_c/out/libspki_c.a -lcrypto": "",
-    "./service acl.sexp": r"nonce [0-9a-f]{64}\n",
-    "./decide acl.sexp sequence key.sexp packages read /builds/web/index.html": None}
 PAGES = ("README.md", "docs/GUIDE.md", "docs/spki.1")
 SHELLS = ("sh", "bash")
 
@@ -163,19 +154,6 @@ def lines_of_first_certificate(page: str) -> list[str]:
     return [line for _, block in indented(page) if "spki-cert" in block for line in block.splitlines()]
 
 
-def printed_by(lines: list[str], library: str) -> list[str]:
-    """What each indented command writes, in a copy of what it names."""
-    with tempfile.TemporaryDirectory() as room:
-        crate = os.path.join(room, "crates", "spki_c")
-        os.makedirs(os.path.join(crate, "out"))
-        shutil.copytree(os.path.join(TOP, "examples", "c"), os.path.join(room, "examples", "c"))
-        shutil.copy(os.path.join(TOP, "crates", "spki_c", "spki.h"), crate)
-        os.symlink(library, os.path.join(crate, "out", "libspki_c.a"))
-        script_of_all = "".join(f"{line} < /dev/null || echo status $?\necho '{END}'\n" for line in lines)
-        done = subprocess.run(["sh"], input=script_of_all, cwd=room, text=True, stdout=subprocess.PIPE, stderr=subprocess.STDOUT, timeout=SECONDS)
-    return done.stdout.split(f"{END}\n")
-
-
 def sum_of_tried() -> str:
     """The checksum of all that `rt try` reads for the command of README.md, and of the command."""
     of_crates = building.checksum([*building.sources("spki", ("src", "specs")), os.path.join("examples", "delegation.sexp")])
@@ -241,14 +219,7 @@ class Indented(unittest.TestCase):
 
     def test_all_are_known(self) -> None:
         """Each has its answer in this file."""
-        self.assertEqual([line for line in self.commands() if line not in {*INDENTED, *OF_TOOLCHAIN}], [])
-
-    @needs.needs("openssl/evp.h", *needs.LIBRARY)
-    def test_commands(self) -> None:
-        tried = [line for line in self.commands() if INDENTED.get(line) is not None]
-        for line, met in zip(tried, printed_by(tried, built.library())):
-            with self.subTest(line):
-                self.assertRegex(met, rf"\A{INDENTED[line]}\Z", f"$ {line}")
+        self.assertEqual([line for line in self.commands() if line not in OF_TOOLCHAIN], [])
 
     def test_toolchain(self) -> None:
         """`rt try` prints what the page says. It is not run again on the same sources."""
