@@ -10,10 +10,16 @@ def counted_by_perf(command, text):
     return int(found.group(1)) if found else None
 
 
-def counted_by_valgrind(command, text):
+def counted_by_valgrind(command, text, *flags):
     with tempfile.NamedTemporaryFile() as out:
-        done = subprocess.run(["valgrind", "--tool=callgrind", f"--callgrind-out-file={out.name}"] + command, stdin=text, capture_output=True)
+        words = ["valgrind", "--tool=callgrind", f"--callgrind-out-file={out.name}", *flags]
+        done = subprocess.run(words + command, stdin=text, capture_output=True)
     return int(re.search(rb"Collected : (\d+)", done.stderr).group(1))
+
+
+def counted_inside(function):
+    """What counts the instructions inside a function: valgrind."""
+    return lambda command, text: counted_by_valgrind(command, text, f"--toggle-collect={function}")
 
 
 def counted(count, words, text):

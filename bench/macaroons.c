@@ -1,5 +1,6 @@
-/* Three ways to grant, in one process: a decision by three certificates through spki_c, from the text of a case (0), and through a guard
- * that is open already (1); and the verification of a macaroon with three caveats by libmacaroons, from its text to yes (2).
+/* Ways to grant, in one process: a decision by three certificates through spki_c, from the text of a case (0), and through a guard
+ * that is open already, of a question that is open too (1); the verification of a macaroon with three caveats by libmacaroons, from its text
+ * to yes (2); and the question opened, its signatures listed, and the decision (3).
  *
  * macaroons CASE PARTS              prints the microseconds of each way
  * macaroons CASE PARTS WAY CALLS    grants CALLS times by one way, for counting instructions
@@ -13,7 +14,7 @@
 
 #define ROUNDS 200
 #define CALLS 50
-#define WAYS 3
+#define WAYS 4
 #define CAVEATS 3
 
 static const char *const caveats[CAVEATS] = {"key = b", "request = ftp", "before = 2030-01-01_00:00:00"};
@@ -33,6 +34,11 @@ static int decides(void)
 static int grants(void)
 {
     return decided(&held) == SPKI_YES;
+}
+
+static int opens(void)
+{
+    return list_signed(&held) == SPKI_DONE && grants();
 }
 
 static void mint(void)
@@ -72,18 +78,18 @@ static double time_of(int (*call)(void))
     return ((to.tv_sec - from.tv_sec) * 1e6 + (to.tv_nsec - from.tv_nsec) / 1e3) / CALLS;
 }
 
-static int (*const ways[WAYS])(void) = {decides, grants, verifies};
+static int (*const ways[WAYS])(void) = {decides, grants, verifies, opens};
 
 /* Prints the least time of each way, or returns 1 if one does not say yes. */
 static int print_times(void)
 {
-    double least[WAYS] = {1e9, 1e9, 1e9};
+    double least[WAYS] = {1e9, 1e9, 1e9, 1e9};
     for (int turn = 0; turn < ROUNDS * WAYS; turn++) {
         double took = time_of(ways[turn % WAYS]);
         if (took < least[turn % WAYS]) least[turn % WAYS] = took;
     }
-    if (least[0] < 0 || least[1] < 0 || least[2] < 0) return 1;
-    printf("%.1f %.1f %.1f\n", least[0], least[1], least[2]);
+    if (least[0] < 0 || least[1] < 0 || least[2] < 0 || least[3] < 0) return 1;
+    printf("%.1f %.1f %.1f %.1f\n", least[0], least[1], least[2], least[3]);
     return 0;
 }
 

@@ -1,6 +1,7 @@
 #!/usr/bin/env python3
 """Times a decision by three certificates, in process through the library for C, beside libmacaroons' verification of a macaroon
-with three caveats. The decision is made from the text of a case, and through a guard that has the list already.
+with three caveats. The decision is made from the text of a case, and through a guard that has the list already, of a question that is opened
+for it or was before.
 
 They do not do the same work: a macaroon is checked with a secret that the service shares with whoever mints it, and its caveats
 are compared as whole texts. Of the certificates the digests are taken, and names, tags and windows are joined; that their signatures
@@ -20,8 +21,8 @@ sys.path.append(os.path.join(os.path.dirname(os.path.abspath(__file__)), "..", "
 from support import BENCH, LIBRARY, TOP  # noqa: E402
 
 FLAGS = ["-O2", "-Wall", "-Wextra", "-std=c11"]
-# Two of the ways to grant that macaroons.c numbers.
-GUARD, MACAROON = "1", "2"
+# Three of the ways to grant that macaroons.c numbers.
+GUARD, MACAROON, OPENED = "1", "2", "3"
 
 
 def written_parts(text):
@@ -49,16 +50,16 @@ def built(folder, library=LIBRARY):
 
 
 def measured(words):
-    """The microseconds of a decision from a case's text, of one through a guard, and of a verification."""
+    """The microseconds of a decision from a case's text, of one through a guard, of a verification, and of a question opened and decided."""
     return tuple(map(float, subprocess.run(words, stdout=subprocess.PIPE, check=True, text=True).stdout.split()))
 
 
 def main():
     with tempfile.TemporaryDirectory() as folder:
         words = built(folder) or sys.exit("libmacaroons is not there (Debian: libmacaroons-dev)")
-        decision, through_guard, verification = measured(words)
-    print(f"three certificates: from a case's text {decision} µs, through a guard {through_guard} µs; "
-          f"a macaroon with three caveats {verification} µs")
+        decision, through_guard, verification, opened = measured(words)
+    print(f"three certificates: from a case's text {decision} µs, through a guard {through_guard} µs, of which the question is opened before, "
+          f"{opened} µs with that; a macaroon with three caveats {verification} µs")
 
 
 if __name__ == "__main__":

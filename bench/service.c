@@ -3,13 +3,13 @@
  * service decide FILE           the µs of listing the signatures and of a decision
  * service widest WISH FILE      with a limit of 64 KiB, of one question whose answer is `decide`, `explain` or `reduce`: the
  *                               status, the ms of the processor, those of listing the signatures, and the MiB that the library takes
- * service threads N FILE        of one thread and of N, each with a guard of its own, the decisions in a second; how many times as far N
- *                               threads count as one; and how often the N threads waited for each 1,000 decisions
+ * service threads N FILE        of one thread and of N, each with a guard of its own, the questions that are opened and decided in a
+ *                               second; how many times as far N threads count as one; and how often the N threads waited for each 1,000
+ *                               of them
  *
  * For counting instructions:
  *
- * service repeat FILE CALLS     CALLS decisions through one guard
- * service ask FILE CALLS        CALLS times the signatures listed and a decision
+ * service ask FILE CALLS        CALLS times the question opened, the signatures listed and a decision
  * service reopen LIST CALLS     CALLS guards of a list
  * service answer CASE CALLS     CALLS decisions of a case, each from its text */
 #define _GNU_SOURCE
@@ -143,7 +143,7 @@ static void *decide_on(void *which)
     size_t thread = (size_t)which;
     long count = 0, before = waits();
     while (!atomic_load_explicit(&stop, memory_order_relaxed))
-        if (decided(&of_threads[thread]) == SPKI_YES)
+        if (list_signed(&of_threads[thread]) == SPKI_DONE && decided(&of_threads[thread]) == SPKI_YES)
             count++;
     made[thread].count = count;
     made[thread].waits = waits() - before;
@@ -194,26 +194,14 @@ static void ask_by_threads(size_t threads, const char *path)
 {
     void *(*const works[])(void *) = {decide_on, count_on};
     struct rate one[2] = {{0, 0}}, many[2] = {{0, 0}};
-    for (size_t i = 0; i < threads && i < MOST_THREADS; i++) {
+    for (size_t i = 0; i < threads && i < MOST_THREADS; i++)
         of_threads[i] = held_in(path, &highest);
-        list_signed(&of_threads[i]);
-    }
     for (int turn = 0; turn < TURNS * 2; turn++) {
         int work = turn % 2;
         keep_fastest(&one[work], rate_of(works[work], 1));
         keep_fastest(&many[work], rate_of(works[work], threads));
     }
     printf("%.0f %.0f %.2f %.3f\n", one[0].by_time, many[0].by_time, many[1].by_time / one[1].by_time, many[0].waits);
-}
-
-static void repeat(const char *path, long calls)
-{
-    struct held held = held_in(path, &highest);
-    if (list_signed(&held) != SPKI_DONE)
-        exit(4);
-    for (long i = 0; i < calls; i++)
-        if (decided(&held) != SPKI_YES)
-            exit(4);
 }
 
 static void ask(const char *path, long calls)
@@ -252,8 +240,6 @@ int main(int count, char **words)
         ask_widest(words[2], words[3]);
     else if (!strcmp(way, "threads") && count > 3)
         ask_by_threads((size_t)strtoul(words[2], NULL, 10), words[3]);
-    else if (!strcmp(way, "repeat") && count > 3)
-        repeat(words[2], strtol(words[3], NULL, 10));
     else if (!strcmp(way, "ask") && count > 3)
         ask(words[2], strtol(words[3], NULL, 10));
     else if (!strcmp(way, "reopen") && count > 3)

@@ -1,15 +1,18 @@
 #!/usr/bin/env python3
 """Measures what a service does with a guard, through the library for C, and ends with another status where a limit is passed.
 
-- A decision without certificates and one by three certificates on lists of 10,000 entries for keys and for hashes, beside a list of one.
+- A question without certificates and one with three, opened and decided, on lists of 10,000 entries for keys and for hashes, beside a list of
+  one.
 - Opening a guard of 1 MiB, beside a decision of a case of the same list.
 - A decision by three certificates from the text of a case, and one through a guard beside libmacaroons' verification of a macaroon with three
-  caveats. Where libmacaroons is not there (Debian: libmacaroons-dev) this is left out.
+  caveats: with the question opened for it, and opened before. Where libmacaroons is not there (Debian: libmacaroons-dev) this is left out.
+- A question that is opened, listed and decided, beside the digests of its certificates.
+- The memory that is taken while questions of 1 MiB are opened, beside their octets.
 - With a limit of 64 KiB for a question, the time and the memory of decisions, explanations and reductions of the widest questions that are
   known, with lists of up to 1 MiB. The limits on nodes, work and answers are those that a guard without limits has.
 - A decision through the bindings for Rust and Python, beside the calls in C. Where `cargo` is not there Rust is left out.
-- The decisions of 8 threads, each with a guard of its own, beside those of one, as on four free cores: how many cores are free is how far
-  8 threads count beside one. A thread that decides must not wait for another one.
+- The questions that 8 threads open and decide, each with a guard of its own, beside those of one, as on four free cores: how many cores are
+  free is how far 8 threads count beside one. A thread that decides must not wait for another one.
 
 The first three and Rust are compared by instructions, and where valgrind is not there they are left out; the questions by processor time.
 Other programs only add to a time. So each time is the least of some turns, and while it is over its limit, of more turns with pauses.
@@ -25,14 +28,14 @@ import time
 
 from chains import MOST_OCTETS, large_tags
 from check import group, key, string
-from counting import counted_by_valgrind, counter, of_one_call
-from macaroons import GUARD, MACAROON, built, measured, written_parts
-from shapes import by_keys, case, certificate, digest, entry, keys_of, parts_of
-from slowest import (LARGE_TAG, LARGE_TAG_AND_RANGE, LARGE_TAG_AND_SET, SHAPES, Shape, large_tag, most, narrowed_ranges,
-                     ranges_and_sets_of_two)
+from counting import counted_by_valgrind, counted_inside, counter, of_one_call
+from macaroons import GUARD, MACAROON, OPENED, built, measured, written_parts
+from shapes import by_keys, case, certificate, definition, digest, entry, keys_of, name, parts_of
+from slowest import (LARGE_TAG, LARGE_TAG_AND_RANGE, LARGE_TAG_AND_SET, SHAPES, Shape, large_tag, long_issuer, most,
+                     narrowed_ranges, ranges_and_sets_of_two, wide_sets)
 
 sys.path.append(os.path.join(os.path.dirname(os.path.abspath(__file__)), "..", "tests"))
-from support import BENCH, LIBRARY, TOP, canonical, read  # noqa: E402
+from support import BENCH, LIBRARY, TOP, braced, canonical, read  # noqa: E402
 
 FLAGS = ["-std=c11", "-O2", "-Wall", "-Wextra", "-Wpedantic", "-Werror", "-pthread"]
 ENTRIES = 10_000
@@ -43,9 +46,12 @@ TURNS, MOST_TURNS, PAUSE = 3, 20, 10
 # The limits of a guard for strangers' questions: octets, and the members of two sets or lists whose product of nodes is 10,000.
 QUESTION_OCTETS, QUESTION_MEMBERS = 65_536, 99
 SECONDS = 600
+# The function that digests by SHA-256.
+DIGEST = "sha2::block256::Core256::update"
 MOST = {"10,000 keys, no certificate": 1.5, "10,000 keys, three certificates": 1.5, "10,000 hashes, no certificate": 1.5,
-        "10,000 hashes, three certificates": 1.5, "opening 1 MiB": 1.9, "instructions of a case": 96_000, "three caveats": 1.0, "Rust": 1.1,
-        "Python, µs more": 20.0, "a decision, ms": 100.0, "a decision, MiB": 16.0,
+        "10,000 hashes, three certificates": 1.5, "opening 1 MiB": 1.9, "instructions of a case": 96_000, "three caveats": 1.0,
+        "three caveats, opened before": 0.05, "by the digests": 5.0, "Rust": 1.02, "Python, µs more": 12.0,
+        "memory of an opened question by its octets": 70.0, "a decision, ms": 100.0, "a decision, MiB": 16.0,
         "an explanation or a reduction, ms": 200.0, "an explanation or a reduction, MiB": 16.0, "waits of 1,000 decisions": 1.0}
 LEAST = {"threads": 3.5}
 # What the library's statuses say.
@@ -75,6 +81,13 @@ class Driver:
     def instructions(self, way, path, calls=100):
         """The instructions of one call."""
         return of_one_call(counter(), [self.program, way, path], calls)
+
+    def counts_memory(self):
+        """The program of opening.c."""
+        program = os.path.join(self.room, "opening")
+        words = ["cc", *FLAGS, "-Wl,--wrap=malloc,--wrap=realloc,--wrap=free", "-I", os.path.join(TOP, "crates", "spki_c"), "-o", program]
+        subprocess.run([*words, os.path.join(BENCH, "opening.c"), self.library], check=True)
+        return program
 
     def run(self, *words):
         """The numbers that the driver prints."""
@@ -109,7 +122,7 @@ def many_entries(driver):
     """The ratios of decisions with 10,000 entries to those with one."""
     for subjects, subject_of in (("keys", by_key), ("hashes", digest)):
         for what, make in (("no certificate", without), ("three certificates", with_three)):
-            few, many = (driver.instructions("repeat", driver.question("entries", make(count, subject_of))) for count in (1, ENTRIES))
+            few, many = (driver.instructions("ask", driver.question("entries", make(count, subject_of))) for count in (1, ENTRIES))
             print(f"{what}: 1 entry {few:,.0f} instructions, {ENTRIES:,} {subjects} {many:,.0f}", flush=True)
             yield f"10,000 {subjects}, {what}", many / few
 
@@ -136,11 +149,24 @@ def beside_macaroons(driver):
     if words is None:
         print("libmacaroons is not there (Debian: libmacaroons-dev): the decision beside a macaroon is left out")
         return
-    _, decision, verification = measured(words)
-    print(f"three certificates through a guard {decision:.1f} µs, a macaroon with three caveats {verification:.1f} µs")
-    decision, verification = (of_one_call(counter(), [*words, way]) for way in (GUARD, MACAROON))
-    print(f"in instructions {decision:,.0f} and {verification:,.0f}", flush=True)
-    yield "three caveats", decision / verification
+    _, decision, verification, opened = measured(words)
+    print(f"three certificates through a guard {decision:.1f} µs, with the question opened {opened:.1f} µs, "
+          f"a macaroon with three caveats {verification:.1f} µs")
+    decision, opened, verification = (of_one_call(counter(), [*words, way]) for way in (GUARD, OPENED, MACAROON))
+    print(f"in instructions {decision:,.0f}, {opened:,.0f} and {verification:,.0f}", flush=True)
+    yield "three caveats, opened before", decision / verification
+    yield "three caveats", opened / verification
+
+
+def beside_digests(driver):
+    """The ratio of all that a question by three certificates takes to the digests."""
+    path = driver.question("three", with_three(1))
+    if shutil.which("valgrind") is None:
+        print("valgrind is not there (Debian: valgrind): the digests are left out")
+        return
+    whole, digests = (of_one_call(count, [driver.program, "ask", path]) for count in (counted_by_valgrind, counted_inside(DIGEST)))
+    print(f"a question opened, listed and decided {whole:,.0f} instructions, its digests {digests:,.0f}", flush=True)
+    yield "by the digests", whole / digests
 
 
 def built_in_rust(driver):
@@ -181,7 +207,7 @@ def by_instructions(driver):
     if counter() is counted_by_valgrind and shutil.which("valgrind") is None:
         print("valgrind is not there (Debian: valgrind): what is compared by instructions is left out")
         return
-    for part in (many_entries, opened, from_text, beside_macaroons, through_rust):
+    for part in (many_entries, opened, from_text, beside_macaroons, beside_digests, through_rust):
         yield from part(driver)
 
 
@@ -279,6 +305,61 @@ def widest(driver):
         yield f"an explanation or a reduction, {unit}", max(each[wish][place] for each in met for wish in ("explain", "reduce"))
 
 
+def in_transport_form(count):
+    """A question that is decoded first."""
+    return chained(count, lambda octets: braced(octets))
+
+
+def chained(count, form=bytes):
+    """A question that shows a chain of certificates, and its sequence in a form."""
+    acl, sequence, asker, request, moment = parts_of(by_keys(count))
+    return acl, form(sequence), asker, request, moment
+
+
+def small_lists(count):
+    """A question whose certificate has a comment of empty lists: nothing has fewer octets for each value."""
+    keys = keys_of(1)
+    made = read(certificate(*keys))
+    made.append([b"comment", *[[]] * count])
+    return parts_of(case([entry(keys[0])], [(canonical(made), keys[0])], asks=keys[1]))
+
+
+def long_subject(count):
+    """A question whose certificate defines a name as a long one."""
+    keys = keys_of(1)
+    made = definition(name(keys[0], "n"), name(keys[1], *["n"] * count))
+    return parts_of(case([entry(name(keys[0], "n"))], [(made, keys[0])], asks=keys[1]))
+
+
+def many_words(count):
+    """A question for a request of short strings, as a text."""
+    acl, sequence, asker, _, moment = parts_of(by_keys(1))
+    return acl, sequence, asker, group(*[string("a")] * count), moment
+
+
+def of_shape(make):
+    """Questions of a shape with one entry."""
+    return lambda count: parts_of(make(1, count, QUESTION_MEMBERS))
+
+
+WIDE = {"{:,} certificates in a chain": chained, "the same of {:,} in transport form": in_transport_form,
+        "{:,} certificates for sets of 100 nodes": of_shape(wide_sets),
+        "{:,} times a certificate for the hash of one long key": of_shape(long_issuer), "a subject of {:,} names": long_subject,
+        "a comment of {:,} empty lists": small_lists, "a request of {:,} strings": many_words}
+
+
+def opening_memory(driver):
+    """The most memory that is taken while a question of 1 MiB is opened, beside its octets."""
+    program, met = driver.counts_memory(), []
+    for what, make in WIDE.items():
+        count = most(lambda count: sum(map(len, make(count)[1:])), MOST_OCTETS)
+        path = driver.file("opened", b"".join(b"%d\n%s" % (len(part), part) for part in make(count)))
+        octets, taken, kept = map(int, subprocess.run([program, path], stdout=subprocess.PIPE, check=True).stdout.split())
+        print(f"{what.format(count)}: question of {octets:,} octets, {taken:,} octets of memory at most, {kept:,} kept", flush=True)
+        met.append(taken / octets)
+    yield "memory of an opened question by its octets", max(met)
+
+
 def threads(driver):
     """The ratio of the decisions of 8 threads to those of one, as on four free cores, and how often a thread waits: the best of some turns,
     since other programs that run in one of them make the threads wait for a processor."""
@@ -306,7 +387,7 @@ def main():
     library = os.path.abspath(sys.argv[1] if len(sys.argv) > 1 else LIBRARY)
     with tempfile.TemporaryDirectory() as room:
         driver = Driver(room, library)
-        met = [each for part in (by_instructions, through_python, widest, threads) for each in part(driver)]
+        met = [each for part in (by_instructions, through_python, opening_memory, widest, threads) for each in part(driver)]
     if not all([is_kept(*each) for each in met]):
         sys.exit(1)
 
