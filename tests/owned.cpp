@@ -40,6 +40,17 @@ template <typename Call> static std::string refusal(Call call)
     return "";
 }
 
+// Whether a call throws std::logic_error.
+template <typename Call> static bool is_misuse(Call call)
+{
+    try {
+        call();
+    } catch (const std::logic_error &) {
+        return true;
+    }
+    return false;
+}
+
 static int decisions()
 {
     spki::guard guard(list);
@@ -67,11 +78,22 @@ static int opened()
     CHECK(moved.decide({1}) && moved.decide({1}) && !moved.decide({0}));
     CHECK(moved.explain({1}) == "entry 1 grants\n" && moved.explain({0}) == "item 1 NotAccepted\n");
     CHECK(moved.reduce({1}) == "entry 1 (five (subject (public-key (test b))) (tag (*)))\n");
-    try {
-        moved.decide({1, 1});
-        return 1;
-    } catch (const std::logic_error &) {
-    }
+    CHECK(is_misuse([&] { moved.decide({1, 1}); }));
+    return 0;
+}
+
+// What has given its handle away is no guard and no question.
+static int given_away()
+{
+    spki::guard guard(list);
+    spki::asked asked = guard.ask({shown, key, words, now});
+    const spki::asked other = std::move(asked);
+    CHECK(asked.size() == 0 && asked.marks(is_sig).empty());
+    CHECK(is_misuse([&] { asked.signature(0); }) && is_misuse([&] { asked.decide({}); }));
+    CHECK(is_misuse([&] { asked.explain({}); }) && is_misuse([&] { asked.reduce({}); }));
+    const spki::guard last = std::move(guard);
+    CHECK(guard.entries() == 0 && last.entries() == 1);
+    CHECK(is_misuse([&] { guard.ask({shown, key, words, now}); }) && is_misuse([&] { guard.decide({shown, key, words, now}, is_sig); }));
     return 0;
 }
 
@@ -123,5 +145,5 @@ static int threads()
 
 int main()
 {
-    return decisions() || opened() || refusals() || literals() || threads();
+    return decisions() || opened() || given_away() || refusals() || literals() || threads();
 }

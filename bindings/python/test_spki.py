@@ -287,10 +287,15 @@ class Guards(unittest.TestCase):
     def test_closing(self):
         with spki.Guard(LIST) as guard:
             self.assertTrue(guard.decide(asked(), right))
-        for call in (lambda: guard.decide(asked(), right), lambda: guard.entries):
+            opened = guard.ask(asked())
+        opened.close()
+        for call in (lambda: guard.decide(asked(), right), lambda: guard.explain(asked(), right), lambda: guard.reduce(asked(), right),
+                     lambda: guard.ask(asked()), lambda: guard.entries, opened.signatures, lambda: opened.marks(right),
+                     lambda: opened.decide([True]), lambda: opened.explain([True]), lambda: opened.reduce([True])):
             with self.assertRaises(ValueError):
                 call()
         guard.close()
+        opened.close()
 
     def test_closing_while_it_is_asked(self):
         guard = spki.Guard(LIST)
@@ -376,6 +381,12 @@ class Texts(unittest.TestCase):
         for path in ((), (1,), (1, 3, 1), (0, 0), (2,), (2 ** 64,), (-1,)):
             self.assertIsNone(spki.string_at(key, *path))
         self.assertIsNone(spki.string_at(b"(a)", 0))
+
+    def test_signature_without_memory(self):
+        opened = spki.Guard(LIST).ask(asked())
+        with mock.patch.object(_library, "signature", return_value=8), self.assertRaises(spki.Refused) as met:
+            opened.signatures()
+        self.assertEqual(met.exception.fault, "Memory")
 
     def test_string_without_memory(self):
         with mock.patch.object(spki.library, "spki_string", return_value=8), self.assertRaises(spki.Refused) as met:
