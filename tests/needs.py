@@ -40,7 +40,9 @@ NEEDS = [Need(*words) for words in [
     ("objcopy", "binutils", "the library for C and what calls it"),
     ("g++", "g++", "the header for C++"),
     ("clang", "clang", "calls of the library with fuzzed parts"),
+    ("/usr/lib/llvm-*/lib/clang/*/lib/linux/libclang_rt.fuzzer-*.a", "libclang-rt-dev", "calls of the library with fuzzed parts"),
     ("aarch64-linux-gnu-gcc", "gcc-aarch64-linux-gnu", "the library for ARM"),
+    ("/usr/aarch64-linux-gnu/lib/libc.a", "libc6-dev-arm64-cross", "the library for ARM"),
     ("qemu-aarch64", "qemu-user", "what the library for ARM answers"),
     ("valgrind", "valgrind", "runs of the library and of the service in C under valgrind and helgrind; most benches"),
     ("pkg-config", "pkgconf", "what pkg-config says of the installed library"),
@@ -76,9 +78,10 @@ NEEDS = [Need(*words) for words in [
     ("/usr/lib/python3/dist-packages/selenium", "python3-selenium", "the page `tools/playground` in a browser"),
 ]]
 BY_NAME = {need.name: need for need in NEEDS}
-# What the library for C is built with, and that for ARM.
+# What the library for C is built with, that for ARM, and what fuzzes.
 LIBRARY = ("cc", "ld", "objcopy")
-ARM = (*LIBRARY, "aarch64-linux-gnu-gcc")
+ARM = (*LIBRARY, "aarch64-linux-gnu-gcc", "/usr/aarch64-linux-gnu/lib/libc.a")
+FUZZER = ("clang", "/usr/lib/llvm-*/lib/clang/*/lib/linux/libclang_rt.fuzzer-*.a", "openssl/evp.h")
 INITDB = "/usr/lib/postgresql/*/bin/initdb"
 # Where Debian has its modules for Python, which another Python than Debian's does not look through.
 DEBIAN = "/usr/lib/python3/dist-packages"

@@ -342,7 +342,7 @@ class Guards(OfC):
     """`cguard.c` and `misuse.c`, with each library and under what looks for faults of memory."""
 
 
-@needs.needs("clang", "openssl/evp.h")
+@needs.needs(*needs.FUZZER)
 class Fuzzed(OfC):
     """`fuzz/calls.c`: the answers to fuzzed parts, through an spki.c that is checked as well."""
 
