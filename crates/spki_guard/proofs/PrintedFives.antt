@@ -104,16 +104,13 @@ name_begins : (vs : List Value) → adv (headed (codes "name") vs) ≡ codes "(n
 unfolding printed_string
 name_begins vs = refl
 
-pub name_printed : (names : List (List ℕ)) (k : ℕ) (name octets : List ℕ) (t : Sexp) (out mid opened new : List ℕ)
-    → slice_get names k ≡ Some name → octets ≡ name → sexp_value t ≡ plain octets
-    → mid ≡ out ++ spaced (plains (take k names)) → opened ≡ mid ++ 32 ∷ [] → new ≡ opened ++ adv (sexp_value t)
-    → new ≡ out ++ spaced (plains (take (k + 1) names))
-name_printed names k name octets t out mid opened new there is written e f g =
-    let one : new ≡ mid ++ spaced (plain name ∷ []) =
-    g ∙ ap (λ s. s ++ adv (sexp_value t)) f ∙ append_assoc mid (32 ∷ []) (adv (sexp_value t))
-    ∙ ap (λ v. mid ++ 32 ∷ adv v) (written ∙ ap plain is) ∙ ap (λ s. mid ++ s) (sym (spaced_one (plain name))) in
-    spaced_on (plains (take k names)) (plain name ∷ []) out mid new e one
-    ∙ ap (λ vs. out ++ spaced vs) (names_more names k name there)
+pub name_behind : (names : List (List ℕ)) (k : ℕ) (name octets : List ℕ) → slice_get names k ≡ Some name → octets ≡ name
+    → (spaced (plains (take k names)) ++ 32 ∷ []) ++ printed_string octets ≡ spaced (plains (take (k + 1) names))
+name_behind names k name octets there is =
+    let before = plains (take k names) in
+    append_assoc (spaced before) (32 ∷ []) (printed_string octets) ∙ ap (λ o. spaced before ++ 32 ∷ printed_string o) is
+    ∙ ap (λ s. spaced before ++ s) (sym (spaced_one (plain name))) ∙ sym (spaced_append before (plain name ∷ []))
+    ∙ ap spaced (names_more names k name there)
 
 some_printed : (owner : Value) (n : List ℕ) (ns : List (List ℕ)) (out opened led listed new : List ℕ)
     → opened ≡ out ++ codes "(name " → led ≡ opened ++ adv owner → listed ≡ led ++ spaced (plains (n ∷ ns)) → new ≡ listed ++ 41 ∷ []
@@ -133,3 +130,26 @@ pub named_printed : (owner : Value) (names : List (List ℕ)) (out opened led li
     → new ≡ out ++ adv (named owner names)
 named_printed owner [] out opened led listed new some a b c d = absurd (some refl)
 named_printed owner (n ∷ ns) out opened led listed new some a b c d = some_printed owner n ns out opened led listed new a b c d
+
+-- ---- pieces
+
+pub named_whole : (owner : Value) (names : List (List ℕ)) → names ≢ []
+    → ((codes "(name " ++ adv owner) ++ spaced (plains names)) ++ 41 ∷ [] ≡ adv (named owner names)
+named_whole owner names some = named_printed owner names [] _ _ _ _ some refl refl refl refl
+
+pub tree_behind : (ts : List Sexp) (k : ℕ) (t : Sexp) → k < length ts → t ≡ get_or ts k t
+    → (spaced (map sexp_value (take k ts)) ++ 32 ∷ []) ++ adv (sexp_value t) ≡ spaced (map sexp_value (take (k + 1) ts))
+tree_behind ts k t lt at = tree_printed ts k t [] _ _ _ lt at refl refl refl
+
+pub subject_whole : (v : Value) → (codes " (subject " ++ adv v) ++ 41 ∷ [] ≡ spaced (headed (codes "subject") (v ∷ []) ∷ [])
+subject_whole v = subject_printed v [] _ _ _ refl refl refl
+
+pub tag_whole : (tag : Tag) → (codes " (tag " ++ adv (tag_value tag)) ++ 41 ∷ [] ≡ spaced (headed (codes "tag") (tag_value tag ∷ []) ∷ [])
+tag_whole tag = tag_printed tag [] _ _ _ refl refl refl
+
+pub five_whole : (issuer : List Value) (subject : Value) (delegation : List Value) (tag : Tag) (behind : List Value)
+    → (((((codes "(five" ++ spaced issuer) ++ spaced (headed (codes "subject") (subject ∷ []) ∷ [])) ++ spaced delegation)
+    ++ spaced (headed (codes "tag") (tag_value tag ∷ []) ∷ [])) ++ spaced behind) ++ 41 ∷ []
+    ≡ adv (five_value ((issuer ++ headed (codes "subject") (subject ∷ []) ∷ []) ++ delegation) tag behind)
+five_whole issuer subject delegation tag behind =
+    five_printed issuer subject delegation tag behind [] _ _ _ _ _ _ _ refl refl refl refl refl refl refl

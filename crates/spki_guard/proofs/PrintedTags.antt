@@ -1,12 +1,12 @@
 -- Tags in advanced form, member by member.
-use Rattle.std.proofs.Common.{◌≡◌, ℕ, suc, ◌+◌, ◌<◌, ◌==◌, false, cond, List, [], ◌∷◌, ◌++◌, length, take, get_or, refl, sym, ap, ◌∙◌, append_assoc, append-nil, arith}
+use Rattle.std.proofs.Common.{◌≡◌, ℕ, suc, ◌+◌, ◌<◌, ◌==◌, false, cond, List, [], ◌∷◌, ◌++◌, Option, length, take, get_or, refl, sym, ap, ◌∙◌, append_assoc, append-nil, arith}
 use Rattle.std.specs.Prelude.{codes}
 use Rattle.std.proofs.lemmas.Bool.Decides.{nat_tests}
 use Rattle.std.proofs.lemmas.List.{take_more}
 use Rattle.sexpr_core.specs.Value as value
-use Rattle.sexpr_core.specs.Value.{Values, plain}
+use Rattle.sexpr_core.specs.Value.{Value, Values, plain, values}
 use Rattle.sexpr_text.specs.Printed.{printed_string, gap, adv, adv_all}
-use Rattle.spki_tag.specs.Tag.{Tag, tags, list, set, tag_value, tag_values}
+use Rattle.spki_tag.specs.Tag.{Tag, Limit, Ordering, tags, star, prefix, range, list, set, ordering_name, limit_values, tag_value, tag_values}
 
 -- members with a space before each
 abbrev spaced : List Tag → List ℕ
@@ -58,3 +58,60 @@ set_printed ts out opened each new e f g =
     ∙ append_assoc (out ++ codes "(* set") (spaced ts) (41 ∷ [])
     ∙ append_assoc out (codes "(* set") (spaced ts ++ 41 ∷ [])
     ∙ ap (λ s. out ++ s) (sym (set_begins ts))
+
+-- ---- pieces
+
+pub star_whole : codes "(*)" ≡ adv (tag_value star)
+unfolding printed_string
+star_whole = refl
+
+pub prefix_whole : (octets : List ℕ) → (codes "(* prefix " ++ printed_string octets) ++ 41 ∷ [] ≡ adv (tag_value (prefix octets))
+unfolding printed_string
+prefix_whole octets = ap (λ s. codes "(* prefix " ++ (s ++ 41 ∷ [])) (sym (append-nil (printed_string octets)))
+
+-- members with a space before each
+abbrev spaced_values : List Value → List ℕ
+spaced_values vs = adv_all 1 (values vs)
+
+values_append : (xs ys : List Value) → spaced_values (xs ++ ys) ≡ spaced_values xs ++ spaced_values ys
+values_append [] ys = refl
+values_append (x ∷ xs) ys =
+    ap (λ s. 32 ∷ (adv x ++ s)) (past_first 1 (values (xs ++ ys)) ∙ values_append xs ys)
+    ∙ ap (λ s. 32 ∷ s) (sym (append_assoc (adv x) (spaced_values xs) (spaced_values ys)))
+    ∙ ap (λ s. (32 ∷ (adv x ++ s)) ++ spaced_values ys) (sym (past_first 1 (values xs)))
+
+pub word_whole : (octets : List ℕ) → (32 ∷ []) ++ printed_string octets ≡ spaced_values (plain octets ∷ [])
+word_whole octets = ap (λ s. 32 ∷ s) (sym (append-nil (printed_string octets)))
+
+pub limit_whole : (word octets : List ℕ) → spaced_values (plain word ∷ []) ++ spaced_values (plain octets ∷ []) ≡ spaced_values (plain word ∷ plain octets ∷ [])
+limit_whole word octets = sym (values_append (plain word ∷ []) (plain octets ∷ []))
+
+range_begins : (vs : List Value) (name : List ℕ)
+    → adv (value.list (value.more (plain (codes "*")) (value.more (plain (codes "range")) (values (plain name ∷ vs)))))
+    ≡ codes "(* range " ++ ((printed_string name ++ spaced_values vs) ++ 41 ∷ [])
+unfolding printed_string
+range_begins vs name = ap (λ s. codes "(* range " ++ ((printed_string name ++ s) ++ 41 ∷ [])) (past_first 2 (values vs))
+
+pub range_whole : (ordering : Ordering) (low up : Option Limit)
+    → (((codes "(* range " ++ printed_string (ordering_name ordering)) ++ spaced_values (limit_values (codes "g") (codes "ge") low))
+    ++ spaced_values (limit_values (codes "l") (codes "le") up)) ++ 41 ∷ [] ≡ adv (tag_value (range ordering low up))
+range_whole ordering low up =
+    let name = printed_string (ordering_name ordering) in
+    let lows = limit_values (codes "g") (codes "ge") low in
+    let ups = limit_values (codes "l") (codes "le") up in
+    ap (λ s. s ++ 41 ∷ []) (append_assoc (codes "(* range " ++ name) (spaced_values lows) (spaced_values ups)
+    ∙ ap (λ s. (codes "(* range " ++ name) ++ s) (sym (values_append lows ups)))
+    ∙ ap (λ s. s ++ 41 ∷ []) (append_assoc (codes "(* range ") name (spaced_values (lows ++ ups)))
+    ∙ append_assoc (codes "(* range ") (name ++ spaced_values (lows ++ ups)) (41 ∷ [])
+    ∙ sym (range_begins (lows ++ ups) (ordering_name ordering))
+
+pub member_behind : (ts : List Tag) (k : ℕ) (t : Tag) → k < length ts → t ≡ get_or ts k t
+    → (spaced (take k ts) ++ 32 ∷ []) ++ adv (tag_value t) ≡ spaced (take (k + 1) ts)
+member_behind ts k t lt at = member_printed ts k t [] _ _ _ lt at refl refl refl
+
+pub list_whole : (tag : Tag) (head : List ℕ) (ts : List Tag) → tag ≡ list head (tags ts)
+    → (((40 ∷ []) ++ printed_string head) ++ spaced ts) ++ 41 ∷ [] ≡ adv (tag_value tag)
+list_whole tag head ts is = list_printed head ts [] _ _ _ _ refl refl refl refl ∙ ap (λ t. adv (tag_value t)) (sym is)
+
+pub set_whole : (tag : Tag) (ts : List Tag) → tag ≡ set (tags ts) → (codes "(* set" ++ spaced ts) ++ 41 ∷ [] ≡ adv (tag_value tag)
+set_whole tag ts is = set_printed ts [] _ _ _ refl refl refl ∙ ap (λ t. adv (tag_value t)) (sym is)

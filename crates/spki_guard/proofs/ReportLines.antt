@@ -1,26 +1,67 @@
--- The lines of entries' chains, one behind another.
-use Rattle.std.proofs.Common.{◌≡◌, ℕ, suc, ◌+◌, ◌<◌, List, [], ◌∷◌, ◌++◌, length, drop, get_or, refl, sym, ap, ◌∙◌, append_assoc, append-nil, arith}
-use Rattle.std.proofs.lemmas.List.{drop_more}
+-- The lines of entries' chains and reasons, one behind another.
+use Rattle.std.proofs.Common.{◌≡◌, ℕ, suc, ◌+◌, ◌<◌, ◌==◌, false, Vec, Global, List, [], ◌∷◌, ◌++◌, length, take, get_or, refl, ap, ◌∙◌, append_assoc}
+use Rattle.std.specs.Prelude.{codes}
+use Rattle.std.specs.List.{AllZip}
+use Rattle.sexpr_core.specs.Value.{Value, decimal}
+use Rattle.sexpr_text.specs.Printed.{adv}
 use Rattle.spki_decision.specs.declared.reduction.EntryFold.{EntryFold}
-use Rattle.spki_guard.specs.Reports.{IsFoldLine, AreFoldLines}
+use Rattle.spki_decision.specs.declared.reduction.Reduction.{Reduction}
+use Rattle.spki_decision.specs.declared.reduction.Reduction.TheVariants as reduction
+use Rattle.spki_decision.specs.declared.explanation.Reason.{Reason}
+use Rattle.spki_guard.specs.declared.reports.FoldLine.{FoldLine}
+use Rattle.spki_guard.specs.Lines.{entry_line, reason_line}
+use Rattle.spki_guard.specs.Reports.{verdict_of, AreFoldLines, ReportsFolds, IsReductionReport, some_done, reason_lines}
+use Rattle.spki_guard.specs.Inner.FoldLines.{fold_line, fold_lines, some_done_line, IsLineOfFold}
+use Rattle.spki_guard.proofs.EntryLines.{line_behind, line_at, entry_whole}
 
--- These lines, and those of the folds from place k on, are the lines of all.
-abbrev pub FoldsSoFar : List EntryFold → ℕ → List ℕ → Type 0
-FoldsSoFar folds k lines = (rest : List ℕ) → AreFoldLines (suc k) (drop k folds) rest → AreFoldLines 1 folds (lines ++ rest)
+pub fold_whole : (n : ℕ) (v : Value)
+    → ((codes "entry " ++ (decimal n ++ 32 ∷ [])) ++ adv v) ++ 10 ∷ [] ≡ entry_line n (adv v ∷ [])
+fold_whole n v = append_assoc (codes "entry " ++ (decimal n ++ 32 ∷ [])) (adv v) (10 ∷ []) ∙ entry_whole n (adv v) []
 
-pub one_more_fold : (folds : List EntryFold) (k : ℕ) (fold : EntryFold) (lines line : List ℕ) → k < length folds → fold ≡ get_or folds k fold
-    → FoldsSoFar folds k lines → IsFoldLine (k + 1) fold line → FoldsSoFar folds (k + 1) (lines ++ line)
-one_more_fold folds k fold lines line lt at so_far here rest more =
-    let one : k + 1 ≡ suc k = omega arith in
-    let step : drop k folds ≡ fold ∷ drop (suc k) folds =
-    drop_more folds k fold lt ∙ ap (λ f. f ∷ drop (k + 1) folds) (sym at) ∙ ap (λ n. fold ∷ drop n folds) one in
-    let line_is : IsFoldLine (suc k) fold line = rw one at here in
-    let behind : AreFoldLines (suc (suc k)) (drop (suc k) folds) rest = rw one at more in
-    let next : AreFoldLines (suc k) (fold ∷ drop (suc k) folds) (line ++ rest) = (line, rest, line_is, behind, refl) in
-    let back : AreFoldLines (suc k) (drop k folds) (line ++ rest) = rw step next in
-    rw (append_assoc lines line rest) (so_far (line ++ rest) back)
+pub fold_behind : (xs : List FoldLine) (k : ℕ) (x : FoldLine) → k < length xs → x ≡ get_or xs k x
+    → fold_lines 1 (take k xs) ++ fold_line (k + 1) x ≡ fold_lines 1 (take (k + 1) xs)
+fold_behind = line_behind fold_line fold_lines (λ n. refl) (λ n x xs. refl)
 
-pub all_folds : (folds : List EntryFold) (k : ℕ) (lines : List ℕ) → drop k folds ≡ [] → FoldsSoFar folds k lines → AreFoldLines 1 folds lines
-all_folds folds k lines e so_far =
-    let none : AreFoldLines (suc k) (drop k folds) [] = rw e refl in
-    rw (← append-nil lines) (so_far [] none)
+pub reason_behind : (xs : List Reason) (k : ℕ) (d : Reason) → k < length xs
+    → reason_lines 1 (take k xs) ++ reason_line (k + 1) (get_or xs k d) ≡ reason_lines 1 (take (k + 1) xs)
+reason_behind = line_at reason_line reason_lines (λ n. refl) (λ n x xs. refl)
+
+-- ---- the lines of chains are those of what the chains become
+
+are_lines : (n : ℕ) (folds : List EntryFold) (lines : List FoldLine) → AllZip IsLineOfFold folds lines → AreFoldLines n folds (fold_lines n lines)
+are_lines n [] [] h = refl
+are_lines n [] (l ∷ ls) h = elim h [ ]
+are_lines n (f ∷ fs) [] h = elim h [ ]
+are_lines n (f ∷ fs) (l ∷ ls) h = (fold_line n l, fold_lines (suc n) ls, h.0.line n, are_lines (suc n) fs ls h.1, refl)
+
+same_done : (folds : List EntryFold) (lines : List FoldLine) → AllZip IsLineOfFold folds lines → some_done_line lines ≡ some_done folds
+same_done [] [] h = refl
+same_done [] (l ∷ ls) h = elim h [ ]
+same_done (f ∷ fs) [] h = elim h [ ]
+same_done (f ∷ fs) (l ∷ ls) h = rw (h.0.done, same_done fs ls h.1) refl
+
+pub folds_reported : (folds : List EntryFold) (lines : List FoldLine) → ¬ (folds ≡ []) → AllZip IsLineOfFold folds lines
+    → ReportsFolds folds (verdict_of (some_done_line lines)) (fold_lines 1 lines)
+folds_reported [] lines some h = absurd (some refl)
+folds_reported (f ∷ fs) [] some h = elim h [ ]
+folds_reported (f ∷ fs) (l ∷ ls) some h = (ap verdict_of (same_done (f ∷ fs) (l ∷ ls) h), are_lines 1 (f ∷ fs) (l ∷ ls) h)
+
+zip_more : (folds : List EntryFold) (lines : List FoldLine) (fold : EntryFold) (one : FoldLine) → AllZip IsLineOfFold folds lines
+    → IsLineOfFold fold one → AllZip IsLineOfFold (folds ++ fold ∷ []) (lines ++ one ∷ [])
+zip_more [] [] fold one h here = (here, tt)
+zip_more [] (l ∷ ls) fold one h here = elim h [ ]
+zip_more (f ∷ fs) [] fold one h here = elim h [ ]
+zip_more (f ∷ fs) (l ∷ ls) fold one h here = (h.0, zip_more fs ls fold one h.1 here)
+
+pub line_pushed : (folds : List EntryFold) (lines new : List FoldLine) (fold : EntryFold) (one : FoldLine) → AllZip IsLineOfFold folds lines
+    → IsLineOfFold fold one → new ≡ lines ++ one ∷ [] → AllZip IsLineOfFold (folds ++ fold ∷ []) new
+line_pushed folds lines new fold one h here e = rw e (zip_more folds lines fold one h here)
+
+some_folds : (folds : List EntryFold) → (length folds == 0) ≡ false → ¬ (folds ≡ [])
+some_folds [] e none = cc
+some_folds (f ∷ fs) e none = cc
+
+pub reduction_reported : (r : Reduction) (folds : Vec EntryFold Global) (lines : List FoldLine) → r ≡ reduction.Entries folds
+    → (length folds.items == 0) ≡ false → AllZip IsLineOfFold folds.items lines
+    → IsReductionReport r (verdict_of (some_done_line lines)) (fold_lines 1 lines)
+reduction_reported r folds lines is some h = rw is (folds_reported folds.items lines (some_folds folds.items some) h)

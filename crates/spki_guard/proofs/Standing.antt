@@ -4,6 +4,7 @@ use Rattle.sexpr_core.specs.Limits.{octet_limit}
 use Rattle.sexpr_core.specs.Value.{Value, canon, IsWithinLimits}
 use Rattle.sexpr_core.specs.declared.fault.FormFault.{FormFault}
 use Rattle.sexpr_text.specs.Spelling.{Spells, IsTextWithin}
+use Rattle.sexpr_text.specs.Written.{written}
 use Rattle.sexpr_text.proofs.CanonicalSpelled.{canonical_spelled}
 use Rattle.spki_case.specs.Case.{Case}
 use Rattle.spki_case.specs.CaseForm.{IsCaseText, TextRefused, ValueRefused}
@@ -15,7 +16,9 @@ use Rattle.spki_words.specs.declared.commands.Command.TheVariants.{Check}
 use Rattle.spki_guard.specs.declared.answers.Answer.{Answer}
 use Rattle.spki_guard.specs.declared.answers.Refusal.{Refusal}
 use Rattle.spki_guard.specs.declared.answers.Refusal.TheVariants as refusals
-use Rattle.spki_guard.specs.Answer.{IsOnCase, AnswersValue, RefusesValue, AnswersRead, RefusesAnswer, output_octets, written_by}
+use Rattle.spki_guard.specs.declared.replies.Reply.{Reply}
+use Rattle.spki_guard.specs.Answer.{form_of, IsOnCase, AnswersValue, RefusesValue, AnswersRead, RefusesAnswer, written_by}
+use Rattle.spki_guard.specs.Inner.Replies.{reply_verdict, printed}
 use Rattle.spki_guard.specs.Apart.{ReadsCase, DecidesApart, DecidesBy, RefusesApart, RefusesBy}
 
 canonical_text : (text : List ℕ) (v : Value) → IsWithinLimits v → text ≡ canon v → IsTextWithin text v
@@ -32,10 +35,10 @@ pub of_value : (text : List ℕ) (fault : CaseFault) → TextRefused text fault 
 of_value text fault (inl m) other = absurd (other (m.form, m.is))
 of_value text fault (inr t) other = t
 
-answered_by : (command : Command) (text : List ℕ) (v : Value) (r : Result Answer Refusal) → IsTextWithin text v
-    → IfOk r (λ a. AnswersValue command v a.verdict (output_octets a.output))
-    → IfOk r (λ a. AnswersRead command text a.verdict (output_octets a.output))
-answered_by command text v (Ok a) t h = record { value = v; read = t; answer = h }
+answered_by : (command : Command) (text : List ℕ) (v : Value) (r : Result Reply Refusal) → IsTextWithin text v
+    → IfOk r (λ x. AnswersValue command v (reply_verdict x) (printed x))
+    → IfOk r (λ x. AnswersRead command text (reply_verdict x) (printed x))
+answered_by command text v (Ok x) t h = record { value = v; read = t; answer = h }
 answered_by command text v (Err refusal) t h = tt
 
 refused_by : (command : Command) (text : List ℕ) (v : Value) (refusal : Refusal) → IsTextWithin text v
@@ -47,25 +50,38 @@ refused_by command text v (refusals.Decision fault) t h = record { value = v; re
 refused_by command text v (refusals.Rows fault) t h = absurd h
 refused_by command text v refusals.Memory t h = tt
 
-err_by : (command : Command) (text : List ℕ) (v : Value) (r : Result Answer Refusal) → IsTextWithin text v
+err_by : (command : Command) (text : List ℕ) (v : Value) (r : Result Reply Refusal) → IsTextWithin text v
     → IfErr r (λ refusal. RefusesValue command v refusal) → IfErr r (λ refusal. RefusesAnswer command text refusal)
 err_by command text v (Ok a) t h = tt
 err_by command text v (Err refusal) t h = refused_by command text v refusal t h
 
 -- what is answered to the value is answered to the canonical text
-pub standing_answered : (command : Command) (text : List ℕ) (c : Case) (r : Result Answer Refusal) → IsCaseText text c
-    → ((v : Value) → IsCaseText (canon v) c → IfOk r (λ a. AnswersValue command v a.verdict (output_octets a.output)))
-    → IfOk r (λ a. AnswersRead command text a.verdict (output_octets a.output))
+pub standing_answered : (command : Command) (text : List ℕ) (c : Case) (r : Result Reply Refusal) → IsCaseText text c
+    → ((v : Value) → IsCaseText (canon v) c → IfOk r (λ x. AnswersValue command v (reply_verdict x) (printed x)))
+    → IfOk r (λ x. AnswersRead command text (reply_verdict x) (printed x))
 standing_answered command text c r t f =
     answered_by command text t.value r (canonical_text text t.value t.within t.written)
     (f t.value (subst (λ s. IsCaseText s c) t.written t))
 
-pub standing_refused : (command : Command) (text : List ℕ) (c : Case) (r : Result Answer Refusal) → IsCaseText text c
+pub standing_refused : (command : Command) (text : List ℕ) (c : Case) (r : Result Reply Refusal) → IsCaseText text c
     → ((v : Value) → IsCaseText (canon v) c → IfErr r (λ refusal. RefusesValue command v refusal))
     → IfErr r (λ refusal. RefusesAnswer command text refusal)
 standing_refused command text c r t f =
     err_by command text t.value r (canonical_text text t.value t.within t.written)
     (f t.value (subst (λ s. IsCaseText s c) t.written t))
+
+-- the same of the octets of a value that is converted
+pub converted_answered : (command : Command) (text octets : List ℕ) (r : Result Reply Refusal)
+    → (v : Value) × IsTextWithin text v × (octets ≡ written (form_of command) v)
+    → ((v : Value) → octets ≡ written (form_of command) v → IfOk r (λ x. AnswersValue command v (reply_verdict x) (printed x)))
+    → IfOk r (λ x. AnswersRead command text (reply_verdict x) (printed x))
+converted_answered command text octets r (v, t, e) f = answered_by command text v r t (f v e)
+
+pub converted_refused : (command : Command) (text octets : List ℕ) (r : Result Reply Refusal)
+    → (v : Value) × IsTextWithin text v × (octets ≡ written (form_of command) v)
+    → ((v : Value) → octets ≡ written (form_of command) v → IfErr r (λ refusal. RefusesValue command v refusal))
+    → IfErr r (λ refusal. RefusesAnswer command text refusal)
+converted_refused command text octets r (v, t, e) f = err_by command text v r t (f v e)
 
 -- a case that has no reading, as the refusal
 pub no_case : (command : Command) (text : List ℕ) (fault : CaseFault) (outer : Refusal)

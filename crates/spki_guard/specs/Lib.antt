@@ -8,3 +8,4 @@ pub mod Program
 pub mod Apart
 pub mod HeldLines
 pub mod Held
+pub mod Inner

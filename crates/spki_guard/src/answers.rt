@@ -1,28 +1,26 @@
 //! The answer to a text: its verdict and its output.
-ghost use Rattle.std.specs.Prelude.{◌≡◌, ◌≢◌, ℕ, List, [], ◌∷◌, ◌++◌, ◌⊎◌, ◌↔◌, ◌<◌, length, IsTrue, IfOk, IfErr, IfSome, IsNone, IsOkAnd, IsErrOf};
+ghost use Rattle.std.specs.Prelude.{◌≡◌, ℕ, List, [], ◌∷◌, ◌++◌, ◌⊎◌, ◌<◌, length, IfOk, IfErr};
 ghost use Rattle.sexpr_core.specs.Value.{Value, canon};
-ghost use Rattle.sexpr_text.specs.Printed.{adv};
 ghost use Rattle.sexpr_text.specs.Written.{written};
-ghost use Rattle.spki_tag.specs.Tag.{tag_value};
-ghost use Rattle.spki_case.specs.CaseForm.{IsCaseText, ValueRefused};
-ghost use Rattle.spki_case.specs.Texts.{IsOuter, IsTextOf};
+ghost use Rattle.spki_case.specs.CaseForm.{IsCaseText};
+ghost use Rattle.spki_case.specs.Texts.{IsOuter};
 ghost use Rattle.spki_case.specs.View.{model};
-ghost use Rattle.spki_guard.specs.Answer.{form_of, IsOnCase, IsAnswer, AnswersValue, RefusesValue, AnswersRead, RefusesAnswer, RefusesAsLong, WritesMeet, Decides, Reduces, Explains, IsLineOf, refused_line, output_octets, written_by};
+ghost use Rattle.spki_guard.specs.Answer.{form_of, IsOnCase, IsAnswer, AnswersValue, RefusesValue, AnswersRead, RefusesAnswer, RefusesAsLong, Decides, Reduces, Explains, IsLineOf, refused_line, output_octets, written_by};
 ghost use Rattle.spki_guard.specs.Lines.{refused_memory};
+ghost use Rattle.spki_guard.specs.Run.{RefusesForMemory};
+ghost use Rattle.spki_guard.specs.Inner.Replies.{reply_verdict, printed, IsSourceOf, Fits};
 
 use crate::intersection::{IntersectFault, intersect};
 use crate::lines::{
     push_no, push_refused_case, push_refused_decision, push_refused_form, push_refused_intersect,
     push_refused_memory, push_refused_rows, push_yes_entry,
 };
-use crate::printer::push_tag;
-use crate::reports::{push_explanation, push_reduction};
+use crate::replies::{Reply, reply_of_explanation, reply_of_reduction, whole};
+use crate::sources::{Source, read_source};
+use sexpr_core::FormFault;
 use sexpr_core::syntax::wrap_octets;
-use sexpr_core::{FormFault, MOST_OCTETS};
-use sexpr_text::{Form, convert};
 use spki_case::{Case, CaseFault, RowsFault};
 use spki_decision::{Decision, GuardFault, decide, explain, reduce_case};
-use spki_tag::Tag;
 use spki_words::Command;
 use std::alloc::{AllocError, Global};
 
@@ -181,139 +179,93 @@ pub fn answer_text(alloc: Global, command: Command, text: &[u8]) -> Answer
     ensures answer { IsAnswer command text.now result.verdict (written_by result) }
     ensures too_long { 1048576 < length text.now → RefusesAsLong result.verdict (written_by result) }
 {
-    match answer_or_refusal(alloc, command, text) {
-        Ok(answer) => answer,
+    match read_source(alloc, command, text) {
+        Ok(source) => answer_source(alloc, command, &source),
         Err(refusal) => refuse(alloc, refusal),
     }
 }
 
-/// The answer to a text, unless it is refused. If the text is canonical, a case is read from it directly.
-fn answer_or_refusal(alloc: Global, command: Command, text: &[u8]) -> Result<Answer, Refusal>
-    ensures answered { IfOk result (λ a. AnswersRead command text.now a.verdict (output_octets a.output)) }
-    ensures refused { IfErr result (λ refusal. RefusesAnswer command text.now refusal) }
-    ensures too_long { 1048576 < length text.now → IsErrOf result (Refusal.Form FormFault.TooLong) }
+/// The answer to a text that was read.
+fn answer_source(alloc: Global, command: Command, source: &Source) -> Answer
+    requires { Fits command source.now }
+    ensures { (text : List ℕ) → IsSourceOf command text source.now → IsAnswer command text result.verdict (written_by result) }
 {
-    match standing_case(alloc, command, text)? {
-        Some(case) => answer_case(alloc, command, &case),
-        None => answer_converted(alloc, command, text),
+    match reply_to(alloc, command, source) {
+        Ok(reply) => whole_or_memory(alloc, reply),
+        Err(refusal) => refuse(alloc, refusal),
     }
 }
 
-/// The answer to a text, by its value in the form that the command needs.
-fn answer_converted(alloc: Global, command: Command, text: &[u8]) -> Result<Answer, Refusal>
-    ensures answered { IfOk result (λ a. AnswersRead command text.now a.verdict (output_octets a.output)) }
-    ensures refused { IfErr result (λ refusal. RefusesAnswer command text.now refusal) }
-    ensures too_long { 1048576 < length text.now → IsErrOf result (Refusal.Form FormFault.TooLong) }
+/// The answer that has the octets of a reply, or that memory ran out for them.
+fn whole_or_memory(alloc: Global, reply: Reply) -> Answer
+    ensures { ((result.verdict ≡ reply_verdict reply.entry) × (written_by result ≡ printed reply.entry))
+        ⊎ RefusesForMemory result.verdict (written_by result) }
 {
-    let octets = convert(alloc, form_of(command), text)?;
-    answer_octets(alloc, command, octets)
-}
-
-/// Whether the command is for a case.
-fn is_on_case(command: Command) -> bool
-    ensures { IsTrue result ↔ IsOnCase command }
-{
-    match command {
-        Command::Canonical => false,
-        Command::Advanced => false,
-        Command::Transport => false,
-        Command::Intersect => false,
-        Command::Reduce => true,
-        Command::Check => true,
-        Command::Explain => true,
+    match whole(alloc, reply) {
+        Ok(answer) => answer,
+        Err(_) => out_of_memory(),
     }
 }
 
-/// Whether a fault says that a text is not in canonical form.
-fn is_of_form(fault: CaseFault) -> bool
-    ensures { IsTrue result ↔ ((form : FormFault) × (fault ≡ CaseFault.Form form)) }
-{
-    match fault {
-        CaseFault::Form(_) => true,
-        CaseFault::Shape => false,
-        CaseFault::Acl(_) => false,
-        CaseFault::Accepted(_) => false,
-        CaseFault::Sequence(_) => false,
-        CaseFault::Key(_) => false,
-        CaseFault::Request(_) => false,
-        CaseFault::At(_) => false,
-        CaseFault::Memory => false,
-    }
-}
-
-/// Reads a case directly from a canonical text. None if the command is not for a case, or if the text is not canonical.
-pub(crate) fn standing_case<'a>(
+/// The reply to a text that was read.
+pub(crate) fn reply_to<'o>(
     alloc: Global,
     command: Command,
-    text: &'a [u8],
-) -> Result<Option<Case<'a>>, CaseFault>
-    ensures read { IfOk result (λ standing. IfSome standing (λ case. IsOnCase command × IsCaseText text.entry.now (model case))) }
-    ensures refused { IfErr result (λ fault. fault ≢ CaseFault.Memory →
-        IsOnCase command × IsTextOf (λ v. ValueRefused v fault) text.entry.now) }
-    ensures long { 1048576 < length text.entry.now → IsOkAnd result IsNone }
+    source: &'o Source<'o>,
+) -> Result<Reply<'o>, Refusal>
+    requires { Fits command source.now }
+    ensures answered { (text : List ℕ) → IsSourceOf command text source.entry.now
+        → IfOk result (λ r. AnswersRead command text (reply_verdict r) (printed r)) }
+    ensures refused { (text : List ℕ) → IsSourceOf command text source.entry.now
+        → IfErr result (λ refusal. RefusesAnswer command text refusal) }
 {
-    if !is_on_case(command) || text.len() > MOST_OCTETS {
-        return Ok(None);
-    }
-    match Case::read(alloc, text) {
-        Ok(case) => Ok(Some(case)),
-        Err(fault) => {
-            if is_of_form(fault) {
-                return Ok(None);
-            }
-            Err(fault)
-        }
+    match source {
+        Source::Standing(case) => reply_to_case(alloc, command, case),
+        Source::Converted(octets) => reply_to_octets(alloc, command, octets),
     }
 }
 
-/// The form in which a command needs a value.
-fn form_of(command: Command) -> Form
-    ensures { result ≡ form_of command }
-{
-    match command {
-        Command::Advanced => Form::Advanced,
-        Command::Canonical => Form::Canonical,
-        Command::Transport => Form::Canonical,
-        Command::Intersect => Form::Canonical,
-        Command::Reduce => Form::Canonical,
-        Command::Check => Form::Canonical,
-        Command::Explain => Form::Canonical,
-    }
-}
-
-/// The answer to the value with this text, in the form that the command needs.
-fn answer_octets(alloc: Global, command: Command, octets: Vec<u8>) -> Result<Answer, Refusal>
-    ensures answered { (v : Value) → octets.items ≡ written (form_of command) v
-        → IfOk result (λ a. AnswersValue command v a.verdict (output_octets a.output)) }
-    ensures refused { (v : Value) → octets.items ≡ written (form_of command) v
+/// The reply to the value with this text, in the form that the command needs.
+fn reply_to_octets<'o>(
+    alloc: Global,
+    command: Command,
+    octets: &'o [u8],
+) -> Result<Reply<'o>, Refusal>
+    ensures answered { (v : Value) → octets.entry.now ≡ written (form_of command) v
+        → IfOk result (λ r. AnswersValue command v (reply_verdict r) (printed r)) }
+    ensures refused { (v : Value) → octets.entry.now ≡ written (form_of command) v
         → IfErr result (λ refusal. RefusesValue command v refusal) }
 {
     match command {
-        Command::Canonical => Ok(done(octets)),
-        Command::Advanced => Ok(done_line(octets)?),
-        Command::Transport => Ok(done_line(wrap_octets(alloc, &octets)?)?),
-        Command::Intersect => Ok(tag_line(alloc, &intersect(alloc, &octets)?)?),
-        Command::Reduce => answer_canonical(alloc, command, &octets),
-        Command::Check => answer_canonical(alloc, command, &octets),
-        Command::Explain => answer_canonical(alloc, command, &octets),
+        Command::Canonical => Ok(Reply::Octets(octets)),
+        Command::Advanced => Ok(Reply::Line(octets)),
+        Command::Transport => Ok(Reply::Whole(done_line(wrap_octets(alloc, octets)?)?)),
+        Command::Intersect => Ok(Reply::Tag(intersect(alloc, octets)?)),
+        Command::Reduce => reply_to_canonical(alloc, command, octets),
+        Command::Check => reply_to_canonical(alloc, command, octets),
+        Command::Explain => reply_to_canonical(alloc, command, octets),
     }
 }
 
-/// The answer of a command for a case to a canonical text.
-fn answer_canonical(alloc: Global, command: Command, text: &[u8]) -> Result<Answer, Refusal>
+/// The reply of a command for a case to a canonical text.
+fn reply_to_canonical<'o>(
+    alloc: Global,
+    command: Command,
+    text: &'o [u8],
+) -> Result<Reply<'o>, Refusal>
     requires { IsOnCase command }
-    ensures answered { (v : Value) → text.now ≡ canon v → IfOk result (λ a. AnswersValue command v a.verdict (output_octets a.output)) }
-    ensures refused { (v : Value) → text.now ≡ canon v → IfErr result (λ refusal. RefusesValue command v refusal) }
+    ensures answered { (v : Value) → text.entry.now ≡ canon v → IfOk result (λ r. AnswersValue command v (reply_verdict r) (printed r)) }
+    ensures refused { (v : Value) → text.entry.now ≡ canon v → IfErr result (λ refusal. RefusesValue command v refusal) }
 {
     let case = Case::read(alloc, text)?;
-    answer_case(alloc, command, &case)
+    reply_to_case(alloc, command, &case)
 }
 
-/// The answer of a command for a case to the case of a canonical text.
-fn answer_case(alloc: Global, command: Command, case: &Case) -> Result<Answer, Refusal>
+/// The reply of a command for a case to the case of a canonical text.
+fn reply_to_case<'a>(alloc: Global, command: Command, case: &Case<'a>) -> Result<Reply<'a>, Refusal>
     requires { IsOnCase command }
     ensures answered { (v : Value) → IsCaseText (canon v) (model case.now) →
-        IfOk result (λ a. AnswersValue command v a.verdict (output_octets a.output)) }
+        IfOk result (λ r. AnswersValue command v (reply_verdict r) (printed r)) }
     ensures refused { (v : Value) → IsCaseText (canon v) (model case.now) → IfErr result (λ refusal. RefusesValue command v refusal) }
 {
     match command {
@@ -328,51 +280,30 @@ fn answer_case(alloc: Global, command: Command, case: &Case) -> Result<Answer, R
 }
 
 /// Decides a case.
-fn check(alloc: Global, case: &Case) -> Result<Answer, Refusal>
-    ensures answered { (text : List ℕ) → IsCaseText text (model case.now) → IfOk result (λ a. Decides text a.verdict (output_octets a.output)) }
+fn check<'a>(alloc: Global, case: &Case<'a>) -> Result<Reply<'a>, Refusal>
+    ensures answered { (text : List ℕ) → IsCaseText text (model case.now) → IfOk result (λ r. Decides text (reply_verdict r) (printed r)) }
     ensures refused { (v : Value) → IsCaseText (canon v) (model case.now) → IfErr result (λ refusal. RefusesValue Command.Check v refusal) }
 {
     let decision = decide(alloc, case, case.accepted())?;
-    Ok(decision_line(alloc, decision)?)
+    Ok(Reply::Whole(decision_line(alloc, decision)?))
 }
 
 /// Reduces a case.
-fn reduce(alloc: Global, case: &Case) -> Result<Answer, Refusal>
-    ensures answered { (text : List ℕ) → IsCaseText text (model case.now) → IfOk result (λ a. Reduces text a.verdict (output_octets a.output)) }
+fn reduce<'a>(alloc: Global, case: &Case<'a>) -> Result<Reply<'a>, Refusal>
+    ensures answered { (text : List ℕ) → IsCaseText text (model case.now) → IfOk result (λ r. Reduces text (reply_verdict r) (printed r)) }
     ensures refused { (v : Value) → IsCaseText (canon v) (model case.now) → IfErr result (λ refusal. RefusesValue Command.Reduce v refusal) }
 {
     let reduction = reduce_case(alloc, case, case.accepted())?;
-    let mut lines = Vec::new(alloc);
-    let verdict = push_reduction(alloc, &mut lines, &reduction)?;
-    Ok(Answer {
-        verdict,
-        output: Output::Made(lines),
-    })
+    Ok(reply_of_reduction(alloc, reduction)?)
 }
 
 /// Explains a case.
-fn explain_case(alloc: Global, case: &Case) -> Result<Answer, Refusal>
-    ensures answered { (text : List ℕ) → IsCaseText text (model case.now) → IfOk result (λ a. Explains text a.verdict (output_octets a.output)) }
+fn explain_case<'a>(alloc: Global, case: &Case<'a>) -> Result<Reply<'a>, Refusal>
+    ensures answered { (text : List ℕ) → IsCaseText text (model case.now) → IfOk result (λ r. Explains text (reply_verdict r) (printed r)) }
     ensures refused { (v : Value) → IsCaseText (canon v) (model case.now) → IfErr result (λ refusal. RefusesValue Command.Explain v refusal) }
 {
     let explanation = explain(alloc, case, case.accepted())?;
-    let mut lines = Vec::new(alloc);
-    let verdict = push_explanation(alloc, &mut lines, &explanation)?;
-    Ok(Answer {
-        verdict,
-        output: Output::Made(lines),
-    })
-}
-
-/// An answer with this output.
-fn done(output: Vec<u8>) -> Answer
-    ensures verdict { result.verdict ≡ Verdict.Done }
-    ensures output { output_octets result.output ≡ output.items }
-{
-    Answer {
-        verdict: Verdict::Done,
-        output: Output::Made(output),
-    }
+    Ok(reply_of_explanation(explanation))
 }
 
 /// An answer with this output and a line feed.
@@ -382,17 +313,10 @@ fn done_line(output: Vec<u8>) -> Result<Answer, AllocError>
 {
     let mut line = output;
     line.push(b'\n')?;
-    Ok(done(line))
-}
-
-/// An answer with a tag in advanced form and a line feed.
-fn tag_line(alloc: Global, tag: &Tag) -> Result<Answer, AllocError>
-    ensures verdict { IfOk result (λ a. a.verdict ≡ Verdict.Done) }
-    ensures output { IfOk result (λ a. output_octets a.output ≡ adv (tag_value tag.now) ++ 10 ∷ []) }
-{
-    let mut line = Vec::new(alloc);
-    push_tag(alloc, &mut line, tag)?;
-    done_line(line)
+    Ok(Answer {
+        verdict: Verdict::Done,
+        output: Output::Made(line),
+    })
 }
 
 /// The line of a decision.

@@ -1,12 +1,12 @@
-//! Appends the lines for entries, and for a certificate that does not stand, to the output.
-ghost use Rattle.std.specs.Prelude.{◌≡◌, [], ◌∷◌, ◌++◌, OnOk, codes};
+//! Prints the lines for entries, and for a certificate that does not stand. Allocates nothing.
+ghost use Rattle.std.specs.Prelude.{◌≡◌, [], ◌∷◌, ◌++◌, codes};
 ghost use Rattle.sexpr_core.specs.Value.{decimal};
-ghost use Rattle.spki_guard.specs.Lines.{cause_name, stop_name, item_line, no_entries, entry_line, stopped_line, reason_line};
+ghost use Rattle.spki_guard.specs.Lines.{cause_name, stop_name, line, item_line, entry_line, stopped_line, reason_line};
 
-use crate::lines::push;
+use itoa::Buffer;
+use sexpr_text::Sink;
 use spki_decision::{Reason, Stop};
 use spki_reduce::Cause;
-use std::alloc::{AllocError, Global};
 
 /// The name of a cause.
 fn cause_name(cause: Cause) -> &'static str
@@ -33,75 +33,74 @@ fn stop_name(stop: Stop) -> &'static str
     }
 }
 
-/// Appends `item J STOP` to the output; `item` is counted from 1.
+/// Prints a number in decimal.
 #[tactic(auto, using(crate::proofs::Decimals::decimal_written))]
-pub fn push_item(
-    alloc: Global,
-    out: &mut Vec<u8>,
-    item: usize,
-    stop: Stop,
-) -> Result<(), AllocError>
-    ensures { OnOk result (out.new.items ≡ out.old.items ++ item_line item stop) }
+fn print_number<S: Sink>(number: usize, sink: &mut S)
+    ensures { S.takes sink.old (decimal number) sink.new }
 {
-    let stop = stop_name(stop);
-    push(out, format!(in alloc; "item {item} {stop}\n")?.as_bytes())
+    let mut digits = Buffer::new();
+    sink.put(digits.format(number).as_bytes());
 }
 
-/// Appends `no entries` to the output.
-pub fn push_no_entries(out: &mut Vec<u8>) -> Result<(), AllocError>
-    ensures { OnOk result (out.new.items ≡ out.old.items ++ no_entries) }
+/// Prints the last word of a line.
+fn print_last<S: Sink>(word: &str, sink: &mut S)
+    ensures { S.takes sink.old (line (word.now ∷ [])) sink.new }
 {
-    push(out, b"no entries\n")
+    sink.put(word.as_bytes());
+    sink.put_octet(b'\n');
 }
 
-/// Appends `entry N item J CAUSE` to the output; both are counted from 1.
-#[tactic(auto, using(crate::proofs::Decimals::decimal_written))]
-pub fn push_stopped(
-    alloc: Global,
-    out: &mut Vec<u8>,
-    entry: usize,
-    item: usize,
-    cause: Cause,
-) -> Result<(), AllocError>
-    ensures { OnOk result (out.new.items ≡ out.old.items ++ stopped_line entry item cause) }
+/// Prints `item J WORD`; `item` is counted from 1.
+fn print_item_word<S: Sink>(item: usize, word: &str, sink: &mut S)
+    ensures { S.takes sink.old (line (codes "item" ∷ decimal item ∷ word.now ∷ [])) sink.new }
 {
-    let cause = cause_name(cause);
-    push(
-        out,
-        format!(in alloc; "entry {entry} item {item} {cause}\n")?.as_bytes(),
-    )
+    sink.put(b"item ");
+    print_number(item, sink);
+    sink.put_octet(b' ');
+    print_last(word, sink);
 }
 
-/// Appends `entry N WORD` to the output; `entry` is counted from 1.
-#[tactic(auto, using(crate::proofs::Decimals::decimal_written))]
-fn push_word(alloc: Global, out: &mut Vec<u8>, entry: usize, word: &str) -> Result<(), AllocError>
-    ensures { OnOk result (out.new.items ≡ out.old.items ++ entry_line entry (word.now ∷ [])) }
+/// Prints `item J STOP`; `item` is counted from 1.
+pub fn print_item<S: Sink>(item: usize, stop: Stop, sink: &mut S)
+    ensures { S.takes sink.old (item_line item stop) sink.new }
 {
-    push(out, format!(in alloc; "entry {entry} {word}\n")?.as_bytes())
+    print_item_word(item, stop_name(stop), sink);
 }
 
-/// Appends the line of an entry's explanation to the output; `entry` is counted from 1.
-pub fn push_reason(
-    alloc: Global,
-    out: &mut Vec<u8>,
-    entry: usize,
-    reason: Reason,
-) -> Result<(), AllocError>
-    ensures { OnOk result (out.new.items ≡ out.old.items ++ reason_line entry reason) }
+/// Prints `entry N` and a space; `entry` is counted from 1.
+pub fn print_entry<S: Sink>(entry: usize, sink: &mut S)
+    ensures { S.takes sink.old (codes "entry " ++ (decimal entry ++ 32 ∷ [])) sink.new }
+{
+    sink.put(b"entry ");
+    print_number(entry, sink);
+    sink.put_octet(b' ');
+}
+
+/// Prints `entry N item J CAUSE`; both are counted from 1.
+pub fn print_stopped<S: Sink>(entry: usize, item: usize, cause: Cause, sink: &mut S)
+    ensures { S.takes sink.old (stopped_line entry item cause) sink.new }
+{
+    print_entry(entry, sink);
+    print_item_word(item, cause_name(cause), sink);
+}
+
+/// Prints `entry N WORD`; `entry` is counted from 1.
+fn print_word<S: Sink>(entry: usize, word: &str, sink: &mut S)
+    ensures { S.takes sink.old (entry_line entry (word.now ∷ [])) sink.new }
+{
+    print_entry(entry, sink);
+    print_last(word, sink);
+}
+
+/// Prints the line of an entry's explanation; `entry` is counted from 1.
+pub fn print_reason<S: Sink>(entry: usize, reason: Reason, sink: &mut S)
+    ensures { S.takes sink.old (reason_line entry reason) sink.new }
 {
     match reason {
-        Reason::Grants => push_word(alloc, out, entry, "grants"),
-        Reason::NotTheKey => push_word(alloc, out, entry, "NotTheKey"),
-        Reason::TagLacks => push_word(alloc, out, entry, "TagLacks"),
-        Reason::WindowLacks => push_word(alloc, out, entry, "WindowLacks"),
-        Reason::Stopped { item, cause } => push_stopped(alloc, out, entry, item, cause),
+        Reason::Grants => print_word(entry, "grants", sink),
+        Reason::NotTheKey => print_word(entry, "NotTheKey", sink),
+        Reason::TagLacks => print_word(entry, "TagLacks", sink),
+        Reason::WindowLacks => print_word(entry, "WindowLacks", sink),
+        Reason::Stopped { item, cause } => print_stopped(entry, item, cause, sink),
     }
-}
-
-/// Appends `entry N` and a space to the output; `entry` is counted from 1.
-#[tactic(auto, using(crate::proofs::Decimals::decimal_written))]
-pub fn push_entry(alloc: Global, out: &mut Vec<u8>, entry: usize) -> Result<(), AllocError>
-    ensures { OnOk result (out.new.items ≡ out.old.items ++ (codes "entry " ++ (decimal entry ++ 32 ∷ []))) }
-{
-    push(out, format!(in alloc; "entry {entry} ")?.as_bytes())
 }

@@ -8,13 +8,17 @@ mod intersection;
 pub mod line_laws;
 mod lines;
 mod opened_answers;
+mod pages;
 mod printer;
 mod program;
 mod question_answers;
+mod replies;
 mod reports;
 mod runs;
 mod separate_rows;
+mod sources;
 mod statuses;
+mod tag_printer;
 
 pub use answers::{Answer, Verdict, answer_text};
 pub use intersection::{IntersectFault, intersect};

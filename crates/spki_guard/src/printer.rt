@@ -1,124 +1,82 @@
-//! Prints tags and authorizations in advanced form, member by member, so that no tree is made of a large tag or of many names.
+//! Prints authorizations in advanced form, member by member. Allocates nothing.
 
-ghost use Rattle.std.specs.Prelude.{◌≡◌, ◌++◌, OnOk, map};
-ghost use Rattle.sexpr_core.specs.Value.{Value, values};
+ghost use Rattle.std.specs.Prelude.{[], ◌∷◌, map, codes};
+ghost use Rattle.sexpr_core.specs.Value.{values};
 ghost use Rattle.sexpr_core.specs.Tree.{sexp_value};
 ghost use Rattle.sexpr_text.specs.Printed.{adv, adv_all};
-ghost use Rattle.spki_tag.specs.Tag.{tag_value, tag_values, tags};
+ghost use Rattle.spki_tag.specs.Tag.{tag_value};
 ghost use Rattle.spki_cert.specs.Subjects.{plains};
-ghost use Rattle.spki_reduce.specs.Written.{IsWrittenFive, named};
+ghost use Rattle.spki_reduce.specs.Written.{headed, named};
+ghost use Rattle.spki_guard.specs.Inner.FoldLines.{value_of};
 
+use crate::tag_printer::print_tag;
 use sexpr_core::Sexp;
-use sexpr_text::print_advanced;
+use sexpr_text::{Sink, print_octets, print_tree};
 use spki_cert::Names;
-use spki_reduce::Five;
-use spki_tag::{Tag, TagForm};
-use std::alloc::{AllocError, Global};
+use spki_reduce::{Five, WrittenParts};
+use spki_tag::Tag;
 
-/// Appends a tree in advanced form to the output.
-fn push_tree(alloc: Global, out: &mut Vec<u8>, tree: &Sexp) -> Result<(), AllocError>
-    ensures { OnOk result (out.new.items ≡ out.old.items ++ adv (sexp_value tree.now)) }
-{
-    let text = print_advanced(alloc, tree)?;
-    out.extend_from_slice(&text)
-}
-
-/// Appends a tag in advanced form to the output.
-#[cycle(print)]
-pub fn push_tag(alloc: Global, out: &mut Vec<u8>, tag: &Tag) -> Result<(), AllocError>
-    ensures { OnOk result (out.new.items ≡ out.old.items ++ adv (tag_value tag.now)) }
-{
-    match tag.form() {
-        TagForm::List { head, further } => {
-            let head = Sexp::plain(alloc, head)?;
-            out.push(b'(')?;
-            push_tree(alloc, out, &head)?;
-            push_each(alloc, out, further)?;
-            out.push(b')')?;
-            Ok(())
-        }
-        TagForm::Set { members } => {
-            out.extend_from_slice(b"(* set")?;
-            push_each(alloc, out, members)?;
-            out.push(b')')?;
-            Ok(())
-        }
-        _ => {
-            let tree = tag.write(alloc)?;
-            push_tree(alloc, out, &tree)
-        }
-    }
-}
-
-/// Appends each tag, with a space before it, to the output.
-#[cycle(print)]
-fn push_each(alloc: Global, out: &mut Vec<u8>, members: &[Tag]) -> Result<(), AllocError>
-    ensures { OnOk result (out.new.items ≡ out.old.items ++ adv_all 1 (tag_values (tags members.now))) }
-{
-    for member in members {
-        out.push(b' ')?;
-        push_tag(alloc, out, member)?;
-    }
-    Ok(())
-}
-
-/// Appends trees, each with a space before it, to the output.
-fn push_trees(alloc: Global, out: &mut Vec<u8>, trees: &[Sexp]) -> Result<(), AllocError>
-    ensures { OnOk result (out.new.items ≡ out.old.items ++ adv_all 1 (values (map sexp_value trees.now))) }
+/// Prints trees, each with a space before it.
+fn print_trees<S: Sink>(trees: &[Sexp], sink: &mut S)
+    ensures { S.takes sink.old (adv_all 1 (values (map sexp_value trees.now))) sink.new }
 {
     for tree in trees {
-        out.push(b' ')?;
-        push_tree(alloc, out, tree)?;
+        sink.put_octet(b' ');
+        print_tree(tree, sink);
     }
-    Ok(())
 }
 
-/// Appends names in advanced form, each with a space before it, to the output.
-fn push_names(alloc: Global, out: &mut Vec<u8>, names: &Names) -> Result<(), AllocError>
-    ensures { OnOk result (out.new.items ≡ out.old.items ++ adv_all 1 (values (plains names.now))) }
+/// Prints names, each with a space before it.
+fn print_names<S: Sink>(names: &Names, sink: &mut S)
+    ensures { S.takes sink.old (adv_all 1 (values (plains names.now))) sink.new }
 {
     for place in 0..names.len() {
-        let name = Sexp::plain(alloc, names.at(place).as_slice())?;
-        out.push(b' ')?;
-        push_tree(alloc, out, &name)?;
+        sink.put_octet(b' ');
+        print_octets(names.at(place).as_slice(), sink);
     }
-    Ok(())
 }
 
-/// Appends a principal in advanced form, or `(name principal n n ..)` if there are names, to the output.
-fn push_named(
-    alloc: Global,
-    out: &mut Vec<u8>,
-    principal: &Sexp,
-    names: &Names,
-) -> Result<(), AllocError>
-    ensures { OnOk result (out.new.items ≡ out.old.items ++ adv (named (sexp_value principal.now) names.now)) }
+/// Prints a principal, or `(name principal n n ..)` if there are names.
+fn print_named<S: Sink>(principal: &Sexp, names: &Names, sink: &mut S)
+    ensures { S.takes sink.old (adv (named (sexp_value principal.now) names.now)) sink.new }
 {
     if names.is_empty() {
-        return push_tree(alloc, out, principal);
+        print_tree(principal, sink);
+        return;
     }
-    out.extend_from_slice(b"(name ")?;
-    push_tree(alloc, out, principal)?;
-    push_names(alloc, out, names)?;
-    out.push(b')')?;
-    Ok(())
+    sink.put(b"(name ");
+    print_tree(principal, sink);
+    print_names(names, sink);
+    sink.put_octet(b')');
 }
 
-/// Appends an authorization in advanced form to the output.
-pub fn push_five(alloc: Global, out: &mut Vec<u8>, five: &Five) -> Result<(), AllocError>
-    ensures { OnOk result ((v : Value) × IsWrittenFive five.now v × (out.new.items ≡ out.old.items ++ adv v)) }
+/// Prints `(subject S)` with a space before it.
+fn print_subject<S: Sink>(principal: &Sexp, names: &Names, sink: &mut S)
+    ensures { S.takes sink.old (adv_all 1 (values (headed (codes "subject") (named (sexp_value principal.now) names.now ∷ []) ∷ []))) sink.new }
 {
-    let parts = five.write_parts(alloc)?;
-    out.extend_from_slice(b"(five")?;
-    push_trees(alloc, out, &parts.before_subject)?;
-    out.extend_from_slice(b" (subject ")?;
-    push_named(alloc, out, &parts.principal, &five.subject.names)?;
-    out.push(b')')?;
-    push_trees(alloc, out, &parts.before_tag)?;
-    out.extend_from_slice(b" (tag ")?;
-    push_tag(alloc, out, &five.tag)?;
-    out.push(b')')?;
-    push_trees(alloc, out, &parts.behind_tag)?;
-    out.push(b')')?;
-    Ok(())
+    sink.put(b" (subject ");
+    print_named(principal, names, sink);
+    sink.put_octet(b')');
+}
+
+/// Prints `(tag T)` with a space before it.
+fn print_tag_part<S: Sink>(tag: &Tag, sink: &mut S)
+    ensures { S.takes sink.old (adv_all 1 (values (headed (codes "tag") (tag_value tag.now ∷ []) ∷ []))) sink.new }
+{
+    sink.put(b" (tag ");
+    print_tag(tag, sink);
+    sink.put_octet(b')');
+}
+
+/// Prints an authorization, of which these parts were written.
+pub fn print_five<S: Sink>(five: &Five, parts: &WrittenParts, sink: &mut S)
+    ensures { S.takes sink.old (adv (value_of parts.now five.now)) sink.new }
+{
+    sink.put(b"(five");
+    print_trees(&parts.before_subject, sink);
+    print_subject(&parts.principal, &five.subject.names, sink);
+    print_trees(&parts.before_tag, sink);
+    print_tag_part(&five.tag, sink);
+    print_trees(&parts.behind_tag, sink);
+    sink.put_octet(b')');
 }

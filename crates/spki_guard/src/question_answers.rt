@@ -9,7 +9,7 @@ ghost use Rattle.spki_guard.specs.Run.{RefusesForMemory};
 
 use crate::answers::{Answer, Output, Refusal, Verdict, decision_line, out_of_memory, refuse};
 use crate::guard_refusals::{push_refused_list, push_refused_question};
-use crate::reports::{push_explanation, push_reduction};
+use crate::replies::{reply_of_explanation, reply_of_reduction, whole_within};
 use spki_decision::GuardFault;
 use spki_service::{AclFault, AskFault, Asked, Guard, Question};
 use std::alloc::{AllocError, Global};
@@ -120,15 +120,7 @@ fn explained(alloc: Global, read: &Asked, marks: &[bool]) -> Result<Answer, Guar
     ensures large { IsErrOf result GuardFault.TooLarge → IsTooLargeFor Wish.Explain read.now (marked read.now.case marks.now) }
 {
     let explanation = read.explain_by(alloc, marks)?;
-    let mut lines = Vec::new(alloc);
-    let verdict = push_explanation(alloc, &mut lines, &explanation)?;
-    if lines.len() > read.most_answer() {
-        return Err(GuardFault::TooLarge);
-    }
-    Ok(Answer {
-        verdict,
-        output: Output::Made(lines),
-    })
+    whole_within(alloc, reply_of_explanation(explanation), read.most_answer())
 }
 
 /// The lines of the reduction.
@@ -137,15 +129,8 @@ fn reduced(alloc: Global, read: &Asked, marks: &[bool]) -> Result<Answer, GuardF
     ensures large { IsErrOf result GuardFault.TooLarge → IsTooLargeFor Wish.Reduce read.now (marked read.now.case marks.now) }
 {
     let reduction = read.reduce_by(alloc, marks)?;
-    let mut lines = Vec::new(alloc);
-    let verdict = push_reduction(alloc, &mut lines, &reduction)?;
-    if lines.len() > read.most_answer() {
-        return Err(GuardFault::TooLarge);
-    }
-    Ok(Answer {
-        verdict,
-        output: Output::Made(lines),
-    })
+    let reply = reply_of_reduction(alloc, reduction)?;
+    whole_within(alloc, reply, read.most_answer())
 }
 
 /// The answer to a question that is refused: its line, or that memory ran out if there is none for the line.

@@ -1,69 +1,76 @@
-//! Writes a case's reduction and explanation: a line for each entry.
-ghost use Rattle.std.specs.Prelude.{◌≡◌, ℕ, List, ◌++◌, OnOk, IfOk};
-ghost use Rattle.spki_guard.specs.Lines.{reason_line};
-ghost use Rattle.spki_guard.specs.Reports.{verdict_of, IsFoldLine, AreFoldLines, ReportsFolds, is_done, some_done, IsReductionReport, reason_lines, is_grant, some_grant, ReportsReasons, IsExplanationReport};
+//! The lines of a case's reduction and explanation: one for each entry.
+ghost use Rattle.std.specs.Prelude.{◌≡◌, IfOk};
+ghost use Rattle.std.specs.List.{AllZip};
+ghost use Rattle.spki_guard.specs.Reports.{verdict_of, is_grant, some_grant, reason_lines};
+ghost use Rattle.spki_guard.specs.Inner.FoldLines.{is_done_line, some_done_line, fold_line, fold_lines, IsLineOfFold};
 
 use crate::answers::Verdict;
-use crate::entry_lines::{push_entry, push_item, push_no_entries, push_reason, push_stopped};
-use crate::printer::push_five;
-use spki_decision::{EntryFold, Explanation, Reason, Reduction};
+use crate::entry_lines::{print_entry, print_reason, print_stopped};
+use crate::printer::print_five;
+use sexpr_text::Sink;
+use spki_decision::{EntryFold, Reason};
+use spki_reduce::{Cause, Five, WrittenParts};
 use std::alloc::{AllocError, Global};
 
+/// What an entry's chain becomes, with all that its line needs, so that printing it allocates nothing.
+#[derive(Drop)]
+pub(crate) enum FoldLine<'a> {
+    /// The authorization that it becomes.
+    Done {
+        /// The authorization.
+        five: Five<'a>,
+        /// What is written of it, except its tag and its names.
+        parts: WrittenParts,
+    },
+    /// A certificate does not join what the entry and the certificates before it became.
+    Stopped {
+        /// The number of its item, from 1.
+        item: usize,
+        /// Why it does not join.
+        cause: Cause,
+    },
+}
+
 /// Yes if some entry does, otherwise no.
-fn verdict_of(yes: bool) -> Verdict
+pub(crate) fn verdict_of(yes: bool) -> Verdict
     ensures { result ≡ verdict_of yes }
 {
     if yes { Verdict::Done } else { Verdict::No }
 }
 
-/// Appends the lines of a reduction to the output.
-pub fn push_reduction(
-    alloc: Global,
-    out: &mut Vec<u8>,
-    reduction: &Reduction,
-) -> Result<Verdict, AllocError>
-    ensures { IfOk result (λ verdict. (lines : List ℕ) × IsReductionReport reduction.now verdict lines
-        × (out.new.items ≡ out.old.items ++ lines)) }
+/// What the line of a chain needs.
+fn fold_line_of<'a>(alloc: Global, fold: EntryFold<'a>) -> Result<FoldLine<'a>, AllocError>
+    ensures { IfOk result (IsLineOfFold fold.entry) }
 {
-    match reduction {
-        Reduction::Evidence { item, stop } => {
-            push_item(alloc, out, *item, *stop)?;
-            Ok(Verdict::No)
+    match fold {
+        EntryFold::Done(five) => {
+            let parts = five.write_parts(alloc)?;
+            Ok(FoldLine::Done { five, parts })
         }
-        Reduction::Entries(folds) => push_folds(alloc, out, folds),
+        EntryFold::Stopped { item, cause } => Ok(FoldLine::Stopped { item, cause }),
     }
 }
 
-/// Appends the lines of the entries' chains, or `no entries`, to the output.
-fn push_folds(alloc: Global, out: &mut Vec<u8>, folds: &[EntryFold]) -> Result<Verdict, AllocError>
-    ensures { IfOk result (λ verdict. (lines : List ℕ) × ReportsFolds folds.now verdict lines
-        × (out.new.items ≡ out.old.items ++ lines)) }
+/// What the lines of chains need.
+pub(crate) fn fold_lines_of<'a>(
+    alloc: Global,
+    folds: Vec<EntryFold<'a>>,
+) -> Result<Vec<FoldLine<'a>>, AllocError>
+    ensures { IfOk result (λ lines. AllZip IsLineOfFold folds.entry.items lines.items) }
 {
-    if folds.is_empty() {
-        push_no_entries(out)?;
-        return Ok(Verdict::No);
+    let mut lines = Vec::new(alloc);
+    for fold in folds {
+        lines.push(fold_line_of(alloc, fold)?)?;
     }
-    push_fold_lines(alloc, out, folds)?;
-    Ok(verdict_of(some_done(folds)))
-}
-
-/// Appends a line for each entry's chain to the output.
-fn push_fold_lines(alloc: Global, out: &mut Vec<u8>, folds: &[EntryFold]) -> Result<(), AllocError>
-    ensures { OnOk result ((lines : List ℕ) × AreFoldLines 1 folds.now lines
-        × (out.new.items ≡ out.old.items ++ lines)) }
-{
-    for (place, fold) in folds.iter().enumerate() {
-        push_fold(alloc, out, place + 1, fold)?;
-    }
-    Ok(())
+    Ok(lines)
 }
 
 /// Whether some chain becomes a tuple.
-fn some_done(folds: &[EntryFold]) -> bool
-    ensures { result ≡ some_done folds.now }
+pub(crate) fn some_done(lines: &[FoldLine]) -> bool
+    ensures { result ≡ some_done_line lines.now }
 {
-    for fold in folds {
-        if is_done(fold) {
+    for line in lines {
+        if is_done(line) {
             return true;
         }
     }
@@ -71,79 +78,49 @@ fn some_done(folds: &[EntryFold]) -> bool
 }
 
 /// Whether a chain becomes a tuple.
-fn is_done(fold: &EntryFold) -> bool
-    ensures { result ≡ is_done fold.now }
+fn is_done(line: &FoldLine) -> bool
+    ensures { result ≡ is_done_line line.now }
 {
-    match fold {
-        EntryFold::Done(_) => true,
-        EntryFold::Stopped { .. } => false,
+    match line {
+        FoldLine::Done { .. } => true,
+        FoldLine::Stopped { .. } => false,
     }
 }
 
-/// Appends the line of an entry's chain to the output; `entry` is counted from 1.
-fn push_fold(
-    alloc: Global,
-    out: &mut Vec<u8>,
-    entry: usize,
-    fold: &EntryFold,
-) -> Result<(), AllocError>
-    ensures { OnOk result ((line : List ℕ) × IsFoldLine entry fold.now line
-        × (out.new.items ≡ out.old.items ++ line)) }
+/// Prints the line of a chain; `entry` is counted from 1.
+fn print_fold<S: Sink>(entry: usize, line: &FoldLine, sink: &mut S)
+    ensures { S.takes sink.old (fold_line entry line.now) sink.new }
 {
-    match fold {
-        EntryFold::Done(five) => {
-            push_entry(alloc, out, entry)?;
-            push_five(alloc, out, five)?;
-            out.push(b'\n')?;
-            Ok(())
+    match line {
+        FoldLine::Done { five, parts } => {
+            print_entry(entry, sink);
+            print_five(five, parts, sink);
+            sink.put_octet(b'\n');
         }
-        EntryFold::Stopped { item, cause } => push_stopped(alloc, out, entry, *item, *cause),
+        FoldLine::Stopped { item, cause } => print_stopped(entry, *item, *cause, sink),
     }
 }
 
-/// Appends the lines of an explanation to the output.
-pub fn push_explanation(
-    alloc: Global,
-    out: &mut Vec<u8>,
-    explanation: &Explanation,
-) -> Result<Verdict, AllocError>
-    ensures { IfOk result (λ verdict. (lines : List ℕ) × IsExplanationReport explanation.now verdict lines
-        × (out.new.items ≡ out.old.items ++ lines)) }
+/// Prints the lines of chains.
+pub(crate) fn print_folds<S: Sink>(lines: &[FoldLine], sink: &mut S)
+    ensures { S.takes sink.old (fold_lines 1 lines.now) sink.new }
 {
-    match explanation {
-        Explanation::Evidence { item, stop } => {
-            push_item(alloc, out, *item, *stop)?;
-            Ok(Verdict::No)
-        }
-        Explanation::Entries(reasons) => push_reasons(alloc, out, reasons),
+    for (place, line) in lines.iter().enumerate() {
+        print_fold(place + 1, line, sink);
     }
 }
 
-/// Appends the lines of the entries' reasons, or `no entries`, to the output.
-fn push_reasons(alloc: Global, out: &mut Vec<u8>, reasons: &[Reason]) -> Result<Verdict, AllocError>
-    ensures { IfOk result (λ verdict. (lines : List ℕ) × ReportsReasons reasons.now verdict lines
-        × (out.new.items ≡ out.old.items ++ lines)) }
-{
-    if reasons.is_empty() {
-        push_no_entries(out)?;
-        return Ok(Verdict::No);
-    }
-    push_reason_lines(alloc, out, reasons)?;
-    Ok(verdict_of(some_grant(reasons)))
-}
-
-/// Appends a line for each entry's reason to the output.
-fn push_reason_lines(alloc: Global, out: &mut Vec<u8>, reasons: &[Reason]) -> Result<(), AllocError>
-    ensures { OnOk result (out.new.items ≡ out.old.items ++ reason_lines 1 reasons.now) }
+/// Prints the lines of reasons.
+pub(crate) fn print_reasons<S: Sink>(reasons: &[Reason], sink: &mut S)
+    ensures { S.takes sink.old (reason_lines 1 reasons.now) sink.new }
 {
     for (place, reason) in reasons.iter().enumerate() {
-        push_reason(alloc, out, place + 1, *reason)?;
+        print_reason(place + 1, *reason, sink);
     }
-    Ok(())
 }
 
 /// Whether some entry grants the request.
-fn some_grant(reasons: &[Reason]) -> bool
+pub(crate) fn some_grant(reasons: &[Reason]) -> bool
     ensures { result ≡ some_grant reasons.now }
 {
     for reason in reasons {

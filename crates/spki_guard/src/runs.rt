@@ -1,20 +1,27 @@
 //! Runs a command, from the octets that are read to those that are written.
-ghost use Rattle.std.specs.Prelude.{◌≡◌, ℕ, ◌<◌, ◌≤◌, ◌⊎◌, List, length, max, IsTrue, IfNone, IfSome, OnSome};
+ghost use Rattle.std.specs.Prelude.{◌≡◌, ℕ, ◌+◌, ◌<◌, ◌≤◌, ◌⊎◌, List, length, max, Option, Bool, IsTrue, IfNone, IfSome, OnSome, OnOk, OnErr};
 ghost use Rattle.metered_io.specs.Metered.{inner_of, asks_of, faults_of, ended_of, Gives, TakesNone};
-ghost use Rattle.spki_guard.specs.Answer.{output_octets};
+ghost use Rattle.spki_guard.specs.Answer.{IsAnswer, output_octets};
 ghost use Rattle.spki_guard.specs.Status.{answer_status};
-ghost use Rattle.spki_guard.specs.Run.{IsReply, IsFaulty, IsWritten, IsCutOff};
+ghost use Rattle.spki_guard.specs.Run.{IsReply, IsFaulty, IsWritten, IsCutOff, RefusesForMemory};
+ghost use Rattle.spki_guard.specs.Inner.Replies.{reply_verdict, printed, IsSourceOf, Fits, IsTextRead, Sends};
 
-use crate::answers::{Answer, Output, Verdict, answer_text, out_of_memory};
+use crate::answers::{Answer, Output, Verdict, out_of_memory, refuse, reply_to};
+use crate::pages::PageSink;
+use crate::replies::{Reply, count_with, print_reply};
+use crate::sources::{Source, read_source};
 use crate::statuses::Status;
-use metered_io::{Metered, ReadFault, read_whole, write_whole};
+use metered_io::{Metered, ReadFault, WriteFault, read_whole, write_whole};
 use sexpr_core::MOST_OCTETS;
 use spki_words::Command;
 use std::alloc::Global;
 use std::io::{Read, Write};
 
-/// Reads a text, does the command with it, and writes the answer. The whole answer is made before its first octet is
-/// written. The call resets both meters first.
+/// The largest number of calls of a writer, in addition to one for each octet.
+const WRITER_ASKS: u64 = 2_097_152;
+
+/// Reads a text, does the command with it, and writes the answer. All that the answer is printed from is
+/// made before its first octet is written, and nothing is allocated after it. The call resets both meters first.
 pub fn run<R: Read, W: Write>(
     alloc: Global,
     command: Command,
@@ -41,41 +48,129 @@ pub fn run<R: Read, W: Write>(
 {
     reader.restart();
     writer.restart();
-    match reply_to(alloc, command, reader) {
+    match read_text(alloc, reader) {
         None => Status::ReadFault,
-        Some(answer) => send(writer, &answer),
+        Some(read) => send_answer(alloc, command, &read, writer),
     }
 }
 
-/// Reads a text and makes the reply to it. None if the reader failed.
-fn reply_to<R: Read>(alloc: Global, command: Command, reader: &mut Metered<R>) -> Option<Answer>
+/// Reads a text, or returns the answer if there is none within the limit or memory ran out. None if the reader failed.
+fn read_text<R: Read>(alloc: Global, reader: &mut Metered<R>) -> Option<Result<Vec<u8>, Answer>>
     ensures asks { asks_of reader.new ≤ max (asks_of reader.old) 2097152 }
     ensures no_more { (octets : List ℕ) × (length octets ≤ 1048577) × Gives R.remaining reader.old reader.new octets }
     ensures fault { IfNone result ((0 < faults_of reader.new) ⊎ (2097152 ≤ asks_of reader.new)) }
     ensures no_fault { OnSome result (faults_of reader.new ≡ faults_of reader.old) }
-    ensures reply { IfSome result (λ answer. IsReply command (R.remaining (inner_of reader.old))
-        (R.remaining (inner_of reader.new)) (ended_of reader.new) answer.verdict (output_octets answer.output)) }
+    ensures read { IfSome result (IsTextRead (R.remaining (inner_of reader.old)) (R.remaining (inner_of reader.new)) (ended_of reader.new)) }
 {
     match read_whole(alloc, reader, MOST_OCTETS) {
-        Ok(text) => Some(answer_text(alloc, command, &text)),
+        Ok(text) => Some(Ok(text)),
         Err(ReadFault::Failed) => None,
-        Err(ReadFault::TooLong) => Some(Answer {
+        Err(ReadFault::TooLong) => Some(Err(Answer {
             verdict: Verdict::Refused,
             output: Output::Fixed(b"refused form TooLong\n"),
-        }),
-        Err(ReadFault::Memory) => Some(out_of_memory()),
+        })),
+        Err(ReadFault::Memory) => Some(Err(out_of_memory())),
     }
+}
+
+/// Answers what was read, and writes the answer.
+fn send_answer<W: Write>(
+    alloc: Global,
+    command: Command,
+    read: &Result<Vec<u8>, Answer>,
+    writer: &mut Metered<W>,
+) -> Status
+    requires { asks_of writer.old ≡ 0 }
+    ensures { (known left : Option (List ℕ)) (ended : Bool) → IsTextRead known left ended read.now
+        → Sends W.contents (IsReply command known left ended) writer.old writer.new result }
+{
+    match read {
+        Ok(text) => send_text(alloc, command, text, writer),
+        Err(answer) => send(writer, answer),
+    }
+}
+
+/// Answers a text, and writes the answer.
+fn send_text<W: Write>(
+    alloc: Global,
+    command: Command,
+    text: &[u8],
+    writer: &mut Metered<W>,
+) -> Status
+    requires { asks_of writer.old ≡ 0 }
+    ensures { Sends W.contents (IsAnswer command text.now) writer.old writer.new result }
+{
+    match read_source(alloc, command, text) {
+        Ok(source) => send_source(alloc, command, &source, writer),
+        Err(refusal) => send(writer, &refuse(alloc, refusal)),
+    }
+}
+
+/// Answers a text that was read, and writes the answer.
+fn send_source<W: Write>(
+    alloc: Global,
+    command: Command,
+    source: &Source,
+    writer: &mut Metered<W>,
+) -> Status
+    requires unasked { asks_of writer.old ≡ 0 }
+    requires fits { Fits command source.now }
+    ensures { (text : List ℕ) → IsSourceOf command text source.now
+        → Sends W.contents (IsAnswer command text) writer.old writer.new result }
+{
+    match reply_to(alloc, command, source) {
+        Ok(reply) => send_reply(writer, &reply),
+        Err(refusal) => send(writer, &refuse(alloc, refusal)),
+    }
+}
+
+/// Writes a reply. Its octets are counted first, since the largest number of calls of the writer depends on them.
+fn send_reply<W: Write>(writer: &mut Metered<W>, reply: &Reply) -> Status
+    requires { asks_of writer.old ≡ 0 }
+    ensures { Sends W.contents (λ verdict output. ((verdict ≡ reply_verdict reply.now) × (output ≡ printed reply.now))
+        ⊎ RefusesForMemory verdict output) writer.old writer.new result }
+{
+    match count_with(reply, WRITER_ASKS) {
+        Some(most) => send_pages(writer, reply, most),
+        None => send(writer, &out_of_memory()),
+    }
+}
+
+/// Writes a reply, page by page. The writer is called until its count `asks` is `most`.
+fn send_pages<W: Write>(writer: &mut Metered<W>, reply: &Reply, most: u64) -> Status
+    requires unasked { asks_of writer.old ≡ 0 }
+    requires most { most ≡ length (printed reply.now) + 2097152 }
+    ensures { Sends W.contents (λ verdict output. (verdict ≡ reply_verdict reply.now) × (output ≡ printed reply.now))
+        writer.old writer.new result }
+{
+    if print_pages(writer, reply, most).is_err() {
+        return Status::WriteFault;
+    }
+    Status::from(reply.verdict())
+}
+
+/// Prints a reply to a writer, page by page.
+fn print_pages<W: Write>(
+    writer: &mut Metered<W>,
+    reply: &Reply,
+    most: u64,
+) -> Result<(), WriteFault>
+    requires unasked { asks_of writer.old ≡ 0 }
+    requires most { most ≡ length (printed reply.now) + 2097152 }
+    ensures written { OnOk result (IsWritten W.contents writer.old writer.new (printed reply.now)) }
+    ensures no_fault { OnOk result (faults_of writer.new ≡ faults_of writer.old) }
+    ensures cut_off { OnErr result (IsCutOff W.contents writer.old writer.new (printed reply.now)) }
+{
+    let mut sink = PageSink::new(writer, most);
+    print_reply(reply, &mut sink);
+    sink.end()
 }
 
 /// Writes an answer.
 fn send<W: Write>(writer: &mut Metered<W>, answer: &Answer) -> Status
     requires { asks_of writer.old ≡ 0 }
-    ensures read_fault { result ≡ Status.ReadFault → ⊥ }
-    ensures written { (verdict : Verdict) → result ≡ answer_status verdict → (verdict ≡ answer.now.verdict)
-        × IsWritten W.contents writer.old writer.new (output_octets answer.now.output) }
-    ensures no_fault { (result ≡ Status.WriteFault) ⊎ (faults_of writer.new ≡ faults_of writer.old) }
-    ensures write_fault { result ≡ Status.WriteFault
-        → IsCutOff W.contents writer.old writer.new (output_octets answer.now.output) }
+    ensures { Sends W.contents (λ verdict output. (verdict ≡ answer.now.verdict) × (output ≡ output_octets answer.now.output))
+        writer.old writer.new result }
 {
     if write_whole(writer, answer.output.as_slice()).is_err() {
         return Status::WriteFault;

@@ -8,7 +8,8 @@ ghost use Rattle.spki_guard.specs.Apart.{IsAnswerApart, DecidesApart, DecidesBy,
 ghost use Rattle.spki_guard.specs.declared.answers.Refusal.{Refusal};
 ghost use Rattle.spki_guard.specs.declared.answers.Verdict.{Verdict};
 
-use crate::answers::{Answer, Refusal, decision_line, refuse, standing_case};
+use crate::answers::{Answer, Refusal, decision_line, refuse};
+use crate::sources::standing_case;
 use sexpr_core::FormFault;
 use sexpr_text::{Form, convert};
 use spki_case::{AcceptedTable, Case, RowsFault};

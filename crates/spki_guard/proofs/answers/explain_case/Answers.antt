@@ -1,4 +1,4 @@
-use Rattle.std.proofs.Common.{refl, ap, Err, ◌++◌, ◌∙◌}
+use Rattle.std.proofs.Common.{refl, ap, Err}
 use Rattle.sexpr_core.specs.Value.{canon}
 use Rattle.spki_case.specs.View.{model}
 use Rattle.spki_words.specs.declared.commands.Command.TheVariants.{Explain}
@@ -8,14 +8,12 @@ use Rattle.spki_guard.proofs.answers.explain_case.Goals as goal
 pub returns-clause-answered : goal.returns-clause-answered
 returns-clause-answered c text is =
     let exact = rw c.accepted.ensures at c.in_ok-explanation.ensures.exact in
-    let (lines, report, e) = c.in_ok-verdict.ensures in
-    let whole = e ∙ ap (λ s. s ++ lines) c.new-lines.ensures.items in
     record {
       case_read = model c.args.case.now;
       text_is = is;
       explanation = c.in_ok-explanation.explanation;
       explanation_is = exact;
-      lines = rw whole report;
+      lines = c.reply_of_explanation.ensures;
     }
 
 pub returns-in_err-explanation-clause-refused : goal.returns-in_err-explanation-clause-refused

@@ -1,4 +1,4 @@
-use Rattle.std.proofs.Common.{refl, ap, Err, ◌++◌, ◌∙◌}
+use Rattle.std.proofs.Common.{refl, ap, Err}
 use Rattle.sexpr_core.specs.Value.{canon}
 use Rattle.spki_case.specs.View.{model}
 use Rattle.spki_words.specs.declared.commands.Command.TheVariants.{Reduce}
@@ -8,8 +8,6 @@ use Rattle.spki_guard.proofs.answers.reduce.Goals as goal
 pub returns-clause-answered : goal.returns-clause-answered
 returns-clause-answered c text is =
     let exact = rw c.accepted.ensures at c.in_ok-reduction.ensures.exact in
-    let (lines, report, e) = c.in_ok-verdict.ensures in
-    let whole = e ∙ ap (λ s. s ++ lines) c.new-lines.ensures.items in
     record {
       case_read = model c.args.case.now;
       text_is = is;
@@ -17,7 +15,7 @@ returns-clause-answered c text is =
       reduction_is = exact;
       dated = c.in_ok-reduction.ensures.dated;
       end = c.in_ok-reduction.ensures.end;
-      lines = rw whole report;
+      lines = c.in_ok-reply_of_reduction.ensures;
     }
 
 pub returns-in_err-reduction-clause-refused : goal.returns-in_err-reduction-clause-refused

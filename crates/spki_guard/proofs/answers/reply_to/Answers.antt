@@ -1,0 +1,23 @@
+use Rattle.spki_case.specs.View.{model}
+use Rattle.spki_guard.proofs.Standing.{standing_answered, standing_refused, converted_answered, converted_refused}
+use Rattle.spki_guard.proofs.answers.reply_to.Goals as goal
+
+pub returns-in-Standing-clause-answered : goal.returns-in-Standing-clause-answered
+returns-in-Standing-clause-answered c text is =
+    let read = rw c.in-Standing.is at is in
+    standing_answered c.args.command text (model c.in-Standing.case) c.reply_to_case.result read.1 c.reply_to_case.ensures.answered
+
+pub returns-in-Standing-clause-refused : goal.returns-in-Standing-clause-refused
+returns-in-Standing-clause-refused c text is =
+    let read = rw c.in-Standing.is at is in
+    standing_refused c.args.command text (model c.in-Standing.case) c.reply_to_case.result read.1 c.reply_to_case.ensures.refused
+
+pub returns-in-Converted-clause-answered : goal.returns-in-Converted-clause-answered
+returns-in-Converted-clause-answered c text is =
+    converted_answered c.args.command text _ c.reply_to_octets.result (rw c.in-Converted.is at is)
+    (rw c.deref.ensures.value at c.reply_to_octets.ensures.answered)
+
+pub returns-in-Converted-clause-refused : goal.returns-in-Converted-clause-refused
+returns-in-Converted-clause-refused c text is =
+    converted_refused c.args.command text _ c.reply_to_octets.result (rw c.in-Converted.is at is)
+    (rw c.deref.ensures.value at c.reply_to_octets.ensures.refused)

@@ -1,9 +1,0 @@
--- The names so far, with a space before each.
-use Rattle.std.proofs.Common.{◌≡◌, ◌++◌, take}
-use Rattle.sexpr_core.specs.Value.{values}
-use Rattle.sexpr_text.specs.Printed.{adv_all}
-use Rattle.spki_cert.specs.Subjects.{plains}
-use Rattle.spki_guard.proofs.printer.push_names.Given as goal
-
-abbrev pub invariant-loop-place : goal.invariant-loop-place
-invariant-loop-place l = l.out.items ≡ l.initial.out.items ++ adv_all 1 (values (plains (take l.place l.names)))

@@ -1,0 +1,7 @@
+-- The lines so far.
+use Rattle.std.proofs.Common.{take}
+use Rattle.spki_guard.specs.Reports.{reason_lines}
+use Rattle.spki_guard.proofs.reports.print_reasons.Given as goal
+
+abbrev pub invariant-loop-place : goal.invariant-loop-place
+invariant-loop-place g l = g.S.Sink.takes l.initial.sink (reason_lines 1 (take l.place l.reasons)) l.sink

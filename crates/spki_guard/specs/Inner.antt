@@ -1,0 +1,5 @@
+-- Definitions that only the contracts of private functions cite.
+pub mod FoldLines
+pub mod Pages
+pub mod PageLaws
+pub mod Replies

@@ -1,0 +1,81 @@
+-- Replies, and what is printed of them.
+use Rattle.std.specs.Prelude.{◌≡◌, ◌⊎◌, ℕ, ◌≤◌, List, [], ◌∷◌, ◌++◌, length, Option, IfSome, Bool, IsTrue, Result, Ok, Err, Vec}
+use Rattle.std.specs.declared.alloc.Global.{Global}
+use Rattle.metered_io.specs.declared.meters.Metered.{Metered}
+use Rattle.metered_io.specs.Metered.{faults_of}
+use Rattle.sexpr_core.specs.Value.{Value}
+use Rattle.sexpr_text.specs.Printed.{adv}
+use Rattle.sexpr_text.specs.Spelling.{IsTextWithin}
+use Rattle.sexpr_text.specs.Written.{written}
+use Rattle.spki_tag.specs.Tag.{tag_value}
+use Rattle.spki_case.specs.CaseForm.{IsCaseText}
+use Rattle.spki_case.specs.View.{model}
+use Rattle.spki_words.specs.declared.commands.Command.{Command}
+use Rattle.spki_guard.specs.declared.answers.Verdict.{Verdict}
+use Rattle.spki_guard.specs.declared.answers.Verdict.TheVariants as verdict
+use Rattle.spki_guard.specs.declared.replies.Reply.{Reply}
+use Rattle.spki_guard.specs.declared.replies.Reply.TheVariants.{Whole, Octets, Line, Tag, Item, NoEntries, Folds, Reasons}
+use Rattle.spki_guard.specs.declared.sources.Source.{Source}
+use Rattle.spki_guard.specs.declared.sources.Source.TheVariants.{Standing, Converted}
+use Rattle.spki_guard.specs.declared.statuses.Status.{Status}
+use Rattle.spki_guard.specs.declared.statuses.Status.TheVariants.{WriteFault}
+use Rattle.spki_guard.specs.declared.answers.Answer.{Answer}
+use Rattle.spki_guard.specs.Answer.{form_of, IsOnCase, output_octets, written_by}
+use Rattle.spki_guard.specs.Lines.{item_line, no_entries}
+use Rattle.spki_guard.specs.Reports.{verdict_of, some_grant, reason_lines}
+use Rattle.spki_guard.specs.Run.{RefusesLong, RefusesForMemory, IsWritten, IsCutOff}
+use Rattle.spki_guard.specs.Status.{answer_status}
+use Rattle.spki_guard.specs.Inner.FoldLines.{some_done_line, fold_lines}
+
+-- ---- replies
+
+abbrev pub reply_verdict : Reply → Verdict
+reply_verdict (Whole answer) = answer.verdict
+reply_verdict (Octets octets) = verdict.Done
+reply_verdict (Line octets) = verdict.Done
+reply_verdict (Tag tag) = verdict.Done
+reply_verdict (Item item stop) = verdict.No
+reply_verdict NoEntries = verdict.No
+reply_verdict (Folds lines) = verdict_of (some_done_line lines.items)
+reply_verdict (Reasons reasons) = verdict_of (some_grant reasons.items)
+
+-- the octets that are printed
+abbrev pub printed : Reply → List ℕ
+printed (Whole answer) = output_octets answer.output
+printed (Octets octets) = octets.now
+printed (Line octets) = octets.now ++ 10 ∷ []
+printed (Tag tag) = adv (tag_value tag) ++ 10 ∷ []
+printed (Item item stop) = item_line item stop
+printed NoEntries = no_entries
+printed (Folds lines) = fold_lines 1 lines.items
+printed (Reasons reasons) = reason_lines 1 reasons.items
+
+-- ---- sources
+
+-- the case of a text that is canonical, or a text's value in the form that the command needs
+abbrev pub IsSourceOf : Command → List ℕ → Source → Type 0
+IsSourceOf command text (Standing case) = IsOnCase command × IsCaseText text (model case)
+IsSourceOf command text (Converted octets) = (v : Value) × IsTextWithin text v × (octets.items ≡ written (form_of command) v)
+
+-- a source that a command for a case can have, or any command
+abbrev pub Fits : Command → Source → Type 0
+Fits command (Standing case) = IsOnCase command
+Fits command (Converted octets) = Unit {0}
+
+-- ---- reading
+
+-- A text was read to its end, or this is the answer in its place. `known` is what the reader had, and `left` what is left of it.
+abbrev pub IsTextRead : Option (List ℕ) → Option (List ℕ) → Bool → Result (Vec ℕ Global) Answer → Type 0
+IsTextRead known left ended (Ok text) = IsTrue ended × IfSome known (λ octets. octets ≡ text.items) × (length text.items ≤ 1048576)
+IsTextRead known left ended (Err answer) =
+    RefusesLong known left answer.verdict (written_by answer) ⊎ RefusesForMemory answer.verdict (written_by answer)
+
+-- ---- sending
+
+-- Some octets with a verdict, of which this is said, were written, or a beginning of them.
+pub record Sends {W : Type 0} (contents : W → Option (List ℕ)) (IsOne : Verdict → List ℕ → Type 0) (old new : Metered W) (status : Status) : Type 0 where
+  pub verdict : Verdict
+  pub output : List ℕ
+  pub is : IsOne verdict output
+  pub end : ((status ≡ answer_status verdict) × IsWritten contents old new output × (faults_of new ≡ faults_of old))
+      ⊎ ((status ≡ WriteFault) × IsCutOff contents old new output)

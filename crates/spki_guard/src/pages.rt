@@ -1,0 +1,131 @@
+//! Writes octets to a writer, a page at a time.
+ghost use Rattle.std.specs.Prelude.{◌≡◌, ℕ, ◌≤◌, ◌⊎◌, List, [], ◌∷◌, ◌++◌, false, IsTrue, max, OnOk, OnErr};
+ghost use Rattle.metered_io.specs.Metered.{asks_of, faults_of, flushed_of, Takes};
+ghost use Rattle.spki_guard.specs.Inner.Pages.{lender_of, writer_of, page_of, most_of, has_failed, IsPassedOn, IsCutAfter, PageTakes};
+ghost use Rattle.spki_guard.specs.Inner.PageLaws.{page_takes_nothing, page_takes_both};
+
+use arrayvec::ArrayVec;
+use metered_io::{Metered, WriteFault, flush_writer, write_octets};
+use sexpr_text::Sink;
+use std::io::Write;
+
+/// Writes octets to a writer, 4,096 at a time, and allocates nothing. After a write that failed it writes no more octets.
+pub(crate) struct PageSink<'w, W> {
+    writer: &'w mut Metered<W>,
+    page: ArrayVec<u8, 4096>,
+    most: u64,
+    failed: bool,
+}
+
+/// Writes octets, unless a write failed before. Returns whether it or this one failed.
+fn pass_on<W: Write>(writer: &mut Metered<W>, failed: bool, octets: &[u8], most: u64) -> bool
+    ensures { IsPassedOn W.contents writer.old writer.new octets.now most failed result }
+{
+    if failed {
+        return true;
+    }
+    write_octets(writer, octets, most).is_err()
+}
+
+/// Appends octets to a page, if it has room for all of them. Returns whether it has.
+fn hold(page: &mut ArrayVec<u8, 4096>, octets: &[u8]) -> bool
+    ensures held { IsTrue result → page.new.items ≡ page.old.items ++ octets.now }
+    ensures full { result ≡ false → page.new ≡ page.old }
+{
+    page.try_extend_from_slice(octets).is_ok()
+}
+
+/// Appends an octet to a page, if it has room. Returns whether it has.
+fn hold_octet(page: &mut ArrayVec<u8, 4096>, octet: u8) -> bool
+    ensures held { IsTrue result → page.new.items ≡ page.old.items ++ octet ∷ [] }
+    ensures full { result ≡ false → page.new ≡ page.old }
+{
+    page.try_push(octet).is_ok()
+}
+
+impl<'w, W: Write> PageSink<'w, W> {
+    /// A sink that writes to this writer, which is called until its count `asks` is `most`.
+    pub(crate) fn new(writer: &'w mut Metered<W>, most: u64) -> PageSink<'w, W>
+        ensures lender { lender_of result ≡ writer.entry.ghost_name }
+        ensures writer { writer_of result ≡ writer.old }
+        ensures page { page_of result ≡ [] }
+        ensures most { most_of result ≡ most }
+        ensures failed { has_failed result ≡ false }
+    {
+        PageSink {
+            writer,
+            page: ArrayVec::new(),
+            most,
+            failed: false,
+        }
+    }
+
+    /// Writes the page.
+    fn write_page(&mut self)
+        ensures takes { PageTakes W.contents self.old [] self.new }
+        ensures page { page_of self.new ≡ [] }
+    {
+        self.failed = pass_on(self.writer, self.failed, self.page.as_slice(), self.most);
+        self.page.clear();
+    }
+
+    /// Takes octets when the page is empty: writes them if they are more than a page.
+    fn take_behind(&mut self, octets: &[u8])
+        requires { page_of self.old ≡ [] }
+        ensures { PageTakes W.contents self.old octets.now self.new }
+    {
+        if hold(&mut self.page, octets) {
+            return;
+        }
+        self.failed = pass_on(self.writer, self.failed, octets, self.most);
+    }
+
+    /// Writes the last page, and flushes the writer.
+    ///
+    /// # Errors
+    ///
+    /// `WriteFault` if this or an earlier write failed, or the flush.
+    pub(crate) fn end(self) -> Result<(), WriteFault>
+        ensures asks { asks_of self.exit.0.now ≤ max (asks_of (writer_of self.entry)) (most_of self.entry) }
+        ensures ok { OnOk result ((has_failed self.entry ≡ false)
+            × Takes W.contents (writer_of self.entry) self.exit.0.now (page_of self.entry)
+            × (faults_of self.exit.0.now ≡ faults_of (writer_of self.entry)) × IsTrue (flushed_of self.exit.0.now)) }
+        ensures err { OnErr result (IsCutAfter W.contents (has_failed self.entry) (writer_of self.entry) self.exit.0.now
+            (page_of self.entry) (most_of self.entry)) }
+    {
+        let PageSink {
+            writer,
+            page,
+            most,
+            failed,
+        } = self;
+        if pass_on(writer, failed, page.as_slice(), most) {
+            return Err(WriteFault);
+        }
+        flush_writer(writer, most)
+    }
+}
+
+impl<'w, W: Write> Sink for PageSink<'w, W> {
+    ghost takes = { PageTakes W.contents };
+
+    fn put(&mut self, octets: &[u8]) {
+        if hold(&mut self.page, octets) {
+            return;
+        }
+        self.write_page();
+        self.take_behind(octets);
+    }
+
+    fn put_octet(&mut self, octet: u8) {
+        if hold_octet(&mut self.page, octet) {
+            return;
+        }
+        self.write_page();
+        self.take_behind(&[octet]);
+    }
+
+    ghost nothing = { page_takes_nothing W.contents };
+
+    ghost both = { page_takes_both W.contents };
+}

@@ -1,0 +1,183 @@
+//! Replies: all that is printed for a text or a question, before it is printed.
+ghost use Rattle.std.specs.Prelude.{◌≡◌, [], ◌∷◌, ◌++◌, ◌+◌, ◌<◌, ◌≤◌, length, IfOk, IfSome, IsErrOf};
+ghost use Rattle.sexpr_text.specs.Printed.{adv};
+ghost use Rattle.spki_tag.specs.Tag.{tag_value};
+ghost use Rattle.spki_guard.specs.Answer.{written_by};
+ghost use Rattle.spki_guard.specs.Reports.{IsReductionReport, IsExplanationReport};
+ghost use Rattle.spki_guard.specs.Inner.Replies.{reply_verdict, printed};
+
+use crate::answers::{Answer, Output, Verdict};
+use crate::entry_lines::print_item;
+use crate::reports::{
+    FoldLine, fold_lines_of, print_folds, print_reasons, some_done, some_grant, verdict_of,
+};
+use crate::tag_printer::print_tag;
+use sexpr_text::{Counter, Sink, VectorSink};
+use spki_decision::{Explanation, GuardFault, Reason, Reduction, Stop};
+use spki_tag::Tag;
+use std::alloc::{AllocError, Global};
+
+/// What a text or a question is answered, before it is printed. All that printing needs is made, so that it allocates nothing.
+#[derive(Drop)]
+pub(crate) enum Reply<'o> {
+    /// An answer whose octets are made.
+    Whole(Answer),
+    /// Octets.
+    Octets(&'o [u8]),
+    /// Octets and a line feed.
+    Line(&'o [u8]),
+    /// A tag in advanced form and a line feed.
+    Tag(Tag),
+    /// The line for a certificate that does not stand.
+    Item {
+        /// The number of its item, from 1.
+        item: usize,
+        /// The first test that it does not pass.
+        stop: Stop,
+    },
+    /// The line for an access list without entries.
+    NoEntries,
+    /// A line for each entry's chain.
+    Folds(Vec<FoldLine<'o>>),
+    /// A line for each entry's reason.
+    Reasons(Vec<Reason>),
+}
+
+impl<'o> Reply<'o> {
+    /// The verdict.
+    pub(crate) fn verdict(&self) -> Verdict
+        ensures { result ≡ reply_verdict self.now }
+    {
+        match self {
+            Reply::Whole(answer) => answer.verdict,
+            Reply::Octets(_) => Verdict::Done,
+            Reply::Line(_) => Verdict::Done,
+            Reply::Tag(_) => Verdict::Done,
+            Reply::Item { .. } => Verdict::No,
+            Reply::NoEntries => Verdict::No,
+            Reply::Folds(lines) => verdict_of(some_done(lines)),
+            Reply::Reasons(reasons) => verdict_of(some_grant(reasons)),
+        }
+    }
+}
+
+/// The reply that shows a reduction.
+pub(crate) fn reply_of_reduction<'a>(
+    alloc: Global,
+    reduction: Reduction<'a>,
+) -> Result<Reply<'a>, AllocError>
+    ensures { IfOk result (λ reply. IsReductionReport reduction.entry (reply_verdict reply) (printed reply)) }
+{
+    match reduction {
+        Reduction::Evidence { item, stop } => Ok(Reply::Item { item, stop }),
+        Reduction::Entries(folds) => {
+            if folds.is_empty() {
+                return Ok(Reply::NoEntries);
+            }
+            Ok(Reply::Folds(fold_lines_of(alloc, folds)?))
+        }
+    }
+}
+
+/// The reply that shows an explanation.
+pub(crate) fn reply_of_explanation(explanation: Explanation) -> Reply<'static>
+    ensures { IsExplanationReport explanation (reply_verdict result) (printed result) }
+{
+    match explanation {
+        Explanation::Evidence { item, stop } => Reply::Item { item, stop },
+        Explanation::Entries(reasons) => {
+            if reasons.is_empty() {
+                return Reply::NoEntries;
+            }
+            Reply::Reasons(reasons)
+        }
+    }
+}
+
+/// Prints octets and a line feed.
+fn print_line<S: Sink>(octets: &[u8], sink: &mut S)
+    ensures { S.takes sink.old (octets.now ++ 10 ∷ []) sink.new }
+{
+    sink.put(octets);
+    sink.put_octet(b'\n');
+}
+
+/// Prints a tag in advanced form and a line feed.
+fn print_tag_line<S: Sink>(tag: &Tag, sink: &mut S)
+    ensures { S.takes sink.old (adv (tag_value tag.now) ++ 10 ∷ []) sink.new }
+{
+    print_tag(tag, sink);
+    sink.put_octet(b'\n');
+}
+
+/// Prints a reply. Allocates nothing.
+pub(crate) fn print_reply<S: Sink>(reply: &Reply, sink: &mut S)
+    ensures { S.takes sink.old (printed reply.now) sink.new }
+{
+    match reply {
+        Reply::Whole(answer) => sink.put(answer.output.as_slice()),
+        Reply::Octets(octets) => sink.put(octets),
+        Reply::Line(octets) => print_line(octets, sink),
+        Reply::Tag(tag) => print_tag_line(tag, sink),
+        Reply::Item { item, stop } => print_item(*item, *stop, sink),
+        Reply::NoEntries => sink.put(b"no entries\n"),
+        Reply::Folds(lines) => print_folds(lines, sink),
+        Reply::Reasons(reasons) => print_reasons(reasons, sink),
+    }
+}
+
+/// The number of a reply's octets together with `more`. None if it is over the greatest `u64`, which no memory holds.
+pub(crate) fn count_with(reply: &Reply, more: u64) -> Option<u64>
+    requires { 0 < more }
+    ensures { IfSome result (λ n. n ≡ length (printed reply.now) + more) }
+{
+    let mut counter = Counter::new();
+    print_reply(reply, &mut counter);
+    counter.count().checked_add(more)
+}
+
+/// The answer that has the octets of a reply.
+pub(crate) fn whole(alloc: Global, reply: Reply) -> Result<Answer, AllocError>
+    ensures verdict { IfOk result (λ a. a.verdict ≡ reply_verdict reply.entry) }
+    ensures octets { IfOk result (λ a. written_by a ≡ printed reply.entry) }
+{
+    match reply {
+        Reply::Whole(answer) => Ok(answer),
+        other => print_whole(alloc, &other),
+    }
+}
+
+/// The answer that has the octets of a reply, which are printed into a vector.
+fn print_whole(alloc: Global, reply: &Reply) -> Result<Answer, AllocError>
+    ensures verdict { IfOk result (λ a. a.verdict ≡ reply_verdict reply.now) }
+    ensures octets { IfOk result (λ a. written_by a ≡ printed reply.now) }
+{
+    let mut out = Vec::new(alloc);
+    let mut sink = VectorSink::new(&mut out);
+    print_reply(reply, &mut sink);
+    sink.end()?;
+    Ok(Answer {
+        verdict: reply.verdict(),
+        output: Output::Made(out),
+    })
+}
+
+/// The answer that has the octets of a reply, if they are at most so many. They are counted before they are printed.
+///
+/// # Errors
+///
+/// `TooLarge` if they are more. `Memory` if memory ran out.
+pub(crate) fn whole_within(alloc: Global, reply: Reply, most: usize) -> Result<Answer, GuardFault>
+    ensures verdict { IfOk result (λ a. a.verdict ≡ reply_verdict reply.entry) }
+    ensures octets { IfOk result (λ a. written_by a ≡ printed reply.entry) }
+    ensures short { IfOk result (λ a. length (printed reply.entry) ≤ most) }
+    ensures large { IsErrOf result GuardFault.TooLarge → most < length (printed reply.entry) }
+{
+    let Some(count) = count_with(&reply, 1) else {
+        return Err(GuardFault::Memory);
+    };
+    if count - 1 > most as u64 {
+        return Err(GuardFault::TooLarge);
+    }
+    Ok(whole(alloc, reply)?)
+}

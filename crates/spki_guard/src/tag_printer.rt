@@ -1,0 +1,111 @@
+//! Prints tags in advanced form. Allocates nothing.
+
+ghost use Rattle.std.specs.Prelude.{◌≡◌, [], ◌∷◌, if◌then◌else◌};
+ghost use Rattle.sexpr_core.specs.Value.{plain, values};
+ghost use Rattle.sexpr_text.specs.Printed.{adv, adv_all};
+ghost use Rattle.spki_tag.specs.Leaves.{ordering_of};
+ghost use Rattle.spki_tag.specs.Tag.{prefix, range, ordering_name, limit_values, tag_value, tag_values, tags};
+ghost use Rattle.spki_tag.specs.TagForms.{limit_shown};
+
+use sexpr_text::{Sink, print_octets};
+use spki_tag::{RangeOrdering, Tag, TagForm, TagLimit};
+
+/// Prints a tag in advanced form, as `print_advanced` prints the tree that `Tag::write` makes.
+#[cycle(print)]
+pub fn print_tag<S: Sink>(tag: &Tag, sink: &mut S)
+    ensures { S.takes sink.old (adv (tag_value tag.now)) sink.new }
+{
+    match tag.form() {
+        TagForm::Everything => sink.put(b"(*)"),
+        TagForm::String(octets) => print_octets(octets, sink),
+        TagForm::Prefix(octets) => print_prefix(octets, sink),
+        TagForm::Range { ordering, low, up } => print_range(ordering, low, up, sink),
+        TagForm::List { head, further } => {
+            sink.put_octet(b'(');
+            print_octets(head, sink);
+            print_each(further, sink);
+            sink.put_octet(b')');
+        }
+        TagForm::Set { members } => {
+            sink.put(b"(* set");
+            print_each(members, sink);
+            sink.put_octet(b')');
+        }
+    }
+}
+
+/// Prints tags, each with a space before it.
+#[cycle(print)]
+fn print_each<S: Sink>(members: &[Tag], sink: &mut S)
+    ensures { S.takes sink.old (adv_all 1 (tag_values (tags members.now))) sink.new }
+{
+    for member in members {
+        sink.put_octet(b' ');
+        print_tag(member, sink);
+    }
+}
+
+/// Prints `(* prefix P)`.
+fn print_prefix<S: Sink>(octets: &[u8], sink: &mut S)
+    ensures { S.takes sink.old (adv (tag_value (prefix octets.now))) sink.new }
+{
+    sink.put(b"(* prefix ");
+    print_octets(octets, sink);
+    sink.put_octet(b')');
+}
+
+/// Prints `(* range ORDERING LOW UP)`.
+fn print_range<S: Sink>(
+    ordering: RangeOrdering,
+    low: Option<TagLimit<'_>>,
+    up: Option<TagLimit<'_>>,
+    sink: &mut S,
+)
+    ensures { S.takes sink.old (adv (tag_value (range (ordering_of ordering) (limit_shown low.entry) (limit_shown up.entry)))) sink.new }
+{
+    sink.put(b"(* range ");
+    print_octets(ordering_name(ordering), sink);
+    print_limit(low, b"g", b"ge", sink);
+    print_limit(up, b"l", b"le", sink);
+    sink.put_octet(b')');
+}
+
+/// The name of an ordering.
+fn ordering_name(ordering: RangeOrdering) -> &'static [u8]
+    ensures { result.now ≡ ordering_name (ordering_of ordering) }
+{
+    match ordering {
+        RangeOrdering::Alpha => b"alpha",
+        RangeOrdering::Time => b"time",
+        RangeOrdering::Date => b"date",
+    }
+}
+
+/// Prints a limit behind its word, each with a space before it: one word for a strict limit, and another for any other limit.
+fn print_limit<S: Sink>(limit: Option<TagLimit<'_>>, strict: &[u8], inclusive: &[u8], sink: &mut S)
+    ensures { S.takes sink.old (adv_all 1 (values (limit_values strict.now inclusive.now (limit_shown limit.entry)))) sink.new }
+{
+    if let Some(limit) = limit {
+        print_limit_word(limit.strict, strict, inclusive, sink);
+        print_word(limit.octets, sink);
+    }
+}
+
+/// Prints the word of a limit, with a space before it.
+fn print_limit_word<S: Sink>(is_strict: bool, strict: &[u8], inclusive: &[u8], sink: &mut S)
+    ensures { S.takes sink.old (adv_all 1 (values (plain (if is_strict then strict.now else inclusive.now) ∷ []))) sink.new }
+{
+    if is_strict {
+        print_word(strict, sink);
+    } else {
+        print_word(inclusive, sink);
+    }
+}
+
+/// Prints a string with a space before it.
+fn print_word<S: Sink>(octets: &[u8], sink: &mut S)
+    ensures { S.takes sink.old (adv_all 1 (values (plain octets.now ∷ []))) sink.new }
+{
+    sink.put_octet(b' ');
+    print_octets(octets, sink);
+}
