@@ -1,281 +1,173 @@
-/* The functions that `spki.h` declares. Each refuses the misuse that Rattle cannot be passed, and replaces a null pointer by the address of
- * an octet. Then it calls a function of the proved library, which accepts no null pointer. */
+/* The functions that `spki.h` declares. Each passes its arguments on to a function of the proved library. That accepts each text as the
+ * caller gives it, and refuses a null pointer with a length, and a length that is more than memory can have. All other pointers are tested
+ * here: a null pointer is misuse, or is replaced by the address of a value that is not used. */
 #include "spki.h"
 
 #include <stdbool.h>
-#include <stdlib.h>
-#include <string.h>
 
-/* A pointer to a guard or a question: one that owns it, and one that a call borrows. */
-struct handle {
+struct handle { /* a pointer to a guard or to a question, or null */
     void *at;
 };
-struct lent {
-    const void *at;
-};
-
-/* The parts of a question without null pointers, and the texts of a signature. */
-struct parts {
-    struct spki_text sequence, key, request;
-    const struct spki_text *words;
-    size_t word_count;
-    struct spki_text moment;
-    const int64_t *seconds;
-    size_t seconds_count;
+struct parts { /* the parts of a question without the strings of its request */
+    struct spki_text sequence, key, request, moment;
     bool is_worded;
 };
-struct texts {
+struct texts { /* the texts of a signature, and whether its value is one string */
     struct spki_signed signature;
     bool is_string;
 };
 
-uint32_t spki_c_answer(uint32_t command, const unsigned char *text, size_t text_length, unsigned char *buffer,
-                       size_t buffer_length, size_t *needed);
-uint32_t spki_c_check_accepted(const unsigned char *text, size_t text_length, const unsigned char *rows, size_t rows_length,
-                               unsigned char *buffer, size_t buffer_length, size_t *needed);
-uint32_t spki_c_string(const unsigned char *text, size_t text_length, const size_t *path, size_t depth, size_t *at, size_t *length);
-uint32_t spki_c_guard_open(const unsigned char *list, size_t list_length, uint32_t policy, const struct spki_limits *limits,
-                           size_t limits_count, struct handle *handle, unsigned char *buffer, size_t buffer_length, size_t *needed);
-void spki_c_guard_close(struct handle handle);
-size_t spki_c_guard_entries(struct lent *guard);
-uint32_t spki_c_guard_ask(struct lent *guard, const struct parts *parts, struct handle *handle, unsigned char *buffer,
-                          size_t buffer_length, size_t *needed);
-void spki_c_asked_close(struct handle handle);
-size_t spki_c_asked_count(struct lent *asked);
-uint32_t spki_c_asked_signature(struct lent *asked, size_t place, struct texts *texts);
-uint32_t spki_c_asked_answer(uint32_t wish, struct lent *asked, const unsigned char *verified, size_t count, unsigned char *buffer,
-                             size_t buffer_length, size_t *needed);
+/* The parameters by which an answer is returned, and the arguments for them. */
+#define ANSWER void *buffer, size_t buffer_length, size_t *needed
+#define TO buffer, buffer_length, needed
 
-static const unsigned char no_text;
+uint32_t spki_c_answer(uint32_t command, struct spki_text text, ANSWER);
+uint32_t spki_c_check_accepted(struct spki_text text, struct spki_text rows, ANSWER);
+uint32_t spki_c_guard_open(struct spki_text list, uint32_t policy, const struct spki_limits *limits, size_t count, struct handle *guard, ANSWER);
+void spki_c_guard_close(struct handle guard);
+size_t spki_c_guard_entries(struct handle *guard);
+uint32_t spki_c_guard_ask(struct handle *guard, struct parts *parts, struct spki_text *words, size_t word_count, const int64_t *seconds,
+                          size_t count, struct handle *asked, ANSWER);
+void spki_c_asked_close(struct handle asked);
+size_t spki_c_asked_count(struct handle *asked);
+uint32_t spki_c_asked_signature(struct handle *asked, size_t place, struct texts *texts);
+uint32_t spki_c_asked_answer(uint32_t wish, struct handle *asked, struct spki_text verified, ANSWER);
+uint32_t spki_c_string(struct spki_text text, const size_t *path, size_t depth, size_t *at, size_t *length);
 
-/* Whether a pointer to `count` things of `size` octets is misuse: null with a count, or more than memory can have. */
+/* Whether a pointer to `count` values of `size` octets is misuse: null with a count, or more than memory can have. */
 static bool is_misuse(const void *at, size_t count, size_t size)
 {
     return count > PTRDIFF_MAX / size || (!at && count);
 }
 
-/* The address of a text. For a null pointer it is the address of an octet that is never read. */
-static const unsigned char *text_at(const void *text)
+/* Sets `**needed` to 0, and replaces null pointers. Returns whether an answer can be written to the buffer. */
+static bool begins(void **buffer, size_t length, size_t **needed, size_t *unasked)
 {
-    return text ? text : &no_text;
+    static unsigned char no_buffer;
+    bool is_buffer = !is_misuse(*buffer, length, 1);
+    *buffer = *buffer ? *buffer : &no_buffer;
+    *needed = *needed ? *needed : unasked;
+    **needed = 0;
+    return is_buffer;
 }
 
-/* The buffer of an answer, without null pointers. */
-struct answer {
-    unsigned char none, *buffer;
-    size_t unasked, *needed;
-    bool is_misused;
-};
-
-/* Sets `*needed` to 0, and refuses a buffer that is misuse. */
-static void begin(struct answer *answer, void *buffer, size_t buffer_length, size_t *needed)
+enum spki_status spki_answer(enum spki_command command, const void *text, size_t text_length, ANSWER)
 {
-    answer->buffer = buffer ? buffer : &answer->none;
-    answer->needed = needed ? needed : &answer->unasked;
-    *answer->needed = 0;
-    answer->is_misused = is_misuse(buffer, buffer_length, 1);
+    size_t unasked;
+    bool is_fit = begins(&buffer, buffer_length, &needed, &unasked);
+    return is_fit ? spki_c_answer(command, (struct spki_text){text, text_length}, TO) : SPKI_MISUSED;
 }
 
-enum spki_status spki_answer(enum spki_command command, const void *text, size_t text_length, void *buffer, size_t buffer_length,
-                             size_t *needed)
+enum spki_status spki_check_accepted(const void *text, size_t text_length, const void *rows, size_t rows_length, ANSWER)
 {
-    struct answer answer;
-    begin(&answer, buffer, buffer_length, needed);
-    if (answer.is_misused || is_misuse(text, text_length, 1))
-        return SPKI_MISUSED;
-    return spki_c_answer(command, text_at(text), text_length, answer.buffer, buffer_length, answer.needed);
+    size_t unasked;
+    bool is_fit = begins(&buffer, buffer_length, &needed, &unasked);
+    return is_fit ? spki_c_check_accepted((struct spki_text){text, text_length}, (struct spki_text){rows, rows_length}, TO) : SPKI_MISUSED;
 }
-
-enum spki_status spki_check_accepted(const void *text, size_t text_length, const void *rows, size_t rows_length, void *buffer,
-                                     size_t buffer_length, size_t *needed)
-{
-    struct answer answer;
-    begin(&answer, buffer, buffer_length, needed);
-    if (answer.is_misused || is_misuse(text, text_length, 1) || is_misuse(rows, rows_length, 1))
-        return SPKI_MISUSED;
-    return spki_c_check_accepted(text_at(text), text_length, text_at(rows), rows_length, answer.buffer, buffer_length, answer.needed);
-}
-
-/* ---- guards */
 
 enum spki_status spki_guard_open(const void *list, size_t list_length, enum spki_policy policy, const struct spki_limits *limits,
-                                 spki_guard **guard, void *buffer, size_t buffer_length, size_t *needed)
+                                 spki_guard **guard, ANSWER)
 {
-    static const struct spki_limits no_limits;
+    static const struct spki_limits none;
     struct handle handle = {0};
-    struct answer answer;
-    enum spki_status status;
-    begin(&answer, buffer, buffer_length, needed);
-    if (!guard)
-        return SPKI_MISUSED;
-    *guard = 0;
-    if (answer.is_misused || is_misuse(list, list_length, 1) || (limits && limits->size != sizeof *limits))
-        return SPKI_MISUSED;
-    status = spki_c_guard_open(text_at(list), list_length, policy, limits ? limits : &no_limits, limits ? 1 : 0, &handle, answer.buffer,
-                               buffer_length, answer.needed);
-    *guard = handle.at;
+    size_t unasked;
+    bool is_fit = begins(&buffer, buffer_length, &needed, &unasked) && guard && (!limits || limits->size == sizeof *limits);
+    enum spki_status status = SPKI_MISUSED;
+    if (is_fit)
+        status = spki_c_guard_open((struct spki_text){list, list_length}, policy, limits ? limits : &none, limits ? 1 : 0, &handle, TO);
+    if (guard)
+        *guard = handle.at;
     return status;
 }
 
 void spki_guard_close(spki_guard *guard)
 {
-    struct handle handle = {guard};
     if (guard)
-        spki_c_guard_close(handle);
+        spki_c_guard_close((struct handle){guard});
 }
 
 size_t spki_guard_entries(const spki_guard *guard)
 {
-    struct lent lent = {guard};
-    return guard ? spki_c_guard_entries(&lent) : 0;
+    return guard ? spki_c_guard_entries(&(struct handle){(void *)guard}) : 0;
 }
 
-/* ---- questions */
-
-/* Returns a text without a null pointer, and adds to `*is_misused` whether it is misuse. */
-static struct spki_text part(struct spki_text text, bool *is_misused)
+enum spki_status spki_guard_ask(const spki_guard *guard, const struct spki_question *question, spki_asked **asked, ANSWER)
 {
-    *is_misused |= is_misuse(text.octets, text.length, 1);
-    text.octets = text_at(text.octets);
-    return text;
-}
-
-/* Sets the strings of a request, without null pointers, in memory of their own. Returns whether there is memory for them. */
-static bool set_words(struct parts *parts, const struct spki_question *question, struct spki_text **words, bool *is_misused)
-{
-    static const struct spki_text no_word = {&no_text, 0};
-    size_t index, count = question->word_count;
-    *is_misused |= is_misuse(question->words, count, sizeof *question->words);
-    parts->words = &no_word;
-    parts->is_worded = question->words;
-    if (*is_misused || !count)
-        return true;
-    *words = malloc(count * sizeof **words);
-    if (!*words)
-        return false;
-    for (index = 0; index < count; index++)
-        (*words)[index] = part(question->words[index], is_misused);
-    parts->words = *words;
-    parts->word_count = count;
-    return true;
-}
-
-enum spki_status spki_guard_ask(const spki_guard *guard, const struct spki_question *question, spki_asked **asked, void *buffer,
-                                size_t buffer_length, size_t *needed)
-{
+    static struct spki_text no_words;
     static const int64_t no_seconds;
-    static const char no_memory[] = "refused Memory\n";
-    struct lent lent = {guard};
     struct handle handle = {0};
-    struct parts parts = {0};
-    struct spki_text *words = 0;
-    struct answer answer;
+    size_t unasked;
+    bool is_fit = begins(&buffer, buffer_length, &needed, &unasked) && guard && asked && question && question->size == sizeof *question
+        && !is_misuse(question->words, question->word_count, sizeof *question->words);
     enum spki_status status = SPKI_MISUSED;
-    bool is_misused = !guard || !question || question->size != sizeof *question;
-    begin(&answer, buffer, buffer_length, needed);
-    if (!asked)
-        return SPKI_MISUSED;
-    *asked = 0;
-    if (is_misused || answer.is_misused)
-        return SPKI_MISUSED;
-    parts.sequence = part(question->sequence, &is_misused);
-    parts.key = part(question->key, &is_misused);
-    parts.request = part(question->request, &is_misused);
-    parts.moment = part(question->moment, &is_misused);
-    parts.seconds = question->seconds ? question->seconds : &no_seconds;
-    parts.seconds_count = question->seconds ? 1 : 0;
-    if (!set_words(&parts, question, &words, &is_misused)) {
-        *answer.needed = sizeof no_memory - 1;
-        if (buffer_length < *answer.needed)
-            return SPKI_TOO_SMALL;
-        memcpy(answer.buffer, no_memory, *answer.needed);
-        return SPKI_REFUSED;
+    if (is_fit) {
+        struct parts parts = {question->sequence, question->key, question->request, question->moment, question->words};
+        status = spki_c_guard_ask(&(struct handle){(void *)guard}, &parts, question->words ? (struct spki_text *)question->words : &no_words,
+                                  question->word_count, question->seconds ? question->seconds : &no_seconds, question->seconds ? 1 : 0, &handle, TO);
     }
-    if (!is_misused)
-        status = spki_c_guard_ask(&lent, &parts, &handle, answer.buffer, buffer_length, answer.needed);
-    free(words);
-    *asked = handle.at;
+    if (asked)
+        *asked = handle.at;
     return status;
 }
 
 void spki_asked_close(spki_asked *asked)
 {
-    struct handle handle = {asked};
     if (asked)
-        spki_c_asked_close(handle);
+        spki_c_asked_close((struct handle){asked});
 }
 
 size_t spki_asked_count(const spki_asked *asked)
 {
-    struct lent lent = {asked};
-    return asked ? spki_c_asked_count(&lent) : 0;
+    return asked ? spki_c_asked_count(&(struct handle){(void *)asked}) : 0;
 }
 
 enum spki_status spki_asked_signature(const spki_asked *asked, size_t place, struct spki_signed *signature)
 {
-    static const struct spki_signed none;
-    static const struct spki_text text = {&no_text, 0};
-    struct lent lent = {asked};
-    struct texts texts = {{text, text, text, text}, false};
+    static const struct spki_text empty = {"", 0};
+    struct texts texts = {{empty, empty, empty, empty}, false};
     enum spki_status status = SPKI_MISUSED;
-    if (!signature)
-        return SPKI_MISUSED;
-    *signature = none;
-    if (asked)
-        status = spki_c_asked_signature(&lent, place, &texts);
-    if (status == SPKI_DONE)
-        *signature = texts.signature;
+    if (asked && signature)
+        status = spki_c_asked_signature(&(struct handle){(void *)asked}, place, &texts);
+    if (signature)
+        *signature = status == SPKI_DONE ? texts.signature : (struct spki_signed){0};
     if (status == SPKI_DONE && !texts.is_string)
-        signature->octets = none.octets;
+        signature->octets = (struct spki_text){0};
     return status;
 }
 
-static enum spki_status answer_asked(uint32_t wish, const spki_asked *asked, const unsigned char *verified, size_t count, void *buffer,
-                                     size_t buffer_length, size_t *needed)
+static enum spki_status answered(uint32_t wish, const spki_asked *asked, const unsigned char *verified, size_t count, ANSWER)
 {
-    struct lent lent = {asked};
-    struct answer answer;
-    begin(&answer, buffer, buffer_length, needed);
-    if (!asked || answer.is_misused || is_misuse(verified, count, 1))
-        return SPKI_MISUSED;
-    return spki_c_asked_answer(wish, &lent, text_at(verified), count, answer.buffer, buffer_length, answer.needed);
+    size_t unasked;
+    bool is_fit = begins(&buffer, buffer_length, &needed, &unasked) && asked;
+    return is_fit ? spki_c_asked_answer(wish, &(struct handle){(void *)asked}, (struct spki_text){verified, count}, TO) : SPKI_MISUSED;
 }
 
-enum spki_status spki_asked_decide(const spki_asked *asked, const unsigned char *verified, size_t count, void *buffer,
-                                   size_t buffer_length, size_t *needed)
+enum spki_status spki_asked_decide(const spki_asked *asked, const unsigned char *verified, size_t count, ANSWER)
 {
-    return answer_asked(SPKI_CHECK, asked, verified, count, buffer, buffer_length, needed);
+    return answered(SPKI_CHECK, asked, verified, count, TO);
 }
 
-enum spki_status spki_asked_explain(const spki_asked *asked, const unsigned char *verified, size_t count, void *buffer,
-                                    size_t buffer_length, size_t *needed)
+enum spki_status spki_asked_explain(const spki_asked *asked, const unsigned char *verified, size_t count, ANSWER)
 {
-    return answer_asked(SPKI_EXPLAIN, asked, verified, count, buffer, buffer_length, needed);
+    return answered(SPKI_EXPLAIN, asked, verified, count, TO);
 }
 
-enum spki_status spki_asked_reduce(const spki_asked *asked, const unsigned char *verified, size_t count, void *buffer,
-                                   size_t buffer_length, size_t *needed)
+enum spki_status spki_asked_reduce(const spki_asked *asked, const unsigned char *verified, size_t count, ANSWER)
 {
-    return answer_asked(SPKI_REDUCE, asked, verified, count, buffer, buffer_length, needed);
+    return answered(SPKI_REDUCE, asked, verified, count, TO);
 }
 
-/* ---- strings */
-
-enum spki_status spki_string(const void *text, size_t text_length, const size_t *path, size_t depth, const void **octets,
-                             size_t *length)
+enum spki_status spki_string(const void *text, size_t text_length, const size_t *path, size_t depth, const void **octets, size_t *length)
 {
     static const size_t no_path;
-    enum spki_status status;
     size_t at = 0, unasked;
+    enum spki_status status = SPKI_MISUSED;
     length = length ? length : &unasked;
     *length = 0;
+    if (octets && !is_misuse(path, depth, sizeof *path))
+        status = spki_c_string((struct spki_text){text, text_length}, path ? path : &no_path, depth, &at, length);
     if (octets)
-        *octets = 0;
-    if (!octets || is_misuse(text, text_length, 1) || is_misuse(path, depth, sizeof *path))
-        return SPKI_MISUSED;
-    status = spki_c_string(text_at(text), text_length, path ? path : &no_path, depth, &at, length);
-    if (status == SPKI_DONE)
-        *octets = text_at(text) + at;
+        *octets = status == SPKI_DONE ? (const unsigned char *)text + at : 0;
     return status;
 }
 

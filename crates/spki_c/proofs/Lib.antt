@@ -1,8 +1,8 @@
 pub mod Answering
 pub mod Lending
-pub mod LendingQuestion
+pub mod Counted
+pub mod Unheld
 pub mod BoxPointerValues
 pub mod Members
 pub mod OneCommand
 pub mod StringPlaces
-pub mod Ambiguity

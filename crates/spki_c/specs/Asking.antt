@@ -11,7 +11,8 @@ use Rattle.spki_service.specs.declared.question.Instant.TheVariants as moments
 use Rattle.spki_guard.specs.declared.answers.Verdict.{Verdict}
 use Rattle.spki_guard.specs.Held.{IsUnreadQuestion}
 use Rattle.spki_c.specs.Handed.{IsHanded}
-use Rattle.spki_c.specs.declared.questions.Parts.{Parts}
+use Rattle.spki_c.specs.declared.parts.Parts.{Parts}
+use Rattle.spki_c.specs.declared.text.Text.{Text}
 
 -- the marks of octets: 1 is true, and every other number is false
 abbrev pub marks_from : List ℕ → List Bool
@@ -24,28 +25,31 @@ abbrev pub HasBothMoments : List ℕ → List ℤ → Type 0
 HasBothMoments text seconds = (seconds ≢ []) × (text ≢ [])
 
 -- a request is given both by its strings and as a text, or a moment both in seconds and as a text
-abbrev pub IsAmbiguous : Parts → Type 0
-IsAmbiguous parts =
-    ((parts.is_worded ≡ true) × (parts.request.now ≢ [])) ⊎ HasBothMoments parts.moment.now parts.seconds.now
+abbrev pub IsAmbiguous : Parts → List ℤ → Type 0
+IsAmbiguous parts seconds =
+    ((parts.is_worded ≡ true) × (parts.request.octets ≢ [])) ⊎ HasBothMoments parts.moment.octets seconds
 
 -- the request: its strings if it is given by them, and otherwise its text
-abbrev pub IsRequestOf : Parts → Wanted → Type 0
-IsRequestOf parts (wanted.Text text) = (parts.is_worded ≡ false) × (text.now ≡ parts.request.now)
-IsRequestOf parts (wanted.Words words) = (parts.is_worded ≡ true) × (words.now ≡ parts.words.now) × (parts.request.now ≡ [])
+abbrev pub IsRequestBy : Bool → List ℕ → List (List ℕ) → Wanted → Type 0
+IsRequestBy is_worded text words (wanted.Text octets) = (is_worded ≡ false) × (octets.now ≡ text)
+IsRequestBy is_worded text words (wanted.Words strings) = (is_worded ≡ true) × (map (λ w. w.now) strings.now ≡ words)
 
 -- the moment: the first of the seconds, or the text if there are none
-abbrev pub IsMomentOf : List ℕ → List ℤ → Instant → Type 0
-IsMomentOf text [] (moments.Text octets) = octets.now ≡ text
-IsMomentOf text [] (moments.Seconds n) = ⊥
-IsMomentOf text (first ∷ others) (moments.Text octets) = ⊥
-IsMomentOf text (first ∷ others) (moments.Seconds n) = (n ≡ first) × (text ≡ [])
+abbrev pub IsMomentBy : List ℕ → List ℤ → Instant → Type 0
+IsMomentBy text [] (moments.Text octets) = octets.now ≡ text
+IsMomentBy text [] (moments.Seconds n) = ⊥
+IsMomentBy text (first ∷ others) (moments.Text octets) = ⊥
+IsMomentBy text (first ∷ others) (moments.Seconds n) = n ≡ first
 
 -- The question has these parts.
-pub record IsQuestionOf (parts : Parts) (q : Question) : Type 0 where
-  pub sequence_is : q.sequence.now ≡ parts.sequence.now
-  pub key_is : q.key.now ≡ parts.key.now
-  pub request_is : IsRequestOf parts q.request
-  pub moment_is : IsMomentOf parts.moment.now parts.seconds.now q.moment
+pub record IsQuestionBy (parts : Parts) (words : List (List ℕ)) (seconds : List ℤ) (q : Question) : Type 0 where
+  pub sequence_is : q.sequence.now ≡ parts.sequence.octets
+  pub key_is : q.key.now ≡ parts.key.octets
+  pub request_is : IsRequestBy parts.is_worded parts.request.octets words q.request
+  pub moment_is : IsMomentBy parts.moment.octets seconds q.moment
+
+abbrev pub IsQuestionOf : Parts → List Text → List ℤ → Question → Type 0
+IsQuestionOf parts words seconds q = IsQuestionBy parts (map (λ t. t.octets) words) seconds q
 
 -- ---- opened
 

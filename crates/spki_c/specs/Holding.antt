@@ -1,10 +1,9 @@
--- What a handle owns, and what a call may read of a value that it borrows. `R` is the type of the value.
+-- What a handle owns. `R` is the type of the value.
 use Rattle.std.specs.Prelude.{Option, Some, None}
 use base.Stored.{Coded}
-use base.Fml.{Fml, Lft, Share, ftrue, fsep, fex, flft}
+use base.Fml.{Fml, ftrue}
 use denote.RattleType.{RattleType}
 use denote.RawPtr.{Ptr}
-use denote.Struct.Lending.{lent_at}
 use Rattle.std.specs.contracts.impls.GlobalAllocator.TheImpl.{ghosts}
 use Rattle.std.specs.declared.alloc.Global.{Global}
 use Rattle.std_alloc.specs.Box.Ownership.{box_owns}
@@ -18,14 +17,6 @@ heap = record { memory = record { seal = tt } }
 abbrev pub held_owns : (R : RattleType) → Ptr → Option R.Denot → Fml
 held_owns R p None = ftrue
 held_owns R p (Some x) = box_owns (ghosts.dealloc_token heap) R p x
-
--- The value is borrowed for a lifetime, and a share of the token of that lifetime is owned. So the lifetime lasts as
--- long as the call.
-abbrev pub lent_for : (R : RattleType) → Ptr → R.Denot → Lft × Share → Fml
-lent_for R p x s = fsep (flft s.0 s.1) (lent_at R p x s.0)
-
-abbrev pub held_lent : (R : RattleType) → Ptr → R.Denot → Fml
-held_lent R p x = fex (Lft × Share) (lent_for R p x)
 
 -- ---- guards
 

@@ -5,11 +5,13 @@ ghost use Rattle.spki_words.specs.declared.commands.Command.{Command};
 ghost use Rattle.spki_guard.specs.declared.answers.Verdict.{Verdict};
 ghost use Rattle.spki_c.specs.Numbers.{number_of, status_of, decided};
 ghost use Rattle.spki_c.specs.Handed.{IsHanded, IsMisuse, AnswersText, AnswersApart};
+ghost use Rattle.spki_c.specs.Lent.{IsLent};
 ghost use Rattle.spki_c.specs.Strings.{IsFound, IsNotThere};
 
 use crate::buffer::{hand_over, misused};
-use crate::numbers::{DONE, NO_MEMORY, NONE, REFUSED, command_of, status_number};
+use crate::numbers::{DONE, MISUSED, NO_MEMORY, NONE, REFUSED, command_of, status_number};
 use crate::strings::place_in;
+use crate::text::Text;
 use sexpr_core::{Doc, FormFault};
 use spki_guard::{Command, answer_text, check_accepted};
 use std::alloc::Global;
@@ -17,25 +19,29 @@ use std::alloc::Global;
 /// Runs the command of this number on a text in any of the three forms, and writes the answer to the front of the buffer.
 ///
 /// The command `check` returns 9 for yes and 1 for no. Every other command returns 6, also if no entry grants the request. All
-/// return 2 for a refusal, 4 if the buffer is too small, and 5 if no command has this number. `needed` is the length of the
-/// answer, and 0 with status 5. With 4 and 5 the buffer is unchanged.
+/// return 2 for a refusal, 4 if the buffer is too small, and 5 if no command has this number or the text is not lent whole. `needed` is
+/// the length of the answer, and 0 with status 5. With 4 and 5 the buffer is unchanged.
 #[unsafe(no_mangle)]
 pub extern "C" fn spki_c_answer(
     alloc: Global,
     command: u32,
-    text: &[u8],
+    mut text: Text,
     buffer: &mut [u8],
     needed: &mut usize,
 ) -> u32
-    ensures answered { (c : Command) → command ≡ number_of c → (verdict : Verdict) × (output : List ℕ)
-        × AnswersText c text.now verdict output
+    ensures answered { (c : Command) → command ≡ number_of c → IsLent text → (verdict : Verdict) × (output : List ℕ)
+        × AnswersText c text.octets verdict output
         × IsHanded buffer.old buffer.new needed.new result (status_of c verdict) output }
     ensures misused { ((c : Command) → command ≢ number_of c) → IsMisuse buffer.old buffer.new needed.new result }
+    ensures unlent { ¬ IsLent text → IsMisuse buffer.old buffer.new needed.new result }
 {
+    if !text.is_lent() {
+        return misused(needed);
+    }
     match command_of(command) {
         None => misused(needed),
         Some(command) => {
-            let answer = answer_text(alloc, command, text);
+            let answer = answer_text(alloc, command, text.octets());
             hand_over(
                 &answer,
                 status_number(command, answer.verdict),
@@ -51,16 +57,23 @@ pub extern "C" fn spki_c_answer(
 #[unsafe(no_mangle)]
 pub extern "C" fn spki_c_check_accepted(
     alloc: Global,
-    text: &[u8],
-    rows: &[u8],
+    mut text: Text,
+    mut rows: Text,
     buffer: &mut [u8],
     needed: &mut usize,
 ) -> u32
-    ensures { (verdict : Verdict) × (output : List ℕ)
-        × AnswersApart text.now rows.now verdict output
+    ensures answered { IsLent text → IsLent rows → (verdict : Verdict) × (output : List ℕ)
+        × AnswersApart text.octets rows.octets verdict output
         × IsHanded buffer.old buffer.new needed.new result (decided verdict) output }
+    ensures unlent { ¬ (IsLent text × IsLent rows) → IsMisuse buffer.old buffer.new needed.new result }
 {
-    let answer = check_accepted(alloc, text, rows);
+    if !text.is_lent() {
+        return misused(needed);
+    }
+    if !rows.is_lent() {
+        return misused(needed);
+    }
+    let answer = check_accepted(alloc, text.octets(), rows.octets());
     hand_over(
         &answer,
         status_number(Command::Check, answer.verdict),
@@ -74,21 +87,27 @@ pub extern "C" fn spki_c_check_accepted(
 ///
 /// Returns 6 if there is a string, and sets `at` to the offset of its octets in the text and `count` to their number. Otherwise
 /// both are unchanged: returns 7 if the path leads to no string, 2 if the text is no value in canonical form within the limits,
-/// and 8 if memory ran out. A text of more than 1,048,576 octets has the status 2, also if memory ran out.
+/// 8 if memory ran out, and 5 if the text is not lent whole. A text of more than 1,048,576 octets has the status 2, also if memory ran
+/// out.
 #[unsafe(no_mangle)]
 pub extern "C" fn spki_c_string(
     alloc: Global,
-    text: &[u8],
+    mut text: Text,
     path: &[usize],
     at: &mut usize,
     count: &mut usize,
 ) -> u32
-    ensures found { result ≢ 2 → result ≢ 8 → IsFound text.now path.now at.new count.new result ⊎ IsNotThere text.now path.now result }
-    ensures refused { result ≡ 2 → (v : Value) → IsWithinLimits v → text.now ≢ canon v }
-    ensures too_long { 1048576 < length text.now → result ≡ 2 }
+    ensures found { IsLent text → result ≢ 2 → result ≢ 8
+        → IsFound text.octets path.now at.new count.new result ⊎ IsNotThere text.octets path.now result }
+    ensures refused { IsLent text → result ≡ 2 → (v : Value) → IsWithinLimits v → text.octets ≢ canon v }
+    ensures too_long { IsLent text → 1048576 < length text.octets → result ≡ 2 }
     ensures unchanged { result ≢ 6 → (at.new ≡ at.old) × (count.new ≡ count.old) }
+    ensures unlent { ¬ IsLent text → result ≡ 5 }
 {
-    let document = match Doc::open(alloc, text) {
+    if !text.is_lent() {
+        return MISUSED;
+    }
+    let document = match Doc::open(alloc, text.octets()) {
         Ok(document) => document,
         Err(FormFault::Memory) => return NO_MEMORY,
         Err(_) => return REFUSED,

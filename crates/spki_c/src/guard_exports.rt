@@ -3,6 +3,7 @@ ghost use Rattle.std.specs.Prelude.{◌≡◌, ◌≢◌, ◌⊎◌, None, IsSom
 ghost use Rattle.spki_cert.specs.declared.principal.Policy.{Policy};
 ghost use Rattle.spki_c.specs.Guards.{policy_number, numbers_in, AreAllowed, IsOpened, IsUnopened};
 ghost use Rattle.spki_c.specs.Handed.{IsMisuse};
+ghost use Rattle.spki_c.specs.Lent.{IsLent};
 
 use crate::box_pointer::BoxPointer;
 use crate::buffer::{hand_over, misused};
@@ -10,18 +11,19 @@ use crate::guards::{policy_of, read_guard};
 use crate::handle::{Handle, Lent};
 use crate::limits::{LimitParts, limits_of};
 use crate::numbers::{DONE, REFUSED};
+use crate::text::Text;
 use spki_guard::refused_list;
 use std::alloc::Global;
 
 /// Reads an access list, in any of the three forms, into a guard on the heap. The caller holds the guard by the handle.
 ///
 /// Returns 6 if the handle has the guard. Otherwise the handle is unchanged. Returns 2 for a refusal, whose line is in the buffer,
-/// and 4 if the buffer is too small for the line. Returns 5 if no policy has this number or a limit is too high. The limits are the first
-/// of `limits`, or the usual ones if there are none.
+/// and 4 if the buffer is too small for the line. Returns 5 if no policy has this number, a limit is too high or the list is not lent
+/// whole. The limits are the first of `limits`, or the usual ones if there are none.
 #[unsafe(no_mangle)]
 pub extern "C" fn spki_c_guard_open(
     alloc: Global,
-    list: &[u8],
+    mut list: Text,
     policy: u32,
     limits: &[LimitParts],
     handle: &mut Handle,
@@ -29,21 +31,25 @@ pub extern "C" fn spki_c_guard_open(
     needed: &mut usize,
 ) -> u32
     requires empty { handle.old.held ≡ None }
-    ensures opened { (p : Policy) → policy ≡ policy_number p → AreAllowed (numbers_in limits.now)
-        → IsOpened list.now p (numbers_in limits.now) handle.new.held buffer.old buffer.new needed.new result
-        ⊎ IsUnopened list.now handle.old handle.new buffer.old buffer.new needed.new result }
+    ensures opened { (p : Policy) → policy ≡ policy_number p → AreAllowed (numbers_in limits.now) → IsLent list
+        → IsOpened list.octets p (numbers_in limits.now) handle.new.held buffer.old buffer.new needed.new result
+        ⊎ IsUnopened list.octets handle.old handle.new buffer.old buffer.new needed.new result }
     ensures policy { ((p : Policy) → policy ≢ policy_number p)
         → (handle.new ≡ handle.old) × IsMisuse buffer.old buffer.new needed.new result }
     ensures limits { ¬ AreAllowed (numbers_in limits.now)
         → (handle.new ≡ handle.old) × IsMisuse buffer.old buffer.new needed.new result }
+    ensures unlent { ¬ IsLent list → (handle.new ≡ handle.old) × IsMisuse buffer.old buffer.new needed.new result }
 {
+    if !list.is_lent() {
+        return misused(needed);
+    }
     let Some(policy) = policy_of(policy) else {
         return misused(needed);
     };
     let Some(limits) = limits_of(limits) else {
         return misused(needed);
     };
-    match read_guard(alloc, list, policy, limits) {
+    match read_guard(alloc, list.octets(), policy, limits) {
         Ok(guard) => {
             handle.hold(BoxPointer::of(guard));
             *needed = 0;

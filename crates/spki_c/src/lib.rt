@@ -9,14 +9,17 @@ mod exports;
 mod guard_exports;
 mod guards;
 mod handle;
+mod lent_texts;
 mod limits;
 mod numbers;
 mod opening;
+mod parts;
 mod question_exports;
 mod question_handle;
 mod questions;
 mod signatures;
 mod strings;
+mod text;
 
 pub use exports::{spki_c_answer, spki_c_check_accepted, spki_c_string};
 pub use guard_exports::{spki_c_guard_close, spki_c_guard_entries, spki_c_guard_open};

@@ -7,42 +7,61 @@ ghost use Rattle.spki_guard.specs.declared.question_answers.Wish.{Wish};
 ghost use Rattle.spki_c.specs.Asking.{IsAmbiguous, IsQuestionOf, IsHeldQuestion, IsUnheld, marks_from};
 ghost use Rattle.spki_c.specs.Guards.{wish_number, IsAsked};
 ghost use Rattle.spki_c.specs.Handed.{IsMisuse};
+ghost use Rattle.spki_c.specs.Lent.{IsLent, AreLent};
 ghost use Rattle.spki_c.specs.Signatures.{IsSignature};
 
 use crate::box_pointer::BoxPointer;
 use crate::buffer::{hand_over, misused};
 use crate::handle::Lent;
+use crate::lent_texts::words_of;
 use crate::numbers::{DONE, NO_MEMORY, NONE, REFUSED, wish_of, wish_status};
 use crate::opening::open_boxed;
+use crate::parts::Parts;
 use crate::question_handle::{LentQuestion, QuestionHandle};
-use crate::questions::{Parts, marks_of, question_of};
+use crate::questions::marks_of;
 use crate::signatures::{SignatureTexts, texts_of};
+use crate::text::Text;
 use spki_guard::{AclFault, answer_opened, refused_list};
 use std::alloc::Global;
 
 /// Reads a question for a guard, and keeps what it needs of it on the heap. The caller holds the question by the handle.
 ///
 /// Returns 6 if the handle has the question. Otherwise the handle is unchanged. Returns 2 for a refusal, whose line is in the buffer,
-/// and 4 if the buffer is too small for the line. Returns 5 if a request or a moment is given both ways.
+/// and 4 if the buffer is too small for the line. Returns 5 if a request or a moment is given both ways, or a text is not lent whole. The
+/// strings of the request are `words`, and the moment is the first of `seconds`, if there are any.
 #[unsafe(no_mangle)]
 pub extern "C" fn spki_c_guard_ask(
     alloc: Global,
     lent: &mut Lent,
-    parts: &Parts<'_>,
+    parts: &mut Parts,
+    words: &mut [Text],
+    seconds: &[i64],
     handle: &mut QuestionHandle,
     buffer: &mut [u8],
     needed: &mut usize,
 ) -> u32
     requires empty { handle.old.held ≡ None }
-    ensures asked { ¬ IsAmbiguous parts.now → (q : Question) × IsQuestionOf parts.now q
+    ensures asked { AreLent parts.old words.old → ¬ IsAmbiguous parts.old seconds.now
+        → (q : Question) × IsQuestionOf parts.old words.old seconds.now q
         × (IsHeldQuestion lent.old.guard q handle.new.held buffer.old buffer.new needed.new result
         ⊎ IsUnheld lent.old.guard q handle.old handle.new buffer.old buffer.new needed.new result) }
-    ensures ambiguous { IsAmbiguous parts.now
+    ensures ambiguous { IsAmbiguous parts.old seconds.now
+        → (handle.new ≡ handle.old) × IsMisuse buffer.old buffer.new needed.new result }
+    ensures unlent { ¬ AreLent parts.old words.old
         → (handle.new ≡ handle.old) × IsMisuse buffer.old buffer.new needed.new result }
 {
-    let Some(question) = question_of(parts) else {
+    if !parts.are_lent(words) || parts.is_ambiguous(seconds) {
         return misused(needed);
+    }
+    let Ok(words) = words_of(alloc, words) else {
+        return hand_over(
+            &refused_list(alloc, AclFault::Memory),
+            REFUSED,
+            buffer,
+            needed,
+        );
     };
+    let question = parts.question(words.as_slice(), seconds);
     match open_boxed(alloc, lent.guard(), &question) {
         Ok(opened) => {
             handle.hold(BoxPointer::of(opened));
@@ -99,24 +118,29 @@ pub extern "C" fn spki_c_asked_signature<'a>(
 /// the buffer.
 ///
 /// A decision returns 9 for yes and 1 for no. An explanation or a reduction returns 6. All return 2 for a refusal, and 4 if the
-/// buffer is too small. All return 5 if there are more or fewer marks than signatures, or if no wish has this number.
+/// buffer is too small. All return 5 if there are more or fewer marks than signatures, if no wish has this number, or if the marks are not lent whole.
 #[unsafe(no_mangle)]
 pub extern "C" fn spki_c_asked_answer(
     alloc: Global,
     wish: u32,
     lent: &mut LentQuestion,
-    verified: &[u8],
+    mut verified: Text,
     buffer: &mut [u8],
     needed: &mut usize,
 ) -> u32
     ensures answered { (w : Wish) (q : Question) → wish ≡ wish_number w → IsOpened lent.old.question.guard q lent.old.question
-        → IsAsked w lent.old.question.guard q (marks_from verified.now) buffer.old buffer.new needed.new result }
+        → IsLent verified
+        → IsAsked w lent.old.question.guard q (marks_from verified.octets) buffer.old buffer.new needed.new result }
     ensures misused { ((w : Wish) → wish ≢ wish_number w) → IsMisuse buffer.old buffer.new needed.new result }
+    ensures unlent { ¬ IsLent verified → IsMisuse buffer.old buffer.new needed.new result }
 {
+    if !verified.is_lent() {
+        return misused(needed);
+    }
     let Some(wish) = wish_of(wish) else {
         return misused(needed);
     };
-    let Ok(marks) = marks_of(alloc, verified) else {
+    let Ok(marks) = marks_of(alloc, verified.octets()) else {
         return hand_over(
             &refused_list(alloc, AclFault::Memory),
             REFUSED,

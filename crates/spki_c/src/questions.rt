@@ -1,68 +1,70 @@
 //! Questions from the parts that C passes, and marks from octets.
-ghost use Rattle.std.specs.Prelude.{IfOk, MatchOption, ◌≡◌};
-ghost use Rattle.spki_c.specs.Asking.{HasBothMoments, IsAmbiguous, IsQuestionOf, IsRequestOf, IsMomentOf, marks_from};
+ghost use Rattle.std.specs.Prelude.{◌≡◌, ◌↔◌, IsTrue, IfOk, map};
+ghost use Rattle.spki_c.specs.Asking.{IsAmbiguous, IsQuestionBy, IsRequestBy, IsMomentBy, marks_from};
+ghost use Rattle.spki_c.specs.Lent.{IsLent, AreLent};
 
+use crate::lent_texts::are_lent;
+use crate::parts::Parts;
+use crate::text::Text;
 use spki_guard::{Instant, Question, Wanted};
 use std::alloc::{AllocError, Global};
 
-/// The parts of a question as C passes them: `struct spki_question` without null pointers.
-#[repr(C)]
-pub struct Parts<'a> {
-    /// The sequence.
-    pub sequence: &'a [u8],
-    /// The client's key.
-    pub key: &'a [u8],
-    /// The request, unless it is given by its strings.
-    pub request: &'a [u8],
-    /// The strings of the request.
-    pub words: &'a [&'a [u8]],
-    /// The moment, unless it is given in seconds.
-    pub moment: &'a [u8],
-    /// The moment in seconds: the first of them. None if the moment is a text.
-    pub seconds: &'a [i64],
-    /// Whether the request is given by its strings.
-    pub is_worded: bool,
-}
-
-/// The question with these parts. None if a request or a moment is given both ways.
-pub(crate) fn question_of<'a>(parts: &Parts<'a>) -> Option<Question<'a>>
-    ensures { MatchOption result (IsAmbiguous parts.now) (IsQuestionOf parts.now) }
-{
-    Some(Question {
-        sequence: parts.sequence,
-        key: parts.key,
-        request: wanted_of(parts)?,
-        moment: instant_of(parts.moment, parts.seconds)?,
-    })
-}
-
-/// The request: its strings, or its text. None if it has both.
-fn wanted_of<'a>(parts: &Parts<'a>) -> Option<Wanted<'a>>
-    ensures { MatchOption result (IsAmbiguous parts.now) (IsRequestOf parts.now) }
-{
-    if !parts.is_worded {
-        return Some(Wanted::Text(parts.request));
+impl Parts {
+    /// Whether all texts of a question are lent whole.
+    pub(crate) fn are_lent(&mut self, words: &mut [Text]) -> bool
+        ensures same { (self.new ≡ self.old) × (words.new ≡ words.old) }
+        ensures lent { IsTrue result ↔ AreLent self.old words.old }
+    {
+        self.sequence.is_lent()
+            && self.key.is_lent()
+            && self.request.is_lent()
+            && self.moment.is_lent()
+            && are_lent(words)
     }
-    if parts.request.is_empty() {
-        Some(Wanted::Words(parts.words))
+
+    /// Whether a request or a moment is given both ways.
+    pub(crate) fn is_ambiguous(&mut self, seconds: &[i64]) -> bool
+        requires { IsLent self.old.request × IsLent self.old.moment }
+        ensures same { self.new ≡ self.old }
+        ensures both { IsTrue result ↔ IsAmbiguous self.old seconds.now }
+    {
+        (self.is_worded && self.request.count() > 0)
+            || (!seconds.is_empty() && self.moment.count() > 0)
+    }
+
+    /// The question with these parts.
+    pub(crate) fn question<'a>(&'a mut self, words: &'a [&'a [u8]], seconds: &[i64]) -> Question<'a>
+        requires { IsLent self.old.sequence × IsLent self.old.key × IsLent self.old.request × IsLent self.old.moment }
+        ensures { IsQuestionBy self.entry.now (map (λ w. w.now) words.entry.now) seconds.now result }
+    {
+        let is_worded = self.is_worded;
+        Question {
+            sequence: self.sequence.octets(),
+            key: self.key.octets(),
+            request: wanted_of(is_worded, self.request.octets(), words),
+            moment: instant_of(self.moment.octets(), seconds),
+        }
+    }
+}
+
+/// The request: its strings, or its text.
+fn wanted_of<'a>(is_worded: bool, text: &'a [u8], words: &'a [&'a [u8]]) -> Wanted<'a>
+    ensures { IsRequestBy is_worded text.entry.now (map (λ w. w.now) words.entry.now) result }
+{
+    if is_worded {
+        Wanted::Words(words)
     } else {
-        None
+        Wanted::Text(text)
     }
 }
 
-/// The moment: the first of the seconds, or its text. None if it has both.
-fn instant_of<'a>(moment: &'a [u8], seconds: &[i64]) -> Option<Instant<'a>>
-    ensures { MatchOption result (HasBothMoments moment.entry.now seconds.now) (IsMomentOf moment.entry.now seconds.now) }
+/// The moment: the first of the seconds, or its text.
+fn instant_of<'a>(text: &'a [u8], seconds: &[i64]) -> Instant<'a>
+    ensures { IsMomentBy text.entry.now seconds.now result }
 {
     match seconds {
-        [] => Some(Instant::Text(moment)),
-        [first, ..] => {
-            if moment.is_empty() {
-                Some(Instant::Seconds(*first))
-            } else {
-                None
-            }
-        }
+        [] => Instant::Text(text),
+        [first, ..] => Instant::Seconds(*first),
     }
 }
 

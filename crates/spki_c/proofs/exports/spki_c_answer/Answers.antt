@@ -11,13 +11,15 @@ of_status {old = old} {new = new} {needed = needed} {status = status} {output = 
     subst (λ (n : ℕ). IsHanded old new needed status n output) e handed
 
 pub returns-in-Some-clause-answered : goal.returns-in-Some-clause-answered
-returns-in-Some-clause-answered c asked e =
+returns-in-Some-clause-answered c asked e lent =
     let answer = c.answer_text-answer.result in
     let same : c.in-Some.command ≡ asked = one_command c.in-Some.command asked (sym c.in-Some.ensures ∙ e) in
-    let answers : AnswersText c.in-Some.command c.args.text.now answer.verdict (written_by answer) =
+    let whole : c.octets.result.now ≡ c.args.text.octets = c.octets.ensures ∙ ap (λ t. t.octets) c.is_lent.ensures.0 in
+    let answers : AnswersText c.in-Some.command c.octets.result.now answer.verdict (written_by answer) =
     record { answer = c.answer_text-answer.ensures.answer; too_long = c.answer_text-answer.ensures.too_long } in (
       answer.verdict,
       written_by answer,
-      subst (λ (asked : Command). AnswersText asked c.args.text.now answer.verdict (written_by answer)) same answers,
+      subst (λ (asked : Command). AnswersText asked c.args.text.octets answer.verdict (written_by answer)) same
+          (subst (λ (text : List ℕ). AnswersText c.in-Some.command text answer.verdict (written_by answer)) whole answers),
       of_status (c.status_number.ensures ∙ ap (λ (k : Command). status_of k answer.verdict) same) c.hand_over.ensures,
     )

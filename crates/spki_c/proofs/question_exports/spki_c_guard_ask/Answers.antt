@@ -1,41 +1,59 @@
-use Rattle.std.proofs.Common.{◌≡◌, inl, inr, ap, subst, ◌∙◌, Some, refl}
+use Rattle.std.proofs.Common.{◌≡◌, ℕ, List, map, inl, inr, ap, subst, ◌∙◌, Some, refl}
 use Rattle.spki_service.specs.Held.{Held}
 use Rattle.spki_service.specs.Opened.{IsOpened}
 use Rattle.spki_guard.specs.Answer.{written_by}
 use Rattle.spki_guard.specs.Held.{IsUnreadQuestion}
-use Rattle.spki_c.proofs.Ambiguity.{unambiguous}
+use Rattle.spki_c.specs.Asking.{IsQuestionBy}
+use Rattle.spki_c.specs.declared.parts.Parts.{Parts}
+use Rattle.spki_c.specs.declared.text.Text.{Text}
+use Rattle.spki_c.proofs.Unheld.{question_by, is_question_by, one_line}
 use Rattle.spki_c.proofs.question_exports.spki_c_guard_ask.Goals as goal
 
-pub returns-in-Ok-clause-asked : goal.returns-in-Ok-clause-asked
-returns-in-Ok-clause-asked c fine = (
-  c.in-Some.question,
-  c.in-Some.ensures,
-  inl (record {
-    question = c.in-Ok.opened.value;
-    held_is = c.hold.ensures ∙ ap Some c.of.ensures;
-    opened = subst (λ (g : Held). IsOpened g c.in-Some.question c.in-Ok.opened.value) c.guard.ensures c.in-Ok.ensures.opened;
-    unchanged = refl;
-    needed_is = refl;
-    status_is = refl;
-  }),
-)
+pub returns-in_default-clause-asked : goal.returns-in_default-clause-asked
+returns-in_default-clause-asked c lent clear =
+    let words = map (λ (t : Text). t.octets) c.args.words.now in (
+      question_by c.args.parts.now words c.args.seconds.now,
+      is_question_by c.args.parts.now words c.args.seconds.now,
+      inr (record {
+        kept = refl;
+        verdict = c.refused_list.result.verdict;
+        output = written_by c.refused_list.result;
+        unread = inr (record { verdict_is = c.refused_list.ensures.verdict; line = one_line c.refused_list.ensures.line });
+        handed = c.hand_over.ensures;
+      }),
+    )
 
-pub returns-in-Err-clause-asked : goal.returns-in-Err-clause-asked
-returns-in-Err-clause-asked c fine = (
-  c.in-Some.question,
-  c.in-Some.ensures,
-  inr (record {
-    kept = refl;
-    verdict = c.in-Err.answer.verdict;
-    output = written_by c.in-Err.answer;
-    unread =
-        subst (λ (g : Held). IsUnreadQuestion g c.in-Some.question c.in-Err.answer.verdict (written_by c.in-Err.answer)) c.guard.ensures c.in-Err.ensures.refused;
-    handed = c.hand_over.ensures;
-  }),
-)
+pub returns-in-Ok-open_boxed-clause-asked : goal.returns-in-Ok-open_boxed-clause-asked
+returns-in-Ok-open_boxed-clause-asked c lent clear =
+    let parts = c.is_ambiguous.ensures.same ∙ c.are_lent.ensures.same.0 in
+    let words = ap (map (λ w. w.now)) c.as_slice.ensures.value ∙ c.in-Ok.ensures ∙ ap (map (λ (t : Text). t.octets)) c.are_lent.ensures.same.1 in
+    let q = c.question.result in let opened = c.in-Ok-open_boxed.opened.value in (
+      q,
+      subst (λ (p : Parts). IsQuestionBy p (map (λ (t : Text). t.octets) c.args.words.now) c.args.seconds.now q) parts
+          (subst (λ (ws : List (List ℕ)). IsQuestionBy c.is_ambiguous.new.self ws c.args.seconds.now q) words c.question.ensures),
+      inl (record {
+        question = opened;
+        held_is = c.hold.ensures ∙ ap Some c.of.ensures;
+        opened = subst (λ (g : Held). IsOpened g q opened) c.guard.ensures c.in-Ok-open_boxed.ensures.opened;
+        unchanged = refl;
+        needed_is = refl;
+        status_is = refl;
+      }),
+    )
 
-pub returns-in-Ok-clause-ambiguous : goal.returns-in-Ok-clause-ambiguous
-returns-in-Ok-clause-ambiguous c both = absurd (unambiguous c.args.parts.now c.in-Some.question c.in-Some.ensures both)
-
-pub returns-in-Err-clause-ambiguous : goal.returns-in-Err-clause-ambiguous
-returns-in-Err-clause-ambiguous c both = absurd (unambiguous c.args.parts.now c.in-Some.question c.in-Some.ensures both)
+pub returns-clause-asked : goal.returns-clause-asked
+returns-clause-asked c lent clear =
+    let parts = c.is_ambiguous.ensures.same ∙ c.are_lent.ensures.same.0 in
+    let words = ap (map (λ w. w.now)) c.as_slice.ensures.value ∙ c.in-Ok.ensures ∙ ap (map (λ (t : Text). t.octets)) c.are_lent.ensures.same.1 in
+    let q = c.question.result in let answer = c.in-Err.answer in (
+      q,
+      subst (λ (p : Parts). IsQuestionBy p (map (λ (t : Text). t.octets) c.args.words.now) c.args.seconds.now q) parts
+          (subst (λ (ws : List (List ℕ)). IsQuestionBy c.is_ambiguous.new.self ws c.args.seconds.now q) words c.question.ensures),
+      inr (record {
+        kept = refl;
+        verdict = answer.verdict;
+        output = written_by answer;
+        unread = subst (λ (g : Held). IsUnreadQuestion g q answer.verdict (written_by answer)) c.guard.ensures c.in-Err.ensures.refused;
+        handed = c.hand_over-in-Err.ensures;
+      }),
+    )

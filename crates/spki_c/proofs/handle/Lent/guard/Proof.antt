@@ -4,6 +4,7 @@ use Rattle.std.proofs.raw_atomic.Walks.{proved}
 use mir.Syntax.{named}
 use mir.Val.{Val, vptr}
 use base.Fraction.{full_share}
+use base.Logic.{id⊢}
 use base.Fml.{ftrue, flft}
 use types.Kit.{‵, raw, ◌⊛◌, later, at_ret, ◌$◌, ◌∵◌, !, qed, done, move, keep, drop, use1, split, join, fsplit, fsplit3, fpick, fjoin, feq_i, await, rewrite, suffices, group}
 use types.Run.{enter, of_opd, addr, load, stop, fld, first, blocks, exec, returns}
@@ -23,7 +24,8 @@ use denote.Struct.Lending.{lent_at, in_block_says}
 use denote.Triple.Walked.{Stays, walk_of, says, stay_dropped, Goes-spent_ref, ends_at}
 use Rattle.std.proofs.VecSteps.Shapes.{after}
 use Rattle.spki_service.specs.contracts.shared.SharedGuard.{the_row as G}
-use Rattle.spki_c.specs.contracts.handle.Lent.{the_row as R}
+use Rattle.spki_c.specs.contracts.handle.Lent.{the_row as R, the_type}
+use Rattle.spki_service.proofs.shared.SharedGuard.TheLaws.{the_row_laws}
 use Rattle.spki_c.specs.contracts.handle.Lent.guard as f
 use Rattle.spki_c.proofs.handle.Lent.TheLaws.{lowers}
 use Rattle.spki_c.proofs.handle.Lent.guard.Statement.{statement}
@@ -46,8 +48,8 @@ guard_spec 𝓤 𝓛 𝓜 𝓡 wired =
     enter ! _ _ _ _ _ $ alloc_all ! (λ l. pass_all ! refl ((tt, tt), tt) $
     fsplit3 ! $ move ! (1 ∷ 2 ∷ 3 ∷ []) $ opens ! tt R b o (λ us.
     move ! (1 ∷ []) $ peeks ! R _ (shows 𝓛 R) h us (λ is. fsplit ! $ move ! (1 ∷ []) $ fpick ! (λ s. fsplit ! $ move ! (1 ∷ []) $
-    use1 𝓛 (‵ (lent_at G h.at h.guard s.0) ⊛ ‵ (lent_at G h.at h.guard s.0)) (twice 𝓛 s.0 h.at h.guard) $ split ! $
-    use1 𝓛 (‵ (lent_at G h.at h.guard s.0) ⊛ ‵ (lent_at G h.at h.guard s.0)) (twice 𝓛 s.0 h.at h.guard) $ split ! $
+    use1 𝓛 (‵ (lent_at G h.at h.guard s.0) ⊛ ‵ (lent_at G h.at h.guard s.0)) (twice 𝓛 G the_row_laws.shr_laws s.0 h.at h.guard) $ split ! $
+    use1 𝓛 (‵ (lent_at G h.at h.guard s.0) ⊛ ‵ (lent_at G h.at h.guard s.0)) (twice 𝓛 G the_row_laws.shr_laws s.0 h.at h.guard) $ split ! $
     fsplit ! $ use1 𝓛 (raw (fact 𝓤 (InBlock h.at))) (in_block_says 𝓛 h.at) $ heard ! (InBlock h.at) (λ inb. drop ! $
     let word = lowers.val_is h us is ∙ ap (λ (p : Ptr). lowers.lowered (record h { at = p }) ∷ []) (at_block h.at inb) in
     let Cell = λ (ws : List Val). ‵ (cell_at full_share R.mir ws b o) in
@@ -56,7 +58,7 @@ guard_spec 𝓤 𝓛 𝓜 𝓡 wired =
     sets ! (of_opd ! (load ! (through ! refl (fld ! refl (stop !))) (look_in ! 4 (sub ! 0 refl (whole !))))) refl (tt, tt) $
     rewrite ! 4 Cell (sym word) refl $
     move ! (4 ∷ 3 ∷ 0 ∷ 7 ∷ []) $ group ! 4 $ move ! (3 ∷ 2 ∷ 0 ∷ 1 ∷ []) $ group ! 4 $
-    use1 𝓛 (later (‵ (lent_at G h.at h.guard κ) ⊛ ‵ (flft κ q))) (lends 𝓛 κ q γ h us b o s) $ await ! tt $ split ! $ move ! (2 ∷ []) $ drop ! $
+    use1 𝓛 (later (‵ (lent_at G h.at h.guard κ) ⊛ ‵ (flft κ q))) (lends 𝓛 G the_row_laws.shr_laws the_type κ q γ h us b o s h.at h.guard (id⊢ 𝓤 _)) $ await ! tt $ split ! $ move ! (2 ∷ []) $ drop ! $
     -- [what is lent for as long; the token]
     first ! $ blocks ! $ sets ! (of_opd ! (get ! refl)) refl (tt, tt) $ sets_last ! (addr ! (through ! refl (stop !))) refl (tt, tt) $
     exec ! 𝓣.C 𝓣.Λ (env code.Mir.locals l) (after 2 (code.function).body) (at_ret _ (W.post y)) $

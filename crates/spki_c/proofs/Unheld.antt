@@ -1,0 +1,58 @@
+-- The parts of a question are those of a question, also where there is no memory for its strings.
+use Rattle.std.proofs.Common.{◌≡◌, ℕ, List, [], ◌∷◌, map, Bool, true, false, Bor, refl, ap, ◌⊎◌, inl, inr}
+use Rattle.std.specs.Prelude.{ℤ}
+use Rattle.spki_service.specs.declared.question.Question.{Question}
+use Rattle.spki_service.specs.declared.question.Wanted.{Wanted}
+use Rattle.spki_service.specs.declared.question.Wanted.TheVariants as wanted
+use Rattle.spki_service.specs.declared.question.Instant.{Instant}
+use Rattle.spki_service.specs.declared.question.Instant.TheVariants as moments
+use Rattle.spki_c.specs.declared.parts.Parts.{Parts}
+use Rattle.spki_c.specs.Asking.{IsQuestionBy, IsRequestBy, IsMomentBy}
+
+lent : {X : Type 0} → X → Bor X
+lent x = record { ref_ptr = (0, 0); now = x }
+
+all_lent : (words : List (List ℕ)) → map (λ (w : Bor (List ℕ)). w.now) (map lent words) ≡ words
+unfolding lent
+all_lent [] = refl
+all_lent (w ∷ words) = ap (λ (ws : List (List ℕ)). w ∷ ws) (all_lent words)
+
+request_by : Bool → List ℕ → List (List ℕ) → Wanted
+request_by true text words = wanted.Words (lent (map lent words))
+request_by false text words = wanted.Text (lent text)
+
+is_request_by : (is_worded : Bool) (text : List ℕ) (words : List (List ℕ)) → IsRequestBy is_worded text words (request_by is_worded text words)
+unfolding lent request_by
+is_request_by true text words = (refl, all_lent words)
+is_request_by false text words = (refl, refl)
+
+moment_by : List ℕ → List ℤ → Instant
+moment_by text [] = moments.Text (lent text)
+moment_by text (first ∷ others) = moments.Seconds first
+
+is_moment_by : (text : List ℕ) (seconds : List ℤ) → IsMomentBy text seconds (moment_by text seconds)
+unfolding lent moment_by
+is_moment_by text [] = refl
+is_moment_by text (first ∷ others) = refl
+
+module _ (parts : Parts) (words : List (List ℕ)) (seconds : List ℤ) where
+  pub question_by : Question
+  question_by = record {
+    sequence = lent parts.sequence.octets;
+    key = lent parts.key.octets;
+    request = request_by parts.is_worded parts.request.octets words;
+    moment = moment_by parts.moment.octets seconds;
+  }
+
+  pub is_question_by : IsQuestionBy parts words seconds question_by
+  unfolding lent question_by
+  is_question_by = record {
+    sequence_is = refl;
+    key_is = refl;
+    request_is = is_request_by parts.is_worded parts.request.octets words;
+    moment_is = is_moment_by parts.moment.octets seconds;
+  }
+
+pub one_line : {output line : List ℕ} → (output ≡ line) ⊎ (output ≡ line) → output ≡ line
+one_line (inl e) = e
+one_line (inr e) = e

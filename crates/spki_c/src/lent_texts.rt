@@ -1,0 +1,55 @@
+//! The octets of texts that C passes.
+ghost use Rattle.std.specs.Prelude.{◌≡◌, ◌↔◌, IsTrue, IfOk, All, map};
+ghost use Rattle.spki_c.specs.Lent.{IsLent};
+
+use crate::text::Text;
+use std::alloc::{AllocError, Global};
+
+/// The most octets that memory can have in one piece.
+const MOST: usize = 9_223_372_036_854_775_807;
+
+impl Text {
+    /// Whether as many octets are lent as the caller says: no null pointer has a count, and no count is more than memory can have.
+    pub(crate) fn is_lent(&mut self) -> bool
+        ensures { (self.new ≡ self.old) × (IsTrue result ↔ IsLent self.old) }
+    {
+        let count = self.count();
+        count == 0 || (count <= MOST && !self.is_null())
+    }
+
+    /// The octets.
+    pub(crate) fn octets(&mut self) -> &[u8]
+        requires { IsLent self.old }
+        ensures { result.now ≡ self.entry.now.octets }
+    {
+        let count = self.count();
+        if count == 0 { &[] } else { self.slice(count) }
+    }
+}
+
+/// Whether all texts are lent whole.
+pub(crate) fn are_lent(texts: &mut [Text]) -> bool
+    ensures { (texts.new ≡ texts.old) × (IsTrue result ↔ All IsLent texts.old) }
+{
+    for text in texts.iter_mut() {
+        if !text.is_lent() {
+            return false;
+        }
+    }
+    true
+}
+
+/// The octets of texts.
+pub(crate) fn words_of<'a>(
+    alloc: Global,
+    texts: &'a mut [Text],
+) -> Result<Vec<&'a [u8]>, AllocError>
+    requires { All IsLent texts.old }
+    ensures { IfOk result (λ words. map (λ w. w.now) words.items ≡ map (λ t. t.octets) texts.entry.now) }
+{
+    let mut words = Vec::new(alloc);
+    for text in texts.iter_mut() {
+        words.push(text.octets())?;
+    }
+    Ok(words)
+}

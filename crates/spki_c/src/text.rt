@@ -1,0 +1,48 @@
+//! Texts that C passes.
+ghost use Rattle.std.specs.Prelude.{◌≡◌, ◌↔◌, ℕ, ◌<◌, List, length, IsTrue};
+ghost use denote.RawPtr.{null_ptr};
+ghost use Rattle.spki_c.specs.Texts.{text_owns, lent_count};
+
+use std::marker::Model;
+
+/// A text as C passes it: `struct spki_text`, or a pointer to octets and their number. The pointer may be null. The octets last at least
+/// as long as the call.
+///
+/// `octets` are those that are lent: none if the pointer is null, or if memory cannot have as many as `count`.
+#[repr(C)]
+#[derive(Drop)]
+pub struct Text {
+    at: *const u8,
+    count: usize,
+    pub ghost octets: { List ℕ },
+}
+
+impl Model for Text {
+    ghost also_owns = { λ t. text_owns t.at t.count t.octets };
+}
+
+impl Text {
+    /// The number of octets that the caller says.
+    pub(crate) fn count(&mut self) -> usize
+        ensures { (self.new ≡ self.old) × (result ≡ self.old.count) × (length self.old.octets ≡ lent_count self.old.at self.old.count) }
+    {
+        self.count
+    }
+
+    /// Whether the pointer is null.
+    pub(crate) fn is_null(&mut self) -> bool
+        ensures { (self.new ≡ self.old) × (IsTrue result ↔ (self.old.at ≡ null_ptr)) }
+    {
+        let at = self.at;
+        at.is_null()
+    }
+
+    /// The octets, if there are any. `count` is their number.
+    pub(crate) fn slice(&mut self, count: usize) -> &[u8]
+        requires { (count ≡ length self.old.octets) × (0 < count) }
+        ensures { result.now ≡ self.entry.now.octets }
+    {
+        let at = self.at;
+        unsafe { std::slice::from_raw_parts(at, count) }
+    }
+}
