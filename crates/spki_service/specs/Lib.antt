@@ -11,6 +11,7 @@ pub mod Marks
 pub mod Moment
 pub mod Questions
 pub mod Texts
+pub mod Copies
 pub mod Counted
 pub mod KeptOf
 pub mod Opened

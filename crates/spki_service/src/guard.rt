@@ -20,7 +20,6 @@ use crate::entry_texts::entry_texts;
 use crate::index::EntryIndex;
 use crate::limits::Limits;
 use crate::list_fault::AclFault;
-use crate::owned_texts::owned_texts_of;
 use crate::parts::case_of;
 use crate::question::{AskFault, Question};
 use crate::texts::{Texts, texts_of};
@@ -119,24 +118,6 @@ impl Guard {
         ensures only { IfErr result (λ fault. (fault ≡ AskFault.TooLong) ⊎ (fault ≡ AskFault.Memory)) }
     {
         texts_of(alloc, question, self.limits.octets)
-    }
-
-    /// Returns the texts of `texts` in memory of their own, so that the question's texts may change afterwards.
-    ///
-    /// # Errors
-    ///
-    /// Those of `texts`.
-    pub fn owned_texts(
-        &self,
-        alloc: Global,
-        question: &Question,
-    ) -> Result<Texts<'static>, AskFault>
-        ensures texts { IfOk result (IsTextsOf question.now) }
-        ensures too_long { IsErrOf result AskFault.TooLong ↔ (self.now.octets < asked_octets question.now) }
-        ensures only { IfErr result (λ fault. (fault ≡ AskFault.TooLong) ⊎ (fault ≡ AskFault.Memory)) }
-    {
-        let most_octets = self.limits.octets;
-        owned_texts_of(alloc, question, most_octets)
     }
 
     /// Reads the parts of a question, each by itself, in the order sequence, key, request, moment, and examines the

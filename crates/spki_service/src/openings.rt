@@ -40,8 +40,9 @@ impl Opened {
         ensures refused { IfErr result (λ fault. fault ≢ AskFault.Memory → fault ≢ AskFault.TooLong
             → IsRefused guard.now.certificates guard.now.words question.now fault) }
     {
-        let texts = guard.guard().owned_texts(alloc, question)?;
+        let texts = guard.guard().texts(alloc, question)?;
         let Kept { signed, decision } = kept_of(alloc, guard.guard(), &texts)?;
+        let texts = texts.into_owned(alloc)?;
         let guard = guard.share()?;
         Ok(Opened {
             guard,

@@ -1,74 +1,62 @@
 //! The canonical texts of a question's parts, in memory of their own.
 
-ghost use Rattle.std.specs.Prelude.{◌≡◌, ◌<◌, ◌⊎◌, ◌↔◌, IfOk, IfErr, IsErrOf};
-ghost use Rattle.sexpr_text.specs.Spelling.{IsTextWithin};
-ghost use Rattle.spki_service.specs.Form.{RefusesForm};
-ghost use Rattle.spki_service.specs.Questions.{asked_octets, IsWanted, RefusesWanted};
-ghost use Rattle.spki_service.specs.Texts.{IsReadAs, IsTextsOf, IsMomentText};
+ghost use Rattle.std.specs.Prelude.{IfOk};
+ghost use Rattle.spki_service.specs.Copies.{IsCopyOf, IsMomentCopy, AreCopies};
 
-use crate::measure::octets_within;
-use crate::question::{AskFault, Instant, Question, Wanted};
-use crate::texts::{MomentText, PartText, Texts, converted_text, made_text, seconds_text};
-use crate::words::words_text;
-use sexpr_core::{Doc, FormFault};
-use std::alloc::Global;
+use crate::texts::{MomentText, PartText, Texts};
+use std::alloc::{AllocError, Global};
 
-/// Returns the canonical texts of a question's parts in memory of their own: the question's texts may change afterwards.
-///
-/// # Errors
-///
-/// Those of `texts_of`.
-pub(crate) fn owned_texts_of(
-    alloc: Global,
-    question: &Question,
-    most_octets: usize,
-) -> Result<Texts<'static>, AskFault>
-    ensures texts { IfOk result (IsTextsOf question.now) }
-    ensures too_long { IsErrOf result AskFault.TooLong ↔ (most_octets < asked_octets question.now) }
-    ensures only { IfErr result (λ fault. (fault ≡ AskFault.TooLong) ⊎ (fault ≡ AskFault.Memory)) }
-{
-    let Some(octets) = octets_within(question, most_octets) else {
-        return Err(AskFault::TooLong);
-    };
-    Ok(Texts {
-        sequence: owned_text(alloc, question.sequence)?,
-        key: owned_text(alloc, question.key)?,
-        request: owned_wanted(alloc, &question.request)?,
-        moment: owned_moment(alloc, &question.moment)?,
-        octets,
-    })
-}
-
-/// Returns the canonical text of a part's text, in new memory.
-fn owned_text(alloc: Global, text: &[u8]) -> Result<PartText<'static>, AskFault>
-    ensures read { IfOk result (IsReadAs (IsTextWithin text.now) (RefusesForm text.now)) }
-    ensures only { IfErr result (λ fault. fault ≡ AskFault.Memory) }
-{
-    match Doc::open(alloc, text) {
-        Ok(_) => Ok(PartText::Made(Vec::from_slice(alloc, text)?)),
-        Err(FormFault::Memory) => Err(AskFault::Memory),
-        Err(_) => converted_text(alloc, text),
+impl Texts<'_> {
+    /// Returns the same texts in memory of their own: the question's texts may change afterwards. A text that was made is not copied.
+    ///
+    /// # Errors
+    ///
+    /// `AllocError` if memory ran out.
+    pub(crate) fn into_owned(self, alloc: Global) -> Result<Texts<'static>, AllocError>
+        ensures { IfOk result (AreCopies self.entry) }
+    {
+        let Texts {
+            sequence,
+            key,
+            request,
+            moment,
+            octets,
+        } = self;
+        Ok(Texts {
+            sequence: sequence.into_owned(alloc)?,
+            key: key.into_owned(alloc)?,
+            request: request.into_owned(alloc)?,
+            moment: moment.into_owned(alloc)?,
+            octets,
+        })
     }
 }
 
-/// Returns the canonical text of a request, in new memory.
-fn owned_wanted(alloc: Global, wanted: &Wanted) -> Result<PartText<'static>, AskFault>
-    ensures read { IfOk result (IsReadAs (IsWanted wanted.now) (RefusesWanted wanted.now)) }
-    ensures only { IfErr result (λ fault. fault ≡ AskFault.Memory) }
-{
-    match wanted {
-        Wanted::Text(text) => owned_text(alloc, text),
-        Wanted::Words(words) => Ok(made_text(words_text(alloc, words)?)),
+impl PartText<'_> {
+    /// Returns the same text in memory of its own.
+    fn into_owned(self, alloc: Global) -> Result<PartText<'static>, AllocError>
+        ensures { IfOk result (IsCopyOf self.entry) }
+    {
+        match self {
+            PartText::Standing(document) => {
+                let octets = Vec::from_slice(alloc, document.top().slice())?;
+                Ok(PartText::Made(octets))
+            }
+            PartText::Made(octets) => Ok(PartText::Made(octets)),
+            PartText::Malformed(fault) => Ok(PartText::Malformed(fault)),
+        }
     }
 }
 
-/// Returns the text of a moment in new memory, or its date.
-fn owned_moment(alloc: Global, moment: &Instant) -> Result<MomentText<'static>, AskFault>
-    ensures read { IfOk result (IsMomentText moment.now) }
-    ensures only { IfErr result (λ fault. fault ≡ AskFault.Memory) }
-{
-    match moment {
-        Instant::Text(text) => Ok(MomentText::Text(owned_text(alloc, text)?)),
-        Instant::Seconds(seconds) => Ok(seconds_text(seconds)),
+impl MomentText<'_> {
+    /// Returns the same text in memory of its own, or the same date.
+    fn into_owned(self, alloc: Global) -> Result<MomentText<'static>, AllocError>
+        ensures { IfOk result (IsMomentCopy self.entry) }
+    {
+        match self {
+            MomentText::Text(text) => Ok(MomentText::Text(text.into_owned(alloc)?)),
+            MomentText::At(date) => Ok(MomentText::At(date)),
+            MomentText::Dateless => Ok(MomentText::Dateless),
+        }
     }
 }

@@ -90,7 +90,7 @@ fn part_text<'q>(alloc: Global, text: &'q [u8]) -> Result<PartText<'q>, AskFault
 }
 
 /// Returns the canonical text of a text in any of the three forms, in new memory.
-pub(crate) fn converted_text(alloc: Global, text: &[u8]) -> Result<PartText<'static>, AskFault>
+fn converted_text(alloc: Global, text: &[u8]) -> Result<PartText<'static>, AskFault>
     ensures read { IfOk result (IsReadAs (IsTextWithin text.now) (RefusesForm text.now)) }
     ensures only { IfErr result (λ fault. fault ≡ AskFault.Memory) }
 {
@@ -102,7 +102,7 @@ pub(crate) fn converted_text(alloc: Global, text: &[u8]) -> Result<PartText<'sta
 }
 
 /// Returns a canonical text that was made, unless it is too long.
-pub(crate) fn made_text(octets: Vec<u8>) -> PartText<'static>
+fn made_text(octets: Vec<u8>) -> PartText<'static>
     ensures { IsMade octets.items result }
 {
     if octets.len() > MOST_OCTETS {
@@ -135,7 +135,7 @@ fn moment_text<'q>(alloc: Global, moment: &Instant<'q>) -> Result<MomentText<'q>
 }
 
 /// Returns the date of seconds.
-pub(crate) fn seconds_text(seconds: &i64) -> MomentText<'static>
+fn seconds_text(seconds: &i64) -> MomentText<'static>
     ensures { IsMomentText (Instant.Seconds seconds.now) result }
 {
     let seconds = *seconds;
