@@ -3,6 +3,7 @@ use Rattle.std.proofs.Common.{◌≡◌, ℕ, zero, suc, slice_get, List, [], �
 use Rattle.std.specs.List.{AllZip, AllByRecursion}
 use Rattle.std.proofs.lemmas.Option.{none-some}
 use Rattle.spki_cert.specs.declared.principal.Policy.{Policy}
+use Rattle.spki_cert.specs.declared.certificate.SeqItem.{SeqItem}
 use Rattle.spki_reduce.specs.Tuples.{Tuple}
 use Rattle.spki_case.specs.Case.{Case, Verified}
 use Rattle.spki_case.specs.Sequence.{Shown, octets_of, keys_of, certificates}
@@ -16,12 +17,13 @@ use Rattle.spki_decision.specs.declared.explanation.Explanation.{Explanation}
 use Rattle.spki_decision.specs.declared.explanation.Explanation.TheVariants as explanation
 use Rattle.spki_decision.specs.declared.reduction.Reduction.{Reduction}
 use Rattle.spki_decision.specs.declared.reduction.Reduction.TheVariants as reduction
-use Rattle.spki_decision.specs.Standing.{Stands, StandsAs, FailsBy, AreShown}
+use Rattle.spki_decision.specs.Standing.{Stands, StandsAs, FailsBy, FailsAt, AreShown}
 use Rattle.spki_decision.specs.Granted.{Granted, IsTooLarge}
 use Rattle.spki_decision.specs.Decision.{IsDecision}
 use Rattle.spki_decision.specs.Reduced.{IsReduction, IsFailure, SomeTooLarge}
 use Rattle.spki_decision.specs.Answered.{IsDecided, IsExplained, IsReduced}
-use Rattle.spki_decision.proofs.AskedOf.{stands_asked}
+use Rattle.spki_decision.proofs.Finding.{some_same}
+use Rattle.spki_decision.proofs.AskedOf.{stands_asked, accepted_too}
 use Rattle.spki_decision.specs.Asked.{Signed, asked_of, asked_in, asked, before_all, IsAccepted, AgreeOn}
 
 swap : (one other : Verified) (signatures : List Signed) → AgreeOn one other signatures → AgreeOn other one signatures
@@ -39,17 +41,8 @@ module _ (policy : Policy) (keys : List (List ℕ)) (one other : Verified) where
   stands : (s : Shown) (holder : List ℕ) (others : List Signed) → AgreeOn one other (before_all (asked_of policy keys s) others)
       → Stands policy keys one s holder → Stands policy keys other s holder × AgreeOn one other others
   stands s holder others agree a =
-      let both = agreed s _ others (stands_asked policy keys one s holder a) agree in (
-        record {
-          issued = a.issued;
-          signature = a.signature;
-          signed = a.signed;
-          digest = a.digest;
-          signer = a.signer;
-          accepted = both.0.0 a.accepted;
-        },
-        both.1,
-      )
+      let both = agreed s _ others (stands_asked policy keys one s holder a) agree in
+      (accepted_too policy keys one other s holder a (both.0.0 a.accepted), both.1)
 
   pub all_shown : (shown : List Shown) (ts : List Tuple) → AgreeOn one other (asked_in policy keys shown)
       → AllZip (StandsAs policy keys one) shown ts → AllZip (StandsAs policy keys other) shown ts
@@ -60,22 +53,17 @@ module _ (policy : Policy) (keys : List (List ℕ)) (one other : Verified) where
       let here = stands s a.0.holder (asked_in policy keys shown) agree a.0.stands in
       (record { holder = a.0.holder; stands = here.0; tuple_is = a.0.tuple_is }, all_shown shown ts here.1 a.1)
 
-  not_accepted : (s : Shown) (others : List Signed) → AgreeOn one other (before_all (asked_of policy keys s) others)
-      → FailsBy policy keys one s NotAccepted → FailsBy policy keys other s NotAccepted
-  not_accepted s others agree f =
-      let e : asked_of policy keys s ≡ Some (record { item = s.item; key = f.0; message = octets_of s.certificate; value = f.1.value }) =
-      rw (f.2, f.3, f.4, f.5) refl in
-      let both = agreed s _ others e agree in
-      (f.0, f.1, f.2, f.3, f.4, f.5, λ accepted. f.6 (both.0.1 accepted))
-
   fails_by : (s : Shown) (others : List Signed) (stop : Stop) → AgreeOn one other (before_all (asked_of policy keys s) others)
       → FailsBy policy keys one s stop → FailsBy policy keys other s stop
   fails_by s others KeyNotShown agree f = f
   fails_by s others DigestDiffers agree f = f
   fails_by s others SignerDiffers agree f = f
-  fails_by s others NotAccepted agree f = not_accepted s others agree f
+  fails_by s others NotAccepted agree f =
+      let e : asked_of policy keys s ≡ Some (record { item = s.item; key = f.0; message = octets_of s.certificate; value = f.1.value }) =
+      rw (f.2, f.3, f.4, f.5) refl in
+      (f.0, f.1, f.2, f.3, f.4, f.5, λ accepted. f.6 ((agreed s _ others e agree).0.1 accepted))
 
-  pub all_before : (before : List Shown) (s : Shown) (after : List Shown) (stop : Stop) → AgreeOn one other (asked_in policy keys (before ++ s ∷ after))
+  all_before : (before : List Shown) (s : Shown) (after : List Shown) (stop : Stop) → AgreeOn one other (asked_in policy keys (before ++ s ∷ after))
       → AllByRecursion (λ shown. (holder : List ℕ) × Stands policy keys one shown holder) before → FailsBy policy keys one s stop
       → AllByRecursion (λ shown. (holder : List ℕ) × Stands policy keys other shown holder) before × FailsBy policy keys other s stop
   all_before [] s after stop agree standing f = (tt, fails_by s (asked_in policy keys after) stop agree f)
@@ -84,14 +72,19 @@ module _ (policy : Policy) (keys : List (List ℕ)) (one other : Verified) where
       let later = all_before before s after stop here.1 standing.1 f in
       (((standing.0.0, here.0), later.0), later.1)
 
-module _ (policy : Policy) (keys : List (List ℕ)) (verified : Verified) where
-  some_signed : (t s : Signed) → Some t ≡ Some s → t ≡ s
-  some_signed t s e = cc
+-- the certificate that fails is the same one
+pub still_failing : (policy : Policy) (items : List SeqItem) (one other : Verified)
+    → AgreeOn one other (asked_in policy (keys_of items) (certificates items)) → (item : ℕ) (stop : Stop)
+    → FailsAt policy one items item stop → FailsAt policy other items item stop
+still_failing policy items one other agree item stop f =
+    let both = all_before policy (keys_of items) one other f.before f.failing f.after stop (rw f.parts at agree) f.standing f.fails in
+    record { before = f.before; failing = f.failing; after = f.after; parts = f.parts; standing = both.0; place = f.place; fails = both.1 }
 
+module _ (policy : Policy) (keys : List (List ℕ)) (verified : Verified) where
   accepted_here : (t : Signed) (others : List Signed) (place : ℕ) (s : Signed) → IsAccepted verified t
       → ((p : ℕ) → slice_get others p ≡ Some s → IsAccepted verified s)
       → slice_get (t ∷ others) place ≡ Some s → IsAccepted verified s
-  accepted_here t others zero s first later stands = subst (λ (u : Signed). IsAccepted verified u) (some_signed t s stands) first
+  accepted_here t others zero s first later stands = subst (λ (u : Signed). IsAccepted verified u) (some_same t s stands) first
   accepted_here t others (suc place) s first later stands = later place stands
 
   -- where every certificate stands, each signature that is asked of is accepted
@@ -115,55 +108,38 @@ no_by c verified place s (Err TooLarge) stands refused d =
     absurd (refused (accepted_at c.policy (keys_of c.items) verified (certificates c.items) d.tuples place s d.shown stands))
 no_by c verified place s (Err Memory) stands refused d = absurd d
 
+shown_with : (c : Case) (one other : Verified) → AgreeOn one other (asked c) → (ts : List Tuple) → AreShown c.policy one c.items ts
+    → AreShown c.policy other c.items ts
+shown_with c one other agree ts shown = all_shown c.policy (keys_of c.items) one other (certificates c.items) ts agree shown
+
+granted_with : (c : Case) (one other : Verified) → AgreeOn one other (asked c) → (n : ℕ) → Granted n c one → Granted n c other
+granted_with c one other agree n g = record {
+  place = g.place;
+  numbered = g.numbered;
+  entry = g.entry;
+  stands = g.stands;
+  tuples = g.tuples;
+  shown = shown_with c one other agree g.tuples g.shown;
+  supported = g.supported;
+}
+
 module _ (c : Case) (one other : Verified) (agree : AgreeOn one other (asked c)) where
   shown_by : (ts : List Tuple) → AreShown c.policy one c.items ts → AreShown c.policy other c.items ts
-  shown_by ts shown = all_shown c.policy (keys_of c.items) one other (certificates c.items) ts agree shown
+  shown_by = shown_with c one other agree
 
   shown_back : (ts : List Tuple) → AreShown c.policy other c.items ts → AreShown c.policy one c.items ts
-  shown_back ts shown = all_shown c.policy (keys_of c.items) other one (certificates c.items) ts (swap one other (asked c) agree) shown
+  shown_back = shown_with c other one (swap one other (asked c) agree)
 
   granted_by : (n : ℕ) → Granted n c one → Granted n c other
-  granted_by n g = record {
-    place = g.place;
-    numbered = g.numbered;
-    entry = g.entry;
-    stands = g.stands;
-    tuples = g.tuples;
-    shown = shown_by g.tuples g.shown;
-    tree = g.tree;
-    leaves_are = g.leaves_are;
-    supports = g.supports;
-  }
+  granted_by = granted_with c one other agree
 
   granted_back : (n : ℕ) → Granted n c other → Granted n c one
-  granted_back n g = record {
-    place = g.place;
-    numbered = g.numbered;
-    entry = g.entry;
-    stands = g.stands;
-    tuples = g.tuples;
-    shown = shown_back g.tuples g.shown;
-    tree = g.tree;
-    leaves_are = g.leaves_are;
-    supports = g.supports;
-  }
+  granted_back = granted_with c other one (swap one other (asked c) agree)
 
   failure_by : (item : ℕ) (stop : Stop) → IsFailure c one item stop → IsFailure c other item stop
   failure_by item stop f =
-      let parted = subst (λ (shown : List Shown). AgreeOn one other (asked_in c.policy (keys_of c.items) shown)) f.fails.parts agree in
-      let both = all_before c.policy (keys_of c.items) one other f.fails.before f.fails.failing f.fails.after stop parted f.fails.standing f.fails.fails in
-      record {
-        fails = record {
-          before = f.fails.before;
-          failing = f.fails.failing;
-          after = f.fails.after;
-          parts = f.fails.parts;
-          standing = both.0;
-          place = f.fails.place;
-          fails = both.1;
-        };
-        none_shown = λ ts shown. f.none_shown ts (shown_back ts shown);
-      }
+      let fails = still_failing c.policy c.items one other agree item stop f.fails in
+      record { fails = fails; none_shown = λ ts shown. f.none_shown ts (shown_back ts shown) }
 
   large_by : IsTooLarge c one → IsTooLarge c other
   large_by l = record {

@@ -2,6 +2,7 @@
 use Rattle.std.proofs.Common.{◌≡◌, ℕ, zero, suc, ◌+◌, ◌<◌, List, [], ◌∷◌, ◌++◌, Bool, true, false, ◌&&◌, Some, IsSome, is_some, map, length, take, drop, get_or, slice_get, refl, sym, ap, ◌∙◌, arith, add-one, drop-cons}
 use Rattle.std.proofs.lemmas.List.{take_more, take-append-drop, get_or-map, map-append, length-map}
 use Rattle.std.proofs.lemmas.Option.{slice_get-get_or}
+use Rattle.std.proofs.lemmas.Slice.Zip.{all_zipped_more}
 use Rattle.std.specs.List.{AllZip, AllByRecursion, list_all}
 use Rattle.spki_cert.specs.declared.principal.Policy.{Policy}
 use Rattle.spki_cert.specs.declared.certificate.SeqItem.{SeqItem}
@@ -12,58 +13,54 @@ use Rattle.spki_decision.specs.declared.certificates.ShownCert.{ShownCert}
 use Rattle.spki_decision.specs.declared.evidence.Stop.{Stop}
 use Rattle.spki_case.specs.Case.{Verified}
 use Rattle.spki_case.specs.Sequence.{AreSigned, Shown, certificates, keys_of}
-use Rattle.spki_decision.specs.Standing.{tuple_of}
-use Rattle.spki_decision.specs.Standing.{Stands, StandsAs, FailsBy, FailsAt}
+use Rattle.spki_decision.specs.Standing.{tuple_of, Stands, StandsAs, FailsBy, FailsAt}
 use Rattle.spki_decision.specs.Views.{shown_of}
 
 -- ---- lists
 
-zip_more : {A B : Type 0} (R : A → B → Type 0) (xs : List A) (ys : List B) (x : A) (y : B)
-    → AllZip R xs ys → R x y → AllZip R (xs ++ x ∷ []) (ys ++ y ∷ [])
-zip_more R [] [] x y h k = (k, tt)
-zip_more R [] (z ∷ ys) x y h k = absurd h
-zip_more R (z ∷ xs) [] x y h k = absurd h
-zip_more R (z ∷ xs) (w ∷ ys) x y h k = (h.0, zip_more R xs ys x y h.1 k)
+pub both : (a b : Bool) → (a && b) ≡ true → (a ≡ true) × (b ≡ true)
+both true b h = (refl, h)
+both false b h = absurd cc
 
-both_true : (a b : Bool) → (a && b) ≡ true → (a ≡ true) × (b ≡ true)
-both_true true b h = (refl, h)
-both_true false b h = absurd cc
-
-each_at : {A : Type 0} (p : A → Bool) (xs : List A) (i : ℕ) (d : A) → list_all p xs ≡ true → i < length xs → p (get_or xs i d) ≡ true
+pub each_at : {A : Type 0} (p : A → Bool) (xs : List A) (i : ℕ) (d : A) → list_all p xs ≡ true → i < length xs → p (get_or xs i d) ≡ true
 each_at p [] i d h k = absurd (omega arith)
-each_at p (x ∷ xs) zero d h k = (both_true (p x) (list_all p xs) h).0
-each_at p (x ∷ xs) (suc i) d h k = each_at p xs i d (both_true (p x) (list_all p xs) h).1 (omega arith)
+each_at p (x ∷ xs) zero d h k = (both (p x) (list_all p xs) h).0
+each_at p (x ∷ xs) (suc i) d h k = each_at p xs i d (both (p x) (list_all p xs) h).1 (omega arith)
 
--- ---- one certificate of those that are kept
+-- ---- one of those that are kept
+
+module _ {A B : Type 0} (f : A → B) (kept : List A) (i : ℕ) (within : i < length kept) (one : A) (here : one ≡ get_or kept i one) where
+  at_place : get_or (map f kept) i (f one) ≡ f one
+  at_place = get_or-map f kept i one (f one) within ∙ ap f (sym here)
+
+  pub below : i < length (map f kept)
+  below = rw length-map within
+
+  stands : slice_get (map f kept) i ≡ Some (f one)
+  stands = slice_get-get_or (map f kept) i (f one) below ∙ ap Some at_place
+
+  pub taken : take (i + 1) (map f kept) ≡ take i (map f kept) ++ f one ∷ []
+  taken = rw at_place at (take_more (map f kept) i (f one) below)
+
+  pub rest_of : drop i (map f kept) ≡ f one ∷ drop (i + 1) (map f kept)
+  rest_of =
+      let first = rw at_place at (drop-cons (map f kept) i (f one) below) in
+      rw (← add-one) at first
+
+  pub parted : map f kept ≡ take i (map f kept) ++ f one ∷ drop (i + 1) (map f kept)
+  parted = sym (take-append-drop i (map f kept)) ∙ ap (λ rest. take i (map f kept) ++ rest) rest_of
+
+  -- what each passes, this one passes
+  pub passes_here : (p : B → Bool) → list_all p (map f kept) ≡ true → p (f one) ≡ true
+  passes_here p all = rw at_place at (each_at p (map f kept) i (f one) all below)
 
 module _ (items : List SeqItem) (kept : List ShownCert) (same : map shown_of kept ≡ certificates items)
     (i : ℕ) (within : i < length kept) (one : ShownCert) (here : one ≡ get_or kept i one) where
-  at_place : get_or (map shown_of kept) i (shown_of one) ≡ shown_of one
-  at_place = get_or-map shown_of kept i one (shown_of one) within ∙ ap shown_of (sym here)
-
-  below : i < length (map shown_of kept)
-  below = rw length-map within
-
   pub stands_here : slice_get (certificates items) i ≡ Some (shown_of one)
-  stands_here = ap (λ shown. slice_get shown i) (sym same) ∙ slice_get-get_or (map shown_of kept) i (shown_of one) below ∙ ap Some at_place
+  stands_here = ap (λ shown. slice_get shown i) (sym same) ∙ stands shown_of kept i within one here
 
   pub signed_here : AreSigned items → IsSome (shown_of one).signature
-  signed_here signed =
-      let all : list_all (λ s. is_some s.signature) (map shown_of kept) ≡ true = rw same signed in
-      rw at_place at (each_at (λ s. is_some s.signature) (map shown_of kept) i (shown_of one) all below)
-
-  taken : take (i + 1) (map shown_of kept) ≡ take i (map shown_of kept) ++ shown_of one ∷ []
-  taken = rw at_place at (take_more (map shown_of kept) i (shown_of one) below)
-
-  pub rest_here : drop i (map shown_of kept) ≡ shown_of one ∷ drop (i + 1) (map shown_of kept)
-  rest_here =
-      let first = rw at_place at (drop-cons (map shown_of kept) i (shown_of one) below) in
-      rw (← add-one) at first
-
-  parted : certificates items ≡ take i (map shown_of kept) ++ shown_of one ∷ drop (i + 1) (map shown_of kept)
-  parted =
-      let parts = take-append-drop i (map shown_of kept) in
-      sym same ∙ sym parts ∙ ap (λ rest. take i (map shown_of kept) ++ rest) rest_here
+  signed_here signed = passes_here shown_of kept i within one here (λ s. is_some s.signature) (rw same signed)
 
   module _ (policy : Policy) (verified : Verified) where
     stood : (front : List Shown) (ts : List Tuple) → AllZip (StandsAs policy (keys_of items) verified) front ts
@@ -80,7 +77,7 @@ module _ (items : List SeqItem) (kept : List ShownCert) (same : map shown_of kep
       before = take i (map shown_of kept);
       failing = shown_of one;
       after = drop (i + 1) (map shown_of kept);
-      parts = parted;
+      parts = sym same ∙ parted shown_of kept i within one here;
       standing = stood (take i (map shown_of kept)) ts h;
       place = refl;
       fails = k;
@@ -92,5 +89,6 @@ module _ (items : List SeqItem) (kept : List ShownCert) (same : map shown_of kep
         → step_tuple step ≡ tuple_of holder (shown_of one).certificate
         → AllZip (StandsAs policy (keys_of items) verified) (take (i + 1) (map shown_of kept)) (map step_tuple (steps ++ step ∷ []))
     standing_more steps step holder h k e =
-        rw (taken, map-append) (zip_more (StandsAs policy (keys_of items) verified) (take i (map shown_of kept)) (map step_tuple steps)
+        rw (taken shown_of kept i within one here, map-append)
+        (all_zipped_more (StandsAs policy (keys_of items) verified) (take i (map shown_of kept)) (map step_tuple steps)
         (shown_of one) (step_tuple step) h (record { holder = holder; stands = k; tuple_is = e }))

@@ -6,7 +6,7 @@ use Rattle.spki_cert.specs.declared.entry.Entry.{Entry}
 use Rattle.spki_reduce.specs.Tuples.{Tuple, five}
 use Rattle.spki_reduce.specs.Views.{entry_tuple}
 use Rattle.spki_reduce.specs.Work.{IsWork, Takes, IsOver, IsOverworked}
-use Rattle.spki_reduce.proofs.Working.{one_work, grows, over, within}
+use Rattle.spki_reduce.proofs.Working.{one_work, grows, over}
 use Rattle.spki_case.specs.Case.{Case}
 use Rattle.spki_decision.specs.Reduced.{IsEntryWork, IsWithinWork, HasMuchWork}
 
@@ -35,14 +35,6 @@ module _ (c : Case) (tuples : List Tuple) where
     over = over c.most_work left before much.work taken much.over;
   }
 
-  pub all_within : (place : ℕ) (n : ℕ) (left : Option ℕ) → place ≡ length c.entries → IsEntryWork c tuples place n
-      → Takes c.most_work left n → IsWithinWork c tuples
-  all_within place n left all h taken = record {
-    work = n;
-    is = subst (λ k. IsEntryWork c tuples k n) all h;
-    within = within c.most_work left n taken;
-  }
-
   -- ---- one work
 
   one_here : (places n m : ℕ) → IsEntryWork c tuples places n → IsEntryWork c tuples places m → n ≡ m
@@ -55,21 +47,6 @@ module _ (c : Case) (tuples : List Tuple) where
       subst (λ e. IsWork c.policy (five (entry_tuple e)) tuples h.1) entries h.5 in
       let here = one_work c.policy (five (entry_tuple k.2)) tuples (length tuples) h.1 k.1 work k.5 in
       omega (arith, before, here, h.6, k.6)
-
-  -- the work of fewer entries is at most that of more
-  more_entries : (few many n m : ℕ) → few ≤ many → IsEntryWork c tuples few n → IsEntryWork c tuples many m → n ≤ m
-  more_entries few zero n m fewer h k =
-      let same : few ≡ 0 = omega arith in
-      let one : n ≡ m = one_here 0 n m (subst (λ s. IsEntryWork c tuples s n) same h) k in
-      omega (arith, one)
-  more_entries few (suc many) n m fewer h k = more_by (cases_lt many few) (λ before. more_entries few many n k.0 before h k.3)
-    where
-      more_by : (many < few) ⊎ (few ≤ many) → (few ≤ many → n ≤ k.0) → n ≤ m
-      more_by (inl at) so_far =
-          let same : few ≡ suc many = omega arith in
-          let one : n ≡ m = one_here (suc many) n m (subst (λ s. IsEntryWork c tuples s n) same h) k in
-          omega (arith, one)
-      more_by (inr before) so_far = let less = so_far before in omega (arith, less, k.6)
 
   over_more : (limit : Option ℕ) (n m : ℕ) → n ≤ m → IsOver limit n → IsOver limit m
   over_more None n m less h = h
@@ -86,22 +63,20 @@ module _ (c : Case) (tuples : List Tuple) where
       let before = one_here h.place h.before next.0 h.before_is next.3 in
       omega (arith, here, before, next.6)
 
-  -- so many entries of a list have a work, if all have
-  front : (few many m : ℕ) → few ≤ many → IsEntryWork c tuples many m → (n : ℕ) × IsEntryWork c tuples few n
+  -- if all entries have a work, so many of them have, and it is at most that of all
+  front : (few many m : ℕ) → few ≤ many → IsEntryWork c tuples many m → (n : ℕ) × IsEntryWork c tuples few n × (n ≤ m)
   front few zero m fewer k =
-      let same : few ≡ 0 = omega arith in (m, subst (λ s. IsEntryWork c tuples s m) (sym same) k)
+      let same : few ≡ 0 = omega arith in (m, subst (λ s. IsEntryWork c tuples s m) (sym same) k, omega arith)
   front few (suc many) m fewer k = front_by (cases_lt many few) (λ before. front few many k.0 before k.3)
     where
-      front_by : (many < few) ⊎ (few ≤ many) → (few ≤ many → (n : ℕ) × IsEntryWork c tuples few n)
-          → (n : ℕ) × IsEntryWork c tuples few n
+      front_by : (many < few) ⊎ (few ≤ many) → (few ≤ many → (n : ℕ) × IsEntryWork c tuples few n × (n ≤ k.0))
+          → (n : ℕ) × IsEntryWork c tuples few n × (n ≤ m)
       front_by (inl at) so_far =
-          let same : few ≡ suc many = omega arith in (m, subst (λ s. IsEntryWork c tuples s m) (sym same) k)
-      front_by (inr before) so_far = so_far before
+          let same : few ≡ suc many = omega arith in (m, subst (λ s. IsEntryWork c tuples s m) (sym same) k, omega arith)
+      front_by (inr before) so_far = let less = so_far before in (less.0, less.1, omega (arith, less.2, k.6))
 
   pub much : IsWithinWork c tuples → HasMuchWork c tuples → ⊥
   much all h =
       let below = slice_get_within c.entries h.place h.entry h.stands in
       let next = front (suc h.place) (length c.entries) all.work (omega arith) all.is in
-      let more = part h next.0 next.1 in
-      let less = more_entries (suc h.place) (length c.entries) next.0 all.work (omega arith) next.1 all.is in
-      all.within (over_more c.most_work (h.before + h.here) all.work (omega (arith, more, less)) h.over)
+      all.within (over_more c.most_work (h.before + h.here) all.work (omega (arith, part h next.0 next.1, next.2)) h.over)

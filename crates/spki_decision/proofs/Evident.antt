@@ -1,5 +1,5 @@
 -- Certificates that stand have one list of tuples, and none where one of them fails.
-use Rattle.std.proofs.Common.{◌≡◌, ℕ, List, [], ◌∷◌, ◌++◌, Some, None, true, false, IsTrue, sym, ap, ◌∙◌, refl}
+use Rattle.std.proofs.Common.{◌≡◌, ℕ, List, [], ◌∷◌, ◌++◌, Option, Some, None, if◌then◌else◌, sym, ap, ◌∙◌, refl, subst}
 use Rattle.std.specs.List.{AllZip}
 use Rattle.spki_cert.specs.declared.principal.Policy.{Policy}
 use Rattle.spki_cert.specs.declared.certificate.Signature as signature
@@ -10,16 +10,13 @@ use Rattle.spki_decision.specs.declared.evidence.Stop.TheVariants.{KeyNotShown, 
 use Rattle.spki_decision.specs.declared.evidence.Stop.{Stop}
 use Rattle.spki_case.specs.Case.{Verified}
 use Rattle.spki_case.specs.Sequence.{Shown, issuer_of, octets_of, keys_of}
-use Rattle.spki_decision.specs.Standing.{issuer_key, tuple_of}
-use Rattle.spki_decision.specs.Standing.{Stands, StandsAs, FailsBy, FailsAt, AreShown}
+use Rattle.spki_decision.specs.Standing.{issuer_key, tuple_of, Stands, StandsAs, FailsBy, FailsAt, AreShown}
 
 module _ (policy : Policy) (keys : List (List ℕ)) (verified : Verified) where
-  one_holder : (s : Shown) (h k : List ℕ) → Stands policy keys verified s h → Stands policy keys verified s k → h ≡ k
-  one_holder s h k a b = let e : Some h ≡ Some k = sym a.issued ∙ b.issued in cc
-
   one_tuple : (s : Shown) (t u : Tuple) → StandsAs policy keys verified s t → StandsAs policy keys verified s u → t ≡ u
   one_tuple s t u a b =
-      let same = one_holder s a.holder b.holder a.stands b.stands in
+      let e : Some a.holder ≡ Some b.holder = sym a.stands.issued ∙ b.stands.issued in
+      let same : a.holder ≡ b.holder = cc in
       a.tuple_is ∙ ap (λ h. tuple_of h s.certificate) same ∙ sym b.tuple_is
 
   pub one_list : (shown : List Shown) (ts us : List Tuple) → AllZip (StandsAs policy keys verified) shown ts
@@ -36,39 +33,36 @@ module _ (policy : Policy) (keys : List (List ℕ)) (verified : Verified) where
 
   -- ---- no certificate stands and fails
 
-  pub at_digest : (s : Shown) (h k : List ℕ) (x y : signature.Signature) → s.signature ≡ Some x → s.signature ≡ Some y
-      → IsTrue (is_digest x.alg x.digest (octets_of s.certificate)) → is_digest y.alg y.digest (octets_of s.certificate) ≡ false → ⊥
-  at_digest s h k x y a b t f =
-      let e : Some x ≡ Some y = sym a ∙ b in
-      let same : x ≡ y = cc in
-      let true_there = rw same at t in
-      let clash : true ≡ false = sym true_there ∙ f in
-      cc
+  -- the first test that a certificate with this issuer's key and signature doesn't pass; if it passes the first three, the fourth
+  abbrev first_test : Shown → Option (List ℕ) → Option signature.Signature → Stop
+  first_test s None x = KeyNotShown
+  first_test s (Some holder) None = KeyNotShown
+  first_test s (Some holder) (Some x) =
+      if is_digest x.alg x.digest (octets_of s.certificate)
+      then (if names policy x.signer holder then NotAccepted else SignerDiffers)
+      else DigestDiffers
 
-  pub at_signer : (h k : List ℕ) (x y : signature.Signature) → x ≡ y → h ≡ k → IsTrue (names policy x.signer h)
-      → names policy y.signer k ≡ false → ⊥
-  at_signer h k x y e d t f =
-      let true_there = rw (e, d) at t in
-      let clash : true ≡ false = sym true_there ∙ f in
-      cc
+  is_first : (s : Shown) (stop : Stop) → FailsBy policy keys verified s stop
+      → first_test s (issuer_key policy keys (issuer_of s.certificate)) s.signature ≡ stop
+  is_first s KeyNotShown f = rw f refl
+  is_first s DigestDiffers f = rw (f.2, f.3, f.4) refl
+  is_first s SignerDiffers f = rw (f.2, f.3, f.4, f.5) refl
+  is_first s NotAccepted f = rw (f.2, f.3, f.4, f.5) refl
 
-  pub same_signature : (s : Shown) (x y : signature.Signature) → s.signature ≡ Some x → s.signature ≡ Some y → x ≡ y
-  same_signature s x y a b = let e : Some x ≡ Some y = sym a ∙ b in cc
-
-  pub same_key : (s : Shown) (h k : List ℕ) → issuer_key policy keys (issuer_of s.certificate) ≡ Some h
-      → issuer_key policy keys (issuer_of s.certificate) ≡ Some k → h ≡ k
-  same_key s h k a b = let e : Some h ≡ Some k = sym a ∙ b in cc
+  pub one_test : (s : Shown) (a b : Stop) → FailsBy policy keys verified s a → FailsBy policy keys verified s b → a ≡ b
+  one_test s a b h k = sym (is_first s a h) ∙ is_first s b k
 
   pub never_both : (s : Shown) (holder : List ℕ) (stop : Stop) → Stands policy keys verified s holder
       → FailsBy policy keys verified s stop → ⊥
-  never_both s holder KeyNotShown a f = let e : Some holder ≡ None = sym a.issued ∙ f in cc
-  never_both s holder DigestDiffers a f = at_digest s holder f.0 a.signature f.1 a.signed f.3 a.digest f.4
-  never_both s holder SignerDiffers a f =
-      at_signer holder f.0 a.signature f.1 (same_signature s a.signature f.1 a.signed f.3) (same_key s holder f.0 a.issued f.2) a.signer f.5
-  never_both s holder NotAccepted a f =
-      let x = same_signature s a.signature f.1 a.signed f.3 in
-      let h = same_key s holder f.0 a.issued f.2 in
-      f.6 (rw (x, h) at a.accepted)
+  never_both s holder stop a f =
+      let passes : first_test s (issuer_key policy keys (issuer_of s.certificate)) s.signature ≡ NotAccepted =
+      rw (a.issued, a.signed, a.digest, a.signer) refl in
+      let refused = subst (FailsBy policy keys verified s) (sym (is_first s stop f) ∙ passes) f in
+      let holders : Some refused.0 ≡ Some holder = sym refused.2 ∙ a.issued in
+      let signatures : Some refused.1 ≡ Some a.signature = sym refused.3 ∙ a.signed in
+      let h : refused.0 ≡ holder = cc in
+      let x : refused.1 ≡ a.signature = cc in
+      refused.6 (rw (h, x) a.accepted)
 
   zip_at : (before : List Shown) (s : Shown) (after : List Shown) (ts : List Tuple)
       → AllZip (StandsAs policy keys verified) (before ++ s ∷ after) ts → (t : Tuple) × StandsAs policy keys verified s t

@@ -2,8 +2,7 @@
 use Rattle.std.proofs.Common.{◌≡◌, ℕ, zero, suc, ◌+◌, ◌<◌, ◌≤◌, List, [], ◌∷◌, Some, map, slice_get, refl, sym, ap, ◌∙◌, subst, arith, inl, inr}
 use Rattle.std.proofs.lemmas.Option.{none-some}
 use Rattle.spki_cert.specs.declared.entry.Entry.{Entry}
-use Rattle.spki_reduce.specs.Tuples.{Tuple, five}
-use Rattle.spki_reduce.specs.Views.{entry_tuple}
+use Rattle.spki_reduce.specs.Tuples.{Tuple}
 use Rattle.spki_case.specs.Case.{Case, Verified}
 use Rattle.spki_decision.specs.declared.decision.Decision.{Decision}
 use Rattle.spki_decision.specs.declared.decision.Decision.TheVariants.{Yes, No}
@@ -12,19 +11,14 @@ use Rattle.spki_decision.specs.Granted.{Granted}
 use Rattle.spki_decision.specs.Decision.{IsDecision}
 use Rattle.spki_decision.specs.Supported.{Supported}
 use Rattle.spki_decision.specs.LeftOut.{IsLeftOut, IsKept, AreKept, second, kept_case, IsRenumbered}
+use Rattle.spki_decision.proofs.Finding.{some_same}
 use Rattle.spki_decision.proofs.LeftOut.{supported_named}
-
-some_pair : (a b : ℕ × Entry) → Some a ≡ Some b → a ≡ b
-some_pair a b e = cc
-
-some_entry : (a b : Entry) → Some a ≡ Some b → a ≡ b
-some_entry a b e = cc
 
 -- ---- places
 
 second_at : (ks : List (ℕ × Entry)) (p n : ℕ) (e : Entry) → slice_get ks p ≡ Some (n, e) → slice_get (map second ks) p ≡ Some e
 second_at [] p n e stands = absurd (none-some (n, e) stands)
-second_at (k ∷ ks) zero n e stands = ap (λ (j : ℕ × Entry). Some j.1) (some_pair k (n, e) stands)
+second_at (k ∷ ks) zero n e stands = ap (λ (j : ℕ × Entry). Some j.1) (some_same k (n, e) stands)
 second_at (k ∷ ks) (suc p) n e stands = second_at ks p n e stands
 
 module _ (Out : Entry → Type 0) where
@@ -37,7 +31,7 @@ module _ (Out : Entry → Type 0) where
       let later = listed (suc n) es (k ∷ ks) p m e out.1 stands in
       (suc later.0, omega (arith, later.1), later.2)
   listed n (f ∷ es) (k ∷ ks) zero m e (inr here) stands =
-      let same : (m, e) ≡ (n, f) = sym (some_pair k (m, e) stands) ∙ here.0 in
+      let same : (m, e) ≡ (n, f) = sym (some_same k (m, e) stands) ∙ here.0 in
       (0, omega (arith, ap (λ (j : ℕ × Entry). j.0) same), ap (λ (j : ℕ × Entry). Some j.1) (sym same))
   listed n (f ∷ es) (k ∷ ks) (suc p) m e (inr here) stands =
       let later = listed (suc n) es ks p m e here.1 stands in
@@ -47,25 +41,26 @@ module _ (Out : Entry → Type 0) where
   pub found : (n : ℕ) (es : List Entry) (ks : List (ℕ × Entry)) (place : ℕ) (e : Entry) → AreKept Out n es ks → slice_get es place ≡ Some e
       → ¬ Out e → (p : ℕ) × (slice_get ks p ≡ Some (n + place, e))
   found n [] ks place e kept stands in_it = absurd (none-some e stands)
-  found n (f ∷ es) [] zero e kept stands in_it = absurd (in_it (subst Out (some_entry f e stands) kept.0))
+  found n (f ∷ es) [] zero e kept stands in_it = absurd (in_it (subst Out (some_same f e stands) kept.0))
   found n (f ∷ es) [] (suc place) e kept stands in_it =
       let later = found (suc n) es [] place e kept.1 stands in_it in
       absurd (none-some (suc n + place, e) later.1)
-  found n (f ∷ es) (k ∷ ks) zero e (inl out) stands in_it = absurd (in_it (subst Out (some_entry f e stands) out.0))
+  found n (f ∷ es) (k ∷ ks) zero e (inl out) stands in_it = absurd (in_it (subst Out (some_same f e stands) out.0))
   found n (f ∷ es) (k ∷ ks) (suc place) e (inl out) stands in_it =
       let later = found (suc n) es (k ∷ ks) place e out.1 stands in_it in
       let moved : suc n + place ≡ n + suc place = omega arith in
       (later.0, later.1 ∙ ap (λ (m : ℕ). Some (m, e)) moved)
   found n (f ∷ es) (k ∷ ks) zero e (inr here) stands in_it =
       let first : n ≡ n + 0 = omega arith in
-      (0, ap Some here.0 ∙ ap (λ (g : Entry). Some (n, g)) (some_entry f e stands) ∙ ap (λ (m : ℕ). Some (m, e)) first)
+      (0, ap Some here.0 ∙ ap (λ (g : Entry). Some (n, g)) (some_same f e stands) ∙ ap (λ (m : ℕ). Some (m, e)) first)
   found n (f ∷ es) (k ∷ ks) (suc place) e (inr here) stands in_it =
       let later = found (suc n) es ks place e here.1 stands in_it in
       let moved : suc n + place ≡ n + suc place = omega arith in
       (suc later.0, later.1 ∙ ap (λ (m : ℕ). Some (m, e)) moved)
 
   -- numbers are no less than that of the first, and they grow
-  pub from_first : (n : ℕ) (es : List Entry) (ks : List (ℕ × Entry)) (p m : ℕ) (e : Entry) → AreKept Out n es ks → slice_get ks p ≡ Some (m, e) → n ≤ m
+  pub from_first : (n : ℕ) (es : List Entry) (ks : List (ℕ × Entry)) (p m : ℕ) (e : Entry) → AreKept Out n es ks
+      → slice_get ks p ≡ Some (m, e) → n ≤ m
   from_first n es ks p m e kept stands = let l = listed n es ks p m e kept stands in omega (arith, l.1)
 
   pub growing : (n : ℕ) (es : List Entry) (ks : List (ℕ × Entry)) (p q i j : ℕ) (e f : Entry) → AreKept Out n es ks → p < q
@@ -75,7 +70,7 @@ module _ (Out : Entry → Type 0) where
   growing n (g ∷ es) (k ∷ ks) p q i j e f (inl out) less at_p at_q = growing (suc n) es (k ∷ ks) p q i j e f out.1 less at_p at_q
   growing n (g ∷ es) (k ∷ ks) p zero i j e f (inr here) less at_p at_q = absurd (omega (arith, less))
   growing n (g ∷ es) (k ∷ ks) zero (suc q) i j e f (inr here) less at_p at_q =
-      let same : (i, e) ≡ (n, g) = sym (some_pair k (i, e) at_p) ∙ here.0 in
+      let same : (i, e) ≡ (n, g) = sym (some_same k (i, e) at_p) ∙ here.0 in
       let later = from_first (suc n) es ks q j f here.1 at_q in
       omega (arith, later, ap (λ (l : ℕ × Entry). l.0) same)
   growing n (g ∷ es) (k ∷ ks) (suc p) (suc q) i j e f (inr here) less at_p at_q =
@@ -88,8 +83,8 @@ module _ (c : Case) (verified : Verified) (kept : List (ℕ × Entry)) (are_kept
   granted_kept : (n : ℕ) → (g : Granted n c verified)
       → (p : ℕ) × (slice_get kept p ≡ Some (n, g.entry)) × Granted (suc p) (kept_case c kept) verified
   granted_kept n g =
-      let s : Supported c g.tuples g.entry = record { tree = g.tree; leaves_are = g.leaves_are; supports = g.supports } in
-      let p = found (IsLeftOut c g.tuples) 1 c.entries kept g.place g.entry (are_kept g.tuples g.shown) g.stands (λ out. out (supported_named c g.tuples g.entry s)) in
+      let p = found (IsLeftOut c g.tuples) 1 c.entries kept g.place g.entry (are_kept g.tuples g.shown) g.stands
+      (λ out. out (supported_named c g.tuples g.entry g.supported)) in
       let number : 1 + g.place ≡ n = omega (arith, g.numbered) in
       let stands = p.1 ∙ ap (λ (m : ℕ). Some (m, g.entry)) number in (
         p.0,
@@ -101,9 +96,7 @@ module _ (c : Case) (verified : Verified) (kept : List (ℕ × Entry)) (are_kept
           stands = second_at kept p.0 n g.entry stands;
           tuples = g.tuples;
           shown = g.shown;
-          tree = g.tree;
-          leaves_are = g.leaves_are;
-          supports = g.supports;
+          supported = g.supported;
         },
       )
 
@@ -112,7 +105,7 @@ module _ (c : Case) (verified : Verified) (kept : List (ℕ × Entry)) (are_kept
   kept_granted p n e stands g =
       let place_is : g.place ≡ p = omega (arith, g.numbered) in
       let here : slice_get (map second kept) p ≡ Some g.entry = subst (λ (q : ℕ). slice_get (map second kept) q ≡ Some g.entry) place_is g.stands in
-      let same : g.entry ≡ e = some_entry g.entry e (sym here ∙ second_at kept p n e stands) in
+      let same : g.entry ≡ e = some_same g.entry e (sym here ∙ second_at kept p n e stands) in
       let l = listed (IsLeftOut c g.tuples) 1 c.entries kept p n e (are_kept g.tuples g.shown) stands in
       record {
         place = l.0;
@@ -121,16 +114,16 @@ module _ (c : Case) (verified : Verified) (kept : List (ℕ × Entry)) (are_kept
         stands = l.2;
         tuples = g.tuples;
         shown = g.shown;
-        tree = g.tree;
-        leaves_are = g.leaves_are ∙ ap (λ (f : Entry). five (entry_tuple f) ∷ g.tuples) same;
-        supports = g.supports;
+        supported = subst (Supported c g.tuples) same g.supported;
       }
 
   -- an earlier number stands at an earlier place
   earlier : (tuples : List Tuple) → AreShown c.policy verified c.items tuples → (p q n m : ℕ) (e f : Entry)
       → slice_get kept p ≡ Some (n, e) → slice_get kept q ≡ Some (m, f) → m ≤ n → q ≤ p
   earlier tuples shown p q n m e f at_p at_q less =
-      let not_more : ¬ (p < q) = λ more. absurd (omega (arith, less, growing (IsLeftOut c tuples) 1 c.entries kept p q n m e f (are_kept tuples shown) more at_p at_q)) in
+      let not_more : ¬ (p < q) = λ more.
+      let grows = growing (IsLeftOut c tuples) 1 c.entries kept p q n m e f (are_kept tuples shown) more at_p at_q in
+      absurd (omega (arith, less, grows)) in
       omega (arith, not_more)
 
   pub renumbered : (x y : Decision) → IsDecision (kept_case c kept) verified x → IsRenumbered kept x y → IsDecision c verified y
@@ -142,7 +135,9 @@ module _ (c : Case) (verified : Verified) (kept : List (ℕ × Entry)) (are_kept
         none_before = λ k less h.
             let p = granted_kept k h in
             let before = earlier h.tuples h.shown place p.0 n k r.1 h.entry r.3 p.1 (omega (arith, less)) in
-            let other : ¬ (p.0 ≡ place) = λ same. absurd (omega (arith, less, ap (λ (j : ℕ × Entry). j.0) (some_pair (k, h.entry) (n, r.1) (sym p.1 ∙ ap (λ (q : ℕ). slice_get kept q) same ∙ r.3)))) in
+            let other : ¬ (p.0 ≡ place) = λ same.
+            let here = some_same (k, h.entry) (n, r.1) (sym p.1 ∙ ap (λ (q : ℕ). slice_get kept q) same ∙ r.3) in
+            absurd (omega (arith, less, ap (λ (j : ℕ × Entry). j.0) here)) in
             d.none_before (suc p.0) (omega (arith, before, other, r.2)) p.2;
       }
   renumbered (Yes m) No d r = absurd r

@@ -6,6 +6,9 @@ use Rattle.spki_reduce.specs.Rules.{IsFor, Joins}
 use Rattle.spki_reduce.specs.Derivation.{Tree, leaf, join, Derives, extended, from_left}
 use Rattle.spki_decision.specs.Membership.{Leads}
 
+pub five_same : (a b : FiveTuple) → five a ≡ five b → a ≡ b
+five_same a b e = cc
+
 module _ (policy : Policy) where
   -- ---- a tree and its root
 
@@ -71,9 +74,6 @@ module _ (policy : Policy) where
   kept : (t m : FiveTuple) (x : Tuple) → Joins policy (five t) x (five m) → m.issuer ≡ t.issuer
   kept t m (five x) j = ap (λ (r : FiveTuple). r.issuer) j.result_is
   kept t m (four x) j = ap (λ (r : FiveTuple). r.issuer) j.result_is
-
-  five_same : (a b : FiveTuple) → five a ≡ five b → a ≡ b
-  five_same a b e = cc
 
   pub issuer_kept : (ts : List Tuple) (t root : FiveTuple) → Derives policy (from_left (five t) ts) (five root) → root.issuer ≡ t.issuer
   issuer_kept [] t root d = ap (λ (r : FiveTuple). r.issuer) (five_same root t d)

@@ -1,7 +1,8 @@
 -- An entry is supported exactly if three tests pass that do not touch each other.
-use Rattle.std.proofs.Common.{◌≡◌, ℕ, Bool, true, false, ◌&&◌, List, [], ◌∷◌, ◌++◌, Option, None, refl, sym, ◌∙◌, ap, subst, append-nil, take, drop, length, get_or, ◌<◌, ◌+◌}
-use Rattle.std.proofs.lemmas.List.{map-append, take_more, take-append-drop}
-use Rattle.std.proofs.lemmas.List.Folds.{list_all-append}
+use Rattle.std.proofs.Common.{◌≡◌, ℕ, Bool, true, ◌&&◌, List, [], ◌∷◌, ◌++◌, Option, None, refl, sym, ◌∙◌, ap, subst, append-nil, take, length, get_or, ◌<◌, ◌+◌, flat_map}
+use Rattle.std.specs.List.{list_all}
+use Rattle.std.proofs.lemmas.List.{map-append, take_more}
+use Rattle.std.proofs.lemmas.List.Folds.{list_all-append, list_all_more}
 use Rattle.std.proofs.lemmas.Grind.{flat_map-append}
 use Rattle.spki_cert.specs.declared.entry.Entry.{Entry}
 use Rattle.spki_cert.specs.declared.window.Window.{Window}
@@ -20,11 +21,8 @@ use Rattle.spki_decision.specs.declared.membership.Membership.{Membership}
 use Rattle.spki_decision.specs.declared.required_subject.RequiredSubject.{RequiredSubject}
 use Rattle.spki_decision.specs.Supported.{Supported}
 use Rattle.spki_decision.specs.Membership.{Leads, IsMetBy, IsRequiredBy, IsMembership}
+use Rattle.spki_decision.proofs.Chains.{both, each_at}
 use Rattle.spki_decision.proofs.Leading.{issuer_kept}
-
-pub both : (a b : Bool) → (a && b) ≡ true → (a ≡ true) × (b ≡ true)
-both true b e = (refl, e)
-both false b e = absurd cc
 
 pub together : (a b : Bool) → a ≡ true → b ≡ true → (a && b) ≡ true
 together a b e f = ap (λ x. x && b) e ∙ f
@@ -97,54 +95,48 @@ module _ (c : Case) (tuples : List Tuple) where
 
 -- ---- one step more
 
-module _ (c : Case) (steps : List Step) (i : ℕ) (step : Step) (below : i < length steps) (here : step ≡ get_or steps i step) where
-  more : tuples_of (take (i + 1) steps) ≡ tuples_of (take i steps) ++ step_tuple step ∷ []
-  more = ap tuples_of (rw (← here) at (take_more steps i step below)) ∙ map-append step_tuple (take i steps) (step ∷ [])
+-- what all steps have passes a test exactly if what each has does
+by_steps : {B : Type 0} (p : B → Bool) (parts : Tuple → List B) (steps : List Step)
+    → list_all p (flat_map parts (tuples_of steps)) ≡ list_all (λ s. list_all p (parts (step_tuple s))) steps
+by_steps p parts [] = refl
+by_steps p parts (s ∷ steps) = list_all-append p (parts (step_tuple s)) (flat_map parts (tuples_of steps))
+    ∙ ap (λ b. list_all p (parts (step_tuple s)) && b) (by_steps p parts steps)
 
-  more_tags : all_tags (tuples_of (take (i + 1) steps)) ≡ all_tags (tuples_of (take i steps)) ++ tags_of (step_tuple step)
-  more_tags = ap all_tags more ∙ flat_map-append tags_of (tuples_of (take i steps)) (step_tuple step ∷ [])
+module _ (steps : List Step) (i : ℕ) (step : Step) (below : i < length steps) (here : step ≡ get_or steps i step) where
+  module _ {B : Type 0} (p : B → Bool) (parts : Tuple → List B) where
+    abbrev passes_all : Step → Bool
+    passes_all s = list_all p (parts (step_tuple s))
+
+    more_pass : list_all p (flat_map parts (tuples_of (take i steps))) ≡ true → passes_all step ≡ true
+        → list_all p (flat_map parts (tuples_of (take (i + 1) steps))) ≡ true
+    more_pass so_far this = by_steps p parts (take (i + 1) steps) ∙ list_all_more passes_all steps i step below
+        ∙ together _ _ (sym (by_steps p parts (take i steps)) ∙ so_far) (ap passes_all (sym here) ∙ this)
+
+    each_passes : list_all p (flat_map parts (tuples_of steps)) ≡ true → passes_all step ≡ true
+    each_passes all = ap passes_all here ∙ each_at passes_all steps i step (sym (by_steps p parts steps) ∙ all) below
+
+  module _ (c : Case) where
+    -- the steps up to one contain what is asked if it does and those before it do
+    pub contain_more : AllContain c (tuples_of (take i steps))
+        → (in_each c.request (tags_of (step_tuple step)) ≡ true) × (within_each c.moment (windows_of (step_tuple step)) ≡ true)
+        → AllContain c (tuples_of (take (i + 1) steps))
+    contain_more so_far this = (
+      more_pass (λ (t : Tag). contains t c.request) tags_of so_far.0 this.0,
+      more_pass (λ (w : Window). within c.moment w) windows_of so_far.1 this.1,
+    )
+
+    -- all steps contain it only if each does
+    pub contain_each : AllContain c (tuples_of steps)
+        → (in_each c.request (tags_of (step_tuple step)) ≡ true) × (within_each c.moment (windows_of (step_tuple step)) ≡ true)
+    contain_each all = (
+      each_passes (λ (t : Tag). contains t c.request) tags_of all.0,
+      each_passes (λ (w : Window). within c.moment w) windows_of all.1,
+    )
+
+  -- the steps up to one have its tags after those of the steps before it
+  pub more_tuples : tuples_of (take (i + 1) steps) ≡ tuples_of (take i steps) ++ step_tuple step ∷ []
+  more_tuples = ap tuples_of (rw (← here) at (take_more steps i step below)) ∙ map-append step_tuple (take i steps) (step ∷ [])
+
+  pub more_tags : all_tags (tuples_of (take (i + 1) steps)) ≡ all_tags (tuples_of (take i steps)) ++ tags_of (step_tuple step)
+  more_tags = ap all_tags more_tuples ∙ flat_map-append tags_of (tuples_of (take i steps)) (step_tuple step ∷ [])
       ∙ ap (λ ts. all_tags (tuples_of (take i steps)) ++ ts) (append-nil (tags_of (step_tuple step)))
-
-  more_windows : all_windows (tuples_of (take (i + 1) steps)) ≡ all_windows (tuples_of (take i steps)) ++ windows_of (step_tuple step)
-  more_windows = ap all_windows more ∙ flat_map-append windows_of (tuples_of (take i steps)) (step_tuple step ∷ [])
-      ∙ ap (λ ws. all_windows (tuples_of (take i steps)) ++ ws) (append-nil (windows_of (step_tuple step)))
-
-  asked_more : in_each c.request (all_tags (tuples_of (take (i + 1) steps)))
-      ≡ (in_each c.request (all_tags (tuples_of (take i steps))) && in_each c.request (tags_of (step_tuple step)))
-  asked_more = ap (in_each c.request) more_tags
-      ∙ list_all-append (λ (t : Tag). contains t c.request) (all_tags (tuples_of (take i steps))) (tags_of (step_tuple step))
-
-  timely_more : within_each c.moment (all_windows (tuples_of (take (i + 1) steps)))
-      ≡ (within_each c.moment (all_windows (tuples_of (take i steps))) && within_each c.moment (windows_of (step_tuple step)))
-  timely_more = ap (within_each c.moment) more_windows
-      ∙ list_all-append (λ (w : Window). within c.moment w) (all_windows (tuples_of (take i steps))) (windows_of (step_tuple step))
-
-  -- the steps up to one contain what is asked if it does and those before it do
-  pub contain_more : AllContain c (tuples_of (take i steps))
-      → (in_each c.request (tags_of (step_tuple step)) ≡ true) × (within_each c.moment (windows_of (step_tuple step)) ≡ true)
-      → AllContain c (tuples_of (take (i + 1) steps))
-  contain_more so_far this = (
-    asked_more ∙ together (in_each c.request (all_tags (tuples_of (take i steps)))) (in_each c.request (tags_of (step_tuple step))) so_far.0 this.0,
-    timely_more ∙ together (within_each c.moment (all_windows (tuples_of (take i steps)))) (within_each c.moment (windows_of (step_tuple step))) so_far.1 this.1,
-  )
-
-  -- all steps contain it only if each does
-  pub contain_each : AllContain c (tuples_of steps)
-      → (in_each c.request (tags_of (step_tuple step)) ≡ true) × (within_each c.moment (windows_of (step_tuple step)) ≡ true)
-  contain_each all =
-      let parted : steps ≡ take (i + 1) steps ++ drop (i + 1) steps = sym (take-append-drop (i + 1) steps) in
-      let tuples : tuples_of steps ≡ tuples_of (take (i + 1) steps) ++ tuples_of (drop (i + 1) steps) =
-      ap tuples_of parted ∙ map-append step_tuple (take (i + 1) steps) (drop (i + 1) steps) in
-      let tags : in_each c.request (all_tags (tuples_of steps))
-      ≡ (in_each c.request (all_tags (tuples_of (take (i + 1) steps))) && in_each c.request (all_tags (tuples_of (drop (i + 1) steps)))) =
-      ap (λ ts. in_each c.request (all_tags ts)) tuples
-      ∙ ap (in_each c.request) (flat_map-append tags_of (tuples_of (take (i + 1) steps)) (tuples_of (drop (i + 1) steps)))
-      ∙ list_all-append (λ (t : Tag). contains t c.request) (all_tags (tuples_of (take (i + 1) steps))) (all_tags (tuples_of (drop (i + 1) steps))) in
-      let windows : within_each c.moment (all_windows (tuples_of steps))
-      ≡ (within_each c.moment (all_windows (tuples_of (take (i + 1) steps))) && within_each c.moment (all_windows (tuples_of (drop (i + 1) steps)))) =
-      ap (λ ts. within_each c.moment (all_windows ts)) tuples
-      ∙ ap (within_each c.moment) (flat_map-append windows_of (tuples_of (take (i + 1) steps)) (tuples_of (drop (i + 1) steps)))
-      ∙ list_all-append (λ (w : Window). within c.moment w) (all_windows (tuples_of (take (i + 1) steps))) (all_windows (tuples_of (drop (i + 1) steps))) in
-      let asked = (both _ _ (sym tags ∙ all.0)).0 in
-      let timely = (both _ _ (sym windows ∙ all.1)).0 in
-      ((both _ _ (sym asked_more ∙ asked)).1, (both _ _ (sym timely_more ∙ timely)).1)

@@ -1,5 +1,5 @@
 -- A case has one explanation.
-use Rattle.std.proofs.Common.{◌≡◌, ℕ, zero, suc, List, [], ◌∷◌, ◌++◌, Some, None, length, slice_get, refl, sym, ◌∙◌, ap, subst, arith}
+use Rattle.std.proofs.Common.{◌≡◌, inl, inr, ℕ, zero, suc, List, [], ◌∷◌, ◌++◌, Some, length, slice_get, refl, sym, ◌∙◌, ap, subst, arith}
 use Rattle.std.specs.List.{AllZip, AllByRecursion}
 use Rattle.std.proofs.lemmas.List.{take_all}
 use Rattle.std.proofs.lemmas.Option.{slice_get_within}
@@ -19,47 +19,20 @@ use Rattle.spki_reduce.proofs.Bracketing.{one_root}
 use Rattle.spki_reduce.proofs.Lacking.{never}
 use Rattle.spki_reduce.proofs.Through.{HasTag, AreTagged, unstopped, one_stop}
 use Rattle.spki_case.specs.Case.{Case, Verified}
-use Rattle.spki_case.specs.Sequence.{Certificate, auth, name, Shown, issuer_of, keys_of, certificates}
+use Rattle.spki_case.specs.Sequence.{Certificate, auth, name, Shown, keys_of, certificates}
 use Rattle.spki_decision.specs.declared.explanation.Explanation.{Explanation}
 use Rattle.spki_decision.specs.declared.explanation.Explanation.TheVariants.{Evidence, Entries}
 use Rattle.spki_decision.specs.declared.explanation.Reason.{Reason}
-use Rattle.spki_decision.specs.declared.explanation.Reason.TheVariants.{Grants, NotTheKey, TagLacks, WindowLacks, Stopped}
-use Rattle.spki_decision.specs.declared.evidence.Stop.TheVariants.{KeyNotShown, DigestDiffers, SignerDiffers, NotAccepted}
+use Rattle.spki_decision.specs.declared.explanation.Reason.TheVariants.{Grants, Stopped}
 use Rattle.spki_decision.specs.declared.evidence.Stop.{Stop}
-use Rattle.spki_decision.specs.Standing.{issuer_key, tuple_of, Stands, StandsAs, FailsBy, FailsAt}
+use Rattle.spki_decision.specs.Standing.{tuple_of, Stands, StandsAs, FailsBy, FailsAt}
 use Rattle.spki_decision.specs.Reduced.{StopsAtItem}
 use Rattle.spki_decision.specs.Explained.{LacksFirst, IsReason, reason_of, AreReasons, IsExplanation, IsSameExplanation}
-use Rattle.spki_decision.proofs.Evident.{one_list, at_digest, at_signer, same_signature, same_key, never_both}
+use Rattle.spki_decision.proofs.Finding.{some_same}
+use Rattle.spki_decision.proofs.Reasons.{IsParted, parted}
+use Rattle.spki_decision.proofs.Evident.{one_list, one_test, never_both}
 
 -- ---- the first certificate that fails
-
-module _ (policy : Policy) (keys : List (List ℕ)) (verified : Verified) (s : Shown) where
-  unissued : (holder : List ℕ) → issuer_key policy keys (issuer_of s.certificate) ≡ None
-      → issuer_key policy keys (issuer_of s.certificate) ≡ Some holder → ⊥
-  unissued holder a b = let e : Some holder ≡ None = sym b ∙ a in cc
-
-  -- of the four tests one is the first that it doesn't pass
-  one_test : (a b : Stop) → FailsBy policy keys verified s a → FailsBy policy keys verified s b → a ≡ b
-  one_test KeyNotShown KeyNotShown h k = refl
-  one_test KeyNotShown DigestDiffers h k = absurd (unissued k.0 h k.2)
-  one_test KeyNotShown SignerDiffers h k = absurd (unissued k.0 h k.2)
-  one_test KeyNotShown NotAccepted h k = absurd (unissued k.0 h k.2)
-  one_test DigestDiffers KeyNotShown h k = absurd (unissued h.0 k h.2)
-  one_test DigestDiffers DigestDiffers h k = refl
-  one_test DigestDiffers SignerDiffers h k = absurd (at_digest policy keys verified s k.0 h.0 k.1 h.1 k.3 h.3 k.4 h.4)
-  one_test DigestDiffers NotAccepted h k = absurd (at_digest policy keys verified s k.0 h.0 k.1 h.1 k.3 h.3 k.4 h.4)
-  one_test SignerDiffers KeyNotShown h k = absurd (unissued h.0 k h.2)
-  one_test SignerDiffers DigestDiffers h k = absurd (at_digest policy keys verified s h.0 k.0 h.1 k.1 h.3 k.3 h.4 k.4)
-  one_test SignerDiffers SignerDiffers h k = refl
-  one_test SignerDiffers NotAccepted h k =
-      absurd (at_signer policy keys verified k.0 h.0 k.1 h.1 (same_signature policy keys verified s k.1 h.1 k.3 h.3)
-      (same_key policy keys verified s k.0 h.0 k.2 h.2) k.5 h.5)
-  one_test NotAccepted KeyNotShown h k = absurd (unissued h.0 k h.2)
-  one_test NotAccepted DigestDiffers h k = absurd (at_digest policy keys verified s h.0 k.0 h.1 k.1 h.3 k.3 h.4 k.4)
-  one_test NotAccepted SignerDiffers h k =
-      absurd (at_signer policy keys verified h.0 k.0 h.1 k.1 (same_signature policy keys verified s h.1 k.1 h.3 k.3)
-      (same_key policy keys verified s h.0 k.0 h.2 k.2) h.5 k.5)
-  one_test NotAccepted NotAccepted h k = refl
 
 -- what is the first of a list without a property is one
 module _ {A : Type 0} (P : A → Type 0) where
@@ -145,30 +118,14 @@ module _ (c : Case) (tuples : List Tuple) (tagged : AreTagged tuples) (e : Entry
       (h.item_is ∙ ap (λ s. s.item) certificates_are ∙ sym k.item_is, both.1)
 
   -- where both are Grants or neither is
-  one_reason : (a b : Reason) → IsReason c tuples e a → IsReason c tuples e b → (a ≡ Grants → b ≡ Grants) → (b ≡ Grants → a ≡ Grants)
-      → a ≡ b
-  one_reason Grants b h k there back = sym (there refl)
-  one_reason NotTheKey Grants h k there back = back refl
-  one_reason NotTheKey NotTheKey h k there back = refl
-  one_reason NotTheKey TagLacks h k there back = ap (λ l. reason_of (Some l)) (one_lack lack.NotTheKey lack.TagLacks h k)
-  one_reason NotTheKey WindowLacks h k there back = ap (λ l. reason_of (Some l)) (one_lack lack.NotTheKey lack.WindowLacks h k)
-  one_reason NotTheKey (Stopped item cause) h k there back = absurd (not_stopped lack.NotTheKey item cause h k)
-  one_reason TagLacks Grants h k there back = back refl
-  one_reason TagLacks NotTheKey h k there back = ap (λ l. reason_of (Some l)) (one_lack lack.TagLacks lack.NotTheKey h k)
-  one_reason TagLacks TagLacks h k there back = refl
-  one_reason TagLacks WindowLacks h k there back = ap (λ l. reason_of (Some l)) (one_lack lack.TagLacks lack.WindowLacks h k)
-  one_reason TagLacks (Stopped item cause) h k there back = absurd (not_stopped lack.TagLacks item cause h k)
-  one_reason WindowLacks Grants h k there back = back refl
-  one_reason WindowLacks NotTheKey h k there back = ap (λ l. reason_of (Some l)) (one_lack lack.WindowLacks lack.NotTheKey h k)
-  one_reason WindowLacks TagLacks h k there back = ap (λ l. reason_of (Some l)) (one_lack lack.WindowLacks lack.TagLacks h k)
-  one_reason WindowLacks WindowLacks h k there back = refl
-  one_reason WindowLacks (Stopped item cause) h k there back = absurd (not_stopped lack.WindowLacks item cause h k)
-  one_reason (Stopped item cause) Grants h k there back = back refl
-  one_reason (Stopped item cause) NotTheKey h k there back = absurd (not_stopped lack.NotTheKey item cause k h)
-  one_reason (Stopped item cause) TagLacks h k there back = absurd (not_stopped lack.TagLacks item cause k h)
-  one_reason (Stopped item cause) WindowLacks h k there back = absurd (not_stopped lack.WindowLacks item cause k h)
-  one_reason (Stopped item a) (Stopped other b) h k there back =
-      let same = one_item item other a b h k in λ i. Stopped (same.0 i) (same.1 i)
+  one_reason : (a b : Reason) → IsParted c tuples e a → IsParted c tuples e b → (a ≡ Grants → b ≡ Grants) → (b ≡ Grants → a ≡ Grants) → a ≡ b
+  one_reason a b (inl h) k there back = h ∙ sym (there h)
+  one_reason a b (inr h) (inl k) there back = back k ∙ sym k
+  one_reason a b (inr (inl h)) (inr (inl k)) there back = h.1 ∙ ap (λ l. reason_of (Some l)) (one_lack h.0 k.0 h.2 k.2) ∙ sym k.1
+  one_reason a b (inr (inl h)) (inr (inr k)) there back = absurd (not_stopped h.0 k.0 k.1 h.2 k.3)
+  one_reason a b (inr (inr h)) (inr (inl k)) there back = absurd (not_stopped k.0 h.0 h.1 k.2 h.3)
+  one_reason a b (inr (inr h)) (inr (inr k)) there back =
+      let same = one_item h.0 k.0 h.1 k.1 h.3 k.3 in h.2 ∙ (λ i. Stopped (same.0 i) (same.1 i)) ∙ sym k.2
 
 -- ---- all entries
 
@@ -183,8 +140,8 @@ module _ (c : Case) (tuples : List Tuple) (tagged : AreTagged tuples) where
   each_one (e ∷ es) (r ∷ rs) [] h k there back = absurd k
   each_one (e ∷ es) (r ∷ rs) (s ∷ ss) h k there back =
       let here : r ≡ s =
-      one_reason c tuples tagged e r s h.0 k.0 (λ g. let t : Some s ≡ Some Grants = there 0 (ap Some g) in cc)
-      (λ g. let t : Some r ≡ Some Grants = back 0 (ap Some g) in cc) in
+      one_reason c tuples tagged e r s (parted c tuples e r h.0) (parted c tuples e s k.0) (λ g. some_same s Grants (there 0 (ap Some g)))
+      (λ g. some_same r Grants (back 0 (ap Some g))) in
       let others : rs ≡ ss = each_one es rs ss h.1 k.1 (λ place. there (suc place)) (λ place. back (suc place)) in
       cc
 

@@ -1,5 +1,5 @@
 -- What stands under the strict policy stands under the open one.
-use Rattle.std.proofs.Common.{◌≡◌, ℕ, List, [], ◌∷◌, Bool, false, Some, None, find, refl, sym, ◌∙◌}
+use Rattle.std.proofs.Common.{◌≡◌, ℕ, List, [], ◌∷◌, Some, None, find, refl, sym, ◌∙◌}
 use Rattle.std.specs.List.{AllZip}
 use Rattle.spki_cert.specs.declared.hash.HashAlg.TheVariants.{Sha1, Sha256, Sha512}
 use Rattle.spki_cert.specs.declared.principal.Policy.TheVariants.{Open, Strict}
@@ -13,16 +13,13 @@ use Rattle.spki_case.specs.Case.{Case, Verified}
 use Rattle.spki_case.specs.Sequence.{Shown, issuer_of, keys_of, certificates}
 use Rattle.spki_decision.specs.Standing.{issuer_key, Stands, StandsAs, AreShown}
 use Rattle.spki_decision.specs.Granted.{Granted, opened, strict}
-
-none_found : (test : List ℕ → Bool) (keys : List (List ℕ)) → ((k : List ℕ) → test k ≡ false) → find test keys ≡ None
-none_found test [] e = refl
-none_found test (k ∷ keys) e = rw (e k) (none_found test keys e)
+use Rattle.spki_decision.proofs.Finding.{found_none}
 
 issuer_openly : (keys : List (List ℕ)) (issuer : Principal) (holder : List ℕ)
     → issuer_key Strict keys issuer ≡ Some holder → issuer_key Open keys issuer ≡ Some holder
 issuer_openly keys (principal.Key octets) holder h = h
 issuer_openly keys (principal.Hash Sha1 digest) holder h =
-    let e : find (λ octets. names Strict (principal.Hash Sha1 digest) octets) keys ≡ None = none_found _ keys (λ k. refl) in
+    let e : find (λ octets. names Strict (principal.Hash Sha1 digest) octets) keys ≡ None = found_none _ keys (λ k other there. refl) in
     let f : None ≡ Some holder = sym e ∙ h in
     cc
 issuer_openly keys (principal.Hash Sha256 digest) holder h = h
@@ -63,7 +60,9 @@ granted_openly c verified n g = record {
   stands = g.stands;
   tuples = g.tuples;
   shown = shown_openly verified c.items g.tuples g.shown;
-  tree = g.tree;
-  leaves_are = g.leaves_are;
-  supports = supported_openly g.tree c.key c.request c.moment g.supports;
+  supported = record {
+    tree = g.supported.tree;
+    leaves_are = g.supported.leaves_are;
+    supports = supported_openly g.supported.tree c.key c.request c.moment g.supported.supports;
+  };
 }

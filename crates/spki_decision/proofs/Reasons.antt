@@ -1,8 +1,11 @@
 -- What the reasons of entries say of what is granted, and of decisions.
-use Rattle.std.proofs.Common.{◌≡◌, ◌↔◌, ℕ, zero, suc, ◌<◌, List, [], ◌∷◌, Option, Some, None, IsNone, slice_get, refl, sym, ap, ◌∙◌, subst, arith}
+use Rattle.std.proofs.Common.{◌≡◌, ◌↔◌, ◌⊎◌, inl, inr, ℕ, suc, ◌<◌, List, Option, Some, None, IsNone, slice_get, refl, sym, ap, ◌∙◌, subst, arith}
 use Rattle.std.specs.List.{AllZip}
+use Rattle.std.specs.Option.{IsSomeAnd}
+use Rattle.std.proofs.lemmas.Slice.Zip.{AllZip-left, AllZip-right}
 use Rattle.spki_tag.specs.Request.{IsRequest}
 use Rattle.spki_cert.specs.declared.entry.Entry.{Entry}
+use Rattle.spki_reduce.specs.declared.fold.Cause.{Cause}
 use Rattle.spki_reduce.specs.declared.last_tests.Lack.{Lack}
 use Rattle.spki_reduce.specs.declared.last_tests.Lack.TheVariants as lack
 use Rattle.spki_reduce.specs.declared.tuple.Five.{Five}
@@ -26,10 +29,9 @@ use Rattle.spki_decision.specs.declared.explanation.Reason.TheVariants.{Grants, 
 use Rattle.spki_decision.specs.declared.evidence.Stop.{Stop}
 use Rattle.spki_decision.specs.Standing.{AreShown}
 use Rattle.spki_decision.specs.Supported.{Supported, AllSmall}
-use Rattle.spki_decision.specs.Reduced.{IsWithinWork}
+use Rattle.spki_decision.specs.Reduced.{IsWithinWork, IsFailure, StopsAtItem}
 use Rattle.spki_decision.specs.Granted.{Granted}
 use Rattle.spki_decision.specs.Decision.{IsDecision}
-use Rattle.spki_decision.specs.Reduced.{IsFailure}
 use Rattle.spki_decision.specs.Explained.{LacksFirst, IsReason, reason_of, AreReasons, IsExplanation, IsFirstGrant, Agrees}
 use Rattle.spki_decision.proofs.Entries.{granted, supported}
 
@@ -72,46 +74,45 @@ module _ (c : Case) (tuples : List Tuple) (e : Entry) where
       let roots : s.supports.root ≡ h.root = cc in
       lacking h.root lack h.first (subst P roots s.supports.grants)
 
-  only_grants : (r : Reason) → IsRequest c.request → IsReason c tuples e r → Supported c tuples e → r ≡ Grants
-  only_grants Grants is h s = refl
-  only_grants NotTheKey is h s = absurd (unsupported_by lack.NotTheKey h s)
-  only_grants TagLacks is h s = absurd (unsupported_by lack.TagLacks h s)
-  only_grants WindowLacks is h s = absurd (unsupported_by lack.WindowLacks h s)
-  only_grants (Stopped item cause) is h s =
-      absurd (unsupported c.policy (five (entry_tuple e)) tuples h.step cause h.stops s.tree c.key c.request c.moment s.leaves_are is s.supports)
+  -- a reason is Grants, or a test that the root doesn't pass, or a stop
+  abbrev pub IsParted : Reason → Type 0
+  IsParted r = (r ≡ Grants) ⊎ ((l : Lack) × (r ≡ reason_of (Some l)) × LacksFirst c tuples e l)
+      ⊎ ((item : ℕ) × (cause : Cause) × (r ≡ Stopped item cause) × StopsAtItem c tuples e item cause)
+
+  pub parted : (r : Reason) → IsReason c tuples e r → IsParted r
+  parted Grants h = inl refl
+  parted NotTheKey h = inr (inl (lack.NotTheKey, refl, h))
+  parted TagLacks h = inr (inl (lack.TagLacks, refl, h))
+  parted WindowLacks h = inr (inl (lack.WindowLacks, refl, h))
+  parted (Stopped item cause) h = inr (inr (item, cause, refl, h))
+
+  only_grants : (r : Reason) → IsRequest c.request → IsParted r → Supported c tuples e → r ≡ Grants
+  only_grants r is (inl h) s = h
+  only_grants r is (inr (inl h)) s = absurd (unsupported_by h.0 h.2 s)
+  only_grants r is (inr (inr h)) s =
+      absurd (unsupported c.policy (five (entry_tuple e)) tuples h.3.step h.1 h.3.stops s.tree c.key c.request c.moment s.leaves_are is s.supports)
 
 -- ---- all entries
 
-module _ {A B : Type 0} (R : A → B → Type 0) where
-  left_at : (xs : List A) (ys : List B) (k : ℕ) (x : A) → AllZip R xs ys → slice_get xs k ≡ Some x
-      → (y : B) × (slice_get ys k ≡ Some y) × R x y
-  left_at [] ys k x h there = absurd cc
-  left_at (z ∷ xs) [] k x h there = absurd h
-  left_at (z ∷ xs) (w ∷ ys) zero x h there = let same : z ≡ x = cc in (w, refl, rw same at h.0)
-  left_at (z ∷ xs) (w ∷ ys) (suc k) x h there = left_at xs ys k x h.1 there
-
-  right_at : (xs : List A) (ys : List B) (k : ℕ) (y : B) → AllZip R xs ys → slice_get ys k ≡ Some y
-      → (x : A) × (slice_get xs k ≡ Some x) × R x y
-  right_at xs [] k y h there = absurd cc
-  right_at [] (w ∷ ys) k y h there = absurd h
-  right_at (z ∷ xs) (w ∷ ys) zero y h there = let same : w ≡ y = cc in (z, refl, rw same at h.0)
-  right_at (z ∷ xs) (w ∷ ys) (suc k) y h there = right_at xs ys k y h.1 there
+some_and : {A : Type 0} (o : Option A) (P : A → Type 0) → IsSomeAnd o P → (x : A) × (o ≡ Some x) × P x
+some_and None P h = absurd h
+some_and (Some x) P h = (x, refl, h)
 
 -- where each entry has its reason, exactly those that are granted have Grants
 module _ (c : Case) (verified : Verified) (tuples : List Tuple) (shown : AreShown c.policy verified c.items tuples)
     (reasons : List Reason) (each : AllZip (IsReason c tuples) c.entries reasons) (place : ℕ) where
   has_granted : slice_get reasons place ≡ Some Grants → Granted (suc place) c verified
   has_granted there =
-      let at = right_at (IsReason c tuples) c.entries reasons place Grants each there in
+      let at = some_and (slice_get c.entries place) _ (rw there at (AllZip-right (IsReason c tuples) c.entries reasons each place)) in
       granted c verified tuples shown place at.0 at.1 at.2
 
   grants_it : IsRequest c.request → Granted (suc place) c verified → slice_get reasons place ≡ Some Grants
   grants_it is g =
       let same : g.place ≡ place = (let n = g.numbered in omega arith) in
       let stands : slice_get c.entries place ≡ Some g.entry = rw same at g.stands in
-      let at = left_at (IsReason c tuples) c.entries reasons place g.entry each stands in
+      let at = some_and (slice_get reasons place) _ (rw stands at (AllZip-left (IsReason c tuples) c.entries reasons each place)) in
       let s = supported c verified tuples shown (suc place) g in
-      at.1 ∙ ap Some (only_grants c tuples g.entry at.0 is at.2 s)
+      at.1 ∙ ap Some (only_grants c tuples g.entry at.0 is (parted c tuples g.entry at.0 at.2) s)
 
 pub are_reasons : (c : Case) (verified : Verified) (tuples : List Tuple) (reasons : List Reason) → IsRequest c.request
     → AreShown c.policy verified c.items tuples → AllZip (IsReason c tuples) c.entries reasons → AllSmall c tuples

@@ -1,5 +1,7 @@
 -- Where chains stop, what fails, and the answers of one entry more.
 use Rattle.std.proofs.Common.{◌≡◌, ◌⊎◌, inl, inr, Option, ℕ, ◌-◌, ◌<◌, List, [], ◌∷◌, Some, map, length, get_or, take, ◌+◌, ◌++◌, slice_get, sym, ap, ◌∙◌, arith}
+use Rattle.std.specs.Prelude.{Vec}
+use Rattle.std.specs.declared.alloc.Global.{Global}
 use Rattle.std.specs.List.{AllZip, AllByRecursion}
 use Rattle.std.proofs.lemmas.List.{length-map, take_more}
 use Rattle.std.proofs.lemmas.Option.{slice_get_within, slice_get-get_or}
@@ -18,7 +20,10 @@ use Rattle.spki_reduce.proofs.Working.{taken as taken_both}
 use Rattle.spki_case.specs.Case.{Case, Verified}
 use Rattle.spki_case.specs.Sequence.{certificates, keys_of}
 use Rattle.spki_decision.specs.declared.certificates.ShownCert.{ShownCert}
+use Rattle.spki_decision.specs.declared.evidence.Evidence.{Evidence}
+use Rattle.spki_decision.specs.declared.evidence.Evidence.TheVariants.{Stands, Fails}
 use Rattle.spki_decision.specs.declared.evidence.Stop.{Stop}
+use Rattle.spki_decision.specs.Judged.{IsEvidence}
 use Rattle.spki_decision.specs.Standing.{AreShown, StandsAs, FailsAt}
 use Rattle.spki_decision.specs.Reduced.{IsFailure, StopsAtItem, HasLargeTags, HasMuchWork, IsEntryWork}
 use Rattle.spki_decision.specs.Supported.{SmallBefore}
@@ -54,6 +59,19 @@ module _ (c : Case) (e : Entry) (steps : List Step) (kept : List ShownCert) (sam
         item_is = ap (λ s. s.item) (sym here);
       }
 
+-- ---- evidence
+
+-- what the evidence of items says, where it is that of items that are the same
+module _ (policy : Policy) (verified : Verified) (items read : List SeqItem) (e : Evidence) (same : read ≡ items)
+    (judged : IsEvidence policy verified read e) where
+  pub all_stand : (steps : Vec Step Global) → e ≡ Stands steps → AreShown policy verified items (tuples_of steps.items)
+  all_stand steps is =
+      let shown : AreShown policy verified read (tuples_of steps.items) = rw is at judged in rw same at shown
+
+  pub one_fails : (item : ℕ) (stop : Stop) → e ≡ Fails item stop → FailsAt policy verified items item stop
+  one_fails item stop is =
+      let fails : FailsAt policy verified read item stop = rw is at judged in rw same at fails
+
 -- where every certificate stands there are as many steps as certificates
 pub as_many : (policy : Policy) (verified : Verified) (items : List SeqItem) (steps : List Step)
     → AreShown policy verified items (tuples_of steps) → length steps ≡ length (certificates items)
@@ -88,7 +106,7 @@ module _ (c : Case) (items : List Entry) (place : ℕ) (e : Entry) (same : items
       let before = rw (← same) at h in
       rw (grown, ← same, taken) (all_zipped_more R (take place items) so_far e answer before k)
 
-  stands : slice_get c.entries place ≡ Some e
+  pub stands : slice_get c.entries place ≡ Some e
   stands = rw same at (slice_get-get_or items place e below ∙ ap Some (sym read))
 
   pub small_here : (tuples : List Tuple) → ¬ TooLargeAt c.most_nodes c.policy (five (entry_tuple e)) tuples → SmallBefore c tuples place

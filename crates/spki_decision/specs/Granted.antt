@@ -6,10 +6,9 @@ use Rattle.spki_reduce.specs.Tuples.{Tuple, five}
 use Rattle.spki_reduce.specs.Restrictions.{nodes_product}
 use Rattle.spki_reduce.specs.Chain.{all_tags, TooLargeAt}
 use Rattle.spki_reduce.specs.Views.{entry_tuple}
-use Rattle.spki_reduce.specs.Derivation.{Tree, leaves}
-use Rattle.spki_reduce.specs.Supports.{Supports}
 use Rattle.spki_case.specs.Case.{Case, Verified}
 use Rattle.spki_decision.specs.Standing.{AreShown}
+use Rattle.spki_decision.specs.Supported.{Supported}
 
 -- Entry number n, from 1, is granted (RFC 2693, section 6.3). Every certificate stands. Some derivation from the entry and
 -- all certificates in their order, in any bracketing, supports the key, the request and the moment.
@@ -20,9 +19,7 @@ pub record Granted (n : ℕ) (c : Case) (verified : Verified) : Type 0 where
   pub stands : slice_get c.entries place ≡ Some entry
   pub tuples : List Tuple
   pub shown : AreShown c.policy verified c.items tuples
-  pub tree : Tree
-  pub leaves_are : leaves tree ≡ five (entry_tuple entry) ∷ tuples
-  pub supports : Supports c.policy tree c.key c.request c.moment
+  pub supported : Supported c tuples entry
 
 -- Entry number n is the first that is granted.
 pub record IsFirstGranted (n : ℕ) (c : Case) (verified : Verified) : Type 0 where

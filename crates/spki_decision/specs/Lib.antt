@@ -10,7 +10,6 @@ pub mod Decision
 pub mod Refusal
 pub mod Supported
 pub mod Membership
-pub mod WholeFold
 pub mod Sizes
 pub mod Reduced
 pub mod Explained

@@ -68,12 +68,17 @@ FailsBy policy keys verified shown NotAccepted =
     × IsTrue (is_digest s.alg s.digest (octets_of shown.certificate)) × IsTrue (names policy s.signer holder)
     × ¬ verified holder (octets_of shown.certificate) s.value
 
--- The certificates before an item stand, and the certificate of this item fails by this test.
-pub record FailsAt (policy : Policy) (verified : Verified) (items : List SeqItem) (item : ℕ) (stop : Stop) : Type 0 where
+-- Of some certificates those before this item stand, and the certificate of this item fails by this test.
+pub record FailsIn
+    (policy : Policy) (keys : List (List ℕ)) (verified : Verified) (shown : List Shown) (item : ℕ) (stop : Stop) : Type 0 where
   pub before : List Shown
   pub failing : Shown
   pub after : List Shown
-  pub parts : certificates items ≡ before ++ failing ∷ after
-  pub standing : AllByRecursion (λ shown. (holder : List ℕ) × Stands policy (keys_of items) verified shown holder) before
+  pub parts : shown ≡ before ++ failing ∷ after
+  pub standing : AllByRecursion (λ s. (holder : List ℕ) × Stands policy keys verified s holder) before
   pub place : item ≡ failing.item
-  pub fails : FailsBy policy (keys_of items) verified failing stop
+  pub fails : FailsBy policy keys verified failing stop
+
+-- the same of the certificates of a sequence, with its keys
+abbrev pub FailsAt : Policy → Verified → List SeqItem → ℕ → Stop → Type 0
+FailsAt policy verified items item stop = FailsIn policy (keys_of items) verified (certificates items) item stop

@@ -5,9 +5,8 @@ use Rattle.spki_cert.specs.declared.certificate.SeqItem.{SeqItem}
 use Rattle.spki_cert.specs.declared.certificate.SeqItem.TheVariants.{Key, DoHash, Auth, Name, Signature}
 use Rattle.spki_decision.specs.declared.examination.Tested.{Tested}
 use Rattle.spki_decision.specs.declared.examination.Tested.TheVariants.{Passes, Fails}
-use Rattle.spki_decision.specs.declared.signed.Signed as examined
 use Rattle.spki_decision.specs.Views.{signed_of}
-use Rattle.spki_decision.specs.Asked.{every}
+use Rattle.spki_decision.specs.Asked.{Signed, every}
 use Rattle.spki_cert.specs.declared.certificate.Signature as signature
 use Rattle.spki_case.specs.Sequence.{Certificate, auth, name, Shown, octets_of, signature_in}
 use Rattle.spki_decision.specs.Standing.{Stands, FailsBy}
@@ -49,13 +48,13 @@ certificate_at n (Auth cert) behind = record { item = n; certificate = auth cert
 certificate_at n (Name cert) behind = record { item = n; certificate = name cert; signature = signature_in behind } ∷ []
 certificate_at n (Signature s) behind = []
 
--- The certificate passes the first three tests, and this is its signature.
-pub record PassesAs (policy : Policy) (keys : List (List ℕ)) (shown : Shown) (signed : examined.Signed) : Type 0 where
+-- The certificate passes the first three tests, and this is what a verifier is asked about it.
+pub record PassesAs (policy : Policy) (keys : List (List ℕ)) (shown : Shown) (signed : Signed) : Type 0 where
   pub stands : Stands policy keys every shown signed.key
-  pub signed_is : signed_of signed
+  pub signed_is : signed
       ≡ record { item = shown.item; key = signed.key; message = octets_of shown.certificate; value = stands.signature.value }
 
 -- the result of the first three tests of a certificate
 abbrev pub IsTested : Policy → List (List ℕ) → Shown → Tested → Type 0
-IsTested policy keys shown (Passes signed) = PassesAs policy keys shown signed
+IsTested policy keys shown (Passes signed) = PassesAs policy keys shown (signed_of signed)
 IsTested policy keys shown (Fails stop) = FailsBy policy keys every shown stop

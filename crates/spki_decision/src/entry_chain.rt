@@ -1,11 +1,10 @@
 //! Joins an entry and the steps after it (RFC 2693, section 6.3).
 
-ghost use Rattle.std.specs.Prelude.{◌≡◌, ◌≤◌, ◌⊎◌, ℕ, IfOk, OnOk, IsErrOf};
-ghost use Rattle.spki_reduce.specs.Tuples.{five};
-ghost use Rattle.spki_reduce.specs.Views.{entry_tuple, five_tuple};
-ghost use Rattle.spki_reduce.specs.Chain.{tuples_of, TooLargeAt};
+ghost use Rattle.std.specs.Prelude.{◌≡◌, ◌≤◌, ◌⊎◌, ℕ, [], IfOk, OnOk, IsErrOf};
+ghost use Rattle.spki_reduce.specs.Tuples.{five, own};
+ghost use Rattle.spki_reduce.specs.Views.{entry_tuple, five_tuple, issuer_of};
+ghost use Rattle.spki_reduce.specs.Chain.{tuples_of, FoldsTo, StopsAt, HasMet, TooLargeAt, Excludes, MatchFold};
 ghost use Rattle.spki_reduce.specs.Work.{left_of, Takes, IsWork, IsOverworked};
-ghost use Rattle.spki_decision.specs.WholeFold.{IsWholeFold};
 
 use spki_cert::{Entry, Policy};
 use spki_reduce::{Five, Fold, Issuer, ReduceFault, Step, Work, fold_owned};
@@ -22,7 +21,17 @@ pub(crate) fn fold_entry<'a>(
     work: &mut Work,
 ) -> Result<Fold<'a>, ReduceFault>
     requires { most ≤ 1000000 }
-    ensures exact { IfOk result (IsWholeFold policy most entry.now (tuples_of steps.now)) }
+    ensures fold { IfOk result (λ fold. MatchFold fold
+        (FoldsTo policy (five (entry_tuple entry.now)) (tuples_of steps.now))
+        (StopsAt policy (five (entry_tuple entry.now)) (tuples_of steps.now))) }
+    ensures alone { tuples_of steps.now ≡ [] → IfOk result (λ fold. MatchFold fold
+        (λ f. five_tuple f ≡ entry_tuple entry.now) (λ step cause. ⊥)) }
+    ensures issuer { IfOk result (λ fold. MatchFold fold (λ f. issuer_of f.issuer ≡ own) (λ step cause. Unit {0})) }
+    ensures which { IfOk result (λ fold. MatchFold fold
+        (HasMet (five (entry_tuple entry.now)) (tuples_of steps.now)) (λ step cause. Unit {0})) }
+    ensures excluded { IfOk result (λ fold. MatchFold fold (λ f. Unit {0})
+        (Excludes policy (five (entry_tuple entry.now)) (tuples_of steps.now))) }
+    ensures small { IfOk result (λ fold. ¬ TooLargeAt most policy (five (entry_tuple entry.now)) (tuples_of steps.now)) }
     ensures too_large { IsErrOf result ReduceFault.TooLarge →
         TooLargeAt most policy (five (entry_tuple entry.now)) (tuples_of steps.now)
         ⊎ IsOverworked (left_of work.old) policy (five (entry_tuple entry.now)) (tuples_of steps.now) }

@@ -7,7 +7,7 @@ use Rattle.spki_decision.specs.Asked.{asked_in, asked_of, every}
 use Rattle.spki_decision.specs.Steps.{IsTested, PassesAs}
 use Rattle.spki_decision.specs.Views.{shown_of, signed_of}
 use Rattle.spki_decision.proofs.AskedOf.{stands_asked, not_asked, asked_more, asked_whole}
-use Rattle.spki_decision.proofs.Chains.{signed_here, failing_here, standing_more, rest_here}
+use Rattle.spki_decision.proofs.Chains.{signed_here, failing_here, standing_more, rest_of}
 use Rattle.spki_decision.proofs.examination.examine.Goals as goal
 
 pub test-requires : goal.test-requires
@@ -28,7 +28,7 @@ returns-in-Fails-clause-asked c =
     let keys : c.loop-shown.keys ≡ keys_of items = c.loop-shown.invariant.keys in
     let tested : IsTested policy c.loop-shown.keys (shown_of one) (Fails c.in-Fails.stop) = rw c.in-Fails.is at c.in_ok-one.ensures.tested in
     let fails : FailsBy policy (keys_of items) every (shown_of one) c.in-Fails.stop = rw keys at tested in
-    let rest = rest_here items kept same i c.loop-shown-test.true one c.shown-item.is in
+    let rest = rest_of shown_of kept i c.loop-shown-test.true one c.shown-item.is in
     let whole = asked_whole policy (keys_of items) (map signed_of c.loop-shown.signed.items) (map shown_of kept) i (shown_of one) rest
     c.loop-shown.invariant.asked (not_asked policy (keys_of items) (shown_of one) c.in-Fails.stop fails) in
     sym whole ∙ ap (asked_in policy (keys_of items)) same
@@ -55,11 +55,11 @@ loop-shown-preserved c =
     let one = c.shown-item.result in
     let signed = c.in-Passes.one in
     let i = c.loop-shown.shown-index in
-    let tested : PassesAs policy c.loop-shown.keys (shown_of one) signed = rw c.in-Passes.is at c.in_ok-one.ensures.tested in
-    let passes : PassesAs policy (keys_of items) (shown_of one) signed = rw keys at tested in
+    let tested : PassesAs policy c.loop-shown.keys (shown_of one) (signed_of signed) = rw c.in-Passes.is at c.in_ok-one.ensures.tested in
+    let passes : PassesAs policy (keys_of items) (shown_of one) (signed_of signed) = rw keys at tested in
     let grown = standing_more items kept same i c.loop-shown-test.true one c.shown-item.is policy every c.loop-shown.steps.items
     c.in_ok-step-in-Passes.field-0 signed.key c.loop-shown.invariant.standing passes.stands c.in_ok-step-in-Passes.ensures in
-    let rest = rest_here items kept same i c.loop-shown-test.true one c.shown-item.is in
+    let rest = rest_of shown_of kept i c.loop-shown-test.true one c.shown-item.is in
     let asked : asked_of policy (keys_of items) (shown_of one) ≡ Some (signed_of signed) =
     stands_asked policy (keys_of items) every (shown_of one) signed.key passes.stands ∙ ap Some (sym passes.signed_is) in
     let added = asked_more policy (keys_of items) (map signed_of c.loop-shown.signed.items) (map shown_of kept) i (shown_of one) rest

@@ -8,16 +8,16 @@ use Rattle.spki_decision.proofs.reduction.entry_fold.Goals as goal
 
 pub returns-in-Done-clause-exact : goal.returns-in-Done-clause-exact
 returns-in-Done-clause-exact c es = (
-  rw c.in-Done.is at c.in_ok-five.ensures.exact.becomes,
-  rw c.in-Done.is at c.in_ok-five.ensures.exact.which,
-  λ none. rw c.in-Done.is at (c.in_ok-five.ensures.exact.alone none),
+  rw c.in-Done.is at c.in_ok-five.ensures.fold,
+  rw c.in-Done.is at c.in_ok-five.ensures.which,
+  λ none. rw c.in-Done.is at (c.in_ok-five.ensures.alone none),
 )
 
 pub bounds-shown-step : goal.bounds-shown-step
 bounds-shown-step c =
     let first = five (entry_tuple c.args.entry.now) in
     let stops : StopsAt c.args.case.now.policy first (tuples_of c.args.steps.now) c.in-Stopped.step c.in-Stopped.cause =
-    rw c.in-Stopped.is at c.in_ok-five.ensures.exact.becomes in
+    rw c.in-Stopped.is at c.in_ok-five.ensures.fold in
     stops_within (model c.args.case.now) c.args.entry.now c.args.steps.now c.args.shown.now c.requires.whole c.requires.as_many
     c.in-Stopped.step c.in-Stopped.cause stops
 
@@ -26,8 +26,8 @@ returns-in-Stopped-clause-exact c es =
     let policy = c.args.case.now.policy in
     let first = five (entry_tuple c.args.entry.now) in
     let steps = tuples_of c.args.steps.now in
-    let stops : StopsAt policy first steps c.in-Stopped.step c.in-Stopped.cause = rw c.in-Stopped.is at c.in_ok-five.ensures.exact.becomes in
+    let stops : StopsAt policy first steps c.in-Stopped.step c.in-Stopped.cause = rw c.in-Stopped.is at c.in_ok-five.ensures.fold in
     let excludes : Excludes policy first steps c.in-Stopped.step c.in-Stopped.cause =
-    rw c.in-Stopped.is at c.in_ok-five.ensures.exact.excludes in
+    rw c.in-Stopped.is at c.in_ok-five.ensures.excluded in
     stops_at_item (with_entries (model c.args.case.now) es) c.args.entry.now c.args.steps.now c.args.shown.now c.requires.whole c.requires.as_many
     c.in-Stopped.step c.in-Stopped.cause stops c.index-shown-step.result c.index-shown-step.is excludes

@@ -1,13 +1,12 @@
-use Rattle.std.proofs.Common.{◌≡◌, ◌+◌, ◌≤◌, ◌∷◌, [], ◌++◌, All, take, false, sym, ap, ◌∙◌, subst, arith, append-nil}
-use Rattle.std.proofs.lemmas.List.{take_more, map-append}
+use Rattle.std.proofs.Common.{◌≡◌, ◌+◌, ◌≤◌, ◌∷◌, [], ◌++◌, All, take, false, sym, ap, ◌∙◌, subst, arith}
 use Rattle.std.proofs.lemmas.List.Elements.{All-push, All-weaker}
-use Rattle.std.proofs.lemmas.Grind.{flat_map-append}
 use Rattle.spki_tag.specs.Tag.{tags, nodes_all, some_nests_set}
 use Rattle.spki_tag.proofs.Bounds.{append-nodes}
 use Rattle.spki_reduce.specs.Tuples.{Tuple, tags_of}
 use Rattle.spki_reduce.specs.Views.{step_tuple}
 use Rattle.spki_reduce.specs.Restrictions.{nodes_product}
 use Rattle.spki_reduce.specs.Chain.{tuples_of, all_tags}
+use Rattle.spki_decision.proofs.Memberships.{more_tuples, more_tags}
 use Rattle.spki_decision.proofs.PlainChains.{append-sets, none_of}
 use Rattle.spki_decision.proofs.sizes.plain_of.Goals as goal
 
@@ -19,19 +18,19 @@ loop-step-preserved c =
     let x = c.step-item.result in
     let before = tuples_of (take i steps) in
     let own = tags_of (step_tuple x) in
-    let more : tuples_of (take (i + 1) steps) ≡ before ++ step_tuple x ∷ [] =
-    ap tuples_of (rw (← c.step-item.is) at (take_more steps i x c.loop-step-test.true)) ∙ map-append step_tuple (take i steps) (x ∷ []) in
-    let all : all_tags (tuples_of (take (i + 1) steps)) ≡ all_tags before ++ own =
-    ap all_tags more ∙ flat_map-append tags_of before (step_tuple x ∷ []) ∙ ap (λ ts. all_tags before ++ ts) (append-nil own) in
+    let more = more_tuples steps i x c.loop-step-test.true c.step-item.is in
+    let all = more_tags steps i x c.loop-step-test.true c.step-item.is in
     let no_set : some_nests_set (tags (all_tags (tuples_of (take (i + 1) steps)))) ≡ false =
     ap (λ ts. some_nests_set (tags ts)) all ∙ append-sets (all_tags before) own
-    ∙ none_of (some_nests_set (tags (all_tags before))) (some_nests_set (tags own)) c.loop-step.invariant.no_set (c.nests_set.ensures c.if-nests_set.false) in
+    ∙ none_of (some_nests_set (tags (all_tags before))) (some_nests_set (tags own)) c.loop-step.invariant.no_set
+    (c.nests_set.ensures c.if-nests_set.false) in
     let sum : nodes_all (tags (all_tags (tuples_of (take (i + 1) steps)))) ≡ nodes_all (tags (all_tags before)) + nodes_all (tags own) =
     ap (λ ts. nodes_all (tags ts)) all ∙ append-nodes (all_tags before) own in
     let P : Tuple → Type 0 = λ tuple. nodes_product (tags_of tuple) ≤ c.max.result in
     let each : All P (before ++ step_tuple x ∷ []) =
     All-push P before (step_tuple x)
-    (All-weaker (λ tuple. nodes_product (tags_of tuple) ≤ c.loop-step.plain.most) P (λ tuple h. omega (arith, h)) before c.loop-step.invariant.each_nodes)
+    (All-weaker (λ tuple. nodes_product (tags_of tuple) ≤ c.loop-step.plain.most) P (λ tuple h. omega (arith, h)) before
+    c.loop-step.invariant.each_nodes)
     (omega (arith, c.nodes_in-nodes.ensures.counted)) in
     record {
       no_set = no_set;

@@ -1,12 +1,10 @@
-use Rattle.std.proofs.Common.{◌≡◌, ◌+◌, ◌*◌, ◌∷◌, [], ◌++◌, take, sym, ap, ◌∙◌, arith, append-nil}
-use Rattle.std.proofs.lemmas.List.{take_more}
-use Rattle.std.proofs.lemmas.Grind.{flat_map-append}
-use Rattle.std.proofs.lemmas.List.{map-append}
+use Rattle.std.proofs.Common.{◌≡◌, ◌+◌, ◌*◌, take, sym, ap, ◌∙◌, arith}
 use Rattle.spki_reduce.specs.Tuples.{tags_of}
 use Rattle.spki_reduce.specs.Views.{step_tuple}
 use Rattle.spki_reduce.specs.Restrictions.{nodes_product}
 use Rattle.spki_reduce.specs.Chain.{tuples_of, all_tags}
 use Rattle.spki_reduce.proofs.Folding.{nodes_product-append}
+use Rattle.spki_decision.proofs.Memberships.{more_tags}
 use Rattle.spki_decision.proofs.sizes.product_of.Goals as goal
 
 -- one step more
@@ -16,12 +14,9 @@ loop-step-preserved c =
     let i = c.loop-step.step-index in
     let x = c.step-item.result in
     let before = tuples_of (take i steps) in
-    let more : tuples_of (take (i + 1) steps) ≡ before ++ step_tuple x ∷ [] =
-    ap tuples_of (rw (← c.step-item.is) at (take_more steps i x c.loop-step-test.true)) ∙ map-append step_tuple (take i steps) (x ∷ []) in
-    let tags : all_tags (tuples_of (take (i + 1) steps)) ≡ all_tags before ++ tags_of (step_tuple x) =
-    ap all_tags more ∙ flat_map-append tags_of before (step_tuple x ∷ [])
-    ∙ ap (λ ts. all_tags before ++ ts) (append-nil (tags_of (step_tuple x))) in
-    let product : nodes_product (all_tags (tuples_of (take (i + 1) steps))) ≡ nodes_product (all_tags before) * nodes_product (tags_of (step_tuple x)) =
+    let tags = more_tags steps i x c.loop-step-test.true c.step-item.is in
+    let product : nodes_product (all_tags (tuples_of (take (i + 1) steps)))
+    ≡ nodes_product (all_tags before) * nodes_product (tags_of (step_tuple x)) =
     ap nodes_product tags ∙ nodes_product-append (all_tags before) (tags_of (step_tuple x)) in (
       ap (λ n. n * c.nodes_in-product.result) c.loop-step.invariant.0
           ∙ ap (λ n. nodes_product (all_tags before) * n) c.nodes_in-product.ensures.counted ∙ sym product,
