@@ -1,6 +1,6 @@
 //! Signatures that a verifier is asked about, with texts of their own.
 
-ghost use Rattle.std.specs.Prelude.{◌≡◌, ◌↔◌, map, IsTrue, IfOk};
+ghost use Rattle.std.specs.Prelude.{◌≡◌, ◌↔◌, ◌≤◌, map, length, IsTrue, IfOk, IfErr};
 ghost use Rattle.spki_decision.specs.Views.{signed_of};
 ghost use Rattle.spki_service.specs.Marks.{AskSame};
 
@@ -62,7 +62,7 @@ impl OwnedSigned {
     }
 }
 
-/// Returns the same signatures with texts of their own.
+/// Returns the same signatures with texts of their own. For n signatures by k keys this takes n searches of at most log k + 1 steps.
 ///
 /// # Errors
 ///
@@ -71,8 +71,9 @@ pub(crate) fn owned_signed(alloc: Global, signed: &[Signed]) -> Result<Vec<Owned
     ensures { IfOk result (λ owned. owned.items ≡ map signed_of signed.now) }
 {
     let mut owned = Vec::new(alloc);
+    let mut order = Vec::new(alloc);
     for one in signed {
-        let key = shared_key(alloc, owned.as_slice(), &one.key)?;
+        let key = shared_key(alloc, owned.as_slice(), &mut order, &one.key)?;
         owned.push(owned_one(alloc, one, key)?)?;
     }
     Ok(owned)
@@ -91,17 +92,52 @@ fn owned_one(alloc: Global, one: &Signed, key: Arc<Vec<u8>>) -> Result<OwnedSign
     })
 }
 
-/// Returns the octets of a key: those of a signature that has the same key, or otherwise a copy.
-fn shared_key(alloc: Global, owned: &[OwnedSigned], key: &Key) -> Result<Arc<Vec<u8>>, AllocError>
+/// Returns the octets of a key: those of a signature that has the same key, or otherwise a copy. `order` has for each key the number of
+/// the first signature that has it, by the keys' octets. A new key is added, with the number of the next signature.
+fn shared_key(
+    alloc: Global,
+    owned: &[OwnedSigned],
+    order: &mut Vec<usize>,
+    key: &Key,
+) -> Result<Arc<Vec<u8>>, AllocError>
     ensures { IfOk result (λ shared. shared.value.items ≡ key.now) }
 {
     let octets = key.as_slice();
-    for one in owned {
-        if one.key() == octets {
-            return Arc::try_clone(&one.key);
+    match found_key(owned, order.as_slice(), octets) {
+        Ok(key) => Arc::try_clone(key),
+        Err(place) => {
+            order.insert(place, owned.len())?;
+            new_key(alloc, octets)
         }
     }
-    new_key(alloc, octets)
+}
+
+/// The key with these octets, if a signature has it. Otherwise the place in the order where it would be.
+fn found_key<'o>(
+    owned: &'o [OwnedSigned],
+    order: &[usize],
+    octets: &[u8],
+) -> Result<&'o Arc<Vec<u8>>, usize>
+    ensures found { IfOk result (λ key. key.now.value.items ≡ octets.now) }
+    ensures place { IfErr result (λ place. place ≤ length order.now) }
+{
+    let mut low = 0;
+    let mut high = order.len();
+    while low < high {
+        let middle = low + (high - low) / 2;
+        let Some(one) = owned.get(order[middle]) else {
+            return Err(low);
+        };
+        if one.key() == octets {
+            return Ok(&one.key);
+        }
+        if one.key() < octets {
+            low = middle + 1;
+        } else {
+            high = middle;
+        }
+    }
+    Err(low)
 }
 
 /// Returns a copy of the octets of a key.
