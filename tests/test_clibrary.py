@@ -351,7 +351,7 @@ class Fuzzed(OfC):
         to, folder, kept = (os.path.join(*words) for words in ((self.room, "fuzz"), (TESTS, "fuzz"), (TESTS, "out")))
         sources = [os.path.join(folder, "calls.c"), *(os.path.join(CRATE, name) for name in ("spki.c", "heap.c"))]
         proved = os.path.join(os.path.dirname(built.library()), "proved", "libspki_c.a")
-        self.assertTrue(is_compiled(*FUZZED, "-o", to, *sources, proved, "-lcrypto"), "calls.c is not compiled")
+        self.assertTrue(is_compiled(*FUZZED, *REFUSING, "-o", to, *sources, proved, "-lcrypto"), "calls.c is not compiled")
         corpus = shutil.copytree(os.path.join(folder, "corpus"), os.path.join(self.room, "corpus"), dirs_exist_ok=True)
         os.makedirs(kept, exist_ok=True)
         words = [to, "-max_len=1500", "-len_control=0", "-timeout=120", f"-artifact_prefix={kept}/fuzzed-", *flags, corpus]

@@ -1,5 +1,6 @@
 /* Calls spki.h with parts that are made from fuzzed octets (libFuzzer), and compares the answers: a guard's with those to the case of the same
- * parts, a decision with its explanation, a text with what it is converted to and back.
+ * parts, a decision with its explanation, a text with what it is converted to and back. Some calls are made with a request for memory refused
+ * first.
  *
  * The library is not instrumented, so libFuzzer is told of each new answer as of a new place in the code. */
 #include "pieces.h"
@@ -19,6 +20,33 @@ static void holds(int is_so, const char *what)
         return;
     fprintf(stderr, "%s\n", what);
     abort();
+}
+
+/* Which request for memory of the next call is refused, none at 0; what is left of that in a call; and whether one was. */
+static size_t next_refusal, until_refusal;
+static int is_refused;
+
+void *__real_malloc(size_t size);
+void *__real_realloc(void *block, size_t size);
+void *__wrap_malloc(size_t size);
+void *__wrap_realloc(void *block, size_t size);
+
+static int refuses(void)
+{
+    if (!until_refusal || --until_refusal)
+        return 0;
+    is_refused = 1;
+    return 1;
+}
+
+void *__wrap_malloc(size_t size)
+{
+    return refuses() ? NULL : __real_malloc(size);
+}
+
+void *__wrap_realloc(void *block, size_t size)
+{
+    return refuses() ? NULL : __real_realloc(block, size);
 }
 
 /* The answer of a call. */
@@ -50,7 +78,9 @@ static struct answer done(call *calls, const void *with, size_t size)
     holds(block != NULL, "no memory");
     memset(block, CANARY, size + 2 * CANARIES);
     memset(buffer, UNTOUCHED, size);
+    until_refusal = next_refusal;
     answer.status = calls(with, buffer, size, &answer.length);
+    until_refusal = next_refusal = 0;
     written = answer.status == SPKI_TOO_SMALL ? 0 : answer.length;
     holds(answer.status == SPKI_TOO_SMALL ? answer.length > size : answer.length <= size, "another length is needed");
     for (size_t place = written; place < size; place++)
@@ -62,11 +92,31 @@ static struct answer done(call *calls, const void *with, size_t size)
     return answer;
 }
 
+static int is(const struct answer *answer, const char *wanted)
+{
+    return answer->length == strlen(wanted) && !memcmp(answer->octets, wanted, answer->length);
+}
+
+/* Does a call while a request for memory is refused, in one of four cases. If one was, the answer says so. */
+static void refuse(struct input *in, call *calls, const void *with)
+{
+    struct answer answer;
+    if (below(in, 4) < 3)
+        return;
+    is_refused = 0;
+    next_refusal = 1 + below(in, 64);
+    answer = done(calls, with, ROOM);
+    holds(!is_refused || (answer.status == SPKI_REFUSED && is(&answer, "refused Memory\n")), "another answer where memory is refused");
+    free(answer.octets);
+}
+
 /* Does a call with a buffer of some size, and once more if it is too small. The caller frees the octets. */
 static struct answer answered(struct input *in, call *calls, const void *with)
 {
     static const size_t sizes[] = {ROOM, 0, 1, 11};
-    struct answer answer = done(calls, with, sizes[below(in, 4)]);
+    struct answer answer;
+    refuse(in, calls, with);
+    answer = done(calls, with, sizes[below(in, 4)]);
     if (answer.status == SPKI_TOO_SMALL) {
         free(answer.octets);
         answer = done(calls, with, answer.length);
@@ -74,11 +124,6 @@ static struct answer answered(struct input *in, call *calls, const void *with)
     }
     count(&answer);
     return answer;
-}
-
-static int is(const struct answer *answer, const char *wanted)
-{
-    return answer->length == strlen(wanted) && !memcmp(answer->octets, wanted, answer->length);
 }
 
 static int are_same(const struct answer *one, const struct answer *other)
@@ -329,6 +374,8 @@ static void ask(struct input *in, const struct parts *parts, spki_guard *guard, 
         question.seconds = &copy.seconds;
     else
         question.moment = lent(&copy.moment);
+    refuse(in, asks, &with);
+    spki_asked_close(asked);
     answer = done(asks, &with, ROOM);
     holds(answer.status == SPKI_DONE || answer.status == SPKI_REFUSED, "a question is misuse");
     count(&answer);
@@ -360,6 +407,8 @@ int LLVMFuzzerTestOneInput(const uint8_t *data, size_t size)
         convert(&in, texts[place]);
     }
     with.list = lent(&parts.list);
+    refuse(&in, opens, &with);
+    spki_guard_close(guard);
     answer = done(opens, &with, ROOM);
     holds(answer.status == SPKI_DONE || answer.status == SPKI_REFUSED, "a list is misuse");
     count(&answer);
