@@ -79,6 +79,12 @@ func endedOf(text []byte) (map[digest]struct{}, error) {
 	return ended, lines.Err()
 }
 
+// hasEnded says whether the certificate with a digest has ended early.
+func (a *access) hasEnded(certificate digest) bool {
+	_, hasEnded := a.ended[certificate]
+	return hasEnded
+}
+
 // reload reads the list and the digests again. If one of them is refused, the old ones stay. Questions under way end with those they began
 // with.
 func (k *keeper) reload(c *config) error {

@@ -10,14 +10,16 @@ import (
 // scheme begins the value of `Authorization` in which a client sends its certificates. It is the same in upper and lower case.
 const scheme = "SPKI "
 
-// noSequence is shown by a client that sends no certificates.
-const noSequence = "(sequence)"
+// The most octets of a request's number.
+const mostID = 64
 
 // An asked is what the web server asks: what its headers say.
 type asked struct {
 	method, target, certificate string
 	// The client's certificates in transport form, or empty.
 	sequence string
+	// The number that the web server has given the request, for the log, or empty.
+	id string
 }
 
 var (
@@ -36,6 +38,10 @@ func (c *config) askedOf(request *http.Request) (made asked, err error) {
 	if octetsOf(request.Header) > c.Limits.HeaderOctets {
 		return made, errTooLong
 	}
+	if made.id, err = only(request, c.Headers.ID); err != nil {
+		return made, err
+	}
+	made.id = cut(made.id, mostID)
 	made.method, made.target = request.Method, request.RequestURI
 	if c.Headers.Method != "" {
 		if made.method, err = required(request, c.Headers.Method); err != nil {

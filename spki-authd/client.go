@@ -29,10 +29,17 @@ var (
 	errKey         = errors.New("the client's key is none that is used")
 )
 
-// keys read the keys of certificates, and keep those of the last ones: to read a certificate takes longer than to decide.
+// keys read the keys of certificates, and keep those of the last ones: to read a certificate takes longer than to decide. They are kept by the
+// whole text of the header, on which alone they depend.
 type keys struct {
 	form form
-	read *recent[string, []byte]
+	read *recent[string, client]
+}
+
+// A client is a key, and its SHA-256 digest as the log has it.
+type client struct {
+	key  []byte
+	name string
 }
 
 // The number of keys that are kept, and the most octets of a certificate whose key is.
@@ -43,19 +50,20 @@ const (
 
 // newKeys returns what reads keys in a form.
 func newKeys(name string) *keys {
-	return &keys{forms[name], newRecent[string, []byte](mostKeys)}
+	return &keys{forms[name], newRecent[string, client](mostKeys)}
 }
 
-// of returns the key of a certificate.
-func (k *keys) of(text string) ([]byte, error) {
-	if key, isKept := k.read.get(text); isKept {
-		return key, nil
+// of returns the client that a certificate is of.
+func (k *keys) of(text string) (client, error) {
+	if kept, isKept := k.read.get(text); isKept {
+		return kept, nil
 	}
 	key, err := keyOf(text, k.form)
+	made := client{key, hexDigest(key)}
 	if err == nil && len(text) <= mostLength {
-		k.read.add(text, key)
+		k.read.add(text, made)
 	}
-	return key, err
+	return made, err
 }
 
 // keyOf returns the SPKI key of the client's certificate. Only the key counts: who holds it has shown that to the web server.

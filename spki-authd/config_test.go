@@ -15,7 +15,8 @@ func TestLeastConfig(t *testing.T) {
 	if err != nil {
 		t.Fatal(err)
 	}
-	wanted := headers{Method: "X-Original-Method", URI: "X-Original-Uri", Certificate: "X-Client-Cert", Sequence: "X-Spki-Sequence", Secret: "X-Spki-Secret"}
+	wanted := headers{Method: "X-Original-Method", URI: "X-Original-Uri", Certificate: "X-Client-Cert", Sequence: "X-Spki-Sequence", Secret: "X-Spki-Secret",
+		ID: "X-Request-Id"}
 	if made.Headers != wanted || made.CertificateForm != escapedPEM || made.RefusedStatus != 400 || made.Limits != usualLimits || *made.Cache != usualCache {
 		t.Errorf("%+v", made)
 	}

@@ -13,12 +13,13 @@ import (
 
 // A decider answers what the web server asks.
 type decider struct {
-	config *config
-	keys   *keys
-	keeper keeper
-	cache  *cache
-	log    *logger
-	now    func() time.Time
+	config    *config
+	keys      *keys
+	keeper    keeper
+	cache     *cache
+	sequences *sequences
+	log       *logger
+	now       func() time.Time
 }
 
 // The most octets of reasons, and of a target that is not clear, in the log.
@@ -34,15 +35,15 @@ var (
 
 // decide returns the record of what is asked. Its answer is yes only if the guard has granted the request.
 func (d *decider) decide(asked asked) record {
-	made := record{Answer: answerNo}
+	made := record{Answer: answerNo, ID: asked.id}
 	if asked.certificate == "" {
 		return made.ended(answerUnknown, errNoCertificate)
 	}
-	key, err := d.keys.of(asked.certificate)
+	client, err := d.keys.of(asked.certificate)
 	if err != nil {
 		return made.ended(answerRefused, err)
 	}
-	made.Key = hexDigest(key)
+	made.Key = client.name
 	path, err := pathOf(asked.target, d.config.Limits.PathOctets)
 	if err != nil {
 		made.Target = cut(asked.target, mostTarget)
@@ -53,59 +54,93 @@ func (d *decider) decide(asked asked) record {
 		made.Target = cut(asked.method+" "+path, mostTarget)
 		return made.ended(answerNo, errNoRule)
 	}
-	return d.judge(made, key, asked.sequence)
+	return d.judge(made, client.key, asked.sequence)
 }
 
 // judge asks the guard.
 func (d *decider) judge(made record, key []byte, sequence string) record {
-	isAlone := sequence == ""
-	if isAlone {
-		sequence = noSequence
+	question := guard.Question{Key: key, Words: made.Request, Time: d.now()}
+	var decision guard.Decision
+	var err error
+	if known := d.sequences.of(sequence); known != nil && !d.config.Explain {
+		decision, err = d.decideKnown(&made, question, known)
+	} else {
+		decision, err = d.decideAnew(&made, question, sequence)
 	}
-	access, opened, err := d.keeper.ask(guard.Question{Sequence: []byte(sequence), Key: key, Words: made.Request, Time: d.now()})
-	if err != nil {
+	switch {
+	case err != nil:
 		return made.ended(answerOf(err), err)
-	}
-	defer opened.Close()
-	made.List = access.digest
-	marks := d.marks(&made, access, opened.Signatures())
-	decision, err := opened.Decide(marks)
-	if err != nil {
-		return made.ended(answerOf(err), err)
-	}
-	if decision.Granted() {
+	case decision.Granted():
 		made.Answer, made.Entry = answerYes, decision.Entry()
-		return made
-	}
-	if d.config.Explain {
-		made.Reasons = reasonsOf(opened.Explain(marks))
-	}
-	if isAlone {
+	case sequence == "":
 		made.Answer = answerUnknown
 	}
 	return made
 }
 
-// marks verifies signatures, up to the first that is not valid. A certificate that has ended early counts as not verified.
-func (d *decider) marks(made *record, access *access, signatures []guard.Signature) []bool {
-	marks := make([]bool, len(signatures))
+// decideKnown decides a question whose signatures are known to be valid. A certificate that has ended early counts as not verified.
+func (d *decider) decideKnown(made *record, question guard.Question, known *shown) (guard.Decision, error) {
+	question.Sequence = known.text
+	for {
+		access := d.keeper.present.Load()
+		valid := known.notEnded(access)
+		decision, err := access.guard.DecideBy(question, marksOf(len(known.names), valid))
+		if errors.Is(err, guard.ErrClosed) {
+			continue
+		}
+		made.List, made.Certificates, made.Cached = access.digest, known.names, valid
+		if valid < len(known.names) {
+			made.Certificates = known.names[:valid+1]
+			made.setEnded(known.names[valid])
+		}
+		return decision, err
+	}
+}
+
+// decideAnew opens a question, verifies its signatures, and decides it. If all of them are valid, the sequence is kept.
+func (d *decider) decideAnew(made *record, question guard.Question, sequence string) (guard.Decision, error) {
+	question.Sequence = nothingShown.text
+	if sequence != "" {
+		question.Sequence = []byte(sequence)
+	}
+	access, opened, err := d.keeper.ask(question)
+	if err != nil {
+		return guard.Decision{}, err
+	}
+	defer opened.Close()
+	made.List = access.digest
+	signatures, found := opened.Signatures(), &shown{text: question.Sequence}
+	valid := d.verified(made, found, access, signatures)
+	made.Certificates = found.names
+	marks := marksOf(len(signatures), valid)
+	decision, err := opened.Decide(marks)
+	if err == nil && valid == len(signatures) {
+		d.sequences.add(sequence, found)
+	}
+	if err == nil && !decision.Granted() && d.config.Explain {
+		made.Reasons = reasonsOf(opened.Explain(marks))
+	}
+	return decision, err
+}
+
+// verified returns how many signatures are valid, up to the first that is not. A certificate that has ended early counts as not verified.
+func (d *decider) verified(made *record, found *shown, access *access, signatures []guard.Signature) int {
 	for place, signed := range signatures {
 		message := sha256.Sum256(signed.Message)
-		made.Certificates = append(made.Certificates, hex.EncodeToString(message[:]))
-		if _, hasEnded := access.ended[message]; hasEnded {
-			made.Reason = "certificate " + made.Certificates[place] + " has ended"
-			break
+		found.add(message)
+		if access.hasEnded(message) {
+			made.setEnded(found.names[place])
+			return place
 		}
 		isValid, wasKnown := d.cache.verifies(signed, message, verify.Signature)
 		if !isValid {
-			break
+			return place
 		}
 		if wasKnown {
 			made.Cached++
 		}
-		marks[place] = true
 	}
-	return marks
+	return len(signatures)
 }
 
 // answerOf returns the answer where a guard has none: what is refused is refused, and a fault of the daemon is a failure.

@@ -8,13 +8,16 @@ import (
 
 var errOther = errors.New("this is no request that a web server sends")
 
-// ServeHTTP answers one request of the web server. Whatever goes wrong is not 200.
+// ServeHTTP answers one request of the web server. Whatever goes wrong is not 200, also if the log cannot be written.
 func (d *decider) ServeHTTP(response http.ResponseWriter, request *http.Request) {
 	begun := d.now()
 	made := d.answer(request)
 	made.Status = made.Answer.status(d.config.RefusedStatus)
 	made.Time, made.Microseconds = stamp(begun), d.now().Sub(begun).Microseconds()
-	d.log.write(made)
+	if err := d.log.write(made.line()); err != nil {
+		made = record{}.ended(answerFailed, err)
+		made.Status = made.Answer.status(d.config.RefusedStatus)
+	}
 	made.tell(response)
 }
 
@@ -30,7 +33,7 @@ func (d *decider) answer(request *http.Request) (made record) {
 		return record{}.ended(answerNo, err)
 	}
 	if err != nil {
-		return record{Target: cut(asked.target, mostTarget)}.ended(answerRefused, err)
+		return record{ID: asked.id, Target: cut(asked.target, mostTarget)}.ended(answerRefused, err)
 	}
 	return d.decide(asked)
 }
@@ -39,5 +42,6 @@ func (d *decider) answer(request *http.Request) (made record) {
 func (d *decider) logOther() {
 	made := record{Time: stamp(d.now())}.ended(answerRefused, errOther)
 	made.Status = http.StatusBadRequest
-	d.log.write(made)
+	// (such a request is never granted, whether or not it is logged)
+	_ = d.log.write(made.line())
 }

@@ -26,9 +26,10 @@ func pathOf(target string, most int) (string, error) {
 	if err != nil {
 		return "", err
 	}
-	segments := strings.Split(path[1:], "/")
-	for place, segment := range segments {
-		if segment == "" && place < len(segments)-1 || strings.HasSuffix(segment, ".") || strings.HasSuffix(segment, " ") {
+	for rest, isMore := path[1:], true; isMore; {
+		var segment string
+		segment, rest, isMore = strings.Cut(rest, "/")
+		if segment == "" && isMore || strings.HasSuffix(segment, ".") || strings.HasSuffix(segment, " ") {
 			return "", errUnclear
 		}
 	}

@@ -1,11 +1,9 @@
 package main
 
 import (
-	"encoding/json"
 	"io"
 	"net/http"
 	"strconv"
-	"sync"
 	"time"
 )
 
@@ -23,6 +21,7 @@ const (
 // A record is one decision: a line of the log, and what the web server is told. It has no key and no certificate, but their digests.
 type record struct {
 	Time         string   `json:"time"`
+	ID           string   `json:"id,omitempty"`
 	Answer       answer   `json:"answer"`
 	Status       int      `json:"status"`
 	Key          string   `json:"key,omitempty"`
@@ -43,6 +42,11 @@ func (r record) ended(answer answer, fault error) record {
 	return r
 }
 
+// setEnded says which certificate has ended early.
+func (r *record) setEnded(certificate string) {
+	r.Reason = "certificate " + certificate + " has ended"
+}
+
 // status returns the status of an answer. Only yes is 200.
 func (a answer) status(refused int) int {
 	switch a {
@@ -58,46 +62,34 @@ func (a answer) status(refused int) int {
 	return http.StatusServiceUnavailable
 }
 
+// The headers of each answer that are always the same.
+var (
+	notStored = []string{"no-store"}
+	plainText = []string{"text/plain; charset=utf-8"}
+)
+
 // tell answers the web server. The headers have digits, words of the daemon and lines of the library alone, and nothing that a client sent.
 func (r record) tell(response http.ResponseWriter) {
 	header := response.Header()
-	header.Set("Cache-Control", "no-store")
-	header.Set("Content-Type", "text/plain; charset=utf-8")
-	header.Set("X-Spki-Answer", string(r.Answer))
+	header["Cache-Control"], header["Content-Type"] = notStored, plainText
+	header["X-Spki-Answer"] = []string{string(r.Answer)}
 	if r.Key != "" {
-		header.Set("X-Spki-Key", r.Key)
+		header["X-Spki-Key"] = []string{r.Key}
 	}
 	if r.Entry > 0 {
-		header.Set("X-Spki-Entry", strconv.Itoa(r.Entry))
+		header["X-Spki-Entry"] = []string{strconv.Itoa(r.Entry)}
 	}
 	if r.Answer == answerRefused {
 		header.Set("X-Spki-Reason", r.Reason)
 	}
 	if r.Status == http.StatusUnauthorized {
-		header.Set("WWW-Authenticate", "SPKI")
+		header["Www-Authenticate"] = []string{"SPKI"}
 	}
 	response.WriteHeader(r.Status)
 	if r.Answer == answerRefused {
 		// (a client that went away is no fault)
 		_, _ = io.WriteString(response, r.Reason+"\n")
 	}
-}
-
-// A logger writes values as lines of JSON, each in one piece.
-type logger struct {
-	mutex sync.Mutex
-	to    io.Writer
-}
-
-// write writes a line. A log that cannot be written changes no answer.
-func (l *logger) write(value any) {
-	line, err := json.Marshal(value)
-	if err != nil {
-		return
-	}
-	l.mutex.Lock()
-	defer l.mutex.Unlock()
-	_, _ = l.to.Write(append(line, '\n'))
 }
 
 // An event is a message of the daemon itself.

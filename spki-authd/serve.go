@@ -63,7 +63,10 @@ func start(words words, out, messages io.Writer) error {
 
 // newDecider returns a decider without an access list.
 func newDecider(config *config, out io.Writer) *decider {
-	return &decider{config: config, keys: newKeys(config.CertificateForm), cache: newCache(*config.Cache), log: &logger{to: out}, now: time.Now}
+	return &decider{
+		config: config, keys: newKeys(config.CertificateForm), cache: newCache(*config.Cache), sequences: newSequences(*config.Cache),
+		log: &logger{to: out}, now: time.Now,
+	}
 }
 
 // serve answers until a signal ends it. Questions under way are answered.
@@ -104,5 +107,5 @@ func (d *decider) tell(messages *logger, what string, fault error) {
 	if fault != nil {
 		made.Event, made.Detail = what+" not", fault.Error()
 	}
-	messages.write(made)
+	messages.tell(made)
 }

@@ -12,6 +12,7 @@ type headers struct {
 	Certificate string `json:"certificate"`
 	Sequence    string `json:"sequence"`
 	Secret      string `json:"secret"`
+	ID          string `json:"id"`
 }
 
 // How a web server asks.
@@ -31,12 +32,13 @@ var servers = map[string]server{
 const (
 	usualSequence = "X-Spki-Sequence"
 	usualSecret   = "X-Spki-Secret"
+	usualID       = "X-Request-Id"
 	authorization = "Authorization"
 )
 
 // setUsual puts in what was left out. Names are the same in upper and lower case.
 func (h *headers) setUsual(usual headers) {
-	usual.Sequence, usual.Secret = usualSequence, usualSecret
+	usual.Sequence, usual.Secret, usual.ID = usualSequence, usualSecret, usualID
 	for place, name := range h.all() {
 		setText(name, *usual.all()[place])
 		*name = textproto.CanonicalMIMEHeaderKey(*name)
@@ -45,7 +47,7 @@ func (h *headers) setUsual(usual headers) {
 
 // all returns the names one by one.
 func (h *headers) all() []*string {
-	return []*string{&h.Method, &h.URI, &h.Certificate, &h.Sequence, &h.Secret}
+	return []*string{&h.Method, &h.URI, &h.Certificate, &h.Sequence, &h.Secret, &h.ID}
 }
 
 // check says what is wrong in the names and in the form of the certificate.

@@ -76,13 +76,18 @@ func (a *Asked) given(marks []bool) ([]byte, error) {
 	if len(marks) != len(a.signatures) {
 		return nil, ErrMisused
 	}
+	return octetsOfMarks(marks), nil
+}
+
+// octetsOfMarks returns marks as the library takes them: 1 for a signature that is valid.
+func octetsOfMarks(marks []bool) []byte {
 	given := make([]byte, len(marks))
 	for place, isValid := range marks {
 		if isValid {
 			given[place] = 1
 		}
 	}
-	return given, nil
+	return given
 }
 
 // marks asks a verifier of each signature, up to the first that is not valid.

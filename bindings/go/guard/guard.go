@@ -113,6 +113,18 @@ func (g *Guard) Decide(question Question, verify Verify) (Decision, error) {
 	return asked.Decide(asked.marks(verify))
 }
 
+// DecideBy is as Decide, if exactly those signatures are valid whose marks are true. The marks are those of Signatures of a question with the
+// same sequence, which a guard with the same policy was asked: which signatures are listed, and in which order, depends on nothing else.
+// Another number of marks is ErrMisused.
+func (g *Guard) DecideBy(question Question, marks []bool) (Decision, error) {
+	g.mutex.RLock()
+	defer g.mutex.RUnlock()
+	if g.handle == nil {
+		return Decision{}, ErrClosed
+	}
+	return decideBy(g.handle, &question, octetsOfMarks(marks))
+}
+
 // Explain is as Decide, and says of each entry why it grants the request or does not, or which certificate stops all of them. Its time grows
 // with the number of all entries.
 func (g *Guard) Explain(question Question, verify Verify) (Explanation, error) {

@@ -127,8 +127,8 @@ func entries(guard handle) int {
 	return int(C.spki_guard_entries(guard))
 }
 
-// ask reads a question. Its strings are lent in one piece, with their lengths.
-func ask(guard handle, question *Question) (opened, error) {
+// partsOf lends a question. Its strings are in one piece, and their lengths beside it.
+func partsOf(question *Question) (C.struct_library_question, *C.size_t) {
 	joined, lengths := question.joined()
 	parts := C.struct_library_question{
 		sequence: text(question.Sequence), key: text(question.Key), request: text(question.Request), joined: text(joined),
@@ -140,9 +140,15 @@ func ask(guard handle, question *Question) (opened, error) {
 	if !question.Time.IsZero() {
 		parts.by_seconds, parts.seconds = 1, C.int64_t(question.Time.Unix())
 	}
+	return parts, (*C.size_t)(unsafe.Pointer(&lengths[0]))
+}
+
+// ask reads a question.
+func ask(guard handle, question *Question) (opened, error) {
+	parts, lengths := partsOf(question)
 	var asked opened
 	met, line := answered(roomForLine, func(buffer unsafe.Pointer, room C.size_t, needed *C.size_t) status {
-		return C.library_ask(guard, parts, (*C.size_t)(unsafe.Pointer(&lengths[0])), &asked, buffer, room, needed)
+		return C.library_ask(guard, parts, lengths, &asked, buffer, room, needed)
 	})
 	if met != C.SPKI_DONE || asked == nil {
 		return nil, failed(met, line)
@@ -183,7 +189,19 @@ func answer(asked opened, wish wish, marks []byte, room int) (status, []byte) {
 
 // decide returns the decision for these marks.
 func decide(asked opened, marks []byte) (Decision, error) {
-	met, line := answer(asked, toDecide, marks, roomForLine)
+	return decided(answer(asked, toDecide, marks, roomForLine))
+}
+
+// decideBy reads a question, and returns the decision for these marks.
+func decideBy(guard handle, question *Question, marks []byte) (Decision, error) {
+	parts, lengths := partsOf(question)
+	return decided(answered(roomForLine, func(buffer unsafe.Pointer, room C.size_t, needed *C.size_t) status {
+		return C.library_decide(guard, parts, lengths, text(marks), buffer, room, needed)
+	}))
+}
+
+// decided returns the decision that a status and a line say.
+func decided(met status, line []byte) (Decision, error) {
 	switch met {
 	case C.SPKI_YES:
 		return decisionOf(line)
