@@ -5,13 +5,14 @@ import (
 	"net/http"
 	"net/http/httptest"
 	"testing"
+	"time"
 )
 
 // BenchmarkHandler measures a request by two certificates whose signatures were verified before.
 func BenchmarkHandler(b *testing.B) {
 	s := newSite(b, "")
 	s.decider.log.to = io.Discard
-	_, carols := s.sequences()
+	_, carols := s.sequencesShown()
 	request := httptest.NewRequest(http.MethodGet, "/auth", nil)
 	for name, value := range map[string]string{
 		"X-Original-Method": "GET", "X-Original-Uri": "/web/docs/a/b", "X-Client-Cert": s.carol.escaped(), "Authorization": "SPKI " + carols,
@@ -20,9 +21,9 @@ func BenchmarkHandler(b *testing.B) {
 	}
 	b.ReportAllocs()
 	for turn := 0; turn < b.N; turn++ {
-		recorded := httptest.NewRecorder()
-		if s.ServeHTTP(recorded, request); recorded.Code != http.StatusOK {
-			b.Fatal(recorded.Code)
+		made := s.answerTo(request)
+		if made.response(time.Now(), false); made.Status != http.StatusOK {
+			b.Fatal(made.Status)
 		}
 	}
 }

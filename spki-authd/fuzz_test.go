@@ -8,7 +8,7 @@ import (
 // FuzzHeaders sends headers that nobody sends, and holds each answer against what may be one: 200 only for the three requests that are granted.
 func FuzzHeaders(f *testing.F) {
 	s := newSite(f, "")
-	bobs, carols := s.sequences()
+	bobs, carols := s.sequencesShown()
 	people := []person{s.alice, s.bob, s.carol, s.mallory}
 	for who, shown := range []string{"", bobs, carols, carols} {
 		for _, target := range []string{"/web/x", "/web/docs/b", "/web/docs/a/b", "/web/%2e%2e/x", "//web/x"} {

@@ -6,19 +6,27 @@ import (
 	"net/http"
 )
 
-var errOther = errors.New("this is no request that a web server sends")
-
-// ServeHTTP answers one request of the web server. Whatever goes wrong is not 200, also if the log cannot be written.
-func (d *decider) ServeHTTP(response http.ResponseWriter, request *http.Request) {
+// answerTo answers one request of the web server, and logs that. Whatever goes wrong is not 200, also if the log cannot be written.
+func (d *decider) answerTo(request *http.Request) record {
 	begun := d.now()
 	made := d.answer(request)
-	made.Status = made.Answer.status(d.config.RefusedStatus)
 	made.Time, made.Microseconds = stamp(begun), d.now().Sub(begun).Microseconds()
+	return d.logged(made)
+}
+
+// endAs returns the answer to what cannot be decided, and logs it.
+func (d *decider) endAs(answer answer, fault error) record {
+	return d.logged(record{Time: stamp(d.now())}.ended(answer, fault))
+}
+
+// logged sets the status of an answer, and logs it. Without a line in the log the answer is a failure.
+func (d *decider) logged(made record) record {
+	made.Status = made.Answer.status(d.config.RefusedStatus)
 	if err := d.log.write(made.line()); err != nil {
 		made = record{}.ended(answerFailed, err)
 		made.Status = made.Answer.status(d.config.RefusedStatus)
 	}
-	made.tell(response)
+	return made
 }
 
 // answer returns the record of a request. A panic is a failure.
@@ -36,12 +44,4 @@ func (d *decider) answer(request *http.Request) (made record) {
 		return record{ID: asked.id, Target: cut(asked.target, mostTarget)}.ended(answerRefused, err)
 	}
 	return d.decide(asked)
-}
-
-// logOther logs a request that is answered without the decider, because it is none that a web server sends.
-func (d *decider) logOther() {
-	made := record{Time: stamp(d.now())}.ended(answerRefused, errOther)
-	made.Status = http.StatusBadRequest
-	// (such a request is never granted, whether or not it is logged)
-	_ = d.log.write(made.line())
 }

@@ -1,6 +1,7 @@
 package main
 
 import (
+	"bufio"
 	"bytes"
 	"encoding/json"
 	"net/http"
@@ -39,8 +40,8 @@ func newSite(t testing.TB, fields string) *site {
 	return made
 }
 
-// sequences returns what Bob and Carol show.
-func (s *site) sequences() (bob, carol string) {
+// sequencesShown returns what Bob and Carol show.
+func (s *site) sequencesShown() (bob, carol string) {
 	bobs := s.alice.signed(s.toBob)
 	return sequence(bobs), sequence(bobs, s.bob.signed(s.toCarol))
 }
@@ -51,9 +52,17 @@ func (s *site) ask(pairs ...string) *http.Response {
 	for place := 0; place < len(pairs); place += 2 {
 		request.Header.Add(pairs[place], pairs[place+1])
 	}
-	recorded := httptest.NewRecorder()
-	s.ServeHTTP(recorded, request)
-	return recorded.Result()
+	return s.told(request)
+}
+
+// told returns what the web server is told of a request.
+func (s *site) told(request *http.Request) *http.Response {
+	made := s.answerTo(request)
+	response, err := http.ReadResponse(bufio.NewReader(bytes.NewReader(made.response(time.Now(), false))), request)
+	if err != nil {
+		panic(err)
+	}
+	return response
 }
 
 // by returns the answer to a person who shows a sequence, or none.
@@ -78,7 +87,7 @@ func (s *site) lastLine(t testing.TB) record {
 
 func TestAnswers(t *testing.T) {
 	s := newSite(t, "")
-	bobs, carols := s.sequences()
+	bobs, carols := s.sequencesShown()
 	for name, row := range map[string]struct {
 		who                      person
 		method, target, sequence string
@@ -109,7 +118,7 @@ func TestAnswers(t *testing.T) {
 
 func TestHeadersAndLog(t *testing.T) {
 	s := newSite(t, "")
-	bobs, _ := s.sequences()
+	bobs, _ := s.sequencesShown()
 	for turn, cached := range []int{0, 1} {
 		met, line := s.by(s.bob, "GET", "/web/docs/b", bobs).Header, s.lastLine(t)
 		key := hexDigest([]byte(s.bob.key))
@@ -153,7 +162,7 @@ func TestForgedSignatures(t *testing.T) {
 
 func TestWrongHeaders(t *testing.T) {
 	s := newSite(t, "")
-	bobs, _ := s.sequences()
+	bobs, _ := s.sequencesShown()
 	whole := []string{"X-Original-Method", "GET", "X-Original-URI", "/web/docs/b", "X-Client-Cert", s.bob.escaped(), "Authorization", "SPKI " + bobs}
 	more := func(pairs ...string) []string { return append(append([]string(nil), whole...), pairs...) }
 	without := func(place int) []string { return append(append([]string(nil), whole[:place]...), whole[place+2:]...) }
@@ -217,7 +226,7 @@ func TestRefusedStatus(t *testing.T) {
 
 func TestEndedCertificates(t *testing.T) {
 	s := newSite(t, "")
-	bobs, carols := s.sequences()
+	bobs, carols := s.sequencesShown()
 	if met := s.by(s.carol, "GET", "/web/docs/a/b", carols); met.StatusCode != 200 {
 		t.Fatal(met.StatusCode)
 	}
@@ -257,7 +266,7 @@ func TestReloads(t *testing.T) {
 
 func TestExplanations(t *testing.T) {
 	s := newSite(t, `, "explain": true`)
-	bobs, _ := s.sequences()
+	bobs, _ := s.sequencesShown()
 	s.by(s.bob, "GET", "/web/x", bobs)
 	if met := s.lastLine(t).Reasons; met != "entry 1 TagLacks" {
 		t.Error(met)
@@ -270,9 +279,7 @@ func TestExplanations(t *testing.T) {
 
 func TestTime(t *testing.T) {
 	s := newSite(t, "")
-	until := s.alice.certificate(s.bob, prefix("read", "/web/"), "(5:valid(9:not-after19:2026-01-01_00:00:00))")
-	until = strings.Replace(until, "(5:valid(9:not-after19:2026-01-01_00:00:00))(3:tag"+prefix("read", "/web/")+")",
-		"(3:tag"+prefix("read", "/web/")+")(5:valid(9:not-after19:2026-01-01_00:00:00))", 1)
+	until := s.alice.certificateUntil(s.bob, prefix("read", "/web/"), "2026-01-01_00:00:00")
 	for year, wanted := range map[int]int{2025: 200, 2027: 403} {
 		s.now = func() time.Time { return time.Date(year, 1, 1, 0, 0, 0, 0, time.UTC) }
 		if met := s.by(s.bob, "GET", "/web/x", sequence(s.alice.signed(until))); met.StatusCode != wanted {
@@ -284,7 +291,7 @@ func TestTime(t *testing.T) {
 func TestPanicIsAFailure(t *testing.T) {
 	s := newSite(t, "")
 	s.cache = nil
-	bobs, _ := s.sequences()
+	bobs, _ := s.sequencesShown()
 	if met := s.by(s.bob, "GET", "/web/docs/b", bobs); met.StatusCode != 503 || s.lastLine(t).Answer != answerFailed {
 		t.Errorf("%d, %+v", met.StatusCode, s.lastLine(t))
 	}
@@ -302,10 +309,8 @@ func TestEnvoy(t *testing.T) {
 		request := httptest.NewRequest(http.MethodGet, target, nil)
 		request.RequestURI = target
 		request.Header.Set("X-Forwarded-Client-Cert", `Hash=x;Cert="`+s.alice.escaped()+`"`)
-		recorded := httptest.NewRecorder()
-		s.ServeHTTP(recorded, request)
-		if recorded.Code != wanted {
-			t.Errorf("%s: %d, %+v", target, recorded.Code, s.lastLine(t))
+		if met := s.told(request); met.StatusCode != wanted {
+			t.Errorf("%s: %d, %+v", target, met.StatusCode, s.lastLine(t))
 		}
 	}
 }

@@ -109,25 +109,3 @@ func (c *config) setOwner(path string) error {
 	}
 	return os.Chmod(path, mode)
 }
-
-// A bounded listener has at most so many connections at the same time. More of them wait.
-type bounded struct {
-	net.Listener
-	places    chan struct{}
-	onForeign func()
-}
-
-func newBounded(listener net.Listener, most int, onForeign func()) *bounded {
-	return &bounded{listener, make(chan struct{}, most), onForeign}
-}
-
-// Accept waits for a place, and then for a connection.
-func (b *bounded) Accept() (net.Conn, error) {
-	b.places <- struct{}{}
-	connection, err := b.Listener.Accept()
-	if err != nil {
-		<-b.places
-		return nil, err
-	}
-	return &placed{Conn: connection, leave: func() { <-b.places }, onForeign: b.onForeign}, nil
-}

@@ -24,6 +24,7 @@ type words struct {
 	config    string
 	list      string
 	isTest    bool
+	isHealth  bool
 	noCache   bool
 	isVersion bool
 }
@@ -45,9 +46,12 @@ func run(given []string, out, messages io.Writer) int {
 		fmt.Fprintln(out, "spki-authd", guard.Version)
 		return statusDone
 	}
-	if words.list != "" {
+	switch {
+	case words.list != "":
 		err = checkList(words.list, out)
-	} else {
+	case words.isHealth:
+		err = checkHealth(words.config, out)
+	default:
 		err = start(words, out, messages)
 	}
 	if err != nil {
@@ -65,6 +69,7 @@ func wordsOf(given []string, messages io.Writer) (words, error) {
 	flags.StringVar(&made.config, "config", "/etc/spki-authd/config.json", "the `FILE` of the configuration")
 	flags.StringVar(&made.list, "check", "", "read an access `LIST`, say whether it is one, and end")
 	flags.BoolVar(&made.isTest, "test", false, "read the configuration and its files, and end")
+	flags.BoolVar(&made.isHealth, "health", false, "ask the daemon of the configuration whether it answers, and end")
 	flags.BoolVar(&made.noCache, "no-cache", false, "verify each signature each time")
 	flags.BoolVar(&made.isVersion, "version", false, "print the version")
 	err := flags.Parse(given)

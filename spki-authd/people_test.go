@@ -74,6 +74,11 @@ func (p person) certificate(to person, tag, more string) string {
 	return "(4:cert(6:issuer" + p.key + ")(7:subject" + to.key + ")" + more + "(3:tag" + tag + "))"
 }
 
+// certificateUntil writes a certificate that ends.
+func (p person) certificateUntil(to person, tag, end string) string {
+	return "(4:cert(6:issuer" + p.key + ")(7:subject" + to.key + ")(3:tag" + tag + ")(5:valid(9:not-after" + str(end) + ")))"
+}
+
 // signed returns a certificate with its signature.
 func (p person) signed(certificate string) string {
 	digest := sha256.Sum256([]byte(certificate))

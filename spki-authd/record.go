@@ -1,9 +1,9 @@
 package main
 
 import (
-	"io"
 	"net/http"
 	"strconv"
+	"strings"
 	"time"
 )
 
@@ -62,34 +62,36 @@ func (a answer) status(refused int) int {
 	return http.StatusServiceUnavailable
 }
 
-// The headers of each answer that are always the same.
-var (
-	notStored = []string{"no-store"}
-	plainText = []string{"text/plain; charset=utf-8"}
-)
+// The octets that most answers have.
+const roomForAnswer = 512
 
-// tell answers the web server. The headers have digits, words of the daemon and lines of the library alone, and nothing that a client sent.
-func (r record) tell(response http.ResponseWriter) {
-	header := response.Header()
-	header["Cache-Control"], header["Content-Type"] = notStored, plainText
-	header["X-Spki-Answer"] = []string{string(r.Answer)}
+// response returns what the web server is told. It has no body, so it is the same for HEAD. The headers have digits, words of the daemon and
+// lines of the library alone, and nothing that a client sent. After the last answer the connection is closed.
+func (r *record) response(now time.Time, isLast bool) []byte {
+	made := append(make([]byte, 0, roomForAnswer), "HTTP/1.1 "...)
+	made = strconv.AppendInt(made, int64(r.Status), 10)
+	made = append(append(append(made, ' '), http.StatusText(r.Status)...), "\r\nCache-Control: no-store\r\nContent-Length: 0\r\nDate: "...)
+	made = now.UTC().AppendFormat(made, http.TimeFormat)
+	header := func(name, value string) {
+		made = append(append(append(append(made, "\r\n"...), name...), ": "...), value...)
+	}
+	header("X-Spki-Answer", string(r.Answer))
 	if r.Key != "" {
-		header["X-Spki-Key"] = []string{r.Key}
+		header("X-Spki-Key", r.Key)
 	}
 	if r.Entry > 0 {
-		header["X-Spki-Entry"] = []string{strconv.Itoa(r.Entry)}
+		header("X-Spki-Entry", strconv.Itoa(r.Entry))
 	}
 	if r.Answer == answerRefused {
-		header.Set("X-Spki-Reason", r.Reason)
+		header("X-Spki-Reason", strings.ReplaceAll(r.Reason, "\n", ", "))
 	}
 	if r.Status == http.StatusUnauthorized {
-		header["Www-Authenticate"] = []string{"SPKI"}
+		header("WWW-Authenticate", "SPKI")
 	}
-	response.WriteHeader(r.Status)
-	if r.Answer == answerRefused {
-		// (a client that went away is no fault)
-		_, _ = io.WriteString(response, r.Reason+"\n")
+	if isLast {
+		header("Connection", "close")
 	}
+	return append(made, "\r\n\r\n"...)
 }
 
 // An event is a message of the daemon itself.

@@ -5,7 +5,6 @@ import (
 	"fmt"
 	"io"
 	"net"
-	"net/http"
 	"os"
 	"os/signal"
 	"runtime/debug"
@@ -13,10 +12,11 @@ import (
 	"time"
 )
 
-// The time that open questions have to end, and that an idle connection is kept.
+// The time that open questions have to end, that an idle connection is kept, and after which a connection is taken again where that has failed.
 const (
-	timeToEnd = 10 * time.Second
-	timeIdle  = 60 * time.Second
+	timeToEnd   = 10 * time.Second
+	timeIdle    = 60 * time.Second
+	timeToRetry = 50 * time.Millisecond
 )
 
 // The heap may grow to five times what is in use before it is collected. Little is in use, so this saves time and costs a few MiB.
@@ -71,32 +71,21 @@ func newDecider(config *config, out io.Writer) *decider {
 
 // serve answers until a signal ends it. Questions under way are answered.
 func (d *decider) serve(listener net.Listener, signals signals, messages *logger) error {
-	server := d.server()
-	served := make(chan error, 1)
-	go func() { served <- server.Serve(newBounded(listener, d.config.Limits.Connections, d.logOther)) }()
+	door := newDoor(d)
+	go door.serve(listener)
 	d.tell(messages, "started", nil)
 	for {
 		select {
-		case err := <-served:
-			return err
 		case <-signals.reload:
 			d.tell(messages, "reloaded", d.keeper.reload(d.config))
 		case <-signals.end:
 			waiting, cancel := context.WithTimeout(context.Background(), timeToEnd)
 			defer cancel()
-			err := server.Shutdown(waiting)
+			listener.Close()
+			err := door.end(waiting)
 			d.tell(messages, "ended", err)
 			return err
 		}
-	}
-}
-
-// server returns the server of HTTP, with its limits. Headers a little over their limit are read, so that the log has a line for them.
-func (d *decider) server() *http.Server {
-	limits := d.config.Limits
-	return &http.Server{
-		Handler: d, MaxHeaderBytes: 2 * limits.HeaderOctets, ReadTimeout: limits.time(), WriteTimeout: limits.time(),
-		IdleTimeout: timeIdle,
 	}
 }
 

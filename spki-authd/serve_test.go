@@ -21,6 +21,8 @@ type served struct {
 	socket  string
 	client  *http.Client
 	signals signals
+	// What stays open until the daemon has ended.
+	open []net.Conn
 }
 
 // serveHere begins to answer.
@@ -44,6 +46,9 @@ func serveHere(t *testing.T, fields string) *served {
 		made.signals.end <- syscall.SIGTERM
 		if err := <-ended; err != nil || !strings.Contains(messages.String(), `"ended"`) {
 			t.Errorf("%v, %s", err, messages.String())
+		}
+		for _, connection := range made.open {
+			connection.Close()
 		}
 	})
 	return made
@@ -119,30 +124,141 @@ func TestConnectionsAreBounded(t *testing.T) {
 	}
 }
 
-// TestOtherRequests sends what the server of net/http answers by itself.
+// TestOtherRequests sends what no web server sends. Each gets one line in the log, and an answer of the decider or none.
 func TestOtherRequests(t *testing.T) {
-	s := serveHere(t, "")
+	s := serveHere(t, `, "limits": {"seconds": 1}`)
 	for name, text := range map[string]string{
-		"OPTIONS *": "OPTIONS * HTTP/1.1\r\nHost: x\r\n\r\n", "OPTIONS * by 1.0": "OPTIONS * HTTP/1.0\r\n\r\n", "no HTTP": "x\r\n\r\n",
-		"no host": "GET / HTTP/1.1\r\n\r\n", "spaces": "GET / HTTP/1.1\r\nHost: x\r\nX-Y : z\r\n\r\n", "NUL": "GET / HTTP/1.1\r\nHost: x\r\nA: \x00\r\n\r\n",
+		"OPTIONS *": "OPTIONS * HTTP/1.1\r\nHost: x\r\nConnection: close\r\n\r\n", "OPTIONS * by 1.0": "OPTIONS * HTTP/1.0\r\n\r\n", "no HTTP": "x\r\n\r\n",
+		"no host": "GET / HTTP/1.1\r\nConnection: close\r\n\r\n", "spaces": "GET / HTTP/1.0\r\nHost: x\r\nX-Y : z\r\n\r\n",
+		"NUL": "GET / HTTP/1.0\r\nHost: x\r\nA: \x00\r\n\r\n", "HTTP/2.0": "PRI * HTTP/2.0\r\n\r\n", "HTTP/0.9": "GET /\r\n",
 		"long":        "GET / HTTP/1.1\r\nHost: x\r\nA: " + strings.Repeat("x", 300_000) + "\r\n\r\n",
 		"two lengths": "GET / HTTP/1.1\r\nHost: x\r\nContent-Length: 1\r\nContent-Length: 2\r\n\r\n",
+		"slow":        "GET / HTTP/1.1\r\nHost: x\r\nA: ",
+		"body":        "GET / HTTP/1.1\r\nHost: x\r\nContent-Length: 26\r\n\r\nOPTIONS * HTTP/1.1\r\nA: \r\n\r\n",
+		"chunks":      "GET / HTTP/1.1\r\nHost: x\r\nTransfer-Encoding: chunked\r\n\r\n0\r\n\r\n",
+		"long body":   "GET / HTTP/1.1\r\nHost: x\r\nContent-Length: 100000\r\n\r\n" + strings.Repeat("GET / HTTP/1.1\r\n\r\n", 5000),
+		"late body":   "GET / HTTP/1.1\r\nHost: x\r\nContent-Length: 9\r\nExpect: 100-continue\r\n\r\n",
 	} {
 		before := s.lines()
-		connection, err := net.Dial("unix", s.socket)
-		if err != nil {
-			t.Fatal(err)
+		octets := s.sent(t, text)
+		if bytes.Contains(octets, []byte(" 200 ")) || len(octets) > 0 && !bytes.Contains(octets, []byte("\r\nX-Spki-Answer: ")) {
+			t.Errorf("%s: %q", name, octets)
 		}
-		// (the daemon may close before all is written)
-		_, _ = connection.Write([]byte(text))
-		octets, _ := io.ReadAll(connection)
-		connection.Close()
-		if bytes.Contains(octets, []byte(" 200 ")) || s.lines() != before+1 {
-			t.Errorf("%s: %q, %d lines", name, octets, s.lines()-before)
+		if s.lines() != before+1 {
+			t.Errorf("%s: %d lines", name, s.lines()-before)
 		}
 	}
 	if met := s.get(t, "/web/x"); met != 200 {
 		t.Errorf("after them: %d", met)
+	}
+}
+
+// sent returns what the daemon answers to octets, until it closes the connection.
+func (s *served) sent(t *testing.T, text string) []byte {
+	t.Helper()
+	connection, err := net.Dial("unix", s.socket)
+	if err != nil {
+		t.Fatal(err)
+	}
+	defer connection.Close()
+	// (the daemon may close before all is written)
+	_, _ = connection.Write([]byte(text))
+	octets, _ := io.ReadAll(connection)
+	return octets
+}
+
+// request returns a request by Alice, with more lines in its header.
+func (s *served) request(method, target, more string) string {
+	return method + " / HTTP/1.1\r\nHost: x\r\nX-Original-Method: GET\r\nX-Original-URI: " + target + "\r\nX-Client-Cert: " + s.alice.escaped() + "\r\n" +
+		more + "\r\n"
+}
+
+// TestRequestsInOneConnection sends requests one behind the other. Each is answered in its turn, without a body.
+func TestRequestsInOneConnection(t *testing.T) {
+	s := serveHere(t, "")
+	octets := s.sent(t, s.request("GET", "/web/x", "")+s.request("HEAD", "/web/../x", "")+s.request("GET", "/x", "")+
+		s.request("GET", "/web/y", "Connection: close\r\n")+s.request("GET", "/web/z", ""))
+	var met []string
+	for _, answer := range strings.Split(string(octets), "\r\n\r\n") {
+		line, _, _ := strings.Cut(answer, "\r\n")
+		met = append(met, line)
+	}
+	if wanted := "HTTP/1.1 200 OK,HTTP/1.1 400 Bad Request,HTTP/1.1 401 Unauthorized,HTTP/1.1 200 OK,"; strings.Join(met, ",") != wanted {
+		t.Errorf("%q", met)
+	}
+	if s.lines() != 4 {
+		t.Errorf("%d lines", s.lines())
+	}
+}
+
+// TestWaitingConnections asks where as many connections are open as may be: the answer comes when one is closed, and until then no line.
+func TestWaitingConnections(t *testing.T) {
+	s := serveHere(t, `, "limits": {"connections": 1, "seconds": 60}`)
+	first, err := net.Dial("unix", s.socket)
+	if err != nil {
+		t.Fatal(err)
+	}
+	if _, err := first.Write([]byte(s.request("GET", "/web/x", ""))); err != nil {
+		t.Fatal(err)
+	}
+	if _, err := first.Read(make([]byte, 1)); err != nil {
+		t.Fatal(err)
+	}
+	answered := make(chan []byte)
+	go func() { answered <- s.sent(t, s.request("GET", "/web/y", "Connection: close\r\n")) }()
+	select {
+	case octets := <-answered:
+		t.Errorf("answered beside the first: %q", octets)
+	case <-time.After(100 * time.Millisecond):
+	}
+	if s.lines() != 1 {
+		t.Errorf("%d lines", s.lines())
+	}
+	first.Close()
+	if octets := <-answered; !bytes.HasPrefix(octets, []byte("HTTP/1.1 200 ")) || s.lines() != 2 {
+		t.Errorf("%q, %d lines", octets, s.lines())
+	}
+}
+
+// TestEndBesideConnections ends a daemon beside a connection without a request, and one whose request never ends.
+func TestEndBesideConnections(t *testing.T) {
+	s := serveHere(t, `, "limits": {"seconds": 1}`)
+	for _, text := range []string{"", "GET / HTTP/1.1\r\nHost: x\r\nX-Slow: "} {
+		connection, err := net.Dial("unix", s.socket)
+		if err != nil {
+			t.Fatal(err)
+		}
+		// (it stays open until the daemon has ended, which serveHere waits for)
+		s.open = append(s.open, connection)
+		if _, err := connection.Write([]byte(text)); err != nil {
+			t.Fatal(err)
+		}
+	}
+	if met := s.get(t, "/web/x"); met != 200 {
+		t.Error(met)
+	}
+}
+
+// TestHealth asks whether a daemon answers, before, while and after it does.
+func TestHealth(t *testing.T) {
+	s := serveHere(t, "")
+	config := written(t, "config", strings.Replace(least, "/run/x/s", s.socket, 1))
+	var out, said bytes.Buffer
+	if status := run([]string{"-health", "-config", config}, &out, &said); status != statusDone || !strings.Contains(out.String(), "answers") {
+		t.Errorf("%d, %q, %q", status, out.String(), said.String())
+	}
+	if line := s.lastLine(t); line.ID != healthID || line.Answer != answerRefused || s.lines() != 1 {
+		t.Errorf("%+v", line)
+	}
+	none := written(t, "config", strings.Replace(least, "/run/x/s", s.socket+"2", 1))
+	if status := run([]string{"-health", "-config", none}, &out, &said); status != statusRefused {
+		t.Errorf("nobody is there: %d, %q", status, out.String())
+	}
+	s.decider.log.mutex.Lock()
+	s.decider.log.to = full{}
+	s.decider.log.mutex.Unlock()
+	if status := run([]string{"-health", "-config", config}, &out, &said); status != statusRefused || !strings.Contains(said.String(), "503") {
+		t.Errorf("the log is full: %d, %q", status, said.String())
 	}
 }
 
