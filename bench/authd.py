@@ -2,9 +2,10 @@
 """Measures spki-authd beside a handler that answers 200 to each request, both in Go, and ends with another status where a limit is passed.
 
 The list has 10,000 entries. Each request shows three certificates by Ed25519. The signatures of nine requests of ten were verified before, and
-those of the tenth were not: the cache is too small for them.
+those of the tenth were not: the caches are too small for them.
 
-- Requests a second, asked directly, and through nginx with `auth_request`, beside nginx alone. Where nginx is not there its part is left out.
+- Requests a second through nginx with `auth_request`, beside nginx alone, and asked directly. The daemon must reach half of the handler's
+  through nginx. Without nginx this is left out, and the run fails.
 - The processor time of a request.
 - The 99th percentile of the time at half of that load.
 - Under load, with a reload each second: wrong answers, and the resident memory.
@@ -121,7 +122,8 @@ def faults_of(site, asked):
     ratios = {name: figures[name].rate / figures[beside].rate for name, beside in ways if name in figures}
     for name, ratio in ratios.items():
         print(f"{name}: {ratio:.2f} of the handler's requests", flush=True)
-    wrong = [f"{name}: under {LEAST_RATIO}" for name, ratio in ratios.items() if ratio < LEAST_RATIO]
+    judged = ratios.get("nginx and daemon", 0)
+    wrong = [f"nginx and daemon: {judged:.2f}, under {LEAST_RATIO} of the handler's requests"] if judged < LEAST_RATIO else []
     wrong += [f"p99 over {MOST_P99} ms"] if half.p99 > MOST_P99 else []
     wrong += ["the memory grows"] if growth(memory) > MOST_GROWTH else []
     wrong += [f"{name}: wrong answers" for name, met in {**figures, "half": half, "soak": soak}.items() if met.errors]

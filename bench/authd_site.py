@@ -21,7 +21,7 @@ from support import BENCH, canonical  # noqa: E402
 from spki_cert_tool.keys import FileSigner, hash_of, new_private  # noqa: E402
 
 ENTRIES, HOT, COLD = 10_000, 100, 6_000
-# The cache has room for the certificates of the hot chains, and for few of the cold ones.
+# The cache has room for the certificates of the hot chains, and for few of the cold ones. So do the 1,000 sequences that the daemon keeps.
 CACHE = 2_000
 SECRET = "0123456789abcdef" * 4
 PORTS = 5

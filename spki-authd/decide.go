@@ -109,7 +109,7 @@ func (d *decider) decideAnew(made *record, question guard.Question, sequence str
 	}
 	defer opened.Close()
 	made.List = access.digest
-	signatures, found := opened.Signatures(), &shown{text: question.Sequence}
+	signatures, found := opened.Signatures(), &shown{}
 	valid := d.verified(made, found, access, signatures)
 	made.Certificates = found.names
 	marks := marksOf(len(signatures), valid)

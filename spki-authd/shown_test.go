@@ -131,14 +131,16 @@ func TestOnlyValidSequencesAreKept(t *testing.T) {
 func TestKeptSequencesAreBounded(t *testing.T) {
 	s := newSite(t, "")
 	for number := 0; number < 2*mostShown; number++ {
-		s.sequences.add(fmt.Sprint(number), &shown{})
+		s.sequences.add(sequence(str(fmt.Sprint(number))), &shown{})
 	}
-	if s.kept() > mostShown {
+	if s.kept() > mostShown || s.kept() < mostShown/2 {
 		t.Errorf("%d sequences are kept", s.kept())
 	}
-	s.sequences.add(strings.Repeat("x", mostShownOctets+1), &shown{})
-	if s.sequences.of(strings.Repeat("x", mostShownOctets+1)) != nil {
-		t.Error("a long sequence is kept")
+	for _, octets := range []int{5000, 7000} {
+		text := sequence(str(strings.Repeat("x", octets)))
+		if s.sequences.add(text, &shown{}); (s.sequences.of(text) != nil) != (len(text) <= mostShownOctets) {
+			t.Errorf("%d octets", len(text))
+		}
 	}
 }
 

@@ -148,7 +148,14 @@ class Site:
                 yield client
 
     def answer(self, who: str | None, request: bytes) -> bytes:
-        """All that nginx answers to some octets, until it ends the connection. Empty if there is no connection."""
+        """All that nginx answers to some octets, until it ends the connection. Empty if there is no connection. Where the rate is exceeded, the
+        client waits and asks again."""
+        while (said := self.answer_at_once(who, request)).startswith(b"HTTP/1.1 429"):
+            time.sleep(0.2)
+        return said
+
+    def answer_at_once(self, who: str | None, request: bytes) -> bytes:
+        """The same, also where the rate is exceeded."""
         said = b""
         with contextlib.suppress(OSError), self.connected(who) as client:
             client.sendall(request)

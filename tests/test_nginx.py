@@ -4,9 +4,11 @@ has a line more, and the daemon still answers.
 
 The example itself is run, as examples/nginx/run.sh runs it."""
 import base64
+import json
 import os
 import re
 import signal
+import socket
 import subprocess
 import tempfile
 import threading
@@ -240,6 +242,85 @@ class Changes(OfSite):
 
 
 @needs.needs(*served.NEEDS, *needs.LIBRARY)
+class Limits(OfSite):
+    """What clients see past the limits of nginx and of the daemon, and what the logs say."""
+
+    def lines(self) -> list[dict[str, Any]]:
+        """The lines of the daemon's log."""
+        return [json.loads(line) for line in self.site.text("log/authd.log").splitlines()]
+
+    def with_limits(self, **limits: int) -> None:
+        """Starts the daemon again with other limits."""
+        self.site.daemon.terminate()
+        self.site.daemon.wait(served.SECONDS)
+        config = json.loads(self.site.text("etc/authd.json"))
+        self.site.write("etc/authd.json", json.dumps({**config, "limits": limits}))
+        self.site.start_daemon()
+
+    def test_rate(self) -> None:
+        """Past the rate a client sees 429, and the daemon is not asked."""
+        self.grants_ann()
+        before, count = len(self.lines()), 400
+        each = "GET /web/index.html HTTP/1.1\r\nHost: localhost\r\n"
+        answer = self.site.answer_at_once("ann", f"{each}\r\n".encode() * (count - 1) + f"{each}Connection: close\r\n\r\n".encode())
+        met = statuses(answer)
+        self.assertEqual((len(met), set(met)), (count, {200, 429}))
+        self.assertEqual(len(self.lines()) - before, met.count(200))
+        self.grants_ann()
+
+    def test_numbers_of_requests(self) -> None:
+        """Both logs have the number of a request, and a client cannot set it."""
+        self.site.status("ann", "GET", "/web/index.html", "X-Request-Id: ann-was-here")
+        last = self.lines()[-1]["id"]
+        self.assertRegex(last, "^[0-9a-f]{32}$")
+        waits_for("the line of nginx", lambda: f'"id":"{last}"' in self.site.text("log/files.log"))
+
+    def test_health(self) -> None:
+        """The flag asks the daemon, and fails where none answers."""
+        asks = (self.site.program, "-health", "-config", self.site.at("etc/authd.json"))
+        self.assertEqual(output_of(*asks)[0], 0)
+        self.assertEqual((self.lines()[-1]["id"], self.lines()[-1]["answer"]), ("spki-authd-health", "refused"))
+        self.site.daemon.terminate()
+        self.site.daemon.wait(served.SECONDS)
+        self.assertEqual(output_of(*asks)[0], 1)
+        self.site.start_daemon()
+
+    def test_connections(self) -> None:
+        """Where all connections are taken, a client waits until the daemon has closed one that says nothing."""
+        self.with_limits(connections=1, seconds=1)
+        try:
+            with socket.socket(socket.AF_UNIX) as silent:
+                silent.connect(self.site.at("run/socket"))
+                before = len(self.lines())
+                self.grants_ann()
+                self.assertEqual((silent.recv(1), len(self.lines())), (b"", before + 1))
+        finally:
+            self.with_limits()
+
+    def test_seconds(self) -> None:
+        """A request that does not end in time gets no answer, and a line in the log."""
+        self.with_limits(seconds=1)
+        try:
+            with socket.socket(socket.AF_UNIX) as slow:
+                slow.connect(self.site.at("run/socket"))
+                slow.sendall(b"GET / HTTP/1.1\r\nHost: x\r\n")
+                self.assertEqual(slow.recv(1), b"")
+            self.assertEqual(self.lines()[-1]["reason"], "the request did not end in time")
+            self.grants_ann()
+        finally:
+            self.with_limits()
+
+    def test_daemon_that_hangs(self) -> None:
+        """Where the daemon does not answer, a client sees 500 after proxy_read_timeout."""
+        self.site.daemon.send_signal(signal.SIGSTOP)
+        try:
+            self.assertEqual(self.site.status("ann", "GET", "/web/index.html"), 500)
+        finally:
+            self.site.daemon.send_signal(signal.SIGCONT)
+        self.grants_ann()
+
+
+@needs.needs(*served.NEEDS, *needs.LIBRARY)
 class Example(unittest.TestCase):
     """The one command of the example."""
 
@@ -252,5 +333,6 @@ class Example(unittest.TestCase):
             settings = {**os.environ, "SPKI_AUTHD": served.daemon_built(room), "PORT": str(served.free_port()), "TMPDIR": room}
             done = subprocess.run([os.path.join(served.EXAMPLE, "run.sh")], env=settings, stdout=subprocess.PIPE, stderr=subprocess.PIPE, text=True,
                                   timeout=served.SECONDS, cwd=TESTS)
-            self.assertEqual((done.returncode, done.stdout.splitlines()), (0, self.ANSWERS), done.stderr)
+            answers = [line for line in done.stdout.splitlines() if not line.startswith("#")]
+            self.assertEqual((done.returncode, answers), (0, self.ANSWERS), done.stderr)
             self.assertEqual(os.listdir(room), ["spki-authd"])

@@ -1,11 +1,15 @@
 #!/bin/sh
-# Runs the example: starts nginx and spki-authd on loopback as an ordinary user, with all files in one folder, and asks by curl. Ann reads
-# and writes, Ben is denied, Ann lets Ben read, and he reads. Afterwards all is ended. With `stay` it goes on until it is interrupted.
-# Needs nginx, curl and openssl, and Go unless SPKI_AUTHD names the program. The library must be built: crates/spki_c/archive.py.
+# Runs the example: starts nginx and spki-authd on loopback as an ordinary user, with all files in one temporary folder, and asks by curl. Each
+# line is who asks for what, and the status. Afterwards all is ended and removed. With `stay` it goes on until it is interrupted.
+# Needs Debian's nginx, curl, openssl and python3-cryptography, and golang-go unless SPKI_AUTHD names the program. Build the library first:
+# crates/spki_c/archive.py. PORT is another port than 8443.
 # Usage: examples/nginx/run.sh [stay]
 set -eu
-here=$(dirname "$(realpath "$0")") top=$here/../.. PORT=${PORT:-8443}
+here=$(dirname "$(realpath "$0")") top=$(realpath "$(dirname "$0")/../..") PORT=${PORT:-8443}
 PATH=$top/cert:$PATH:/usr/sbin
+for tool in nginx curl openssl; do
+    command -v "$tool" > /dev/null || { echo "$tool is missing (Debian: $tool)" >&2; exit 1; }
+done
 room=$(mktemp -d)
 ended() {
     kill $(cat "$room"/run/*.pid) 2> /dev/null || true
@@ -23,32 +27,40 @@ fi
 cd "$room"
 "$SPKI_AUTHD" -config etc/authd.json >> log/authd.log 2>> log/authd-events.log &
 echo $! > run/authd.pid
-if [ "$(id -u)" = 0 ]; then as_user='user root;'; else as_user=''; fi
-nginx -p "$room" -c etc/loopback.conf -e log/error.log -g "$as_user" &
 until [ -S run/socket ]; do
-    kill -0 "$(cat run/authd.pid)" || { cat log/authd-events.log; exit 1; }
+    kill -0 "$(cat run/authd.pid)" 2> /dev/null || { cat log/authd-events.log >&2; exit 1; }
     sleep 0.1
 done
-curl -s -o tmp/answer --retry 50 --retry-delay 1 --retry-connrefused --cacert ca/ca.crt "https://localhost:$PORT/"
+if [ "$(id -u)" = 0 ]; then as_user='user root;'; else as_user=''; fi
+nginx -p "$room" -c etc/loopback.conf -e log/error.log -g "$as_user" &
+nginx=$!
+until curl -s -o tmp/answer --cacert ca/ca.crt "https://localhost:$PORT/"; do
+    kill -0 "$nginx" 2> /dev/null || { echo "nginx has ended; is port $PORT taken? PORT=9443 $0" >&2; cat log/error.log >&2; exit 1; }
+    sleep 0.1
+done
 
 . "$here/asking.sh"
+echo '# The list has an entry for Ann: she reads and writes below /web/, and nowhere else. Ben has no entry.'
 asks ann GET /web/index.html
 asks ann PUT /web/new.txt --data-binary 'a new file'
 asks ann GET /web/new.txt
 asks ann GET /secret/plan.txt
 asks ben GET /web/new.txt
+echo '# It has one for a robot, which only writes, below /web/out/.'
 asks robot PUT /web/out/main.js --data-binary 'a build'
 asks robot GET /web/out/main.js
 
-# Ann lets Ben read for 30 days, and sends him the file. He shows it, on one line in braces.
+echo '# Ann signs a certificate that lets Ben read for 30 days. The list does not change. He sends the certificate with each request.'
 spki-cert sign --by keys/ann --to keys/ben.pub --tag '(files read (* prefix /web/))' --days 30 --try files read /web/new.txt -o to-ben
 asks ben GET /web/new.txt -H "$(shows to-ben)"
+echo '# It lets him neither write nor read elsewhere, and Eve gets nothing by it: it is for the key of Ben.'
 asks ben PUT /web/new.txt -H "$(shows to-ben)" --data-binary 'by ben'
 asks ben GET /secret/plan.txt -H "$(shows to-ben)"
 asks eve GET /web/new.txt -H "$(shows to-ben)"
 
 if [ "${1:-}" = stay ]; then
-    echo "nginx is at https://localhost:$PORT, until an interrupt. In another shell, to do what docs/OPERATING.md says:"
+    echo "# nginx is at https://localhost:$PORT until you press Ctrl-C. The logs are in $room/log."
+    echo '# To do what docs/OPERATING.md says, enter this in another shell:'
     echo "cd $room; PORT=$PORT EXAMPLE=$here PATH=$top/cert:$(dirname "$SPKI_AUTHD"):\$PATH"
     wait
 fi

@@ -32,6 +32,6 @@ echo '# SHA-256 of certificates that no longer count' > etc/ended
 cp "$here/loopback.conf" etc
 for file in files.conf authd.json; do
     sed -e "s#/etc/spki-files#$room/etc#; s#/etc/spki-authd#$room/etc#; s#/run/spki-authd#$room/run#; s#/srv/files#$room/files#" \
-        -e "s#/var/log/nginx#$room/log#; s#listen 443 ssl#listen 127.0.0.1:$port ssl#; s#files.example.org#localhost#; /socket_group/d" \
+        -e "s#/var/log/nginx#$room/log#; s#listen 443 ssl#listen 127.0.0.1:$port ssl#; s#files.example.org#localhost#" \
         "$here/$file" > "etc/$file"
 done

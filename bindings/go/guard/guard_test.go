@@ -115,6 +115,76 @@ func TestMarksAreOfOneQuestion(t *testing.T) {
 	}
 }
 
+func TestDecideBy(t *testing.T) {
+	made := opened(t, list)
+	for count, rows := range map[int][][]bool{0: {{}}, 1: {{false}, {true}}, 2: {{false, false}, {true, false}, {false, true}, {true, true}}} {
+		question := shown(count)
+		asked, err := made.Ask(question)
+		if err != nil {
+			t.Fatal(err)
+		}
+		for _, marks := range rows {
+			wanted, err := asked.Decide(marks)
+			if err != nil {
+				t.Fatal(err)
+			}
+			if decision, err := made.DecideBy(question, marks); err != nil || decision != wanted || decision.Granted() != (count == 1 && marks[0]) {
+				t.Errorf("%v: %v, %v, wanted %v", marks, decision, err, wanted)
+			}
+		}
+		asked.Close()
+		for _, marks := range [][]bool{make([]bool, count+1), append(rows[len(rows)-1], true)} {
+			if decision, err := made.DecideBy(question, marks); !errors.Is(err, guard.ErrMisused) || decision.Granted() {
+				t.Errorf("%v: %v, %v", marks, decision, err)
+			}
+		}
+	}
+	for part, question := range map[string]guard.Question{
+		"sequence": {Sequence: []byte("(x)"), Key: shown(0).Key, Words: []string{"x"}, Time: shown(0).Time},
+		"key":      {Sequence: shown(0).Sequence, Words: []string{"x"}, Time: shown(0).Time},
+		"at":       {Sequence: shown(0).Sequence, Key: shown(0).Key, Words: []string{"x"}},
+	} {
+		var refusal *guard.Refusal
+		if decision, err := made.DecideBy(question, nil); !errors.As(err, &refusal) || refusal.Part() != part || decision.Granted() {
+			t.Errorf("%s: %v, %v", part, decision, err)
+		}
+	}
+	many := shown(17)
+	if decision, err := made.DecideBy(many, make([]bool, 17)); !errors.Is(err, guard.ErrTooLong) || decision.Granted() {
+		t.Errorf("%v, %v", decision, err)
+	}
+}
+
+// TestSignaturesAreOfTheSequence asks by other keys, requests, times and lists. The signatures are the same, as DecideBy needs it.
+func TestSignaturesAreOfTheSequence(t *testing.T) {
+	for _, text := range []string{pair, pair + pair, pair + strings.Replace(pair, "(hash sha256 #d7", "(hash sha256 #d8", 1) + pair,
+		strings.Replace(pair, "(signature", "(public-key (test c)) (signature", 0) + "(public-key (test c))"} {
+		question := shown(0)
+		question.Sequence = []byte("(sequence " + text + ")")
+		var wanted []guard.Signature
+		for turn, change := range []func(){
+			func() {}, func() { question.Key = []byte("(public-key (test c))") }, func() { question.Words = []string{"x"} },
+			func() { question.Time = time.Date(1999, 1, 1, 0, 0, 0, 0, time.UTC) },
+		} {
+			change()
+			for _, list := range []string{list, "(acl)", "(acl (entry (public-key (test b)) (tag (ftp))))"} {
+				asked, err := opened(t, list).Ask(question)
+				if err != nil {
+					t.Fatal(err)
+				}
+				met := asked.Signatures()
+				asked.Close()
+				if wanted == nil {
+					wanted = met
+				}
+				if !reflect.DeepEqual(met, wanted) || len(met) == 0 {
+					t.Errorf("turn %d: %q, wanted %q", turn, met, wanted)
+				}
+			}
+		}
+	}
+}
+
 func TestQuestionIsCopied(t *testing.T) {
 	question := shown(1)
 	asked, err := opened(t, list).Ask(question)

@@ -30,6 +30,9 @@ func TestClose(t *testing.T) {
 	if decision, err := asked.Decide([]bool{true}); !errors.Is(err, guard.ErrClosed) || decision.Granted() {
 		t.Errorf("%v, %v", decision, err)
 	}
+	if decision, err := made.DecideBy(shown(1), []bool{true}); !errors.Is(err, guard.ErrClosed) || decision.Granted() {
+		t.Errorf("%v, %v", decision, err)
+	}
 }
 
 func TestGoroutines(t *testing.T) {
@@ -52,6 +55,9 @@ func TestGoroutines(t *testing.T) {
 				if decision, err := asked.Decide([]bool{isValid}); err != nil || decision.Granted() != isValid {
 					t.Errorf("%v, %v", decision, err)
 				}
+				if decision, err := made.DecideBy(shown(1), []bool{isValid}); err != nil || decision.Granted() != isValid {
+					t.Errorf("%v, %v", decision, err)
+				}
 			}
 		}(routine%2 == 0)
 	}
@@ -68,6 +74,9 @@ func TestCloseBesideQuestions(t *testing.T) {
 				defer all.Done()
 				for {
 					decision, err := made.Decide(shown(1), valid)
+					if err == nil {
+						decision, err = made.DecideBy(shown(1), []bool{true})
+					}
 					if errors.Is(err, guard.ErrClosed) {
 						return
 					}
