@@ -22,7 +22,8 @@ import test_bindings
 from support import TESTS, TOP, canonical, read
 
 SPKI_CERT = os.path.join(TOP, "cert", "spki-cert")
-FUZZED = [(golang.MODULE, "./verify", "FuzzSignature"), *((golang.DAEMON, ".", name) for name in ("FuzzHeaders", "FuzzSequence", "FuzzPath"))]
+FUZZED = [(golang.MODULE, "./verify", "FuzzSignature"),
+          *((golang.DAEMON, ".", name) for name in ("FuzzConnection", "FuzzHeaders", "FuzzSequence", "FuzzPath"))]
 FUZZ_TIME = "120s"
 KINDS = {"ed25519": ["ed25519"], "rsa": ["RSA", "-pkeyopt", "rsa_keygen_bits:2048"], "p256": ["EC", "-pkeyopt", "ec_paramgen_curve:P-256"]}
 

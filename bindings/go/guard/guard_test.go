@@ -157,8 +157,8 @@ func TestDecideBy(t *testing.T) {
 
 // TestSignaturesAreOfTheSequence asks by other keys, requests, times and lists. The signatures are the same, as DecideBy needs it.
 func TestSignaturesAreOfTheSequence(t *testing.T) {
-	for _, text := range []string{pair, pair + pair, pair + strings.Replace(pair, "(hash sha256 #d7", "(hash sha256 #d8", 1) + pair,
-		strings.Replace(pair, "(signature", "(public-key (test c)) (signature", 0) + "(public-key (test c))"} {
+	otherDigest := strings.Replace(pair, "#d7", "#d8", 1)
+	for _, text := range []string{pair, pair + pair, pair + otherDigest + pair, "(public-key (test c)) " + pair} {
 		question := shown(0)
 		question.Sequence = []byte("(sequence " + text + ")")
 		var wanted []guard.Signature
