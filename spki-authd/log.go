@@ -4,6 +4,7 @@ import (
 	"encoding/json"
 	"io"
 	"strconv"
+	"strings"
 	"sync"
 )
 
@@ -105,11 +106,18 @@ func (f *fields) string(value string) {
 	*f = append(*f, escaped...)
 }
 
-// isPlain says whether a text has only characters that JSON writes as they are.
+// plain has the characters that JSON writes as they are.
+var plain = func() (made [256]bool) {
+	for octet := ' '; octet <= '~'; octet++ {
+		made[octet] = !strings.ContainsRune("\"\\<>&", octet)
+	}
+	return made
+}()
+
+// isPlain says whether a text has only such characters.
 func isPlain(text string) bool {
 	for place := 0; place < len(text); place++ {
-		switch octet := text[place]; {
-		case octet < ' ' || octet > '~', octet == '"', octet == '\\', octet == '<', octet == '>', octet == '&':
+		if !plain[text[place]] {
 			return false
 		}
 	}
