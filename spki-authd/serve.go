@@ -7,6 +7,7 @@ import (
 	"net"
 	"os"
 	"os/signal"
+	"runtime"
 	"runtime/debug"
 	"syscall"
 	"time"
@@ -39,6 +40,9 @@ func listenToSignals() signals {
 func start(words words, out, messages io.Writer) error {
 	signals := listenToSignals()
 	debug.SetGCPercent(gcPercent)
+	// (each thread may have a heap of its own in C: where one thread reads all lists, the room of an old list is used again)
+	runtime.LockOSThread()
+	defer runtime.UnlockOSThread()
 	config, err := readConfig(words.config)
 	if err != nil {
 		return err
