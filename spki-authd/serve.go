@@ -13,10 +13,11 @@ import (
 	"time"
 )
 
-// The time that open questions have to end, that an idle connection is kept, and after which a connection is taken again where that has failed.
+// The time that open questions have to end, that an idle connection is kept, which is longer than nginx keeps it, and after which a connection is
+// taken again where that has failed.
 const (
 	timeToEnd   = 10 * time.Second
-	timeIdle    = 60 * time.Second
+	timeIdle    = 75 * time.Second
 	timeToRetry = 50 * time.Millisecond
 )
 
