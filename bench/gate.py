@@ -2,8 +2,8 @@
 """Runs a command, by default `.ci/run`, and prints how many processor minutes its checks took: by crate, the proofs, the proofs
 of the tests, and the wrong bodies. What is not a check (compilers, the tests as they run) is one row.
 
-The processes are looked at each second, so that a process that ends between two looks loses up to a second. Measure on a quiet
-machine: beside other work the same check takes up to half as many processor seconds more, and the checks of other commands are counted too.
+The processes below the command are looked at each second, so that a process that ends between two looks loses up to a second. Measure on a
+quiet machine: beside other work the same check takes up to half as many processor seconds more.
 
 The same check takes 1.0 to 2.5 times as long from machine to machine. So a fixed check is measured before the command, `rt selftest`: the
 toolchain proves, builds and runs an example of its own, which does not change with this repository. The last row is the whole cost as a
@@ -29,11 +29,24 @@ def words_of(process):
         return it.read().decode(errors="replace").split("\0")
 
 
+def fields_of(process):
+    with open(f"/proc/{process}/stat") as it:
+        return it.read().rpartition(")")[2].split()
+
+
 def ticks_of(process):
     """The processor time of a process itself, and when it began, which distinguishes it from an earlier one with its number."""
-    with open(f"/proc/{process}/stat") as it:
-        fields = it.read().rpartition(")")[2].split()
+    fields = fields_of(process)
     return int(fields[11]) + int(fields[12]), int(fields[19])
+
+
+def is_ours(process):
+    """Whether a process is this one, or was started by one that is."""
+    while process > 1:
+        if process == os.getpid():
+            return True
+        process = int(fields_of(process)[1])
+    return False
 
 
 def part_of(process, words):
@@ -57,7 +70,7 @@ class Sampled:
     def look(self):
         for process in filter(str.isdigit, os.listdir("/proc")):
             try:
-                part = part_of(process, words_of(process))
+                part = part_of(process, words_of(process)) if is_ours(int(process)) else None
                 ticks, begun = ticks_of(process)
             except (OSError, ValueError, IndexError):
                 continue

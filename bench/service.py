@@ -45,13 +45,15 @@ ROUNDS, CALLS = 40, 50
 TURNS, MOST_TURNS, PAUSE = 3, 20, 10
 # The limits of a guard for strangers' questions: octets, and the members of two sets or lists whose product of nodes is 10,000.
 QUESTION_OCTETS, QUESTION_MEMBERS = 65_536, 99
+# The certificates that a guard without limits takes.
+USUAL_CERTIFICATES = 16
 SECONDS = 600
 # The function that digests by SHA-256.
 DIGEST = "sha2::block256::Core256::update"
 MOST = {"10,000 keys, no certificate": 1.5, "10,000 keys, three certificates": 1.5, "10,000 hashes, no certificate": 1.5,
         "10,000 hashes, three certificates": 1.5, "opening 1 MiB": 1.9, "instructions of a case": 96_000, "three caveats": 1.0,
         "three caveats, opened before": 0.05, "by the digests": 5.0, "Rust": 1.02, "Python, µs more": 12.0,
-        "memory of an opened question by its octets": 70.0, "a decision, ms": 100.0, "a decision, MiB": 16.0,
+        "memory of an opened question by its octets": 70.0, "a decision, ms": 100.0, "a decision, MiB": 16.0, "a decision by default, ms": 100.0,
         "an explanation or a reduction, ms": 200.0, "an explanation or a reduction, MiB": 16.0, "waits of 1,000 decisions": 1.0}
 LEAST = {"threads": 3.5}
 # What the library's statuses say.
@@ -255,10 +257,10 @@ def question_of(text):
     return sum(map(len, parts_of(text)[1:]))
 
 
-def widest_of(shape):
-    """The case of a shape whose list has at most 1 MiB and whose question at most 64 KiB, and what it is."""
+def widest_of(shape, at_most=MOST_OCTETS):
+    """The case of a shape whose list has at most 1 MiB, and whose question at most 64 KiB and so many certificates; and what it is."""
     entries = shape.entries(MOST_OCTETS, QUESTION_MEMBERS)
-    certificates = most(lambda count: question_of(shape.make(1, count, QUESTION_MEMBERS)), QUESTION_OCTETS)
+    certificates = min(at_most, most(lambda count: question_of(shape.make(1, count, QUESTION_MEMBERS)), QUESTION_OCTETS))
     return f"{shape.name}, {entries:,} and {certificates:,}", shape.make(entries, certificates, QUESTION_MEMBERS)
 
 
@@ -293,10 +295,25 @@ def one_question(driver, what, text):
     return met
 
 
+def wide_shapes():
+    ranges = [Shape("", make) for make in (narrowed_ranges, ranges_and_sets_of_two, ten_large_sets)]
+    return (*SHAPES, LARGE_TAG, LARGE_TAG_AND_RANGE, LARGE_TAG_AND_SET, *ranges)
+
+
+def by_default(driver):
+    """The most milliseconds of a decision of a guard without limits, which takes 16 certificates."""
+    limit, met = MOST["a decision by default, ms"], 0.0
+    for shape, text in (widest_of(shape, USUAL_CERTIFICATES) for shape in wide_shapes()):
+        _, took, *_ = one_answer(driver, "decide", driver.question("usual", text), limit)
+        if took > met:
+            met = took
+            print(f"by default {shape}: {took:.1f} ms", flush=True)
+    yield "a decision by default, ms", met
+
+
 def widest(driver):
     """The most milliseconds and MiB of one answer. docs/PERFORMANCE.md says what a decision takes."""
-    ranges = [Shape("", make) for make in (narrowed_ranges, ranges_and_sets_of_two, ten_large_sets)]
-    texts = [widest_of(shape) for shape in (*SHAPES, LARGE_TAG, LARGE_TAG_AND_RANGE, LARGE_TAG_AND_SET, *ranges)]
+    texts = [widest_of(shape) for shape in wide_shapes()]
     texts += [(f"large tags: {what}", text) for what, text in large_tags()]
     met = [one_question(driver, what, text) for what, text in texts]
     yield "a decision, ms", max(each["decide"][0] for each in met)
@@ -387,7 +404,7 @@ def main():
     library = os.path.abspath(sys.argv[1] if len(sys.argv) > 1 else LIBRARY)
     with tempfile.TemporaryDirectory() as room:
         driver = Driver(room, library)
-        met = [each for part in (by_instructions, through_python, opening_memory, widest, threads) for each in part(driver)]
+        met = [each for part in (by_instructions, through_python, opening_memory, by_default, widest, threads) for each in part(driver)]
     if not all([is_kept(*each) for each in met]):
         sys.exit(1)
 
