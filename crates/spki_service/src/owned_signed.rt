@@ -10,6 +10,9 @@ use std::alloc::{AllocError, Global};
 use std::marker::Model;
 use std::sync::Arc;
 
+/// How many octets of two keys are compared at once.
+const PIECE: usize = 1024;
+
 /// A signature that a verifier is asked about, with texts of its own. A key that several signatures have is in memory once.
 ///
 /// In a contract it is the signature.
@@ -131,13 +134,23 @@ fn found_key<'o>(
         if one.key() == octets {
             return Ok(&one.key);
         }
-        if one.key() < octets {
+        if is_before(one.key(), octets) {
             low = middle + 1;
         } else {
             high = middle;
         }
     }
     Err(low)
+}
+
+/// Whether octets are before others. Long equal beginnings are passed over by equality, which takes a tenth of the time of an order.
+fn is_before(one: &[u8], other: &[u8]) -> bool {
+    let shorter = one.len().min(other.len());
+    let mut at = 0;
+    while shorter - at >= PIECE && one[at..at + PIECE] == other[at..at + PIECE] {
+        at += PIECE;
+    }
+    one[at..] < other[at..]
 }
 
 /// Returns a copy of the octets of a key.
