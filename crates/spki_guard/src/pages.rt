@@ -9,7 +9,8 @@ use metered_io::{Metered, WriteFault, flush_writer, write_octets};
 use sexpr_text::Sink;
 use std::io::Write;
 
-/// Writes octets to a writer, 4,096 at a time, and allocates nothing. After a write that failed it writes no more octets.
+/// Writes octets to a writer, in pages of at most 4,096 octets, and allocates nothing. A piece that is longer is written alone.
+/// After a write that failed it writes no more octets.
 pub(crate) struct PageSink<'w, W> {
     writer: &'w mut Metered<W>,
     page: ArrayVec<u8, 4096>,
