@@ -1,6 +1,6 @@
 #!/usr/bin/env python3
 """Counts the instructions of `spki intersect` on pairs of sets, and prints how they grow with the members; and the peak
-memory of the largest answers, of 998,001 members.
+memory of the largest answers, of 998,001 members, and of one of 250 MB.
 
 Instructions are counted by `perf stat`, or by valgrind where that is not there; those of meeting two strings, which starting
 the program takes anyway, are taken off. Build the program first (`rt run` in crates/spki).
@@ -19,6 +19,8 @@ PROGRAM = sys.argv[1] if len(sys.argv) > 1 else BUILT
 MEMBERS = [125, 250, 500, 999]
 MOST_RATIO = 12.0
 MOST_MEMORY = 256
+# The most memory for an answer of 250 MB: its tag has 250,001 nodes, which share the octets of one string.
+MOST_LONG = 64
 
 
 def set_of(members):
@@ -89,6 +91,9 @@ def main():
         memory = peak(PROGRAM, "intersect", intersection(*make(999 if name != "lists" else 332)))
         missed = missed or memory > MOST_MEMORY
         print(f"most members of {name:<10} {memory:>7.1f} MiB   {'pass' if memory <= MOST_MEMORY else 'miss'}")
+    memory = peak(PROGRAM, "intersect", intersection(*alike(string("a" * 1000))(500)))
+    missed = missed or memory > MOST_LONG
+    print(f"members of 1,000 octets    {memory:>7.1f} MiB   {'pass' if memory <= MOST_LONG else 'miss'}")
     sys.exit(1 if missed else 0)
 
 

@@ -23,7 +23,7 @@ import rows
 import test_calls
 from limits import MOST_OCTETS
 from refusing import PIPE, Program, compiled
-from support import BENCH, COMMANDS, EXAMPLES, braced, tables_here
+from support import BENCH, COMMANDS, EXAMPLES, braced, group, string, tables_here
 
 sys.path.append(BENCH)
 import memory  # noqa: E402
@@ -356,6 +356,23 @@ def ends_failing():
             yield ends_so, f"{command} {words}", wanted, "redirected", command, words
 
 
+def long_answer(members, octets):
+    """Two sets of equal strings, and the tag in which they meet: it has a member for each pair."""
+    tag = group(string("*"), string("set"), *[string("a" * octets)] * members)
+    return group(string("intersect"), tag, tag), b"(* set" + (b" " + b"a" * octets) * members ** 2 + b")\n"
+
+
+def long_answers():
+    """Answers that are longer than a page, to files that are full, and with less memory than they are long."""
+    text, whole = long_answer(100, 1)
+    for most in (0, 4095, 4096, 4097, 12288, len(whole) - 1):
+        wanted = 3, whole[:most], WRITE_FAULT[2]
+        yield ends_so, f"a file of at most {most} octets", wanted, "limited", "intersect", text, resource.RLIMIT_FSIZE, most
+    yield ends_so, "a long answer", (0, whole, b""), "run", "intersect", text
+    text, whole = long_answer(200, 1200)
+    yield ends_so, f"an answer of {len(whole)} octets in 24 MiB", (0, whole, b""), "limited", "intersect", text, resource.RLIMIT_AS, 24 << 20
+
+
 def pipes_and_files():
     long = b"(" + b"3:abc" * 200000 + b")"
     whole = first_run()[0]
@@ -407,6 +424,7 @@ PARTS = {
     "texts_cut_short": truncation,
     "reads_and_writes_refused": ends_failing,
     "pipes_and_files_that_fail": pipes_and_files,
+    "long_answers": long_answers,
     "limits_from_both_sides": at_limits,
     "small_stack": in_small_stack,
     "under_valgrind": under_valgrind,
