@@ -1,10 +1,11 @@
-/* Counts the memory that is taken while a question is opened, for `service.py`. Is linked with --wrap=malloc, --wrap=realloc and --wrap=free.
+/* Counts what is taken while a question is opened, for `service.py`. Is linked with --wrap=malloc, --wrap=realloc and --wrap=free.
  *
  * opening FILE      the octets of the question in the file, the most octets of memory that are taken at once until its signatures are listed,
- *                   and those that are kept */
+ *                   those that are kept, and the ms of the processor */
 #define _GNU_SOURCE
 #include "question.h"
 #include <malloc.h>
+#include <time.h>
 
 static size_t taken, most;
 
@@ -44,6 +45,14 @@ void __wrap_free(void *block)
     __real_free(block);
 }
 
+/* The ms of the processor. */
+static double used(void)
+{
+    struct timespec time;
+    clock_gettime(CLOCK_PROCESS_CPUTIME_ID, &time);
+    return time.tv_sec * 1e3 + time.tv_nsec / 1e6;
+}
+
 int main(int count, char **words)
 {
     if (count != 2)
@@ -51,7 +60,9 @@ int main(int count, char **words)
     struct held held = held_in(words[1], &highest);
     const struct spki_question *it = &held.question;
     taken = most = 0;
+    double begun = used();
     enum spki_status status = list_signed(&held);
-    printf("%zu %zu %zu\n", it->sequence.length + it->key.length + it->request.length + it->moment.length, most, taken);
+    double took = used() - begun;
+    printf("%zu %zu %zu %.2f\n", it->sequence.length + it->key.length + it->request.length + it->moment.length, most, taken, took);
     return status == SPKI_DONE && decided(&held) != SPKI_MISUSED ? 0 : 4;
 }

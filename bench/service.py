@@ -7,7 +7,7 @@
 - A decision by three certificates from the text of a case, and one through a guard beside libmacaroons' verification of a macaroon with three
   caveats: with the question opened for it, and opened before. Where libmacaroons is not there (Debian: libmacaroons-dev) this is left out.
 - A question that is opened, listed and decided, beside the digests of its certificates.
-- The memory that is taken while questions of 1 MiB are opened, beside their octets.
+- The memory that is taken while questions of 1 MiB are opened, beside their octets, and the time, at the highest limits.
 - With a limit of 64 KiB for a question, the time and the memory of decisions, explanations and reductions of the widest questions that are
   known, with lists of up to 1 MiB. The limits on nodes, work and answers are those that a guard without limits has.
 - A decision through the bindings for Rust and Python, beside the calls in C. Where `cargo` is not there Rust is left out.
@@ -53,7 +53,8 @@ DIGEST = "sha2::block256::Core256::update"
 MOST = {"10,000 keys, no certificate": 1.5, "10,000 keys, three certificates": 1.5, "10,000 hashes, no certificate": 1.5,
         "10,000 hashes, three certificates": 1.5, "opening 1 MiB": 1.9, "instructions of a case": 96_000, "three caveats": 1.0,
         "three caveats, opened before": 0.05, "by the digests": 5.0, "Rust": 1.02, "Python, µs more": 12.0,
-        "memory of an opened question by its octets": 70.0, "a decision, ms": 100.0, "a decision, MiB": 16.0, "a decision by default, ms": 100.0,
+        "memory of an opened question by its octets": 70.0,
+        "opening a question of 1 MiB, ms": 500.0, "a decision, ms": 100.0, "a decision, MiB": 16.0, "a decision by default, ms": 100.0,
         "an explanation or a reduction, ms": 200.0, "an explanation or a reduction, MiB": 16.0, "waits of 1,000 decisions": 1.0}
 LEAST = {"threads": 3.5}
 # What the library's statuses say.
@@ -354,6 +355,13 @@ def many_words(count):
     return acl, sequence, asker, group(*[string("a")] * count), moment
 
 
+def two_long_keys(count):
+    """A question by two long keys that differ late, whose certificates name them by their hashes."""
+    keys = [key("k" * (MOST_OCTETS // 3) + end) for end in "ab"]
+    links = [(certificate(digest(issuer), key("s")), digest(issuer)) for issuer in keys for _ in range(count // 2)]
+    return parts_of(case([entry(digest(keys[0]))], links, keys, asks=key("s")))
+
+
 def of_shape(make):
     """Questions of a shape with one entry."""
     return lambda count: parts_of(make(1, count, QUESTION_MEMBERS))
@@ -361,20 +369,24 @@ def of_shape(make):
 
 WIDE = {"{:,} certificates in a chain": chained, "the same of {:,} in transport form": in_transport_form,
         "{:,} certificates for sets of 100 nodes": of_shape(wide_sets),
-        "{:,} times a certificate for the hash of one long key": of_shape(long_issuer), "a subject of {:,} names": long_subject,
+        "{:,} times a certificate for the hash of one long key": of_shape(long_issuer), "{:,} for the hashes of two": two_long_keys,
+        "a subject of {:,} names": long_subject,
         "a comment of {:,} empty lists": small_lists, "a request of {:,} strings": many_words}
 
 
-def opening_memory(driver):
-    """The most memory that is taken while a question of 1 MiB is opened, beside its octets."""
-    program, met = driver.counts_memory(), []
+def opening_of_widest(driver):
+    """The most memory that is taken while a question of 1 MiB is opened, beside its octets, and the most time."""
+    program, met, times = driver.counts_memory(), [], []
     for what, make in WIDE.items():
         count = most(lambda count: sum(map(len, make(count)[1:])), MOST_OCTETS)
         path = driver.file("opened", b"".join(b"%d\n%s" % (len(part), part) for part in make(count)))
-        octets, taken, kept = map(int, subprocess.run([program, path], stdout=subprocess.PIPE, check=True).stdout.split())
-        print(f"{what.format(count)}: question of {octets:,} octets, {taken:,} octets of memory at most, {kept:,} kept", flush=True)
+        octets, taken, kept, took = map(float, subprocess.run([program, path], stdout=subprocess.PIPE, check=True).stdout.split())
+        print(f"{what.format(count)}: question of {octets:,.0f} octets, {taken:,.0f} octets of memory at most, {kept:,.0f} kept, {took:.1f} ms",
+              flush=True)
         met.append(taken / octets)
+        times.append(took)
     yield "memory of an opened question by its octets", max(met)
+    yield "opening a question of 1 MiB, ms", max(times)
 
 
 def threads(driver):
@@ -404,7 +416,7 @@ def main():
     library = os.path.abspath(sys.argv[1] if len(sys.argv) > 1 else LIBRARY)
     with tempfile.TemporaryDirectory() as room:
         driver = Driver(room, library)
-        met = [each for part in (by_instructions, through_python, opening_memory, by_default, widest, threads) for each in part(driver)]
+        met = [each for part in (by_instructions, through_python, opening_of_widest, by_default, widest, threads) for each in part(driver)]
     if not all([is_kept(*each) for each in met]):
         sys.exit(1)
 
