@@ -319,8 +319,9 @@ class Doors(OfPage):
         self.assertEqual(self.posted(self.page.address.path + "engine"), 404)
 
     def test_bodies(self) -> None:
-        self.assertEqual(self.posted(body="x" * ((1 << 20) + 1)), 413)
-        self.assertEqual(self.posted(body="", Content_Length="9" * 30), 413)
+        # The page answers before the body is sent.
+        for length in (str((1 << 20) + 1), "9" * 30):
+            self.assertEqual(self.posted(body="", Content_Length=length), 413)
         self.assertEqual(self.posted(body="", Content_Length="-1"), 411)
         self.assertEqual(self.posted(body=iter([b"{}"]), Transfer_Encoding="chunked"), 411)
         self.assertEqual(self.posted(Content_Type="text/plain"), 415)
