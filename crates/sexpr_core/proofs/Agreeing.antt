@@ -1,5 +1,5 @@
 -- What is read of the first octets of a text is read of each other text that begins with them.
-use Rattle.std.proofs.Common.{◌≡◌, ℕ, ◌+◌, ◌<◌, ◌≤◌, List, [], ◌∷◌, ◌++◌, length, take, drop, refl, sym, ap, subst, ◌∙◌, arith, append_assoc, length-append, length-drop}
+use Rattle.std.proofs.Common.{◌≡◌, ℕ, ◌+◌, ◌<◌, ◌≤◌, List, [], ◌∷◌, ◌++◌, length, take, drop, refl, sym, ap, subst, ◌∙◌, arith, append_assoc, length-append, length-drop, rules}
 use Rattle.std.proofs.lemmas.List.{append_cancel_right, drop-append-le, take-append-drop, take_at, length-take-le}
 use Rattle.sexpr_core.specs.Reading.{StandsAt}
 use Rattle.sexpr_core.specs.Spaces.{StartsVisible, Skips}
@@ -92,11 +92,7 @@ front_is text front k e le =
 -- no text that goes on so far in the same way has the part
 pub stops_here : (T : List ℕ → Type 0) (text : List ℕ) (at k : ℕ) → at ≤ k → k < length text → ((other : List ℕ) → Agree text other k → T other → ⊥)
     → StopsAt T text at k
-stops_here T text at k le lt never = record {
-  behind = le;
-  within = lt;
-  none = λ b. never (take (k + 1) text ++ b.rest) (agree text k b.rest lt) b.whole;
-}
+stops_here T text at k le lt never = search (rules, agree)
 
 -- each text that goes on so far in the same way and has the part has one that is refused
 pub stops_later : (T U : List ℕ → Type 0) (text : List ℕ) (at i k : ℕ) → at ≤ i → ((other : List ℕ) (n : ℕ) → Agree text other n → i ≤ n → T other → U other)

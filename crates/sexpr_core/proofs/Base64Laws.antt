@@ -1,5 +1,5 @@
 -- Base64 in the standard alphabet: how long it is, and which octets it has.
-use Rattle.std.proofs.Common.{◌≡◌, ℕ, zero, suc, ◌+◌, ◌-◌, ◌*◌, ◌/◌, ◌%◌, ◌<◌, true, false, List, [], ◌∷◌, ◌++◌, length, get_or, replicate, refl, sym, ap, subst, ◌∙◌, arith, length-append, append-nil, inl, inr, Bool, ◌&&◌, ◌==◌, nat_le, Ok}
+use Rattle.std.proofs.Common.{◌≡◌, ℕ, zero, suc, ◌+◌, ◌-◌, ◌*◌, ◌/◌, ◌%◌, ◌<◌, true, false, List, [], ◌∷◌, ◌++◌, length, get_or, replicate, refl, sym, ap, subst, ◌∙◌, arith, length-append, append-nil, Bool, ◌&&◌, nat_le, Ok, rules}
 use Rattle.std.proofs.lemmas.Bool.{cases_Bool, agree_below_at, or_cases, and_parts, eqb-true, leb-true}
 use Rattle.std.proofs.lemmas.List.{length-replicate}
 use Rattle.std.specs.List.{AllByRecursion}
@@ -20,12 +20,7 @@ abbrev table : List ℕ
 table = engine_symbols standard
 
 length-encoded : (b : List ℕ) → length (encode_of standard b) % 4 ≡ 0
-length-encoded b =
-    let k = (3 - length b % 3) % 3 in
-    let e = length-encode_symbols table b in
-    let f = length-append (encode_symbols table b) (replicate k 61) in
-    let g = length-replicate {A = ℕ} k 61 in
-    omega (arith, e, f, g)
+length-encoded b = search (rules, length-encode_symbols, length-append, length-replicate)
 
 pub missing_is : (symbols octets : List ℕ) (b : IsBase64 symbols octets) → b.missing ≡ (4 - length symbols % 4) % 4
 missing_is symbols octets b =
@@ -95,10 +90,7 @@ encoded_symbols : (b : List ℕ) → IsBytes b → AreSymbols (encode_of standar
 encoded_symbols b h = all-append (λ c. is_symbol c ≡ true) (encode_symbols table b) (replicate ((3 - length b % 3) % 3) 61) (symbols_of b h) (all_replicate ((3 - length b % 3) % 3))
 
 visible_body : (c : ℕ) (cs : List ℕ) → AreSymbols (visible (c ∷ cs)) → (is_body_octet c ≡ true) × AreSymbols (visible cs)
-visible_body c cs h = elim (cases_Bool (is_whitespace c)) [
-  | inl e ↦ (rw e refl, rw e at h)
-  | inr e ↦ let k = rw e at h in (rw (e, k.0) refl, k.1)
-]
+visible_body c cs h = search (rules, cases_Bool)
 
 body_of : (body : List ℕ) → AreSymbols (visible body) → AreBodyOctets body
 body_of [] h = tt
@@ -120,16 +112,10 @@ no_failure input octets f d e h is = let k = subst (IsDecodeFailure standard inp
 -- ---- what is encoded has no whitespace
 
 space_low : (c : ℕ) → is_whitespace c ≡ true → c < 33
-space_low c h = elim (or_cases (c == 32) (nat_le 9 c && nat_le c 13) h) [
-  | inl e ↦ omega (arith, eqb-true c 32 e)
-  | inr e ↦ omega (arith, leb-true c 13 (and_parts (nat_le 9 c) (nat_le c 13) e).1)
-]
+space_low c h = search (rules, or_cases, nat_le, eqb-true, leb-true, and_parts)
 
 symbol_shown : (c : ℕ) → is_symbol c ≡ true → is_whitespace c ≡ false
-symbol_shown c h = elim (cases_Bool (is_whitespace c)) [
-  | inl e ↦ let low : is_symbol c ≡ false = agree_below_at is_symbol (λ k. false) 33 c refl (space_low c e) in absurd cc
-  | inr e ↦ e
-]
+symbol_shown c h = search (rules, cases_Bool, agree_below_at, space_low)
 
 visible_symbols : (xs : List ℕ) → AreSymbols xs → visible xs ≡ xs
 visible_symbols [] h = refl
@@ -140,9 +126,4 @@ visible_encoded b h = visible_symbols (encode_of standard b) (encoded_symbols b 
 
 -- the padded base64 of octets spells them
 pub packed_encoded : (b : List ℕ) → IsBytes b → IsBase64 (visible (encode_of standard b)) b
-packed_encoded b h = record {
-  are_octets = h;
-  missing = 0;
-  few = omega arith;
-  encoded = append-nil (visible (encode_of standard b)) ∙ visible_encoded b h;
-}
+packed_encoded b h = search (rules, append-nil, visible_encoded)

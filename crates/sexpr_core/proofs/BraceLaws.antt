@@ -1,5 +1,5 @@
 -- What stands in braces stands there in one way.
-use Rattle.std.proofs.Common.{◌≡◌, ℕ, zero, suc, ◌+◌, ◌-◌, ◌*◌, ◌/◌, ◌%◌, ◌<◌, ◌≤◌, Bool, not, false, Ok, List, [], ◌∷◌, ◌++◌, length, take, drop, replicate, refl, sym, ap, subst, ◌∙◌, arith, append_assoc, length-append, length-drop}
+use Rattle.std.proofs.Common.{◌≡◌, ℕ, zero, suc, ◌+◌, ◌-◌, ◌*◌, ◌/◌, ◌%◌, ◌<◌, ◌≤◌, false, Ok, List, [], ◌∷◌, ◌++◌, length, take, drop, replicate, refl, sym, ap, subst, ◌∙◌, arith, append_assoc, length-append, length-drop, rules}
 use Rattle.std.proofs.lemmas.List.{length-replicate, length-take-le}
 use Rattle.std.proofs.lemmas.List.Sums.{length-filter, count_by-le-length}
 use Rattle.base64.specs.Rfc4648.{encode_symbols}
@@ -11,7 +11,7 @@ use Rattle.sexpr_core.specs.declared.fault.FormFault.{FormFault}
 use Rattle.sexpr_core.specs.declared.fault.FormFault.TheVariants.{TooLong, TooDeep, Short, Bad, Trailing, Memory}
 use Rattle.sexpr_core.specs.Value.{Value, canon, plain, verbatim, decimal, IsWithinLimits}
 use Rattle.sexpr_core.specs.Reading.{StandsAt}
-use Rattle.sexpr_core.specs.Spaces.{is_whitespace, AreSpaces, visible, Skips}
+use Rattle.sexpr_core.specs.Spaces.{AreSpaces, visible, Skips}
 use Rattle.sexpr_core.specs.Gathering.{is_body_octet}
 use Rattle.sexpr_core.specs.Inner.Gathering.{GathersTo, BodyAt}
 use Rattle.sexpr_core.specs.Braces.{IsBase64, Braced, IsBraced, IsBracedWithin, ReadsBase64, PackedAt, transport}
@@ -60,9 +60,7 @@ body_is text begin c v s stands b =
     let q : c ∷ drop (begin + 1) text ≡ 123 ∷ (b.body ++ 125 ∷ b.after) = sym stands.spelled ∙ opening text begin v s b in cc
 
 pub visible_le : (xs : List ℕ) → length (visible xs) ≤ length xs
-visible_le xs =
-    let shown : ℕ → Bool = λ c. not (is_whitespace c) in
-    omega (arith, length-filter shown xs, count_by-le-length shown xs)
+visible_le xs = search (rules, length-filter, count_by-le-length)
 
 -- octets are hardly more than the symbols and whitespace that they stand in
 pub packed_short : (body octets : List ℕ) → IsBase64 (visible body) octets → length octets ≤ length body + 1
@@ -74,10 +72,7 @@ packed_short body octets p =
     omega (arith, p.few, encoded, ap length p.encoded, length-append (visible body) (replicate p.missing 61), length-replicate {A = ℕ} p.missing 61, visible_le body)
 
 pub braced_limits : (text : List ℕ) (v : Value) → IsBracedWithin text v → IsWithinLimits v
-braced_limits text v b = record {
-  short = omega (arith, b.short, packed_short b.braced.body (canon v) b.braced.packed, ap length b.braced.parts, length-append b.braced.before (123 ∷ (b.braced.body ++ 125 ∷ b.braced.after)), length-append b.braced.body (125 ∷ b.braced.after));
-  shallow = b.shallow;
-}
+braced_limits text v b = search (rules, packed_short, length-append)
 
 pub read_short : (text : List ℕ) (at mark to : ℕ) (octets : List ℕ) → length text ≤ 1048576 → ReadsBase64 text at mark octets to → length octets ≤ 1048576
 read_short text at mark to octets few r =
@@ -171,16 +166,7 @@ body_missed text begin c Memory s stands h = tt
 pub body_unread : (text : List ℕ) (begin c to : ℕ) (octets : List ℕ) (fault : FormFault) → Skips text 0 begin → StandsAt text begin c → c ≡ 123
     → ReadsBase64 text (begin + 1) 125 octets to → RefusesBody octets (to - 1) fault → BraceFault text fault
 body_unread text begin c to octets TooLong s stands e r h = absurd h
-body_unread text begin c to octets TooDeep s stands e r h = record {
-  before = s.spaces;
-  body = r.body;
-  after = drop to text;
-  octets = octets;
-  parts = s.spelled ∙ ap (λ t. s.spaces ++ t) (stands.spelled ∙ ap (λ t. c ∷ t) r.spelled ∙ ap (λ k. k ∷ (r.body ++ 125 ∷ drop to text)) e);
-  spaces_before = s.are_spaces;
-  packed = r.packed;
-  deep = h;
-}
+body_unread text begin c to octets TooDeep s stands e r h = search rules
 body_unread text begin c to octets Short s stands e r h = tt
 body_unread text begin c to octets (Bad k) s stands e r h =
     let last : k ≡ to - 1 = h.0 in

@@ -1,5 +1,5 @@
 -- Numbers in decimal: where they end, and that they are equal only for equal numbers.
-use Rattle.std.proofs.Common.{◌≡◌, ℕ, zero, suc, ◌+◌, ◌*◌, ◌/◌, ◌%◌, ◌<◌, ◌≤◌, List, [], ◌∷◌, ◌++◌, length, map, get_or, cond, false, ◌==◌, refl, sym, ◌∙◌, ap, subst, arith}
+use Rattle.std.proofs.Common.{◌≡◌, ℕ, zero, suc, ◌+◌, ◌*◌, ◌/◌, ◌%◌, ◌<◌, ◌≤◌, List, [], ◌∷◌, ◌++◌, length, map, get_or, cond, false, ◌==◌, refl, sym, ◌∙◌, ap, subst, arith, rules}
 use Rattle.std.specs.List.{AllByRecursion}
 use Rattle.std.specs.Int.Digits.{digits_of, AllBelowBase}
 use Rattle.std.proofs.lemmas.List.{map-append}
@@ -97,15 +97,7 @@ decimal_digit (suc k) h =
     decimal_suc k ∙ ap (map digit_of) e
 
 pub decimal_more : (n d : ℕ) → 0 < n → d < 10 → decimal (n * 10 + d) ≡ decimal n ++ (48 + d) ∷ []
-decimal_more n d p low =
-    let m : ℕ = n * 10 + d in
-    let q : (n * 10 + d) / 10 ≡ n = omega arith in
-    let r : (n * 10 + d) % 10 ≡ d = omega arith in
-    let e : digits_of 10 (n * 10 + d) ≡ digits_of 10 n ++ (d ∷ []) =
-    digits_of_step 10 (n * 10 + d) (omega arith) (omega arith)
-    ∙ ap (λ k. digits_of 10 k ++ ((n * 10 + d) % 10 ∷ [])) q ∙ ap (λ k. digits_of 10 n ++ (k ∷ [])) r in
-    decimal_some (n * 10 + d) (omega arith) ∙ ap (map digit_of) e
-    ∙ map-append digit_of (digits_of 10 n) (d ∷ []) ∙ ap (λ s. s ++ ((48 + d) ∷ [])) (sym (decimal_some n p))
+decimal_more n d p low = search (rules, digits_of_step, decimal_some, map-append)
 
 -- ---- one number for a text
 

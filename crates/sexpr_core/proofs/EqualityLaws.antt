@@ -1,5 +1,5 @@
 -- Values are the same exactly if their canonical texts are.
-use Rattle.std.proofs.Common.{◌≡◌, ◌↔◌, ◌<◌, ℕ, ◌++◌, Bool, false, List, [], length, map, get_or, Vec, Global, IsTrue, sym, ap, ◌∙◌, arith}
+use Rattle.std.proofs.Common.{◌≡◌, ◌↔◌, ◌<◌, ℕ, ◌++◌, Bool, false, List, [], length, map, get_or, Vec, Global, IsTrue, sym, ap, ◌∙◌, arith, rules}
 use Rattle.std.proofs.lemmas.List.{get_or-map}
 use Rattle.std.specs.Bool.{Decides}
 use Rattle.std.proofs.lemmas.Slice.Eq.{bytes_eq-Decides}
@@ -36,7 +36,4 @@ group_one vs ws e = let k : values vs ≡ values ws = cc in sym (members-values 
 
 pub lists_same : (tree other : Sexp) (ms os : Vec Sexp Global) (r : Bool) → tree ≡ Branch ms → other ≡ Branch os
     → IsTrue r ↔ (map sexp_value ms.items ≡ map sexp_value os.items) → IsTrue r ↔ (sexp_value tree ≡ sexp_value other)
-lists_same tree other ms os r is other_is h =
-    let a : sexp_value tree ≡ group (map sexp_value ms.items) = ap sexp_value is ∙ sexp_list ms in
-    let b : sexp_value other ≡ group (map sexp_value os.items) = ap sexp_value other_is ∙ sexp_list os in
-    (λ t. a ∙ ap group (h.0 t) ∙ sym b, λ e. h.1 (group_one (map sexp_value ms.items) (map sexp_value os.items) (sym a ∙ e ∙ b)))
+lists_same tree other ms os r is other_is h = search (rules, sexp_list, group_one)

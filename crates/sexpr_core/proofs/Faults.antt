@@ -10,7 +10,8 @@ use Rattle.sexpr_core.specs.Inner.PartFaults.{Barred, FaultAt}
 use Rattle.sexpr_core.specs.Texts.{IsCanon, IsCanonWithin, IsMembers, IsMembersWithin, IsVerbatim, IsClosing, IsLength}
 use Rattle.sexpr_core.proofs.Prefix.{FaultAt-head, FaultAt-tail, FaultAt-from, FaultAt-first, Front-none}
 use Rattle.sexpr_core.proofs.Decimal.{IsDigit, AreDigits-decimal, parts_agree, zero_ends, decimal_starts}
-use Rattle.sexpr_core.proofs.Texts.{IsFilled, IsFilledWithin, IsHinted, verbatim_is, verbatim_differs, colon_no_digit, Opens-verbatim, Opens-hinted, Behind-hint, Behind-closing, Behind-bracket, Behind-bracket_within, From-digit, From-digit_within, Behind-members, Behind-members_within, Behind-open, Behind-open_within, closed_within, From-filled, From-filled_within, Opens-filled, Opens-filled_within}
+use Rattle.sexpr_core.proofs.Texts.{IsFilled, IsFilledWithin, IsHinted, verbatim_is, verbatim_differs, colon_no_digit, Opens-verbatim, Opens-hinted, Behind-hint, Behind-closing, Behind-bracket, Behind-bracket_within, From-digit, From-digit_within}
+use Rattle.sexpr_core.proofs.ListTexts.{Behind-members, Behind-members_within, Behind-open, Behind-open_within, closed_within, From-filled, From-filled_within, Opens-filled, Opens-filled_within}
 
 some_append : (xs ys : List ℕ) → 0 < length ys → 0 < length (xs ++ ys)
 some_append xs ys h = omega (arith, length-append xs ys)

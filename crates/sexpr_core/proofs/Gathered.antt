@@ -1,5 +1,5 @@
 -- A body in base64, octet by octet.
-use Rattle.std.proofs.Common.{◌≡◌, ℕ, ◌+◌, ◌-◌, ◌≤◌, ◌||◌, true, false, not, cond, List, [], ◌∷◌, ◌++◌, length, take, drop, refl, sym, ap, subst, ◌∙◌, append_assoc, append-nil, arith, length-append, length-drop}
+use Rattle.std.proofs.Common.{◌≡◌, ℕ, ◌+◌, ◌-◌, ◌≤◌, true, false, List, [], ◌∷◌, ◌++◌, length, take, drop, refl, sym, ap, subst, ◌∙◌, append_assoc, append-nil, arith, length-append, length-drop, rules}
 use Rattle.std.specs.Prelude.{slice_range}
 use Rattle.std.specs.List.{AllByRecursion}
 use Rattle.std.proofs.lemmas.Bool.Decides.{nat_tests}
@@ -9,7 +9,7 @@ use Rattle.sexpr_core.specs.declared.fault.FormFault.{FormFault}
 use Rattle.sexpr_core.specs.declared.fault.FormFault.TheVariants.{TooLong, TooDeep, Short, Bad, Trailing, Memory}
 use Rattle.sexpr_core.specs.Bounds.{IsFaultAt}
 use Rattle.sexpr_core.specs.Reading.{StandsAt}
-use Rattle.sexpr_core.specs.Spaces.{is_whitespace, visible, AreSpaces, StartsVisible, Skips}
+use Rattle.sexpr_core.specs.Spaces.{is_whitespace, visible, AreSpaces, Skips}
 use Rattle.sexpr_core.specs.Gathering.{is_symbol, is_body_octet, AreBodyOctets, Passed, IsBodyEnd}
 use Rattle.sexpr_core.specs.Inner.Gathering.{StartsNoSymbol, SkipsSymbols, GathersTo, BodyAt}
 use Rattle.sexpr_core.specs.Prefix.{StopsAt}
@@ -40,14 +40,7 @@ more_symbols text at i c s stands symbol = record {
 }
 
 symbols_skipped : (text : List ℕ) (at i : ℕ) → SymbolsTo text at i → StartsNoSymbol (drop i text) → SkipsSymbols text at i
-symbols_skipped text at i s ends = record {
-  symbols = s.symbols;
-  are_symbols = s.are_symbols;
-  spelled = s.spelled;
-  ends = ends;
-  ordered = s.ordered;
-  within = s.within;
-}
+symbols_skipped text at i s ends = search rules
 
 pub symbols_stop : (text : List ℕ) (at i c : ℕ) → SymbolsTo text at i → StandsAt text i c → is_symbol c ≡ false → SkipsSymbols text at i
 symbols_stop text at i c s stands other = symbols_skipped text at i s (subst StartsNoSymbol (sym stands.spelled) other)
@@ -77,16 +70,11 @@ no_space c h = grind (arith, nat_tests)
 
 symbols_stay : (xs : List ℕ) → AllByRecursion (λ c. is_symbol c ≡ true) xs → AreBodyOctets xs × (visible xs ≡ xs)
 symbols_stay [] h = (tt, refl)
-symbols_stay (x ∷ xs) h =
-    let e = no_space x h.0 in
-    let rest = symbols_stay xs h.1 in
-    ((ap (λ b. b || is_symbol x) e ∙ h.0, rest.0), ap (λ b. cond (not b) (x ∷ visible xs) (visible xs)) e ∙ ap (λ t. x ∷ t) rest.1)
+symbols_stay (x ∷ xs) h = search (rules, no_space, symbols_stay xs h.1)
 
 spaces_vanish : (xs : List ℕ) → AreSpaces xs → AreBodyOctets xs × (visible xs ≡ [])
 spaces_vanish [] h = (tt, refl)
-spaces_vanish (x ∷ xs) h =
-    let rest = spaces_vanish xs h.1 in
-    ((ap (λ b. b || is_symbol x) h.0, rest.0), ap (λ b. cond (not b) (x ∷ visible xs) (visible xs)) h.0 ∙ rest.1)
+spaces_vanish (x ∷ xs) h = search (rules, spaces_vanish xs h.1)
 
 pub more_gathered : (text : List ℕ) (at i end next : ℕ) (symbols new : List ℕ) → Gathers text at symbols i → SkipsSymbols text i end → Skips text end next
     → new ≡ symbols ++ slice_range text i end → Gathers text at new next
@@ -113,11 +101,7 @@ more_gathered text at i end next symbols new g run gap e =
 
 -- an octet at which neither symbols nor whitespace begin is none of a body's
 pub no_body_octet : (text : List ℕ) (i end c : ℕ) → SkipsSymbols text i end → Skips text end i → StandsAt text i c → is_body_octet c ≡ false
-no_body_octet text i end c run gap stands =
-    let e : end ≡ i = omega (arith, run.ordered, gap.ordered) in
-    let not_symbol : is_symbol c ≡ false = subst StartsNoSymbol (stands.spelled) (subst (λ k. StartsNoSymbol (drop k text)) e run.ends) in
-    let not_space : is_whitespace c ≡ false = subst StartsVisible (stands.spelled) gap.ends in
-    ap (λ b. b || is_symbol c) not_space ∙ not_symbol
+no_body_octet text i end c run gap stands = search rules
 
 -- a body ends at the first octet that can't stand in it
 pub one_body : (xs ys : List ℕ) (c d : ℕ) (r s : List ℕ) → AreBodyOctets xs → AreBodyOctets ys → is_body_octet c ≡ false → is_body_octet d ≡ false
@@ -134,15 +118,11 @@ one_body (x ∷ xs) (y ∷ ys) c d r s hx hy hc hd e =
 -- no body stands before the mark where the octet behind some of its octets is no other than one that can't stand in it
 pub gathered_mark : (text : List ℕ) (at i c mark : ℕ) (symbols body rest : List ℕ) → Gathers text at symbols i → StandsAt text i c
     → is_body_octet c ≡ false → is_body_octet mark ≡ false → AreBodyOctets body → drop at text ≡ body ++ mark ∷ rest → c ≡ mark
-gathered_mark text at i c mark symbols body rest g stands other mark_other all e =
-    (one_body g.body body c mark (drop (i + 1) text) rest g.octets all other mark_other
-    (ap (λ t. g.body ++ t) (sym stands.spelled) ∙ sym g.spelled ∙ e)).1
+gathered_mark text at i c mark symbols body rest g stands other mark_other all e = search (rules, one_body)
 
 pub same_body : (text : List ℕ) (at mark to : ℕ) (symbols body rest : List ℕ) → GathersTo text at mark symbols to → is_body_octet mark ≡ false
     → AreBodyOctets body → drop at text ≡ body ++ mark ∷ rest → (symbols ≡ visible body) × (drop to text ≡ rest)
-same_body text at mark to symbols body rest g other all e =
-    let p = one_body g.body body mark mark (drop to text) rest g.octets all other other (sym g.spelled ∙ e) in
-    (g.kept ∙ ap visible p.0, p.2)
+same_body text at mark to symbols body rest g other all e = search (rules, one_body)
 
 pub no_mark : (xs ys : List ℕ) (mark : ℕ) (s : List ℕ) → AreBodyOctets xs → is_body_octet mark ≡ false → xs ≡ ys ++ mark ∷ s → ⊥
 no_mark [] [] mark s h k e = cc
@@ -154,17 +134,6 @@ pub gathered_end : (text : List ℕ) (at i mark : ℕ) (symbols body rest : List
     → is_body_octet mark ≡ false → drop at text ≡ body ++ mark ∷ rest → ⊥
 gathered_end text at i mark symbols body rest g ended other e =
     no_mark g.body body mark rest g.octets other (sym (append-nil g.body) ∙ ap (λ t. g.body ++ t) (sym ended) ∙ sym g.spelled ∙ e)
-
-pub all_gathered : (text : List ℕ) (at i c mark : ℕ) (symbols : List ℕ) → Gathers text at symbols i → StandsAt text i c → c ≡ mark
-    → GathersTo text at mark symbols (i + 1)
-all_gathered text at i c mark symbols g stands e = record {
-  body = g.body;
-  octets = g.octets;
-  spelled = g.spelled ∙ ap (λ t. g.body ++ t) (stands.spelled ∙ ap (λ k. k ∷ drop (i + 1) text) e);
-  kept = g.kept;
-  goes_on = omega (arith, g.ordered);
-  within = omega (arith, stands.within);
-}
 
 -- ---- the same in each text that goes on so far in the same way
 

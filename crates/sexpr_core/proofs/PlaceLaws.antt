@@ -1,6 +1,5 @@
 -- What a record says of its node.
 use Rattle.std.proofs.Common.{◌≡◌, ℕ, ◌+◌, ◌≤◌, List, [], ◌∷◌, ◌++◌, length, Option, Some, None, sym, ap, subst, ◌∙◌, length-append, arith, inl, inr}
-use Rattle.std.specs.Prelude.{slice_range}
 use Rattle.sexpr_core.specs.declared.layout.Record.{Record}
 use Rattle.sexpr_core.specs.declared.layout.Shape.{Shape}
 use Rattle.sexpr_core.specs.declared.layout.Shape.TheVariants.{Plain, Hinted, List as Group}
@@ -8,7 +7,7 @@ use Rattle.sexpr_core.specs.Value.{Value, string, list, canon, verbatim, size, p
 use Rattle.sexpr_core.specs.Labels.{Label, label}
 use Rattle.sexpr_core.specs.Table.{record_of, shape_of, label_in, label_as}
 use Rattle.sexpr_core.specs.Places.{IsPlace, IsList}
-use Rattle.sexpr_core.proofs.TableLaws.{label_at, length-verbatim, between}
+use Rattle.sexpr_core.proofs.TableLaws.{label_at, length-verbatim}
 
 -- the string that a label stands for
 abbrev string_of : Label → Value
@@ -32,12 +31,6 @@ end_is r v e = ap (λ (q : Record). q.end) e
 pub ends_within : (text : List ℕ) (r : Record) (v : Value) → IsPlace text r v → r.end ≤ length text
 ends_within text r v p =
     omega (arith, end_is r v p.record_is, p.begins, ap length p.parts, length-append p.before (canon v ++ p.after), length-append (canon v) p.after)
-
-pub begins_before_end : (text : List ℕ) (r : Record) (v : Value) → IsPlace text r v → r.start ≤ r.end
-begins_before_end text r v p = omega (arith, end_is r v p.record_is)
-
-pub slice_is : (text : List ℕ) (r : Record) (v : Value) → IsPlace text r v → slice_range text r.start r.end ≡ canon v
-slice_is text r v p = between text p.before (canon v) p.after r.start r.end p.parts p.begins (end_is r v p.record_is)
 
 pub size_is : (text : List ℕ) (r : Record) (v : Value) → IsPlace text r v → r.size ≡ size v
 size_is text r v p = ap (λ (q : Record). q.size) p.record_is

@@ -1,5 +1,5 @@
 -- How a fault in a part of a text is a fault of the whole.
-use Rattle.std.proofs.Common.{◌≡◌, ℕ, suc, ◌+◌, ◌<◌, List, [], ◌∷◌, ◌++◌, length, take, sym, ◌∙◌, ap, subst, arith, append_assoc, length-append, add-suc}
+use Rattle.std.proofs.Common.{◌≡◌, ℕ, suc, ◌+◌, ◌<◌, List, [], ◌∷◌, ◌++◌, length, take, sym, ◌∙◌, ap, subst, arith, append_assoc, length-append, add-suc, rules}
 use Rattle.std.proofs.lemmas.List.{append_cancel_left}
 use Rattle.std.proofs.Math.Seq.{take-append-add}
 use Rattle.sexpr_core.specs.declared.fault.FormFault.{FormFault}
@@ -39,51 +39,25 @@ pub record From (c : ℕ) (T U : List ℕ → Type 0) : Type 0 where
 -- ---- a fault in the first part
 
 Front-head : (S V : List ℕ → Type 0) (xs : List ℕ) → Opens S V → Front V xs → Front S xs
-Front-head S V xs o f =
-    let b : Begins S (xs ++ f.rest) = o.on (xs ++ f.rest) f.whole in
-    record {
-      rest = f.rest ++ b.rest;
-      some = let p : 0 < length f.rest = f.some in omega (arith, length-append f.rest b.rest);
-      whole = subst S (append_assoc xs f.rest b.rest) b.whole;
-    }
+Front-head S V xs o f = search (rules, length-append, append_assoc)
 
 Barred-head : (T U : List ℕ → Type 0) (xs : List ℕ) → Opens T U → Barred U xs → Barred T xs
-Barred-head T U xs o h = record {
-  bars = λ t rest after is e.
-      let p : Headed U t = o.back t is in
-      h.bars p.first rest (p.rest ++ after) p.is
-      (e ∙ ap (λ s. s ++ after) p.whole ∙ append_assoc p.first p.rest after);
-}
+Barred-head T U xs o h = search (rules, append_assoc)
 
 pub FaultAt-head :
     (T U S V : List ℕ → Type 0) (at : ℕ) (xs : List ℕ) (e : FormFault) → Opens T U → Opens S V →
     FaultAt U V at xs e → FaultAt T S at xs e
 FaultAt-head T U S V at xs TooLong o p h = h
-FaultAt-head T U S V at xs TooDeep o p h = record {
-  place = h.place;
-  within = h.within;
-  before = Front-head T U (take (suc h.place) xs) o h.before;
-  stops = Barred-head S V (take (suc h.place) xs) p h.stops;
-}
+FaultAt-head T U S V at xs TooDeep o p h = search (rules, Front-head, Barred-head)
 FaultAt-head T U S V at xs Short o p h = Front-head S V xs p h
-FaultAt-head T U S V at xs (Bad k) o p h = record {
-  place = h.place;
-  offset = h.offset;
-  within = h.within;
-  before = Front-head S V (take h.place xs) p h.before;
-  stops = Barred-head T U (take (suc h.place) xs) o h.stops;
-}
+FaultAt-head T U S V at xs (Bad k) o p h = search (rules, Front-head, Barred-head)
 FaultAt-head T U S V at xs (Trailing k) o p h = h
 FaultAt-head T U S V at xs Memory o p h = h
 
 -- ---- a fault behind a whole part
 
 Front-tail : (S V : List ℕ → Type 0) (a ys : List ℕ) → Behind S V a → Front V ys → Front S (a ++ ys)
-Front-tail S V a ys o f = record {
-  rest = f.rest;
-  some = f.some;
-  whole = subst S (sym (append_assoc a ys f.rest)) (o.on (ys ++ f.rest) f.whole);
-}
+Front-tail S V a ys o f = search (rules, append_assoc)
 
 Barred-tail : (T U : List ℕ → Type 0) (a ys : List ℕ) → Behind T U a → Barred U ys → Barred T (a ++ ys)
 Barred-tail T U a ys o h = record {
@@ -131,20 +105,9 @@ pub FaultAt-from :
     (T U S V : List ℕ → Type 0) (at c : ℕ) (ys : List ℕ) (e : FormFault) → From c T U → From c S V →
     FaultAt U V at (c ∷ ys) e → FaultAt T S at (c ∷ ys) e
 FaultAt-from T U S V at c ys TooLong o p h = h
-FaultAt-from T U S V at c ys TooDeep o p h = record {
-  place = h.place;
-  within = h.within;
-  before = Front-from T U c (take (suc h.place) (c ∷ ys)) o h.before;
-  stops = Barred-from S V c (take h.place ys) p h.stops;
-}
+FaultAt-from T U S V at c ys TooDeep o p h = search (rules, Front-from, Barred-from)
 FaultAt-from T U S V at c ys Short o p h = Front-from S V c (c ∷ ys) p h
-FaultAt-from T U S V at c ys (Bad k) o p h = record {
-  place = h.place;
-  offset = h.offset;
-  within = h.within;
-  before = Front-from S V c (take h.place (c ∷ ys)) p h.before;
-  stops = Barred-from T U c (take h.place ys) o h.stops;
-}
+FaultAt-from T U S V at c ys (Bad k) o p h = search (rules, Front-from, Barred-from)
 FaultAt-from T U S V at c ys (Trailing k) o p h = h
 FaultAt-from T U S V at c ys Memory o p h = h
 
@@ -158,22 +121,12 @@ Front-none T t some is = record { rest = t; some = some; whole = is }
 pub FaultAt-first :
     (T S : List ℕ → Type 0) (at c : ℕ) (ys : List ℕ) → Front S [] →
     ((t x y : List ℕ) → T t → c ∷ x ≡ t ++ y → ⊥) → FaultAt T S at (c ∷ ys) (Bad at)
-FaultAt-first T S at c ys front never = record {
-  place = 0;
-  offset = omega arith;
-  within = omega arith;
-  before = front;
-  stops = record { bars = λ t rest after is e. never t rest after is e };
-}
+FaultAt-first T S at c ys front never = search rules
 
 -- ---- texts of a narrower sort
 
 pub StopsAt-less : (T U : List ℕ → Type 0) (text : List ℕ) (at k : ℕ) → ((t : List ℕ) → U t → T t) → StopsAt T text at k → StopsAt U text at k
-StopsAt-less T U text at k less s = record {
-  behind = s.behind;
-  within = s.within;
-  none = λ b. s.none (record { rest = b.rest; whole = less (take (k + 1) text ++ b.rest) b.whole });
-}
+StopsAt-less T U text at k less s = search rules
 
 pub RefusesPart-less :
     (T U : List ℕ → Type 0) (text : List ℕ) (at : ℕ) (e : FormFault) → ((t : List ℕ) → U t → T t) →

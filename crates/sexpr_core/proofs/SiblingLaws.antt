@@ -1,5 +1,5 @@
 -- The members of a list are the siblings behind its node.
-use Rattle.std.proofs.Common.{◌≡◌, ◌≢◌, ℕ, zero, suc, ◌+◌, ◌-◌, ◌<◌, ◌≤◌, List, [], ◌∷◌, ◌++◌, length, get_or, take, drop, refl, sym, ap, subst, ◌∙◌, append_assoc, add-one, length-append, arith, inl, inr, Some}
+use Rattle.std.proofs.Common.{◌≡◌, ◌≢◌, ℕ, zero, suc, ◌+◌, ◌-◌, ◌<◌, ◌≤◌, List, [], ◌∷◌, ◌++◌, length, get_or, take, drop, refl, sym, ap, subst, ◌∙◌, append_assoc, add-one, length-append, arith, inl, inr, Some, rules}
 use Rattle.std.specs.Prelude.{slice_range, option_and_then}
 use Rattle.std.proofs.lemmas.Bool.{cases_lt}
 use Rattle.std.proofs.lemmas.Option.{slice_get-get_or}
@@ -18,13 +18,7 @@ record IsPart (row : List Value) (n : ℕ) (v : Value) : Type 0 where
   begins : length before ≡ n
 
 part_left : (row row' : List Value) (n : ℕ) (d : Value) → n < length row → IsPart row n (get_or row n d) → IsPart (row ++ row') n (get_or (row ++ row') n d)
-part_left row row' n d lt p =
-    rw (get_or_append_left row row' d n lt) (record {
-      before = p.before;
-      after = p.after ++ row';
-      parts = ap (λ (r : List Value). r ++ row') p.parts ∙ append_assoc p.before (nodes (get_or row n d) ++ p.after) row' ∙ ap (λ (r : List Value). p.before ++ r) (append_assoc (nodes (get_or row n d)) p.after row');
-      begins = p.begins;
-    })
+part_left row row' n d lt p = search (rules, get_or_append_left, append_assoc)
 
 part_right : (row row' : List Value) (n : ℕ) (d : Value) → length row ≤ n → IsPart row' (n - length row) (get_or row' (n - length row) d) → IsPart (row ++ row') n (get_or (row ++ row') n d)
 part_right row row' n d le p =

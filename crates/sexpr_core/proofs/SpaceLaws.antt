@@ -1,5 +1,5 @@
 -- Whitespace that stands between two offsets.
-use Rattle.std.proofs.Common.{◌≡◌, ℕ, zero, suc, ◌+◌, ◌<◌, ◌≤◌, true, false, List, [], ◌∷◌, ◌++◌, length, take, drop, refl, sym, ap, subst, ◌∙◌, append_assoc, arith, length-drop}
+use Rattle.std.proofs.Common.{◌≡◌, ℕ, zero, suc, ◌+◌, ◌<◌, ◌≤◌, true, false, List, [], ◌∷◌, ◌++◌, length, take, drop, refl, sym, ap, subst, ◌∙◌, append_assoc, arith, length-drop, rules}
 use Rattle.std.specs.List.{AllByRecursion}
 use Rattle.sexpr_core.specs.Reading.{StandsAt}
 use Rattle.sexpr_core.specs.Spaces.{is_whitespace, IsSpace, AreSpaces, StartsVisible, Skips}
@@ -28,24 +28,10 @@ more_spaces text at i c s stands space = record {
 }
 
 pub spaces_stop : (text : List ℕ) (at i c : ℕ) → SpacesTo text at i → StandsAt text i c → is_whitespace c ≡ false → Skips text at i
-spaces_stop text at i c s stands other = record {
-  spaces = s.spaces;
-  are_spaces = s.are_spaces;
-  spelled = s.spelled;
-  ends = subst StartsVisible (sym stands.spelled) other;
-  ordered = s.ordered;
-  within = s.within;
-}
+spaces_stop text at i c s stands other = search rules
 
 pub spaces_end : (text : List ℕ) (at i : ℕ) → SpacesTo text at i → drop i text ≡ [] → Skips text at i
-spaces_end text at i s e = record {
-  spaces = s.spaces;
-  are_spaces = s.are_spaces;
-  spelled = s.spelled;
-  ends = subst StartsVisible (sym e) tt;
-  ordered = s.ordered;
-  within = s.within;
-}
+spaces_end text at i s e = search rules
 
 -- whitespace ends in one way
 pub one_end : (xs ys r s : List ℕ) → AreSpaces xs → AreSpaces ys → StartsVisible r → StartsVisible s → xs ++ r ≡ ys ++ s → (xs ≡ ys) × (r ≡ s)

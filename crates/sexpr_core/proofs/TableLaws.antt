@@ -1,5 +1,5 @@
 -- Each record of a table is that of its node, and the node's text lies where the record says.
-use Rattle.std.proofs.Common.{◌≡◌, ℕ, zero, suc, ◌+◌, ◌-◌, ◌<◌, ◌≤◌, List, [], ◌∷◌, ◌++◌, length, get_or, map, Some, None, refl, sym, ap, ◌∙◌, append_assoc, length-append, arith, inr}
+use Rattle.std.proofs.Common.{◌≡◌, ℕ, zero, suc, ◌+◌, ◌<◌, ◌≤◌, List, [], ◌∷◌, ◌++◌, length, get_or, map, Some, None, refl, sym, ap, ◌∙◌, append_assoc, length-append, arith, inr, rules}
 use Rattle.std.specs.Prelude.{slice_range, slice_get}
 use Rattle.std.proofs.lemmas.List.{take_at, drop_at, append-nil, map-append, length-map}
 use Rattle.std.proofs.lemmas.Option.{slice_get_past}
@@ -31,9 +31,7 @@ abbrev opened : List ℕ → List ℕ
 opened before = before ++ 40 ∷ []
 
 inside : (before after : List ℕ) (vs : Values) → before ++ (canon (list vs) ++ after) ≡ opened before ++ (canons vs ++ (41 ∷ after))
-inside before after vs =
-    ap (λ (t : List ℕ). before ++ 40 ∷ t) (append_assoc (canons vs) (41 ∷ []) after)
-    ∙ sym (append_assoc before (40 ∷ []) (canons vs ++ (41 ∷ after)))
+inside before after vs = search (rules, append_assoc)
 
 mutual
   places : (text before after : List ℕ) (at : ℕ) (v : Value) → length before ≡ at → text ≡ before ++ (canon v ++ after) → ArePlaces text (records at v) (nodes v)
@@ -51,9 +49,7 @@ mutual
 
 -- the part of a text between two others
 pub between : (text p q s : List ℕ) (i j : ℕ) → text ≡ p ++ (q ++ s) → length p ≡ i → j ≡ i + length q → slice_range text i j ≡ q
-between text p q s i j e len to =
-    let k : j - i ≡ length q = omega arith in
-    rw (k, e, drop_at p (q ++ s) i len, take_at q s (length q) refl) refl
+between text p q s i j e len to = search (rules, drop_at, take_at)
 
 -- the octets of a string that stands verbatim behind p
 body_between : (text p octets s : List ℕ) (i : ℕ) → text ≡ p ++ (verbatim octets ++ s) → length p ≡ i → slice_range text (i + head octets) (i + head octets + length octets) ≡ octets
@@ -94,9 +90,7 @@ labels_shown : (text : List ℕ) (rs : List Record) (vs : List Value) → ArePla
 labels_shown text [] [] p = refl
 labels_shown text [] (v ∷ vs) p = absurd p
 labels_shown text (r ∷ rs) [] p = absurd p
-labels_shown text (r ∷ rs) (v ∷ vs) p =
-    let first : label_in text r ≡ label v = ap (label_in text) p.0.record_is ∙ label_at text p.0.before p.0.after r.start v p.0.parts p.0.begins in
-    rw (first, labels_shown text rs vs p.1) refl
+labels_shown text (r ∷ rs) (v ∷ vs) p = search (rules, label_at, labels_shown text rs vs p.1)
 
 pub places_of : (v : Value) → ArePlaces (canon v) (records 0 v) (nodes v)
 places_of v = places (canon v) [] [] 0 v refl (sym (append-nil (canon v)))

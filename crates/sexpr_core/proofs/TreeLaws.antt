@@ -1,10 +1,6 @@
 -- How many nodes there are in a list's members.
-use Rattle.std.proofs.Common.{◌≡◌, suc, ◌+◌, ◌<◌, List, [], ◌∷◌, ◌++◌, length, ap, arith, length-append, refl}
-use Rattle.sexpr_core.specs.Value.{Value, string, list, values, group, size, size_all, nodes, nodes_all}
-
-pub size_some : (v : Value) → 0 < size v
-size_some (string hint octets) = omega arith
-size_some (list vs) = omega arith
+use Rattle.std.proofs.Common.{◌≡◌, suc, ◌+◌, List, [], ◌∷◌, ◌++◌, length, ap, arith, length-append, refl}
+use Rattle.sexpr_core.specs.Value.{Value, values, group, size, size_all, nodes, nodes_all}
 
 pub size_all-values : (vs : List Value) → length (nodes_all (values vs)) ≡ size_all vs
 size_all-values [] = refl

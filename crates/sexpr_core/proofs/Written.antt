@@ -1,5 +1,5 @@
 -- What is written behind other octets.
-use Rattle.std.proofs.Common.{◌≡◌, ℕ, ◌+◌, ◌*◌, ◌/◌, ◌%◌, ◌<◌, ◌≤◌, List, [], ◌∷◌, ◌++◌, length, refl, sym, ap, ◌∙◌, append_assoc, arith, map, take, get_or, Vec, Global, append-nil}
+use Rattle.std.proofs.Common.{◌≡◌, ℕ, ◌+◌, ◌*◌, ◌/◌, ◌%◌, ◌<◌, ◌≤◌, List, [], ◌∷◌, ◌++◌, length, refl, sym, ap, ◌∙◌, append_assoc, arith, map, take, get_or, Vec, Global, append-nil, rules}
 use Rattle.std.proofs.lemmas.List.{map-append, take_more, take_all}
 use Rattle.sexpr_core.specs.declared.tree.Sexp.{Sexp}
 use Rattle.sexpr_core.specs.declared.tree.Sexp.TheVariants.{List as Branch, rolls-List}
@@ -21,10 +21,7 @@ digits_written n out mid new high e f =
     f ∙ ap (λ s. s ++ (48 + n % 10) ∷ []) e ∙ append_assoc out (decimal (n / 10)) ((48 + n % 10) ∷ []) ∙ ap (λ s. out ++ s) (sym whole)
 
 pub verbatim_written : (octets out a b new : List ℕ) → a ≡ out ++ decimal (length octets) → b ≡ a ++ 58 ∷ [] → new ≡ b ++ octets → new ≡ out ++ verbatim octets
-verbatim_written octets out a b new e f g =
-    g ∙ ap (λ s. s ++ octets) (f ∙ ap (λ s. s ++ 58 ∷ []) e ∙ append_assoc out (decimal (length octets)) (58 ∷ []))
-    ∙ append_assoc out (decimal (length octets) ++ 58 ∷ []) octets
-    ∙ ap (λ s. out ++ s) (append_assoc (decimal (length octets)) (58 ∷ []) octets ∙ sym (verbatim_is octets))
+verbatim_written octets out a b new e f g = search (rules, append_assoc, verbatim_is)
 
 -- one octet alone
 pub one_written : (octets out new : List ℕ) → 1 ≤ length octets → length octets < 2 → new ≡ out ++ 49 ∷ 58 ∷ get_or octets 0 0 ∷ [] → new ≡ out ++ verbatim octets
@@ -57,9 +54,4 @@ sexp_list ms = ap sexp_value (sym (rolls-List ms)) ∙ fold-roll-Sexp Value leve
 pub list_written : (tree : Sexp) (ms : Vec Sexp Global) (xs : List Sexp) (k : ℕ) (out opened all new : List ℕ) → tree ≡ Branch ms → xs ≡ ms.items
     → length xs ≤ k → opened ≡ out ++ 40 ∷ [] → all ≡ opened ++ canons (values (map sexp_value (take k xs))) → new ≡ all ++ 41 ∷ []
     → new ≡ out ++ canon (sexp_value tree)
-list_written tree ms xs k out opened all new is same le e f g =
-    let body = canons (values (map sexp_value ms.items)) in
-    let taken : take k xs ≡ ms.items = take_all k xs le ∙ same in
-    let whole : canon (sexp_value tree) ≡ 40 ∷ (body ++ 41 ∷ []) = ap (λ t. canon (sexp_value t)) is ∙ ap canon (sexp_list ms) in
-    g ∙ ap (λ s. s ++ 41 ∷ []) (f ∙ ap (λ s. opened ++ canons (values (map sexp_value s))) taken ∙ ap (λ s. s ++ body) e ∙ append_assoc out (40 ∷ []) body)
-    ∙ append_assoc out (40 ∷ body) (41 ∷ []) ∙ ap (λ s. out ++ s) (sym whole)
+list_written tree ms xs k out opened all new is same le e f g = search (rules, take_all, sexp_list, append_assoc)

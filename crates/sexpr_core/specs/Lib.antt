@@ -8,7 +8,6 @@ pub mod Siblings
 pub mod KindValue
 pub mod Tree
 pub mod Parts
-pub mod PartOf
 pub mod Shapes
 pub mod Prefix
 pub mod Texts

@@ -30,7 +30,7 @@ fn pass_value(text: &[u8], at: usize, room: usize) -> Result<usize, FormFault>
     Ok(read.end as usize)
 }
 
-/// Returns the end of a list. The first octet of its text is its opening parenthesis.
+/// Returns the end of the list whose opening parenthesis is at an offset. At most `room` lists may be open at once, this one included.
 #[cycle(passing)]
 fn pass_list(text: &[u8], at: usize, room: usize) -> Result<usize, FormFault>
     requires short { length text.now ≤ 1048576 }
@@ -46,7 +46,7 @@ fn pass_list(text: &[u8], at: usize, room: usize) -> Result<usize, FormFault>
     Ok(end)
 }
 
-/// Returns the end of the closing parenthesis of a list whose members begin at an offset.
+/// Returns the end of the list whose members begin at an offset. At most `room` lists may be open at once in them.
 #[cycle(passing)]
 fn pass_members(text: &[u8], at: usize, room: usize) -> Result<usize, FormFault>
     requires short { length text.now ≤ 1048576 }

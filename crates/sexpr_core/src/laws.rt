@@ -1,4 +1,5 @@
 //! Laws of values, canonical form and trees.
+//! Each function is a law: it does nothing, and its contract is the fact.
 
 ghost use Rattle.std.specs.Prelude.{◌≡◌, ◌≢◌, ◌↔◌, ℕ, List, ◌++◌, IsTrue};
 ghost use Rattle.sexpr_core.specs.declared.fault.FormFault.{FormFault};

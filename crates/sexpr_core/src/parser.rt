@@ -191,7 +191,7 @@ fn read_value(
     Ok(read.end as usize)
 }
 
-/// Reads a list, from its opening parenthesis on.
+/// Reads a list, from its opening parenthesis on. At most `room` lists may be open at once, this one included.
 #[cycle(reading)]
 fn read_list(
     text: &[u8],
@@ -228,7 +228,7 @@ fn read_list(
     Ok(read.end)
 }
 
-/// Reads the members of a list and its closing parenthesis.
+/// Reads the members of a list and its closing parenthesis. At most `room` lists may be open at once in them.
 #[cycle(reading)]
 fn read_members(
     text: &[u8],

@@ -51,24 +51,6 @@ string_converted room text at to form octets old new r e = (
     same Canonical = refl
     same Advanced = refl
 
-pub hinted_converted : (text : List ℕ) (at to : ℕ) (form : Form) (hint octets old opened named closed new : List ℕ)
-    → ReadsValue 0 text at (string (Some hint) octets) to
-    → opened ≡ old ++ 91 ∷ [] → named ≡ opened ++ written_string form hint → closed ≡ named ++ 93 ∷ [] → new ≡ closed ++ written_string form octets
-    → IsConverted 0 text at form old new to
-hinted_converted text at to form hint octets old opened named closed new r e f g h =
-    (string (Some hint) octets, r, whole ∙ ap (λ t. old ++ t) (same form))
-  where
-    whole : new ≡ old ++ 91 ∷ (written_string form hint ++ 93 ∷ written_string form octets)
-    whole =
-        h ∙ ap (λ t. t ++ written_string form octets) (g ∙ ap (λ t. t ++ 93 ∷ []) (f ∙ ap (λ t. t ++ written_string form hint) e))
-        ∙ append_assoc ((old ++ 91 ∷ []) ++ written_string form hint) (93 ∷ []) (written_string form octets)
-        ∙ append_assoc (old ++ 91 ∷ []) (written_string form hint) (93 ∷ written_string form octets)
-        ∙ append_assoc old (91 ∷ []) (written_string form hint ++ 93 ∷ written_string form octets)
-
-    same : (f : Form) → 91 ∷ (written_string f hint ++ 93 ∷ written_string f octets) ≡ written f (string (Some hint) octets)
-    same Canonical = refl
-    same Advanced = refl
-
 -- what fits without a list fits with any room
 pub roomier : (room : ℕ) (text : List ℕ) (at to : ℕ) (form : Form) (old new : List ℕ) → IsConverted 0 text at form old new to → IsConverted room text at form old new to
 roomier room text at to form old new p = let r = p.1 in (

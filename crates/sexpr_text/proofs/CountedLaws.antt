@@ -1,5 +1,5 @@
 -- A string with or without its length in front, as the reader meets it.
-use Rattle.std.proofs.Common.{◌≡◌, ◌≢◌, ℕ, zero, suc, ◌+◌, ◌≤◌, min, Bool, true, false, ◌⊎◌, inl, inr, List, [], ◌∷◌, ◌++◌, length, drop, refl, sym, ap, subst, ◌∙◌, append_assoc, length-append, length-drop, arith}
+use Rattle.std.proofs.Common.{◌≡◌, ◌≢◌, ℕ, zero, suc, ◌+◌, ◌≤◌, min, Bool, true, false, ◌⊎◌, inl, inr, List, [], ◌∷◌, ◌++◌, length, drop, refl, sym, ap, subst, ◌∙◌, append_assoc, length-append, length-drop, arith, rules}
 use Rattle.std.proofs.lemmas.Bool.Decides.{nat_tests}
 use Rattle.sexpr_core.specs.Value.{decimal, verbatim}
 use Rattle.sexpr_core.specs.Reading.{StandsAt}
@@ -56,10 +56,7 @@ cut_behind : (w c d : ℕ) (cs x ds t a rest : List ℕ) → (w ≡ 0) ⊎ Stops
 cut_behind w c d cs x ds t a rest ends low other (inl b) e f =
     let p = count_once w (length a) d x (t ++ rest) ends other (sym e ∙ f ∙ ap (λ k. k ++ d ∷ (t ++ rest)) b.1) in
     (p.0, inl (p.1 ∙ ap (λ k. k ∷ (t ++ rest)) b.0 ∙ ap (λ k. 58 ∷ (k ++ rest)) b.2))
-cut_behind w c d cs x ds t a rest ends low other (inr (m, inl n, k)) e f =
-    let q : c ∷ cs ≡ d ∷ (t ++ rest) = f ∙ ap (λ u. u ++ d ∷ (t ++ rest)) n in
-    let g : c ≡ d = cc in
-    absurd (other (subst IsDigit g low))
+cut_behind w c d cs x ds t a rest ends low other (inr (m, inl n, k)) e f = search rules
 cut_behind w c d cs x ds t a rest ends low other (inr (m, inr n, k)) e f =
     let p = count_once w (length a) d x (t ++ rest) ends other (sym e ∙ f ∙ ap (λ u. u ++ d ∷ (t ++ rest)) n) in
     (p.0, inr (d ∷ t, k, p.1))
@@ -79,9 +76,7 @@ counted_stands text at first number to a rest opens low r ends s =
 
 colon_first : (x a rest : List ℕ) → StandsBehind x a rest → x ≡ [] → ⊥
 colon_first x a rest (inl h) e = let q : [] ≡ 58 ∷ (a ++ rest) = sym e ∙ h in cc
-colon_first x a rest (inr h) e =
-    let f = marked_first h.0 a h.1 in
-    let q : [] ≡ f.0 ∷ (f.1 ++ rest) = sym e ∙ h.2 ∙ ap (λ t. t ++ rest) f.2 in cc
+colon_first x a rest (inr h) e = search (rules, marked_first)
 
 pub counted_ended : (text : List ℕ) (at first number to : ℕ) (a rest : List ℕ) → StandsAt text at first → IsDigit first → ReadsCount text at number to
     → (number ≡ 0) ⊎ Stops is_digit (drop to text) → StringAt text at a rest → drop to text ≡ [] → ⊥
@@ -94,12 +89,7 @@ marked_behind x c cs a rest (inr h) e n = h
 
 verbatim_behind : (x : List ℕ) (c : ℕ) (cs a rest : List ℕ) → StandsBehind x a rest → x ≡ c ∷ cs → c ≡ 58 → cs ≡ a ++ rest
 verbatim_behind x c cs a rest (inl h) e n = let q : c ∷ cs ≡ 58 ∷ (a ++ rest) = sym e ∙ h in cc
-verbatim_behind x c cs a rest (inr h) e n =
-    let f = marked_first h.0 a h.1 in
-    let q : c ∷ cs ≡ f.0 ∷ (f.1 ++ rest) = sym e ∙ h.2 ∙ ap (λ t. t ++ rest) f.2 in
-    let k : f.0 ≡ 58 = cc in
-    let t : is_mark 58 ≡ true = ap is_mark (sym k) ∙ f.3 in
-    absurd cc
+verbatim_behind x c cs a rest (inr h) e n = search (rules, marked_first, is_mark)
 
 -- the string between marks that stands behind a length
 pub marked_stands : (text : List ℕ) (at first number to c : ℕ) (a rest : List ℕ) → StandsAt text at first → IsDigit first → ReadsCount text at number to
@@ -176,26 +166,14 @@ counted_right text at first number to c end n octets a rest short opens low r en
 -- ---- without a length
 
 pub marked_string : (text : List ℕ) (at end : ℕ) (octets : List ℕ) → Reads IsMarked text at octets end → ReadsString text at octets end
-marked_string text at end octets m = record {
-  stands = record {
-    ends_token = false;
-    spelling = m.spelling;
-    spelled = m.spelled;
-    meant = inr (record { count = []; marked = m.spelling; spelled = refl; counts = inl refl; meant = m.meant });
-    apart = tt;
-  };
-  forward = m.forward;
-  within = m.within;
-}
+marked_string text at end octets m = search rules
 
 pub quoted_string : (text : List ℕ) (at end : ℕ) (octets : List ℕ) → Reads IsQuoted text at octets end → ReadsString text at octets end
 quoted_string text at end octets r =
     marked_string text at end octets (record { spelling = r.spelling; spelled = r.spelled; meant = inl r.meant; forward = r.forward; within = r.within })
 
 pub nothing_stands : (text : List ℕ) (at : ℕ) (a rest : List ℕ) → StringAt text at a rest → drop at text ≡ [] → ⊥
-nothing_stands text at a rest s e =
-    let f = simple_first s.ends_token s.spelling a s.meant in
-    let q : [] ≡ f.0 ∷ (f.1 ++ rest) = sym e ∙ s.spelled ∙ ap (λ t. t ++ rest) f.2 in cc
+nothing_stands text at a rest s e = search (rules, simple_first)
 
 behind_none : (c d : ℕ) (cs ds t a rest : List ℕ) → (IsDigit c → ⊥) → IsBehind ds d t a → c ∷ cs ≡ ds ++ d ∷ (t ++ rest)
     → (s : List ℕ) × IsMarked s a × (c ∷ cs ≡ s ++ rest)

@@ -1,5 +1,5 @@
 -- The pieces of a quoted string stand in one way.
-use Rattle.std.proofs.Common.{◌≡◌, ◌≢◌, ℕ, zero, suc, ◌+◌, ◌-◌, ◌*◌, ◌<◌, ◌≤◌, ◌==◌, ◌&&◌, ◌||◌, false, Some, None, List, [], ◌∷◌, ◌++◌, length, refl, sym, ap, subst, ◌∙◌, append_assoc, length-append, arith, inl, inr, ◌⊎◌}
+use Rattle.std.proofs.Common.{◌≡◌, ◌≢◌, ℕ, zero, suc, ◌+◌, ◌-◌, ◌<◌, ◌≤◌, ◌==◌, ◌&&◌, ◌||◌, false, Some, None, List, [], ◌∷◌, ◌++◌, length, refl, sym, ap, subst, ◌∙◌, append_assoc, length-append, arith, inl, inr, ◌⊎◌, rules}
 use Rattle.std.specs.Prelude.{nat_le, if◌then◌else◌}
 use Rattle.std.proofs.lemmas.Bool.Decides.{nat_tests}
 use Rattle.hex.specs.Hex.{hex_digit_value}
@@ -73,11 +73,7 @@ same_sort p q x y hp hq e = sym (sorted p x hp) ∙ ap text_sort e ∙ sorted q 
 
 octal_same : (a b c d m n : ℕ) (x y : List ℕ)
     → 92 ∷ (48 + a) ∷ (48 + b) ∷ (48 + c) ∷ x ≡ 92 ∷ (48 + d) ∷ (48 + m) ∷ (48 + n) ∷ y → (a ≡ d) × (b ≡ m) × (c ≡ n) × (x ≡ y)
-octal_same a b c d m n x y e =
-    let p : 48 + a ≡ 48 + d = cc in
-    let q : 48 + b ≡ 48 + m = cc in
-    let r : 48 + c ≡ 48 + n = cc in
-    (omega arith, omega arith, omega arith, cc)
+octal_same a b c d m n x y e = search rules
 
 some_same : (m n : ℕ) → Some m ≡ Some n → m ≡ n
 some_same m n e = cc
@@ -92,28 +88,12 @@ lone c d x y (inr h) (inr k) e = let s : StartsOther 13 (d ∷ y) = subst (Start
 -- where a piece stands, no other stands
 pub one_piece : (p q : Piece) (x y : List ℕ) → IsPiece p x → IsPiece q y → piece_text p ++ x ≡ piece_text q ++ y → (piece_octets p ≡ piece_octets q) × (x ≡ y)
 one_piece (raw c) (raw d) x y hp hq e = (cc, cc)
-one_piece (escaped a c) (escaped b d) x y hp hq e =
-    let s : a ≡ b = cc in
-    let m : c ≡ d = some_same c d (sym hp ∙ ap escape_value s ∙ hq) in
-    (ap (λ k. k ∷ []) m, cc)
-one_piece (octal a b c) (octal d m n) x y hp hq e =
-    let s = octal_same a b c d m n x y e in
-    (ap (λ k. (k * 64 + b * 8 + c) ∷ []) s.0 ∙ ap (λ k. (d * 64 + k * 8 + c) ∷ []) s.1 ∙ ap (λ k. (d * 64 + m * 8 + k) ∷ []) s.2, s.3)
-one_piece (hexadecimal h l m n) (hexadecimal i j v w) x y hp hq e =
-    let s : h ≡ i = cc in
-    let t : l ≡ j = cc in
-    let a : m ≡ v = some_same m v (sym hp.0 ∙ ap hex_digit_value s ∙ hq.0) in
-    let b : n ≡ w = some_same n w (sym hp.1 ∙ ap hex_digit_value t ∙ hq.1) in
-    (ap (λ k. (k * 16 + n) ∷ []) a ∙ ap (λ k. (v * 16 + k) ∷ []) b, cc)
+one_piece (escaped a c) (escaped b d) x y hp hq e = search (rules, some_same)
+one_piece (octal a b c) (octal d m n) x y hp hq e = search (rules, octal_same)
+one_piece (hexadecimal h l m n) (hexadecimal i j v w) x y hp hq e = search (rules, some_same)
 one_piece (line c) (line d) x y hp hq e = (refl, cc)
-one_piece (line c) (line_pair d f) x y hp hq e =
-    let s : d ≡ c = cc in
-    let t : x ≡ f ∷ y = cc in
-    absurd (lone c f x y hp (subst (λ k. ((k ≡ 13) × (f ≡ 10)) ⊎ ((k ≡ 10) × (f ≡ 13))) s hq) t)
-one_piece (line_pair d f) (line c) x y hp hq e =
-    let s : d ≡ c = cc in
-    let t : y ≡ f ∷ x = cc in
-    absurd (lone c f y x hq (subst (λ k. ((k ≡ 13) × (f ≡ 10)) ⊎ ((k ≡ 10) × (f ≡ 13))) s hp) t)
+one_piece (line c) (line_pair d f) x y hp hq e = search (rules, lone)
+one_piece (line_pair d f) (line c) x y hp hq e = search (rules, lone)
 one_piece (line_pair c d) (line_pair f g) x y hp hq e = (refl, cc)
 one_piece p q x y hp hq e = let s : piece_sort p ≡ piece_sort q = same_sort p q x y hp hq e in absurd (omega (arith, s))
 
@@ -206,9 +186,5 @@ octal_piece p rest t a low k e = let s : piece_sort p ≡ 2 = sort_is p rest (92
 -- behind a backslash stands no octet that begins no escape
 pub letter_piece : (p : Piece) (rest t : List ℕ) (c : ℕ) → IsPiece p rest → 92 ∷ c ∷ t ≡ piece_text p ++ rest
     → c ≢ 120 → c ≢ 13 → c ≢ 10 → (48 ≤ c → c < 52 → ⊥) → escape_value c ≡ None → ⊥
-letter_piece (escaped e v) rest t c k q x r n o none =
-    let same : c ≡ e = cc in
-    let f : None ≡ Some v = sym none ∙ ap escape_value same ∙ k in cc
-letter_piece p rest t c k q x r n o none =
-    let one : escape_sort c ≡ 1 = letter_sorted c x r n o in
-    let s : piece_sort p ≡ 1 = sort_is p rest (92 ∷ c ∷ t) 1 k q one in absurd (omega (arith, s))
+letter_piece (escaped e v) rest t c k q x r n o none = search rules
+letter_piece p rest t c k q x r n o none = search (rules, letter_sorted, sort_is)

@@ -13,6 +13,7 @@ pub mod PrintedSpelled
 pub mod QuotedLaws
 pub mod StringLaws
 pub mod Trees
+pub mod WholeTrees
 pub mod RefusedPieces
 pub mod RefusedDigits
 pub mod RefusedStrings
@@ -20,7 +21,9 @@ pub mod RefusedValues
 pub mod Elsewhere
 pub mod UnclosedLaws
 pub mod Beginnings
+pub mod Unfinished
 pub mod OneRefusal
 pub mod StringEnds
+pub mod MarkedEnds
 pub mod ValueEnds
 pub mod WholeEnds

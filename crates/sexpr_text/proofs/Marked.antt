@@ -1,5 +1,5 @@
 -- Strings between marks stand in one way.
-use Rattle.std.proofs.Common.{◌≡◌, ℕ, ◌+◌, ◌≤◌, ◌==◌, ◌||◌, Bool, true, false, Ok, List, [], ◌∷◌, ◌++◌, length, drop, refl, sym, ap, subst, ◌∙◌, append_assoc, append-nil, length-append, arith, inl, inr, ◌⊎◌}
+use Rattle.std.proofs.Common.{◌≡◌, ℕ, ◌+◌, ◌≤◌, ◌==◌, ◌||◌, Bool, true, false, Ok, List, [], ◌∷◌, ◌++◌, length, drop, refl, sym, ap, subst, ◌∙◌, append_assoc, append-nil, length-append, arith, inl, inr, ◌⊎◌, rules}
 use Rattle.std.specs.List.{AllByRecursion, AllPass}
 use Rattle.std.proofs.lemmas.Bool.{cases_Bool}
 use Rattle.std.proofs.lemmas.List.Elements.{All-head, All-tail}
@@ -39,15 +39,11 @@ closed m s body r e = ap (λ t. t ++ r) e ∙ ap (λ t. m ∷ t) (append_assoc b
 -- what stands behind the opening mark
 pub behind_opening : (m : ℕ) (text : List ℕ) (at c : ℕ) (s body rest : List ℕ) → StandsAt text at c → s ≡ m ∷ (body ++ m ∷ []) → drop at text ≡ s ++ rest
     → (c ≡ m) × (drop (at + 1) text ≡ body ++ m ∷ rest)
-behind_opening m text at c s body rest opens spelled e =
-    let k : c ∷ drop (at + 1) text ≡ m ∷ (body ++ m ∷ rest) = sym opens.spelled ∙ e ∙ closed m s body rest spelled in
-    (cc, cc)
+behind_opening m text at c s body rest opens spelled e = search (rules, closed)
 
 opened : (m n : ℕ) (s a r t b q : List ℕ) → s ≡ m ∷ (a ++ m ∷ []) → t ≡ n ∷ (b ++ n ∷ []) → s ++ r ≡ t ++ q
     → (m ≡ n) × (a ++ m ∷ r ≡ b ++ n ∷ q)
-opened m n s a r t b q d e h =
-    let k : m ∷ (a ++ m ∷ r) ≡ n ∷ (b ++ n ∷ q) = sym (closed m s a r d) ∙ h ∙ closed n t b q e in
-    (cc, cc)
+opened m n s a r t b q d e h = search (rules, closed)
 
 -- ---- quoted strings
 
@@ -132,9 +128,7 @@ longer m s body e = omega (arith, ap length e, length-append body (m ∷ []))
 
 pub marked_few : (s a : List ℕ) → IsMarked s a → length a ≤ length s
 marked_few s a (inl h) = omega (arith, longer 34 s (pieces_text h.pieces) h.spelled, ap length h.meant, pieces_few h.pieces)
-marked_few s a (inr (inl h)) =
-    let d = decode_of-ok (visible h.body) a h.packed in
-    omega (arith, longer 35 s h.body h.spelled, visible_le h.body, d.2)
+marked_few s a (inr (inl h)) = search (rules, decode_of-ok, longer, visible_le)
 marked_few s a (inr (inr h)) = omega (arith, longer 124 s h.body h.spelled, packed_short h.body a h.packed)
 
 -- ---- which of the three it is
@@ -146,19 +140,10 @@ sort_of text at c s a rest opens (inr (inl h)) e = inr (inl ((behind_opening 35 
 sort_of text at c s a rest opens (inr (inr h)) e = inr (inr ((behind_opening 124 text at c s h.body rest opens h.spelled e).0, h))
 
 pub quoted_of : (text : List ℕ) (at c : ℕ) (s a rest : List ℕ) → StandsAt text at c → c ≡ 34 → IsMarked s a → drop at text ≡ s ++ rest → IsQuoted s a
-quoted_of text at c s a rest opens is m e = elim (sort_of text at c s a rest opens m e) [
-  | inl h ↦ h.1
-  | inr k ↦ elim k [ inl h ↦ let q : c ≡ 35 = h.0 in absurd (omega arith) | inr h ↦ let q : c ≡ 124 = h.0 in absurd (omega arith) ]
-]
+quoted_of text at c s a rest opens is m e = search (rules, sort_of)
 
 pub hexadecimal_of : (text : List ℕ) (at c : ℕ) (s a rest : List ℕ) → StandsAt text at c → c ≡ 35 → IsMarked s a → drop at text ≡ s ++ rest → IsHexadecimal s a
-hexadecimal_of text at c s a rest opens is m e = elim (sort_of text at c s a rest opens m e) [
-  | inl h ↦ let q : c ≡ 34 = h.0 in absurd (omega arith)
-  | inr k ↦ elim k [ inl h ↦ h.1 | inr h ↦ let q : c ≡ 124 = h.0 in absurd (omega arith) ]
-]
+hexadecimal_of text at c s a rest opens is m e = search (rules, sort_of)
 
 pub packed_of : (text : List ℕ) (at c : ℕ) (s a rest : List ℕ) → StandsAt text at c → c ≡ 124 → IsMarked s a → drop at text ≡ s ++ rest → IsPacked s a
-packed_of text at c s a rest opens is m e = elim (sort_of text at c s a rest opens m e) [
-  | inl h ↦ let q : c ≡ 34 = h.0 in absurd (omega arith)
-  | inr k ↦ elim k [ inl h ↦ let q : c ≡ 35 = h.0 in absurd (omega arith) | inr h ↦ h.1 ]
-]
+packed_of text at c s a rest opens is m e = search (rules, sort_of)

@@ -8,7 +8,7 @@ use Rattle.sexpr_core.specs.Value.{Value}
 use Rattle.sexpr_core.specs.Refusal.{IsOfForm}
 use Rattle.sexpr_text.specs.Spelling.{IsSpelledWithin}
 use Rattle.sexpr_text.specs.Refusal.{IsSpellingWithin, GoesOn, GoesOnWithin, RefusesSpelling}
-use Rattle.sexpr_text.proofs.Beginnings.{goes_front, goes_on_front, goes_anyhow}
+use Rattle.sexpr_text.proofs.Unfinished.{goes_front, goes_on_front, goes_anyhow}
 
 -- ---- octets up to an offset
 

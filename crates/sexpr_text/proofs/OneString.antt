@@ -1,5 +1,5 @@
 -- A string without display hint is spelled in one way only.
-use Rattle.std.proofs.Common.{◌≡◌, ℕ, ◌<◌, ◌==◌, ◌||◌, Bool, true, false, ◌⊎◌, inl, inr, List, [], ◌∷◌, ◌++◌, length, refl, sym, ap, subst, ◌∙◌, append_assoc, arith}
+use Rattle.std.proofs.Common.{◌≡◌, ℕ, ◌<◌, ◌==◌, ◌||◌, Bool, true, false, ◌⊎◌, inl, inr, List, [], ◌∷◌, ◌++◌, length, refl, sym, ap, subst, ◌∙◌, append_assoc, arith, rules}
 use Rattle.std.proofs.lemmas.Bool.Decides.{nat_tests}
 use Rattle.sexpr_core.specs.Value.{decimal}
 use Rattle.sexpr_core.proofs.Decimal.{IsDigit, AreDigits, AreDigits-decimal, decimal_starts, decimal_same, parts_agree}
@@ -106,9 +106,7 @@ same_length (x ∷ xs) (y ∷ ys) r s l e =
     (cc, q.1)
 
 one_behind : (c d : ℕ) (ds es x a r y b q : List ℕ) → IsBehind ds c x a → IsBehind es d y b → ds ≡ es → c ≡ d → x ++ r ≡ y ++ q → (a ≡ b) × (r ≡ q)
-one_behind c d ds es x a r y b q (inl h) (inl k) e f g =
-    let l : length a ≡ length b = decimal_same (length a) (length b) (sym h.1 ∙ e ∙ k.1) in
-    same_length a b r q l (ap (λ t. t ++ r) (sym h.2) ∙ g ∙ ap (λ t. t ++ q) k.2)
+one_behind c d ds es x a r y b q (inl h) (inl k) e f g = search (rules, decimal_same, same_length)
 one_behind c d ds es x a r y b q (inl h) (inr k) e f g =
     let t : is_mark 58 ≡ true = ap is_mark (sym h.0 ∙ f) ∙ k.0 in absurd cc
 one_behind c d ds es x a r y b q (inr h) (inl k) e f g =

@@ -1,5 +1,5 @@
 -- What spells a value spells it alone, and ends in one place.
-use Rattle.std.proofs.Common.{◌≡◌, ℕ, ◌<◌, ◌≤◌, ◌==◌, ◌||◌, ◌&&◌, nat_le, Bool, true, false, List, [], ◌∷◌, ◌++◌, Some, None, refl, sym, ap, subst, ◌∙◌, append_assoc, arith, inl, inr}
+use Rattle.std.proofs.Common.{◌≡◌, ℕ, ◌<◌, ◌==◌, ◌||◌, nat_le, Bool, true, false, List, [], ◌∷◌, ◌++◌, Some, None, refl, sym, ap, subst, ◌∙◌, append_assoc, inl, inr, rules}
 use Rattle.std.proofs.lemmas.Bool.{or_cases, and_parts, eqb-true, leb-true, cases_Bool, agree_below_at}
 use Rattle.sexpr_core.specs.Value.{Value, Values, string, list, none, more, canon}
 use Rattle.sexpr_core.specs.Spaces.{is_whitespace, AreSpaces, IsSpace, StartsVisible}
@@ -20,30 +20,16 @@ abbrev pub is_value_start : ℕ → Bool
 is_value_start c = is_string_start c || c == 40 || c == 91
 
 space_low : (c : ℕ) → is_whitespace c ≡ true → c < 33
-space_low c h = elim (or_cases (c == 32) (nat_le 9 c && nat_le c 13) h) [
-  | inl e ↦ let k : c ≡ 32 = eqb-true c 32 e in omega arith
-  | inr e ↦ let k : c ≤ 13 = leb-true c 13 (and_parts (nat_le 9 c) (nat_le c 13) e).1 in omega arith
-]
+space_low c h = search (rules, or_cases, nat_le, eqb-true, leb-true, and_parts)
 
 space_starts : (c : ℕ) → is_whitespace c ≡ true → is_value_start c ≡ true → ⊥
-space_starts c h k =
-    let f : (is_whitespace c && is_value_start c) ≡ false = agree_below_at (λ d. is_whitespace d && is_value_start d) (λ d. false) 33 c refl (space_low c h) in
-    let g : (is_whitespace c && is_value_start c) ≡ true = rw (h, k) refl in
-    let x : false ≡ true = sym f ∙ g in cc
+space_starts c h k = search (rules, agree_below_at, space_low)
 
 pub start_visible : (c : ℕ) → is_value_start c ≡ true → is_whitespace c ≡ false
-start_visible c h = elim (cases_Bool (is_whitespace c)) [
-  | inl e ↦ absurd (space_starts c e h)
-  | inr e ↦ e
-]
+start_visible c h = search (rules, cases_Bool, space_starts)
 
 pub simple_differs : (e : Bool) (s a r x : List ℕ) (d : ℕ) → Simple e s a → is_string_start d ≡ false → s ++ r ≡ d ∷ x → ⊥
-simple_differs e s a r x d m other eq =
-    let p = simple_first e s a m in
-    let q : p.0 ∷ (p.1 ++ r) ≡ d ∷ x = ap (λ t. t ++ r) (sym p.2) ∙ eq in
-    let k : p.0 ≡ d = cc in
-    let f : false ≡ true = sym other ∙ ap is_string_start (sym k) ∙ p.3 in
-    cc
+simple_differs e s a r x d m other eq = search (rules, simple_first, is_string_start)
 
 string_start : (c : ℕ) → is_string_start c ≡ true → is_value_start c ≡ true
 string_start c h = rw h refl
@@ -54,29 +40,18 @@ value_first e s (string (Some h) a) m = (91, _, m.spelled, refl)
 value_first e s (list vs) m = (40, _, m.2, refl)
 
 pub value_differs : (e : Bool) (s r x : List ℕ) (v : Value) (d : ℕ) → SpellsAs e s v → is_value_start d ≡ false → s ++ r ≡ d ∷ x → ⊥
-value_differs e s r x v d m other eq =
-    let p = value_first e s v m in
-    let q : p.0 ∷ (p.1 ++ r) ≡ d ∷ x = ap (λ t. t ++ r) (sym p.2) ∙ eq in
-    let k : p.0 ≡ d = cc in
-    let f : false ≡ true = sym other ∙ ap is_value_start (sym k) ∙ p.3 in
-    cc
+value_differs e s r x v d m other eq = search (rules, value_first)
 
 pub simple_visible : (e : Bool) (s a x : List ℕ) → Simple e s a → StartsVisible (s ++ x)
-simple_visible e s a x m =
-    let p = simple_first e s a m in
-    subst (λ t. StartsVisible (t ++ x)) (sym p.2) (start_visible p.0 (string_start p.0 p.3))
+simple_visible e s a x m = search (rules, simple_first, start_visible, string_start)
 
 pub value_visible : (e : Bool) (s x : List ℕ) (v : Value) → SpellsAs e s v → StartsVisible (s ++ x)
-value_visible e s x v m =
-    let p = value_first e s v m in
-    subst (λ t. StartsVisible (t ++ x)) (sym p.2) (start_visible p.0 p.3)
+value_visible e s x v m = search (rules, value_first, start_visible)
 
 -- ---- what stands behind a token
 
 pub space_apart : (c : ℕ) → is_whitespace c ≡ true → is_token_octet c ≡ false
-space_apart c h =
-    let f : (is_whitespace c && is_token_octet c) ≡ false = agree_below_at (λ d. is_whitespace d && is_token_octet d) (λ d. false) 33 c refl (space_low c h) in
-    ap (λ b. b && is_token_octet c) (sym h) ∙ f
+space_apart c h = search (rules, agree_below_at, space_low)
 
 pub apart_append : (e : Bool) (xs ys : List ℕ) (d : ℕ) → IsApart e xs → is_token_octet d ≡ false → IsApart e (xs ++ d ∷ ys)
 apart_append false xs ys d h k = tt
@@ -127,15 +102,10 @@ pub member_text : (s before first rest r : List ℕ) → s ≡ before ++ (first 
 member_text s before first rest r e = ap (λ t. t ++ r) e ∙ simp append_assoc
 
 list_differs : (s inside r t x : List ℕ) → s ≡ 40 ∷ (inside ++ 41 ∷ []) → t ≡ 91 ∷ x → s ++ r ≡ t → ⊥
-list_differs s inside r t x e f eq =
-    let y : 40 ∷ (inside ++ 41 ∷ r) ≡ 91 ∷ x = sym (list_text s inside r e) ∙ eq ∙ f in
-    let z : ◌≡◌ {A = ℕ} 40 91 = cc in
-    omega arith
+list_differs s inside r t x e f eq = search (rules, list_text)
 
 list_inside : (s i r t j q : List ℕ) → s ≡ 40 ∷ (i ++ 41 ∷ []) → t ≡ 40 ∷ (j ++ 41 ∷ []) → s ++ r ≡ t ++ q → i ++ 41 ∷ r ≡ j ++ 41 ∷ q
-list_inside s i r t j q e f eq =
-    let x : 40 ∷ (i ++ 41 ∷ r) ≡ 40 ∷ (j ++ 41 ∷ q) = sym (list_text s i r e) ∙ eq ∙ list_text t j q f in
-    cc
+list_inside s i r t j q e f eq = search (rules, list_text)
 
 mutual
   pub one_spelling : (e f : Bool) (s r t q : List ℕ) (v w : Value) → SpellsAs e s v → IsApart e r → SpellsAs f t w → IsApart f q → s ++ r ≡ t ++ q

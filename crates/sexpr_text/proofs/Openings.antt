@@ -1,5 +1,5 @@
 -- The refusals of a text in either form.
-use Rattle.std.proofs.Common.{◌≡◌, ℕ, ◌+◌, ◌<◌, ◌≤◌, true, inl, inr, List, [], ◌∷◌, ◌++◌, length, take, drop, refl, sym, ap, subst, ◌∙◌, arith, length-append, length-drop}
+use Rattle.std.proofs.Common.{◌≡◌, ℕ, ◌+◌, ◌<◌, ◌≤◌, true, inl, inr, List, [], ◌∷◌, ◌++◌, length, take, drop, refl, sym, ap, ◌∙◌, arith, length-append, length-drop, rules}
 use Rattle.std.proofs.lemmas.Bool.{cases_lt, cases_Bool}
 use Rattle.std.proofs.lemmas.List.{drop-drop, take-append-le}
 use Rattle.sexpr_core.specs.declared.fault.FormFault.{FormFault}
@@ -16,9 +16,9 @@ use Rattle.sexpr_core.proofs.SpaceLaws.{SpacesTo, no_spaces, more_spaces, spaces
 use Rattle.sexpr_text.specs.Spelling.{Spells, IsText, IsTextWithin}
 use Rattle.sexpr_text.specs.Refusal.{IsSpelling, RefusesSpelling, OpensBrace, RefusesText, IsSomeText}
 use Rattle.sexpr_core.specs.Refusal.{IsOfForm}
-use Rattle.sexpr_core.proofs.BraceRefusals.{one_brace_refusal, no_brace_refusal}
+use Rattle.sexpr_core.proofs.BraceFaults.{one_brace_refusal, no_brace_refusal}
 use Rattle.sexpr_text.proofs.OneRefusal.{one_refusal, no_refusal}
-use Rattle.sexpr_text.proofs.Trees.{brace_unspelled}
+use Rattle.sexpr_text.proofs.WholeTrees.{brace_unspelled}
 
 -- ---- either form
 
@@ -48,14 +48,7 @@ spaces_spell xs all = record {
 -- an octet that is refused stands no earlier than the first that is no whitespace
 behind_spaces : (T : List ℕ → Type 0) (text : List ℕ) (begin at : ℕ) → ((xs : List ℕ) → AreSpaces xs → Begins T xs) → Skips text 0 begin
     → (Begins T (take (at + 1) text) → ⊥) → begin ≤ at
-behind_spaces T text begin at spaces s never = elim (cases_lt at begin) [
-  | inl before ↦
-      (let long : length s.spaces ≡ begin = omega (arith, ap length s.spelled, length-append s.spaces (drop begin text), length-drop begin text, s.within) in
-      let taken : take (at + 1) text ≡ take (at + 1) s.spaces =
-      ap (take (at + 1)) s.spelled ∙ take-append-le (at + 1) s.spaces (drop begin text) (omega arith) in
-      absurd (never (subst (Begins T) (sym taken) (spaces (take (at + 1) s.spaces) (spaces_front (at + 1) s.spaces s.are_spaces)))))
-  | inr after ↦ after
-]
+behind_spaces T text begin at spaces s never = search (rules, cases_lt, length-append, length-drop, take-append-le, spaces_front)
 
 -- where a text opens no brace, what begins as it does is not braced
 no_braces : (text : List ℕ) (begin at : ℕ) → Skips text 0 begin → (((rest : List ℕ) × (drop begin text ≡ 123 ∷ rest)) → ⊥) → at < length text

@@ -1,5 +1,5 @@
 -- What is printed for a value spells it.
-use Rattle.std.proofs.Common.{◌≡◌, ℕ, suc, ◌==◌, ◌||◌, not, Bool, true, false, List, [], ◌∷◌, ◌++◌, Some, None, refl, sym, ap, ◌∙◌, subst, append-nil, arith, inl, inr, if◌then◌else◌}
+use Rattle.std.proofs.Common.{◌≡◌, ℕ, suc, ◌==◌, ◌||◌, not, Bool, true, false, List, [], ◌∷◌, ◌++◌, Some, None, refl, sym, ap, ◌∙◌, subst, append-nil, arith, inl, inr, if◌then◌else◌, rules}
 use Rattle.std.proofs.lemmas.Bool.{cases_Bool, and_parts, or_cases, or_parts, not-true, eqb-true, eqb-false, ne_eqb}
 use Rattle.std.specs.List.{AllByRecursion}
 use Rattle.base64.specs.Engines.{standard}
@@ -37,29 +37,17 @@ pieces_of (c ∷ cs) = piece_of c ∷ pieces_of cs
 
 text_of : (octets : List ℕ) → quoted_body octets ≡ pieces_text (pieces_of octets)
 text_of [] = refl
-text_of (c ∷ cs) = elim (cases_Bool (c == 34 || c == 92)) [
-  | inl e ↦ rw e (ap (λ s. 92 ∷ c ∷ s) (text_of cs))
-  | inr e ↦ rw e (ap (λ s. c ∷ s) (text_of cs))
-]
+text_of (c ∷ cs) = search (rules, cases_Bool, text_of cs)
 
 octets_of : (octets : List ℕ) → octets ≡ pieces_octets (pieces_of octets)
 octets_of [] = refl
-octets_of (c ∷ cs) = elim (cases_Bool (c == 34 || c == 92)) [
-  | inl e ↦ rw e (ap (λ s. c ∷ s) (octets_of cs))
-  | inr e ↦ rw e (ap (λ s. c ∷ s) (octets_of cs))
-]
+octets_of (c ∷ cs) = search (rules, cases_Bool, octets_of cs)
 
 escaped_itself : (c : ℕ) → (c == 34 || c == 92) ≡ true → escape_value c ≡ Some c
-escaped_itself c h = elim (or_cases (c == 34) (c == 92) h) [
-  | inl e ↦ rw (eqb-true c 34 e) refl
-  | inr e ↦ rw (eqb-true c 92 e) refl
-]
+escaped_itself c h = search (rules, or_cases, eqb-true)
 
 piece_right : (c : ℕ) (rest : List ℕ) → IsPiece (piece_of c) rest
-piece_right c rest = elim (cases_Bool (c == 34 || c == 92)) [
-  | inl e ↦ rw e (escaped_itself c e)
-  | inr e ↦ let p = or_parts (c == 34) (c == 92) e in rw e (eqb-false c 34 p.0, eqb-false c 92 p.1)
-]
+piece_right c rest = search (rules, cases_Bool, escaped_itself, or_parts, eqb-false)
 
 pieces_right : (octets rest : List ℕ) → ArePieces (pieces_of octets) rest
 pieces_right [] rest = tt
@@ -85,10 +73,7 @@ marked octets h other = elim (cases_Bool (every is_printable octets)) [
 ]
 
 string_spelled : (octets : List ℕ) → IsBytes octets → Simple (is_token octets) (printed_string octets) octets
-string_spelled octets h = elim (cases_Bool (is_token octets)) [
-  | inl e ↦ rw e (printed_token octets e, token_meant octets e)
-  | inr e ↦ rw e (marked octets h e)
-]
+string_spelled octets h = search (rules, cases_Bool, printed_token, token_meant, marked)
 
 -- ---- values
 
@@ -101,10 +86,7 @@ gap_some : (n : ℕ) → gap (suc n) ≡ 32 ∷ []
 gap_some n = rw (ne_eqb (suc n) 0 (λ e. omega (arith, e))) refl
 
 gap_spaces : (n : ℕ) → AreSpaces (gap n)
-gap_spaces n = elim (cases_Bool (n == 0)) [
-  | inl e ↦ rw e tt
-  | inr e ↦ rw e (refl, tt)
-]
+gap_spaces n = search (rules, cases_Bool)
 
 space_apart : (b : Bool) (rest : List ℕ) → IsApart b (32 ∷ rest)
 space_apart true rest = refl

@@ -1,5 +1,5 @@
 -- What the reader of quoted strings has read, piece by piece.
-use Rattle.std.proofs.Common.{◌≡◌, ◌≢◌, ℕ, ◌+◌, ◌*◌, ◌<◌, Some, None, List, [], ◌∷◌, ◌++◌, drop, refl, sym, ap, subst, ◌∙◌, append_assoc, arith, inl, inr}
+use Rattle.std.proofs.Common.{◌≡◌, ◌≢◌, ℕ, ◌+◌, ◌*◌, ◌<◌, Some, None, List, [], ◌∷◌, ◌++◌, drop, refl, sym, ap, subst, ◌∙◌, append_assoc, arith, inl, inr, rules}
 use Rattle.sexpr_core.specs.Reading.{StandsAt}
 use Rattle.sexpr_text.specs.Strings.{escape_value, Piece, raw, escaped, octal, hexadecimal, line, line_pair, piece_text, StartsOther, IsPiece, pieces_text, pieces_octets, ArePieces, IsQuoted}
 use Rattle.sexpr_text.specs.Reads.{ReadsPiece, ReadsEscape, ReadsDigit, IsLineEnd}
@@ -10,15 +10,11 @@ use Rattle.sexpr_text.proofs.Marked.{behind_opening}
 -- ---- octets one behind the other
 
 stands_two : (text : List ℕ) (at a b : ℕ) → StandsAt text at a → StandsAt text (at + 1) b → drop at text ≡ a ∷ b ∷ drop (at + 2) text
-stands_two text at a b h k =
-    let n : at + 1 + 1 ≡ at + 2 = omega arith in
-    h.spelled ∙ ap (λ t. a ∷ t) k.spelled ∙ ap (λ i. a ∷ b ∷ drop i text) n
+stands_two text at a b h k = search rules
 
 stands_three : (text : List ℕ) (at a b c : ℕ) → StandsAt text at a → StandsAt text (at + 1) b → StandsAt text (at + 2) c
     → drop at text ≡ a ∷ b ∷ c ∷ drop (at + 3) text
-stands_three text at a b c h k l =
-    let n : at + 2 + 1 ≡ at + 3 = omega arith in
-    stands_two text at a b h k ∙ ap (λ t. a ∷ b ∷ t) l.spelled ∙ ap (λ i. a ∷ b ∷ c ∷ drop i text) n
+stands_three text at a b c h k l = search (rules, stands_two)
 
 -- what stands behind an octet of a spelling
 pub second_octet : (text : List ℕ) (at a b : ℕ) (rest : List ℕ) → StandsAt text at a → drop at text ≡ b ∷ rest → drop (at + 1) text ≡ rest
@@ -124,9 +120,7 @@ raw_piece text at c old new h n m e = record {
 -- what is left of the string that stands at the opening quote
 pub quoted_left : (text : List ℕ) (at i : ℕ) (octets s a rest : List ℕ) → StandsAt text at 34 → (r : ReadsPieces text (at + 1) octets i) → (q : IsQuoted s a)
     → drop at text ≡ s ++ rest → Left (drop i text) rest (pieces_octets r.pieces) (pieces_octets q.pieces)
-quoted_left text at i octets s a rest opens r q e =
-    left_pieces r.pieces q.pieces (drop i text) rest r.right (are_followed q.pieces rest q.right)
-    (sym r.spelled ∙ (behind_opening 34 text at 34 s (pieces_text q.pieces) rest opens q.spelled e).1)
+quoted_left text at i octets s a rest opens r q e = search (rules, left_pieces, are_followed, behind_opening)
 
 not_ended : (xs : List ℕ) (c : ℕ) (rest : List ℕ) → [] ≡ xs ++ c ∷ rest → ⊥
 not_ended [] c rest e = cc
@@ -142,6 +136,4 @@ piece_next (p ∷ ps) c x rest h e n = (p, pieces_text ps ++ 34 ∷ rest, h.0, e
 
 pub left_next : (text : List ℕ) (i c : ℕ) (rest before all : List ℕ) → Left (drop i text) rest before all → StandsAt text i c → c ≢ 34
     → (p : Piece) × (t : List ℕ) × IsPiece p t × (drop i text ≡ piece_text p ++ t)
-left_next text i c rest before all l h n =
-    let k = piece_next l.pieces c (drop (i + 1) text) rest l.right (sym h.spelled ∙ l.spelled) n in
-    (k.0, k.1, k.2, h.spelled ∙ k.3)
+left_next text i c rest before all l h n = search (rules, piece_next)

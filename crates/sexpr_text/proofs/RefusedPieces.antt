@@ -1,5 +1,5 @@
 -- A quoted string that is refused at an octet is refused so in each text that goes on up to it in the same way.
-use Rattle.std.proofs.Common.{◌≡◌, ◌≢◌, ℕ, ◌+◌, ◌<◌, ◌≤◌, inl, inr, Some, None, List, [], ◌∷◌, ◌++◌, drop, sym, ap, subst, ◌∙◌, arith}
+use Rattle.std.proofs.Common.{◌≡◌, ◌≢◌, ℕ, ◌+◌, ◌<◌, ◌≤◌, inl, inr, Some, None, List, [], ◌∷◌, ◌++◌, drop, sym, ap, subst, ◌∙◌, arith, rules}
 use Rattle.hex.specs.Hex.{hex_digit_value}
 use Rattle.sexpr_core.specs.declared.fault.FormFault.{FormFault}
 use Rattle.sexpr_core.specs.declared.fault.FormFault.TheVariants.{TooLong, TooDeep, Short, Bad, Trailing, Memory}
@@ -34,9 +34,7 @@ octal_refused text at c stands other_octet = stops_here (OctalStands at) text at
 
 pub high_refused : (text : List ℕ) (at : ℕ) (fault : FormFault) → RefusesPart (DigitStands at) text at fault
     → RefusesPart (PieceStands (92 ∷ 120 ∷ []) at) text at fault
-high_refused text at fault h = refused_later (PieceStands (92 ∷ 120 ∷ []) at) (DigitStands at) text at at fault (omega arith) (λ other n a le w.
-    let k = hexadecimal_piece w.piece w.rest (drop at other) w.right w.spelled in
-    record { octet = k.0; value = k.2; rest = k.1 ∷ w.rest; valued = k.5; spelled = k.4 }) h
+high_refused text at fault h = search (rules, refused_later, hexadecimal_piece)
 
 pub low_refused : (text : List ℕ) (at m : ℕ) (fault : FormFault) → ReadsDigit text at m → RefusesPart (DigitStands (at + 1)) text (at + 1) fault
     → RefusesPart (PieceStands (92 ∷ 120 ∷ []) at) text at fault

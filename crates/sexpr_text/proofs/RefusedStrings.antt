@@ -17,7 +17,8 @@ use Rattle.sexpr_text.specs.Stands.{Stands, StringStands, ValueStands}
 use Rattle.sexpr_text.proofs.Elsewhere.{string_too}
 use Rattle.sexpr_text.proofs.Marked.{is_mark, marked_first, quoted_of, hexadecimal_of, packed_of, behind_opening}
 use Rattle.sexpr_text.proofs.CountedLaws.{marked_stands, counted_elsewhere, octets_few, uncounted_stands}
-use Rattle.sexpr_text.proofs.Trees.{octet_is, hinted_at, behind_hint, hint_at, closing_at, body_at}
+use Rattle.sexpr_text.proofs.Trees.{octet_is}
+use Rattle.sexpr_text.proofs.WholeTrees.{hinted_at, behind_hint, hint_at, closing_at, body_at}
 
 -- ---- faults without an octet
 
@@ -28,9 +29,6 @@ short_refused T text at Short h = tt
 short_refused T text at (Bad k) h = absurd h
 short_refused T text at (Trailing k) h = h
 short_refused T text at Memory h = tt
-
-pub memory_refused : (T : List ℕ → Type 0) (text : List ℕ) (at : ℕ) (fault : FormFault) → fault ≡ Memory → RefusesPart T text at fault
-memory_refused T text at fault e = subst (RefusesPart T text at) (sym e) tt
 
 -- ---- what was read of a text was read of the other
 

@@ -1,5 +1,5 @@
 -- Strings without display hint, octet by octet.
-use Rattle.std.proofs.Common.{◌≡◌, ◌≢◌, ℕ, ◌+◌, ◌-◌, ◌*◌, ◌<◌, ◌≤◌, min, true, false, List, [], ◌∷◌, ◌++◌, length, drop, map, refl, sym, ap, subst, ◌∙◌, append_assoc, append-nil, arith, inl, inr}
+use Rattle.std.proofs.Common.{◌≡◌, ◌≢◌, ℕ, ◌+◌, ◌-◌, ◌*◌, ◌<◌, ◌≤◌, min, true, false, List, [], ◌∷◌, ◌++◌, length, drop, map, refl, sym, ap, subst, ◌∙◌, append_assoc, append-nil, arith, inl, inr, rules}
 use Rattle.std.specs.List.{AllByRecursion}
 use Rattle.sexpr_core.specs.Reading.{StandsAt}
 use Rattle.sexpr_core.specs.Braces.{ReadsBase64}
@@ -13,12 +13,7 @@ use Rattle.sexpr_text.specs.Reads.{Reads, ReadsPlain, ReadsPiece, ReadsToken, Re
 
 pub token_first : (text : List ℕ) (at c : ℕ) (octets : List ℕ) → StandsAt text at c → is_digit c ≡ false → is_token_octet c ≡ true
     → octets ≡ c ∷ [] → ReadsToken text at octets (at + 1)
-token_first text at c octets stands other token e = rw e (record {
-  spelled = stands.spelled;
-  meant = (other, (token, tt));
-  forward = omega arith;
-  within = omega (arith, stands.within);
-})
+token_first text at c octets stands other token e = search rules
 
 pub token_grows : (xs : List ℕ) (c : ℕ) → IsToken xs → is_token_octet c ≡ true → IsToken (xs ++ c ∷ [])
 token_grows [] c h token = absurd h
@@ -26,12 +21,7 @@ token_grows (x ∷ xs) c h token = (h.0, all-append (λ k. is_token_octet k ≡ 
 
 pub token_more : (text : List ℕ) (at i c : ℕ) (octets new : List ℕ) → ReadsToken text at octets i → StandsAt text i c → is_token_octet c ≡ true
     → new ≡ octets ++ c ∷ [] → ReadsToken text at new (i + 1)
-token_more text at i c octets new r stands token e = rw e (record {
-  spelled = r.spelled ∙ ap (λ t. octets ++ t) stands.spelled ∙ sym (append_assoc octets (c ∷ []) (drop (i + 1) text));
-  meant = token_grows octets c r.meant token;
-  forward = omega (arith, r.forward);
-  within = omega (arith, stands.within);
-})
+token_more text at i c octets new r stands token e = search (rules, append_assoc, token_grows)
 
 -- ---- base64
 
@@ -115,9 +105,6 @@ pub record ReadsPieces (text : List ℕ) (at : ℕ) (octets : List ℕ) (to : �
   pub ordered : at ≤ to
   pub within : to ≤ length text
 
-pub nothing_quoted : (text : List ℕ) (at : ℕ) → at ≤ length text → ReadsPieces text at [] at
-nothing_quoted text at h = record { pieces = []; spelled = refl; meant = refl; right = tt; ordered = omega arith; within = h }
-
 pub more_quoted : (text : List ℕ) (at i to : ℕ) (octets new : List ℕ) → ReadsPieces text at octets i → ReadsPiece text i octets new to → ReadsPieces text at new to
 more_quoted text at i to octets new r s = record {
   pieces = r.pieces ++ s.piece ∷ [];
@@ -145,12 +132,7 @@ nothing_plain text at h = record { spelled = refl; plain = tt; ordered = omega a
 
 pub more_plain : (text : List ℕ) (at i c : ℕ) (octets : List ℕ) → ReadsPlain text at octets i → StandsAt text i c → c ≢ 34 → c ≢ 92
     → ReadsPlain text at (octets ++ c ∷ []) (i + 1)
-more_plain text at i c octets r stands no_quote no_escape = record {
-  spelled = r.spelled ∙ ap (λ t. octets ++ t) stands.spelled ∙ sym (append_assoc octets (c ∷ []) (drop (i + 1) text));
-  plain = all-append (λ k. (k ≢ 34) × (k ≢ 92)) octets (c ∷ []) r.plain ((no_quote, no_escape), tt);
-  ordered = omega (arith, r.ordered);
-  within = omega (arith, stands.within);
-}
+more_plain text at i c octets r stands no_quote no_escape = search (rules, append_assoc, all-append)
 
 raws_text : (xs : List ℕ) → pieces_text (map raw xs) ≡ xs
 raws_text [] = refl

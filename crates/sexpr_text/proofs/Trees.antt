@@ -1,34 +1,25 @@
--- Values, lists and hinted strings, from one offset of a text to another.
-use Rattle.std.proofs.Common.{◌≡◌, ℕ, suc, ◌+◌, ◌<◌, ◌≤◌, max, Bool, false, List, [], ◌∷◌, ◌++◌, length, map, drop, take, Some, None, Vec, Global, refl, sym, ap, subst, ◌∙◌, append_assoc, arith, inl, inr, length-append, length-drop}
-use Rattle.std.proofs.lemmas.List.{map-append, take_at}
-use Rattle.sexpr_core.specs.declared.tree.Atom.{Atom}
-use Rattle.sexpr_core.specs.declared.tree.Sexp.TheVariants.{Atom as Leaf, List as Branch, rolls-Atom}
+-- Values and lists, from one offset of a text to another.
+use Rattle.std.proofs.Common.{◌≡◌, ℕ, suc, ◌+◌, ◌<◌, ◌≤◌, max, false, List, [], ◌∷◌, ◌++◌, length, map, drop, Some, None, Vec, Global, refl, sym, ap, subst, ◌∙◌, append_assoc, arith, rules}
+use Rattle.std.proofs.lemmas.List.{map-append}
 use Rattle.sexpr_core.specs.declared.tree.Sexp.{Sexp}
-use Rattle.sexpr_core.specs.declared.tree.Sexp.TheOpen.{Atom as Layer}
-use Rattle.sexpr_core.specs.declared.tree.Sexp.TheFolds.{fold-roll-Sexp}
-use Rattle.sexpr_core.specs.Tree.{sexp_value, atom_value, level_value}
+use Rattle.sexpr_core.specs.declared.tree.Sexp.TheVariants.{List as Branch}
+use Rattle.sexpr_core.specs.Tree.{sexp_value}
 use Rattle.sexpr_core.proofs.Written.{sexp_list}
 use Rattle.sexpr_core.specs.Value.{Value, Values, string, list, none, more, values, depth, depths}
 use Rattle.sexpr_core.specs.Reading.{StandsAt}
 use Rattle.sexpr_core.specs.Spaces.{StartsVisible, Skips}
 use Rattle.sexpr_core.proofs.SpaceLaws.{one_end}
-use Rattle.sexpr_core.specs.Braces.{IsBracedWithin}
 use Rattle.sexpr_core.proofs.Agreeing.{Agree, stands_too, skips_too, same_head}
-use Rattle.sexpr_core.proofs.BraceLaws.{opening}
-use Rattle.sexpr_core.proofs.Texts.{join}
+use Rattle.sexpr_core.proofs.ListTexts.{join}
 use Rattle.sexpr_text.specs.Strings.{IsApart}
 use Rattle.sexpr_text.specs.Unclosed.{UnclosedMembers, UnclosedValue}
 use Rattle.sexpr_text.specs.Inner.Begun.{AreUnclosedMembers, GoesMembers}
-use Rattle.sexpr_text.specs.Spelling.{IsHinted, SpellsMembers, Spells, IsSpelledWithin, IsTextWithin}
-use Rattle.sexpr_text.specs.Reads.{StringAt, ReadsString, ValueAt, ReadsValue, MembersAt, ReadsMembers}
+use Rattle.sexpr_text.specs.Spelling.{SpellsMembers}
+use Rattle.sexpr_text.specs.Reads.{StringAt, ValueAt, ReadsValue, MembersAt, ReadsMembers}
 use Rattle.sexpr_text.proofs.Beginnings.{goes_spaces, goes_first}
 use Rattle.sexpr_text.proofs.Elsewhere.{value_too}
-use Rattle.sexpr_text.proofs.OneString.{one_simple}
-use Rattle.sexpr_text.proofs.OneValue.{value_first, value_differs, value_visible, simple_visible, simple_differs, hinted_text, list_text, member_text, apart_append, apart_front, spaces_apart, one_spelling, spaces_members}
+use Rattle.sexpr_text.proofs.OneValue.{value_first, value_visible, simple_differs, hinted_text, list_text, member_text, apart_append, apart_front, one_spelling, spaces_members}
 use Rattle.sexpr_text.proofs.UnclosedLaws.{unclosed_value, unclosed_value_visible}
-
-pub sexp_atom : (a : Atom) → sexp_value (Leaf a) ≡ atom_value a
-sexp_atom a = ap sexp_value (sym (rolls-Atom a)) ∙ fold-roll-Sexp Value level_value (Layer a)
 
 -- ---- which sort of value begins with an octet
 
@@ -39,10 +30,7 @@ pub nothing_at : (text : List ℕ) (at c : ℕ) (x : List ℕ) → drop at text 
 nothing_at text at c x e f = let q : c ∷ x ≡ [] = sym f ∙ e in cc
 
 pub no_value : (room : ℕ) (text : List ℕ) (at : ℕ) (v : Value) (rest : List ℕ) → drop at text ≡ [] → ValueAt room text at v rest → ⊥
-no_value room text at v rest e h =
-    let p = value_first h.ends_token h.spelling v h.meant in
-    let q : p.0 ∷ (p.1 ++ rest) ≡ [] = ap (λ t. t ++ rest) (sym p.2) ∙ sym h.spelled ∙ e in
-    cc
+no_value room text at v rest e h = search (rules, value_first)
 
 -- a value that begins with neither an opening parenthesis nor an opening bracket is a string without hint
 pub string_at : (room : ℕ) (text : List ℕ) (at c : ℕ) (v : Value) (rest : List ℕ) → StandsAt text at c → (c ≡ 40 → ⊥) → (c ≡ 91 → ⊥) → ValueAt room text at v rest
@@ -57,9 +45,7 @@ string_at room text at c (list vs) rest stands group hinted h =
 -- what was read is the value that stands there
 pub same_value : (room most : ℕ) (text : List ℕ) (at to : ℕ) (v w : Value) (rest : List ℕ) → ReadsValue room text at v to → ValueAt most text at w rest
     → (v ≡ w) × (drop to text ≡ rest)
-same_value room most text at to v w rest r h =
-    let s = r.stands in
-    one_spelling s.ends_token h.ends_token s.spelling (drop to text) h.spelling rest v w s.meant s.apart h.meant h.apart (sym s.spelled ∙ h.spelled)
+same_value room most text at to v w rest r h = search (rules, one_spelling)
 
 -- ---- lists
 
@@ -68,13 +54,8 @@ pub inside_list : (room less : ℕ) (text : List ℕ) (at : ℕ) (v : Value) (re
     → (vs : Values) × (0 < room) × MembersAt less text (at + 1) vs rest
 inside_list room less text at (string None octets) rest stands le h =
     absurd (simple_differs h.ends_token h.spelling octets rest (drop (at + 1) text) 40 h.meant refl (sym h.spelled ∙ stands.spelled))
-inside_list room less text at (string (Some hint) octets) rest stands le h =
-    let q : ◌≡◌ {A = ℕ} 40 91 = octet_is text at 40 91 _ stands (h.spelled ∙ hinted_text h.ends_token h.spelling hint octets rest h.meant) in
-    absurd (omega arith)
-inside_list room less text at (list vs) rest stands le h =
-    let q : 40 ∷ drop (at + 1) text ≡ 40 ∷ (h.meant.0 ++ 41 ∷ rest) = sym stands.spelled ∙ h.spelled ∙ list_text h.spelling h.meant.0 rest h.meant.2 in
-    let deep : suc (depths vs) ≤ room = h.fits in
-    (vs, omega arith, record { inside = h.meant.0; spelled = cc; meant = h.meant.3; fits = omega arith })
+inside_list room less text at (string (Some hint) octets) rest stands le h = search (rules, octet_is, hinted_text)
+inside_list room less text at (list vs) rest stands le h = search (rules, list_text)
 
 pub list_read : (room less : ℕ) (text : List ℕ) (at to : ℕ) (vs : Values) → StandsAt text at 40 → suc less ≤ room → ReadsMembers less text (at + 1) vs to
     → ReadsValue room text at (list vs) to
@@ -326,165 +307,3 @@ pub no_members_end : (room : ℕ) (text : List ℕ) (at i : ℕ) (vs ws : Values
 no_members_end room text at i vs ws rest h e m =
     let p = h.whole ws rest m in
     nothing_behind p.1.inside rest 41 (sym p.1.spelled ∙ e)
-
--- ---- hinted strings
-
--- a hinted string stands at an offset, and these octets behind it
-pub record HintedAt (text : List ℕ) (at : ℕ) (rest : List ℕ) : Type 0 where
-  pub ends_token : Bool
-  pub spelling : List ℕ
-  pub hint : List ℕ
-  pub octets : List ℕ
-  pub meant : IsHinted ends_token spelling hint octets
-  pub apart : IsApart ends_token rest
-  pub spelled : drop at text ≡ 91 ∷ (meant.inside ++ (meant.hint_text ++ (meant.behind_hint ++ 93 ∷ (meant.behind ++ (meant.octets_text ++ rest)))))
-
-pub hinted_at : (room : ℕ) (text : List ℕ) (at : ℕ) (v : Value) (rest : List ℕ) → StandsAt text at 91 → ValueAt room text at v rest → HintedAt text at rest
-hinted_at room text at (string None octets) rest stands h =
-    absurd (simple_differs h.ends_token h.spelling octets rest (drop (at + 1) text) 91 h.meant refl (sym h.spelled ∙ stands.spelled))
-hinted_at room text at (string (Some hint) octets) rest stands h = record {
-  ends_token = h.ends_token;
-  spelling = h.spelling;
-  hint = hint;
-  octets = octets;
-  meant = h.meant;
-  apart = h.apart;
-  spelled = h.spelled ∙ hinted_text h.ends_token h.spelling hint octets rest h.meant;
-}
-hinted_at room text at (list vs) rest stands h =
-    let q : ◌≡◌ {A = ℕ} 91 40 = octet_is text at 91 40 _ stands (h.spelled ∙ list_text h.spelling h.meant.0 rest h.meant.2) in
-    absurd (omega arith)
-
--- the octets behind the hint of such a string
-abbrev pub behind_hint : (text : List ℕ) (at : ℕ) (rest : List ℕ) → HintedAt text at rest → List ℕ
-behind_hint text at rest h = h.meant.behind_hint ++ 93 ∷ (h.meant.behind ++ (h.meant.octets_text ++ rest))
-
-behind_octet : (text : List ℕ) (at c : ℕ) (x : List ℕ) → StandsAt text at c → drop at text ≡ c ∷ x → drop (at + 1) text ≡ x
-behind_octet text at c x stands e = let q : c ∷ drop (at + 1) text ≡ c ∷ x = sym stands.spelled ∙ e in cc
-
-pub hint_at : (text : List ℕ) (at begin : ℕ) (rest : List ℕ) (h : HintedAt text at rest) → StandsAt text at 91 → Skips text (at + 1) begin
-    → StringAt text begin h.hint (behind_hint text at rest h)
-hint_at text at begin rest h stands s =
-    let m = h.meant in
-    let tail = behind_hint text at rest h in
-    let p = one_end s.spaces m.inside (drop begin text) (m.hint_text ++ tail) s.are_spaces m.spaces_inside s.ends (simple_visible m.as_token m.hint_text h.hint tail m.hint_meant)
-    (sym s.spelled ∙ behind_octet text at 91 _ stands h.spelled) in
-    record {
-      ends_token = m.as_token;
-      spelling = m.hint_text;
-      spelled = p.1;
-      meant = m.hint_meant;
-      apart = apart_append m.as_token m.behind_hint (m.behind ++ (m.octets_text ++ rest)) 93 (spaces_apart m.as_token m.behind_hint m.spaces_behind_hint) refl;
-    }
-
-same_string : (text : List ℕ) (at to : ℕ) (a b rest : List ℕ) → ReadsString text at a to → StringAt text at b rest → drop to text ≡ rest
-same_string text at to a b rest r h =
-    let s = r.stands in
-    (one_simple s.ends_token h.ends_token s.spelling (drop to text) a h.spelling rest b s.meant s.apart h.meant h.apart (sym s.spelled ∙ h.spelled)).1
-
-pub closing_at : (text : List ℕ) (at begin to close : ℕ) (rest read : List ℕ) (h : HintedAt text at rest) → StandsAt text at 91 → Skips text (at + 1) begin
-    → ReadsString text begin read to → Skips text to close → drop close text ≡ 93 ∷ (h.meant.behind ++ (h.meant.octets_text ++ rest))
-closing_at text at begin to close rest read h stands s r t =
-    let m = h.meant in
-    let e = same_string text begin to read h.hint (behind_hint text at rest h) r (hint_at text at begin rest h stands s) in
-    (one_end t.spaces m.behind_hint (drop close text) (93 ∷ (m.behind ++ (m.octets_text ++ rest))) t.are_spaces m.spaces_behind_hint t.ends refl (sym t.spelled ∙ e)).1
-
-pub body_at : (text : List ℕ) (at close next : ℕ) (rest : List ℕ) (h : HintedAt text at rest) → drop close text ≡ 93 ∷ (h.meant.behind ++ (h.meant.octets_text ++ rest))
-    → StandsAt text close 93 → Skips text (close + 1) next → StringAt text next h.octets rest
-body_at text at close next rest h e stands s =
-    let m = h.meant in
-    let p = one_end s.spaces m.behind (drop next text) (m.octets_text ++ rest) s.are_spaces m.spaces_behind s.ends (simple_visible h.ends_token m.octets_text h.octets rest m.octets_meant)
-    (sym s.spelled ∙ behind_octet text close 93 _ stands e) in
-    record { ends_token = h.ends_token; spelling = m.octets_text; spelled = p.1; meant = m.octets_meant; apart = h.apart }
-
-pub hinted_read : (text : List ℕ) (at begin to close next end : ℕ) (hint octets : List ℕ) → StandsAt text at 91 → Skips text (at + 1) begin → ReadsString text begin hint to
-    → Skips text to close → StandsAt text close 93 → Skips text (close + 1) next → ReadsString text next octets end → ReadsValue 0 text at (string (Some hint) octets) end
-hinted_read text at begin to close next end hint octets opens s r t closes u q =
-    let g = r.stands.spelling in
-    let b = q.stands.spelling in
-    let behind : drop (close + 1) text ≡ u.spaces ++ (b ++ drop end text) = u.spelled ∙ ap (λ x. u.spaces ++ x) q.stands.spelled in
-    let middle : drop to text ≡ t.spaces ++ 93 ∷ (u.spaces ++ (b ++ drop end text)) = t.spelled ∙ ap (λ x. t.spaces ++ x) (closes.spelled ∙ ap (λ x. 93 ∷ x) behind) in
-    let all : drop at text ≡ 91 ∷ (s.spaces ++ (g ++ (t.spaces ++ 93 ∷ (u.spaces ++ (b ++ drop end text))))) =
-    opens.spelled ∙ ap (λ x. 91 ∷ x) (s.spelled ∙ ap (λ x. s.spaces ++ x) (r.stands.spelled ∙ ap (λ x. g ++ x) middle)) in
-    let m : IsHinted q.stands.ends_token (91 ∷ (s.spaces ++ (g ++ (t.spaces ++ 93 ∷ (u.spaces ++ b))))) hint octets = record {
-      as_token = r.stands.ends_token;
-      inside = s.spaces;
-      hint_text = g;
-      behind_hint = t.spaces;
-      behind = u.spaces;
-      octets_text = b;
-      spelled = refl;
-      spaces_inside = s.are_spaces;
-      hint_meant = r.stands.meant;
-      spaces_behind_hint = t.are_spaces;
-      spaces_behind = u.are_spaces;
-      octets_meant = q.stands.meant;
-    } in
-    record {
-      stands = record {
-        ends_token = q.stands.ends_token;
-        spelling = 91 ∷ (s.spaces ++ (g ++ (t.spaces ++ 93 ∷ (u.spaces ++ b))));
-        spelled = all ∙ sym (hinted_text q.stands.ends_token _ hint octets (drop end text) m);
-        meant = m;
-        apart = q.stands.apart;
-        fits = omega arith;
-      };
-      forward = omega (arith, s.ordered, r.forward, t.ordered, u.ordered, q.forward);
-      within = q.within;
-    }
-
--- ---- the whole text
-
--- a value that a text spells, of whatever depth
-pub spelled_at : (text : List ℕ) (begin : ℕ) (v : Value) → Skips text 0 begin → (m : Spells text v) → ValueAt (depth v) text begin v m.after
-spelled_at text begin v s m =
-    let p = one_end s.spaces m.before (drop begin text) (m.middle ++ m.after) s.are_spaces m.spaces_before s.ends (value_visible m.ends_token m.middle m.after v m.spelled)
-    (sym s.spelled ∙ m.parts) in
-    record { ends_token = m.ends_token; spelling = m.middle; spelled = p.1; meant = m.spelled; apart = spaces_apart m.ends_token m.after m.spaces_after; fits = omega arith }
-
-pub whole_at : (text : List ℕ) (begin : ℕ) (v : Value) → Skips text 0 begin → (w : IsSpelledWithin text v) → ValueAt 64 text begin v w.spelling.after
-whole_at text begin v s w =
-    let h = spelled_at text begin v s w.spelling in
-    record { ends_token = h.ends_token; spelling = h.spelling; spelled = h.spelled; meant = h.meant; apart = h.apart; fits = w.shallow }
-
--- the octets up to an offset, where a value and whitespace stand
-pub front_read : (text : List ℕ) (begin to k : ℕ) (v : Value) → length text ≤ 1048576 → Skips text 0 begin → ReadsValue 64 text begin v to → Skips text to k
-    → IsSpelledWithin (take k text) v
-front_read text begin to k v short s r t =
-    let g = r.stands.spelling in
-    let front = s.spaces ++ (g ++ t.spaces) in
-    let all : text ≡ front ++ drop k text = s.spelled ∙ ap (λ x. s.spaces ++ x) (r.stands.spelled ∙ ap (λ x. g ++ x) t.spelled) ∙ simp append_assoc in
-    let n : length front ≡ k = omega (arith, ap length all, length-append front (drop k text), length-drop k text, t.within) in
-    let e : take k text ≡ front = ap (take k) all ∙ take_at front (drop k text) k n in
-    record {
-      spelling = record {
-        before = s.spaces;
-        ends_token = r.stands.ends_token;
-        middle = g;
-        after = t.spaces;
-        parts = e;
-        spaces_before = s.are_spaces;
-        spelled = r.stands.meant;
-        spaces_after = t.are_spaces;
-      };
-      short = omega (arith, ap length e, n, t.within);
-      shallow = r.stands.fits;
-    }
-
--- ---- either form
-
--- a text that begins with a brace, past whitespace, spells no value
-pub brace_unspelled : (text rest : List ℕ) (begin : ℕ) (v : Value) → Skips text 0 begin → drop begin text ≡ 123 ∷ rest → Spells text v → ⊥
-brace_unspelled text rest begin v s e m =
-    let h = spelled_at text begin v s m in
-    value_differs h.ends_token h.spelling m.after rest v 123 h.meant refl (sym h.spelled ∙ e)
-
--- and is braced if it is a text at all
-pub braced_text : (text rest : List ℕ) (begin : ℕ) (v : Value) → Skips text 0 begin → drop begin text ≡ 123 ∷ rest → IsTextWithin text v → IsBracedWithin text v
-braced_text text rest begin v s e (inl w) = absurd (brace_unspelled text rest begin v s e w.spelling)
-braced_text text rest begin v s e (inr w) = w
-
--- and one that doesn't is spelled
-pub spelled_text : (text : List ℕ) (begin : ℕ) (v : Value) → Skips text 0 begin → (((rest : List ℕ) × (drop begin text ≡ 123 ∷ rest)) → ⊥) → IsTextWithin text v → IsSpelledWithin text v
-spelled_text text begin v s other (inl w) = w
-spelled_text text begin v s other (inr w) = absurd (other (w.braced.body ++ 125 ∷ w.braced.after, opening text begin v s w.braced))

@@ -1,5 +1,5 @@
 -- Where a string or a value stands whole, none stands that ends inside a string between marks.
-use Rattle.std.proofs.Common.{◌≡◌, ℕ, ◌<◌, Bool, true, false, ◌⊎◌, inl, inr, List, [], ◌∷◌, ◌++◌, length, Some, None, refl, sym, ap, subst, ◌∙◌, append_assoc, append-nil, length-append, arith}
+use Rattle.std.proofs.Common.{◌≡◌, ℕ, ◌<◌, Bool, true, false, ◌⊎◌, inl, inr, List, [], ◌∷◌, ◌++◌, length, Some, None, refl, sym, ap, subst, ◌∙◌, append_assoc, append-nil, length-append, arith, rules}
 use Rattle.std.proofs.lemmas.Bool.Decides.{nat_tests}
 use Rattle.sexpr_core.specs.Value.{Value, Values, string, list, none, more}
 use Rattle.sexpr_core.specs.Gathering.{is_body_octet}
@@ -71,18 +71,7 @@ pub record CutOpen (text : List ℕ) : Type 0 where
   pub unclosed : IsUnclosed (mark ∷ tail)
 
 pub cut_open : (t : List ℕ) → IsUnclosedString t → CutOpen t
-cut_open t h =
-    let f = unclosed_first h.marked h.meant in
-    record {
-      digits = h.count;
-      number = h.number;
-      mark = f.0;
-      tail = f.1;
-      spelled = h.spelled ∙ ap (λ x. h.count ++ x) f.2;
-      counts = h.counts;
-      marks = f.3;
-      unclosed = subst IsUnclosed f.2 h.meant;
-    }
+cut_open t h = search (rules, unclosed_first)
 
 count_are_digits : (count : List ℕ) (n : ℕ) → IsCount count n → AreDigits count
 count_are_digits count n (inl e) = subst AreDigits (sym e) tt
@@ -182,12 +171,7 @@ unclosed_string_differs t x d h other e =
     cc
 
 unclosed_value_differs : (lists : List Values) (t x : List ℕ) (d : ℕ) → UnclosedValue lists t → is_value_start d ≡ false → t ≡ d ∷ x → ⊥
-unclosed_value_differs lists t x d h other e =
-    let f = unclosed_value_first lists t h in
-    let q : f.0 ∷ f.1 ≡ d ∷ x = sym f.2 ∙ e in
-    let k : f.0 ≡ d = cc in
-    let g : false ≡ true = sym other ∙ ap is_value_start (sym k) ∙ f.3 in
-    cc
+unclosed_value_differs lists t x d h other e = search (rules, unclosed_value_first, is_value_start)
 
 unclosed_hinted : (ends : Bool) (s r g a t : List ℕ) → IsHinted ends s g a → IsUnclosedAtom t → s ++ r ≡ t → ⊥
 unclosed_hinted ends s r g a t m (inl k) e = unclosed_string_differs t _ 91 k refl (sym e ∙ hinted_text ends s g a r m)

@@ -1,5 +1,5 @@
 -- Where a value is refused, and what stands of it up to there.
-use Rattle.std.proofs.Common.{◌≡◌, ◌≢◌, ℕ, suc, ◌+◌, ◌-◌, ◌<◌, ◌≤◌, max, Bool, true, ◌⊎◌, inl, inr, List, [], ◌∷◌, ◌++◌, length, take, drop, refl, sym, ap, subst, ◌∙◌, append_assoc, append-nil, arith, Some}
+use Rattle.std.proofs.Common.{◌≡◌, ◌≢◌, ℕ, suc, ◌+◌, ◌-◌, ◌<◌, ◌≤◌, max, Bool, true, ◌⊎◌, inl, inr, List, [], ◌∷◌, ◌++◌, length, drop, refl, sym, ap, subst, ◌∙◌, append_assoc, append-nil, arith, Some, rules}
 use Rattle.std.proofs.lemmas.List.{take_at}
 use Rattle.sexpr_core.specs.declared.fault.FormFault.{FormFault}
 use Rattle.sexpr_core.specs.declared.fault.FormFault.TheVariants.{TooLong, TooDeep, Short, Bad, Trailing, Memory}
@@ -20,7 +20,8 @@ use Rattle.sexpr_text.proofs.Beginnings.{goes_string, goes_hint, goes_body, goes
 use Rattle.sexpr_text.proofs.Elsewhere.{string_too}
 use Rattle.sexpr_text.proofs.OneString.{one_simple}
 use Rattle.sexpr_text.proofs.OneValue.{simple_visible, apart_append, spaces_apart, value_visible}
-use Rattle.sexpr_text.proofs.StringEnds.{begun_later, none_string}
+use Rattle.sexpr_text.proofs.StringEnds.{begun_later}
+use Rattle.sexpr_text.proofs.MarkedEnds.{none_string}
 use Rattle.sexpr_text.proofs.Trees.{HasMembers, inside_list, filled_at, visible_too}
 use Rattle.sexpr_text.proofs.UnclosedLaws.{unclosed_simple, unclosed_visible, unclosed_string_differs, unclosed_value_visible}
 
@@ -32,9 +33,7 @@ rest_of c d x y e = cc
 
 -- a text that goes on so far in the same way has no such part
 stops_other : (T : List ℕ → Type 0) (text : List ℕ) (at k : ℕ) (other : List ℕ) → Agree text other k → StopsAt T text at k → T other → ⊥
-stops_other T text at k other a s w =
-    let e : take (k + 1) text ≡ a.front = ap (take (k + 1)) a.text_is ∙ take_at a.front a.rest (k + 1) a.long in
-    s.none (record { rest = a.others; whole = subst T (a.other_is ∙ ap (λ t. t ++ a.others) (sym e)) w })
+stops_other T text at k other a s w = search (rules, take_at)
 
 -- ---- parts in which lists may open
 
@@ -45,20 +44,10 @@ ends_later : (room less : ℕ) (G H U V W X : ℕ → List ℕ → Type 0) (text
     → ((k : ℕ) → fault ≡ Bad k → i ≤ k → StopsAt (From (Anywhere U) i) text i k → StopsAt (From (Anywhere V) at) text at k)
     → IsValueEnd less G X U text i fault → IsValueEnd room H W V text at fault
 ends_later room less G H U V W X text front at i TooLong le e on deep stops any h = h
-ends_later room less G H U V W X text front at i TooDeep le e on deep stops any h =
-    let p = stops h.place h.none_whole.behind h.none_whole h.none_open in
-    record {
-      place = h.place;
-      begun = begun_later (G (suc less)) (H (suc room)) text front at i (h.place + 1) le e (λ part q g. deep part (drop (h.place + 1) text) q g) h.begun;
-      none_whole = p.0;
-      none_open = p.1;
-    }
+ends_later room less G H U V W X text front at i TooDeep le e on deep stops any h = search (rules, begun_later)
 ends_later room less G H U V W X text front at i Short le e on deep stops any h =
     begun_later (G less) (H room) text front at i (length text) le e (λ part q g. on part (drop (length text) text) q g) h
-ends_later room less G H U V W X text front at i (Bad k) le e on deep stops any h = (
-  begun_later (G less) (H room) text front at i k le e (λ part q g. on part (drop k text) q g) h.0,
-  any k refl h.1.behind h.1,
-)
+ends_later room less G H U V W X text front at i (Bad k) le e on deep stops any h = search (rules, begun_later)
 ends_later room less G H U V W X text front at i (Trailing k) le e on deep stops any h = h
 ends_later room less G H U V W X text front at i Memory le e on deep stops any h = tt
 
@@ -238,18 +227,7 @@ hint_found text at begin s t u =
 
 whole_hint : (text : List ℕ) (at begin : ℕ) → StandsAt text at 91 → Skips text (at + 1) begin → (u : IsUnclosedHinted (drop at text))
     → StringAt text begin u.hint (u.behind_hint ++ 93 ∷ (u.behind ++ u.last))
-whole_hint text at begin s t u =
-    let tail : List ℕ = u.behind_hint ++ 93 ∷ (u.behind ++ u.last) in
-    let e : drop (at + 1) text ≡ u.inside ++ (u.hint_text ++ tail) = rest_of 91 91 (drop (at + 1) text) _ (sym s.spelled ∙ u.spelled) in
-    let p = one_end t.spaces u.inside (drop begin text) (u.hint_text ++ tail) t.are_spaces u.spaces_inside t.ends (simple_visible u.as_token u.hint_text u.hint tail u.hint_meant)
-    (sym t.spelled ∙ e) in
-    record {
-      ends_token = u.as_token;
-      spelling = u.hint_text;
-      spelled = p.1;
-      meant = u.hint_meant;
-      apart = apart_append u.as_token u.behind_hint (u.behind ++ u.last) 93 (spaces_apart u.as_token u.behind_hint u.spaces_behind_hint) refl;
-    }
+whole_hint text at begin s t u = search (rules, rest_of, one_end, simple_visible, apart_append, spaces_apart)
 
 closing_found : (text : List ℕ) (at begin to close : ℕ) (read : List ℕ) → StandsAt text at 91 → Skips text (at + 1) begin → ReadsString text begin read to → Skips text to close
     → (u : IsUnclosedHinted (drop at text)) → drop close text ≡ 93 ∷ (u.behind ++ u.last)

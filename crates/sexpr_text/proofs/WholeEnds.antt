@@ -1,5 +1,5 @@
 -- From a value that is refused, or has octets behind it, to what is said of the whole text.
-use Rattle.std.proofs.Common.{◌≡◌, ℕ, ◌+◌, ◌<◌, ◌≤◌, Bool, true, false, inl, inr, List, [], ◌∷◌, ◌++◌, length, take, drop, Some, None, refl, sym, ap, subst, ◌∙◌, append_assoc, append-nil, length-drop, arith}
+use Rattle.std.proofs.Common.{◌≡◌, ℕ, ◌+◌, ◌<◌, ◌≤◌, Bool, true, false, inl, inr, List, [], ◌∷◌, ◌++◌, length, take, drop, Some, None, refl, sym, ap, subst, ◌∙◌, append_assoc, append-nil, length-drop, arith, rules}
 use Rattle.std.proofs.lemmas.Bool.{cases_Bool}
 use Rattle.std.proofs.lemmas.List.{take-append-drop, drop-drop}
 use Rattle.sexpr_core.specs.declared.fault.FormFault.{FormFault}
@@ -15,14 +15,15 @@ use Rattle.sexpr_text.specs.Strings.{is_token_octet, IsApart}
 use Rattle.sexpr_text.specs.Spelling.{SpellsAs, Spells, IsSpelledWithin}
 use Rattle.sexpr_text.specs.Reads.{ReadsValue, ValueAt, IsValueFault}
 use Rattle.sexpr_text.specs.Stands.{ValueStands}
-use Rattle.sexpr_text.specs.Unclosed.{IsUnclosedText, UnclosedValue}
+use Rattle.sexpr_text.specs.Unclosed.{IsUnclosedText}
 use Rattle.sexpr_text.specs.Inner.Begun.{Begun, From, Anywhere, GoesValue, IsUnclosedValue, ValueStandsIn, IsValueEnd}
 use Rattle.sexpr_text.specs.Refusal.{IsSpelling, IsSpellingWithin, GoesOn, GoesOnWithin, RefusesSpelling}
-use Rattle.sexpr_text.proofs.Beginnings.{value_begins, goes_anyhow}
+use Rattle.sexpr_text.proofs.Unfinished.{value_begins, goes_anyhow}
 use Rattle.sexpr_text.proofs.Elsewhere.{value_too}
 use Rattle.sexpr_text.proofs.OneValue.{hinted_text, value_visible, spaces_apart}
 use Rattle.sexpr_text.proofs.StringLaws.{token_grows}
-use Rattle.sexpr_text.proofs.Trees.{same_value, spelled_at, front_read}
+use Rattle.sexpr_text.proofs.Trees.{same_value}
+use Rattle.sexpr_text.proofs.WholeTrees.{spelled_at, front_read}
 use Rattle.sexpr_text.proofs.UnclosedLaws.{fails_among, unclosed_value, unclosed_value_visible}
 
 -- ---- what goes on
@@ -48,9 +49,7 @@ goes_whole room text begin to s b = subst (GoesOnWithin room) (sym (text_is text
 
 -- the value of a text that isn't closed stands past whitespace
 unclosed_at : (room : ℕ) (text : List ℕ) (begin : ℕ) → Skips text 0 begin → IsUnclosedText room text → IsUnclosedValue room (drop begin text)
-unclosed_at room text begin s u =
-    let p = one_end s.spaces u.before (drop begin text) u.value s.are_spaces u.spaces_before s.ends (unclosed_value_visible u.lists u.value u.unclosed) (sym s.spelled ∙ u.parts) in
-    record { lists = u.lists; fits = u.fits; unclosed = subst (UnclosedValue u.lists) (sym p.1) u.unclosed }
+unclosed_at room text begin s u = search (rules, one_end, unclosed_value_visible)
 
 -- ---- a whole value in front of an octet
 

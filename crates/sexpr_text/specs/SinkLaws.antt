@@ -1,9 +1,9 @@
 -- What sinks take, one call after another.
-use Rattle.std.proofs.Common.{◌≡◌, ℕ, ◌+◌, ◌-◌, ◌^◌, ◌<◌, ◌≤◌, List, [], ◌++◌, length, false, refl, sym, ap, ◌∙◌, append_assoc, append-nil, arith}
+use Rattle.std.proofs.Common.{ℕ, List, [], ◌++◌, refl, sym, ap, ◌∙◌, append_assoc, append-nil, arith}
 use Rattle.std.proofs.lemmas.List.{length-append}
 use Rattle.sexpr_text.specs.declared.sinks.VectorSink.{VectorSink}
 use Rattle.sexpr_text.specs.declared.sinks.Counter.{Counter}
-use Rattle.sexpr_text.specs.Sinks.{VectorTakes, IsCounted, text_of, count_of}
+use Rattle.sexpr_text.specs.Sinks.{VectorTakes, IsCounted, text_of}
 
 pub vector_takes_nothing : (s : VectorSink) → VectorTakes s [] s
 vector_takes_nothing s = record {

@@ -208,7 +208,7 @@ fn convert_value(
     }
 }
 
-/// Converts a list, from its opening parenthesis on.
+/// Converts a list, from its opening parenthesis on. At most `room` lists may be open at once, this one included.
 #[cycle(converting)]
 fn convert_list(
     alloc: Global,
@@ -233,7 +233,7 @@ fn convert_list(
     convert_members(alloc, text, at + 1, room - 1, form, out)
 }
 
-/// Converts the members of a list and its closing parenthesis.
+/// Converts the members of a list and its closing parenthesis. At most `room` lists may be open at once in them.
 #[cycle(converting)]
 fn convert_members(
     alloc: Global,

@@ -1,4 +1,5 @@
 //! Laws of advanced form.
+//! Each function is a law: it does nothing, and its contract is the fact.
 
 ghost use Rattle.std.specs.Prelude.{◌≡◌, ℕ, List, ◌+◌, ◌<◌, length, take};
 ghost use Rattle.sexpr_core.specs.declared.fault.FormFault.{FormFault};

@@ -97,7 +97,7 @@ fn read_tree(alloc: Global, text: &[u8], at: usize, room: usize) -> Result<ReadT
     }
 }
 
-/// Reads a list, from its opening parenthesis on.
+/// Reads a list, from its opening parenthesis on. At most `room` lists may be open at once, this one included.
 #[cycle(reading)]
 fn read_list(alloc: Global, text: &[u8], at: usize, room: usize) -> Result<ReadTree, FormFault>
     requires short { length text.now ≤ 1048576 }
@@ -117,7 +117,7 @@ fn read_list(alloc: Global, text: &[u8], at: usize, room: usize) -> Result<ReadT
     })
 }
 
-/// Reads the members of a list and its closing parenthesis.
+/// Reads the members of a list and its closing parenthesis. At most `room` lists may be open at once in them.
 #[cycle(reading)]
 fn read_members(
     alloc: Global,

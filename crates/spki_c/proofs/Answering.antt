@@ -1,49 +1,49 @@
--- The answer to a question has the status of its wish.
+-- The answer to a question has the status of its query.
 use Rattle.std.proofs.Common.{◌≡◌, ◌⊎◌, ℕ, List, [], ◌∷◌, Bool, Some, slice_get, refl, sym, ap, ◌∙◌, subst, inl, inr}
 use Rattle.spki_service.specs.Held.{Held}
 use Rattle.spki_service.specs.declared.question.Question.{Question}
 use Rattle.spki_guard.specs.declared.answers.Verdict.{Verdict}
 use Rattle.spki_guard.specs.declared.answers.Verdict.TheVariants.{Refused}
-use Rattle.spki_guard.specs.declared.question_answers.Wish.{Wish}
-use Rattle.spki_guard.specs.declared.question_answers.Wish.TheVariants.{Decide, Explain, Reduce}
+use Rattle.spki_guard.specs.declared.question_answers.Query.{Query}
+use Rattle.spki_guard.specs.declared.question_answers.Query.TheVariants.{Decide, Explain, Reduce}
 use Rattle.spki_guard.specs.Held.{IsAnswerHeld}
 use Rattle.spki_guard.specs.Lines.{refused_memory}
-use Rattle.spki_c.specs.Guards.{wish_number, status_for, IsAnswered}
+use Rattle.spki_c.specs.Guards.{query_number, status_for, IsAnswered}
 use Rattle.spki_c.specs.Handed.{IsHanded}
 
-abbrev all : List Wish
+abbrev all : List Query
 all = Decide ∷ Decide ∷ Decide ∷ Decide ∷ Reduce ∷ Decide ∷ Explain ∷ []
 
-at_number : (w : Wish) → slice_get all (wish_number w) ≡ Some w
+at_number : (w : Query) → slice_get all (query_number w) ≡ Some w
 at_number Decide = refl
 at_number Explain = refl
 at_number Reduce = refl
 
-one_wish : (v w : Wish) → wish_number v ≡ wish_number w → v ≡ w
-one_wish v w e =
+one_query : (v w : Query) → query_number v ≡ query_number w → v ≡ w
+one_query v w e =
     let same : Some v ≡ Some w = sym (at_number v) ∙ ap (λ n. slice_get all n) e ∙ at_number w in
     cc
 
-module _ (w v : Wish) (n : ℕ) (e : n ≡ wish_number w) (f : n ≡ wish_number v) where
+module _ (w v : Query) (n : ℕ) (e : n ≡ query_number w) (f : n ≡ query_number v) where
   pub answered : (guard held : Held) (q : Question) (marks taken : List Bool) (verdict : Verdict) (output old new : List ℕ) (needed status given : ℕ)
       → held ≡ guard → taken ≡ marks → IsAnswerHeld v held q taken verdict output → given ≡ status_for v verdict
       → IsHanded old new needed status given output → IsAnswered w guard q marks old new needed status
   answered guard held q marks taken verdict output old new needed status given g m answer number handed =
-      let same : v ≡ w = one_wish v w (sym f ∙ e) in
+      let same : v ≡ w = one_query v w (sym f ∙ e) in
       record {
         verdict = verdict;
         output = output;
-        answer = subst (λ (u : Wish). IsAnswerHeld u guard q marks verdict output) same
+        answer = subst (λ (u : Query). IsAnswerHeld u guard q marks verdict output) same
             (subst (λ (h : Held). IsAnswerHeld v h q marks verdict output) g (subst (λ (t : List Bool). IsAnswerHeld v held q t verdict output) m answer));
         handed = subst (λ (s : ℕ). IsHanded old new needed status s output) (number ∙ ap (λ u. status_for u verdict) same) handed;
       }
 
-refused_status : (w : Wish) → status_for w Refused ≡ 2
+refused_status : (w : Query) → status_for w Refused ≡ 2
 refused_status Decide = refl
 refused_status Explain = refl
 refused_status Reduce = refl
 
-pub no_memory : (w : Wish) (guard : Held) (q : Question) (marks : List Bool) (output old new : List ℕ) (needed status : ℕ)
+pub no_memory : (w : Query) (guard : Held) (q : Question) (marks : List Bool) (output old new : List ℕ) (needed status : ℕ)
     → (output ≡ refused_memory) ⊎ (output ≡ refused_memory) → IsHanded old new needed status 2 output
     → IsAnswered w guard q marks old new needed status
 no_memory w guard q marks output old new needed status (inl line) handed = record {

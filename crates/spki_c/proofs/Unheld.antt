@@ -2,10 +2,10 @@
 use Rattle.std.proofs.Common.{◌≡◌, ℕ, List, [], ◌∷◌, map, Bool, true, false, Bor, refl, ap, ◌⊎◌, inl, inr}
 use Rattle.std.specs.Prelude.{ℤ}
 use Rattle.spki_service.specs.declared.question.Question.{Question}
-use Rattle.spki_service.specs.declared.question.Wanted.{Wanted}
-use Rattle.spki_service.specs.declared.question.Wanted.TheVariants as wanted
-use Rattle.spki_service.specs.declared.question.Instant.{Instant}
-use Rattle.spki_service.specs.declared.question.Instant.TheVariants as moments
+use Rattle.spki_service.specs.declared.question.RequestInput.{RequestInput}
+use Rattle.spki_service.specs.declared.question.RequestInput.TheVariants as wanted
+use Rattle.spki_service.specs.declared.question.Moment.{Moment}
+use Rattle.spki_service.specs.declared.question.Moment.TheVariants as moments
 use Rattle.spki_c.specs.declared.parts.Parts.{Parts}
 use Rattle.spki_c.specs.Asking.{IsQuestionBy, IsRequestBy, IsMomentBy}
 
@@ -17,7 +17,7 @@ unfolding lent
 all_lent [] = refl
 all_lent (w ∷ words) = ap (λ (ws : List (List ℕ)). w ∷ ws) (all_lent words)
 
-request_by : Bool → List ℕ → List (List ℕ) → Wanted
+request_by : Bool → List ℕ → List (List ℕ) → RequestInput
 request_by true text words = wanted.Words (lent (map lent words))
 request_by false text words = wanted.Text (lent text)
 
@@ -26,7 +26,7 @@ unfolding lent request_by
 is_request_by true text words = (refl, all_lent words)
 is_request_by false text words = (refl, refl)
 
-moment_by : List ℕ → List ℤ → Instant
+moment_by : List ℕ → List ℤ → Moment
 moment_by text [] = moments.Text (lent text)
 moment_by text (first ∷ others) = moments.Seconds first
 

@@ -4,10 +4,10 @@ use Rattle.spki_service.specs.Held.{Held}
 use Rattle.spki_service.specs.Opened.{IsOpened}
 use Rattle.spki_service.specs.declared.opened.Opened.{Opened}
 use Rattle.spki_service.specs.declared.question.Question.{Question}
-use Rattle.spki_service.specs.declared.question.Wanted.{Wanted}
-use Rattle.spki_service.specs.declared.question.Wanted.TheVariants as wanted
-use Rattle.spki_service.specs.declared.question.Instant.{Instant}
-use Rattle.spki_service.specs.declared.question.Instant.TheVariants as moments
+use Rattle.spki_service.specs.declared.question.RequestInput.{RequestInput}
+use Rattle.spki_service.specs.declared.question.RequestInput.TheVariants as wanted
+use Rattle.spki_service.specs.declared.question.Moment.{Moment}
+use Rattle.spki_service.specs.declared.question.Moment.TheVariants as moments
 use Rattle.spki_guard.specs.declared.answers.Verdict.{Verdict}
 use Rattle.spki_guard.specs.Held.{IsUnreadQuestion}
 use Rattle.spki_c.specs.Handed.{IsHanded}
@@ -30,12 +30,12 @@ IsAmbiguous parts seconds =
     ((parts.is_worded ≡ true) × (parts.request.octets ≢ [])) ⊎ HasBothMoments parts.moment.octets seconds
 
 -- the request: its strings if it is given by them, and otherwise its text
-abbrev pub IsRequestBy : Bool → List ℕ → List (List ℕ) → Wanted → Type 0
+abbrev pub IsRequestBy : Bool → List ℕ → List (List ℕ) → RequestInput → Type 0
 IsRequestBy is_worded text words (wanted.Text octets) = (is_worded ≡ false) × (octets.now ≡ text)
 IsRequestBy is_worded text words (wanted.Words strings) = (is_worded ≡ true) × (map (λ w. w.now) strings.now ≡ words)
 
 -- the moment: the first of the seconds, or the text if there are none
-abbrev pub IsMomentBy : List ℕ → List ℤ → Instant → Type 0
+abbrev pub IsMomentBy : List ℕ → List ℤ → Moment → Type 0
 IsMomentBy text [] (moments.Text octets) = octets.now ≡ text
 IsMomentBy text [] (moments.Seconds n) = ⊥
 IsMomentBy text (first ∷ others) (moments.Text octets) = ⊥

@@ -8,8 +8,8 @@ use Rattle.spki_service.specs.declared.limits.Limits.{Limits}
 use Rattle.spki_service.specs.declared.list_fault.AclFault.{AclFault}
 use Rattle.spki_service.specs.declared.question.Question.{Question}
 use Rattle.spki_guard.specs.declared.answers.Verdict.{Verdict}
-use Rattle.spki_guard.specs.declared.question_answers.Wish.{Wish}
-use Rattle.spki_guard.specs.declared.question_answers.Wish.TheVariants.{Decide, Explain, Reduce}
+use Rattle.spki_guard.specs.declared.question_answers.Query.{Query}
+use Rattle.spki_guard.specs.declared.question_answers.Query.TheVariants.{Decide, Explain, Reduce}
 use Rattle.spki_guard.specs.Held.{IsAnswerHeld, HasOtherCount}
 use Rattle.spki_guard.specs.HeldLines.{refused_list}
 use Rattle.spki_guard.specs.Lines.{refused_memory}
@@ -24,13 +24,13 @@ policy_number Strict = 0
 policy_number Open = 1
 
 -- the number of what a question is asked for: that of the command that does the same with a case
-abbrev pub wish_number : Wish → ℕ
-wish_number Reduce = 4
-wish_number Decide = 5
-wish_number Explain = 6
+abbrev pub query_number : Query → ℕ
+query_number Reduce = 4
+query_number Decide = 5
+query_number Explain = 6
 
 -- the status of the answer to a question: only a decision has the status of yes or no
-abbrev pub status_for : Wish → Verdict → ℕ
+abbrev pub status_for : Query → Verdict → ℕ
 status_for Decide verdict = decided verdict
 status_for Explain verdict = written verdict
 status_for Reduce verdict = written verdict
@@ -99,17 +99,17 @@ pub record IsUnopened {H : Type 0} (list : List ℕ) (before after : H) (old new
 -- ---- answered
 
 -- The answer is in the buffer.
-pub record IsAnswered (wish : Wish) (guard : Held) (q : Question) (marks : List Bool) (old new : List ℕ) (needed status : ℕ) : Type 0 where
+pub record IsAnswered (query : Query) (guard : Held) (q : Question) (marks : List Bool) (old new : List ℕ) (needed status : ℕ) : Type 0 where
   pub verdict : Verdict
   pub output : List ℕ
-  pub answer : IsAnswerHeld wish guard q marks verdict output
-  pub handed : IsHanded old new needed status (status_for wish verdict) output
+  pub answer : IsAnswerHeld query guard q marks verdict output
+  pub handed : IsHanded old new needed status (status_for query verdict) output
 
 -- The question has more or fewer signatures than there are marks.
 pub record IsMiscounted (guard : Held) (q : Question) (marks : List Bool) (old new : List ℕ) (needed status : ℕ) : Type 0 where
   pub other : HasOtherCount guard q marks
   pub misuse : IsMisuse old new needed status
 
-abbrev pub IsAsked : Wish → Held → Question → List Bool → List ℕ → List ℕ → ℕ → ℕ → Type 0
-IsAsked wish guard q marks old new needed status =
-    IsAnswered wish guard q marks old new needed status ⊎ IsMiscounted guard q marks old new needed status
+abbrev pub IsAsked : Query → Held → Question → List Bool → List ℕ → List ℕ → ℕ → ℕ → Type 0
+IsAsked query guard q marks old new needed status =
+    IsAnswered query guard q marks old new needed status ⊎ IsMiscounted guard q marks old new needed status

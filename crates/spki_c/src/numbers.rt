@@ -1,9 +1,9 @@
-//! The numbers of commands, of wishes and of statuses.
+//! The numbers of commands, of queries and of statuses.
 ghost use Rattle.std.specs.Prelude.{◌≡◌, ◌≢◌, MatchOption};
-ghost use Rattle.spki_c.specs.Guards.{wish_number, status_for};
+ghost use Rattle.spki_c.specs.Guards.{query_number, status_for};
 ghost use Rattle.spki_c.specs.Numbers.{number_of, status_of, decided, written};
 
-use spki_guard::{Command, Verdict, Wish};
+use spki_guard::{Command, Query, Verdict};
 
 /// The decision is yes. Only decisions have this status.
 pub const YES: u32 = 9;
@@ -61,26 +61,26 @@ pub fn status_number(command: Command, verdict: Verdict) -> u32
     }
 }
 
-/// The wish of a number, if there is one. A wish has the number of the command that does the same with a case.
-pub fn wish_of(number: u32) -> Option<Wish>
-    ensures { MatchOption result ((w : Wish) → number ≢ wish_number w) (λ w. number ≡ wish_number w) }
+/// The query of a number, if there is one. A query has the number of the command that does the same with a case.
+pub fn query_of(number: u32) -> Option<Query>
+    ensures { MatchOption result ((w : Query) → number ≢ query_number w) (λ w. number ≡ query_number w) }
 {
     match number {
-        4 => Some(Wish::Reduce),
-        5 => Some(Wish::Decide),
-        6 => Some(Wish::Explain),
+        4 => Some(Query::Reduce),
+        5 => Some(Query::Decide),
+        6 => Some(Query::Explain),
         _ => None,
     }
 }
 
 /// The status of the answer to a question.
-pub fn wish_status(wish: Wish, verdict: Verdict) -> u32
-    ensures { result ≡ status_for wish verdict }
+pub fn query_status(query: Query, verdict: Verdict) -> u32
+    ensures { result ≡ status_for query verdict }
 {
-    match wish {
-        Wish::Decide => decided_number(verdict),
-        Wish::Explain => written_number(verdict),
-        Wish::Reduce => written_number(verdict),
+    match query {
+        Query::Decide => decided_number(verdict),
+        Query::Explain => written_number(verdict),
+        Query::Reduce => written_number(verdict),
     }
 }
 

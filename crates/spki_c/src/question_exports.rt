@@ -3,9 +3,9 @@ ghost use Rattle.std.specs.Prelude.{◌≡◌, ◌≢◌, ◌⊎◌, None, Some,
 ghost use Rattle.spki_decision.specs.Asked.{Signed};
 ghost use Rattle.spki_service.specs.declared.question.Question.{Question};
 ghost use Rattle.spki_service.specs.Opened.{IsOpened};
-ghost use Rattle.spki_guard.specs.declared.question_answers.Wish.{Wish};
+ghost use Rattle.spki_guard.specs.declared.question_answers.Query.{Query};
 ghost use Rattle.spki_c.specs.Asking.{IsAmbiguous, IsQuestionOf, IsHeldQuestion, IsUnheld, marks_from};
-ghost use Rattle.spki_c.specs.Guards.{wish_number, IsAsked};
+ghost use Rattle.spki_c.specs.Guards.{query_number, IsAsked};
 ghost use Rattle.spki_c.specs.Handed.{IsMisuse};
 ghost use Rattle.spki_c.specs.Lent.{IsLent, AreLent};
 ghost use Rattle.spki_c.specs.Signatures.{IsSignature};
@@ -14,7 +14,7 @@ use crate::box_pointer::BoxPointer;
 use crate::buffer::{hand_over, misused};
 use crate::handle::Lent;
 use crate::lent_texts::words_of;
-use crate::numbers::{DONE, NO_MEMORY, NONE, REFUSED, wish_of, wish_status};
+use crate::numbers::{DONE, NO_MEMORY, NONE, REFUSED, query_of, query_status};
 use crate::opening::open_boxed;
 use crate::parts::Parts;
 use crate::question_handle::{LentQuestion, QuestionHandle};
@@ -118,26 +118,26 @@ pub extern "C" fn spki_c_asked_signature<'a>(
 /// the buffer.
 ///
 /// A decision returns 9 for yes and 1 for no. An explanation or a reduction returns 6. All return 2 for a refusal, and 4 if the
-/// buffer is too small. All return 5 if there are more or fewer marks than signatures, if no wish has this number, or if the marks are not lent whole.
+/// buffer is too small. All return 5 if there are more or fewer marks than signatures, if no query has this number, or if the marks are not lent whole.
 #[unsafe(no_mangle)]
 pub extern "C" fn spki_c_asked_answer(
     alloc: Global,
-    wish: u32,
+    query: u32,
     lent: &mut LentQuestion,
     mut verified: Text,
     buffer: &mut [u8],
     needed: &mut usize,
 ) -> u32
-    ensures answered { (w : Wish) (q : Question) → wish ≡ wish_number w → IsOpened lent.old.question.guard q lent.old.question
+    ensures answered { (w : Query) (q : Question) → query ≡ query_number w → IsOpened lent.old.question.guard q lent.old.question
         → IsLent verified
         → IsAsked w lent.old.question.guard q (marks_from verified.octets) buffer.old buffer.new needed.new result }
-    ensures misused { ((w : Wish) → wish ≢ wish_number w) → IsMisuse buffer.old buffer.new needed.new result }
+    ensures misused { ((w : Query) → query ≢ query_number w) → IsMisuse buffer.old buffer.new needed.new result }
     ensures unlent { ¬ IsLent verified → IsMisuse buffer.old buffer.new needed.new result }
 {
     if !verified.is_lent() {
         return misused(needed);
     }
-    let Some(wish) = wish_of(wish) else {
+    let Some(query) = query_of(query) else {
         return misused(needed);
     };
     let Ok(marks) = marks_of(alloc, verified.octets()) else {
@@ -148,8 +148,8 @@ pub extern "C" fn spki_c_asked_answer(
             needed,
         );
     };
-    match answer_opened(alloc, wish, lent.question(), marks.as_slice()) {
-        Some(answer) => hand_over(&answer, wish_status(wish, answer.verdict), buffer, needed),
+    match answer_opened(alloc, query, lent.question(), marks.as_slice()) {
+        Some(answer) => hand_over(&answer, query_status(query, answer.verdict), buffer, needed),
         None => misused(needed),
     }
 }

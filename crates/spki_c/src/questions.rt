@@ -6,7 +6,7 @@ ghost use Rattle.spki_c.specs.Lent.{IsLent, AreLent};
 use crate::lent_texts::are_lent;
 use crate::parts::Parts;
 use crate::text::Text;
-use spki_guard::{Instant, Question, Wanted};
+use spki_guard::{Moment, Question, RequestInput};
 use std::alloc::{AllocError, Global};
 
 impl Parts {
@@ -48,23 +48,23 @@ impl Parts {
 }
 
 /// The request: its strings, or its text.
-fn wanted_of<'a>(is_worded: bool, text: &'a [u8], words: &'a [&'a [u8]]) -> Wanted<'a>
+fn wanted_of<'a>(is_worded: bool, text: &'a [u8], words: &'a [&'a [u8]]) -> RequestInput<'a>
     ensures { IsRequestBy is_worded text.entry.now (map (λ w. w.now) words.entry.now) result }
 {
     if is_worded {
-        Wanted::Words(words)
+        RequestInput::Words(words)
     } else {
-        Wanted::Text(text)
+        RequestInput::Text(text)
     }
 }
 
 /// The moment: the first of the seconds, or its text.
-fn instant_of<'a>(text: &'a [u8], seconds: &[i64]) -> Instant<'a>
+fn instant_of<'a>(text: &'a [u8], seconds: &[i64]) -> Moment<'a>
     ensures { IsMomentBy text.entry.now seconds.now result }
 {
     match seconds {
-        [] => Instant::Text(text),
-        [first, ..] => Instant::Seconds(*first),
+        [] => Moment::Text(text),
+        [first, ..] => Moment::Seconds(*first),
     }
 }
 

@@ -20,7 +20,7 @@ use Rattle.spki_cert.proofs.Looking.{none-found}
 use Rattle.spki_cert.proofs.Triples.{triple-read, triple-whole}
 use Rattle.spki_cert.proofs.FaultNone.{key-none, hash-none, date-none}
 use Rattle.spki_cert.proofs.EntryFaultNone.{each-none, acl-none}
-use Rattle.spki_cert.proofs.ItemFaultNone.{sequence-none}
+use Rattle.spki_cert.proofs.SequenceFaultNone.{sequence-none}
 use Rattle.spki_case.specs.Case.{Row, Case}
 use Rattle.spki_case.specs.Rows.{RowOf}
 use Rattle.spki_case.specs.CaseForm.{Parts, acl_value, sequence_value, case_value, CaseOf}

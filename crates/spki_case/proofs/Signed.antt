@@ -2,7 +2,7 @@
 use Rattle.std.proofs.Common.{◌≡◌, ℕ, suc, List, [], ◌∷◌, Bool, true, false, ◌&&◌, refl, sym, ◌∙◌, inl, inr}
 use Rattle.std.specs.Prelude.{codes, IsSome, is_some}
 use Rattle.std.specs.List.{AllZip, list_all}
-use Rattle.sexpr_core.specs.Value.{Value, plain, group}
+use Rattle.sexpr_core.specs.Value.{Value}
 use Rattle.spki_cert.specs.declared.certificate.SeqItem.{SeqItem}
 use Rattle.spki_cert.specs.declared.certificate.SeqItem.TheVariants.{Key, DoHash, Auth, Name, Signature}
 use Rattle.spki_cert.specs.Fields.{is_headed}
@@ -16,11 +16,6 @@ stray v d s (inr h) = let clash : false ≡ true = sym s ∙ h in cc
 
 late : (v : Value) → is_headed (codes "signature") v ≡ true → IsInPlace false v → ⊥
 late v s h = let clash : true ≡ false = sym s ∙ h in cc
-
--- a list with a head, of which a test of lists with that head holds
-by_head : (P : Value → Type 0) (v : Value) (word : List ℕ) (rest : List Value) → v ≡ group (plain word ∷ rest)
-    → P (group (plain word ∷ rest)) → P v
-by_head P v word rest e h = rw e h
 
 -- a certificate that waits gets its signature
 pub signature_comes : (vs : List Value) (is : List SeqItem) → AllZip ItemOf vs is → AreInPlace true vs → waits_after true vs ≡ false

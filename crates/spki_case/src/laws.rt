@@ -1,4 +1,5 @@
 //! Laws of cases and accepted lists.
+//! Each function is a law: it does nothing, and its contract is the fact.
 
 ghost use Rattle.std.specs.Prelude.{◌≡◌, ◌↔◌, ℕ, List, None};
 ghost use Rattle.std.specs.List.{AllZip};

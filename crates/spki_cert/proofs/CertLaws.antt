@@ -1,8 +1,7 @@
 -- Certificates, signatures and operations that were read, and those that are none.
-use Rattle.std.proofs.Common.{◌≡◌, ℕ, List, [], ◌∷◌, Some, None, sym, subst, ◌∙◌}
-use Rattle.sexpr_core.specs.Value.{Value, plain}
+use Rattle.std.proofs.Common.{◌≡◌, ℕ, List, ◌∷◌, Some, None, sym, ◌∙◌, rules}
+use Rattle.sexpr_core.specs.Value.{Value}
 use Rattle.spki_cert.specs.declared.principal.Principal.{Principal}
-use Rattle.spki_cert.specs.Subjects.{PrincipalOf}
 use Rattle.spki_cert.specs.Certificates.{IssuedBy}
 use Rattle.spki_cert.proofs.SubjectLaws.{name-is_no_principal}
 
@@ -10,10 +9,7 @@ use Rattle.spki_cert.proofs.SubjectLaws.{name-is_no_principal}
 
 -- no issuer is a principal and a name
 pub one-issuer : (fields : List Value) (p q : Principal) (name : List ℕ) → IssuedBy fields p None → IssuedBy fields q (Some name) → ⊥
-one-issuer fields p q name (rest, e, (v, f, one)) (behind, g, (w, h, other)) =
-    let same : rest ≡ behind = (let k : rest ∷ [] ≡ behind ∷ [] = sym e ∙ g in cc) in
-    let this : v ≡ w = (let k : v ∷ [] ≡ w ∷ [] = sym f ∙ same ∙ h in cc) in
-    name-is_no_principal w (other.owner ∷ plain name ∷ []) other.written p (subst (λ (u : Value). PrincipalOf u p) this one)
+one-issuer fields p q name (rest, e, (v, f, one)) (behind, g, (w, h, other)) = search (rules, name-is_no_principal)
 
 -- ---- signatures
 

@@ -1,5 +1,5 @@
 -- The fault that is named of an entry or of an access list, along the way of its reading.
-use Rattle.std.proofs.Common.{◌≡◌, ℕ, ◌+◌, List, [], ◌∷◌, ◌++◌, drop, length, Bool, true, false, Option, Some, None, refl, sym, ap, ◌∙◌, inl, inr, length-append}
+use Rattle.std.proofs.Common.{◌≡◌, ℕ, ◌+◌, List, [], ◌∷◌, ◌++◌, drop, length, Bool, true, false, Option, Some, None, refl, sym, ap, ◌∙◌, inl, inr, length-append, rules}
 use Rattle.std.specs.Prelude.{codes, not, if◌then◌else◌, ◌&&◌}
 use Rattle.sexpr_core.specs.Value.{Value, plain, group}
 use Rattle.sexpr_core.specs.Shapes.{IsNotHeaded}
@@ -147,9 +147,7 @@ items-all fault_of all = refl
 items-found : (fault_of : Value → Option CertFaultKind) (all before rest others : List Value) (v : Value) (found : Option CertFaultKind)
     → LeftItems fault_of all before rest → rest ≡ v ∷ others → fault_of v ≡ found
     → first_fault (each_looked fault_of 1 all) ≡ first_fault (at_item (length before + 1) found ∷ each_looked fault_of (length before + 1 + 1) others)
-items-found fault_of all before rest others v found left e f =
-    left ∙ ap (λ (vs : List Value). first_fault (each_looked fault_of (length before + 1) vs)) e
-    ∙ ap (λ (x : Option CertFaultKind). first_fault (at_item (length before + 1) x ∷ each_looked fault_of (length before + 1 + 1) others)) f
+items-found fault_of all before rest others v found left e f = search rules
 
 -- a fault with its parts
 pub fault-parts : (fault : CertFault) (item : ℕ) (kind : CertFaultKind) → item ≡ fault.item → kind ≡ fault.kind → Some (record { item = item; kind = kind }) ≡ Some fault
@@ -163,9 +161,7 @@ items-fault fault_of all before rest others v fault left e f g =
 
 pub items-next : (fault_of : Value → Option CertFaultKind) (all before rest others : List Value) (v : Value)
     → LeftItems fault_of all before rest → rest ≡ v ∷ others → fault_of v ≡ None → LeftItems fault_of all (before ++ v ∷ []) others
-items-next fault_of all before rest others v left e f =
-    items-found fault_of all before rest others v None left e f
-    ∙ ap (λ (n : ℕ). first_fault (each_looked fault_of (n + 1) others)) (sym (length-append before (v ∷ [])))
+items-next fault_of all before rest others v left e f = search (rules, items-found, length-append)
 
 pub items-none : (fault_of : Value → Option CertFaultKind) (all before rest : List Value) → LeftItems fault_of all before rest → rest ≡ [] → first_fault (each_looked fault_of 1 all) ≡ None
 items-none fault_of all before rest left e = left ∙ ap (λ (vs : List Value). first_fault (each_looked fault_of (length before + 1) vs)) e

@@ -1,5 +1,5 @@
 -- A value has no fault as an entry or as an access list exactly where it is one.
-use Rattle.std.proofs.Common.{◌≡◌, ℕ, ◌+◌, List, [], ◌∷◌, ◌++◌, length, arith, Bool, true, false, ◌&&◌, ◌||◌, Option, Some, None, refl, sym, ap, ◌∙◌}
+use Rattle.std.proofs.Common.{◌≡◌, ℕ, ◌+◌, List, [], ◌∷◌, ◌++◌, length, arith, Bool, true, false, ◌&&◌, ◌||◌, Option, Some, None, refl, sym, ap, ◌∙◌, rules}
 use Rattle.std.specs.Prelude.{codes, ◌↔◌, not, if◌then◌else◌}
 use Rattle.std.specs.List.{AllZip}
 use Rattle.sexpr_core.specs.Value.{Value, plain, group}
@@ -68,9 +68,7 @@ module _ (IsOne : Value → Type 0) (timed : TimedBy IsOne) (fields : List Value
 
 pub window-one_way : (fields : List Value) (w : Window) → WindowOf fields w → is_both_ways fields ≡ false
 window-one_way fields w (directly none limits) = ap (λ (b : Bool). b && (has (codes "not-before") fields || has (codes "not-after") fields)) (headed-none (codes "valid") fields none)
-window-one_way fields w (in_valid given first last) =
-    (λ i. has (codes "valid") fields && (headed-none (codes "not-before") fields first i || headed-none (codes "not-after") fields last i))
-    ∙ and-false (has (codes "valid") fields)
+window-one_way fields w (in_valid given first last) = search (rules, headed-none, and-false)
 
 -- ---- entries
 
@@ -225,11 +223,7 @@ begins-well (v ∷ vs) e =
 
 outer-read : (v : Value) → outer_fault v ≡ None → (rest : List Value) × (v ≡ group (plain (codes "acl") ∷ rest)) × BeginsWell rest
 unfolding outer_fault
-outer-read v e =
-    let looks = none-found (unless (is_headed (codes "acl") v) Shape) _ e in
-    let form = is-headed (codes "acl") v (unless-none (is_headed (codes "acl") v) Shape looks.0) in
-    let version = none-found (acl_version_fault (behind_head v)) [] looks.1 in
-    (form.0, form.1, begins-well form.0 (ap acl_version_fault (sym (behind-group v (plain (codes "acl")) form.0 form.1)) ∙ version.0))
+outer-read v e = search (rules, none-found, is-headed, unless-none, begins-well, behind-group)
 
 acl-whole : (v : Value) → acl_fault v ≡ None → SomeList v
 unfolding acl_fault entries_fault

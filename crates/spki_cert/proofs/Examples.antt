@@ -124,7 +124,7 @@ reads = record {
   written = ftp_is_tag;
   spelled = refl;
   few = omega arith;
-  which = refl;
+  value = refl;
   normal = normal-of ftp_host ftp_is_tag;
 }
 

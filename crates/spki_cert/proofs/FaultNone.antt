@@ -1,5 +1,5 @@
 -- A value has no fault as a key, a hash or a date exactly where it is one.
-use Rattle.std.proofs.Common.{◌≡◌, ℕ, List, [], ◌∷◌, length, arith, Bool, true, false, Option, Some, None, refl, sym, ap, ◌∙◌}
+use Rattle.std.proofs.Common.{◌≡◌, ℕ, List, [], ◌∷◌, arith, Bool, true, false, Some, None, refl, sym, ◌∙◌, rules}
 use Rattle.std.specs.Prelude.{codes, ◌↔◌, ◌==◌, is_some, if◌then◌else◌}
 use Rattle.std.specs.Str.{bytes_eq}
 use Rattle.std.proofs.lemmas.Slice.Eq.{bytes_eq-Decides}
@@ -8,12 +8,12 @@ use Rattle.sexpr_core.specs.Value as sexpr
 use Rattle.sexpr_core.specs.Labels.{values-members}
 use Rattle.spki_tag.specs.Time.{is_date}
 use Rattle.spki_tag.specs.FirstFault.{unless}
-use Rattle.spki_cert.specs.declared.fault.CertFaultKind.TheVariants.{Shape, HashAlg as UnknownAlg, DigestLength, BadDate}
+use Rattle.spki_cert.specs.declared.fault.CertFaultKind.TheVariants.{Shape, BadDate}
 use Rattle.spki_cert.specs.declared.hash.HashAlg.{HashAlg}
 use Rattle.spki_cert.specs.declared.hash.HashAlg.TheVariants.{Sha1, Sha256, Sha512}
-use Rattle.spki_cert.specs.Readings.{KeyOf, HashOf, DateOf, IsAlgorithm, AreUris, alg_name, digest_len}
+use Rattle.spki_cert.specs.Readings.{KeyOf, HashOf, DateOf, IsAlgorithm, AreUris, alg_name}
 use Rattle.spki_cert.specs.Fields.{is_headed}
-use Rattle.spki_cert.specs.FixedFaults.{is_plain, any_octets, begins_plain, behind_key, key_fault, is_alg, alg_fault, is_sized, digest_fits, are_uris, hash_fault, date_fault}
+use Rattle.spki_cert.specs.FixedFaults.{is_plain, any_octets, begins_plain, key_fault, is_alg, alg_fault, are_uris, hash_fault, date_fault}
 use Rattle.spki_cert.proofs.Looking.{unless-none, none-found}
 use Rattle.spki_cert.proofs.FixedLaws.{key_looked, key-form, key-whole, named-alg, digest-sized, hash_looked, hash-form, hash-whole, alg-known, date-tested}
 use Rattle.spki_cert.proofs.FieldFaultLaws.{is-headed}
@@ -33,13 +33,8 @@ SomeKey v = (octets : List ℕ) × KeyOf v octets
 
 key-of : (v : Value) (rest : List Value) → v ≡ group (plain (codes "public-key") ∷ rest) → key_looked true rest ≡ None → SomeKey v
 key-of v [] e f = absurd (cc)
-key-of v (body ∷ []) e f =
-    let looks = none-found (unless (begins_plain body) Shape) (None ∷ []) f in
-    (canon v, record { body = body; algorithm = algorithm body (unless-none (begins_plain body) Shape looks.0); written = e; canonical = refl })
-key-of v (body ∷ third ∷ rest) e f = (
-    let looks = none-found (unless (begins_plain body) Shape) (behind_key (third ∷ rest) ∷ []) f in
-    let g = looks.1 in absurd (cc)
-    )
+key-of v (body ∷ []) e f = search (rules, none-found, algorithm, unless-none)
+key-of v (body ∷ third ∷ rest) e f = search (rules, none-found)
 
 key-read : (v : Value) → key_fault v ≡ None → SomeKey v
 unfolding key_fault
@@ -65,9 +60,7 @@ named-read word e = by (bytes_eq word (codes "sha1")) (bytes_eq word (codes "sha
 
 alg-read : (v : Value) → alg_fault v ≡ None → (alg : HashAlg) × (v ≡ plain (alg_name alg))
 unfolding alg_fault
-alg-read (sexpr.string None octets) e =
-    let looks = none-found (unless (is_alg octets) UnknownAlg) [] e in
-    let read = named-read octets (unless-none (is_alg octets) UnknownAlg looks.0) in (read.0, ap plain read.1)
+alg-read (sexpr.string None octets) e = search (rules, none-found, named-read, unless-none)
 alg-read (sexpr.string (Some hint) octets) e = absurd (cc)
 alg-read (sexpr.list vs) e = absurd (cc)
 
@@ -93,27 +86,7 @@ SomeHash v = (alg : HashAlg) × (digest : List ℕ) × HashOf v alg digest
 hash-of : (v : Value) (rest : List Value) → v ≡ group (plain (codes "hash") ∷ rest) → hash_looked true rest ≡ None → SomeHash v
 hash-of v [] e f = absurd (cc)
 hash-of v (word ∷ []) e f = (let g = (none-found (alg_fault word) _ f).1 in absurd (cc))
-hash-of v (word ∷ digest ∷ others) e f =
-    let a = none-found (alg_fault word) _ f in
-    let b = none-found (unless (is_plain any_octets digest) Shape) _ a.1 in
-    let d = none-found (unless (digest_fits (word ∷ digest ∷ others)) DigestLength) _ b.1 in
-    let u = none-found (unless (are_uris others) Shape) [] d.1 in
-    let alg = alg-read word a.0 in
-    let octets = plain-read digest (unless-none (is_plain any_octets digest) Shape b.0) in
-    let fits : (length octets.0 == digest_len alg.0) ≡ true =
-    ap (λ (found : Option HashAlg). is_sized found octets.0) (sym (named-alg alg.0))
-    ∙ (λ i. digest_fits (sym alg.1 i ∷ sym octets.1 i ∷ others))
-    ∙ unless-none (digest_fits (word ∷ digest ∷ others)) DigestLength d.0 in (
-      alg.0,
-      octets.0,
-      record {
-        octets = digest;
-        further = others;
-        written = e ∙ ap (λ (w : Value). group (plain (codes "hash") ∷ w ∷ digest ∷ others)) alg.1;
-        digest_is = record { written = octets.1; sized = sized-read (length octets.0) (digest_len alg.0) fits };
-        uris = uris-read others (unless-none (are_uris others) Shape u.0);
-      },
-    )
+hash-of v (word ∷ digest ∷ others) e f = search (rules, none-found, alg-read, plain-read, unless-none, named-alg, sized-read, uris-read)
 
 hash-read : (v : Value) → hash_fault v ≡ None → SomeHash v
 unfolding hash_fault

@@ -1,5 +1,5 @@
 -- The fault that is named of a field, and of fields one after the other, along the way of their reading.
-use Rattle.std.proofs.Common.{◌≡◌, ◌≢◌, ℕ, List, [], ◌∷◌, ◌++◌, Bool, true, false, Option, Some, None, refl, sym, ap, ◌∙◌, inl, inr}
+use Rattle.std.proofs.Common.{◌≡◌, ◌≢◌, ℕ, List, [], ◌∷◌, ◌++◌, Bool, true, false, Option, Some, None, refl, sym, ap, ◌∙◌, inl, inr, rules}
 use Rattle.std.specs.Prelude.{codes, not, is_some, if◌then◌else◌, ◌||◌, ◌&&◌}
 use Rattle.std.specs.Str.{bytes_eq}
 use Rattle.std.specs.List.{AllByRecursion}
@@ -13,7 +13,6 @@ use Rattle.spki_cert.specs.declared.window.Window.{Window}
 use Rattle.spki_cert.specs.declared.fault.CertFaultKind.{CertFaultKind}
 use Rattle.spki_cert.specs.declared.fault.CertFaultKind.TheVariants.{Shape, UnknownVersion, Online, Memory}
 use Rattle.spki_tag.specs.Read.{ReadsAs}
-use Rattle.spki_cert.specs.Readings.{DateOf}
 use Rattle.spki_cert.specs.Fields.{is_headed, behind_head, contents, Given, Sole, IsLimitField, ValidOf, IsUnread, display, issuer_info, subject_info}
 use Rattle.spki_cert.specs.Places.{sole_fault, unless_none}
 use Rattle.spki_tag.specs.declared.fault.TagFault.{TagFault}
@@ -102,9 +101,7 @@ limit-first v rest e = of-form (λ b vs. limit_looked b (is_headed (codes "not-a
 
 pub limit-last : (v : Value) (rest : List Value) → v ≡ group (plain (codes "not-after") ∷ rest) → limit_fault v ≡ sole_fault Shape date_fault rest
 unfolding limit_fault
-limit-last v rest e =
-    λ i. limit_looked (headed-else (codes "not-after") (codes "not-before") v rest e refl i) (headed-by v (codes "not-after") rest e i) (is_headed (codes "online") v)
-    (behind-group v (plain (codes "not-after")) rest e i)
+limit-last v rest e = search (rules, headed-else, headed-by, behind-group)
 
 limit-neither : (v : Value) (b : Bool) → IsNotHeaded v (codes "not-before") → IsNotHeaded v (codes "not-after") → is_headed (codes "online") v ≡ b
     → limit_fault v ≡ (if b then Some Online else Some Shape)
@@ -165,9 +162,7 @@ left-fault fault_of all before rest others v kind left e f =
 
 pub left-next : (fault_of : Value → Option CertFaultKind) (all before rest others : List Value) (v : Value)
     → Left fault_of all before rest → rest ≡ v ∷ others → first_fault (field_looked fault_of before v) ≡ None → Left fault_of all (before ++ v ∷ []) others
-left-next fault_of all before rest others v left e f =
-    left ∙ ap (λ (vs : List Value). first_fault (fields_looked fault_of before vs)) e
-    ∙ found-none (field_looked fault_of before v) (fields_looked fault_of (before ++ v ∷ []) others) f
+left-next fault_of all before rest others v left e f = search (rules, found-none)
 
 pub left-none : (fault_of : Value → Option CertFaultKind) (all before rest : List Value) → Left fault_of all before rest → rest ≡ [] → fields_fault fault_of all ≡ None
 left-none fault_of all before rest left e = left ∙ ap (λ (vs : List Value). first_fault (fields_looked fault_of before vs)) e
@@ -205,15 +200,11 @@ entry-tag_field v rest e = of-form (λ b vs. entry_looked b (is_headed (codes "p
 
 pub entry-propagate : (v : Value) (rest : List Value) → v ≡ group (plain (codes "propagate") ∷ rest) → entry_field_fault v ≡ unless_none rest Shape
 unfolding entry_field_fault
-entry-propagate v rest e =
-    λ i. entry_looked (headed-else (codes "propagate") (codes "tag") v rest e refl i) (headed-by v (codes "propagate") rest e i) (is_headed (codes "comment") v)
-    (behind-group v (plain (codes "propagate")) rest e i) (time_fault v)
+entry-propagate v rest e = search (rules, headed-else, headed-by, behind-group)
 
 pub entry-comment : (v : Value) (rest : List Value) → v ≡ group (plain (codes "comment") ∷ rest) → entry_field_fault v ≡ None
 unfolding entry_field_fault
-entry-comment v rest e =
-    λ i. entry_looked (headed-else (codes "comment") (codes "tag") v rest e refl i) (headed-else (codes "comment") (codes "propagate") v rest e refl i)
-    (headed-by v (codes "comment") rest e i) (behind_head v) (time_fault v)
+entry-comment v rest e = search (rules, headed-else, headed-by)
 
 pub entry-else : (v : Value) → is_headed (codes "tag") v ≡ false → is_headed (codes "propagate") v ≡ false → is_headed (codes "comment") v ≡ false → entry_field_fault v ≡ time_fault v
 unfolding entry_field_fault
@@ -242,15 +233,11 @@ cert-issuer_field v rest e =
 
 pub cert-subject_field : (v : Value) (rest : List Value) → v ≡ group (plain (codes "subject") ∷ rest) → cert_field_fault v ≡ sole_fault Shape subject_fault rest
 unfolding cert_field_fault
-cert-subject_field v rest e =
-    λ i. cert_looked (headed-else (codes "subject") (codes "issuer") v rest e refl i) (headed-by v (codes "subject") rest e i) (is_headed (codes "version") v) (is_unread v)
-    (behind-group v (plain (codes "subject")) rest e i) (entry_field_fault v)
+cert-subject_field v rest e = search (rules, headed-else, headed-by, behind-group)
 
 pub cert-version_field : (v : Value) (rest : List Value) → v ≡ group (plain (codes "version") ∷ rest) → cert_field_fault v ≡ sole_fault Shape version_fault rest
 unfolding cert_field_fault
-cert-version_field v rest e =
-    λ i. cert_looked (headed-else (codes "version") (codes "issuer") v rest e refl i) (headed-else (codes "version") (codes "subject") v rest e refl i)
-    (headed-by v (codes "version") rest e i) (is_unread v) (behind-group v (plain (codes "version")) rest e i) (entry_field_fault v)
+cert-version_field v rest e = search (rules, headed-else, headed-by, behind-group)
 
 -- a field that isn't looked at, by its head
 unread-word : (word : List ℕ) (v : Value) (rest : List Value) → v ≡ group (plain word ∷ rest)
@@ -311,15 +298,10 @@ unfolding limit_fault
 headless-limit v e = λ i. limit_looked (headless (codes "not-before") v e i) (headless (codes "not-after") v e i) (headless (codes "online") v e i) (behind_head v)
 
 headless-entry : (v : Value) → head_of v ≡ None → entry_field_fault v ≡ Some Shape
-headless-entry v e =
-    entry-else v (headless (codes "tag") v e) (headless (codes "propagate") v e) (headless (codes "comment") v e)
-    ∙ time-limit v (headless (codes "valid") v e) ∙ headless-limit v e
+headless-entry v e = search (rules, entry-else, headless, time-limit, headless-limit)
 
 headless-cert : (v : Value) → head_of v ≡ None → cert_field_fault v ≡ Some Shape
-headless-cert v e =
-    cert-else v (headless (codes "issuer") v e) (headless (codes "subject") v e) (headless (codes "version") v e)
-    (λ i. headless (codes "display") v e i || headless (codes "issuer-info") v e i || headless (codes "subject-info") v e i)
-    ∙ headless-entry v e
+headless-cert v e = search (rules, cert-else, headless, headless-entry)
 
 pub headless-field : (place : Place) (v : Value) → head_of v ≡ None → fault_in place v ≡ Some Shape
 headless-field places.Entry v e = headless-entry v e
@@ -356,10 +338,7 @@ field-is_new before heads k v head read new = again-headed head before v new.res
 -- ---- clashes
 
 pub both-known : (fields : List Value) (k : Known) → KnownOf fields k → is_both_ways fields ≡ (is_some k.valid && (is_some k.limits.not_before || is_some k.limits.not_after))
-both-known fields k known =
-    λ i. has-given (codes "valid") ValidOf fields k.valid known.valid_is i
-    && (has-given (codes "not-before") (Sole DateOf) fields k.limits.not_before known.limits_are.0 i
-    || has-given (codes "not-after") (Sole DateOf) fields k.limits.not_after known.limits_are.1 i)
+both-known fields k known = search (rules, has-given)
 
 both-given : (limits : Window) (valid : Option Window) → IsBothWays limits valid → (is_some valid && (is_some limits.not_before || is_some limits.not_after)) ≡ true
 both-given limits None both = absurd both

@@ -1,5 +1,5 @@
 -- A value has no fault as a limit or as a field, and values have none as fields, exactly where they are.
-use Rattle.std.proofs.Common.{◌≡◌, ℕ, ◌≤◌, List, [], ◌∷◌, ◌++◌, length, append_assoc, arith, Bool, true, false, ◌||◌, Option, Some, None, refl, sym, ap, subst, ◌∙◌, inl, inr}
+use Rattle.std.proofs.Common.{◌≡◌, ℕ, ◌≤◌, List, [], ◌∷◌, ◌++◌, length, append_assoc, arith, Bool, true, false, ◌||◌, Option, Some, None, refl, sym, ap, subst, ◌∙◌, inl, inr, rules}
 use Rattle.std.specs.Prelude.{codes, ◌↔◌, not, if◌then◌else◌}
 use Rattle.std.specs.List.{AllByRecursion}
 use Rattle.std.proofs.lemmas.Slice.Eq.{bytes_eq-Decides}
@@ -14,7 +14,7 @@ use Rattle.spki_tag.specs.FirstFault.{first_fault, unless}
 use Rattle.spki_tag.proofs.Faultless.{tag_none_exactly}
 use Rattle.spki_tag.proofs.NormalOf.{normal-of}
 use Rattle.spki_cert.specs.declared.fault.CertFaultKind.{CertFaultKind}
-use Rattle.spki_cert.specs.declared.fault.CertFaultKind.TheVariants.{Shape, UnknownVersion, Online}
+use Rattle.spki_cert.specs.declared.fault.CertFaultKind.TheVariants.{Shape, Online}
 use Rattle.spki_cert.specs.declared.principal.Principal.{Principal}
 use Rattle.spki_cert.specs.declared.window.Window.{Window}
 use Rattle.spki_cert.specs.Readings.{DateOf}
@@ -23,7 +23,7 @@ use Rattle.spki_cert.specs.Fields.{is_headed, behind_head, contents, Sole, Given
 use Rattle.spki_cert.specs.Places.{sole_fault, unless_none}
 use Rattle.spki_cert.specs.FixedFaults.{date_fault}
 use Rattle.spki_cert.specs.SubjectFaults.{subject_fault, issuer_fault}
-use Rattle.spki_cert.specs.FieldFaults.{is_again, fields_looked, fields_fault, is_zero, version_fault, limit_fault, time_fault, as_tag, kind_of_tag, entry_field_fault, is_unread, cert_field_fault}
+use Rattle.spki_cert.specs.FieldFaults.{is_again, fields_looked, fields_fault, version_fault, limit_fault, time_fault, as_tag, kind_of_tag, entry_field_fault, is_unread, cert_field_fault}
 use Rattle.spki_cert.specs.declared.fields.Place.{Place}
 use Rattle.spki_cert.specs.declared.fields.Place.TheVariants as places
 use Rattle.spki_cert.specs.Inner.Gathering.{is_word_among, fault_in, IsFieldOf}
@@ -34,7 +34,7 @@ use Rattle.spki_cert.proofs.KnownLaws.{none-headed, headed-none}
 use Rattle.spki_cert.proofs.FieldLaws.{HasHead, field-word, cert-word, HeadAmong, other-word, time_words, field_words, time-head, field-head}
 use Rattle.spki_cert.proofs.ValidLaws.{first-limit, last-limit}
 use Rattle.spki_cert.proofs.FieldFaultLaws as faults
-use Rattle.spki_cert.proofs.FieldFaultLaws.{is-headed, has-given, again-headed, version-zero, limit-first, limit-last, entry-tag_field, entry-propagate, entry-comment, entry-else, cert-issuer_field, cert-subject_field, cert-version_field, cert-unread, cert-else}
+use Rattle.spki_cert.proofs.FieldFaultLaws.{is-headed, again-headed, version-zero, limit-first, limit-last, entry-tag_field, entry-propagate, entry-comment, entry-else, cert-issuer_field, cert-subject_field, cert-version_field, cert-unread, cert-else}
 use Rattle.spki_cert.proofs.FaultNone.{date-none}
 use Rattle.spki_cert.proofs.SubjectFaultNone.{subject-none, issuer-none}
 
@@ -48,9 +48,7 @@ sole-faultless other fault_of R whole vs b read = sole-one other fault_of vs [] 
 
 pub version-read : (v : Value) → version_fault v ≡ None → v ≡ plain (codes "0")
 unfolding version_fault
-version-read (sexpr.string None octets) e =
-    let looks = none-found (unless (is_zero octets) UnknownVersion) [] e in
-    ap plain ((bytes_eq-Decides octets (codes "0")).0 (unless-none (is_zero octets) UnknownVersion looks.0))
+version-read (sexpr.string None octets) e = search (rules, none-found, bytes_eq-Decides, unless-none)
 version-read (sexpr.string (Some hint) octets) e = absurd (cc)
 version-read (sexpr.list vs) e = absurd (cc)
 
@@ -60,9 +58,7 @@ abbrev SomeDateIn : List Value → Type 0
 SomeDateIn rest = (date : List ℕ) × Sole DateOf rest date
 
 dates-read : (rest : List Value) → sole_fault Shape date_fault rest ≡ None → SomeDateIn rest
-dates-read rest e =
-    let sole = sole-read Shape date_fault rest e in
-    let date = (date-none sole.0).0 sole.2 in (date.0, (sole.0, sole.1, date.1))
+dates-read rest e = search (rules, sole-read, date-none)
 
 dates-faultless : (rest : List Value) (date : List ℕ) → Sole DateOf rest date → sole_fault Shape date_fault rest ≡ None
 dates-faultless rest date read = sole-faultless Shape date_fault DateOf (λ v d this. (date-none v).1 (d, this)) rest date read
@@ -203,7 +199,7 @@ tag-read v e = by (tag_fault v) refl
     by : (found : Option TagFault) → tag_fault v ≡ found → (t : tags.Tag) × ReadsAs v t
     by None f =
         let w = (tag_none_exactly v).0 f in
-        (normal w.0, record { w = w.0; written = w.1; spelled = w.2; few = w.3; which = refl; normal = normal-of w.0 w.1 })
+        (normal w.0, record { w = w.0; written = w.1; spelled = w.2; few = w.3; value = refl; normal = normal-of w.0 w.1 })
     by (Some fault) f = absurd (let g = sym (ap as_tag f) ∙ e in cc)
 
 tag-found : (v : Value) (t : tags.Tag) → ReadsAs v t → kind_of_tag v ≡ None

@@ -1,5 +1,5 @@
 -- Which fields there are, by their heads.
-use Rattle.std.proofs.Common.{◌≡◌, ℕ, inl, inr, true, false, List, [], ◌∷◌, Option, refl, sym, ap, subst, ◌∙◌}
+use Rattle.std.proofs.Common.{◌≡◌, ℕ, inl, inr, true, false, List, [], ◌∷◌, Option, refl, ap, subst, ◌∙◌, rules}
 use Rattle.std.specs.Prelude.{codes}
 use Rattle.sexpr_core.specs.Value.{Value, plain, group}
 use Rattle.spki_tag.specs.Tag as tags
@@ -20,9 +20,7 @@ HeadAmong words v = (word : List ℕ) × (rest : List Value) × (v ≡ group (pl
 
 -- its head is no other word
 pub other-word : (words : List (List ℕ)) (v : Value) (word : List ℕ) (rest : List Value) → v ≡ group (plain word ∷ rest) → is_word_among words word ≡ false → HeadAmong words v → ⊥
-other-word words v word rest e unknown among =
-    let same : among.0 ≡ word = head-same v among.0 word among.1 among.2 (headed-by v word rest e) in
-    absurd (let f : true ≡ false = sym among.3 ∙ ap (is_word_among words) same ∙ unknown in cc)
+other-word words v word rest e unknown among = search (rules, head-same, headed-by)
 
 abbrev pub time_words : List (List ℕ)
 time_words = codes "not-before" ∷ codes "not-after" ∷ codes "valid" ∷ []

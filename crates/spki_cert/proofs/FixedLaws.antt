@@ -1,9 +1,9 @@
 -- The fault that is named of a key, a hash or a date, along the way of its reading.
-use Rattle.std.proofs.Common.{◌≡◌, ◌≢◌, ℕ, List, [], ◌∷◌, ◌++◌, length, drop, arith, Bool, true, false, Option, Some, None, refl, sym, ap, ◌∙◌}
+use Rattle.std.proofs.Common.{◌≡◌, ◌≢◌, ℕ, List, [], ◌∷◌, ◌++◌, length, drop, arith, Bool, true, false, Option, Some, None, refl, sym, ap, ◌∙◌, rules}
 use Rattle.std.specs.Prelude.{codes, is_some, if◌then◌else◌, ◌==◌}
 use Rattle.std.specs.Str.{bytes_eq}
 use Rattle.std.proofs.lemmas.Slice.Eq.{bytes_eq-Decides}
-use Rattle.sexpr_core.specs.Value.{Value, plain, group, members, values}
+use Rattle.sexpr_core.specs.Value.{Value, plain, group, members}
 use Rattle.sexpr_core.specs.Value as sexpr
 use Rattle.sexpr_core.specs.Labels.{values-members}
 use Rattle.sexpr_core.specs.Shapes.{IsNoString, IsNotHeaded}
@@ -119,9 +119,7 @@ alg-hinted v hint octets e = ap (λ (w : Value). first_fault (unless (is_string 
 
 alg-plain : (v : Value) (octets : List ℕ) (found : Option HashAlg) → v ≡ plain octets → alg_named octets ≡ found → alg_fault v ≡ first_fault (None ∷ unless (is_some found) UnknownAlg ∷ [])
 unfolding alg_fault
-alg-plain v octets found e f =
-    ap (λ (w : Value). first_fault (unless (is_string w) Shape ∷ unless (is_plain is_alg w) UnknownAlg ∷ [])) e
-    ∙ ap (λ (x : Option HashAlg). first_fault (None ∷ unless (is_some x) UnknownAlg ∷ [])) f
+alg-plain v octets found e f = search rules
 
 pub alg-other : (v : Value) (octets : List ℕ) → v ≡ plain octets → ((alg : HashAlg) → octets ≢ alg_name alg) → alg_fault v ≡ Some UnknownAlg
 alg-other v octets e other = alg-plain v octets None e (named-no_alg octets other)
@@ -223,19 +221,9 @@ hash-surplus v word digest rest more others alg e f g h i other = hash-sized v w
 
 -- ---- digests
 
-pub digest-hinted : (alg : HashAlg) (v : Value) → IsNoString v → digest_fault alg v ≡ Some Shape
-digest-hinted alg v other = ap (λ (b : Bool). first_fault (unless b Shape ∷ unless (is_plain (is_sized (Some alg)) v) DigestLength ∷ [])) (no-plain any_octets v other)
-
 pub sized-eq : (m n : ℕ) → m ≡ n → (m == n) ≡ true
 sized-eq m n e = grind (arith, e)
-
-sized-apart : (m n : ℕ) → m ≢ n → (m == n) ≡ false
-sized-apart m n other = grind (arith, other)
 
 pub digest-sized : (alg : HashAlg) (v : Value) (octets : List ℕ) → v ≡ plain octets → length octets ≡ digest_len alg → digest_fault alg v ≡ None
 digest-sized alg v octets e f =
     ap (digest_fault alg) e ∙ ap (λ (b : Bool). first_fault (None ∷ unless b DigestLength ∷ [])) (sized-eq (length octets) (digest_len alg) f)
-
-pub digest-missized : (alg : HashAlg) (v : Value) (octets : List ℕ) → v ≡ plain octets → length octets ≢ digest_len alg → digest_fault alg v ≡ Some DigestLength
-digest-missized alg v octets e other =
-    ap (digest_fault alg) e ∙ ap (λ (b : Bool). first_fault (None ∷ unless b DigestLength ∷ [])) (sized-apart (length octets) (digest_len alg) other)

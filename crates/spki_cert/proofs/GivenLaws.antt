@@ -1,6 +1,5 @@
 -- What fields say, one field after the other.
-use Rattle.std.proofs.Common.{◌≡◌, ℕ, ◌+◌, ◌≤◌, Bool, true, false, cond, List, [], ◌∷◌, ◌++◌, length, Option, Some, None, refl, ap, ◌∙◌, arith, length-append}
-use Rattle.std.specs.Prelude.{is_some}
+use Rattle.std.proofs.Common.{◌≡◌, ℕ, ◌+◌, ◌≤◌, Bool, true, false, cond, List, [], ◌∷◌, ◌++◌, length, Option, Some, None, refl, ap, ◌∙◌, arith, length-append, rules}
 use Rattle.std.specs.List.{AllByRecursion}
 use Rattle.sexpr_core.specs.Value.{Value}
 use Rattle.spki_cert.specs.Fields.{is_headed, behind_head, contents, AreOnce, Given}
@@ -23,9 +22,7 @@ cond-append false c xs ys = refl
 
 pub contents-append : (word : List ℕ) (xs ys : List Value) → contents word (xs ++ ys) ≡ contents word xs ++ contents word ys
 contents-append word [] ys = refl
-contents-append word (x ∷ xs) ys =
-    ap (λ (zs : List (List Value)). cond (is_headed word x) (behind_head x ∷ zs) zs) (contents-append word xs ys)
-    ∙ cond-append (is_headed word x) (behind_head x) (contents word xs) (contents word ys)
+contents-append word (x ∷ xs) ys = search (rules, cond-append, contents-append word xs ys)
 
 pub contents-headed : (word : List ℕ) (v : Value) (vs : List Value) → is_headed word v ≡ true → contents word (v ∷ vs) ≡ behind_head v ∷ contents word vs
 contents-headed word v vs e = ap (λ (b : Bool). cond b (behind_head v ∷ contents word vs) (contents word vs)) e
@@ -80,12 +77,6 @@ given-kept word R xs v (Some a) e given = (given.0, contents-kept word xs v e �
 pub given-first : {A : Type 0} (word : List ℕ) (R : List Value → A → Type 0) (xs : List Value) (v : Value) (rest : List Value) (a : A)
     → is_headed word v ≡ true → behind_head v ≡ rest → R rest a → contents word xs ≡ [] → Given word R (xs ++ v ∷ []) (Some a)
 given-first word R xs v rest a e f read none = (rest, contents-first word xs v e none ∙ ap (λ (c : List Value). c ∷ []) f, read)
-
--- what is given isn't nothing
-pub given-some : {A : Type 0} (word : List ℕ) (R : List Value → A → Type 0) (xs : List Value) (o : Option A)
-    → Given word R xs o → is_some o ≡ true → contents word xs ≡ [] → ⊥
-given-some word R xs None given e none = absurd cc
-given-some word R xs (Some a) given e none = absurd (let f = given.1 in cc)
 
 -- where nothing stands, nothing is given
 pub given-none : {A : Type 0} (word : List ℕ) (R : List Value → A → Type 0) (xs : List Value) (o : Option A)

@@ -4,7 +4,7 @@ use Rattle.std.specs.Str.{bytes_eq}
 use Rattle.sexpr_core.specs.Shapes.{IsNotHeaded}
 use Rattle.std.proofs.lemmas.Slice.Eq.{bytes_eq-Decides}
 use Rattle.spki_cert.specs.Fields.{is_headed, behind_head}
-use Rattle.sexpr_core.specs.Value.{Value, plain, group, members, values}
+use Rattle.sexpr_core.specs.Value.{Value, plain, group, members}
 use Rattle.sexpr_core.specs.Value as sexpr
 use Rattle.sexpr_core.specs.Labels.{members-values, values-members}
 

@@ -2,7 +2,6 @@
 use Rattle.std.proofs.Common.{◌≡◌, ℕ, List, [], ◌∷◌, drop, Bool, true, false, Option, Some, None, refl, sym, ap, ◌∙◌}
 use Rattle.std.specs.Prelude.{codes, not}
 use Rattle.std.specs.Str.{bytes_eq}
-use Rattle.std.proofs.lemmas.Slice.Eq.{bytes_eq-Decides}
 use Rattle.sexpr_core.specs.Value.{Value, plain, group}
 use Rattle.sexpr_core.specs.Shapes.{IsNoString, IsNotHeaded}
 use Rattle.spki_tag.specs.FirstFault.{first_fault, unless}
@@ -86,11 +85,3 @@ pub do-whole : (v operation alg : Value) (rest more end : List Value) → IsDone
     → more ≡ alg ∷ end → alg_fault alg ≡ None → end ≡ [] → do_fault v ≡ None
 do-whole v operation alg rest more end e f g h i j =
     do-alg v operation alg rest more end None e f g h i ∙ ap (λ (vs : List Value). first_fault (unless_none vs Shape ∷ [])) j
-
--- two octets that are tested
-pub same-word : (octets word hash : List ℕ) → false ≡ not (bytes_eq octets word) → word ≡ hash → octets ≡ hash
-same-word octets word hash e f = (bytes_eq-Decides octets word).0 (by (bytes_eq octets word) e) ∙ f
-  where
-    by : (b : Bool) → false ≡ not b → b ≡ true
-    by true x = refl
-    by false x = absurd (cc)

@@ -1,7 +1,6 @@
--- A value has no fault as a signature, an operation, a certificate, an item or a sequence exactly where it is one.
-use Rattle.std.proofs.Common.{◌≡◌, ℕ, ◌+◌, ◌⊎◌, inl, inr, List, [], ◌∷◌, ◌++◌, Bool, true, false, ◌||◌, Option, Some, None, refl, sym, ap, subst, ◌∙◌}
-use Rattle.std.specs.Prelude.{codes, ◌↔◌, not, is_some, if◌then◌else◌}
-use Rattle.std.specs.List.{AllZip}
+-- A value has no fault as a signature, an operation or a certificate exactly where it is one.
+use Rattle.std.proofs.Common.{◌≡◌, ℕ, ◌⊎◌, inl, inr, List, [], ◌∷◌, ◌++◌, Bool, true, false, Option, Some, None, refl, sym, ap, ◌∙◌, rules}
+use Rattle.std.specs.Prelude.{codes, ◌↔◌, not, is_some}
 use Rattle.std.proofs.lemmas.Slice.Eq.{bytes_eq-Decides}
 use Rattle.sexpr_core.specs.Value.{Value, plain, group, canon}
 use Rattle.sexpr_core.specs.Value as sexpr
@@ -9,45 +8,38 @@ use Rattle.spki_tag.specs.Tag as tags
 use Rattle.spki_tag.specs.Read.{ReadsAs}
 use Rattle.spki_tag.specs.FirstFault.{first_fault, unless}
 use Rattle.spki_cert.specs.declared.hash.HashAlg.{HashAlg}
-use Rattle.spki_cert.specs.declared.fault.CertFault.{CertFault}
-use Rattle.spki_cert.specs.declared.fault.CertFaultKind.TheVariants.{Shape, UnknownOp, UnsignedCert, StraySignature}
+use Rattle.spki_cert.specs.declared.fault.CertFaultKind.TheVariants.{Shape, UnknownOp}
 use Rattle.spki_cert.specs.declared.principal.Principal.{Principal}
 use Rattle.spki_cert.specs.declared.entry.Subject.{Subject}
 use Rattle.spki_cert.specs.declared.certificate.AuthCert.{AuthCert}
 use Rattle.spki_cert.specs.declared.certificate.NameCert.{NameCert}
 use Rattle.spki_cert.specs.declared.certificate.Signature.{Signature}
-use Rattle.spki_cert.specs.declared.certificate.SeqItem.{SeqItem}
-use Rattle.spki_cert.specs.declared.certificate.SeqItem.TheVariants as items
 use Rattle.spki_cert.specs.declared.certificate_reader.CertParts.{CertParts}
 use Rattle.spki_cert.specs.Readings.{alg_name}
 use Rattle.spki_cert.specs.Subjects.{WhoOf, IssuedTo}
-use Rattle.spki_cert.specs.Fields.{is_headed, behind_head, Sole, Given, propagate, tag, time, comment, IsCertField, common, version, issuer, subject, unread, display, issuer_info, subject_info, IssuerIn, WhoIn, propagates}
+use Rattle.spki_cert.specs.Fields.{is_headed, Sole, Given, propagate, tag, time, comment, IsCertField, common, version, issuer, subject, unread, display, issuer_info, subject_info, IssuerIn, WhoIn, propagates}
 use Rattle.spki_cert.specs.Certificates.{IssuedBy, IssuedFor, AuthCertOf, NameCertOf, SignatureOf, DoHashOf}
-use Rattle.spki_cert.specs.Sequences.{ItemOf, SeqOf, IsInPlace, AreInPlace, waits_behind, waits_after}
-use Rattle.spki_cert.specs.FixedFaults.{is_plain, key_fault, alg_fault}
+use Rattle.spki_cert.specs.FixedFaults.{is_plain, alg_fault}
 use Rattle.spki_cert.specs.FieldFaults.{has, fields_fault, cert_field_fault, is_both_ways}
-use Rattle.spki_cert.specs.EntryFaults.{at_item}
-use Rattle.spki_cert.specs.ItemFaults.{signature_fault, do_fault, cert_fault, item_fault, is_hash_word, is_tagged_right}
-use Rattle.spki_cert.specs.SequenceFaults.{place_fault, waiting, items_looked, items_fault, sequence_fault}
+use Rattle.spki_cert.specs.ItemFaults.{signature_fault, do_fault, cert_fault, is_hash_word, is_tagged_right}
 use Rattle.spki_cert.specs.Inner.Gathering.{PartsOf, parts_looked, parts_fault}
-use Rattle.spki_cert.proofs.Groups.{behind-group}
 use Rattle.spki_cert.proofs.Looking.{unless-none, none-found}
 use Rattle.spki_cert.proofs.FieldLaws.{other-word, field-tag, cert-issuer, cert-subject}
 use Rattle.spki_cert.proofs.FieldFaultLaws.{is-headed, has-given}
 use Rattle.spki_cert.proofs.Triples.{triple-read, triple-whole}
 use Rattle.spki_cert.proofs.ItemFaultLaws.{signature-looks, do-form, do-whole}
-use Rattle.spki_cert.proofs.SequenceFaultLaws.{parts-tested, cert-form, cert-tagged, tagged-right, right, item-cert, item-signature, item-do, sequence-items}
-use Rattle.spki_cert.proofs.FaultNone.{key-none, hash-none, alg-none}
+use Rattle.spki_cert.proofs.SequenceFaultLaws.{parts-tested, cert-form, cert-tagged, tagged-right, right}
+use Rattle.spki_cert.proofs.FaultNone.{hash-none, alg-none}
 use Rattle.spki_cert.proofs.SubjectFaultNone.{principal-none}
 use Rattle.spki_cert.proofs.FieldFaultNone.{again-false, given-read, cert_fields-none}
-use Rattle.spki_cert.proofs.EntryFaultNone.{untimed_words, TimedBy, window-read, window-one_way, some-given, at-none}
+use Rattle.spki_cert.proofs.EntryFaultNone.{untimed_words, TimedBy, window-read, window-one_way, some-given}
 
 -- ---- signatures
 
 abbrev SomeSignature : Value → Type 0
 SomeSignature v = (s : Signature) × SignatureOf v s
 
-signature-read : (v : Value) → signature_fault v ≡ None → SomeSignature v
+pub signature-read : (v : Value) → signature_fault v ≡ None → SomeSignature v
 signature-read v e =
     let three = triple-read signature-looks v e in
     let hash = (hash-none three.first).0 three.first_is in
@@ -64,10 +56,8 @@ signature-read v e =
       },
     )
 
-signature-faultless : (v : Value) (s : Signature) → SignatureOf v s → signature_fault v ≡ None
-signature-faultless v s read =
-    triple-whole signature-looks v read.digest read.signer read.value (read.digest ∷ read.signer ∷ read.value ∷ []) (read.signer ∷ read.value ∷ []) (read.value ∷ []) [] read.written refl
-    ((hash-none read.digest).1 (s.alg, s.digest, read.digest_is)) refl ((principal-none read.signer).1 (s.signer, read.signer_is)) refl refl
+pub signature-faultless : (v : Value) (s : Signature) → SignatureOf v s → signature_fault v ≡ None
+signature-faultless v s read = search (rules, triple-whole, signature-looks, hash-none, principal-none)
 
 pub signature-none : (v : Value) → (signature_fault v ≡ None) ↔ SomeSignature v
 signature-none v = (signature-read v, λ some. signature-faultless v some.0 some.1)
@@ -97,14 +87,11 @@ do-of v (operation ∷ word ∷ other ∷ more) e f =
     let h = (none-found (alg_fault word) _ g).1 in cc
     )
 
-do-read : (v : Value) → do_fault v ≡ None → SomeDo v
+pub do-read : (v : Value) → do_fault v ≡ None → SomeDo v
 unfolding do_fault
-do-read v e =
-    let looks = none-found (unless (is_headed (codes "do") v) Shape) _ e in
-    let form = is-headed (codes "do") v (unless-none (is_headed (codes "do") v) Shape looks.0) in
-    do-of v form.0 form.1 e
+do-read v e = search (rules, none-found, is-headed, unless-none, do-of)
 
-do-faultless : (v : Value) (alg : HashAlg) → DoHashOf v alg → do_fault v ≡ None
+pub do-faultless : (v : Value) (alg : HashAlg) → DoHashOf v alg → do_fault v ≡ None
 do-faultless v alg read =
     do-whole v (plain (codes "hash")) (plain (alg_name alg)) (plain (codes "hash") ∷ plain (alg_name alg) ∷ []) (plain (alg_name alg) ∷ []) [] read refl refl refl
     ((alg-none (plain (alg_name alg))).1 (alg, refl)) refl
@@ -189,7 +176,7 @@ parts-faultless fields p parts =
 
 -- ---- certificates
 
-abbrev SomeCert : Value → Type 0
+abbrev pub SomeCert : Value → Type 0
 SomeCert v = ((c : AuthCert) × AuthCertOf v c) ⊎ ((c : NameCert) × NameCertOf v c)
 
 none-append : {A : Type 0} (looks more : List (Option A)) → first_fault (looks ++ more) ≡ None → (first_fault looks ≡ None) × (first_fault more ≡ None)
@@ -238,7 +225,7 @@ cert-of v fields e p parts is =
           },
         )
 
-cert-read : (v : Value) → cert_fault v ≡ None → SomeCert v
+pub cert-read : (v : Value) → cert_fault v ≡ None → SomeCert v
 unfolding cert_fault parts_fault
 cert-read v e =
     let looks = none-found (unless (is_headed (codes "cert") v) Shape) _ e in
@@ -253,7 +240,7 @@ cert-parts : (v : Value) (fields : List Value) (p : CertParts) → v ≡ group (
 cert-parts v fields p e parts is =
     cert-tagged v fields true e (parts-faultless fields p parts) (tagged-right fields p (is_some p.issuer.name) (is_some p.tag) p.propagate parts refl refl refl ∙ is)
 
-auth-faultless : (v : Value) (c : AuthCert) → AuthCertOf v c → cert_fault v ≡ None
+pub auth-faultless : (v : Value) (c : AuthCert) → AuthCertOf v c → cert_fault v ≡ None
 auth-faultless v c read =
     cert-parts v read.fields
     (record { issuer = record { principal = c.issuer; name = None }; subject = c.subject; propagate = c.propagate; tag = Some c.tag; window = c.window })
@@ -268,7 +255,7 @@ auth-faultless v c read =
     })
     refl
 
-name-faultless : (v : Value) (c : NameCert) → NameCertOf v c → cert_fault v ≡ None
+pub name-faultless : (v : Value) (c : NameCert) → NameCertOf v c → cert_fault v ≡ None
 name-faultless v c read =
     cert-parts v read.fields
     (record { issuer = record { principal = c.issuer; name = Some c.name }; subject = c.subject; propagate = false; tag = None; window = c.window })
@@ -289,124 +276,3 @@ cert-faultless v (inr (c, read)) = name-faultless v c read
 
 pub cert-none : (v : Value) → (cert_fault v ≡ None) ↔ SomeCert v
 cert-none v = (cert-read v, cert-faultless v)
-
--- ---- items
-
-abbrev SomeItem : Value → Type 0
-SomeItem v = (item : SeqItem) × ItemOf v item
-
-pub item-by : (v : Value) (cert signature operation : Bool) → is_headed (codes "cert") v ≡ cert → is_headed (codes "signature") v ≡ signature → is_headed (codes "do") v ≡ operation
-    → item_fault v ≡ (if cert then cert_fault v else (if signature then signature_fault v else (if operation then do_fault v else key_fault v)))
-unfolding item_fault
-item-by v cert signature operation e f g = λ i. if e i then cert_fault v else (if f i then signature_fault v else (if g i then do_fault v else key_fault v))
-
-cert-item : (v : Value) → SomeCert v → SomeItem v
-cert-item v (inl (c, read)) = (items.Auth c, read)
-cert-item v (inr (c, read)) = (items.Name c, read)
-
-item-read : (v : Value) → item_fault v ≡ None → SomeItem v
-item-read v e = by (is_headed (codes "cert") v) (is_headed (codes "signature") v) (is_headed (codes "do") v) refl refl refl
-  where
-    by : (cert signature operation : Bool) → is_headed (codes "cert") v ≡ cert → is_headed (codes "signature") v ≡ signature → is_headed (codes "do") v ≡ operation → SomeItem v
-    by true signature operation f g h = cert-item v (cert-read v (sym (item-by v true signature operation f g h) ∙ e))
-    by false true operation f g h = let read = signature-read v (sym (item-by v false true operation f g h) ∙ e) in (items.Signature read.0, read.1)
-    by false false true f g h = let read = do-read v (sym (item-by v false false true f g h) ∙ e) in (items.DoHash read.0, read.1)
-    by false false false f g h = let read = (key-none v).0 (sym (item-by v false false false f g h) ∙ e) in (items.Key read.0, read.1)
-
-item-faultless : (v : Value) (item : SeqItem) → ItemOf v item → item_fault v ≡ None
-item-faultless v (items.Key octets) read =
-    item-by v false false false (ap (is_headed (codes "cert")) read.written) (ap (is_headed (codes "signature")) read.written) (ap (is_headed (codes "do")) read.written)
-    ∙ (key-none v).1 (octets, read)
-item-faultless v (items.DoHash alg) read = item-do v (plain (codes "hash") ∷ plain (alg_name alg) ∷ []) read ∙ do-faultless v alg read
-item-faultless v (items.Auth c) read = item-cert v read.fields read.written ∙ auth-faultless v c read
-item-faultless v (items.Name c) read = item-cert v read.fields read.written ∙ name-faultless v c read
-item-faultless v (items.Signature s) read = item-signature v (read.digest ∷ read.signer ∷ read.value ∷ []) read.written ∙ signature-faultless v s read
-
-pub item-none : (v : Value) → (item_fault v ≡ None) ↔ SomeItem v
-item-none v = (item-read v, λ some. item-faultless v some.0 some.1)
-
--- ---- items in their places
-
--- this fault, where a signature stands
-abbrev stray : Bool → CertFault → Option CertFault
-stray signature fault = if signature then Some fault else None
-
--- this fault, where neither a signature nor an operation stands
-abbrev unsigned : Bool → Bool → CertFault → Option CertFault
-unsigned signature operation fault = if signature || operation then None else Some fault
-
-stray-read : (signature : Bool) (fault : CertFault) → stray signature fault ≡ None → signature ≡ false
-stray-read true fault e = absurd (cc)
-stray-read false fault e = refl
-
-unsigned-read : (signature operation : Bool) (fault : CertFault) → unsigned signature operation fault ≡ None → (operation ≡ true) ⊎ (signature ≡ true)
-unsigned-read true operation fault e = inr refl
-unsigned-read false true fault e = inl refl
-unsigned-read false false fault e = absurd (cc)
-
-unsigned-found : (signature operation : Bool) (fault : CertFault) → (operation ≡ true) ⊎ (signature ≡ true) → unsigned signature operation fault ≡ None
-unsigned-found true operation fault e = refl
-unsigned-found false true fault e = refl
-unsigned-found false false fault (inl e) = absurd (cc)
-unsigned-found false false fault (inr e) = absurd (cc)
-
-place-read : (waits : Option ℕ) (n : ℕ) (v : Value) → place_fault waits n v ≡ None → IsInPlace (is_some waits) v
-place-read None n v e = stray-read (is_headed (codes "signature") v) (record { item = n; kind = StraySignature }) e
-place-read (Some k) n v e = unsigned-read (is_headed (codes "signature") v) (is_headed (codes "do") v) (record { item = k; kind = UnsignedCert }) e
-
-place-found : (waits : Option ℕ) (n : ℕ) (v : Value) → IsInPlace (is_some waits) v → place_fault waits n v ≡ None
-place-found None n v place = ap (λ (b : Bool). stray b (record { item = n; kind = StraySignature })) place
-place-found (Some k) n v place = unsigned-found (is_headed (codes "signature") v) (is_headed (codes "do") v) (record { item = k; kind = UnsignedCert }) place
-
-waits-same : (v : Value) (waits : Option ℕ) (n : ℕ) → is_some (waiting v waits n) ≡ waits_behind (is_some waits) v
-waits-same v waits n = by (is_headed (codes "cert") v) (is_headed (codes "signature") v)
-  where
-    by : (a b : Bool) → is_some (if a then Some n else (if b then None else waits)) ≡ (if a then true else (if b then false else is_some waits))
-    by true b = refl
-    by false true = refl
-    by false false = refl
-
-abbrev SomeItems : Bool → List Value → Type 0
-SomeItems waits vs = (is : List SeqItem) × AllZip ItemOf vs is × AreInPlace waits vs × (waits_after waits vs ≡ false)
-
-items-read : (waits : Option ℕ) (n : ℕ) (vs : List Value) → first_fault (items_looked waits n vs) ≡ None → SomeItems (is_some waits) vs
-items-read None n [] e = ([], tt, tt, refl)
-items-read (Some k) n [] e = absurd (cc)
-items-read waits n (v ∷ vs) e =
-    let place = none-found (place_fault waits n v) _ e in
-    let looks = none-found (at_item n (item_fault v)) _ place.1 in
-    let this = item-read v (at-none n (item_fault v) looks.0) in
-    let more = subst (λ (b : Bool). SomeItems b vs) (waits-same v waits n) (items-read (waiting v waits n) (n + 1) vs looks.1) in
-    (this.0 ∷ more.0, (this.1, more.1), (place-read waits n v place.0, more.2), more.3)
-
-items-found : (waits : Option ℕ) (n : ℕ) (vs : List Value) → SomeItems (is_some waits) vs → first_fault (items_looked waits n vs) ≡ None
-items-found None n [] some = refl
-items-found (Some k) n [] some = absurd (let f = some.3 in cc)
-items-found waits n (v ∷ vs) ([], zip, places, after) = absurd zip
-items-found waits n (v ∷ vs) (x ∷ xs, zip, places, after) =
-    (λ i. first_fault (place-found waits n v places.0 i ∷ at_item n (item-faultless v x zip.0 i) ∷ items_looked (waiting v waits n) (n + 1) vs))
-    ∙ items-found (waiting v waits n) (n + 1) vs (subst (λ (b : Bool). SomeItems b vs) (sym (waits-same v waits n)) (xs, zip.1, places.1, after))
-
--- ---- sequences
-
-abbrev SomeSequence : Value → Type 0
-SomeSequence v = (is : List SeqItem) × SeqOf v is
-
-sequence-read : (v : Value) → sequence_fault v ≡ None → SomeSequence v
-unfolding sequence_fault items_fault
-sequence-read v e =
-    let looks = none-found (at_item 0 (unless (is_headed (codes "sequence") v) Shape)) _ e in
-    let items = none-found (items_fault (behind_head v)) [] looks.1 in
-    let form = is-headed (codes "sequence") v (unless-none (is_headed (codes "sequence") v) Shape (at-none 0 (unless (is_headed (codes "sequence") v) Shape) looks.0)) in
-    let read = items-read None 1 form.0 (ap items_fault (sym (behind-group v (plain (codes "sequence")) form.0 form.1)) ∙ items.0) in
-    (read.0, record { values = form.0; written = form.1; each = read.1; in_place = read.2; all_signed = read.3 })
-
-sequence-faultless : (v : Value) (is : List SeqItem) → SeqOf v is → sequence_fault v ≡ None
-unfolding items_fault
-sequence-faultless v is read = sequence-items v read.values None read.written (items-found None 1 read.values (is, read.each, read.in_place, read.all_signed))
-
-pub sequence-none : (v : Value) → (sequence_fault v ≡ None) ↔ SomeSequence v
-sequence-none v = (sequence-read v, λ some. sequence-faultless v some.0 some.1)
-
-pub sequence-refused : (v : Value) (fault : CertFault) → sequence_fault v ≡ Some fault → (is : List SeqItem) → SeqOf v is → ⊥
-sequence-refused v fault e is read = absurd (let f = sym (sequence-faultless v is read) ∙ e in cc)

@@ -1,7 +1,6 @@
 -- What is known of fields that were read one after the other.
-use Rattle.std.proofs.Common.{◌≡◌, ℕ, ◌||◌, Bool, true, false, List, [], ◌∷◌, ◌++◌, Some, None, refl, sym, ap, ◌∙◌}
+use Rattle.std.proofs.Common.{◌≡◌, ℕ, ◌||◌, Bool, true, false, List, [], ◌∷◌, ◌++◌, Some, None, refl, sym, ap, ◌∙◌, rules}
 use Rattle.std.specs.Prelude.{codes}
-use Rattle.std.specs.Str.{bytes_eq}
 use Rattle.std.specs.List.{list_any}
 use Rattle.std.proofs.lemmas.List.Folds.{list_any-append}
 use Rattle.sexpr_core.specs.Value.{Value, plain, group}
@@ -47,33 +46,19 @@ or-false false = refl
 heads-push : (xs : List Value) (heads : List (List ℕ)) (v : Value) (head : List ℕ) (rest : List Value) → v ≡ group (plain head ∷ rest)
     → ((word : List ℕ) → is_word_among heads word ≡ list_any (is_headed word) xs)
     → (word : List ℕ) → is_word_among (heads ++ head ∷ []) word ≡ list_any (is_headed word) (xs ++ v ∷ [])
-heads-push xs heads v head rest e are word =
-    list_any-append (λ (w : List ℕ). bytes_eq w word) heads (head ∷ [])
-    ∙ (λ i. are word i || (sym (ap (is_headed word) e) i || false))
-    ∙ sym (list_any-append (is_headed word) xs (v ∷ []))
+heads-push xs heads v head rest e are word = search (rules, list_any-append)
 
 -- ---- what one more field says
 
 silent-more : (xs : List Value) (v : Value) (k : Known) → KnownOf xs k → IsSilent v → KnownOf (xs ++ v ∷ []) k
-silent-more xs v k known says = record {
-  issuer_is = given-kept (codes "issuer") IssuerAt xs v k.issuer says.issuer known.issuer_is;
-  subject_is = given-kept (codes "subject") WhoAt xs v k.subject says.subject known.subject_is;
-  tag_is = given-kept (codes "tag") (Sole ReadsAs) xs v k.tag says.tag known.tag_is;
-  limits_are = (
-    given-kept (codes "not-before") (Sole DateOf) xs v k.limits.not_before says.first known.limits_are.0,
-    given-kept (codes "not-after") (Sole DateOf) xs v k.limits.not_after says.last known.limits_are.1,
-  );
-  valid_is = given-kept (codes "valid") ValidOf xs v k.valid says.valid known.valid_is;
-}
+silent-more xs v k known says = search (rules, given-kept)
 
 abbrev Fresh : List Value → Value → Type 0
 Fresh xs v = (word : List ℕ) → is_headed word v ≡ true → contents word xs ≡ []
 
 -- the field with this head is the first with it
 filled : {A : Type 0} (word : List ℕ) (R : List Value → A → Type 0) (xs : List Value) (v : Value) (a : A) → Headed word R v a → Fresh xs v → Given word R (xs ++ v ∷ []) (Some a)
-filled word R xs v a says fresh =
-    let here = headed-by v word says.0 says.1 in
-    given-first word R xs v says.0 a here (behind-group v (plain word) says.0 says.1) says.2 (fresh word here)
+filled word R xs v a says fresh = search (rules, headed-by, given-first, behind-group)
 
 gather-more : (xs : List Value) (v : Value) (k : Known) (s : Said) → KnownOf xs k → Says v s → Fresh xs v → KnownOf (xs ++ v ∷ []) (gather k s)
 gather-more xs v k said.Nothing known says fresh = silent-more xs v k known says
@@ -148,7 +133,4 @@ read-none = record {
 
 pub read-more : (xs : List Value) (heads : List (List ℕ)) (k : Known) (v : Value) (head : List ℕ) (s : Said)
     → AreRead xs heads k → IsNew v heads head → Says v s → AreRead (xs ++ v ∷ []) (heads ++ head ∷ []) (gather k s)
-read-more xs heads k v head s read new says = record {
-  heads_are = heads-push xs heads v head new.rest new.written read.heads_are;
-  known = gather-more xs v k s read.known says (new-first xs heads k v head read new);
-}
+read-more xs heads k v head s read new says = search (rules, heads-push, gather-more, new-first)

@@ -2,7 +2,7 @@
 use Rattle.std.proofs.Common.{◌≡◌, ℕ, List, [], ◌∷◌, ◌++◌, Bool, true, false, Option, Some, None, Result, Ok, Err, refl, sym, subst, ap, ◌∙◌}
 use Rattle.std.specs.Prelude.{IfErr}
 use Rattle.std.specs.Result.{IsErrAnd}
-use Rattle.sexpr_core.specs.Value.{Value, plain, group, members, values}
+use Rattle.sexpr_core.specs.Value.{Value, plain, group}
 use Rattle.sexpr_core.specs.Value as sexpr
 use Rattle.sexpr_core.specs.Shapes.{IsNoString, IsNotHeaded}
 use Rattle.spki_tag.specs.FirstFault.{first_fault, unless}
@@ -58,9 +58,6 @@ unless-none false fault e = absurd (cc)
 pub end-some : {A : Type 0} (vs : List Value) (fault : A) → (vs ≡ [] → ⊥) → first_fault (unless_none vs fault ∷ []) ≡ Some fault
 end-some [] fault some = absurd (some refl)
 end-some (v ∷ vs) fault some = refl
-
-pub sole-none : {A : Type 0} (other : A) (fault_of : Value → Option A) (vs : List Value) → vs ≡ [] → sole_fault other fault_of vs ≡ Some other
-sole-none other fault_of vs e = ap (sole_fault other fault_of) e
 
 pub sole-found : {A : Type 0} (other : A) (fault_of : Value → Option A) (vs more : List Value) (v : Value) (found : Option A) → vs ≡ v ∷ more → fault_of v ≡ found
     → sole_fault other fault_of vs ≡ first_fault (found ∷ unless_none more other ∷ [])

@@ -1,10 +1,10 @@
 -- A value has one reading.
-use Rattle.std.proofs.Common.{◌≡◌, ℕ, inl, inr, false, List, [], ◌∷◌, ◌++◌, Option, Some, None, refl, sym, ap, subst, ◌∙◌}
+use Rattle.std.proofs.Common.{◌≡◌, ℕ, inl, inr, false, List, [], ◌∷◌, ◌++◌, Option, Some, None, refl, sym, ap, subst, ◌∙◌, rules}
 use Rattle.std.specs.Prelude.{codes}
 use Rattle.std.specs.Str.{bytes_eq}
 use Rattle.std.specs.List.{AllZip}
 use Rattle.std.specs.Cmp.Lexicographic.{other_text}
-use Rattle.sexpr_core.specs.Value.{Value, plain, canon}
+use Rattle.sexpr_core.specs.Value.{Value, plain}
 use Rattle.spki_tag.specs.Tag as tags
 use Rattle.spki_tag.specs.Read.{ReadsAs}
 use Rattle.spki_tag.proofs.NormalOf.{reading-one}
@@ -56,12 +56,7 @@ alg-one Sha512 Sha256 e = absurd (word-apart (codes "sha512") (codes "sha256") r
 alg-one Sha512 Sha512 e = refl
 
 pub hash-one : (v : Value) (a b : HashAlg) (d e : List ℕ) → HashOf v a d → HashOf v b e → (a ≡ b) × (d ≡ e)
-hash-one v a b d e read other =
-    let names = same_second v (codes "hash") (plain (alg_name a)) (plain (alg_name b)) (read.octets ∷ read.further) (other.octets ∷ other.further) read.written other.written in
-    let rests : read.octets ∷ read.further ≡ other.octets ∷ other.further =
-    same_rest v (codes "hash") (plain (alg_name a)) (plain (alg_name b)) (read.octets ∷ read.further) (other.octets ∷ other.further) read.written other.written in
-    let octets : read.octets ≡ other.octets = cc in
-    (alg-one a b (plain-one (alg_name a) (alg_name b) names), plain-one d e (sym read.digest_is.written ∙ octets ∙ other.digest_is.written))
+hash-one v a b d e read other = search (rules, same_second, same_rest, alg-one, plain-one)
 
 pub date-one : (v : Value) (s t : List ℕ) → DateOf v s → DateOf v t → s ≡ t
 date-one v s t read other = plain-one s t (sym read.written ∙ other.written)
@@ -78,10 +73,7 @@ names-one : (ns ms : List (List ℕ)) → plains ns ≡ plains ms → ns ≡ ms
 names-one [] [] e = refl
 names-one [] (m ∷ ms) e = absurd (cc)
 names-one (n ∷ ns) [] e = absurd (cc)
-names-one (n ∷ ns) (m ∷ ms) e =
-    let first : n ≡ m = cc in
-    let others : ns ≡ ms = names-one ns ms (cc) in
-    λ i. first i ∷ others i
+names-one (n ∷ ns) (m ∷ ms) e = search (rules, names-one ns ms (cc))
 
 -- the same principal and names
 abbrev Same : Principal → Principal → List (List ℕ) → List (List ℕ) → Type 0
@@ -118,15 +110,11 @@ issued-one issuer v s t (inr read) (inr other) =
 -- what one field with a head says
 sole-one : {A : Type 0} (R : Value → A → Type 0) → ((v : Value) (a b : A) → R v a → R v b → a ≡ b)
     → (vs : List Value) (a b : A) → Sole R vs a → Sole R vs b → a ≡ b
-sole-one R one vs a b (v, e, read) (w, f, other) =
-    let same : v ≡ w = (let g : v ∷ [] ≡ w ∷ [] = sym e ∙ f in cc) in
-    one w a b (subst (λ (u : Value). R u a) same read) other
+sole-one R one vs a b (v, e, read) (w, f, other) = search rules
 
 given-one : {A : Type 0} (word : List ℕ) (R : List Value → A → Type 0) → ((vs : List Value) (a b : A) → R vs a → R vs b → a ≡ b)
     → (fields : List Value) (a b : A) → Given word R fields (Some a) → Given word R fields (Some b) → a ≡ b
-given-one word R one fields a b (rest, e, read) (behind, f, other) =
-    let same : rest ≡ behind = (let g : rest ∷ [] ≡ behind ∷ [] = sym e ∙ f in cc) in
-    one behind a b (subst (λ (vs : List Value). R vs a) same read) other
+given-one word R one fields a b (rest, e, read) (behind, f, other) = search rules
 
 limit-one : (word : List ℕ) (fields : List Value) (o p : Option (List ℕ)) → Given word (Sole DateOf) fields o → Given word (Sole DateOf) fields p → o ≡ p
 limit-one word fields None None read other = refl
@@ -136,10 +124,7 @@ limit-one word fields (Some s) (Some t) read other =
     ap Some (given-one word (Sole DateOf) (sole-one DateOf date-one) fields s t read other)
 
 limits-one : (fields : List Value) (v w : Window) → LimitsAre fields v → LimitsAre fields w → v ≡ w
-limits-one fields v w read other =
-    let first = limit-one (codes "not-before") fields v.not_before w.not_before read.0 other.0 in
-    let last = limit-one (codes "not-after") fields v.not_after w.not_after read.1 other.1 in
-    λ i. record { not_before = first i; not_after = last i }
+limits-one fields v w read other = search (rules, limit-one)
 
 window-one : (fields : List Value) (v w : Window) → WindowOf fields v → WindowOf fields w → v ≡ w
 window-one fields v w (directly none limits) (directly no_valid others) = limits-one fields v w limits others
@@ -189,11 +174,7 @@ issuer-one : (v : Value) (i j : Principal × Option (List ℕ)) → IssuerOf v i
 issuer-one v (p, None) (q, None) read other = λ i. (principal-one v p q read other i, None)
 issuer-one v (p, None) (q, Some m) read other = absurd (name-is_no_principal v (other.owner ∷ plain m ∷ []) other.written p read)
 issuer-one v (p, Some n) (q, None) read other = absurd (name-is_no_principal v (read.owner ∷ plain n ∷ []) read.written q other)
-issuer-one v (p, Some n) (q, Some m) read other =
-    let same = name-one v p q (n ∷ []) (m ∷ []) read other in
-    let names : n ∷ [] ≡ m ∷ [] = same.1 in
-    let name : n ≡ m = cc in
-    λ i. (same.0 i, Some (name i))
+issuer-one v (p, Some n) (q, Some m) read other = search (rules, name-one)
 
 issued_by-one : (fields : List Value) (i j : Principal × Option (List ℕ)) → Given (codes "issuer") IssuerIn fields (Some i) → Given (codes "issuer") IssuerIn fields (Some j) → i ≡ j
 issued_by-one fields i j read other =
@@ -239,22 +220,10 @@ no-auth_and_name v b c read other =
     one-issuer other.fields b.issuer c.issuer c.name (subst (λ (vs : List Value). IssuedBy vs b.issuer None) fields read.issuer_is) other.issuer_is
 
 signature-one : (v : Value) (s t : Signature) → SignatureOf v s → SignatureOf v t → s ≡ t
-signature-one v s t read other =
-    let all : read.digest ∷ read.signer ∷ read.value ∷ [] ≡ other.digest ∷ other.signer ∷ other.value ∷ [] =
-    same_others v (codes "signature") (read.digest ∷ read.signer ∷ read.value ∷ []) (other.digest ∷ other.signer ∷ other.value ∷ []) read.written other.written in
-    let digest : read.digest ≡ other.digest = cc in
-    let signer : read.signer ≡ other.signer = cc in
-    let value : read.value ≡ other.value = cc in
-    let hash = hash-one other.digest s.alg t.alg s.digest t.digest (subst (λ (w : Value). HashOf w s.alg s.digest) digest read.digest_is) other.digest_is in
-    let who = principal-one other.signer s.signer t.signer (subst (λ (w : Value). PrincipalOf w s.signer) signer read.signer_is) other.signer_is in
-    let octets : s.value ≡ t.value = read.value_is ∙ ap canon value ∙ sym other.value_is in
-    λ i. record { alg = hash.0 i; digest = hash.1 i; signer = who i; value = octets i }
+signature-one v s t read other = search (rules, same_others, hash-one, principal-one)
 
 do-one : (v : Value) (a b : HashAlg) → DoHashOf v a → DoHashOf v b → a ≡ b
-do-one v a b read other =
-    let rests : plain (alg_name a) ∷ [] ≡ plain (alg_name b) ∷ [] =
-    same_rest v (codes "do") (plain (codes "hash")) (plain (codes "hash")) (plain (alg_name a) ∷ []) (plain (alg_name b) ∷ []) read other in
-    alg-one a b (cc)
+do-one v a b read other = search (rules, same_rest, alg-one)
 
 item-one : (v : Value) (i j : SeqItem) → ItemOf v i → ItemOf v j → i ≡ j
 item-one v (items.Key k) (items.Key l) read other = ap items.Key (key-one v k l read other)

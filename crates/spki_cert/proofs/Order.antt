@@ -1,5 +1,5 @@
 -- Moments are in order, and what follows for windows.
-use Rattle.std.proofs.Common.{◌≡◌, ℕ, Bool, true, false, cond, ◌&&◌, List, Option, Some, None, refl, sym, ap, ◌∙◌}
+use Rattle.std.proofs.Common.{◌≡◌, ℕ, Bool, true, false, cond, ◌&&◌, List, Option, Some, None, refl, sym, ap, ◌∙◌, rules}
 use Rattle.std.specs.Prelude.{codes}
 use Rattle.std.specs.Cmp.Lexicographic.{slice_cmp}
 use Rattle.std.specs.declared.cmp.Ordering.{Ordering}
@@ -91,9 +91,7 @@ abbrev pub inner : Window → Window → Window
 inner v w = record { not_before = later v.not_before w.not_before; not_after = earlier v.not_after w.not_after }
 
 pub within-inner : (v w : Window) → IsMeet v w (inner v w)
-within-inner v w t =
-    (λ i. is_from-later v.not_before w.not_before t i && is_until-earlier v.not_after w.not_after t i)
-    ∙ regrouped (is_from v.not_before t) (is_from w.not_before t) (is_until v.not_after t) (is_until w.not_after t)
+within-inner v w t = search (rules, is_from-later, is_until-earlier, regrouped)
 
 -- a first and a last moment round a third are in order
 in_order-around : (p q : Option (List ℕ)) (t : List ℕ) → is_from p t ≡ true → is_until q t ≡ true → in_order p q ≡ true

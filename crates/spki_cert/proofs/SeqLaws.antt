@@ -1,5 +1,5 @@
 -- Sequences that were read item by item.
-use Rattle.std.proofs.Common.{◌≡◌, ℕ, Bool, true, false, cond, List, [], ◌∷◌, ◌++◌, Option, Some, None, refl, sym, ap, subst, ◌∙◌}
+use Rattle.std.proofs.Common.{◌≡◌, ℕ, Bool, true, false, cond, List, [], ◌∷◌, ◌++◌, Option, Some, None, refl, sym, ap, subst, ◌∙◌, rules}
 use Rattle.std.specs.Prelude.{codes, is_some}
 use Rattle.sexpr_core.specs.Value.{Value}
 use Rattle.spki_cert.specs.Fields.{is_headed}
@@ -23,9 +23,7 @@ behind-cert : (w : Bool) (v : Value) → is_headed (codes "cert") v ≡ true →
 behind-cert w v e = ap (λ (b : Bool). cond b true (cond (is_headed (codes "signature") v) false w)) e
 
 behind-signature : (w : Bool) (v : Value) → is_headed (codes "signature") v ≡ true → waits_behind w v ≡ false
-behind-signature w v e =
-    (let no-cert : is_headed (codes "cert") v ≡ false = other-head (codes "signature") (codes "cert") v refl e in
-    ap (λ (b : Bool). cond b true (cond (is_headed (codes "signature") v) false w)) no-cert ∙ ap (λ (b : Bool). cond b false w) e)
+behind-signature w v e = search (rules, other-head)
 
 behind-other : (w : Bool) (v : Value) → is_headed (codes "cert") v ≡ false → is_headed (codes "signature") v ≡ false → waits_behind w v ≡ w
 behind-other w v e f =

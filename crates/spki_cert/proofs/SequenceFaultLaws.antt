@@ -1,23 +1,21 @@
 -- The fault that is named of a certificate or of a sequence, along the way of its reading.
-use Rattle.std.proofs.Common.{◌≡◌, ℕ, ◌+◌, List, [], ◌∷◌, ◌++◌, length, Bool, false, Option, Some, None, refl, sym, ap, ◌∙◌, length-append}
+use Rattle.std.proofs.Common.{◌≡◌, ℕ, ◌+◌, List, [], ◌∷◌, ◌++◌, length, Bool, Option, Some, None, refl, ap, ◌∙◌, length-append, rules}
 use Rattle.std.specs.Prelude.{codes, not, is_some, if◌then◌else◌, ◌||◌}
-use Rattle.std.specs.List.{list_any}
 use Rattle.sexpr_core.specs.Value.{Value, plain, group}
 use Rattle.sexpr_core.specs.Shapes.{IsNotHeaded}
 use Rattle.spki_tag.specs.FirstFault.{first_fault, unless}
-use Rattle.spki_tag.specs.Read.{ReadsAs}
 use Rattle.spki_cert.specs.declared.fault.CertFault.{CertFault}
 use Rattle.spki_cert.specs.declared.fault.CertFaultKind.{CertFaultKind}
 use Rattle.spki_cert.specs.declared.fault.CertFaultKind.TheVariants.{Shape}
 use Rattle.spki_cert.specs.declared.principal.Principal.{Principal}
 use Rattle.spki_cert.specs.declared.certificate_reader.CertParts.{CertParts}
 use Rattle.spki_cert.specs.Subjects.{IssuerOf}
-use Rattle.spki_cert.specs.Fields.{is_headed, behind_head, Sole}
+use Rattle.spki_cert.specs.Fields.{is_headed, behind_head}
 use Rattle.spki_cert.specs.Certificates.{IssuedBy}
 use Rattle.spki_cert.specs.FixedFaults.{key_fault}
 use Rattle.spki_cert.specs.FieldFaults.{has, fields_fault, cert_field_fault, is_both_ways}
 use Rattle.spki_cert.specs.EntryFaults.{at_item}
-use Rattle.spki_cert.specs.ItemFaults.{signature_fault, do_fault, begins_with_name, has_name_issuer, is_tagged_right, cert_fault, item_fault}
+use Rattle.spki_cert.specs.ItemFaults.{signature_fault, do_fault, has_name_issuer, is_tagged_right, cert_fault, item_fault}
 use Rattle.spki_cert.specs.SequenceFaults.{unsigned_fault, place_fault, waiting, items_looked, items_fault, sequence_fault}
 use Rattle.spki_cert.specs.Inner.Gathering.{PartsOf, parts_looked, parts_fault}
 use Rattle.spki_cert.proofs.Groups.{headed-by, not-headed}
@@ -72,21 +70,14 @@ issuer-named v p None read = principal-else (codes "name") v p read refl refl
 issuer-named v p (Some name) read = ap (is_headed (codes "name")) read.written
 
 name-issuer : (fields : List Value) (p : Principal) (name : Option (List ℕ)) → IssuedBy fields p name → has_name_issuer fields ≡ is_some name
-name-issuer fields p name given =
-    ap (list_any begins_with_name) given.1
-    ∙ ap (λ (vs : List Value). begins_with_name vs || false) given.2.1
-    ∙ or-false (is_headed (codes "name") given.2.0)
-    ∙ issuer-named given.2.0 p name given.2.2
+name-issuer fields p name given = search (rules, or-false, issuer-named)
 
 abbrev pub right : Bool → Bool → Bool → Bool
 right named tagged propagate = if named then not (tagged || propagate) else tagged
 
 pub tagged-right : (fields : List Value) (p : CertParts) (named tagged propagate : Bool) → PartsOf fields p → is_some p.issuer.name ≡ named → is_some p.tag ≡ tagged
     → p.propagate ≡ propagate → is_tagged_right fields ≡ right named tagged propagate
-tagged-right fields p named tagged propagate parts e f g =
-    let a : has_name_issuer fields ≡ named = name-issuer fields p.issuer.principal p.issuer.name parts.issuer_is ∙ e in
-    let b : has (codes "tag") fields ≡ tagged = has-given (codes "tag") (Sole ReadsAs) fields p.tag parts.tag_is ∙ f in
-    let d : has (codes "propagate") fields ≡ propagate = sym parts.propagates_is ∙ g in λ i. right (a i) (b i) (d i)
+tagged-right fields p named tagged propagate parts e f g = search (rules, name-issuer, has-given)
 
 -- ---- items
 
@@ -105,9 +96,7 @@ item-signature v rest e =
 
 pub item-do : (v : Value) (rest : List Value) → v ≡ group (plain (codes "do") ∷ rest) → item_fault v ≡ do_fault v
 unfolding item_fault
-item-do v rest e =
-    λ i. item_looked (headed-else (codes "do") (codes "cert") v rest e refl i) (headed-else (codes "do") (codes "signature") v rest e refl i)
-    (headed-by v (codes "do") rest e i) v
+item-do v rest e = search (rules, headed-else, headed-by)
 
 pub item-key : (v : Value) → IsNotHeaded v (codes "cert") → IsNotHeaded v (codes "signature") → IsNotHeaded v (codes "do") → item_fault v ≡ key_fault v
 unfolding item_fault
@@ -125,10 +114,7 @@ sequence-all all = refl
 sequence-found : (all before rest others : List Value) (waits : Option ℕ) (v : Value) (number : ℕ) (place : Option CertFault) (found : Option CertFaultKind)
     → LeftSequence all before waits rest → rest ≡ v ∷ others → number ≡ length before + 1 → place_fault waits number v ≡ place → item_fault v ≡ found
     → items_fault all ≡ first_fault (place ∷ at_item number found ∷ items_looked (waiting v waits number) (number + 1) others)
-sequence-found all before rest others waits v number place found left e f g h =
-    left ∙ ap (λ (vs : List Value). first_fault (items_looked waits (length before + 1) vs)) e
-    ∙ ap (λ (n : ℕ). first_fault (items_looked waits n (v ∷ others))) (sym f)
-    ∙ (λ i. first_fault (g i ∷ at_item number (h i) ∷ items_looked (waiting v waits number) (number + 1) others))
+sequence-found all before rest others waits v number place found left e f g h = search rules
 
 pub sequence-place : (all before rest others : List Value) (waits : Option ℕ) (v : Value) (number : ℕ) (fault : CertFault)
     → LeftSequence all before waits rest → rest ≡ v ∷ others → number ≡ length before + 1 → place_fault waits number v ≡ Some fault → items_fault all ≡ Some fault
@@ -142,16 +128,11 @@ sequence-item all before rest others waits v number kind left e f g h = sequence
 pub sequence-next : (all before rest others : List Value) (waits after : Option ℕ) (v : Value) (number : ℕ)
     → LeftSequence all before waits rest → rest ≡ v ∷ others → number ≡ length before + 1 → place_fault waits number v ≡ None → item_fault v ≡ None
     → after ≡ waiting v waits number → LeftSequence all (before ++ v ∷ []) after others
-sequence-next all before rest others waits after v number left e f g h k =
-    sequence-found all before rest others waits v number None None left e f g h
-    ∙ (λ i. first_fault (items_looked (sym k i) (f i + 1) others))
-    ∙ ap (λ (n : ℕ). first_fault (items_looked after (n + 1) others)) (sym (length-append before (v ∷ [])))
+sequence-next all before rest others waits after v number left e f g h k = search (rules, sequence-found, length-append)
 
 pub sequence-end : (all before rest : List Value) (waits end : Option ℕ) → LeftSequence all before waits rest → rest ≡ [] → waits ≡ end
     → items_fault all ≡ first_fault (unsigned_fault end ∷ [])
-sequence-end all before rest waits end left e f =
-    left ∙ ap (λ (vs : List Value). first_fault (items_looked waits (length before + 1) vs)) e
-    ∙ ap (λ (o : Option ℕ). first_fault (unsigned_fault o ∷ [])) f
+sequence-end all before rest waits end left e f = search rules
 
 -- ---- the outer list
 

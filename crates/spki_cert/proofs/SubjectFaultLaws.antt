@@ -1,5 +1,5 @@
 -- The fault that is named of a principal, a subject or an issuer, along the way of its reading.
-use Rattle.std.proofs.Common.{◌≡◌, ℕ, List, [], ◌∷◌, drop, Bool, true, false, Option, Some, None, refl, ap, ◌∙◌}
+use Rattle.std.proofs.Common.{◌≡◌, ℕ, List, [], ◌∷◌, drop, Bool, true, false, Option, Some, None, refl, ap, ◌∙◌, rules}
 use Rattle.std.specs.Prelude.{codes, not, if◌then◌else◌}
 use Rattle.std.specs.Str.{bytes_eq}
 use Rattle.std.specs.List.{list_all}
@@ -52,13 +52,6 @@ all-plains (sexpr.string None octets ∷ vs) e = let more = all-plains vs e in (
 all-plains (sexpr.string (Some hint) octets ∷ vs) e = absurd (cc)
 all-plains (sexpr.list us ∷ vs) e = absurd (cc)
 
-pub not-plains : (vs : List Value) → ((names : List (List ℕ)) → vs ≡ plains names → ⊥) → list_all is_name vs ≡ false
-not-plains vs other = by (list_all is_name vs) refl
-  where
-    by : (b : Bool) → list_all is_name vs ≡ b → b ≡ false
-    by true e = let all = all-plains vs e in absurd (other all.0 all.1)
-    by false e = refl
-
 pub are-plains : (vs : List Value) (names : List (List ℕ)) → vs ≡ plains names → list_all is_name vs ≡ true
 are-plains vs names e = ap (list_all is_name) e ∙ plains-all names
 
@@ -79,9 +72,7 @@ names-relative vs others first octets false e f g = ap names_looked e ∙ ap (λ
 names-owner : (vs others : List Value) (first : Value) → vs ≡ first ∷ others → IsNoString first
     → names_fault vs ≡ first_fault (principal_fault first ∷ unless (are_names others) Shape ∷ [])
 unfolding names_fault
-names-owner vs others first e other =
-    ap names_looked e
-    ∙ ap (λ (b : Bool). first_fault ((if b then None else principal_fault first) ∷ unless (are_names (if b then first ∷ others else others)) Shape ∷ [])) (no-plain any_octets first other)
+names-owner vs others first e other = search (rules, no-plain)
 
 pub names-owner_fault : (vs others : List Value) (first : Value) (kind : CertFaultKind) → vs ≡ first ∷ others → IsNoString first → principal_fault first ≡ Some kind
     → names_fault vs ≡ Some kind
@@ -115,9 +106,7 @@ subject_looked threshold keyholder found = first_fault (unless (not threshold) T
 
 pub subject-threshold : (v : Value) (rest : List Value) → v ≡ group (plain (codes "k-of-n") ∷ rest) → subject_fault v ≡ Some Threshold
 unfolding subject_fault
-subject-threshold v rest e =
-    ap (λ (b : Bool). subject_looked b (is_headed (codes "keyholder") v) (if is_headed (codes "name") v then names_fault (behind_head v) else principal_fault v))
-    (headed-by v (codes "k-of-n") rest e)
+subject-threshold v rest e = search (rules, headed-by)
 
 pub subject-keyholder : (v : Value) (rest : List Value) → IsNotHeaded v (codes "k-of-n") → v ≡ group (plain (codes "keyholder") ∷ rest) → subject_fault v ≡ Some Keyholder
 unfolding subject_fault
@@ -127,9 +116,7 @@ subject-keyholder v rest other e =
 pub subject-principal : (v : Value) (found : Option CertFaultKind) → IsNotHeaded v (codes "k-of-n") → IsNotHeaded v (codes "keyholder") → IsNotHeaded v (codes "name")
     → principal_fault v ≡ found → subject_fault v ≡ found
 unfolding subject_fault
-subject-principal v found a b c e =
-    (λ i. subject_looked (not-headed (codes "k-of-n") v a i) (not-headed (codes "keyholder") v b i) (if not-headed (codes "name") v c i then names_fault (behind_head v) else principal_fault v))
-    ∙ one-look (principal_fault v) ∙ e
+subject-principal v found a b c e = search (rules, not-headed, one-look)
 
 pub subject-names : (v : Value) (rest : List Value) (found : Option CertFaultKind) → v ≡ group (plain (codes "name") ∷ rest) → names_fault rest ≡ found → subject_fault v ≡ found
 unfolding subject_fault

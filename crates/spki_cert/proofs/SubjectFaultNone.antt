@@ -1,5 +1,5 @@
 -- A value has no fault as a principal, a subject or an issuer exactly where it is one.
-use Rattle.std.proofs.Common.{◌≡◌, ℕ, List, [], ◌∷◌, Bool, true, false, Option, Some, None, refl, sym, ap, subst, ◌∙◌, inl, inr}
+use Rattle.std.proofs.Common.{◌≡◌, ℕ, List, [], ◌∷◌, Bool, true, false, Option, Some, None, refl, sym, ap, subst, ◌∙◌, inl, inr, rules}
 use Rattle.std.specs.Prelude.{codes, ◌↔◌, not, if◌then◌else◌}
 use Rattle.sexpr_core.specs.Value.{Value, plain, group}
 use Rattle.sexpr_core.specs.Value as sexpr
@@ -189,11 +189,7 @@ issuer-named v (owner ∷ name ∷ []) e f =
         written = e ∙ ap (λ (w : Value). group (plain (codes "name") ∷ owner ∷ w ∷ [])) word.1;
       },
     )
-issuer-named v (owner ∷ name ∷ other ∷ more) e f = (
-    let looks = none-found (principal_fault owner) _ f in
-    let named = none-found (unless (is_name name) Shape) _ looks.1 in
-    let g = named.1 in absurd (cc)
-    )
+issuer-named v (owner ∷ name ∷ other ∷ more) e f = search (rules, none-found)
 
 issuer-read : (v : Value) → issuer_fault v ≡ None → SomeIssuer v
 issuer-read v e = by (is_headed (codes "name") v) refl

@@ -17,9 +17,6 @@ pub no-principal : (v : Value) → IsNoKey v → IsNoHash v → IsNoPrincipal v
 no-principal v no-key no-hash (Key octets) read = no-key octets read
 no-principal v no-key no-hash (Hash alg digest) read = no-hash alg digest read
 
-pub hash-is_no_key : (v : Value) (rest : List Value) → v ≡ group (plain (codes "hash") ∷ rest) → IsNoKey v
-hash-is_no_key v rest e octets read = apart (codes "hash") v _ _ e read.written refl refl
-
 pub unheaded-is_no_hash : (v : Value) → IsNotHeaded v (codes "hash") → IsNoHash v
 unheaded-is_no_hash v other alg digest read = other (plain (alg_name alg) ∷ read.octets ∷ read.further) read.written
 

@@ -127,7 +127,7 @@ fn subject_in<'a>(alloc: Global, members: Members<'_, 'a>) -> Result<Who<'a>, Ce
 }
 
 /// Reads a field that an entry and a certificate may have.
-fn said_in_both<'a>(alloc: Global, field: &Node) -> Result<Said<'a>, CertFaultKind>
+fn read_common_field<'a>(alloc: Global, field: &Node) -> Result<Said<'a>, CertFaultKind>
     ensures says { IfOk result (λ said. Says field.now said) }
     ensures faultless { IfOk result (λ _. entry_field_fault field.now ≡ None) }
     ensures named { IfErr result (λ kind. kind ≢ CertFaultKind.Memory → entry_field_fault field.now ≡ Some kind) }
@@ -145,11 +145,11 @@ fn said_in_both<'a>(alloc: Global, field: &Node) -> Result<Said<'a>, CertFaultKi
     if let Some(_) = field.headed(b"comment") {
         return Ok(Said::Nothing);
     }
-    said_of_time(field)
+    read_validity_field(field)
 }
 
-/// Reads a field of validity.
-fn said_of_time<'a>(field: &Node) -> Result<Said<'a>, CertFaultKind>
+/// Reads a field of validity: a limit, or `(valid ..)`.
+fn read_validity_field<'a>(field: &Node) -> Result<Said<'a>, CertFaultKind>
     ensures says { IfOk result (λ said. Says field.now said) }
     ensures faultless { IfOk result (λ _. time_fault field.now ≡ None) }
     ensures named { IfErr result (λ kind. time_fault field.now ≡ Some kind) }
@@ -171,7 +171,10 @@ fn said_of_time<'a>(field: &Node) -> Result<Said<'a>, CertFaultKind>
 }
 
 /// Reads a field of a certificate.
-fn said_in_certificate<'a>(alloc: Global, field: &Node<'_, 'a>) -> Result<Said<'a>, CertFaultKind>
+fn read_certificate_field<'a>(
+    alloc: Global,
+    field: &Node<'_, 'a>,
+) -> Result<Said<'a>, CertFaultKind>
     ensures says { IfOk result (λ said. Says field.now said) }
     ensures faultless { IfOk result (λ _. cert_field_fault field.now ≡ None) }
     ensures named { IfErr result (λ kind. kind ≢ CertFaultKind.Memory → cert_field_fault field.now ≡ Some kind) }
@@ -189,7 +192,7 @@ fn said_in_certificate<'a>(alloc: Global, field: &Node<'_, 'a>) -> Result<Said<'
     if is_unread(field) {
         return Ok(Said::Nothing);
     }
-    said_in_both(alloc, field)
+    read_common_field(alloc, field)
 }
 
 /// Whether the field is ignored, whatever it contains.
@@ -215,8 +218,8 @@ fn said_by<'a>(alloc: Global, place: Place, field: &Node<'_, 'a>) -> Result<Said
     ensures named { IfErr result (λ kind. kind ≢ CertFaultKind.Memory → fault_in place field.now ≡ Some kind) }
 {
     match place {
-        Place::Entry => said_in_both(alloc, field),
-        Place::Certificate => said_in_certificate(alloc, field),
+        Place::Entry => read_common_field(alloc, field),
+        Place::Certificate => read_certificate_field(alloc, field),
     }
 }
 

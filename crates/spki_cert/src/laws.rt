@@ -1,4 +1,5 @@
 //! Laws of keys, hashes, dates, access lists and sequences.
+//! Each function is a law: it does nothing, and its contract is the fact.
 
 ghost use Rattle.std.specs.Prelude.{◌≡◌, ◌↔◌, ◌⊎◌, ℕ, List, Option, Some, None};
 ghost use Rattle.sexpr_core.specs.Value.{Value};

@@ -5,8 +5,8 @@ ghost use Rattle.spki_cert.specs.Time.{is_from, is_until, later, earlier, in_ord
 
 use crate::date::Date;
 
-/// If there is a limit, it is a date.
-pub fn known_limit(limit: Option<Date>)
+/// A fact for the prover: a limit is a date. Does nothing.
+pub fn prove_limit(limit: Option<Date>)
     ensures { IsLimit limit }
 {
     if let Some(date) = limit {

@@ -1,7 +1,7 @@
 //! Windows of validity (RFC 2693, section 6.3.2).
 
 use crate::date::Date;
-use crate::limit::{earlier, is_from, is_in_order, is_until, known_limit, later};
+use crate::limit::{earlier, is_from, is_in_order, is_until, later, prove_limit};
 
 /// The moments from a first to a last one, both included. A missing limit does not limit.
 #[derive(Clone, Copy, Debug)]
@@ -16,13 +16,13 @@ impl Window {
     ghost use Rattle.std.specs.Prelude.{◌≡◌, IfSome, IfNone};
     ghost use Rattle.spki_cert.specs.Time.{IsLimit, within, meet_of, IsMeet, Overlap, AreApart};
 
-    /// The limits of a window are dates, however it was made. Allocates nothing.
-    pub fn known(&self)
+    /// A fact for the prover: the limits of a window are dates, however it was made. Does nothing.
+    pub fn prove_limits(&self)
         ensures begins { IsLimit self.now.not_before }
         ensures ends { IsLimit self.now.not_after }
     {
-        known_limit(self.not_before);
-        known_limit(self.not_after);
+        prove_limit(self.not_before);
+        prove_limit(self.not_after);
     }
 
     /// Whether the moment is within the window. Allocates nothing.

@@ -31,7 +31,7 @@ agrees verified (s ∷ signatures) accepted = ((λ _. accepted.0, λ _. tt), agr
 module _ (policy : Policy) (verified : Verified) (items : List SeqItem) where
   pub all_accepted : (e : Evidence) → AllByRecursion (IsAccepted verified) (asked_in policy (keys_of items) (certificates items))
       → IsEvidence policy every items e → IsEvidence policy verified items e
-  all_accepted (evidence.Stands steps) accepted h =
+  all_accepted (evidence.Verified steps) accepted h =
       all_shown policy (keys_of items) every verified (certificates items) (map step_tuple steps.items)
       (agrees verified (asked_in policy (keys_of items) (certificates items)) accepted) h
   all_accepted (evidence.Fails item stop) accepted h =

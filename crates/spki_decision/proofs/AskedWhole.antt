@@ -171,7 +171,7 @@ module _ (c : Case) (one other : Verified) (agree : AgreeOn one other (asked c))
     tuples = a.tuples;
     shown = shown_by a.tuples a.shown;
     each = a.each;
-    small = a.small;
+    within_limit = a.within_limit;
     worked = a.worked;
     grants = λ place. (λ e. granted_by _ ((a.grants place).0 e), λ g. (a.grants place).1 (granted_back _ g));
   }
@@ -181,7 +181,7 @@ module _ (c : Case) (one other : Verified) (agree : AgreeOn one other (asked c))
   reduction_by : (r : Reduction) → IsReduction c one r → IsReduction c other r
   reduction_by (reduction.Evidence item stop) a = failure_by item stop a
   reduction_by (reduction.Entries folds) a =
-      record { tuples = a.tuples; shown = shown_by a.tuples a.shown; each = a.each; small = a.small; worked = a.worked }
+      record { tuples = a.tuples; shown = shown_by a.tuples a.shown; each = a.each; within_limit = a.within_limit; worked = a.worked }
 
   pub reduced_by : (x : Result Reduction GuardFault) → IsReduced c one x → IsReduced c other x
   reduced_by (Ok r) a = (reduction_by r a.0, a.1)

@@ -72,7 +72,7 @@ module _ (c : Case) (verified : Verified) where
 
   pub explained_small : (x : Explanation) → IsExplanation c verified x → SomeTooLarge c verified → ⊥
   explained_small (explanation.Evidence item stop) a some = a.none_shown some.tuples some.shown
-  explained_small (explanation.Entries reasons) a some = all_small a.tuples a.shown a.small a.worked some
+  explained_small (explanation.Entries reasons) a some = all_small a.tuples a.shown a.within_limit a.worked some
 
   pub explained_one : (x y : Result Explanation GuardFault) → IsExplained c verified x → IsExplained c verified y
       → AreSame IsSameExplanation x y
@@ -86,7 +86,7 @@ module _ (c : Case) (verified : Verified) where
 
   pub reduced_small : (x : Reduction) → IsReduction c verified x → SomeTooLarge c verified → ⊥
   reduced_small (reduction.Evidence item stop) a some = a.none_shown some.tuples some.shown
-  reduced_small (reduction.Entries folds) a some = all_small a.tuples a.shown a.small a.worked some
+  reduced_small (reduction.Entries folds) a some = all_small a.tuples a.shown a.within_limit a.worked some
 
   pub reduced_one : (x y : Result Reduction GuardFault) → IsReduced c verified x → IsReduced c verified y
       → AreSame IsSameReduction x y

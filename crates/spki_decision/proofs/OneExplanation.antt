@@ -7,14 +7,14 @@ use Rattle.spki_cert.specs.declared.principal.Policy.{Policy}
 use Rattle.spki_cert.specs.declared.entry.Entry.{Entry}
 use Rattle.spki_cert.specs.declared.certificate.SeqItem.{SeqItem}
 use Rattle.spki_reduce.specs.declared.fold.Cause.{Cause}
-use Rattle.spki_reduce.specs.declared.last_tests.Lack.{Lack}
-use Rattle.spki_reduce.specs.declared.last_tests.Lack.TheVariants as lack
+use Rattle.spki_reduce.specs.declared.last_tests.Denial.{Denial}
+use Rattle.spki_reduce.specs.declared.last_tests.Denial.TheVariants as denial
 use Rattle.spki_reduce.specs.Tuples.{FiveTuple, Tuple, five}
 use Rattle.spki_reduce.specs.Views.{entry_tuple}
 use Rattle.spki_reduce.specs.Derivation.{from_left}
 use Rattle.spki_reduce.specs.Restrictions.{in_each}
 use Rattle.spki_reduce.specs.Chain.{GoesThrough}
-use Rattle.spki_reduce.specs.LastTests.{IsFirstLack}
+use Rattle.spki_reduce.specs.LastTests.{IsFirstDenial}
 use Rattle.spki_reduce.proofs.Bracketing.{one_root}
 use Rattle.spki_reduce.proofs.Lacking.{never}
 use Rattle.spki_reduce.proofs.Through.{HasTag, AreTagged, unstopped, one_stop}
@@ -76,27 +76,27 @@ module _ (c : Case) (tuples : List Tuple) (tagged : AreTagged tuples) (e : Entry
   abbrev first : Tuple
   first = five (entry_tuple e)
 
-  lacks : (root : FiveTuple) (a b : Lack) → IsFirstLack c.policy root c.key c.request c.moment (Some a)
-      → IsFirstLack c.policy root c.key c.request c.moment (Some b) → a ≡ b
-  lacks root lack.NotTheKey lack.NotTheKey h k = refl
-  lacks root lack.NotTheKey lack.TagLacks h k = absurd (h k.0)
-  lacks root lack.NotTheKey lack.WindowLacks h k = absurd (h k.0)
-  lacks root lack.TagLacks lack.NotTheKey h k = absurd (k h.0)
-  lacks root lack.TagLacks lack.TagLacks h k = refl
-  lacks root lack.TagLacks lack.WindowLacks h k = absurd (never (in_each c.request root.tags) h.1 k.1)
-  lacks root lack.WindowLacks lack.NotTheKey h k = absurd (k h.0)
-  lacks root lack.WindowLacks lack.TagLacks h k = absurd (never (in_each c.request root.tags) k.1 h.1)
-  lacks root lack.WindowLacks lack.WindowLacks h k = refl
+  lacks : (root : FiveTuple) (a b : Denial) → IsFirstDenial c.policy root c.key c.request c.moment (Some a)
+      → IsFirstDenial c.policy root c.key c.request c.moment (Some b) → a ≡ b
+  lacks root denial.NotTheKey denial.NotTheKey h k = refl
+  lacks root denial.NotTheKey denial.TagLacks h k = absurd (h k.0)
+  lacks root denial.NotTheKey denial.WindowLacks h k = absurd (h k.0)
+  lacks root denial.TagLacks denial.NotTheKey h k = absurd (k h.0)
+  lacks root denial.TagLacks denial.TagLacks h k = refl
+  lacks root denial.TagLacks denial.WindowLacks h k = absurd (never (in_each c.request root.tags) h.1 k.1)
+  lacks root denial.WindowLacks denial.NotTheKey h k = absurd (k h.0)
+  lacks root denial.WindowLacks denial.TagLacks h k = absurd (never (in_each c.request root.tags) k.1 h.1)
+  lacks root denial.WindowLacks denial.WindowLacks h k = refl
 
-  one_lack : (a b : Lack) → LacksFirst c tuples e a → LacksFirst c tuples e b → a ≡ b
-  one_lack a b h k =
+  one_denial : (a b : Denial) → LacksFirst c tuples e a → LacksFirst c tuples e b → a ≡ b
+  one_denial a b h k =
       let tree = from_left first tuples in
       let fives : five k.root ≡ five h.root = one_root c.policy tree tree (five k.root) (five h.root) refl k.derived h.derived in
       let roots : k.root ≡ h.root = cc in
-      lacks h.root a b h.first (subst (λ root. IsFirstLack c.policy root c.key c.request c.moment (Some b)) roots k.first)
+      lacks h.root a b h.first (subst (λ root. IsFirstDenial c.policy root c.key c.request c.moment (Some b)) roots k.first)
 
   -- a chain that goes through doesn't stop
-  not_stopped : (a : Lack) (item : ℕ) (cause : Cause) → LacksFirst c tuples e a → StopsAtItem c tuples e item cause → ⊥
+  not_stopped : (a : Denial) (item : ℕ) (cause : Cause) → LacksFirst c tuples e a → StopsAtItem c tuples e item cause → ⊥
   not_stopped a item cause h k =
       let below = slice_get_within tuples k.stops.place k.stops.tuple k.stops.stands in
       let all = take_all (length tuples) tuples (omega arith) in
@@ -121,7 +121,7 @@ module _ (c : Case) (tuples : List Tuple) (tagged : AreTagged tuples) (e : Entry
   one_reason : (a b : Reason) → IsParted c tuples e a → IsParted c tuples e b → (a ≡ Grants → b ≡ Grants) → (b ≡ Grants → a ≡ Grants) → a ≡ b
   one_reason a b (inl h) k there back = h ∙ sym (there h)
   one_reason a b (inr h) (inl k) there back = back k ∙ sym k
-  one_reason a b (inr (inl h)) (inr (inl k)) there back = h.1 ∙ ap (λ l. reason_of (Some l)) (one_lack h.0 k.0 h.2 k.2) ∙ sym k.1
+  one_reason a b (inr (inl h)) (inr (inl k)) there back = h.1 ∙ ap (λ l. reason_of (Some l)) (one_denial h.0 k.0 h.2 k.2) ∙ sym k.1
   one_reason a b (inr (inl h)) (inr (inr k)) there back = absurd (not_stopped h.0 k.0 k.1 h.2 k.3)
   one_reason a b (inr (inr h)) (inr (inl k)) there back = absurd (not_stopped k.0 h.0 h.1 k.2 h.3)
   one_reason a b (inr (inr h)) (inr (inr k)) there back =

@@ -6,8 +6,8 @@ use Rattle.std.proofs.lemmas.Slice.Zip.{AllZip-left, AllZip-right}
 use Rattle.spki_tag.specs.Request.{IsRequest}
 use Rattle.spki_cert.specs.declared.entry.Entry.{Entry}
 use Rattle.spki_reduce.specs.declared.fold.Cause.{Cause}
-use Rattle.spki_reduce.specs.declared.last_tests.Lack.{Lack}
-use Rattle.spki_reduce.specs.declared.last_tests.Lack.TheVariants as lack
+use Rattle.spki_reduce.specs.declared.last_tests.Denial.{Denial}
+use Rattle.spki_reduce.specs.declared.last_tests.Denial.TheVariants as denial
 use Rattle.spki_reduce.specs.declared.tuple.Five.{Five}
 use Rattle.spki_reduce.specs.Tuples.{FiveTuple, Tuple, five}
 use Rattle.spki_reduce.specs.Views.{entry_tuple}
@@ -15,7 +15,7 @@ use Rattle.spki_reduce.specs.Derivation.{from_left}
 use Rattle.spki_reduce.specs.Supports.{Grants as Allows}
 use Rattle.spki_reduce.specs.Restrictions.{in_each, within_each}
 use Rattle.spki_reduce.specs.Chain.{FoldsTo, HasMet}
-use Rattle.spki_reduce.specs.LastTests.{IsFirstLack}
+use Rattle.spki_reduce.specs.LastTests.{IsFirstDenial}
 use Rattle.spki_reduce.proofs.Bracketing.{from_left-leaves, one_root}
 use Rattle.spki_reduce.proofs.Chains.{unsupported}
 use Rattle.spki_reduce.proofs.Lacking.{never}
@@ -38,9 +38,9 @@ use Rattle.spki_decision.proofs.Entries.{granted, supported}
 -- ---- one entry
 
 module _ (c : Case) (tuples : List Tuple) (e : Entry) where
-  first_lack : (f : Five) (lack : Lack) (folds : FoldsTo c.policy (five (entry_tuple e)) tuples f)
-      → HasMet (five (entry_tuple e)) tuples f → IsFirstLack c.policy folds.root c.key c.request c.moment (Some lack) → LacksFirst c tuples e lack
-  first_lack f lack folds met h = record {
+  first_denial : (f : Five) (denial : Denial) (folds : FoldsTo c.policy (five (entry_tuple e)) tuples f)
+      → HasMet (five (entry_tuple e)) tuples f → IsFirstDenial c.policy folds.root c.key c.request c.moment (Some denial) → LacksFirst c tuples e denial
+  first_denial f denial folds met h = record {
     root = folds.root;
     derived = folds.derived;
     timely = folds.timely;
@@ -49,41 +49,41 @@ module _ (c : Case) (tuples : List Tuple) (e : Entry) where
   }
 
   -- how the last tests end is the reason
-  pub reasoned : (f : Five) (lack : Option Lack) (folds : FoldsTo c.policy (five (entry_tuple e)) tuples f)
-      → HasMet (five (entry_tuple e)) tuples f → IsFirstLack c.policy folds.root c.key c.request c.moment lack → (IsNone lack ↔ Supported c tuples e)
-      → IsReason c tuples e (reason_of lack)
+  pub reasoned : (f : Five) (denial : Option Denial) (folds : FoldsTo c.policy (five (entry_tuple e)) tuples f)
+      → HasMet (five (entry_tuple e)) tuples f → IsFirstDenial c.policy folds.root c.key c.request c.moment denial → (IsNone denial ↔ Supported c tuples e)
+      → IsReason c tuples e (reason_of denial)
   reasoned f None folds met h s = s.0 refl
-  reasoned f (Some lack.NotTheKey) folds met h s = first_lack f lack.NotTheKey folds met h
-  reasoned f (Some lack.TagLacks) folds met h s = first_lack f lack.TagLacks folds met h
-  reasoned f (Some lack.WindowLacks) folds met h s = first_lack f lack.WindowLacks folds met h
+  reasoned f (Some denial.NotTheKey) folds met h s = first_denial f denial.NotTheKey folds met h
+  reasoned f (Some denial.TagLacks) folds met h s = first_denial f denial.TagLacks folds met h
+  reasoned f (Some denial.WindowLacks) folds met h s = first_denial f denial.WindowLacks folds met h
 
-  lacking : (root : FiveTuple) (lack : Lack) → IsFirstLack c.policy root c.key c.request c.moment (Some lack)
+  lacking : (root : FiveTuple) (denial : Denial) → IsFirstDenial c.policy root c.key c.request c.moment (Some denial)
       → Allows c.policy root c.key c.request c.moment → ⊥
-  lacking root lack.NotTheKey h g = h (record { whole = g.whole; named = g.named })
-  lacking root lack.TagLacks h g = never (in_each c.request root.tags) h.1 g.asked
-  lacking root lack.WindowLacks h g = never (within_each c.moment root.windows) h.2 g.timely
+  lacking root denial.NotTheKey h g = h (record { whole = g.whole; named = g.named })
+  lacking root denial.TagLacks h g = never (in_each c.request root.tags) h.1 g.asked
+  lacking root denial.WindowLacks h g = never (within_each c.moment root.windows) h.2 g.timely
 
   -- what lacks something isn't supported: every derivation has the root that lacks it
-  unsupported_by : (lack : Lack) → LacksFirst c tuples e lack → Supported c tuples e → ⊥
-  unsupported_by lack h s =
+  unsupported_by : (denial : Denial) → LacksFirst c tuples e denial → Supported c tuples e → ⊥
+  unsupported_by denial h s =
       let first = five (entry_tuple e) in
       let same : five s.supports.root ≡ five h.root =
       one_root c.policy s.tree (from_left first tuples) (five s.supports.root) (five h.root)
       (s.leaves_are ∙ sym (from_left-leaves first tuples)) s.supports.derived h.derived in
       let P : FiveTuple → Type 0 = λ root. Allows c.policy root c.key c.request c.moment in
       let roots : s.supports.root ≡ h.root = cc in
-      lacking h.root lack h.first (subst P roots s.supports.grants)
+      lacking h.root denial h.first (subst P roots s.supports.grants)
 
   -- a reason is Grants, or a test that the root doesn't pass, or a stop
   abbrev pub IsParted : Reason → Type 0
-  IsParted r = (r ≡ Grants) ⊎ ((l : Lack) × (r ≡ reason_of (Some l)) × LacksFirst c tuples e l)
+  IsParted r = (r ≡ Grants) ⊎ ((l : Denial) × (r ≡ reason_of (Some l)) × LacksFirst c tuples e l)
       ⊎ ((item : ℕ) × (cause : Cause) × (r ≡ Stopped item cause) × StopsAtItem c tuples e item cause)
 
   pub parted : (r : Reason) → IsReason c tuples e r → IsParted r
   parted Grants h = inl refl
-  parted NotTheKey h = inr (inl (lack.NotTheKey, refl, h))
-  parted TagLacks h = inr (inl (lack.TagLacks, refl, h))
-  parted WindowLacks h = inr (inl (lack.WindowLacks, refl, h))
+  parted NotTheKey h = inr (inl (denial.NotTheKey, refl, h))
+  parted TagLacks h = inr (inl (denial.TagLacks, refl, h))
+  parted WindowLacks h = inr (inl (denial.WindowLacks, refl, h))
   parted (Stopped item cause) h = inr (inr (item, cause, refl, h))
 
   only_grants : (r : Reason) → IsRequest c.request → IsParted r → Supported c tuples e → r ≡ Grants
@@ -121,7 +121,7 @@ are_reasons c verified tuples reasons is shown each small worked = record {
   tuples = tuples;
   shown = shown;
   each = each;
-  small = small;
+  within_limit = small;
   worked = worked;
   grants = λ place.
       (has_granted c verified tuples shown reasons each place, grants_it c verified tuples shown reasons each place is);

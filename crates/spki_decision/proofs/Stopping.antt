@@ -21,7 +21,7 @@ use Rattle.spki_case.specs.Case.{Case, Verified}
 use Rattle.spki_case.specs.Sequence.{certificates, keys_of}
 use Rattle.spki_decision.specs.declared.certificates.ShownCert.{ShownCert}
 use Rattle.spki_decision.specs.declared.evidence.Evidence.{Evidence}
-use Rattle.spki_decision.specs.declared.evidence.Evidence.TheVariants.{Stands, Fails}
+use Rattle.spki_decision.specs.declared.evidence.Evidence.TheVariants as evidence
 use Rattle.spki_decision.specs.declared.evidence.Stop.{Stop}
 use Rattle.spki_decision.specs.Judged.{IsEvidence}
 use Rattle.spki_decision.specs.Standing.{AreShown, StandsAs, FailsAt}
@@ -64,11 +64,11 @@ module _ (c : Case) (e : Entry) (steps : List Step) (kept : List ShownCert) (sam
 -- what the evidence of items says, where it is that of items that are the same
 module _ (policy : Policy) (verified : Verified) (items read : List SeqItem) (e : Evidence) (same : read ≡ items)
     (judged : IsEvidence policy verified read e) where
-  pub all_stand : (steps : Vec Step Global) → e ≡ Stands steps → AreShown policy verified items (tuples_of steps.items)
+  pub all_stand : (steps : Vec Step Global) → e ≡ evidence.Verified steps → AreShown policy verified items (tuples_of steps.items)
   all_stand steps is =
       let shown : AreShown policy verified read (tuples_of steps.items) = rw is at judged in rw same at shown
 
-  pub one_fails : (item : ℕ) (stop : Stop) → e ≡ Fails item stop → FailsAt policy verified items item stop
+  pub one_fails : (item : ℕ) (stop : Stop) → e ≡ evidence.Fails item stop → FailsAt policy verified items item stop
   one_fails item stop is =
       let fails : FailsAt policy verified read item stop = rw is at judged in rw same at fails
 

@@ -3,14 +3,14 @@ use Rattle.std.specs.Prelude.{◌≡◌, ◌≢◌, ◌↔◌, ℕ, suc, ◌<◌
 use Rattle.std.specs.List.{AllZip}
 use Rattle.spki_tag.specs.Tag.{set, none}
 use Rattle.spki_cert.specs.declared.entry.Entry.{Entry}
-use Rattle.spki_reduce.specs.declared.last_tests.Lack.{Lack}
-use Rattle.spki_reduce.specs.declared.last_tests.Lack.TheVariants as lack
+use Rattle.spki_reduce.specs.declared.last_tests.Denial.{Denial}
+use Rattle.spki_reduce.specs.declared.last_tests.Denial.TheVariants as denial
 use Rattle.spki_reduce.specs.Tuples.{FiveTuple, Tuple, five}
 use Rattle.spki_reduce.specs.Views.{entry_tuple}
 use Rattle.spki_reduce.specs.Derivation.{Derives, from_left}
 use Rattle.spki_reduce.specs.Restrictions.{SomeMoment, met}
 use Rattle.spki_reduce.specs.Chain.{all_tags}
-use Rattle.spki_reduce.specs.LastTests.{IsFirstLack}
+use Rattle.spki_reduce.specs.LastTests.{IsFirstDenial}
 use Rattle.spki_case.specs.Case.{Case, Verified}
 use Rattle.spki_decision.specs.declared.decision.Decision.{Decision}
 use Rattle.spki_decision.specs.declared.decision.Decision.TheVariants.{Yes, No}
@@ -24,29 +24,29 @@ use Rattle.spki_decision.specs.Granted.{Granted}
 use Rattle.spki_decision.specs.Reduced.{IsFailure, StopsAtItem, IsWithinWork}
 
 -- The tuples of an entry and of the certificates have a derivation. If there is a certificate, some moment is within all its
--- windows. The intersection of their tags, one after another, is not (* set), unless no certificate has a tag. `lack` is the
+-- windows. The intersection of their tags, one after another, is not (* set), unless no certificate has a tag. `denial` is the
 -- first of the three tests that the root does not pass.
-pub record LacksFirst (c : Case) (tuples : List Tuple) (e : Entry) (lack : Lack) : Type 0 where
+pub record LacksFirst (c : Case) (tuples : List Tuple) (e : Entry) (denial : Denial) : Type 0 where
   pub root : FiveTuple
   pub derived : Derives c.policy (from_left (five (entry_tuple e)) tuples) (five root)
   pub timely : tuples ≢ [] → SomeMoment root.windows
   pub tagged : met (all_tags (five (entry_tuple e) ∷ tuples)) ≡ set none → all_tags tuples ≡ []
-  pub first : IsFirstLack c.policy root c.key c.request c.moment (Some lack)
+  pub first : IsFirstDenial c.policy root c.key c.request c.moment (Some denial)
 
 -- why an entry and the certificates grant the request or do not
 abbrev pub IsReason : Case → List Tuple → Entry → Reason → Type 0
 IsReason c tuples e Grants = Supported c tuples e
-IsReason c tuples e NotTheKey = LacksFirst c tuples e lack.NotTheKey
-IsReason c tuples e TagLacks = LacksFirst c tuples e lack.TagLacks
-IsReason c tuples e WindowLacks = LacksFirst c tuples e lack.WindowLacks
+IsReason c tuples e NotTheKey = LacksFirst c tuples e denial.NotTheKey
+IsReason c tuples e TagLacks = LacksFirst c tuples e denial.TagLacks
+IsReason c tuples e WindowLacks = LacksFirst c tuples e denial.WindowLacks
 IsReason c tuples e (Stopped item cause) = StopsAtItem c tuples e item cause
 
 -- the reason for this result of the three tests
-abbrev pub reason_of : Option Lack → Reason
+abbrev pub reason_of : Option Denial → Reason
 reason_of None = Grants
-reason_of (Some lack.NotTheKey) = NotTheKey
-reason_of (Some lack.TagLacks) = TagLacks
-reason_of (Some lack.WindowLacks) = WindowLacks
+reason_of (Some denial.NotTheKey) = NotTheKey
+reason_of (Some denial.TagLacks) = TagLacks
+reason_of (Some denial.WindowLacks) = WindowLacks
 
 -- Every certificate stands, and each entry, in order, has its reason. The reason is Grants exactly if the entry is granted.
 -- No chain is too large at a step, and the work of all is within the limit.
@@ -54,7 +54,7 @@ pub record AreReasons (c : Case) (verified : Verified) (reasons : List Reason) :
   pub tuples : List Tuple
   pub shown : AreShown c.policy verified c.items tuples
   pub each : AllZip (IsReason c tuples) c.entries reasons
-  pub small : AllSmall c tuples
+  pub within_limit : AllSmall c tuples
   pub worked : IsWithinWork c tuples
   pub grants : (place : ℕ) → (slice_get reasons place ≡ Some Grants) ↔ Granted (suc place) c verified
 

@@ -84,7 +84,7 @@ pub record AreFolds (c : Case) (verified : Verified) (folds : List EntryFold) : 
   pub tuples : List Tuple
   pub shown : AreShown c.policy verified c.items tuples
   pub each : AllZip (IsEntryFold c tuples) c.entries folds
-  pub small : AllSmall c tuples
+  pub within_limit : AllSmall c tuples
   pub worked : IsWithinWork c tuples
 
 -- the first certificate that does not stand, or what the entries become

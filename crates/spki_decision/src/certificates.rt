@@ -102,7 +102,7 @@ fn is_operation(item: &SeqItem) -> bool
     }
 }
 
-/// The signature of an item.
+/// The signature that an item is. None for an item of another kind.
 fn signature_of<'s, 'a>(item: &'s SeqItem<'a>) -> Option<&'s Signature<'a>>
     ensures { option_copied result ≡ signature_of item.entry.now }
 {

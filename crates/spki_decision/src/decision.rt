@@ -43,11 +43,11 @@ pub fn decide<V: Verifier>(alloc: Global, case: &Case, verifier: &V) -> Result<D
     ensures exact { IfOk result (IsDecision (model case.now) (V.accepted verifier.now)) }
     ensures too_large { IsErrOf result GuardFault.TooLarge → IsTooLarge (model case.now) (V.accepted verifier.now) }
     // No such refusal is skipped.
-    ensures small { IfOk result (IsUnrefused (model case.now) (V.accepted verifier.now)) }
+    ensures within_limit { IfOk result (IsUnrefused (model case.now) (V.accepted verifier.now)) }
 {
     match judge(alloc, &case.sequence, case.policy, verifier)? {
         Evidence::Fails { .. } => Ok(Decision::No),
-        Evidence::Stands(steps) => first_within_limit(alloc, case, &steps),
+        Evidence::Verified(steps) => first_within_limit(alloc, case, &steps),
     }
 }
 
@@ -87,7 +87,7 @@ fn first_within_limit<'a>(
 ) -> Result<Decision, GuardFault>
     ensures named { IfOk result (Names (model case.now) (tuples_of steps.now)) }
     ensures too_large { IsErrOf result GuardFault.TooLarge → HasLarge (model case.now) (tuples_of steps.now) }
-    ensures small { IfOk result (SmallUpTo (model case.now) (tuples_of steps.now)) }
+    ensures within_limit { IfOk result (SmallUpTo (model case.now) (tuples_of steps.now)) }
 {
     let membership = Membership::of(alloc, case, steps)?;
     let sizes = Sizes::of(steps);
@@ -112,7 +112,7 @@ fn require_small<'a>(
     requires { AreSizes (tuples_of steps.now) sizes.now }
     ensures too_large { IsErrOf result ReduceFault.TooLarge →
         TooLargeAt case.now.most_nodes case.now.policy (five (entry_tuple entry.now)) (tuples_of steps.now) }
-    ensures small { IfOk result (λ _. ¬ TooLargeAt case.now.most_nodes case.now.policy (five (entry_tuple entry.now)) (tuples_of steps.now)) }
+    ensures within_limit { IfOk result (λ _. ¬ TooLargeAt case.now.most_nodes case.now.policy (five (entry_tuple entry.now)) (tuples_of steps.now)) }
 {
     if sizes.are_small(&entry.tag, steps, case.most_nodes) {
         return Ok(());

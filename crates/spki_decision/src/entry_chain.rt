@@ -27,11 +27,11 @@ pub(crate) fn fold_entry<'a>(
     ensures alone { tuples_of steps.now ≡ [] → IfOk result (λ fold. MatchFold fold
         (λ f. five_tuple f ≡ entry_tuple entry.now) (λ step cause. ⊥)) }
     ensures issuer { IfOk result (λ fold. MatchFold fold (λ f. issuer_of f.issuer ≡ own) (λ step cause. Unit {0})) }
-    ensures which { IfOk result (λ fold. MatchFold fold
+    ensures value { IfOk result (λ fold. MatchFold fold
         (HasMet (five (entry_tuple entry.now)) (tuples_of steps.now)) (λ step cause. Unit {0})) }
     ensures excluded { IfOk result (λ fold. MatchFold fold (λ f. Unit {0})
         (Excludes policy (five (entry_tuple entry.now)) (tuples_of steps.now))) }
-    ensures small { IfOk result (λ fold. ¬ TooLargeAt most policy (five (entry_tuple entry.now)) (tuples_of steps.now)) }
+    ensures within_limit { IfOk result (λ fold. ¬ TooLargeAt most policy (five (entry_tuple entry.now)) (tuples_of steps.now)) }
     ensures too_large { IsErrOf result ReduceFault.TooLarge →
         TooLargeAt most policy (five (entry_tuple entry.now)) (tuples_of steps.now)
         ⊎ IsOverworked (left_of work.old) policy (five (entry_tuple entry.now)) (tuples_of steps.now) }

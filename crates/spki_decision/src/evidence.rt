@@ -29,8 +29,8 @@ pub enum Stop {
 /// The evidence of a sequence.
 #[derive(Drop)]
 pub enum Evidence<'a> {
-    /// Each of them stands. These are their tuples, in order.
-    Stands(Vec<Step<'a>>),
+    /// Each of them is verified. These are their tuples, in order.
+    Verified(Vec<Step<'a>>),
     /// The first that does not stand.
     Fails {
         /// The number of its item, from 1.

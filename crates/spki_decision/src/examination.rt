@@ -67,7 +67,7 @@ pub fn examine<'a>(
             }
         }
     }
-    let evidence = Evidence::Stands(steps);
+    let evidence = Evidence::Verified(steps);
     Ok(Examined { signed, evidence })
 }
 

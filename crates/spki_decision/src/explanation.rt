@@ -20,7 +20,7 @@ use crate::fault::GuardFault;
 use crate::reduction::{EntryFold, entry_fold};
 use spki_case::{Case, Verifier};
 use spki_cert::Entry;
-use spki_reduce::{Cause, Lack, Step, Work};
+use spki_reduce::{Cause, Denial, Step, Work};
 use std::alloc::Global;
 
 /// Why an entry and all certificates grant the request or do not.
@@ -76,10 +76,10 @@ pub fn explain<V: Verifier>(
     ensures exact { IfOk result (IsExplanation (model case.now) (V.accepted verifier.now)) }
     ensures too_large { IsErrOf result GuardFault.TooLarge → SomeTooLarge (model case.now) (V.accepted verifier.now) }
 {
-    case.request.known();
+    case.request.prove_well_formed();
     match judge(alloc, &case.sequence, case.policy, verifier)? {
         Evidence::Fails { item, stop } => Ok(Explanation::Evidence { item, stop }),
-        Evidence::Stands(steps) => {
+        Evidence::Verified(steps) => {
             let reasons = entry_reasons(alloc, &case.acl, case, &steps)?;
             Ok(Explanation::Entries(reasons))
         }
@@ -104,7 +104,7 @@ pub fn entry_reasons<'a>(
     ensures too_large { IsErrOf result GuardFault.TooLarge →
         HasLargeTags (with_entries (model case.now) acl.now) (tuples_of steps.now)
         ⊎ HasMuchWork (with_entries (model case.now) acl.now) (tuples_of steps.now) }
-    ensures small { OnOk result (AllSmall (with_entries (model case.now) acl.now) (tuples_of steps.now)) }
+    ensures within_limit { OnOk result (AllSmall (with_entries (model case.now) acl.now) (tuples_of steps.now)) }
     ensures worked { OnOk result (IsWithinWork (with_entries (model case.now) acl.now) (tuples_of steps.now)) }
 {
     let shown = certificates_of(alloc, &case.sequence)?;
@@ -134,25 +134,25 @@ fn entry_reason<'a>(
         ⊎ IsOverworked (left_of work.old) case.now.policy (five (entry_tuple entry.now)) (tuples_of steps.now) }
     ensures worked { OnOk result ((n : ℕ) × IsWork case.now.policy (five (entry_tuple entry.now)) (tuples_of steps.now) n
         × Takes (left_of work.old) (left_of work.new) n) }
-    ensures small { IfOk result (λ reason. ¬ TooLargeAt case.now.most_nodes case.now.policy (five (entry_tuple entry.now)) (tuples_of steps.now)) }
+    ensures within_limit { IfOk result (λ reason. ¬ TooLargeAt case.now.most_nodes case.now.policy (five (entry_tuple entry.now)) (tuples_of steps.now)) }
 {
     match entry_fold(alloc, case, entry, shown, steps, work)? {
         EntryFold::Stopped { item, cause } => Ok(Reason::Stopped { item, cause }),
         EntryFold::Done(five) => {
-            let lack = five.first_lack(&case.key, &case.request, &case.moment, case.policy);
-            Ok(reason_of(lack))
+            let denial = five.first_denial(&case.key, &case.request, &case.moment, case.policy);
+            Ok(reason_of(denial))
         }
     }
 }
 
 /// The reason for this result of the three tests.
-fn reason_of(lack: Option<Lack>) -> Reason
-    ensures { result ≡ reason_of lack }
+fn reason_of(denial: Option<Denial>) -> Reason
+    ensures { result ≡ reason_of denial }
 {
-    match lack {
+    match denial {
         None => Reason::Grants,
-        Some(Lack::NotTheKey) => Reason::NotTheKey,
-        Some(Lack::TagLacks) => Reason::TagLacks,
-        Some(Lack::WindowLacks) => Reason::WindowLacks,
+        Some(Denial::NotTheKey) => Reason::NotTheKey,
+        Some(Denial::TagLacks) => Reason::TagLacks,
+        Some(Denial::WindowLacks) => Reason::WindowLacks,
     }
 }

@@ -1,4 +1,5 @@
 //! Laws of grants, decisions and explanations.
+//! Each function is a law: it does nothing, and its contract is the fact.
 
 ghost use Rattle.std.specs.Prelude.{◌≡◌, ◌⊎◌, ℕ, List, Result, Ok, Err, Some, slice_get};
 ghost use Rattle.spki_case.specs.Case.{Case, accepted_by};

@@ -39,7 +39,7 @@ impl<'a> Membership<'a> {
     ) -> Result<Membership<'a>, AllocError>
         ensures { IfOk result (IsMembership (model case.now) (tuples_of steps.now)) }
     {
-        case.request.known();
+        case.request.prove_well_formed();
         if !all_contain(steps, case) {
             return Ok(Membership { required: None });
         }

@@ -72,7 +72,7 @@ pub fn reduce_case<'a, V: Verifier>(
 {
     match judge(alloc, &case.sequence, case.policy, verifier)? {
         Evidence::Fails { item, stop } => Ok(Reduction::Evidence { item, stop }),
-        Evidence::Stands(steps) => {
+        Evidence::Verified(steps) => {
             let folds = entry_folds(alloc, &case.acl, case, &steps)?;
             Ok(Reduction::Entries(folds))
         }
@@ -99,7 +99,7 @@ pub fn entry_folds<'a>(
     ensures too_large { IsErrOf result GuardFault.TooLarge →
         HasLargeTags (with_entries (model case.now) acl.now) (tuples_of steps.now)
         ⊎ HasMuchWork (with_entries (model case.now) acl.now) (tuples_of steps.now) }
-    ensures small { OnOk result (AllSmall (with_entries (model case.now) acl.now) (tuples_of steps.now)) }
+    ensures within_limit { OnOk result (AllSmall (with_entries (model case.now) acl.now) (tuples_of steps.now)) }
     ensures worked { OnOk result (IsWithinWork (with_entries (model case.now) acl.now) (tuples_of steps.now)) }
 {
     let shown = certificates_of(alloc, &case.sequence)?;
@@ -132,11 +132,11 @@ pub(crate) fn entry_fold<'a>(
         ⊎ IsOverworked (left_of work.old) case.now.policy (five (entry_tuple entry.now)) (tuples_of steps.now) }
     ensures worked { OnOk result ((n : ℕ) × IsWork case.now.policy (five (entry_tuple entry.now)) (tuples_of steps.now) n
         × Takes (left_of work.old) (left_of work.new) n) }
-    ensures small { IfOk result (λ fold. ¬ TooLargeAt case.now.most_nodes case.now.policy (five (entry_tuple entry.now)) (tuples_of steps.now)) }
+    ensures within_limit { IfOk result (λ fold. ¬ TooLargeAt case.now.most_nodes case.now.policy (five (entry_tuple entry.now)) (tuples_of steps.now)) }
 {
     match fold_entry(alloc, entry, steps, case.policy, case.most_nodes, work)? {
         Fold::Done(five) => {
-            five.window.known();
+            five.window.prove_limits();
             Ok(EntryFold::Done(five))
         }
         Fold::Stopped { step, cause } => Ok(EntryFold::Stopped {

@@ -16,8 +16,8 @@ use Rattle.spki_service.specs.declared.question.AskFault.TheVariants as faults
 use Rattle.spki_guard.specs.declared.answers.Answer.{Answer}
 use Rattle.spki_guard.specs.declared.answers.Verdict.{Verdict}
 use Rattle.spki_guard.specs.declared.answers.Verdict.TheVariants.{Refused}
-use Rattle.spki_guard.specs.declared.question_answers.Wish.{Wish}
-use Rattle.spki_guard.specs.declared.question_answers.Wish.TheVariants.{Decide}
+use Rattle.spki_guard.specs.declared.question_answers.Query.{Query}
+use Rattle.spki_guard.specs.declared.question_answers.Query.TheVariants.{Decide}
 use Rattle.spki_guard.specs.Answer.{written_by, IsLineOf}
 use Rattle.spki_guard.specs.Held.{ReadsQuestion, AnswersAsked, IsUnreadQuestion, IsAnswerHeld, HasOtherCount, marked}
 use Rattle.spki_guard.specs.HeldLines.{refused_question}
@@ -38,22 +38,22 @@ opened_reads held q o a opened read =
     reads held q a.case (λ long. omega (arith, opened.short, long)) (read.is q opened.texts) read.policy read.nodes read.work read.few
     (read.short q opened.texts)
 
-pub answered : (wish : Wish) (held : Held) (q : Question) (marks : List Bool) (a : AskedOf) (answer : Option Answer) → ReadsQuestion held q a.case
+pub answered : (query : Query) (held : Held) (q : Question) (marks : List Bool) (a : AskedOf) (answer : Option Answer) → ReadsQuestion held q a.case
     → a.texts ≡ held.texts → a.answer ≡ held.answer
-    → IfSome answer (λ x. AnswersAsked wish a (marked a.case marks) x.verdict (written_by x) ⊎ RefusesForMemory x.verdict (written_by x))
+    → IfSome answer (λ x. AnswersAsked query a (marked a.case marks) x.verdict (written_by x) ⊎ RefusesForMemory x.verdict (written_by x))
     → IfSome answer (λ _. length marks ≡ length (asked a.case))
-    → IfSome answer (λ x. IsAnswerHeld wish held q marks x.verdict (written_by x))
-answered wish held q marks a None read texts most h counted = tt
-answered wish held q marks a (Some x) read texts most (inl h) counted =
+    → IfSome answer (λ x. IsAnswerHeld query held q marks x.verdict (written_by x))
+answered query held q marks a None read texts most h counted = tt
+answered query held q marks a (Some x) read texts most (inl h) counted =
     inl (record {
       case_read = a.case;
       read = read;
       counted = counted;
-      answer = subst (λ n. AnswersAsked wish (record { texts = held.texts; case = a.case; answer = n }) (marked a.case marks) x.verdict (written_by x))
-          most (subst (λ ts. AnswersAsked wish (record { texts = ts; case = a.case; answer = a.answer }) (marked a.case marks) x.verdict
+      answer = subst (λ n. AnswersAsked query (record { texts = held.texts; case = a.case; answer = n }) (marked a.case marks) x.verdict (written_by x))
+          most (subst (λ ts. AnswersAsked query (record { texts = ts; case = a.case; answer = a.answer }) (marked a.case marks) x.verdict
           (written_by x)) texts h);
     })
-answered wish held q marks a (Some x) read texts most (inr h) counted = inr (inr h)
+answered query held q marks a (Some x) read texts most (inr h) counted = inr (inr h)
 
 -- a question that isn't read, and the line that says why
 pub unread : (held : Held) (q : Question) (fault : AskFault) (verdict : Verdict) (output : List ℕ) → ¬ (held.octets < asked_octets q)

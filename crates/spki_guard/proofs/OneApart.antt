@@ -38,8 +38,8 @@ same_rows : (text : List ℕ) (rows others : List Row) → ReadsRows text rows �
 same_rows text rows others read other =
     one_list (canon other.value) rows others (rows_there text rows other.value read other.read) other.are_rows
 
-no_lack : (text : List ℕ) (c : Case) (fault : CaseFault) → ReadsCase text c → ¬ LacksCase text fault
-no_lack text c fault read lacks = case_unrefused (canon lacks.value) c fault (case_there text c lacks.value read lacks.read) lacks.refused
+no_denial : (text : List ℕ) (c : Case) (fault : CaseFault) → ReadsCase text c → ¬ LacksCase text fault
+no_denial text c fault read lacks = case_unrefused (canon lacks.value) c fault (case_there text c lacks.value read lacks.read) lacks.refused
 
 no_blame : (text : List ℕ) (rows : List Row) (fault : RowsFault) → ReadsRows text rows → ¬ RefusesRows text fault
 no_blame text rows fault read (inl bad) = bad.refused.none read.value read.read
@@ -74,7 +74,7 @@ pub only_memory : (text rows : List ℕ) (verdict : Verdict) (output : List ℕ)
     → RefusesApart text rows refusal → refusal ≡ refusals.Memory
 only_memory text rows verdict output (refusals.Form fault) a b = absurd (b.none a.text_is.value a.text_is.read)
 only_memory text rows verdict output (refusals.Intersect fault) a b = absurd b
-only_memory text rows verdict output (refusals.Case fault) a b = absurd (no_lack text a.case_read fault a.text_is b)
+only_memory text rows verdict output (refusals.Case fault) a b = absurd (no_denial text a.case_read fault a.text_is b)
 only_memory text rows verdict output (refusals.Decision fault) a b =
     let same : a.case_read ≡ b.case_read =
     text-one (canon b.text_is.value) a.case_read b.case_read (case_there text a.case_read b.text_is.value a.text_is b.text_is.read) b.text_is.is_case in
@@ -121,17 +121,17 @@ one_refused text rows (refusals.Case f) refusals.Memory a b k l = absurd (l refl
 one_refused text rows (refusals.Case f) (refusals.Intersect g) a b k l = absurd b
 one_refused text rows (refusals.Case f) (refusals.Form g) a b k l = absurd (b.none a.value a.read)
 one_refused text rows (refusals.Case f) (refusals.Case g) a b k l = ap refusals.Case (cases_one text f g a b)
-one_refused text rows (refusals.Case f) (refusals.Rows g) a b k l = absurd (no_lack text b.case_read f b.text_is a)
-one_refused text rows (refusals.Case f) (refusals.Decision g) a b k l = absurd (no_lack text b.case_read f b.text_is a)
+one_refused text rows (refusals.Case f) (refusals.Rows g) a b k l = absurd (no_denial text b.case_read f b.text_is a)
+one_refused text rows (refusals.Case f) (refusals.Decision g) a b k l = absurd (no_denial text b.case_read f b.text_is a)
 one_refused text rows (refusals.Rows f) refusals.Memory a b k l = absurd (l refl)
 one_refused text rows (refusals.Rows f) (refusals.Intersect g) a b k l = absurd b
 one_refused text rows (refusals.Rows f) (refusals.Form g) a b k l = absurd (b.none a.text_is.value a.text_is.read)
-one_refused text rows (refusals.Rows f) (refusals.Case g) a b k l = absurd (no_lack text a.case_read g a.text_is b)
+one_refused text rows (refusals.Rows f) (refusals.Case g) a b k l = absurd (no_denial text a.case_read g a.text_is b)
 one_refused text rows (refusals.Rows f) (refusals.Rows g) a b k l = ap refusals.Rows (rows_one rows f g a.is b.is)
 one_refused text rows (refusals.Rows f) (refusals.Decision g) a b k l = absurd (no_blame rows b.is.rows f b.is.rows_are a.is)
 one_refused text rows (refusals.Decision f) refusals.Memory a b k l = absurd (l refl)
 one_refused text rows (refusals.Decision f) (refusals.Intersect g) a b k l = absurd b
 one_refused text rows (refusals.Decision f) (refusals.Form g) a b k l = absurd (b.none a.text_is.value a.text_is.read)
-one_refused text rows (refusals.Decision f) (refusals.Case g) a b k l = absurd (no_lack text a.case_read g a.text_is b)
+one_refused text rows (refusals.Decision f) (refusals.Case g) a b k l = absurd (no_denial text a.case_read g a.text_is b)
 one_refused text rows (refusals.Decision f) (refusals.Rows g) a b k l = absurd (no_blame rows a.is.rows g a.is.rows_are b.is)
 one_refused text rows (refusals.Decision f) (refusals.Decision g) a b k l = ap refusals.Decision (a.is.named ∙ sym b.is.named)

@@ -13,8 +13,8 @@ use Rattle.spki_service.specs.declared.question.AskFault.{AskFault}
 use Rattle.spki_service.proofs.OneAsking.{case-one}
 use Rattle.spki_service.proofs.OneRefusal.{unrefused-one, refusal-one}
 use Rattle.spki_guard.specs.declared.answers.Verdict.{Verdict}
-use Rattle.spki_guard.specs.declared.question_answers.Wish.{Wish}
-use Rattle.spki_guard.specs.declared.question_answers.Wish.TheVariants.{Decide, Explain, Reduce}
+use Rattle.spki_guard.specs.declared.question_answers.Query.{Query}
+use Rattle.spki_guard.specs.declared.question_answers.Query.TheVariants.{Decide, Explain, Reduce}
 use Rattle.spki_guard.specs.Answer.{IsLineOf}
 use Rattle.spki_guard.specs.Held.{ReadsQuestion, IsUnreadFor, IsUnreadQuestion, WritesAsked, IsTooLargeFor, AnswersAsked, AnswersHeld, IsAnswerHeld, HasOtherCount, beside, marked}
 use Rattle.spki_guard.specs.HeldLines.{refused_question}
@@ -50,12 +50,12 @@ module _ (held : Held) (q : Question) where
 
   -- ---- as many marks
 
-  pub counted_or_not : (wish : Wish) (marks : List Bool) (verdict : Verdict) (output : List ℕ) → HasOtherCount held q marks
-      → IsAnswerHeld wish held q marks verdict output → RefusesForMemory verdict output
-  counted_or_not wish marks verdict output m (inl n) =
+  pub counted_or_not : (query : Query) (marks : List Bool) (verdict : Verdict) (output : List ℕ) → HasOtherCount held q marks
+      → IsAnswerHeld query held q marks verdict output → RefusesForMemory verdict output
+  counted_or_not query marks verdict output m (inl n) =
       absurd (m.other (n.counted ∙ ap (λ c. length (asked c)) (case_one n.case_read m.case_read n.read m.read)))
-  counted_or_not wish marks verdict output m (inr (inl n)) = absurd (read_or_not m.case_read n.fault m.read n.refused)
-  counted_or_not wish marks verdict output m (inr (inr n)) = n
+  counted_or_not query marks verdict output m (inr (inl n)) = absurd (read_or_not m.case_read n.fault m.read n.refused)
+  counted_or_not query marks verdict output m (inr (inr n)) = n
 
 -- ---- what is answered
 
@@ -63,8 +63,8 @@ module _ (a : AskedOf) (es : List Entry) (are : AreEntries a.texts es) (verified
   abbrev whole : Case
   whole = with_entries a.case es
 
-  writes_one : (wish : Wish) (x y : Verdict) (output line : List ℕ) → WritesAsked wish a verified x output
-      → WritesAsked wish a verified y line → Same x y output line
+  writes_one : (query : Query) (x y : Verdict) (output line : List ℕ) → WritesAsked query a verified x output
+      → WritesAsked query a verified y line → Same x y output line
   writes_one Decide x y output line (d, at, is) (e, also, other) =
       let same : d ≡ e = decision_one whole verified d e (at es are) (also es are) in
       decision_line e x y output line (subst (λ (f : Decision). IsLineOf f x output) same is) other
@@ -73,7 +73,7 @@ module _ (a : AskedOf) (es : List Entry) (are : AreEntries a.texts es) (verified
   writes_one Reduce x y output line (d, at, end, is, short) (e, also, ends, other, within) =
       reduction_line d e x y output line (reduced_one whole verified (Ok d) (Ok e) (at es are) (also es are)) is other
 
-  writes_or_not : (wish : Wish) (x : Verdict) (output : List ℕ) → WritesAsked wish a verified x output → ¬ IsTooLargeFor wish a verified
+  writes_or_not : (query : Query) (x : Verdict) (output : List ℕ) → WritesAsked query a verified x output → ¬ IsTooLargeFor query a verified
   writes_or_not Decide x output w large = large
   writes_or_not Explain x output (d, at, is, short) (inl large) = explained_small whole verified d (at es are) (large es are)
   writes_or_not Explain x output (d, at, is, short) (inr l) =
@@ -89,23 +89,23 @@ module _ (a : AskedOf) (es : List Entry) (are : AreEntries a.texts es) (verified
       let long = l.long in
       omega (arith, short, long, ap length same.1)
 
-  answers_one : (wish : Wish) (x y : Verdict) (output line : List ℕ) → AnswersAsked wish a verified x output
-      → AnswersAsked wish a verified y line → Same x y output line
-  answers_one wish x y output line (inl m) (inl n) = writes_one wish x y output line m n
-  answers_one wish x y output line (inl m) (inr n) = absurd (writes_or_not wish x output m n.large)
-  answers_one wish x y output line (inr m) (inl n) = absurd (writes_or_not wish y line n m.large)
-  answers_one wish x y output line (inr m) (inr n) = (m.verdict_is ∙ sym n.verdict_is, m.line ∙ sym n.line)
+  answers_one : (query : Query) (x y : Verdict) (output line : List ℕ) → AnswersAsked query a verified x output
+      → AnswersAsked query a verified y line → Same x y output line
+  answers_one query x y output line (inl m) (inl n) = writes_one query x y output line m n
+  answers_one query x y output line (inl m) (inr n) = absurd (writes_or_not query x output m n.large)
+  answers_one query x y output line (inr m) (inl n) = absurd (writes_or_not query y line n m.large)
+  answers_one query x y output line (inr m) (inr n) = (m.verdict_is ∙ sym n.verdict_is, m.line ∙ sym n.line)
 
-module _ (wish : Wish) (held : Held) (q : Question) (marks : List Bool) (es : List Entry) where
-  held_one : (x y : Verdict) (output line : List ℕ) → AreEntries held.texts es → AnswersHeld wish held q marks x output
-      → AnswersHeld wish held q marks y line → Same x y output line
+module _ (query : Query) (held : Held) (q : Question) (marks : List Bool) (es : List Entry) where
+  held_one : (x y : Verdict) (output line : List ℕ) → AreEntries held.texts es → AnswersHeld query held q marks x output
+      → AnswersHeld query held q marks y line → Same x y output line
   held_one x y output line are m n =
       let same : m.case_read ≡ n.case_read = case_one held q m.case_read n.case_read m.read n.read in
-      let there = subst (λ (c : Case). AnswersAsked wish (beside held c) (marked c marks) x output) same m.answer in
-      answers_one (beside held n.case_read) es are (marked n.case_read marks) wish x y output line there n.answer
+      let there = subst (λ (c : Case). AnswersAsked query (beside held c) (marked c marks) x output) same m.answer in
+      answers_one (beside held n.case_read) es are (marked n.case_read marks) query x y output line there n.answer
 
-  pub answer_one : (x y : Verdict) (output line : List ℕ) → AreEntries held.texts es → IsAnswerHeld wish held q marks x output
-      → IsAnswerHeld wish held q marks y line → ¬ RefusesForMemory x output → ¬ RefusesForMemory y line
+  pub answer_one : (x y : Verdict) (output line : List ℕ) → AreEntries held.texts es → IsAnswerHeld query held q marks x output
+      → IsAnswerHeld query held q marks y line → ¬ RefusesForMemory x output → ¬ RefusesForMemory y line
       → (x ≡ y) × (output ≡ line)
   answer_one x y output line are (inl m) (inl n) found known = held_one x y output line are m n
   answer_one x y output line are (inl m) (inr (inl n)) found known = absurd (read_or_not held q m.case_read n.fault m.read n.refused)

@@ -72,7 +72,7 @@ met_one v s t m n =
     let both = operands m.first m.second n.first n.second (sym m.written ∙ n.written) in
     let a : m.a ≡ n.a = read_tag m.first n.first m.a n.a both.0 m.first_read n.first_read in
     let b : m.b ≡ n.b = read_tag m.second n.second m.b n.b both.1 m.second_read n.second_read in
-    m.which ∙ (λ i. meet (a i) (b i)) ∙ sym n.which
+    m.value ∙ (λ i. meet (a i) (b i)) ∙ sym n.value
 
 meets_one : (text : List ℕ) (x y : Verdict) (output line : List ℕ) → WritesMeet text x output → WritesMeet text y line
     → Same x y output line
@@ -97,7 +97,7 @@ met_or_not v t intersect.TooLarge m n =
     let a : m.a ≡ n.a = read_tag m.first n.first m.a n.a both.0 m.first_read n.first_read in
     let b : m.b ≡ n.b = read_tag m.second n.second m.b n.b both.1 m.second_read n.second_read in
     let product : nodes m.a * nodes m.b ≡ nodes n.a * nodes n.b = λ i. nodes (a i) * nodes (b i) in
-    let small : nodes m.a * nodes m.b ≤ 1000000 = m.small in
+    let small : nodes m.a * nodes m.b ≤ 1000000 = m.within_limit in
     let large : 1000000 < nodes n.a * nodes n.b = n.large in
     absurd (omega (arith, product, small, large))
 met_or_not v t intersect.Memory m n = n

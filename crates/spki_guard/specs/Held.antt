@@ -1,6 +1,6 @@
 -- What is answered to a question that is asked of a guard, where a service marks the signatures that it has verified (RFC 2693,
 -- section 6).
-use Rattle.std.specs.Prelude.{◌≡◌, ◌≢◌, ◌⊎◌, ◌<◌, ◌≤◌, ℕ, List, [], ◌∷◌, ◌++◌, length, Bool, Some, Ok, Err}
+use Rattle.std.specs.Prelude.{◌≡◌, ◌≢◌, ◌⊎◌, ◌<◌, ◌≤◌, ℕ, List, length, Bool, Some, Ok, Err}
 use Rattle.spki_case.specs.Case.{Case, Verified}
 use Rattle.spki_decision.specs.declared.decision.Decision.{Decision}
 use Rattle.spki_decision.specs.declared.explanation.Explanation.{Explanation}
@@ -8,7 +8,7 @@ use Rattle.spki_decision.specs.declared.reduction.Reduction.{Reduction}
 use Rattle.spki_decision.specs.declared.fault.GuardFault.TheVariants.{TooLarge}
 use Rattle.spki_decision.specs.Answered.{IsExplained, IsReduced}
 use Rattle.spki_decision.specs.Reduced.{EndAtDates}
-use Rattle.spki_decision.specs.Asked.{Signed, asked}
+use Rattle.spki_decision.specs.Asked.{asked}
 use Rattle.spki_service.specs.Held.{Held}
 use Rattle.spki_service.specs.Asking.{AskedOf, OfCase, Decides, MarksAccept}
 use Rattle.spki_service.specs.Counted.{certificates_in, HasFewStrings, IsRefused}
@@ -18,8 +18,8 @@ use Rattle.spki_service.specs.declared.question.AskFault.{AskFault}
 use Rattle.spki_service.specs.declared.question.AskFault.TheVariants as faults
 use Rattle.spki_guard.specs.declared.answers.Verdict.{Verdict}
 use Rattle.spki_guard.specs.declared.answers.Verdict.TheVariants.{Refused}
-use Rattle.spki_guard.specs.declared.question_answers.Wish.{Wish}
-use Rattle.spki_guard.specs.declared.question_answers.Wish.TheVariants.{Decide, Explain, Reduce}
+use Rattle.spki_guard.specs.declared.question_answers.Query.{Query}
+use Rattle.spki_guard.specs.declared.question_answers.Query.TheVariants.{Decide, Explain, Reduce}
 use Rattle.spki_guard.specs.Answer.{IsLineOf}
 use Rattle.spki_guard.specs.HeldLines.{refused_question}
 use Rattle.spki_guard.specs.Lines.{refused_large}
@@ -47,7 +47,7 @@ beside held c = record { texts = held.texts; case = c; answer = held.answer }
 
 -- These are the line or lines of what is answered of the case with the guard's entries, where these signatures are accepted. Those of
 -- an explanation or a reduction are within the guard's limit. The windows that a reduction writes begin and end at dates.
-abbrev pub WritesAsked : Wish → AskedOf → Verified → Verdict → List ℕ → Type 0
+abbrev pub WritesAsked : Query → AskedOf → Verified → Verdict → List ℕ → Type 0
 WritesAsked Decide a verified verdict output =
     (d : Decision) × Decides verified a d × IsLineOf d verdict output
 WritesAsked Explain a verified verdict output =
@@ -76,7 +76,7 @@ pub record ReducesLong (a : AskedOf) (verified : Verified) : Type 0 where
   pub long : a.answer < length lines
 
 -- Tags are too large for an answer, or its lines are; for a decision none are.
-abbrev pub IsTooLargeFor : Wish → AskedOf → Verified → Type 0
+abbrev pub IsTooLargeFor : Query → AskedOf → Verified → Type 0
 IsTooLargeFor Decide a verified = ⊥
 IsTooLargeFor Explain a verified = OfCase a (λ c. IsExplained c verified (Err TooLarge)) ⊎ ExplainsLong a verified
 IsTooLargeFor Reduce a verified = OfCase a (λ c. IsReduced c verified (Err TooLarge)) ⊎ ReducesLong a verified
@@ -88,21 +88,21 @@ abbrev pub marked : Case → List Bool → Verified
 marked c marks = MarksAccept (asked c) marks
 
 -- Tags or lines are too large for an answer, and the line says so.
-pub record SaysTooLarge (wish : Wish) (a : AskedOf) (verified : Verified) (verdict : Verdict) (output : List ℕ) : Type 0 where
-  pub large : IsTooLargeFor wish a verified
+pub record SaysTooLarge (query : Query) (a : AskedOf) (verified : Verified) (verdict : Verdict) (output : List ℕ) : Type 0 where
+  pub large : IsTooLargeFor query a verified
   pub verdict_is : verdict ≡ Refused
   pub line : output ≡ refused_large
 
-abbrev pub AnswersAsked : Wish → AskedOf → Verified → Verdict → List ℕ → Type 0
-AnswersAsked wish a verified verdict output =
-    WritesAsked wish a verified verdict output ⊎ SaysTooLarge wish a verified verdict output
+abbrev pub AnswersAsked : Query → AskedOf → Verified → Verdict → List ℕ → Type 0
+AnswersAsked query a verified verdict output =
+    WritesAsked query a verified verdict output ⊎ SaysTooLarge query a verified verdict output
 
 -- The question is read and has as many signatures as there are marks, and this is the answer of its case.
-pub record AnswersHeld (wish : Wish) (held : Held) (q : Question) (marks : List Bool) (verdict : Verdict) (output : List ℕ) : Type 0 where
+pub record AnswersHeld (query : Query) (held : Held) (q : Question) (marks : List Bool) (verdict : Verdict) (output : List ℕ) : Type 0 where
   pub case_read : Case
   pub read : ReadsQuestion held q case_read
   pub counted : length marks ≡ length (asked case_read)
-  pub answer : AnswersAsked wish (beside held case_read) (marked case_read marks) verdict output
+  pub answer : AnswersAsked query (beside held case_read) (marked case_read marks) verdict output
 
 -- why a question is refused: its parts together have too many octets; or they do not, and a part has no reading, or there are too many
 -- certificates or strings
@@ -121,9 +121,9 @@ pub record RefusesQuestion (held : Held) (q : Question) (verdict : Verdict) (out
 abbrev pub IsUnreadQuestion : Held → Question → Verdict → List ℕ → Type 0
 IsUnreadQuestion held q verdict output = RefusesQuestion held q verdict output ⊎ RefusesForMemory verdict output
 
-abbrev pub IsAnswerHeld : Wish → Held → Question → List Bool → Verdict → List ℕ → Type 0
-IsAnswerHeld wish held q marks verdict output =
-    AnswersHeld wish held q marks verdict output ⊎ IsUnreadQuestion held q verdict output
+abbrev pub IsAnswerHeld : Query → Held → Question → List Bool → Verdict → List ℕ → Type 0
+IsAnswerHeld query held q marks verdict output =
+    AnswersHeld query held q marks verdict output ⊎ IsUnreadQuestion held q verdict output
 
 -- The question is read, and has another number of signatures than there are marks.
 pub record HasOtherCount (held : Held) (q : Question) (marks : List Bool) : Type 0 where

@@ -30,8 +30,8 @@ pub record Intersects (v : Value) (c : Tag) : Type 0 where
   pub b : Tag
   pub first_read : ReadsAs first a
   pub second_read : ReadsAs second b
-  pub small : nodes a * nodes b ≤ 1000000
-  pub which : c ≡ meet a b
+  pub within_limit : nodes a * nodes b ≤ 1000000
+  pub value : c ≡ meet a b
   pub normal : IsNormalTag c
   pub exact : (g : Request) → IsRequest g → contains c g ≡ (contains a g && contains b g)
   pub few : nodes c ≤ nodes a * nodes b

@@ -2,6 +2,7 @@
 #![tactic(auto)]
 
 mod answers;
+mod capped_sink;
 mod entry_lines;
 mod guard_refusals;
 mod intersection;
@@ -25,7 +26,7 @@ pub use intersection::{IntersectFault, intersect};
 pub use metered_io::Metered;
 pub use opened_answers::{answer_opened, open_question};
 pub use program::run_words;
-pub use question_answers::{Wish, answer_question, refused_list};
+pub use question_answers::{Query, answer_question, refused_list};
 pub use runs::run;
 pub use separate_rows::{check_accepted, one_answer_apart};
 pub use spki_case::{AcceptedTable, Case, CaseFault, Row, RowsFault, Verifier};
@@ -34,8 +35,8 @@ pub use spki_decision::{
     first_named, laws, reduce_case,
 };
 pub use spki_service::{
-    AclFault, AskFault, Asked, Guard, Instant, Limits, Opened, OwnedSigned, Part, Question,
-    SharedGuard, Signed, Texts, Wanted,
+    AclFault, AskFault, Asked, Guard, Limits, Moment, Opened, OwnedSigned, Part, Question,
+    RequestInput, SharedGuard, Signed, Texts,
 };
 pub use spki_words::{Command, WordsFault, command_of};
 pub use statuses::Status;

@@ -1,4 +1,5 @@
 //! Laws of the answers to a text, and to a question that is asked of a guard.
+//! Each function is a law: it does nothing, and its contract is the fact.
 
 ghost use Rattle.std.specs.Prelude.{◌≡◌, ◌≢◌, ℕ, List, Bool};
 ghost use Rattle.spki_cert.specs.declared.entry.Entry.{Entry};
@@ -8,7 +9,7 @@ ghost use Rattle.spki_service.specs.declared.question.Question.{Question};
 ghost use Rattle.spki_guard.specs.declared.answers.Refusal.{Refusal};
 ghost use Rattle.spki_guard.specs.declared.answers.Refusal.TheVariants as refusals;
 ghost use Rattle.spki_guard.specs.declared.answers.Verdict.{Verdict};
-ghost use Rattle.spki_guard.specs.declared.question_answers.Wish.{Wish};
+ghost use Rattle.spki_guard.specs.declared.question_answers.Query.{Query};
 ghost use Rattle.spki_guard.specs.declared.intersection.IntersectFault.TheVariants as intersect;
 ghost use Rattle.spki_guard.specs.Answer.{AnswersRead, RefusesAnswer};
 ghost use Rattle.spki_guard.specs.Held.{IsAnswerHeld, HasOtherCount, IsUnreadQuestion};
@@ -40,11 +41,11 @@ pub fn one_too_large()
 /// A question that is asked of a guard has one answer, unless memory ran out: one output and verdict, or none. So `answer_question`
 /// returns one result for the same marks. The texts are those of the guard's entries.
 pub fn one_answer_held()
-    ensures same { (wish : Wish) (held : Held) (q : Question) (marks : List Bool) (es : List Entry) (x y : Verdict) (output line : List ℕ)
-        → AreEntries held.texts es → IsAnswerHeld wish held q marks x output → IsAnswerHeld wish held q marks y line
+    ensures same { (query : Query) (held : Held) (q : Question) (marks : List Bool) (es : List Entry) (x y : Verdict) (output line : List ℕ)
+        → AreEntries held.texts es → IsAnswerHeld query held q marks x output → IsAnswerHeld query held q marks y line
         → ¬ RefusesForMemory x output → ¬ RefusesForMemory y line → (x ≡ y) × (output ≡ line) }
-    ensures counted { (wish : Wish) (held : Held) (q : Question) (marks : List Bool) (x : Verdict) (output : List ℕ)
-        → HasOtherCount held q marks → IsAnswerHeld wish held q marks x output → RefusesForMemory x output }
+    ensures counted { (query : Query) (held : Held) (q : Question) (marks : List Bool) (x : Verdict) (output : List ℕ)
+        → HasOtherCount held q marks → IsAnswerHeld query held q marks x output → RefusesForMemory x output }
 {}
 
 /// A question that is refused has one refusal, unless memory ran out. So `open_question` refuses it in one line.

@@ -6,7 +6,7 @@ ghost use Rattle.spki_guard.specs.Answer.{written_by};
 ghost use Rattle.spki_guard.specs.Held.{IsAnswerHeld, HasOtherCount, IsUnreadQuestion};
 
 use crate::answers::{Answer, decision_line, out_of_memory};
-use crate::question_answers::{Wish, answer_asked, refuse_question};
+use crate::question_answers::{Query, answer_asked, refuse_question};
 use spki_service::{Opened, Question, SharedGuard};
 use std::alloc::Global;
 
@@ -34,23 +34,23 @@ pub fn open_question(
 /// again, from the texts that were kept.
 ///
 /// The result is `None` if the question does not have as many signatures as there are marks.
-pub fn answer_opened(alloc: Global, wish: Wish, opened: &Opened, marks: &[bool]) -> Option<Answer>
+pub fn answer_opened(alloc: Global, query: Query, opened: &Opened, marks: &[bool]) -> Option<Answer>
     ensures answer { (q : Question) → IsOpened opened.now.guard q opened.now
-        → IfSome result (λ a. IsAnswerHeld wish opened.now.guard q marks.now a.verdict (written_by a)) }
+        → IfSome result (λ a. IsAnswerHeld query opened.now.guard q marks.now a.verdict (written_by a)) }
     ensures none { (q : Question) → IsOpened opened.now.guard q opened.now
         → IsNone result → HasOtherCount opened.now.guard q marks.now }
 {
-    match wish {
-        Wish::Decide => decide_opened(alloc, opened, marks),
-        Wish::Explain => answer_again(alloc, wish, opened, marks),
-        Wish::Reduce => answer_again(alloc, wish, opened, marks),
+    match query {
+        Query::Decide => decide_opened(alloc, opened, marks),
+        Query::Explain => answer_again(alloc, query, opened, marks),
+        Query::Reduce => answer_again(alloc, query, opened, marks),
     }
 }
 
 /// Decides a question that was opened.
 fn decide_opened(alloc: Global, opened: &Opened, marks: &[bool]) -> Option<Answer>
     ensures answer { (q : Question) → IsOpened opened.now.guard q opened.now
-        → IfSome result (λ a. IsAnswerHeld Wish.Decide opened.now.guard q marks.now a.verdict (written_by a)) }
+        → IfSome result (λ a. IsAnswerHeld Query.Decide opened.now.guard q marks.now a.verdict (written_by a)) }
     ensures none { (q : Question) → IsOpened opened.now.guard q opened.now
         → IsNone result → HasOtherCount opened.now.guard q marks.now }
 {
@@ -64,14 +64,14 @@ fn decide_opened(alloc: Global, opened: &Opened, marks: &[bool]) -> Option<Answe
 }
 
 /// Reads a question again that was opened, and answers it.
-fn answer_again(alloc: Global, wish: Wish, opened: &Opened, marks: &[bool]) -> Option<Answer>
+fn answer_again(alloc: Global, query: Query, opened: &Opened, marks: &[bool]) -> Option<Answer>
     ensures answer { (q : Question) → IsOpened opened.now.guard q opened.now
-        → IfSome result (λ a. IsAnswerHeld wish opened.now.guard q marks.now a.verdict (written_by a)) }
+        → IfSome result (λ a. IsAnswerHeld query opened.now.guard q marks.now a.verdict (written_by a)) }
     ensures none { (q : Question) → IsOpened opened.now.guard q opened.now
         → IsNone result → HasOtherCount opened.now.guard q marks.now }
 {
     match opened.ask(alloc) {
-        Ok(read) => answer_asked(alloc, wish, &read, marks),
+        Ok(read) => answer_asked(alloc, query, &read, marks),
         Err(fault) => Some(refuse_question(alloc, fault)),
     }
 }

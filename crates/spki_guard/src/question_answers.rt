@@ -9,14 +9,14 @@ ghost use Rattle.spki_guard.specs.Run.{RefusesForMemory};
 
 use crate::answers::{Answer, Output, Refusal, Verdict, decision_line, out_of_memory, refuse};
 use crate::guard_refusals::{push_refused_list, push_refused_question};
-use crate::replies::{reply_of_explanation, reply_of_reduction, whole_within};
+use crate::replies::{reduction_within, reply_of_explanation, whole_within};
 use spki_decision::GuardFault;
 use spki_service::{AclFault, AskFault, Asked, Guard, Question};
 use std::alloc::{AllocError, Global};
 
 /// What a question is asked for.
 #[derive(Clone, Copy, Debug, PartialEq, Eq)]
-pub enum Wish {
+pub enum Query {
     /// A decision: yes with the entry that grants the request, or no.
     Decide,
     /// Why each entry grants the request or does not.
@@ -38,12 +38,12 @@ pub enum Wish {
 /// The result is `None` if the question is read and does not have as many signatures as there are marks.
 pub fn answer_question(
     alloc: Global,
-    wish: Wish,
+    query: Query,
     guard: &Guard,
     question: &Question<'_>,
     marks: &[bool],
 ) -> Option<Answer>
-    ensures answer { IfSome result (λ a. IsAnswerHeld wish guard.now question.now marks.now a.verdict (written_by a)) }
+    ensures answer { IfSome result (λ a. IsAnswerHeld query guard.now question.now marks.now a.verdict (written_by a)) }
     ensures none { IsNone result → HasOtherCount guard.now question.now marks.now }
 {
     let texts = match guard.texts(alloc, question) {
@@ -51,7 +51,7 @@ pub fn answer_question(
         Err(fault) => return Some(refuse_question(alloc, fault)),
     };
     match guard.ask(alloc, &texts) {
-        Ok(asked) => answer_asked(alloc, wish, &asked, marks),
+        Ok(asked) => answer_asked(alloc, query, &asked, marks),
         Err(fault) => Some(refuse_question(alloc, fault)),
     }
 }
@@ -71,11 +71,11 @@ pub fn refused_list(alloc: Global, fault: AclFault) -> Answer
 /// The answer to a question that was read.
 pub(crate) fn answer_asked(
     alloc: Global,
-    wish: Wish,
+    query: Query,
     read: &Asked,
     marks: &[bool],
 ) -> Option<Answer>
-    ensures answer { IfSome result (λ a. AnswersAsked wish read.now (marked read.now.case marks.now) a.verdict (written_by a)
+    ensures answer { IfSome result (λ a. AnswersAsked query read.now (marked read.now.case marks.now) a.verdict (written_by a)
         ⊎ RefusesForMemory a.verdict (written_by a)) }
     ensures counted { IfSome result (λ _. length marks.now ≡ length (asked read.now.case)) }
     ensures none { IsNone result → length marks.now ≢ length (asked read.now.case) }
@@ -83,32 +83,32 @@ pub(crate) fn answer_asked(
     if marks.len() != read.signed().len() {
         return None;
     }
-    match answer_wish(alloc, wish, read, marks) {
+    match answer_query(alloc, query, read, marks) {
         Ok(answer) => Some(answer),
         Err(fault) => Some(refuse(alloc, Refusal::Decision(fault))),
     }
 }
 
 /// The answer to a question that was read, unless tags are too large.
-fn answer_wish(
+fn answer_query(
     alloc: Global,
-    wish: Wish,
+    query: Query,
     read: &Asked,
     marks: &[bool],
 ) -> Result<Answer, GuardFault>
-    ensures written { IfOk result (λ a. WritesAsked wish read.now (marked read.now.case marks.now) a.verdict (written_by a)) }
-    ensures large { IsErrOf result GuardFault.TooLarge → IsTooLargeFor wish read.now (marked read.now.case marks.now) }
+    ensures written { IfOk result (λ a. WritesAsked query read.now (marked read.now.case marks.now) a.verdict (written_by a)) }
+    ensures large { IsErrOf result GuardFault.TooLarge → IsTooLargeFor query read.now (marked read.now.case marks.now) }
 {
-    match wish {
-        Wish::Decide => Ok(decided(alloc, read, marks)?),
-        Wish::Explain => explained(alloc, read, marks),
-        Wish::Reduce => reduced(alloc, read, marks),
+    match query {
+        Query::Decide => Ok(decided(alloc, read, marks)?),
+        Query::Explain => explained(alloc, read, marks),
+        Query::Reduce => reduced(alloc, read, marks),
     }
 }
 
 /// The line of the decision.
 fn decided(alloc: Global, read: &Asked, marks: &[bool]) -> Result<Answer, AllocError>
-    ensures { IfOk result (λ a. WritesAsked Wish.Decide read.now (marked read.now.case marks.now) a.verdict (written_by a)) }
+    ensures { IfOk result (λ a. WritesAsked Query.Decide read.now (marked read.now.case marks.now) a.verdict (written_by a)) }
 {
     let decision = read.decide_by(alloc, marks)?;
     decision_line(alloc, decision)
@@ -116,21 +116,24 @@ fn decided(alloc: Global, read: &Asked, marks: &[bool]) -> Result<Answer, AllocE
 
 /// The lines of the explanation.
 fn explained(alloc: Global, read: &Asked, marks: &[bool]) -> Result<Answer, GuardFault>
-    ensures written { IfOk result (λ a. WritesAsked Wish.Explain read.now (marked read.now.case marks.now) a.verdict (written_by a)) }
-    ensures large { IsErrOf result GuardFault.TooLarge → IsTooLargeFor Wish.Explain read.now (marked read.now.case marks.now) }
+    ensures written { IfOk result (λ a. WritesAsked Query.Explain read.now (marked read.now.case marks.now) a.verdict (written_by a)) }
+    ensures large { IsErrOf result GuardFault.TooLarge → IsTooLargeFor Query.Explain read.now (marked read.now.case marks.now) }
 {
     let explanation = read.explain_by(alloc, marks)?;
-    whole_within(alloc, reply_of_explanation(explanation), read.most_answer())
+    whole_within(
+        alloc,
+        &reply_of_explanation(explanation),
+        read.most_answer(),
+    )
 }
 
 /// The lines of the reduction.
 fn reduced(alloc: Global, read: &Asked, marks: &[bool]) -> Result<Answer, GuardFault>
-    ensures written { IfOk result (λ a. WritesAsked Wish.Reduce read.now (marked read.now.case marks.now) a.verdict (written_by a)) }
-    ensures large { IsErrOf result GuardFault.TooLarge → IsTooLargeFor Wish.Reduce read.now (marked read.now.case marks.now) }
+    ensures written { IfOk result (λ a. WritesAsked Query.Reduce read.now (marked read.now.case marks.now) a.verdict (written_by a)) }
+    ensures large { IsErrOf result GuardFault.TooLarge → IsTooLargeFor Query.Reduce read.now (marked read.now.case marks.now) }
 {
     let reduction = read.reduce_by(alloc, marks)?;
-    let reply = reply_of_reduction(alloc, reduction)?;
-    whole_within(alloc, reply, read.most_answer())
+    reduction_within(alloc, reduction, read.most_answer())
 }
 
 /// The answer to a question that is refused: its line, or that memory ran out if there is none for the line.

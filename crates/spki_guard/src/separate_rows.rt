@@ -67,7 +67,7 @@ fn decide_by_rows(alloc: Global, case: &Case, rows: &[u8]) -> Result<Answer, Ref
     Ok(decision_line(alloc, decision)?)
 }
 
-/// Returns the canonical form of the text of an accepted list.
+/// Returns the canonical form of a text of rows, each of which is an accepted signature. The text may be in any form.
 fn canonical_rows(alloc: Global, rows: &[u8]) -> Result<Vec<u8>, RowsFault>
     ensures read { IfOk result (λ octets. (w : Value) × IsTextWithin rows.now w × (octets.items ≡ canon w)) }
     ensures refused { IfErr result (λ fault. fault ≢ RowsFault.Memory → RefusesRowsForm rows.now fault) }

@@ -1,5 +1,5 @@
 -- The definitions at the values of worked examples.
-use Rattle.std.proofs.Common.{◌≡◌, ℕ, List, [], ◌∷◌, true, false, None, refl, sym, ◌∙◌, ap, codes}
+use Rattle.std.proofs.Common.{◌≡◌, ℕ, List, [], ◌∷◌, true, false, None, refl, sym, ◌∙◌, codes, rules}
 use Rattle.spki_cert.specs.declared.principal.Policy.TheVariants.{Open}
 use Rattle.spki_cert.specs.declared.principal.Principal.TheVariants.{Key}
 use Rattle.spki_tag.specs.Tag.{star}
@@ -210,10 +210,7 @@ undelegated left right result h e = let k : true ≡ false = sym h.allowed ∙ e
 -- what the first certificate becomes can't be delegated
 passed_on : (a b r : Tuple) → a ≡ five root_entry → b ≡ five first_cert → Joins Open a b r → (c s : Tuple) → c ≡ five second_cert → Joins Open r c s
     → ⊥
-passed_on a b (five r) e f h c (five s) g k =
-    let j : Joins Open (five root_entry) (five first_cert) (five r) = rw (e, f) at h in
-    let i : Delegate Open r second_cert s = rw g at k in
-    undelegated r second_cert s i (ap (λ (t : FiveTuple). t.delegation) j.result_is)
+passed_on a b (five r) e f h c (five s) g k = search (rules, undelegated, delegation)
 passed_on a b (five r) e f h c (four s) g k = rw g at k
 passed_on a b (four r) e f h c s g k = rw (e, f) at h
 

@@ -4,8 +4,8 @@ use Rattle.spki_cert.specs.declared.principal.Policy.{Policy}
 use Rattle.spki_cert.specs.Time.{within}
 use Rattle.spki_tag.specs.Request.{Request, IsRequest}
 use Rattle.spki_tag.specs.Tag.{contains}
-use Rattle.spki_reduce.specs.declared.last_tests.Lack.{Lack}
-use Rattle.spki_reduce.specs.declared.last_tests.Lack.TheVariants.{NotTheKey, TagLacks, WindowLacks}
+use Rattle.spki_reduce.specs.declared.last_tests.Denial.{Denial}
+use Rattle.spki_reduce.specs.declared.last_tests.Denial.TheVariants.{NotTheKey, TagLacks, WindowLacks}
 use Rattle.spki_reduce.specs.declared.tuple.Five.{Five}
 use Rattle.spki_reduce.specs.Tuples.{FiveTuple, Tuple, own, five}
 use Rattle.spki_reduce.specs.Views.{five_tuple, issuer_of}
@@ -15,7 +15,7 @@ use Rattle.spki_reduce.specs.Supports.{Grants}
 use Rattle.spki_reduce.specs.Restrictions.{in_each, within_each}
 use Rattle.spki_reduce.specs.Reduced.{ReducesToFive}
 use Rattle.spki_reduce.specs.Chain.{FoldsTo}
-use Rattle.spki_reduce.specs.LastTests.{IsFirstLack, IsSupported}
+use Rattle.spki_reduce.specs.LastTests.{IsFirstDenial, IsSupported}
 use Rattle.spki_reduce.proofs.Folding.{is_for, is_for_back}
 use Rattle.spki_reduce.proofs.Bracketing.{from_left-leaves, one_root}
 
@@ -25,12 +25,12 @@ never b e f = let g : false ≡ true = sym e ∙ f in cc
 module _ (policy : Policy) (holder : List ℕ) (request : Request) (moment : List ℕ) where
   -- ---- a root
 
-  granted : (root : FiveTuple) → root.issuer ≡ own → IsFirstLack policy root holder request moment None
+  granted : (root : FiveTuple) → root.issuer ≡ own → IsFirstDenial policy root holder request moment None
       → Grants policy root holder request moment
   granted root is h = record { issuer = is; whole = h.0.whole; named = h.0.named; asked = h.1; timely = h.2 }
 
-  passed : (root : FiveTuple) (lack : Option Lack) → IsFirstLack policy root holder request moment lack
-      → Grants policy root holder request moment → IsNone lack
+  passed : (root : FiveTuple) (denial : Option Denial) → IsFirstDenial policy root holder request moment denial
+      → Grants policy root holder request moment → IsNone denial
   passed root (Some NotTheKey) h g = absurd (h (record { whole = g.whole; named = g.named }))
   passed root (Some TagLacks) h g = absurd (never (in_each request root.tags) h.1 g.asked)
   passed root (Some WindowLacks) h g = absurd (never (within_each moment root.windows) h.2 g.timely)
@@ -39,27 +39,27 @@ module _ (policy : Policy) (holder : List ℕ) (request : Request) (moment : Lis
   -- ---- what reduces to it
 
   module _ (f : Five) (is : IsRequest request) (root : FiveTuple) (reduced : ReducesToFive root f) where
-    pub not_for : (IsFor policy (five_tuple f) holder → ⊥) → IsFirstLack policy root holder request moment (Some NotTheKey)
+    pub not_for : (IsFor policy (five_tuple f) holder → ⊥) → IsFirstDenial policy root holder request moment (Some NotTheKey)
     not_for h k = h (is_for_back policy root f reduced holder k)
 
     pub tag_lacks : IsFor policy (five_tuple f) holder → contains f.tag request ≡ false
-        → IsFirstLack policy root holder request moment (Some TagLacks)
+        → IsFirstDenial policy root holder request moment (Some TagLacks)
     tag_lacks h k = (is_for policy root f reduced holder h, sym (reduced.requests request is) ∙ k)
 
     pub window_lacks : IsFor policy (five_tuple f) holder → contains f.tag request ≡ true → within moment f.window ≡ false
-        → IsFirstLack policy root holder request moment (Some WindowLacks)
+        → IsFirstDenial policy root holder request moment (Some WindowLacks)
     window_lacks h k l =
         (is_for policy root f reduced holder h, sym (reduced.requests request is) ∙ k, sym (reduced.moments moment) ∙ l)
 
     pub lacks_nothing : IsFor policy (five_tuple f) holder → contains f.tag request ≡ true → within moment f.window ≡ true
-        → IsFirstLack policy root holder request moment None
+        → IsFirstDenial policy root holder request moment None
     lacks_nothing h k l =
         (is_for policy root f reduced holder h, sym (reduced.requests request is) ∙ k, sym (reduced.moments moment) ∙ l)
 
   -- ---- a chain
 
   module _ (f : Five) (first : Tuple) (others : List Tuple) (folds : FoldsTo policy first others f) where
-    supporting : issuer_of f.issuer ≡ own → IsFirstLack policy folds.root holder request moment None
+    supporting : issuer_of f.issuer ≡ own → IsFirstDenial policy folds.root holder request moment None
         → IsSupported policy first others holder request moment
     supporting is h = record {
       tree = from_left first others;
@@ -80,10 +80,10 @@ module _ (policy : Policy) (holder : List ℕ) (request : Request) (moment : Lis
         let roots : s.supports.root ≡ folds.root = cc in
         subst P roots s.supports.grants
 
-    pub supported : (lack : Option Lack) → issuer_of f.issuer ≡ own → IsFirstLack policy folds.root holder request moment lack
-        → IsNone lack ↔ IsSupported policy first others holder request moment
+    pub supported : (denial : Option Denial) → issuer_of f.issuer ≡ own → IsFirstDenial policy folds.root holder request moment denial
+        → IsNone denial ↔ IsSupported policy first others holder request moment
     supported None is h = (λ _. supporting is h, λ _. refl)
-    supported (Some lack) is h = (
+    supported (Some denial) is h = (
       λ e. let g : true ≡ false = e in absurd cc,
-      λ s. passed folds.root (Some lack) h (root_is s),
+      λ s. passed folds.root (Some denial) h (root_is s),
     )

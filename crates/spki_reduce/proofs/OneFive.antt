@@ -1,5 +1,5 @@
 -- Authorizations with one tuple are one, and are written as one value.
-use Rattle.std.proofs.Common.{◌≡◌, ℕ, List, [], ◌∷◌, ◌++◌, refl, sym, ap, ◌∙◌}
+use Rattle.std.proofs.Common.{◌≡◌, ℕ, List, [], ◌∷◌, ◌++◌, refl, sym, ap, ◌∙◌, rules}
 use Rattle.std.specs.Prelude.{codes}
 use Rattle.sexpr_core.specs.Value.{Value, canon}
 use Rattle.sexpr_core.proofs.Texts.{canon_one}
@@ -8,7 +8,6 @@ use Rattle.spki_cert.specs.declared.principal.Principal.TheVariants as principal
 use Rattle.spki_reduce.specs.declared.tuple.Issuer.{Issuer}
 use Rattle.spki_reduce.specs.declared.tuple.Issuer.TheVariants.{Own, Key}
 use Rattle.spki_reduce.specs.declared.tuple.Five.{Five}
-use Rattle.spki_reduce.specs.Tuples.{FiveTuple}
 use Rattle.spki_reduce.specs.Views.{issuer_of, five_tuple}
 use Rattle.spki_reduce.specs.Written.{headed, IsWrittenPrincipal, IsWrittenSubject, IsWrittenIssuer, named, delegation_values, in_valid, window_limits, five_value, IsWrittenFive}
 
@@ -21,22 +20,7 @@ issuer_one (Key octets) Own e = absurd cc
 issuer_one (Key octets) (Key others) e = ap Key cc
 
 pub five_one : (f g : Five) → five_tuple f ≡ five_tuple g → f ≡ g
-five_one f g e =
-    let issuer = issuer_one f.issuer g.issuer (ap (λ (t : FiveTuple). t.issuer) e) in
-    let who : f.subject.principal ≡ g.subject.principal = ap (λ (t : FiveTuple). t.principal) e in
-    let names : f.subject.names ≡ g.subject.names = ap (λ (t : FiveTuple). t.names) e in
-    let delegation : f.propagate ≡ g.propagate = ap (λ (t : FiveTuple). t.delegation) e in
-    let tags : f.tag ∷ [] ≡ g.tag ∷ [] = ap (λ (t : FiveTuple). t.tags) e in
-    let tag : f.tag ≡ g.tag = cc in
-    let windows : f.window ∷ [] ≡ g.window ∷ [] = ap (λ (t : FiveTuple). t.windows) e in
-    let window : f.window ≡ g.window = cc in
-    λ i. record {
-      issuer = issuer i;
-      subject = record { principal = who i; names = names i };
-      propagate = delegation i;
-      tag = tag i;
-      window = window i;
-    }
+five_one f g e = search (rules, issuer_one)
 
 -- ---- values
 

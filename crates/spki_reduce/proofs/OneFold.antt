@@ -1,10 +1,9 @@
 -- Windows of the same moments are one, and so is what a chain becomes.
-use Rattle.std.proofs.Common.{◌≡◌, ◌≢◌, ℕ, Bool, true, false, ◌&&◌, List, [], ◌∷◌, ◌++◌, Option, Some, None, refl, sym, ◌∙◌, ap, subst}
-use Rattle.std.specs.Cmp.{nat_cmp_is}
+use Rattle.std.proofs.Common.{◌≡◌, ◌≢◌, ℕ, Bool, true, false, ◌&&◌, List, [], ◌∷◌, ◌++◌, Option, Some, None, refl, sym, ◌∙◌, ap, subst, rules}
 use Rattle.std.specs.Cmp.Lexicographic.{slice_cmp}
 use Rattle.std.specs.declared.cmp.Ordering.{Ordering}
 use Rattle.std.specs.declared.cmp.Ordering.TheVariants.{Less, Equal, Greater}
-use Rattle.std.specs.Ordering.{nat_cmp, is_le, ordering_reverse, ordering_then}
+use Rattle.std.specs.Ordering.{nat_cmp, is_le, ordering_reverse}
 use Rattle.std.proofs.lemmas.Cmp.{nat_list_cmp_total}
 use Rattle.std.proofs.lemmas.Map.Lookups.{exact_bytes}
 use Rattle.spki_tag.specs.Time.{is_date}
@@ -48,9 +47,7 @@ until-empty (Some (octet ∷ octets)) = refl
 -- above a string stands another
 beyond : (s : List ℕ) → upto (s ++ 0 ∷ []) s ≡ false
 beyond [] = refl
-beyond (octet ∷ octets) =
-    ap (λ o. is_le (ordering_then o (slice_cmp nat_cmp (octets ++ 0 ∷ []) octets))) (sym (nat_cmp_is octet octet Equal refl))
-    ∙ beyond octets
+beyond (octet ∷ octets) = search (rules, beyond octets)
 
 -- ---- windows
 

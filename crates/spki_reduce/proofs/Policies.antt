@@ -1,5 +1,5 @@
 -- What the strict policy allows, the open one allows.
-use Rattle.std.proofs.Common.{◌≡◌, ℕ, List, false, true, IsTrue}
+use Rattle.std.proofs.Common.{◌≡◌, ℕ, List, false, true, IsTrue, rules}
 use Rattle.spki_cert.specs.declared.hash.HashAlg.TheVariants.{Sha1, Sha256, Sha512}
 use Rattle.spki_cert.specs.declared.principal.Policy.TheVariants.{Open, Strict}
 use Rattle.spki_cert.specs.declared.principal.Principal.{Principal}
@@ -19,18 +19,7 @@ named_openly (Hash Sha256 digest) holder h = h
 named_openly (Hash Sha512 digest) holder h = h
 
 joined_openly : (a b r : Tuple) → Joins Strict a b r → Joins Open a b r
-joined_openly (five a) (five b) (five r) h = record {
-  issues = record {
-    holder = h.issues.holder;
-    issued = h.issues.issued;
-    is_for = record {
-      whole = h.issues.is_for.whole;
-      named = named_openly a.principal h.issues.holder h.issues.is_for.named;
-    };
-  };
-  allowed = h.allowed;
-  result_is = h.result_is;
-}
+joined_openly (five a) (five b) (five r) h = search (rules, named_openly)
 joined_openly (five a) (four b) (five r) h = record {
   begins = record {
     rest = h.begins.rest;
@@ -59,14 +48,4 @@ derived_openly (join left right) root d =
 
 pub supported_openly : (tree : Tree) (holder : List ℕ) (request : Request) (moment : List ℕ) → Supports Strict tree holder request moment
     → Supports Open tree holder request moment
-supported_openly tree holder request moment s = record {
-  root = s.root;
-  derived = derived_openly tree (five s.root) s.derived;
-  grants = record {
-    issuer = s.grants.issuer;
-    whole = s.grants.whole;
-    named = named_openly s.root.principal holder s.grants.named;
-    asked = s.grants.asked;
-    timely = s.grants.timely;
-  };
-}
+supported_openly tree holder request moment s = search (rules, derived_openly, named_openly)

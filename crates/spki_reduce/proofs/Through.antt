@@ -1,5 +1,5 @@
 -- A chain that goes through a step isn't stopped there, so it stops at one step alone, for one cause.
-use Rattle.std.proofs.Common.{◌≡◌, ◌≢◌, ◌⊎◌, inl, inr, ℕ, zero, suc, ◌+◌, ◌≤◌, ◌<◌, List, [], ◌∷◌, ◌++◌, fold, Some, refl, sym, ◌∙◌, ap, subst, arith, append_assoc, take, drop, slice_get, length, get_or}
+use Rattle.std.proofs.Common.{◌≡◌, ◌≢◌, ◌⊎◌, inl, inr, ℕ, zero, suc, ◌+◌, ◌≤◌, ◌<◌, List, [], ◌∷◌, ◌++◌, fold, Some, refl, sym, ◌∙◌, ap, subst, arith, append_assoc, take, drop, slice_get, length, get_or, rules}
 use Rattle.std.proofs.lemmas.Bool.{cases_lt}
 use Rattle.std.proofs.lemmas.List.{take-append-drop, take-take, take_all}
 use Rattle.std.proofs.lemmas.Option.{slice_get_within}
@@ -141,12 +141,7 @@ at_end : (xs : List Tuple) (x y : Tuple) (k : ℕ) → slice_get (xs ++ x ∷ []
 at_end [] x y zero e = inr (cc, refl)
 at_end [] x y (suc k) e = absurd cc
 at_end (z ∷ xs) x y zero e = inl (e, refl)
-at_end (z ∷ xs) x y (suc k) e = further z (at_end xs x y k e)
-  where
-    further : {A B : Type 0} {ys zs ws : List Tuple} (z : Tuple) → (A × (ys ≡ zs)) ⊎ (B × (ys ≡ ws))
-        → (A × (z ∷ ys ≡ z ∷ zs)) ⊎ (B × (z ∷ ys ≡ z ∷ ws))
-    further z (inl p) = inl (p.0, ap (λ us. z ∷ us) p.1)
-    further z (inr p) = inr (p.0, ap (λ us. z ∷ us) p.1)
+at_end (z ∷ xs) x y (suc k) e = search (rules, at_end xs x y k e)
 
 module _ (most : ℕ) (policy : Policy) (first : Tuple) where
   -- the same step of another chain that begins so

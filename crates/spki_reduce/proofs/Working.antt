@@ -1,7 +1,6 @@
 -- The work of folding a chain: what a step adds to it, and that a chain has one.
 use Rattle.std.proofs.Common.{◌≡◌, ◌⊎◌, inl, inr, ℕ, zero, suc, ◌+◌, ◌≤◌, ◌<◌, List, ◌∷◌, Option, Some, None, refl, sym, ◌∙◌, ap, subst, arith, add-one, length, take, slice_get, get_or}
 use Rattle.std.proofs.lemmas.Bool.{cases_lt}
-use Rattle.std.proofs.lemmas.List.{length-map}
 use Rattle.spki_cert.specs.declared.principal.Policy.{Policy}
 use Rattle.spki_reduce.specs.declared.fold.Cause.{Cause}
 use Rattle.spki_reduce.specs.declared.tuple.Five.{Five}
@@ -11,7 +10,7 @@ use Rattle.spki_reduce.specs.Views.{five_tuple, step_tuple}
 use Rattle.spki_reduce.specs.Derivation.{from_left}
 use Rattle.spki_reduce.specs.Restrictions.{met, nodes_product}
 use Rattle.spki_reduce.specs.Chain.{tuples_of, FoldsTo, HasMet, StopsAt, all_tags}
-use Rattle.spki_reduce.specs.Work.{Reaches, ReachedAt, IsCost, IsWork, IsWorkOf, IsCostOf, Takes, IsOver, IsOverworked}
+use Rattle.spki_reduce.specs.Work.{Reaches, ReachedAt, IsCost, IsWorkOf, IsCostOf, Takes, IsOver, IsOverworked}
 use Rattle.spki_reduce.proofs.Bracketing.{one_root}
 use Rattle.spki_reduce.proofs.Folding.{reaches, reaches_back}
 use Rattle.spki_reduce.proofs.Chains.{step_stands, through}
@@ -126,13 +125,6 @@ module _ (policy : Policy) (first : Tuple) (others : List Tuple) where
           let one : n ≡ m = one_work (suc many) n m (subst (λ s. IsWorkOf policy first others s n) same h) k in
           omega (arith, one)
       grows_by (inr before) so_far = let less = so_far before in omega (arith, less, k.4)
-
--- the work of as many steps as there are
-pub work_all : (policy : Policy) (first : Tuple) (steps : List Step) (place n : ℕ) → place ≡ length steps
-    → IsWorkOf policy first (tuples_of steps) place n → IsWork policy first (tuples_of steps) n
-work_all policy first steps place n all h =
-    let same : place ≡ length (tuples_of steps) = all ∙ sym (length-map steps step_tuple) in
-    subst (λ k. IsWorkOf policy first (tuples_of steps) k n) same h
 
 -- what could be taken is not over what there was
 pub within : (a b : Option ℕ) (n : ℕ) → Takes a b n → IsOver a n → ⊥

@@ -1,5 +1,5 @@
 -- What is written, one member behind another.
-use Rattle.std.proofs.Common.{◌≡◌, ℕ, ◌+◌, ◌<◌, List, [], ◌∷◌, ◌++◌, length, map, take, get_or, slice_get, Option, Some, None, refl, sym, ap, ◌∙◌, append_assoc}
+use Rattle.std.proofs.Common.{◌≡◌, ℕ, ◌+◌, ◌<◌, List, [], ◌∷◌, ◌++◌, length, map, take, get_or, slice_get, Option, Some, None, refl, sym, ap, ◌∙◌, append_assoc, rules}
 use Rattle.std.proofs.lemmas.List.{take_more}
 use Rattle.std.proofs.lemmas.Option.{slice_get-get_or, slice_get_within}
 use Rattle.sexpr_core.specs.declared.tree.Sexp.{Sexp}
@@ -31,11 +31,7 @@ pub name_written_at : (names : List (List ℕ)) (k : ℕ) (name octets : List �
     → slice_get names k ≡ Some name → octets ≡ name → sexp_value t ≡ plain octets
     → map sexp_value before ≡ map sexp_value start ++ plains (take k names) → after ≡ before ++ t ∷ []
     → map sexp_value after ≡ map sexp_value start ++ plains (take (k + 1) names)
-name_written_at names k name octets t start before after there is written e f =
-    ap (map sexp_value) f ∙ map_push before t
-    ∙ ap (λ vs. vs ++ sexp_value t ∷ []) e ∙ append_assoc (map sexp_value start) (plains (take k names)) (sexp_value t ∷ [])
-    ∙ ap (λ v. map sexp_value start ++ (plains (take k names) ++ v ∷ [])) (written ∙ ap plain is)
-    ∙ ap (λ vs. map sexp_value start ++ vs) (names_more names k name there)
+name_written_at names k name octets t start before after there is written e f = search (rules, map_push, append_assoc, names_more)
 
 -- ---- an authorization
 
@@ -44,6 +40,4 @@ pub five_members : (head subject tag : Value) (issuer delegation window begun is
     → begun ≡ head ∷ [] → issued ≡ begun ++ issuer → named_too ≡ issued ++ subject ∷ [] → delegated ≡ named_too ++ delegation
     → tagged ≡ delegated ++ tag ∷ [] → whole ≡ tagged ++ window
     → whole ≡ head ∷ (((issuer ++ subject ∷ []) ++ delegation) ++ tag ∷ window)
-five_members head subject tag issuer delegation window begun issued named_too delegated tagged whole a b c d e f =
-    f ∙ ap (λ vs. vs ++ window) (e ∙ ap (λ vs. vs ++ tag ∷ []) (d ∙ ap (λ vs. vs ++ delegation) (c ∙ ap (λ vs. vs ++ subject ∷ []) (b ∙ ap (λ vs. vs ++ issuer) a))))
-    ∙ ap (λ vs. head ∷ vs) (append_assoc ((issuer ++ subject ∷ []) ++ delegation) (tag ∷ []) window)
+five_members head subject tag issuer delegation window begun issued named_too delegated tagged whole a b c d e f = search (rules, append_assoc)

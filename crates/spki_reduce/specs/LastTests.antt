@@ -2,8 +2,8 @@
 use Rattle.std.specs.Prelude.{◌≡◌, ℕ, true, false, List, ◌∷◌, Option, Some, None}
 use Rattle.spki_cert.specs.declared.principal.Policy.{Policy}
 use Rattle.spki_tag.specs.Request.{Request}
-use Rattle.spki_reduce.specs.declared.last_tests.Lack.{Lack}
-use Rattle.spki_reduce.specs.declared.last_tests.Lack.TheVariants.{NotTheKey, TagLacks, WindowLacks}
+use Rattle.spki_reduce.specs.declared.last_tests.Denial.{Denial}
+use Rattle.spki_reduce.specs.declared.last_tests.Denial.TheVariants.{NotTheKey, TagLacks, WindowLacks}
 use Rattle.spki_reduce.specs.Tuples.{FiveTuple, Tuple}
 use Rattle.spki_reduce.specs.Rules.{IsFor}
 use Rattle.spki_reduce.specs.Derivation.{Tree, leaves}
@@ -12,13 +12,13 @@ use Rattle.spki_reduce.specs.Restrictions.{in_each, within_each}
 
 -- The first of three tests that fails. None if all three pass. NotTheKey: the subject has names left or does not name the
 -- key. TagLacks: some tag does not contain the request. WindowLacks: the moment is not within some window.
-abbrev pub IsFirstLack : Policy → FiveTuple → List ℕ → Request → List ℕ → Option Lack → Type 0
-IsFirstLack policy root holder request moment (Some NotTheKey) = ¬ IsFor policy root holder
-IsFirstLack policy root holder request moment (Some TagLacks) =
+abbrev pub IsFirstDenial : Policy → FiveTuple → List ℕ → Request → List ℕ → Option Denial → Type 0
+IsFirstDenial policy root holder request moment (Some NotTheKey) = ¬ IsFor policy root holder
+IsFirstDenial policy root holder request moment (Some TagLacks) =
     IsFor policy root holder × (in_each request root.tags ≡ false)
-IsFirstLack policy root holder request moment (Some WindowLacks) =
+IsFirstDenial policy root holder request moment (Some WindowLacks) =
     IsFor policy root holder × (in_each request root.tags ≡ true) × (within_each moment root.windows ≡ false)
-IsFirstLack policy root holder request moment None =
+IsFirstDenial policy root holder request moment None =
     IsFor policy root holder × (in_each request root.tags ≡ true) × (within_each moment root.windows ≡ true)
 
 -- some derivation with these leaves, in any bracketing, supports the key, the request and the moment

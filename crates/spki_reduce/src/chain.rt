@@ -45,7 +45,7 @@ pub fn fold_chain<'a>(
     ensures issuer { IfOk result (λ fold. MatchFold fold
         (λ f. issuer_of f.issuer ≡ issuer_of first.now.issuer) (λ step cause. Unit {0})) }
     // The tag of the result: the intersection of all tags, one after another.
-    ensures which { IfOk result (λ fold. MatchFold fold
+    ensures value { IfOk result (λ fold. MatchFold fold
         (HasMet (five (five_tuple first.now)) (tuples_of steps.now)) (λ step cause. Unit {0})) }
     // What a stop means for the same tuples in any bracketing.
     ensures excluded { IfOk result (λ fold. MatchFold fold (λ f. Unit {0})
@@ -56,7 +56,7 @@ pub fn fold_chain<'a>(
     // is over the limit.
     ensures too_large_at { IsErrOf result ReduceFault.TooLarge →
         TooLargeAt 1000000 policy (five (five_tuple first.now)) (tuples_of steps.now) }
-    ensures small { IfOk result (λ fold. ¬ TooLargeAt 1000000 policy (five (five_tuple first.now)) (tuples_of steps.now)) }
+    ensures within_limit { IfOk result (λ fold. ¬ TooLargeAt 1000000 policy (five (five_tuple first.now)) (tuples_of steps.now)) }
     ensures too_large { IsErrOf result ReduceFault.TooLarge →
         1000000 < nodes_product (all_tags (five (five_tuple first.now) ∷ tuples_of steps.now)) }
 {
@@ -88,7 +88,7 @@ pub fn fold_owned<'a>(
     ensures issuer { IfOk result (λ fold. MatchFold fold
         (λ f. issuer_of f.issuer ≡ issuer_of first.entry.issuer) (λ step cause. Unit {0})) }
     // The tag of the result: the intersection of all tags, one after another.
-    ensures which { IfOk result (λ fold. MatchFold fold
+    ensures value { IfOk result (λ fold. MatchFold fold
         (HasMet (five (five_tuple first.entry)) (tuples_of steps.now)) (λ step cause. Unit {0})) }
     // What a stop means for the same tuples in any bracketing.
     ensures excluded { IfOk result (λ fold. MatchFold fold (λ f. Unit {0})
@@ -99,7 +99,7 @@ pub fn fold_owned<'a>(
     ensures too_large { IsErrOf result ReduceFault.TooLarge →
         TooLargeAt most policy (five (five_tuple first.entry)) (tuples_of steps.now)
         ⊎ IsOverworked (left_of work.old) policy (five (five_tuple first.entry)) (tuples_of steps.now) }
-    ensures small { IfOk result (λ fold. ¬ TooLargeAt most policy (five (five_tuple first.entry)) (tuples_of steps.now)) }
+    ensures within_limit { IfOk result (λ fold. ¬ TooLargeAt most policy (five (five_tuple first.entry)) (tuples_of steps.now)) }
     ensures worked { OnOk result ((n : ℕ) × IsWork policy (five (five_tuple first.entry)) (tuples_of steps.now) n
         × Takes (left_of work.old) (left_of work.new) n) }
 {
@@ -168,12 +168,12 @@ impl<'a> Five<'a> {
             (λ f. BecomesFive policy (five (five_tuple self.entry)) (step_tuple step.now) f
             × (f.tag ≡ set none → (self.entry.tag ≡ set none) × (tags_of (step_tuple step.now) ≡ [])))
             (Stops policy (five (five_tuple self.entry)) (step_tuple step.now))) }
-        ensures which { IfOk result (λ joined. MatchJoined joined
+        ensures value { IfOk result (λ joined. MatchJoined joined
             (λ f. f.tag ≡ met (self.entry.tag ∷ tags_of (step_tuple step.now)))
             (λ cause. cause ≡ Cause.NoTag → met (self.entry.tag ∷ tags_of (step_tuple step.now)) ≡ set none)) }
         ensures too_large { IsErrOf result ReduceFault.TooLarge →
             TooLargeFor most policy (five_tuple self.entry) (step_tuple step.now) }
-        ensures small { IfOk result (λ joined. ¬ TooLargeFor most policy (five_tuple self.entry) (step_tuple step.now)) }
+        ensures within_limit { IfOk result (λ joined. ¬ TooLargeFor most policy (five_tuple self.entry) (step_tuple step.now)) }
     {
         match step {
             Step::Auth(next) => self.then_within(alloc, next, policy, most),

@@ -45,7 +45,7 @@ impl<'a> Five<'a> {
             (λ f. BecomesFive policy (five (five_tuple self.now)) (five (five_tuple next.now)) f × (f.tag ≢ set none))
             (λ cause. Stops policy (five (five_tuple self.now)) (five (five_tuple next.now)) cause)) }
         // The tag of the result, and for which tags they do not join.
-        ensures which { IfOk result (λ joined. MatchJoined joined
+        ensures value { IfOk result (λ joined. MatchJoined joined
             (λ f. f.tag ≡ meet self.now.tag next.now.tag)
             (λ cause. cause ≡ Cause.NoTag → meet self.now.tag next.now.tag ≡ set none)) }
         ensures too_large { IsErrOf result ReduceFault.TooLarge ↔
@@ -67,7 +67,7 @@ impl<'a> Five<'a> {
         ensures joined { IfOk result (λ joined. MatchJoined joined
             (λ f. BecomesFive policy (five (five_tuple self.now)) (five (five_tuple next.now)) f × (f.tag ≢ set none))
             (λ cause. Stops policy (five (five_tuple self.now)) (five (five_tuple next.now)) cause)) }
-        ensures which { IfOk result (λ joined. MatchJoined joined
+        ensures value { IfOk result (λ joined. MatchJoined joined
             (λ f. f.tag ≡ meet self.now.tag next.now.tag)
             (λ cause. cause ≡ Cause.NoTag → meet self.now.tag next.now.tag ≡ set none)) }
         ensures too_large { IsErrOf result ReduceFault.TooLarge ↔

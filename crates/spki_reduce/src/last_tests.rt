@@ -6,7 +6,7 @@ ghost use Rattle.spki_reduce.specs.Views.{issuer_of};
 ghost use Rattle.spki_reduce.specs.Supports.{Grants};
 ghost use Rattle.spki_reduce.specs.Reduced.{ReducesToFive};
 ghost use Rattle.spki_reduce.specs.Chain.{FoldsTo};
-ghost use Rattle.spki_reduce.specs.LastTests.{IsFirstLack, IsSupported};
+ghost use Rattle.spki_reduce.specs.LastTests.{IsFirstDenial, IsSupported};
 
 use crate::tuple::Five;
 use spki_cert::{Date, Key, Policy};
@@ -14,7 +14,7 @@ use spki_tag::Ground;
 
 /// What an authorization lacks to grant a key a request at a moment: the first of three tests that it does not pass.
 #[derive(Clone, Copy, Debug, PartialEq, Eq)]
-pub enum Lack {
+pub enum Denial {
     /// Its subject has names left, or does not name the key.
     NotTheKey,
     /// Its tag does not contain the request.
@@ -24,18 +24,18 @@ pub enum Lack {
 }
 
 impl<'a> Five<'a> {
-    /// What the authorization lacks to grant the key the request at the moment. It is the first, in the order of `Lack`,
+    /// What the authorization lacks to grant the key the request at the moment. It is the first, in the order of `Denial`,
     /// of the tests that it does not pass. None if it passes all three. Its issuer is not tested. Allocates nothing.
-    pub fn first_lack(
+    pub fn first_denial(
         &self,
         key: &Key,
         request: &Ground,
         moment: &Date,
         policy: Policy,
-    ) -> Option<Lack>
+    ) -> Option<Denial>
         // For every root that it is the reduced form of.
-        ensures lack { (root : FiveTuple) → ReducesToFive root self.now →
-            IsFirstLack policy root key.now request.now moment.now result }
+        ensures denial { (root : FiveTuple) → ReducesToFive root self.now →
+            IsFirstDenial policy root key.now request.now moment.now result }
         ensures grants { (root : FiveTuple) → ReducesToFive root self.now → root.issuer ≡ own →
             (IsNone result ↔ Grants policy root key.now request.now moment.now) }
         // For every chain that folds to it, in any bracketing.
@@ -43,13 +43,13 @@ impl<'a> Five<'a> {
             issuer_of self.now.issuer ≡ own →
             (IsNone result ↔ IsSupported policy first others key.now request.now moment.now) }
     {
-        request.known();
+        request.prove_well_formed();
         if !self.is_for(key, policy) {
-            Some(Lack::NotTheKey)
+            Some(Denial::NotTheKey)
         } else if !self.tag.holds(request) {
-            Some(Lack::TagLacks)
+            Some(Denial::TagLacks)
         } else if !self.window.holds(moment) {
-            Some(Lack::WindowLacks)
+            Some(Denial::WindowLacks)
         } else {
             None
         }

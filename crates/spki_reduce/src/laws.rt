@@ -1,4 +1,5 @@
 //! Laws of derivations.
+//! Each function is a law: it does nothing, and its contract is the fact.
 
 ghost use Rattle.std.specs.Prelude.{◌≡◌, ◌≢◌, ℕ, List, [], ◌∷◌, ◌++◌, flat_map};
 ghost use Rattle.sexpr_core.specs.Value.{Value};

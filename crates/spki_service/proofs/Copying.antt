@@ -1,11 +1,11 @@
 -- Texts and their copies are the texts of the same questions.
-use Rattle.std.proofs.Common.{◌≡◌, ℕ, List, refl, sym, subst, ◌∙◌}
+use Rattle.std.proofs.Common.{◌≡◌, List, sym, subst, ◌∙◌}
 use Rattle.sexpr_core.specs.declared.fault.FormFault.{FormFault}
-use Rattle.sexpr_core.specs.Value.{Value, canon, IsWithinLimits}
+use Rattle.sexpr_core.specs.Value.{Value, IsWithinLimits}
 use Rattle.spki_case.proofs.Unrefused.{one_text}
 use Rattle.spki_service.specs.declared.question.Question.{Question}
-use Rattle.spki_service.specs.declared.question.Instant as instant
-use Rattle.spki_service.specs.declared.question.Instant.TheVariants as moments
+use Rattle.spki_service.specs.declared.question.Moment as of_question
+use Rattle.spki_service.specs.declared.question.Moment.TheVariants as moments
 use Rattle.spki_service.specs.declared.texts.PartText.{PartText}
 use Rattle.spki_service.specs.declared.texts.PartText.TheVariants.{Standing, Made, Malformed}
 use Rattle.spki_service.specs.declared.texts.MomentText.{MomentText}
@@ -14,7 +14,7 @@ use Rattle.spki_service.specs.declared.texts.Texts.{Texts}
 use Rattle.spki_decision.specs.declared.decision.Decision.{Decision}
 use Rattle.spki_decision.specs.Asked.{Signed}
 use Rattle.spki_service.specs.Held.{Held}
-use Rattle.spki_service.specs.KeptOf.{IsReadFrom, IsKeptOf}
+use Rattle.spki_service.specs.KeptOf.{IsKeptOf}
 use Rattle.spki_service.specs.Questions.{IsWanted, RefusesWanted}
 use Rattle.spki_service.specs.Form.{RefusesForm}
 use Rattle.sexpr_text.specs.Spelling.{IsTextWithin}
@@ -38,7 +38,7 @@ module _ (means : Value → Type 0) (refuses : FormFault → Type 0) where
   of_copy (Made octets) copy is r = subst (IsReadAs means refuses) is r
   of_copy (Malformed fault) copy is r = subst (IsReadAs means refuses) is r
 
-moment_copied : (i : instant.Instant) (text copy : MomentText) → IsMomentCopy text copy → IsMomentText i text → IsMomentText i copy
+moment_copied : (i : of_question.Moment) (text copy : MomentText) → IsMomentCopy text copy → IsMomentText i text → IsMomentText i copy
 moment_copied (moments.Text words) (of_moment.Text text) (of_moment.Text copy) is r =
     copied (IsTextWithin words.now) (RefusesForm words.now) text copy is r
 moment_copied (moments.Seconds n) (of_moment.Text text) copy is r = absurd r
@@ -47,7 +47,7 @@ moment_copied i (of_moment.Text text) of_moment.Dateless is r = absurd is
 moment_copied i (of_moment.At date) copy is r = rw is r
 moment_copied i of_moment.Dateless copy is r = rw is r
 
-of_moment_copy : (i : instant.Instant) (text copy : MomentText) → IsMomentCopy text copy → IsMomentText i copy → IsMomentText i text
+of_moment_copy : (i : of_question.Moment) (text copy : MomentText) → IsMomentCopy text copy → IsMomentText i copy → IsMomentText i text
 of_moment_copy (moments.Text words) (of_moment.Text text) (of_moment.Text copy) is r =
     of_copy (IsTextWithin words.now) (RefusesForm words.now) text copy is r
 of_moment_copy (moments.Seconds n) (of_moment.Text text) (of_moment.Text copy) is r = absurd r

@@ -1,5 +1,5 @@
 -- Marks that tell what a verifier accepts give its answers.
-use Rattle.std.proofs.Common.{◌≡◌, ◌↔◌, ℕ, zero, suc, Bool, List, [], ◌∷◌, Some, true, slice_get, refl}
+use Rattle.std.proofs.Common.{◌≡◌, ◌↔◌, ℕ, suc, Bool, List, [], ◌∷◌, Some, slice_get, refl}
 use Rattle.spki_case.specs.Case.{Verified}
 use Rattle.spki_decision.specs.declared.decision.Decision.{Decision}
 use Rattle.spki_decision.specs.Asked.{Signed, asked, IsAccepted, AgreeOn}

@@ -17,10 +17,10 @@ use Rattle.spki_cert.proofs.OneReading.{key-one, date-one, sequence-one}
 use Rattle.spki_case.specs.Case.{Case}
 use Rattle.spki_case.specs.CaseForm.{RequestOf}
 use Rattle.spki_service.specs.declared.question.Question.{Question}
-use Rattle.spki_service.specs.declared.question.Wanted as wanted
-use Rattle.spki_service.specs.declared.question.Wanted.TheVariants as requests
-use Rattle.spki_service.specs.declared.question.Instant as instant
-use Rattle.spki_service.specs.declared.question.Instant.TheVariants as moments
+use Rattle.spki_service.specs.declared.question.RequestInput as wanted
+use Rattle.spki_service.specs.declared.question.RequestInput.TheVariants as requests
+use Rattle.spki_service.specs.declared.question.Moment as of_question
+use Rattle.spki_service.specs.declared.question.Moment.TheVariants as moments
 use Rattle.spki_service.specs.declared.question.Part.{Part}
 use Rattle.spki_service.specs.declared.question.Part.TheVariants as parts
 use Rattle.spki_service.specs.declared.question.AskFault.{AskFault}
@@ -38,7 +38,7 @@ text_is text v (inr m) = inr m.braced
 pub text_one : (text : List ℕ) (v w : Value) → IsTextWithin text v → IsTextWithin text w → v ≡ w
 text_one text v w m n = one_value text v w (text_is text v m) (text_is text w n)
 
-pub wanted_one : (m : wanted.Wanted) (v w : Value) → IsWanted m v → IsWanted m w → v ≡ w
+pub wanted_one : (m : wanted.RequestInput) (v w : Value) → IsWanted m v → IsWanted m w → v ≡ w
 wanted_one (requests.Text text) v w a b = text_one text.now v w a b
 wanted_one (requests.Words words) v w a b = a ∙ sym b
 
@@ -58,11 +58,11 @@ refuses_one text e f a b = by (too_long_or e a.found) (too_long_or f b.found)
     by (inr p) (inl q) = a.long.1 (b.long.0 q) ∙ sym q
     by (inr p) (inr q) = one_of_any text e f p q a.refused b.refused
 
-wanted_refuses_one : (m : wanted.Wanted) (e f : FormFault) → RefusesWanted m e → RefusesWanted m f → e ≡ f
+wanted_refuses_one : (m : wanted.RequestInput) (e f : FormFault) → RefusesWanted m e → RefusesWanted m f → e ≡ f
 wanted_refuses_one (requests.Text text) e f a b = refuses_one text.now e f a b
 wanted_refuses_one (requests.Words words) e f a b = absurd a
 
-pub wanted_none : (m : wanted.Wanted) (fault : FormFault) (v : Value) → RefusesWanted m fault → ¬ IsWanted m v
+pub wanted_none : (m : wanted.RequestInput) (fault : FormFault) (v : Value) → RefusesWanted m fault → ¬ IsWanted m v
 wanted_none (requests.Text text) fault v r = r.none v
 wanted_none (requests.Words words) fault v r = absurd r
 
@@ -115,12 +115,12 @@ LacksValue q parts.Moment fault = (kind : CertFaultKind) × (fault ≡ faults.Mo
 abbrev LacksPart : Question → Part → AskFault → Type 0
 LacksPart q part fault = ((form : FormFault) × (fault ≡ faults.Form part form) × LacksFormAt q part form) ⊎ LacksValue q part fault
 
-moment_form_unread : (m : instant.Instant) (form : FormFault) (date : List ℕ) → LacksFormOfMoment m form → ¬ IsAskedAt m date
+moment_form_unread : (m : of_question.Moment) (form : FormFault) (date : List ℕ) → LacksFormOfMoment m form → ¬ IsAskedAt m date
 moment_form_unread (moments.Text text) form date lacks a =
     form_unread (IsTextWithin text.now) (RefusesForm text.now) (text_one text.now) (λ fault v r. r.none v) (λ v. DateOf v date) form lacks a
 moment_form_unread (moments.Seconds seconds) form date lacks a = lacks
 
-moment_none : (m : instant.Instant) (kind : CertFaultKind) (date : List ℕ) → IsAskedAtNone m kind → ¬ IsAskedAt m date
+moment_none : (m : of_question.Moment) (kind : CertFaultKind) (date : List ℕ) → IsAskedAtNone m kind → ¬ IsAskedAt m date
 moment_none (moments.Text text) kind date n a =
     let b = both (IsTextWithin text.now) (text_one text.now) (IsNoDateFor kind) (λ v. DateOf v date) n a in
     b.one.none date b.other
@@ -153,7 +153,7 @@ unread q part fault (inr n) a = value_unread q part fault n a
 
 -- ---- one fault of a part
 
-moment_form_one : (m : instant.Instant) (e f : FormFault) → LacksFormOfMoment m e → LacksFormOfMoment m f → e ≡ f
+moment_form_one : (m : of_question.Moment) (e f : FormFault) → LacksFormOfMoment m e → LacksFormOfMoment m f → e ≡ f
 moment_form_one (moments.Text text) e f a b =
     form_one (IsTextWithin text.now) (RefusesForm text.now) (text_one text.now) (λ fault v r. r.none v) (refuses_one text.now) e f a b
 moment_form_one (moments.Seconds seconds) e f a b = absurd a
@@ -170,7 +170,7 @@ form_one_at q parts.Request e f a b =
     (wanted_refuses_one q.request) e f a b
 form_one_at q parts.Moment e f a b = moment_form_one q.moment e f a b
 
-kind_one : (m : instant.Instant) (k l : CertFaultKind) → IsAskedAtNone m k → IsAskedAtNone m l → k ≡ l
+kind_one : (m : of_question.Moment) (k l : CertFaultKind) → IsAskedAtNone m k → IsAskedAtNone m l → k ≡ l
 kind_one (moments.Text text) k l a b = a.is.named ∙ sym b.is.named
 kind_one (moments.Seconds seconds) k l a b = a.0 ∙ sym b.0
 
@@ -187,7 +187,7 @@ value_one q parts.Request f g (x, is, m) (y, at, n) =
 value_one q parts.Moment f g (x, is, m) (y, at, n) = is ∙ ap faults.Moment (kind_one q.moment x y m n) ∙ sym at
 
 -- a part that lacks a form means no value, and so none that is refused
-form_no_value_of_moment : (m : instant.Instant) (form : FormFault) (kind : CertFaultKind) → LacksFormOfMoment m form → ¬ IsAskedAtNone m kind
+form_no_value_of_moment : (m : of_question.Moment) (form : FormFault) (kind : CertFaultKind) → LacksFormOfMoment m form → ¬ IsAskedAtNone m kind
 form_no_value_of_moment (moments.Text text) form kind lacks n =
     form_unread (IsTextWithin text.now) (RefusesForm text.now) (text_one text.now) (λ fault v r. r.none v) (IsNoDateFor kind) form lacks n
 form_no_value_of_moment (moments.Seconds seconds) form kind lacks n = lacks
@@ -262,7 +262,7 @@ part_read q c a parts.Moment = (c.moment, a.moment)
 pub unrefused : (q : Question) (c : Case) (fault : AskFault) → IsAskedCase q c → ¬ IsNotAsked q fault
 unrefused q c fault a n = let f = first_of q fault n in unread q f.part fault f.lacks (part_read q c a f.part)
 
-asked_at_one : (m : instant.Instant) (s t : List ℕ) → IsAskedAt m s → IsAskedAt m t → s ≡ t
+asked_at_one : (m : of_question.Moment) (s t : List ℕ) → IsAskedAt m s → IsAskedAt m t → s ≡ t
 asked_at_one (moments.Text text) s t a b =
     let two = both (IsTextWithin text.now) (text_one text.now) (λ v. DateOf v s) (λ v. DateOf v t) a b in
     date-one two.value s t two.one two.other

@@ -1,11 +1,10 @@
 -- A question has one refusal, or none if it is read and within the limits.
-use Rattle.std.proofs.Common.{◌≡◌, ◌⊎◌, ℕ, ◌<◌, ◌≤◌, inl, inr, refl, sym, subst, ap, ◌∙◌, arith}
+use Rattle.std.proofs.Common.{◌≡◌, ◌⊎◌, ℕ, ◌<◌, ◌≤◌, inl, inr, refl, sym, ap, ◌∙◌, arith}
 use Rattle.spki_case.specs.Case.{Case}
 use Rattle.spki_service.specs.declared.question.Question.{Question}
 use Rattle.spki_service.specs.declared.question.AskFault.{AskFault}
 use Rattle.spki_service.specs.declared.question.AskFault.TheVariants as faults
-use Rattle.spki_service.specs.Form.{Reads}
-use Rattle.spki_service.specs.Questions.{IsWanted, IsAskedCase, IsNotAsked}
+use Rattle.spki_service.specs.Questions.{IsWanted, IsAskedCase}
 use Rattle.spki_service.specs.Counted.{certificates_in, strings_in, HasFewStrings, HasManyCertificates, HasManyStrings, IsTooMany, IsRefused}
 use Rattle.spki_service.proofs.OneAsking.{items_one, wanted_one, both, unrefused, fault-one}
 

@@ -17,8 +17,8 @@ use Rattle.spki_case.specs.Case.{Case}
 use Rattle.spki_case.specs.CaseForm.{RequestOf}
 use Rattle.spki_case.proofs.Unrefused.{one_text}
 use Rattle.spki_service.specs.declared.question.Question.{Question}
-use Rattle.spki_service.specs.declared.question.Instant as instant
-use Rattle.spki_service.specs.declared.question.Instant.TheVariants as moments
+use Rattle.spki_service.specs.declared.question.Moment as of_question
+use Rattle.spki_service.specs.declared.question.Moment.TheVariants as moments
 use Rattle.spki_service.specs.declared.question.Part.{Part}
 use Rattle.spki_service.specs.declared.question.Part.TheVariants as parts
 use Rattle.spki_service.specs.declared.question.AskFault.{AskFault}
@@ -30,7 +30,7 @@ use Rattle.spki_service.specs.declared.texts.MomentText.TheVariants as of_moment
 use Rattle.spki_service.specs.declared.texts.Texts.{Texts}
 use Rattle.spki_service.specs.Form.{RefusesForm, Reads, LacksForm}
 use Rattle.spki_service.specs.Questions.{RefusesWanted, IsAskedAt, IsAskedCase, ReadsSequence, ReadsKey, ReadsRequest, LacksFormOfMoment, IsAskedAtNone, IsNotAsked}
-use Rattle.spki_service.specs.Texts.{IsReadAs, IsMomentText, IsTextsOf, OfText, IsInstant, NamesForm, NamesPart, NamesSequence, NamesKey, NamesRequest, NamesMoment, NamesInstant}
+use Rattle.spki_service.specs.Texts.{IsReadAs, IsMomentText, IsTextsOf, OfText, HasDate, NamesForm, NamesPart, NamesSequence, NamesKey, NamesRequest, NamesMoment, NamesDate}
 
 -- ---- texts that are canonical
 
@@ -85,7 +85,7 @@ form_named means refuses part (Made octets) fault (v, meant, within, written) n 
 form_named means refuses part (Malformed form) fault r n =
     (n.form, n.named, subst (LacksForm means refuses) (sym n.none) r)
 
-asked_at : (m : instant.Instant) (text : MomentText) (date : List ℕ) → IsMomentText m text → IsInstant text date → IsAskedAt m date
+asked_at : (m : of_question.Moment) (text : MomentText) (date : List ℕ) → IsMomentText m text → HasDate text date → IsAskedAt m date
 asked_at (moments.Text text) (of_moment.Text part) date r h = said_read _ (RefusesForm text.now) (λ v. DateOf v date) part r h
 asked_at (moments.Text text) (of_moment.At octets) date r h = absurd r
 asked_at (moments.Text text) of_moment.Dateless date r h = absurd r
@@ -94,12 +94,12 @@ asked_at (moments.Seconds seconds) (of_moment.At octets) date r h = rw h r
 asked_at (moments.Seconds seconds) of_moment.Dateless date r h = absurd h
 
 -- what a moment lacks
-abbrev MomentLacks : instant.Instant → AskFault → Type 0
+abbrev MomentLacks : of_question.Moment → AskFault → Type 0
 MomentLacks m fault =
     ((form : FormFault) × (fault ≡ faults.Form parts.Moment form) × LacksFormOfMoment m form)
     ⊎ ((kind : CertFaultKind) × (fault ≡ faults.Moment kind) × IsAskedAtNone m kind)
 
-moment_named : (m : instant.Instant) (text : MomentText) (fault : AskFault) → IsMomentText m text → NamesInstant text fault
+moment_named : (m : of_question.Moment) (text : MomentText) (fault : AskFault) → IsMomentText m text → NamesDate text fault
     → MomentLacks m fault
 moment_named (moments.Text text) (of_moment.Text part) fault r (inl n) =
     inl (form_named _ (RefusesForm text.now) parts.Moment part fault r n)
@@ -114,7 +114,7 @@ moment_named (moments.Seconds seconds) of_moment.Dateless fault r h = inr (kinds
 
 module _ (q : Question) (texts : Texts) (t : IsTextsOf q texts) where
   pub asked_case : (c : Case) → c.entries ≡ [] → c.rows ≡ [] → OfText texts.sequence (λ v. SeqOf v c.items)
-      → OfText texts.key (λ v. KeyOf v c.key) → OfText texts.request (λ v. RequestOf v c.request) → IsInstant texts.moment c.moment
+      → OfText texts.key (λ v. KeyOf v c.key) → OfText texts.request (λ v. RequestOf v c.request) → HasDate texts.moment c.moment
       → IsAskedCase q c
   asked_case c entries rows sequence key request moment = record {
     entries = entries;
@@ -161,7 +161,7 @@ module _ (q : Question) (texts : Texts) (t : IsTextsOf q texts) where
       let r = said_read _ (RefusesWanted q.request) (NamesRequest fault) texts.request t.request h in
       subst (IsNotAsked q) (sym r.is.named) (before, record { value = r.value; meant = r.meant; short = r.short; is = r.is.refused })
 
-  pub moment_lacks : (fault : AskFault) → ReadsSequence q × (ReadsKey q × ReadsRequest q) → NamesInstant texts.moment fault
+  pub moment_lacks : (fault : AskFault) → ReadsSequence q × (ReadsKey q × ReadsRequest q) → NamesDate texts.moment fault
       → IsNotAsked q fault
   moment_lacks fault before n = by (moment_named q.moment texts.moment fault t.moment n)
     where

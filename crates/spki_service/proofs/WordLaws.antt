@@ -37,11 +37,6 @@ word_value w = plain w.now
 abbrev pub words_now : List (Bor (List ℕ)) → List (List ℕ)
 words_now ws = map (λ w. w.now) ws
 
-pub one_word : (ws : List (Bor (List ℕ))) (d : Bor (List ℕ)) → length ws ≡ 1 → words_value (words_now ws) ≡ word_value (get_or ws 0 d)
-one_word [] d one = absurd (omega arith)
-one_word (w ∷ []) d one = refl
-one_word (w ∷ x ∷ ws) d one = absurd (omega arith)
-
 many : (xs : List (List ℕ)) → (length xs ≡ 1 → ⊥) → words_value xs ≡ group (map plain xs)
 many [] other = refl
 many (w ∷ []) other = absurd (other refl)

@@ -1,6 +1,5 @@
 -- What a question that was read keeps of its texts.
 use Rattle.std.specs.Prelude.{◌≡◌, ◌≤◌, List, Some}
-use Rattle.spki_case.specs.Case.{Case}
 use Rattle.spki_decision.specs.declared.decision.Decision.{Decision}
 use Rattle.spki_decision.specs.Asked.{Signed, asked, every}
 use Rattle.spki_service.specs.Held.{Held}

@@ -18,10 +18,10 @@ use Rattle.spki_cert.specs.FixedFaults.{key_fault}
 use Rattle.spki_case.specs.Case.{Case}
 use Rattle.spki_case.specs.CaseForm.{RequestOf}
 use Rattle.spki_service.specs.declared.question.Question.{Question}
-use Rattle.spki_service.specs.declared.question.Wanted as wanted
-use Rattle.spki_service.specs.declared.question.Wanted.TheVariants as requests
-use Rattle.spki_service.specs.declared.question.Instant as instant
-use Rattle.spki_service.specs.declared.question.Instant.TheVariants as moments
+use Rattle.spki_service.specs.declared.question.RequestInput as wanted
+use Rattle.spki_service.specs.declared.question.RequestInput.TheVariants as requests
+use Rattle.spki_service.specs.declared.question.Moment as of_question
+use Rattle.spki_service.specs.declared.question.Moment.TheVariants as moments
 use Rattle.spki_service.specs.declared.question.Part.{Part}
 use Rattle.spki_service.specs.declared.question.Part.TheVariants as parts
 use Rattle.spki_service.specs.declared.question.AskFault.{AskFault}
@@ -40,19 +40,19 @@ words_value (w ∷ x ∷ ws) = group (plain w ∷ plain x ∷ map plain ws)
 -- ---- the values of the parts
 
 -- the values of a request: the value of its text, or of its strings
-abbrev pub IsWanted : wanted.Wanted → Value → Type 0
+abbrev pub IsWanted : wanted.RequestInput → Value → Type 0
 IsWanted (requests.Text text) v = IsTextWithin text.now v
 IsWanted (requests.Words words) v = v ≡ words_value (map (λ w. w.now) words.now)
 
 -- why the text of a request has no value
-abbrev pub RefusesWanted : wanted.Wanted → FormFault → Type 0
+abbrev pub RefusesWanted : wanted.RequestInput → FormFault → Type 0
 RefusesWanted (requests.Text text) fault = RefusesForm text.now fault
 RefusesWanted (requests.Words words) fault = ⊥
 
 -- ---- the case of a question
 
 -- the moment is this date
-abbrev pub IsAskedAt : instant.Instant → List ℕ → Type 0
+abbrev pub IsAskedAt : of_question.Moment → List ℕ → Type 0
 IsAskedAt (moments.Text text) date = Reads (IsTextWithin text.now) (λ v. DateOf v date)
 IsAskedAt (moments.Seconds seconds) date = IsDateAt seconds date
 
@@ -111,7 +111,7 @@ ReadsBefore q parts.Request = ReadsSequence q × ReadsKey q
 ReadsBefore q parts.Moment = ReadsSequence q × (ReadsKey q × ReadsRequest q)
 
 -- a moment has no value that is read, and this is the fault of its form
-abbrev pub LacksFormOfMoment : instant.Instant → FormFault → Type 0
+abbrev pub LacksFormOfMoment : of_question.Moment → FormFault → Type 0
 LacksFormOfMoment (moments.Text text) fault = LacksForm (IsTextWithin text.now) (RefusesForm text.now) fault
 LacksFormOfMoment (moments.Seconds seconds) fault = ⊥
 
@@ -123,7 +123,7 @@ LacksFormAt q parts.Request fault = LacksForm (IsWanted q.request) (RefusesWante
 LacksFormAt q parts.Moment fault = LacksFormOfMoment q.moment fault
 
 -- the moment is no date
-abbrev pub IsAskedAtNone : instant.Instant → CertFaultKind → Type 0
+abbrev pub IsAskedAtNone : of_question.Moment → CertFaultKind → Type 0
 IsAskedAtNone (moments.Text text) kind = Reads (IsTextWithin text.now) (IsNoDateFor kind)
 IsAskedAtNone (moments.Seconds seconds) kind = (kind ≡ kinds.BadDate) × IsAtNoDate seconds
 
@@ -142,12 +142,12 @@ IsNotAsked q faults.Memory = ⊥
 -- ---- length
 
 -- strings count as the canonical form of their value
-abbrev pub wanted_octets : wanted.Wanted → ℕ
+abbrev pub wanted_octets : wanted.RequestInput → ℕ
 wanted_octets (requests.Text text) = length text.now
 wanted_octets (requests.Words words) = length (canon (words_value (map (λ w. w.now) words.now)))
 
 -- seconds count as the canonical form of a date, 19:YYYY-MM-DD_HH:MM:SS
-abbrev pub moment_octets : instant.Instant → ℕ
+abbrev pub moment_octets : of_question.Moment → ℕ
 moment_octets (moments.Text text) = length text.now
 moment_octets (moments.Seconds seconds) = 22
 

@@ -13,8 +13,8 @@ use Rattle.spki_service.specs.declared.question.Part.{Part}
 use Rattle.spki_service.specs.declared.question.Part.TheVariants as parts
 use Rattle.spki_service.specs.declared.question.AskFault.{AskFault}
 use Rattle.spki_service.specs.declared.question.AskFault.TheVariants as faults
-use Rattle.spki_service.specs.declared.question.Instant as instant
-use Rattle.spki_service.specs.declared.question.Instant.TheVariants as moments
+use Rattle.spki_service.specs.declared.question.Moment as of_question
+use Rattle.spki_service.specs.declared.question.Moment.TheVariants as moments
 use Rattle.spki_service.specs.declared.texts.PartText.{PartText}
 use Rattle.spki_service.specs.declared.texts.PartText.TheVariants.{Standing, Made, Malformed}
 use Rattle.spki_service.specs.declared.texts.MomentText.{MomentText}
@@ -31,7 +31,7 @@ IsReadAs means refuses (Made octets) = (v : Value) × means v × IsWithinLimits 
 IsReadAs means refuses (Malformed fault) = LacksForm means refuses fault
 
 -- the same for a moment
-abbrev pub IsMomentText : instant.Instant → MomentText → Type 0
+abbrev pub IsMomentText : of_question.Moment → MomentText → Type 0
 IsMomentText (moments.Text text) (of_moment.Text part) = IsReadAs (IsTextWithin text.now) (RefusesForm text.now) part
 IsMomentText (moments.Text text) (of_moment.At date) = ⊥
 IsMomentText (moments.Text text) of_moment.Dateless = ⊥
@@ -99,13 +99,13 @@ abbrev pub NamesPart : Part → (AskFault → Value → Type 0) → PartText →
 NamesPart part names text fault = NamesForm part text fault ⊎ OfText text (names fault)
 
 -- the same for the text of a moment, or for its seconds
-abbrev pub NamesInstant : MomentText → AskFault → Type 0
-NamesInstant (of_moment.Text text) fault = NamesPart parts.Moment NamesMoment text fault
-NamesInstant (of_moment.At date) fault = ⊥
-NamesInstant of_moment.Dateless fault = fault ≡ faults.Moment kinds.BadDate
+abbrev pub NamesDate : MomentText → AskFault → Type 0
+NamesDate (of_moment.Text text) fault = NamesPart parts.Moment NamesMoment text fault
+NamesDate (of_moment.At date) fault = ⊥
+NamesDate of_moment.Dateless fault = fault ≡ faults.Moment kinds.BadDate
 
 -- the date of a moment's text, or of its seconds
-abbrev pub IsInstant : MomentText → List ℕ → Type 0
-IsInstant (of_moment.Text text) date = OfText text (λ v. DateOf v date)
-IsInstant (of_moment.At octets) date = date ≡ octets
-IsInstant of_moment.Dateless date = ⊥
+abbrev pub HasDate : MomentText → List ℕ → Type 0
+HasDate (of_moment.Text text) date = OfText text (λ v. DateOf v date)
+HasDate (of_moment.At octets) date = date ≡ octets
+HasDate of_moment.Dateless date = ⊥

@@ -76,7 +76,7 @@ impl<'a> Asked<'a> {
     {
         match &self.examined.evidence {
             Evidence::Fails { .. } => Ok(Decision::No),
-            Evidence::Stands(steps) => self.granted(alloc, steps),
+            Evidence::Verified(steps) => self.granted(alloc, steps),
         }
     }
 
@@ -183,13 +183,13 @@ impl<'a> Asked<'a> {
     fn explained(&self, alloc: Global) -> Result<Explanation, GuardFault>
         ensures { Answers (λ c answer. IsExplained c every answer) self.now result }
     {
-        self.case.request.known();
+        self.case.request.prove_well_formed();
         match &self.examined.evidence {
             Evidence::Fails { item, stop } => Ok(Explanation::Evidence {
                 item: *item,
                 stop: *stop,
             }),
-            Evidence::Stands(steps) => {
+            Evidence::Verified(steps) => {
                 let guard = self.guard;
                 let entries = all_entries(alloc, &guard.texts)?;
                 let reasons = entry_reasons(alloc, &entries, &self.case, steps)?;
@@ -208,7 +208,7 @@ impl<'a> Asked<'a> {
                 item: *item,
                 stop: *stop,
             }),
-            Evidence::Stands(steps) => {
+            Evidence::Verified(steps) => {
                 let guard = self.guard;
                 let entries = all_entries(alloc, &guard.texts)?;
                 let folds = entry_folds(alloc, &entries, &self.case, steps)?;

@@ -1,4 +1,5 @@
 //! Laws of access lists, questions, answers and dates.
+//! Each function is a law: it does nothing, and its contract is the fact.
 
 ghost use Rattle.std.specs.Prelude.{◌≡◌, ◌≢◌, ◌↔◌, ℤ, ℕ, List, Bool, Result, Err};
 ghost use Rattle.spki_cert.specs.declared.entry.Entry.{Entry};

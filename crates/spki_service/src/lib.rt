@@ -30,7 +30,7 @@ pub use limits::Limits;
 pub use list_fault::AclFault;
 pub use opened::Opened;
 pub use owned_signed::OwnedSigned;
-pub use question::{AskFault, Instant, Part, Question, Wanted};
+pub use question::{AskFault, Moment, Part, Question, RequestInput};
 pub use shared::SharedGuard;
 pub use spki_decision::{
     Decision, EntryFold, Explanation, GuardFault, Reason, Reduction, Signed, Stop,

@@ -4,7 +4,7 @@ ghost use Rattle.std.specs.Prelude.{◌≡◌, ◌<◌, ◌≤◌, ◌+◌, map,
 ghost use Rattle.sexpr_core.specs.Value.{canon, decimal, verbatim};
 ghost use Rattle.spki_service.specs.Questions.{words_value, wanted_octets, moment_octets, asked_octets};
 
-use crate::question::{Instant, Question, Wanted};
+use crate::question::{Moment, Question, RequestInput};
 
 /// How many octets a question's texts have together. None if they are more than `most_octets`. None of them is read.
 pub(crate) fn octets_within(question: &Question, most_octets: usize) -> Option<usize>
@@ -18,12 +18,12 @@ pub(crate) fn octets_within(question: &Question, most_octets: usize) -> Option<u
 }
 
 /// The room that is left after a moment. None if there is too little.
-fn left_of_moment(room: usize, moment: &Instant) -> Option<usize>
+fn left_of_moment(room: usize, moment: &Moment) -> Option<usize>
     ensures { MatchOption result (room < moment_octets moment.now) (λ left. left + moment_octets moment.now ≡ room) }
 {
     match moment {
-        Instant::Text(text) => left_of(room, text.len()),
-        Instant::Seconds(_) => left_of(room, 22),
+        Moment::Text(text) => left_of(room, text.len()),
+        Moment::Seconds(_) => left_of(room, 22),
     }
 }
 
@@ -35,12 +35,12 @@ fn left_of(room: usize, octets: usize) -> Option<usize>
 }
 
 /// The room that is left after a request. None if there is too little.
-fn left_of_wanted(room: usize, wanted: &Wanted) -> Option<usize>
+fn left_of_wanted(room: usize, wanted: &RequestInput) -> Option<usize>
     ensures { MatchOption result (room < wanted_octets wanted.now) (λ left. left + wanted_octets wanted.now ≡ room) }
 {
     match wanted {
-        Wanted::Text(text) => left_of(room, text.len()),
-        Wanted::Words(words) => left_of_words(room, words),
+        RequestInput::Text(text) => left_of(room, text.len()),
+        RequestInput::Words(words) => left_of_words(room, words),
     }
 }
 

@@ -9,7 +9,7 @@ ghost use Rattle.spki_case.specs.Sequence.{AreSigned};
 ghost use Rattle.spki_case.specs.Texts.{IsOuter};
 ghost use Rattle.spki_case.specs.View.{model};
 ghost use Rattle.spki_service.specs.Questions.{IsAskedCase, IsNotAsked};
-ghost use Rattle.spki_service.specs.Texts.{IsTextsOf, OfText, IsInstant, NamesPart, NamesSequence, NamesKey, NamesRequest, NamesMoment, NamesInstant};
+ghost use Rattle.spki_service.specs.Texts.{IsTextsOf, OfText, HasDate, NamesPart, NamesSequence, NamesKey, NamesRequest, NamesMoment, NamesDate};
 ghost use Rattle.spki_service.specs.declared.question.Question.{Question};
 
 use crate::limits::Limits;
@@ -151,8 +151,8 @@ fn date_in(alloc: Global, text: &PartText) -> Result<Date, AskFault>
 
 /// Reads the date of a moment.
 fn moment_in(alloc: Global, text: &MomentText) -> Result<Date, AskFault>
-    ensures read { IfOk result (λ date. IsInstant text.now date) }
-    ensures refused { IfErr result (λ fault. fault ≢ AskFault.Memory → NamesInstant text.now fault) }
+    ensures read { IfOk result (λ date. HasDate text.now date) }
+    ensures refused { IfErr result (λ fault. fault ≢ AskFault.Memory → NamesDate text.now fault) }
 {
     match text {
         MomentText::Text(text) => date_in(alloc, text),

@@ -18,14 +18,14 @@ pub struct Question<'q> {
     /// The client's key: `(public-key ..)`.
     pub key: &'q [u8],
     /// The request.
-    pub request: Wanted<'q>,
+    pub request: RequestInput<'q>,
     /// The moment.
-    pub moment: Instant<'q>,
+    pub moment: Moment<'q>,
 }
 
 /// A request.
 #[derive(Clone, Copy)]
-pub enum Wanted<'q> {
+pub enum RequestInput<'q> {
     /// As a text.
     Text(&'q [u8]),
     /// As its strings, each as octets that may come from the client. The request is the list of them, or the string if there
@@ -35,7 +35,7 @@ pub enum Wanted<'q> {
 
 /// A moment.
 #[derive(Clone, Copy)]
-pub enum Instant<'q> {
+pub enum Moment<'q> {
     /// As the text of a date.
     Text(&'q [u8]),
     /// As seconds since 1970-01-01 00:00:00 UTC, without leap seconds.

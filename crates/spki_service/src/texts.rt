@@ -9,7 +9,7 @@ ghost use Rattle.spki_service.specs.Texts.{IsReadAs, IsTextsOf, IsMomentText, Is
 
 use crate::date::date_at;
 use crate::measure::octets_within;
-use crate::question::{AskFault, Instant, Question, Wanted};
+use crate::question::{AskFault, Moment, Question, RequestInput};
 use crate::words::words_text;
 use sexpr_core::{Doc, FormFault, MOST_OCTETS};
 use sexpr_text::{Form, convert};
@@ -113,30 +113,30 @@ fn made_text(octets: Vec<u8>) -> PartText<'static>
 }
 
 /// Returns the canonical text of a request.
-fn wanted_text<'q>(alloc: Global, wanted: &Wanted<'q>) -> Result<PartText<'q>, AskFault>
+fn wanted_text<'q>(alloc: Global, wanted: &RequestInput<'q>) -> Result<PartText<'q>, AskFault>
     ensures read { IfOk result (IsReadAs (IsWanted wanted.now) (RefusesWanted wanted.now)) }
     ensures only { IfErr result (λ fault. fault ≡ AskFault.Memory) }
 {
     match wanted {
-        Wanted::Text(text) => part_text(alloc, text),
-        Wanted::Words(words) => Ok(made_text(words_text(alloc, words)?)),
+        RequestInput::Text(text) => part_text(alloc, text),
+        RequestInput::Words(words) => Ok(made_text(words_text(alloc, words)?)),
     }
 }
 
 /// Returns the text of a moment, or its date.
-fn moment_text<'q>(alloc: Global, moment: &Instant<'q>) -> Result<MomentText<'q>, AskFault>
+fn moment_text<'q>(alloc: Global, moment: &Moment<'q>) -> Result<MomentText<'q>, AskFault>
     ensures read { IfOk result (IsMomentText moment.now) }
     ensures only { IfErr result (λ fault. fault ≡ AskFault.Memory) }
 {
     match moment {
-        Instant::Text(text) => Ok(MomentText::Text(part_text(alloc, text)?)),
-        Instant::Seconds(seconds) => Ok(seconds_text(seconds)),
+        Moment::Text(text) => Ok(MomentText::Text(part_text(alloc, text)?)),
+        Moment::Seconds(seconds) => Ok(seconds_text(seconds)),
     }
 }
 
 /// Returns the date of seconds.
 fn seconds_text(seconds: &i64) -> MomentText<'static>
-    ensures { IsMomentText (Instant.Seconds seconds.now) result }
+    ensures { IsMomentText (Moment.Seconds seconds.now) result }
 {
     let seconds = *seconds;
     match date_at(seconds) {

@@ -1,5 +1,5 @@
 -- How large what two tags leave together is.
-use Rattle.std.proofs.Common.{◌≡◌, ℕ, ◌+◌, ◌*◌, ◌≤◌, Bool, true, false, List, [], ◌∷◌, ◌++◌, Option, Some, None, refl, ap, subst, arith, le_trans}
+use Rattle.std.proofs.Common.{◌≡◌, ℕ, ◌+◌, ◌*◌, ◌≤◌, Bool, true, false, List, [], ◌∷◌, ◌++◌, Option, Some, None, refl, ap, subst, arith, le_trans, rules}
 use Rattle.std.proofs.Math.Nat.{mul-add, add-mul, mul-one, one-mul, mul_comm, two-mul, one-le-mul, mul-le-mul_left}
 use Rattle.std.specs.Prelude.{if◌then◌else◌, nat_eq}
 use Rattle.std.specs.List.{starts_with}
@@ -41,9 +41,7 @@ range-one o l u (set us) = refl
 pub prefix-one : (p : List ℕ) (b : Tag) → nodes (prefix_meet p b) ≡ 1
 prefix-one p star = refl
 prefix-one p (string s) = string-one s (prefix p)
-prefix-one p (prefix q) =
-    if_one (starts_with nat_eq p q) (prefix p) (if starts_with nat_eq q p then prefix q else nothing) refl
-    (if_one (starts_with nat_eq q p) (prefix q) nothing refl refl)
+prefix-one p (prefix q) = search (rules, if_one)
 prefix-one p (range o l u) =
     ranged-one (ordering_meet alpha o) (greater_low (from p) l) (lesser_up (strict_limit (least_above p)) u)
 prefix-one p (list head us) = refl
@@ -99,12 +97,8 @@ set_across-le ms f (prefix s) h =
     set_across-by (nodes_all ms) 1 _ _ (gather-le (f (more (prefix s) none))) (h (more (prefix s) none)) (omega arith)
 set_across-le ms f (range o l u) h =
     set_across-by (nodes_all ms) 1 _ _ (gather-le (f (more (range o l u) none))) (h (more (range o l u) none)) (omega arith)
-set_across-le ms f (list head us) h =
-    set_across-by (nodes_all ms) (2 + nodes_all us) _ _ (gather-le (f (more (list head us) none)))
-    (subst (λ n. nodes_all (tags (f (more (list head us) none))) ≤ nodes_all ms * n) (omega arith) (h (more (list head us) none))) (omega arith)
-set_across-le ms f (set bs) h =
-    set_across-by (nodes_all ms) (1 + nodes_all bs) _ (nodes_all (tags (f bs))) (gather-le (f bs))
-    (le_trans (h bs) (mul-le-mul_left (nodes_all ms) (omega arith))) (omega arith)
+set_across-le ms f (list head us) h = search (rules, set_across-by, gather-le)
+set_across-le ms f (set bs) h = search (rules, set_across-by, gather-le, le_trans, mul-le-mul_left)
 
 pub tags-items : (ts : Tags) → tags (items ts) ≡ ts
 tags-items none = refl

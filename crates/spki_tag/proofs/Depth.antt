@@ -1,5 +1,5 @@
 -- What two tags leave together has no more lists one inside another than they.
-use Rattle.std.proofs.Common.{ℕ, zero, suc, ◌+◌, ◌≤◌, max, Bool, true, false, List, [], ◌∷◌, ◌++◌, Option, Some, None, arith}
+use Rattle.std.proofs.Common.{ℕ, zero, suc, ◌+◌, ◌≤◌, max, Bool, true, false, List, [], ◌∷◌, ◌++◌, Option, Some, None, arith, rules}
 use Rattle.std.specs.Prelude.{if◌then◌else◌, nat_eq}
 use Rattle.std.specs.List.{starts_with}
 use Rattle.std.specs.Str.{bytes_eq}
@@ -68,16 +68,12 @@ gather-flat n (t ∷ u ∷ us) h = h
 append-flat : (n : ℕ) (ts us : List Tag) → ldepth_most (tags ts) ≤ n → ldepth_most (tags us) ≤ n
     → ldepth_most (tags (ts ++ us)) ≤ n
 append-flat n [] us h k = k
-append-flat n (t ∷ ts) us h k =
-    both (ldepth t) (ldepth_most (tags (ts ++ us))) n (left (ldepth t) (ldepth_most (tags ts)) n h)
-    (append-flat n ts us (right (ldepth t) (ldepth_most (tags ts)) n h) k)
+append-flat n (t ∷ ts) us h k = search (rules, both, left, right, append-flat n ts us (right (ldepth t) (ldepth_most (tags ts)) n h) k)
 
 row-flat : (n : ℕ) (f : Tag → Tag) (bs : Tags) → ((b : Tag) → ldepth b ≤ n → ldepth (f b) ≤ n) → ldepth_most bs ≤ n
     → ldepth_most (tags (row f bs)) ≤ n
 row-flat n f none e h = h
-row-flat n f (more b bs) e h =
-    kept-flat n (f b) (row f bs) (e b (left (ldepth b) (ldepth_most bs) n h))
-    (row-flat n f bs e (right (ldepth b) (ldepth_most bs) n h))
+row-flat n f (more b bs) e h = search (rules, kept-flat, left, right, row-flat n f bs e (right (ldepth b) (ldepth_most bs) n h))
 
 -- ---- tags
 
@@ -122,9 +118,7 @@ list-flat n head f (list other us) k e =
 
 items-flat : (n : ℕ) (ts : Tags) → ldepth_most ts ≤ n → ldepth_most (tags (items ts)) ≤ n
 items-flat n none h = h
-items-flat n (more t ts) h =
-    both (ldepth t) (ldepth_most (tags (items ts))) n (left (ldepth t) (ldepth_most ts) n h)
-    (items-flat n ts (right (ldepth t) (ldepth_most ts) n h))
+items-flat n (more t ts) h = search (rules, both, left, right, items-flat n ts (right (ldepth t) (ldepth_most ts) n h))
 
 mutual
   meet-flat : (n : ℕ) (a b : Tag) → ldepth a ≤ n → ldepth b ≤ n → ldepth (meet a b) ≤ n

@@ -1,12 +1,12 @@
 -- What two tags leave together contains a request exactly if both do.
-use Rattle.std.proofs.Common.{◌≡◌, ℕ, Bool, true, false, ◌&&◌, ◌||◌, not, List, [], ◌∷◌, ◌++◌, length, Option, Some, None, refl, sym, ap, ◌∙◌, subst, true≢false, arith, eqb-true}
+use Rattle.std.proofs.Common.{◌≡◌, ℕ, Bool, true, false, ◌&&◌, ◌||◌, not, List, [], ◌∷◌, ◌++◌, length, Option, Some, None, refl, sym, ap, ◌∙◌, subst, true≢false, arith, eqb-true, rules}
 use Rattle.std.specs.Prelude.{if◌then◌else◌, nat_eq, ◌==◌, slice_index, drop}
 use Rattle.std.specs.List.{starts_with}
 use Rattle.std.specs.Str.{bytes_eq}
 use Rattle.std.specs.Cmp.Lexicographic.{same_text, bytes_decides}
 use Rattle.spki_tag.specs.Time.{is_time, is_date, is_number_at}
 use Rattle.spki_tag.specs.Request as request
-use Rattle.spki_tag.specs.Request.{Request, Requests, IsRequest, AreRequests, AreOctets}
+use Rattle.spki_tag.specs.Request.{Request, Requests, IsRequest, AreRequests}
 use Rattle.spki_tag.specs.Tag.{Tag, Tags, tags, Limit, Ordering, alpha, time, date, star, string, prefix, range, list, set, none, more, contains, contain_each, some_contains, is_above, is_below, is_ordered, is_nothing, is_normal, each_normal, is_set_or_star}
 use Rattle.spki_tag.specs.Meet.{greater_low, lesser_up, exclude, ordering_meet, nothing, ranged, least_above, strict_limit, from, string_meet, range_meet, prefix_meet, items, kept, row, gather, has_nothing, listed, list_meet, across, set_across, meet, each_meet, pairs}
 use Rattle.spki_tag.proofs.Limits.{and_left, and_never, greater_low-exact, lesser_up-exact, exclude-none}
@@ -82,17 +82,11 @@ first_nine false b c d e f g i j h = h
 
 time_length : (x : List ℕ) → is_time x ≡ true → length x ≡ 8
 unfolding is_time
-time_length x h =
-    eqb-true (length x) 8
-    (first_six (length x == 8) (is_number_at x 0 0 23) (slice_index x 2 == 58) (is_number_at x 3 0 59) (slice_index x 5 == 58)
-    (is_number_at x 6 0 60) h)
+time_length x h = search (rules, eqb-true, first_six)
 
 date_length : (x : List ℕ) → is_date x ≡ true → length x ≡ 19
 unfolding is_date
-date_length x h =
-    eqb-true (length x) 19
-    (first_nine (length x == 19) (is_number_at x 0 0 99) (is_number_at x 2 0 99) (slice_index x 4 == 45) (is_number_at x 5 1 12)
-    (slice_index x 7 == 45) (is_number_at x 8 1 31) (slice_index x 10 == 95) (is_time (drop 11 x)) h)
+date_length x h = search (rules, eqb-true, first_nine)
 
 time_or_date : (x : List ℕ) → is_time x ≡ true → is_date x ≡ true → false ≡ true
 time_or_date x h k = absurd (omega (arith, time_length x h, date_length x k))
@@ -144,10 +138,7 @@ ranged-list (Some o) l u head gs = by (exclude l u)
 ranges : (o p : Ordering) (l u m v : Option Limit) (x : List ℕ)
     → contains (ranged (ordering_meet o p) (greater_low l m) (lesser_up u v)) (request.string x)
     ≡ ((is_ordered o x && is_above l x && is_below u x) && (is_ordered p x && is_above m x && is_below v x))
-ranges o p l u m v x =
-    ranged-string (ordering_meet o p) (greater_low l m) (lesser_up u v) x
-    ∙ (λ i. ordering-exact o p x i && greater_low-exact l m x i && lesser_up-exact u v x i)
-    ∙ thrice (is_ordered o x) (is_above l x) (is_below u x) (is_ordered p x) (is_above m x) (is_below v x)
+ranges o p l u m v x = search (rules, ranged-string, ordering-exact, greater_low-exact, lesser_up-exact, thrice)
 
 -- ---- strings
 
@@ -168,9 +159,7 @@ range-exact : (o : Ordering) (l u : Option Limit) (b : Tag) (g : Request) → Is
     → contains (range_meet o l u b) g ≡ (contains (range o l u) g && contains b g)
 range-exact o l u star g k n = absurd (true≢false n)
 range-exact o l u (string s) g k n = string-exact s (range o l u) g ∙ and_comm (contains (string s) g) (contains (range o l u) g)
-range-exact o l u (prefix p) (request.string x) k n =
-    ranges o alpha l u (from p) (strict_limit (least_above p)) x
-    ∙ ap (λ b. (is_ordered o x && is_above l x && is_below u x) && b) (sym (least_above-exact p x k))
+range-exact o l u (prefix p) (request.string x) k n = search (rules, ranges, least_above-exact)
 range-exact o l u (prefix p) (request.list head gs) k n =
     ranged-list (ordering_meet o alpha) (greater_low l (from p)) (lesser_up u (strict_limit (least_above p))) head gs
 range-exact o l u (range p m v) (request.string x) k n = ranges o p l u m v x

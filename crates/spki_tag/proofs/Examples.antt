@@ -8,7 +8,7 @@ use Rattle.spki_tag.specs.FirstFault.{first_fault}
 use Rattle.spki_tag.specs.FaultOf.{looks, tag_fault, request_fault}
 use Rattle.spki_tag.specs.Time.{is_time, is_date}
 use Rattle.spki_tag.specs.Request as request
-use Rattle.spki_tag.specs.Request.{Request, Requests}
+use Rattle.spki_tag.specs.Request.{Request}
 use Rattle.spki_tag.specs.Tag.{Tag, Limit, alpha, time, date, star, string, prefix, range, list, set, tags, contains, is_normal, nodes, ldepth, tag_value}
 use Rattle.spki_tag.specs.Meet.{nothing}
 use Rattle.spki_tag.specs.Normal.{normal}

@@ -1,5 +1,5 @@
 -- The walk over the tags in a value, and what is found on it.
-use Rattle.std.proofs.Common.{◌≡◌, ℕ, ◌+◌, ◌≤◌, ◌<◌, Bool, true, false, List, [], ◌∷◌, ◌++◌, length, Option, Some, None, refl, ap, ◌∙◌, arith, length-append, nat_lt}
+use Rattle.std.proofs.Common.{◌≡◌, ℕ, ◌+◌, ◌≤◌, ◌<◌, Bool, true, false, List, [], ◌∷◌, ◌++◌, length, Option, Some, None, refl, ap, ◌∙◌, arith, length-append, nat_lt, rules}
 use Rattle.std.specs.Prelude.{codes, if◌then◌else◌}
 use Rattle.std.specs.List.{AllByRecursion}
 use Rattle.std.specs.Str.{bytes_eq}
@@ -7,7 +7,7 @@ use Rattle.std.specs.Cmp.Lexicographic.{same_text}
 use Rattle.std.proofs.lemmas.Bool.Decides.{nat_tests}
 use Rattle.sexpr_core.specs.Labels.{members-values}
 use Rattle.sexpr_core.specs.Value as value
-use Rattle.sexpr_core.specs.Value.{Value, Values, plain, values, group, members}
+use Rattle.sexpr_core.specs.Value.{Value, Values, plain, members}
 use Rattle.spki_tag.specs.declared.fault.TagFault.{TagFault}
 use Rattle.spki_tag.specs.declared.fault.TagFault.TheVariants as faults
 use Rattle.spki_tag.specs.FirstFault.{first_fault, unless}
@@ -31,9 +31,7 @@ first-some (Some f ∷ fs) gs fault e = e
 
 pub looks-append : (n : ℕ) (us vs : List Value) → looks n (us ++ vs) ≡ looks n us ++ looks (n + length us) vs
 looks-append n [] vs = ap (λ m. looks m vs) (omega arith)
-looks-append n (u ∷ us) vs =
-    ap (λ (fs : List (Option TagFault)). unless (nat_lt n 1024) faults.TooManyNodes ∷ own_fault u ∷ fs)
-    (looks-append (n + 1) us vs ∙ ap (λ m. looks (n + 1) us ++ looks m vs) (omega arith))
+looks-append n (u ∷ us) vs = search (rules, nat_lt, looks-append (n + 1) us vs)
 
 -- ---- one look
 
@@ -48,15 +46,11 @@ not_below n h = grind (arith, nat_tests)
 
 pub look-past : (n : ℕ) (v : Value) (vs : List Value) → n < most_read → own_fault v ≡ None
     → first_fault (looks n (v ∷ vs)) ≡ first_fault (looks (n + 1) vs)
-look-past n v vs h e =
-    ap (λ b. first_fault (unless b faults.TooManyNodes ∷ own_fault v ∷ looks (n + 1) vs)) (below n h)
-    ∙ ap (λ (f : Option TagFault). first_fault (f ∷ looks (n + 1) vs)) e
+look-past n v vs h e = search (rules, below)
 
 pub look-own : (n : ℕ) (v : Value) (vs : List Value) (fault : TagFault) → n < most_read → own_fault v ≡ Some fault
     → first_fault (looks n (v ∷ vs)) ≡ Some fault
-look-own n v vs fault h e =
-    ap (λ b. first_fault (unless b faults.TooManyNodes ∷ own_fault v ∷ looks (n + 1) vs)) (below n h)
-    ∙ ap (λ (f : Option TagFault). first_fault (f ∷ looks (n + 1) vs)) e
+look-own n v vs fault h e = search (rules, below)
 
 pub look-full : (n : ℕ) (v : Value) (vs : List Value) → most_read ≤ n
     → first_fault (looks n (v ∷ vs)) ≡ Some faults.TooManyNodes
@@ -104,9 +98,7 @@ ordered-fine time vs = refl
 ordered-fine date vs = refl
 
 range-fine : (o : Ordering) (low up : Option Limit) → own_fault (tag_value (range o low up)) ≡ None
-range-fine o low up =
-    ap list_fault (members-values (plain (codes "*") ∷ plain (codes "range") ∷ plain (ordering_name o) ∷ (low_values low ++ up_values up)))
-    ∙ ordered-fine o (low_values low ++ up_values up) ∙ limits-fine low up
+range-fine o low up = search (rules, ordered-fine, limits-fine)
 
 -- a plain list is no list that begins with the star
 pub head-apart : (head : List ℕ) → IsHead head → bytes_eq head (codes "*") ≡ false
@@ -122,9 +114,7 @@ list-fine head vs h = ap (λ b. if b then star_fault (members vs) else None) (he
 pub tags_in-list : (head : List ℕ) (vs : Values) → IsHead head
     → tags_in (value.list (value.more (plain head) vs))
     ≡ value.list (value.more (plain head) vs) ∷ plain head ∷ tags_in_all vs
-tags_in-list head vs h =
-    ap (λ b. value.list (value.more (plain head) vs) ∷ (if b then tags_in_set vs else plain head ∷ tags_in_all vs))
-    (head-apart head h)
+tags_in-list head vs h = search (rules, head-apart)
 
 pub one-part : (Q : Value → Type 0) (v : Value) (us vs : List Value) → us ≡ vs → AllByRecursion Q vs → AllByRecursion Q us
 one-part Q v us vs e h = rw e h

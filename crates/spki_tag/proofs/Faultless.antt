@@ -10,7 +10,7 @@ use Rattle.std.proofs.Common.{suc}
 use Rattle.std.proofs.lemmas.List.Elements.{All-from_recursion}
 use Rattle.sexpr_core.specs.Octets.{HasOctets, HaveOctets}
 use Rattle.sexpr_core.specs.Value as value
-use Rattle.sexpr_core.specs.Value.{Value, Values, plain, values, group, members}
+use Rattle.sexpr_core.specs.Value.{Value, Values, plain, values, members}
 use Rattle.spki_tag.specs.declared.fault.TagFault.{TagFault}
 use Rattle.spki_tag.specs.declared.fault.TagFault.TheVariants as faults
 use Rattle.spki_tag.specs.FirstFault.{first_fault, unless}

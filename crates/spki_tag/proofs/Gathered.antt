@@ -1,10 +1,10 @@
 -- Sets and lists of tags in normal form, and their own normal form.
-use Rattle.std.proofs.Common.{◌≡◌, ℕ, ◌≤◌, Bool, true, false, ◌&&◌, ◌||◌, not, List, [], ◌∷◌, ◌++◌, refl, sym, ap, ◌∙◌, true≢false, length, append-nil, arith, le_trans}
+use Rattle.std.proofs.Common.{◌≡◌, ℕ, ◌≤◌, Bool, true, false, ◌&&◌, ◌||◌, not, List, [], ◌∷◌, ◌++◌, refl, sym, ap, ◌∙◌, true≢false, length, append-nil, arith, le_trans, rules}
 use Rattle.std.specs.Prelude.{if◌then◌else◌}
 use Rattle.std.specs.List.{list_any}
 use Rattle.std.specs.Str.{bytes_eq}
 use Rattle.spki_tag.specs.Request as request
-use Rattle.spki_tag.specs.Request.{Request, Requests, IsHead}
+use Rattle.spki_tag.specs.Request.{Request, IsHead}
 use Rattle.spki_tag.specs.Tag.{Tag, Tags, tags, star, string, prefix, range, list, set, none, more, IsTag, AreTags, contains, some_contains, nodes, nodes_all, is_star, is_nothing, is_set_or_star, is_none_or_many, is_normal, each_normal, most_nodes, IsNormalTag}
 use Rattle.spki_tag.specs.Meet.{items, gather, nothing, has_nothing, listed}
 use Rattle.spki_tag.specs.NormalForm.{IsNormalOf, AreNormal}
@@ -147,11 +147,7 @@ members-normal : (ts : List Tag) → AreMembers ts → list_any is_star ts ≡ f
     → AreTags (tags ts) × (each_normal is_set_or_star (tags ts) ≡ true)
 members-normal [] h k = (tt, refl)
 members-normal (t ∷ ts) h k =
-    let rest = members-normal ts h.1 (second_none (is_star t) (list_any is_star ts) k) in (
-      (h.0.0, rest.0),
-      all_three (is_set_or_star t) (is_normal t) (each_normal is_set_or_star (tags ts))
-          (h.0.1 ∙ first_none (is_star t) (list_any is_star ts) k) h.0.2 rest.1,
-    )
+    search (rules, second_none, all_three, first_none, members-normal ts h.1 (second_none (is_star t) (list_any is_star ts) k))
 
 gather-normal : (ts : List Tag) → AreMembers ts → list_any is_star ts ≡ false
     → IsTag (gather ts) × (is_normal (gather ts) ≡ true)
@@ -162,14 +158,7 @@ gather-normal (t ∷ u ∷ us) h k = members-normal (t ∷ u ∷ us) h k
 -- a set without a member (*)
 pub gathered_set : (ts : List Tag) → AreNormal ts → list_any is_star (spread ts) ≡ false
     → IsNormalOf (set (tags ts)) (gather (spread ts))
-gathered_set ts h k =
-    let n = gather-normal (spread ts) (spread-members ts h) k in
-    record {
-      written = n.0;
-      normal = n.1;
-      same = λ g. gather-exact (spread ts) g ∙ spread-exact ts g;
-      no_more = omega (arith, gather-le (spread ts), spread-nodes ts);
-    }
+gathered_set ts h k = search (rules, gather-normal, spread-members, gather-exact, spread-exact, gather-le, spread-nodes)
 
 -- the set of tags in normal form
 pub set_of-normal : (ts : List Tag) → AreNormal ts → IsNormalOf (set (tags ts)) (set_of (spread ts))
@@ -202,18 +191,12 @@ list-members : (ts : List Tag) → AreNormal ts → list_any is_nothing ts ≡ f
     → AreTags (tags ts) × (each_normal is_nothing (tags ts) ≡ true)
 list-members [] h k = (tt, refl)
 list-members (t ∷ ts) h k =
-    let rest = list-members ts h.2 (second_none (is_nothing t) (list_any is_nothing ts) k) in (
-      (h.0, rest.0),
-      all_three (is_nothing t) (is_normal t) (each_normal is_nothing (tags ts))
-          (first_none (is_nothing t) (list_any is_nothing ts) k) h.1 rest.1,
-    )
+    search (rules, second_none, all_three, first_none, list-members ts h.2 (second_none (is_nothing t) (list_any is_nothing ts) k))
 
 -- a list without a member (* set)
 pub list_is_normal : (head : List ℕ) (ts : List Tag) → IsHead head → AreNormal ts → list_any is_nothing ts ≡ false
     → nodes (list head (tags ts)) ≤ most_nodes → IsNormalTag (list head (tags ts))
-list_is_normal head ts h k e few =
-    let n = list-members ts k e in
-    record { written = (h, n.0); normal = n.1; few = few }
+list_is_normal head ts h k e few = search (rules, list-members)
 
 -- the list of a head and tags in normal form
 pub listed-normal : (head : List ℕ) (ts : List Tag) → IsHead head → AreNormal ts

@@ -1,5 +1,5 @@
 -- The rules of the intersection.
-use Rattle.std.proofs.Common.{◌≡◌, ℕ, Bool, true, false, not, List, [], ◌∷◌, ◌++◌, length, drop, map, refl, sym, ap, ◌∙◌, arith, nat_eq, length-append, append-nil}
+use Rattle.std.proofs.Common.{◌≡◌, ℕ, Bool, true, false, not, List, [], ◌∷◌, ◌++◌, length, drop, map, refl, sym, ap, ◌∙◌, arith, nat_eq, length-append, append-nil, rules}
 use Rattle.std.specs.Prelude.{if◌then◌else◌}
 use Rattle.std.specs.List.{filter, flat_map, starts_with}
 use Rattle.std.specs.Str.{bytes_eq}
@@ -159,10 +159,7 @@ headed : (head : List ℕ) (ts us : Tags) → meet (list head ts) (list head us)
 headed head ts us = ap (λ b. if b then listed head (each_meet ts us) else nothing) (bytes_same head)
 
 pub list_rule : ListRule
-list_rule head ts us further e = (
-  headed head (tags (ts ++ further)) (tags us) ∙ ap (listed head) (each-left ts us further e),
-  headed head (tags ts) (tags (us ++ further)) ∙ ap (listed head) (each-right ts us further e),
-)
+list_rule head ts us further e = search (rules, headed, each-left, each-right)
 
 pub heads_apart : HeadsApart
 heads_apart head other ts us h = ap (λ b. if b then listed head (each_meet (tags ts) (tags us)) else nothing) h

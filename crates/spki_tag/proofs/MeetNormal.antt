@@ -1,5 +1,5 @@
 -- What two tags in normal form leave together is in normal form.
-use Rattle.std.proofs.Common.{◌≡◌, ℕ, Bool, true, false, ◌&&◌, ◌||◌, not, List, [], ◌∷◌, ◌++◌, Option, Some, None, refl, sym, true≢false}
+use Rattle.std.proofs.Common.{◌≡◌, ℕ, Bool, true, false, ◌&&◌, ◌||◌, not, List, [], ◌∷◌, ◌++◌, Option, Some, None, refl, sym, true≢false, rules}
 use Rattle.std.specs.Prelude.{if◌then◌else◌, nat_eq}
 use Rattle.std.specs.List.{starts_with}
 use Rattle.std.specs.Str.{bytes_eq}
@@ -46,9 +46,7 @@ range-fits o l u (set us) = refl
 prefix-fits : (p : List ℕ) (b : Tag) → fits (prefix_meet p b) ≡ true
 prefix-fits p star = refl
 prefix-fits p (string s) = string-fits s (prefix p)
-prefix-fits p (prefix q) =
-    if_fits (starts_with nat_eq p q) (prefix p) (if starts_with nat_eq q p then prefix q else nothing) refl
-    (if_fits (starts_with nat_eq q p) (prefix q) nothing refl refl)
+prefix-fits p (prefix q) = search (rules, if_fits)
 prefix-fits p (range o l u) =
     ranged-fits (ordering_meet alpha o) (greater_low (from p) l) (lesser_up (strict_limit (least_above p)) u)
 prefix-fits p (list head us) = refl
@@ -160,9 +158,7 @@ set_across-normal ms f star m n e = m
 set_across-normal ms f (string s) m n e = gather-normal (f (more (string s) none)) (e (more (string s) none) refl)
 set_across-normal ms f (prefix s) m n e = gather-normal (f (more (prefix s) none)) (e (more (prefix s) none) refl)
 set_across-normal ms f (range o l u) m n e = gather-normal (f (more (range o l u) none)) (e (more (range o l u) none) refl)
-set_across-normal ms f (list head us) m n e =
-    gather-normal (f (more (list head us) none))
-    (e (more (list head us) none) (both_true (each_normal is_nothing us) true n refl))
+set_across-normal ms f (list head us) m n e = search (rules, gather-normal, both_true)
 set_across-normal ms f (set bs) m n e =
     gather-normal (f bs) (e bs (second_true (is_none_or_many bs) (each_normal is_set_or_star bs) n))
 

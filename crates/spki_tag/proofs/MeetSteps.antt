@@ -1,5 +1,5 @@
 -- The steps of the intersection: what they need and what they find.
-use Rattle.std.proofs.Common.{◌≡◌, ℕ, zero, suc, ◌+◌, ◌*◌, ◌<◌, ◌≤◌, min, Bool, true, false, ◌||◌, List, [], ◌∷◌, ◌++◌, length, drop, get_or, refl, sym, ap, ◌∙◌, subst, true≢false, append_assoc, arith, add-one, le_trans}
+use Rattle.std.proofs.Common.{◌≡◌, ℕ, zero, suc, ◌+◌, ◌*◌, ◌<◌, ◌≤◌, min, Bool, true, false, ◌||◌, List, [], ◌∷◌, ◌++◌, length, drop, get_or, refl, sym, ap, ◌∙◌, subst, true≢false, append_assoc, arith, add-one, le_trans, rules}
 use Rattle.std.proofs.lemmas.Nat.{mul-le}
 use Rattle.std.proofs.Math.Seq.{drop-cons}
 use Rattle.std.proofs.lemmas.List.{append-nil}
@@ -32,8 +32,7 @@ row-same : (f g : Tag → Tag) (bs : Tags) → ((b : Tag) → is_set_or_star b �
     → each_normal is_set_or_star bs ≡ true → row f bs ≡ row g bs
 row-same f g none e h = refl
 row-same f g (more b bs) e h =
-    ap (λ t. kept t (row f bs)) (e b (not_barred (is_set_or_star b) (is_normal b) (each_normal is_set_or_star bs) h))
-    ∙ ap (kept (g b)) (row-same f g bs e (rest_normal (is_set_or_star b) (is_normal b) (each_normal is_set_or_star bs) h))
+    search (rules, not_barred, rest_normal, row-same f g bs e (rest_normal (is_set_or_star b) (is_normal b) (each_normal is_set_or_star bs) h))
 
 across-same : (a : Tag) (f : Tag → Tag) (b : Tag) → is_set_or_star b ≡ false → f b ≡ across a f b
 across-same a f star h = absurd (true≢false h)
@@ -45,9 +44,7 @@ across-same a f (set us) h = absurd (true≢false h)
 
 one_row : (f g : Tag → Tag) (bs : Tags) → ((b : Tag) → is_set_or_star b ≡ false → f b ≡ g b)
     → is_normal (set bs) ≡ true → gather (row f bs) ≡ gather (row g bs ++ [])
-one_row f g bs e n =
-    ap gather (row-same f g bs e (second_true (is_none_or_many bs) (each_normal is_set_or_star bs) n)
-    ∙ sym (append-nil (row g bs)))
+one_row f g bs e n = search (rules, row-same, second_true, append-nil)
 
 -- Where one is a set, the members of each are met with those of the other.
 pub meet-by_members : (a b : Tag) → is_star a ≡ false → is_star b ≡ false → (is_set a || is_set b) ≡ true
@@ -118,11 +115,7 @@ pub record MembersMeet (a b : Tag) : Type 0 where
 
 pub members_meet : (a b : Tag) → is_star a ≡ false → is_star b ≡ false → (is_set a || is_set b) ≡ true
     → IsNormalTag a → IsNormalTag b → nodes a * nodes b ≤ most_nodes → MembersMeet a b
-members_meet a b h k j n m few = record {
-  less = fewer a b (is_set a) (is_set b) refl refl j;
-  bound = le_trans (mul-le (nodes_all (members_of a)) (nodes_all (members_of b)) (nodes a) (nodes b) (members-le a) (members-le b)) few;
-  met = subst IsNormalTag (sym (meet-by_members a b h k j m.normal)) (meet-normal_tag a b n m few);
-}
+members_meet a b h k j n m few = search (rules, fewer, le_trans, mul-le, members-le, meet-by_members, meet-normal_tag)
 
 -- A step of the loop over the members of the one.
 pub pairs-step : (ones others met out ms added : List Tag) (i : ℕ) (t : Tag) → i < length ones
@@ -149,13 +142,7 @@ pub record ListsMeet (head other : List ℕ) (ts us : List Tag) : Type 0 where
 
 pub lists_meet : (head other : List ℕ) (ts us : List Tag) → IsNormalTag (list head (tags ts)) → IsNormalTag (list other (tags us))
     → nodes (list head (tags ts)) * nodes (list other (tags us)) ≤ most_nodes → ListsMeet head other ts us
-lists_meet head other ts us n m few = record {
-  bound =
-      le_trans (mul-le (nodes_all (tags ts)) (nodes_all (tags us)) (2 + nodes_all (tags ts)) (2 + nodes_all (tags us)) (omega arith) (omega arith)) few;
-  one = n.normal;
-  second = m.normal;
-  met = meet-normal_tag (list head (tags ts)) (list other (tags us)) n m few;
-}
+lists_meet head other ts us n m few = search (rules, le_trans, mul-le, meet-normal_tag)
 
 -- the members from a place on
 pub each_meet-rest : (ts us : List Tag) (i : ℕ) (t u : Tag) → i < length ts → i < length us
@@ -239,12 +226,4 @@ pub each_meet-last : (ts us met out all : List Tag) (i : ℕ) → min (length (d
     → each_normal is_nothing (tags ts) ≡ true → each_normal is_nothing (tags us) ≡ true
     → met ++ each_meet (tags (drop i ts)) (tags (drop i us)) ≡ all → has_nothing met ≡ false
     → out ≡ met ++ drop i ts ++ drop i us → (out ≡ all) × (has_nothing all ≡ false)
-each_meet-last ts us met out all i h n m e k o =
-    let same : out ≡ all =
-    o ∙ append_assoc met (drop i ts) (drop i us) ∙ sym (ap (λ (ts : List Tag). met ++ ts) (each_meet-end (drop i ts) (drop i us) h)) ∙ e in (
-      same,
-      subst (λ (ts : List Tag). has_nothing ts ≡ false) (sym o ∙ same)
-          (has_nothing-append (met ++ drop i ts) (drop i us)
-          (has_nothing-append met (drop i ts) k (normal-none (drop i ts) (normal-drop ts i n)))
-          (normal-none (drop i us) (normal-drop us i m))),
-    )
+each_meet-last ts us met out all i h n m e k o = search (rules, append_assoc, each_meet-end, has_nothing-append, normal-none, normal-drop)

@@ -1,5 +1,5 @@
 -- Two increasing lists in one.
-use Rattle.std.proofs.Common.{◌≡◌, ℕ, ◌<◌, ◌≤◌, List, [], ◌∷◌, ◌++◌, length, take, drop, refl, sym, ap, ◌∙◌, arith, ◌-◌, append-nil, append_assoc, length-drop, ◌⊎◌, inl, inr}
+use Rattle.std.proofs.Common.{◌≡◌, ℕ, ◌<◌, ◌≤◌, List, [], ◌∷◌, ◌++◌, length, take, drop, refl, sym, ap, ◌∙◌, arith, ◌-◌, append-nil, append_assoc, length-drop, ◌⊎◌, inl, inr, rules}
 use Rattle.std.proofs.lemmas.Bool.{lt-ltb, le-ltb}
 use Rattle.std.proofs.lemmas.List.{take_all, drop_all}
 use Rattle.std.specs.Prelude.{if◌then◌else◌}
@@ -41,6 +41,4 @@ pub joined-end : (xs ys so_far with_xs with_both whole : List ℕ) (i j : ℕ) �
     → with_xs ≡ so_far ++ take (length xs - i) (drop i xs)
     → with_both ≡ with_xs ++ take (length ys - j) (drop j ys)
     → with_both ≡ whole
-joined-end xs ys so_far with_xs with_both whole i j h e f g =
-    g ∙ (λ k. (f ∙ ap (λ r. so_far ++ r) (take-rest i xs)) k ++ take-rest j ys k)
-    ∙ append_assoc so_far (drop i xs) (drop j ys) ∙ ap (λ r. so_far ++ r) (sym (merge-end xs ys i j h)) ∙ e
+joined-end xs ys so_far with_xs with_both whole i j h e f g = search (rules, take-rest, append_assoc, merge-end)

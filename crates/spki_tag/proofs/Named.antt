@@ -1,5 +1,5 @@
 -- Which fault a reader names.
-use Rattle.std.proofs.Common.{◌≡◌, ◌≢◌, ℕ, ◌+◌, ◌≤◌, ◌<◌, Bool, true, false, ◌&&◌, ◌||◌, not, inl, inr, List, [], ◌∷◌, ◌++◌, map, length, Option, Some, None, Result, Ok, Err, refl, sym, ap, ◌∙◌, subst, arith}
+use Rattle.std.proofs.Common.{◌≡◌, ◌≢◌, ℕ, ◌+◌, ◌≤◌, ◌<◌, Bool, true, false, ◌&&◌, ◌||◌, not, inl, inr, List, [], ◌∷◌, ◌++◌, map, length, Option, Some, None, Result, Ok, Err, refl, sym, ap, ◌∙◌, subst, arith, rules}
 use Rattle.std.specs.Prelude.{codes, if◌then◌else◌, IfErr}
 use Rattle.std.specs.Result.{IsErrAnd}
 use Rattle.std.proofs.Common.{append_assoc, true≢false}
@@ -8,7 +8,7 @@ use Rattle.std.specs.Str.{bytes_eq}
 use Rattle.std.specs.Cmp.Lexicographic.{same_text}
 use Rattle.sexpr_core.specs.Labels.{members-values}
 use Rattle.sexpr_core.specs.Value as value
-use Rattle.sexpr_core.specs.Value.{Value, Values, plain, values, group, members}
+use Rattle.sexpr_core.specs.Value.{Value, plain, values, group}
 use Rattle.spki_tag.specs.declared.fault.TagFault.{TagFault}
 use Rattle.spki_tag.specs.declared.fault.TagFault.TheVariants as faults
 use Rattle.spki_tag.specs.FirstFault.{first_fault, unless}
@@ -91,16 +91,12 @@ form-itself used word vs fault h n = star-itself used (plain word ∷ vs) (plain
 pub prefix-itself : (used : ℕ) (word : List ℕ) (vs : List Value) (fault : TagFault) → used < most_read
     → true ≡ bytes_eq word (codes "prefix") → IsNamed fault (prefix_fault vs)
     → IsNamed fault (fault_after used (starred word (values vs)))
-prefix-itself used word vs fault h e n =
-    form-itself used word vs fault h
-    (subst (λ (w : List ℕ). IsNamed fault (form_fault w vs)) (sym (same_text word (codes "prefix") e)) n)
+prefix-itself used word vs fault h e n = search (rules, form-itself)
 
 pub range-itself : (used : ℕ) (word : List ℕ) (vs : List Value) (fault : TagFault) → used < most_read
     → true ≡ bytes_eq word (codes "range") → IsNamed fault (range_fault vs)
     → IsNamed fault (fault_after used (starred word (values vs)))
-range-itself used word vs fault h e n =
-    form-itself used word vs fault h
-    (subst (λ (w : List ℕ). IsNamed fault (form_fault w vs)) (sym (same_text word (codes "range") e)) n)
+range-itself used word vs fault h e n = search (rules, form-itself)
 
 form-unknown : (a b c : Bool) (p r : Option TagFault) → false ≡ a → false ≡ b → false ≡ c
     → (if a then None else if b then p else if c then r else Some faults.UnknownStar) ≡ Some faults.UnknownStar
@@ -112,11 +108,7 @@ form-unknown false false false p r d e f = refl
 pub unknown-itself : (used : ℕ) (word : List ℕ) (vs : List Value) → used < most_read
     → false ≡ bytes_eq word (codes "set") → false ≡ bytes_eq word (codes "prefix") → false ≡ bytes_eq word (codes "range")
     → IsNamed faults.UnknownStar (fault_after used (starred word (values vs)))
-unknown-itself used word vs h d e f =
-    form-itself used word vs faults.UnknownStar h
-    (named-first faults.UnknownStar _
-    (form-unknown (bytes_eq word (codes "set")) (bytes_eq word (codes "prefix")) (bytes_eq word (codes "range"))
-    (prefix_fault vs) (range_fault vs) d e f))
+unknown-itself used word vs h d e f = search (rules, form-itself, named-first, form-unknown)
 
 pub star-list : (vs : List Value) (v : Value) (us ws : List Value) → vs ≡ v ∷ ws → group us ≡ v
     → star_fault vs ≡ Some faults.UnknownStar
@@ -177,9 +169,7 @@ unordered name other = by (bytes_eq name (codes "alpha")) (bytes_eq name (codes 
 
 pub ordering-other : (v : Value) (name : List ℕ) → plain name ≡ v → ((ordering : Ordering) → name ≢ ordering_name ordering)
     → (vs : List Value) → range_fault (v ∷ vs) ≡ Some faults.RangeOrdering
-ordering-other v name e other vs =
-    ap (λ (x : Value). range_fault (x ∷ vs)) (sym e)
-    ∙ ap (λ b. if b then limits_fault vs else Some faults.RangeOrdering) (unordered name other)
+ordering-other v name e other vs = search (rules, unordered)
 
 -- a limit behind one of two words
 limit-of : (above from : List ℕ) (v w : Value) → is_limit above from v w ≡ true
@@ -242,59 +232,38 @@ limits-hinted vs h = ap (λ b. first_fault (unless (not b) faults.Hint ∷ unles
 
 pub limits-other : (vs : List Value) → list_any is_hinted vs ≡ false → AreNoLimits vs
     → limits_fault vs ≡ Some faults.RangeLimit
-limits-other vs h none =
-    ap (λ b. first_fault (unless (not b) faults.Hint ∷ unless (are_limits vs) faults.RangeLimit ∷ [])) h
-    ∙ ap (λ b. first_fault (unless b faults.RangeLimit ∷ [])) (no_limits vs none)
+limits-other vs h none = search (rules, no_limits)
 
 -- ---- lists and sets
 
 pub no_room_for_head-named : (used : ℕ) (head : List ℕ) (vs : List Value) → IsHead head → used < most_read
     → most_read ≤ used + 1 → IsNamed faults.TooManyNodes (fault_after used (group (plain head ∷ vs)))
 unfolding fault_after
-no_room_for_head-named used head vs h room full =
-    named-first faults.TooManyNodes _
-    (ap (λ (us : List Value). first_fault (looks used us)) (tags_in-list head (values vs) h)
-    ∙ look-past used (group (plain head ∷ vs)) (plain head ∷ tags_in_all (values vs)) room (list-fine head (values vs) h)
-    ∙ look-full (used + 1) (plain head) (tags_in_all (values vs)) full)
+no_room_for_head-named used head vs h room full = search (rules, named-first, tags_in-list, look-past, list-fine, look-full, full)
 
 pub list-members : (used : ℕ) (head : List ℕ) (vs : List Value) (fault : TagFault) → IsHead head → used + 1 < most_read
     → IsNamed fault (fault_after_all (used + 2) vs) → IsNamed fault (fault_after used (group (plain head ∷ vs)))
 unfolding fault_after fault_after_all
-list-members used head vs fault h room =
-    named-by fault (first_fault (looks (used + 2) (tags_in_all (values vs)))) _
-    (λ e. ap (λ (us : List Value). first_fault (looks used us)) (tags_in-list head (values vs) h)
-    ∙ look-past used (group (plain head ∷ vs)) (plain head ∷ tags_in_all (values vs)) (omega arith) (list-fine head (values vs) h)
-    ∙ look-past (used + 1) (plain head) (tags_in_all (values vs)) room refl
-    ∙ ap (λ n. first_fault (looks n (tags_in_all (values vs)))) (omega arith) ∙ e)
+list-members used head vs fault h room = search (rules, named-by, tags_in-list, look-past, list-fine)
 
 pub set-members : (used : ℕ) (vs : List Value) (fault : TagFault) → used < most_read
     → IsNamed fault (fault_after_all (used + 1) vs) → IsNamed fault (fault_after used (starred (codes "set") (values vs)))
 unfolding fault_after fault_after_all
-set-members used vs fault room =
-    named-by fault (first_fault (looks (used + 1) (tags_in_all (values vs)))) _
-    (λ e. look-past used (starred (codes "set") (values vs)) (tags_in_all (values vs)) room refl ∙ e)
+set-members used vs fault room = search (rules, named-by, look-past)
 
 -- ---- the members, one after the other
 
 tags_in_all-append : (us : List Value) (v : Value) (vs : List Value)
     → tags_in_all (values (us ++ v ∷ vs)) ≡ tags_in_all (values us) ++ (tags_in v ++ tags_in_all (values vs))
 tags_in_all-append [] v vs = refl
-tags_in_all-append (u ∷ us) v vs =
-    ap (λ (xs : List Value). tags_in u ++ xs) (tags_in_all-append us v vs)
-    ∙ sym (append_assoc (tags_in u) (tags_in_all (values us)) (tags_in v ++ tags_in_all (values vs)))
+tags_in_all-append (u ∷ us) v vs = search (rules, append_assoc, tags_in_all-append us v vs)
 
 -- what is found in a member, where nothing is found in those before it
 member-found : (used counted : ℕ) (us : List Value) (v : Value) (vs : List Value) (fault : TagFault)
     → first_fault (looks used (tags_in_all (values us))) ≡ None → counted ≡ used + length (tags_in_all (values us))
     → first_fault (looks counted (tags_in v)) ≡ Some fault
     → first_fault (looks used (tags_in_all (values (us ++ v ∷ vs)))) ≡ Some fault
-member-found used counted us v vs fault fine sum found =
-    ap (λ (xs : List Value). first_fault (looks used xs)) (tags_in_all-append us v vs)
-    ∙ ap first_fault (looks-append used (tags_in_all (values us)) (tags_in v ++ tags_in_all (values vs)))
-    ∙ first-none (looks used (tags_in_all (values us))) _ fine
-    ∙ ap (λ n. first_fault (looks n (tags_in v ++ tags_in_all (values vs)))) (sym sum)
-    ∙ ap first_fault (looks-append counted (tags_in v) (tags_in_all (values vs)))
-    ∙ first-some (looks counted (tags_in v)) _ fault found
+member-found used counted us v vs fault fine sum found = search (rules, tags_in_all-append, looks-append, first-none, first-some)
 
 pub so_far-named : (fault : TagFault) (used counted : ℕ) (vs left further : List Value) (ts : List Tag) (v : Value)
     → IsReadSoFar used vs ts counted left → left ≡ v ∷ further → IsNamed fault (fault_after counted v)
@@ -321,9 +290,7 @@ at_first fault v h = h
 
 pub read-faultless : (v : Value) (t : Tag) (after : ℕ) → IsRead 0 v t after → tag_fault v ≡ None
 unfolding tag_fault
-read-faultless v t after r =
-    subst (λ (u : Value). first_fault (looks 0 (tags_in u)) ≡ None) r.spelled
-    (tag-past 0 r.w r.written (omega (arith, r.counted, r.few)))
+read-faultless v t after r = search (rules, tag-past)
 
 -- ---- what a caller knows
 

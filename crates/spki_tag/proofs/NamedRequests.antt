@@ -1,11 +1,11 @@
 -- Which fault a reader of requests names.
-use Rattle.std.proofs.Common.{◌≡◌, ℕ, not, List, [], ◌∷◌, ◌++◌, map, Option, Some, None, Result, Ok, Err, refl, sym, ap, ◌∙◌, subst, append_assoc}
+use Rattle.std.proofs.Common.{◌≡◌, ℕ, not, List, [], ◌∷◌, ◌++◌, map, Option, Some, None, Result, Ok, Err, refl, sym, ap, ◌∙◌, subst, append_assoc, rules}
 use Rattle.std.specs.Prelude.{codes, IfOk}
 use Rattle.std.specs.List.{AllByRecursion}
 use Rattle.std.proofs.lemmas.List.{map-append}
 use Rattle.sexpr_core.specs.Labels.{members-values}
 use Rattle.sexpr_core.specs.Value as value
-use Rattle.sexpr_core.specs.Value.{Value, Values, plain, values, group, members}
+use Rattle.sexpr_core.specs.Value.{Value, Values, plain, values, group}
 use Rattle.spki_tag.specs.declared.fault.TagFault.{TagFault}
 use Rattle.spki_tag.specs.declared.fault.TagFault.TheVariants as faults
 use Rattle.spki_tag.specs.FirstFault.{first_fault, unless}
@@ -83,20 +83,13 @@ parts-fine (v ∷ vs) h = found-past v vs h.0 ∙ parts-fine vs h.1
 nodes_all-append : (us : List Value) (v : Value) (vs : List Value)
     → value.nodes_all (values (us ++ v ∷ vs)) ≡ value.nodes_all (values us) ++ (value.nodes v ++ value.nodes_all (values vs))
 nodes_all-append [] v vs = refl
-nodes_all-append (u ∷ us) v vs =
-    ap (λ (xs : List Value). value.nodes u ++ xs) (nodes_all-append us v vs)
-    ∙ sym (append_assoc (value.nodes u) (value.nodes_all (values us)) (value.nodes v ++ value.nodes_all (values vs)))
+nodes_all-append (u ∷ us) v vs = search (rules, append_assoc, nodes_all-append us v vs)
 
 part-found : (us : List Value) (v : Value) (vs : List Value) (fault : TagFault)
     → first_fault (map part_fault (value.nodes_all (values us))) ≡ None
     → first_fault (map part_fault (value.nodes v)) ≡ Some fault
     → first_fault (map part_fault (value.nodes_all (values (us ++ v ∷ vs)))) ≡ Some fault
-part-found us v vs fault fine found =
-    ap (λ (xs : List Value). first_fault (map part_fault xs)) (nodes_all-append us v vs)
-    ∙ ap first_fault (map-append part_fault (value.nodes_all (values us)) (value.nodes v ++ value.nodes_all (values vs)))
-    ∙ first-none (map part_fault (value.nodes_all (values us))) _ fine
-    ∙ ap first_fault (map-append part_fault (value.nodes v) (value.nodes_all (values vs)))
-    ∙ first-some (map part_fault (value.nodes v)) _ fault found
+part-found us v vs fault fine found = search (rules, nodes_all-append, map-append, first-none, first-some)
 
 pub so_far-named : (fault : TagFault) (vs left further : List Value) (gs : List Request) (v : Value)
     → AreReadSoFar vs gs left → left ≡ v ∷ further → IsNamed fault (request_fault v) → IsNamed fault (fault_of_requests vs)

@@ -1,5 +1,5 @@
 -- The normal form of a written tag is in normal form, and contains the same requests.
-use Rattle.std.proofs.Common.{◌≡◌, ℕ, ◌≤◌, ◌&&◌, ◌||◌, List, [], ◌∷◌, ◌++◌, refl, sym, ap, ◌∙◌, arith}
+use Rattle.std.proofs.Common.{◌≡◌, ℕ, ◌≤◌, ◌&&◌, ◌||◌, List, [], ◌∷◌, ◌++◌, refl, sym, ap, ◌∙◌, arith, rules}
 use Rattle.std.specs.Str.{bytes_eq}
 use Rattle.sexpr_core.specs.Value.{Value}
 use Rattle.spki_tag.specs.Request as request
@@ -49,12 +49,7 @@ contain_each-of (more w ws) (t ∷ ts) (request.more g gs) h = λ i. h.0.same g 
 
 -- the normal form of a set of normal forms is that of the set as it was written
 set-of : (ws : Tags) (ts : List Tag) (t : Tag) → AreNormalOf ws ts → IsNormalOf (set (tags ts)) t → IsNormalOf (set ws) t
-set-of ws ts t h k = record {
-  written = k.written;
-  normal = k.normal;
-  same = λ g. k.same g ∙ some_contains-of ws ts g h;
-  no_more = omega (arith, k.no_more, nodes_all-of ws ts h);
-}
+set-of ws ts t h k = search (rules, some_contains-of, nodes_all-of)
 
 -- the same of a list
 list-of : (head : List ℕ) (ws : Tags) (ts : List Tag) (t : Tag) → AreNormalOf ws ts
@@ -101,4 +96,4 @@ normals-push (u ∷ ws) w = ap (λ (ts : List Tag). normal u ∷ ts) (normals-pu
 -- a value is read as one tag
 pub reading-one : (v : Value) (t u : Tag) → ReadsAs v t → ReadsAs v u → t ≡ u
 reading-one v t u r s =
-    r.which ∙ ap normal (tag_only s.w r.w s.written r.written (r.spelled ∙ sym s.spelled)) ∙ sym s.which
+    r.value ∙ ap normal (tag_only s.w r.w s.written r.written (r.spelled ∙ sym s.spelled)) ∙ sym s.value

@@ -1,5 +1,5 @@
 -- One tag is written as a value.
-use Rattle.std.proofs.Common.{◌≡◌, ℕ, Bool, true, false, List, ◌++◌, Option, Some, None, refl, sym, ap}
+use Rattle.std.proofs.Common.{◌≡◌, ℕ, Bool, true, false, List, ◌++◌, Option, Some, None, refl, sym, ap, rules}
 use Rattle.std.specs.Prelude.{codes, if◌then◌else◌}
 use Rattle.std.specs.Str.{bytes_eq}
 use Rattle.std.specs.Cmp.Lexicographic.{other_text}
@@ -46,9 +46,7 @@ low_is_not_up false true e = apart (codes "ge") (codes "l") refl e
 low_is_not_up false false e = apart (codes "ge") (codes "le") refl e
 
 same_limit : (k m : Limit) → k.strict ≡ m.strict → k.octets ≡ m.octets → Some k ≡ Some m
-same_limit k m e f =
-    let p : (k.strict, k.octets) ≡ (m.strict, m.octets) = cc in
-    ap (λ (q : Bool × List ℕ). Some (record { strict = q.0; octets = q.1 })) p
+same_limit k m e f = search rules
 
 up_only : (k m : Option Limit) → values (up_values k) ≡ values (up_values m) → k ≡ m
 up_only None None e = refl

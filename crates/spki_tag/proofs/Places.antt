@@ -1,5 +1,5 @@
 -- The places of members that pass a test, and those of two tests joined.
-use Rattle.std.proofs.Common.{◌≡◌, ℕ, suc, ◌+◌, ◌<◌, Bool, true, false, ◌||◌, ◌&&◌, List, [], ◌∷◌, ◌++◌, length, take, get_or, refl, sym, ap, ◌∙◌, subst, arith, length-take}
+use Rattle.std.proofs.Common.{◌≡◌, ℕ, suc, ◌+◌, ◌<◌, Bool, true, false, ◌||◌, ◌&&◌, List, [], ◌∷◌, ◌++◌, length, take, get_or, refl, sym, ap, ◌∙◌, subst, arith, length-take, rules}
 use Rattle.std.proofs.lemmas.List.{take_more}
 use Rattle.std.specs.Prelude.{if◌then◌else◌}
 use Rattle.std.specs.Str.{bytes_eq}
@@ -106,17 +106,13 @@ lists-apart head (lists other) = by (bytes_eq head other)
 pub places-of_string : (octets : List ℕ) (ts : List Tag)
     → merge (places_where (λ t. is_one octets (kind t)) 1 ts) (places_where (λ t. has_many_strings (kind t)) 1 ts)
     ≡ places_where (λ t. kinds_share (one octets) (kind t)) 1 ts
-places-of_string octets ts =
-    merge-places (λ t. is_one octets (kind t)) (λ t. has_many_strings (kind t)) (λ t. one-apart octets (kind t)) 1 ts
-    ∙ places_where-same _ _ (λ t. one-shares octets (kind t)) 1 ts
+places-of_string octets ts = search (rules, merge-places, one-apart, places_where-same, one-shares)
 
 -- the places of what can share a list
 pub places-of_lists : (head : List ℕ) (ts : List Tag)
     → merge (places_where (λ t. is_lists head (kind t)) 1 ts) (places_where (λ t. is_any (kind t)) 1 ts)
     ≡ places_where (λ t. kinds_share (lists head) (kind t)) 1 ts
-places-of_lists head ts =
-    merge-places (λ t. is_lists head (kind t)) (λ t. is_any (kind t)) (λ t. lists-apart head (kind t)) 1 ts
-    ∙ places_where-same _ _ (λ t. lists-share head (kind t)) 1 ts
+places-of_lists head ts = search (rules, merge-places, lists-apart, places_where-same, lists-share)
 
 -- ---- members
 
@@ -129,9 +125,7 @@ items-tags (t ∷ ts) = ap (λ us. t ∷ us) (items-tags ts)
 
 push-places : (p : Tag → Bool) (n i : ℕ) (ts : List Tag) (t : Tag) (b : Bool) (old new : List ℕ) → n ≡ i + 1 → i ≡ length ts → b ≡ p t
     → old ≡ places_where p 1 ts → new ≡ old ++ place_if b n → new ≡ places_where p 1 (ts ++ t ∷ [])
-push-places p n i ts t b old new at long same e f =
-    let g : n ≡ 1 + length ts = omega arith in
-    f ∙ (λ k. e k ++ place_if (same k) (g k)) ∙ sym (places_where-push p 1 ts t)
+push-places p n i ts t b old new at long same e f = search (rules, places_where-push)
 
 -- one more tag
 pub places-push : (old new : PlacesByKind) (ts : List Tag) (t : Tag) (place : ℕ) → place ≡ length ts + 1

@@ -1,5 +1,5 @@
 -- Two tags without sets leave a tag without sets, or nothing, and it has no more nodes than both together.
-use Rattle.std.proofs.Common.{◌≡◌, ◌⊎◌, inl, inr, ℕ, ◌+◌, ◌≤◌, Bool, true, false, List, [], ◌∷◌, Option, Some, None, refl, sym, ap, ◌∙◌, subst, arith}
+use Rattle.std.proofs.Common.{◌≡◌, ◌⊎◌, inl, inr, ℕ, ◌+◌, ◌≤◌, Bool, true, false, List, [], ◌∷◌, Option, Some, None, refl, sym, ap, ◌∙◌, subst, arith, rules}
 use Rattle.std.specs.Prelude.{if◌then◌else◌, ◌||◌, nat_eq}
 use Rattle.std.specs.List.{AllByRecursion, starts_with}
 use Rattle.std.specs.Str.{bytes_eq}
@@ -50,9 +50,7 @@ range_plain o l u (set us) = inr refl
 prefix_plain : (p : List ℕ) (b : Tag) → IsPlain (prefix_meet p b)
 prefix_plain p star = inr refl
 prefix_plain p (string s) = string_plain s (prefix p)
-prefix_plain p (prefix q) =
-    if_plain (starts_with nat_eq p q) (prefix p) (if starts_with nat_eq q p then prefix q else nothing) (inl refl)
-    (if_plain (starts_with nat_eq q p) (prefix q) nothing (inl refl) (inr refl))
+prefix_plain p (prefix q) = search (rules, if_plain)
 prefix_plain p (range o l u) =
     ranged_plain (ordering_meet alpha o) (greater_low (from p) l) (lesser_up (strict_limit (least_above p)) u)
 prefix_plain p (list head us) = inr refl
@@ -161,6 +159,4 @@ nothing_meets (set us) q = absurd cc
 
 pub plain_meet : (a b : Tag) → IsPlain a → nests_set b ≡ false → IsPlainWithin (nodes a + nodes b) (meet a b)
 plain_meet a b (inl p) q = two_plain a b p q
-plain_meet a b (inr e) q =
-    let gone : meet a b ≡ nothing = ap (λ t. meet t b) e ∙ nothing_meets b q in
-    record { plain = inr gone; few = let one = ap nodes gone in omega (arith, one, nodes-some a) }
+plain_meet a b (inr e) q = search (rules, nothing_meets, nodes-some)

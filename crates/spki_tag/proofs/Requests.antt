@@ -1,8 +1,8 @@
 -- Which requests are written as a value.
-use Rattle.std.proofs.Common.{◌≡◌, ℕ, List, [], ◌∷◌, ◌++◌, map, refl, sym, ap, ◌∙◌, subst, append_assoc, ◌≤◌}
+use Rattle.std.proofs.Common.{◌≡◌, ℕ, List, [], ◌∷◌, ◌++◌, map, refl, sym, ap, ◌∙◌, subst, append_assoc, ◌≤◌, rules}
 use Rattle.std.proofs.lemmas.List.{map_push}
 use Rattle.sexpr_core.specs.Value as value
-use Rattle.sexpr_core.specs.Value.{Value, Values, plain, values, group}
+use Rattle.sexpr_core.specs.Value.{Value, plain, values, group}
 use Rattle.spki_tag.specs.Request.{Request, Requests, requests, string, list, none, more, IsRequest, AreRequests, request_value, request_values}
 use Rattle.spki_tag.specs.Steps.{AreReadRequests}
 use Rattle.spki_tag.proofs.Weight.{weight, weights, weight_le-weights}
@@ -49,21 +49,12 @@ pub record AreReadSoFar (vs : List Value) (gs : List Request) (left : List Value
 pub so_far_push : (vs left further : List Value) (gs : List Request) (v : Value) (g : Request)
     → AreReadSoFar vs gs left → left ≡ v ∷ further → IsRequest g → request_value g ≡ v
     → AreReadSoFar vs (gs ++ g ∷ []) further
-so_far_push vs left further gs v g so_far e k r = record {
-  written = AreRequests-push gs g so_far.written k;
-  spelled =
-      ap (λ (us : List Value). us ++ further) (map_push request_value gs g)
-      ∙ append_assoc (map request_value gs) (request_value g ∷ []) further
-      ∙ ap (λ (x : Value). map request_value gs ++ x ∷ further) r
-      ∙ ap (λ (us : List Value). map request_value gs ++ us) (sym e) ∙ so_far.spelled;
-}
+so_far_push vs left further gs v g so_far e k r = search (rules, AreRequests-push, map_push, append_assoc)
 
 -- a member that is left weighs no more than all
 pub so_far_weight : (vs left further : List Value) (gs : List Request) (v : Value) → AreReadSoFar vs gs left
     → left ≡ v ∷ further → weight v ≤ weights (values vs)
-so_far_weight vs left further gs v so_far e =
-    subst (λ us. weight v ≤ weights (values us)) (ap (λ (us : List Value). map request_value gs ++ us) (sym e) ∙ so_far.spelled)
-    (weight_le-weights (map request_value gs) v further)
+so_far_weight vs left further gs v so_far e = search (rules, weight, weights, weight_le-weights)
 
 -- a list of members that were read
 pub list_is_request : (head : List ℕ) (vs : List Value) (gs : List Request) → AreReadRequests vs gs

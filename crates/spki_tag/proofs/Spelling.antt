@@ -1,9 +1,9 @@
 -- Which tags are written as a value.
-use Rattle.std.proofs.Common.{◌≡◌, ℕ, ◌+◌, ◌≤◌, List, [], ◌∷◌, ◌++◌, map, refl, sym, ap, ◌∙◌, subst, arith, append_assoc}
+use Rattle.std.proofs.Common.{◌≡◌, ℕ, ◌+◌, ◌≤◌, List, [], ◌∷◌, ◌++◌, map, refl, sym, ap, ◌∙◌, subst, arith, append_assoc, rules}
 use Rattle.std.specs.Prelude.{codes}
 use Rattle.std.proofs.lemmas.List.{map_push}
 use Rattle.sexpr_core.specs.Value as value
-use Rattle.sexpr_core.specs.Value.{Value, Values, plain, values, group}
+use Rattle.sexpr_core.specs.Value.{Value, plain, values, group}
 use Rattle.spki_tag.specs.Request.{IsHead}
 use Rattle.spki_tag.specs.Tag.{Tag, tags, list, set, IsTag, AreTags, tag_value, tag_values, starred, nodes, nodes_all, most_nodes}
 use Rattle.spki_tag.specs.Meet.{listed}
@@ -35,7 +35,7 @@ pub record IsReadSoFar (used : ℕ) (vs : List Value) (ts : List Tag) (counted :
   pub ws : List Tag
   pub written : AreTags (tags ws)
   pub spelled : map tag_value ws ++ left ≡ vs
-  pub which : ts ≡ normals (tags ws)
+  pub value : ts ≡ normals (tags ws)
   pub sum : counted ≡ used + nodes_all (tags ws)
   pub few : counted ≤ most_read
 
@@ -50,7 +50,7 @@ so_far_push used counted after vs left further ts v t so_far e r = record {
       ∙ append_assoc (map tag_value so_far.ws) (tag_value r.w ∷ []) further
       ∙ ap (λ (x : Value). map tag_value so_far.ws ++ x ∷ further) r.spelled
       ∙ ap (λ (us : List Value). map tag_value so_far.ws ++ us) (sym e) ∙ so_far.spelled;
-  which = (λ i. so_far.which i ++ r.which i ∷ []) ∙ sym (normals-push so_far.ws r.w);
+  value = (λ i. so_far.value i ++ r.value i ∷ []) ∙ sym (normals-push so_far.ws r.w);
   sum = omega (arith, r.counted, so_far.sum, nodes_all-push so_far.ws r.w);
   few = r.few;
 }
@@ -64,7 +64,7 @@ list_is_read used after head vs ts t h r n = record {
   w = list head (tags r.ws);
   written = (h, r.written);
   spelled = ap (λ us. value.list (value.more (plain head) us)) (tag_values-tags r.ws ∙ ap values r.spelled);
-  which = n ∙ ap (listed head) r.which;
+  value = n ∙ ap (listed head) r.value;
   counted = omega (arith, r.counted);
   few = r.few;
 }
@@ -76,14 +76,14 @@ set_is_read used after vs ts t r n = record {
   w = set (tags r.ws);
   written = r.written;
   spelled = ap (starred (codes "set")) (tag_values-tags r.ws ∙ ap values r.spelled);
-  which = n ∙ ap (λ us. set_of (spread us)) r.which;
+  value = n ∙ ap (λ us. set_of (spread us)) r.value;
   counted = omega (arith, r.counted);
   few = r.few;
 }
 
 each_normal : (used after : ℕ) (vs : List Value) (ts : List Tag) (r : AreRead used vs ts after) → AreNormalOf (tags r.ws) ts
 each_normal used after vs ts r =
-    subst (AreNormalOf (tags r.ws)) (sym r.which) (normals-of (tags r.ws) r.written)
+    subst (AreNormalOf (tags r.ws)) (sym r.value) (normals-of (tags r.ws) r.written)
 
 -- few enough nodes for a list or a set of members that were read
 pub members_fit : (used after : ℕ) (vs : List Value) (ts : List Tag) → AreRead used vs ts after
@@ -96,23 +96,17 @@ members_normal used after vs ts r = AreNormal-of (tags r.ws) ts (each_normal use
 -- a member that is left weighs no more than all
 pub so_far_weight : (used counted : ℕ) (vs left further : List Value) (ts : List Tag) (v : Value)
     → IsReadSoFar used vs ts counted left → left ≡ v ∷ further → weight v ≤ weights (values vs)
-so_far_weight used counted vs left further ts v so_far e =
-    subst (λ us. weight v ≤ weights (values us)) (ap (λ (us : List Value). map tag_value so_far.ws ++ us) (sym e) ∙ so_far.spelled)
-    (weight_le-weights (map tag_value so_far.ws) v further)
+so_far_weight used counted vs left further ts v so_far e = search (rules, weight, weights, weight_le-weights)
 
 -- ---- writing
 
 -- a list is written by its head and its members
 pub list_written : (head : List ℕ) (ts : List Tag) (v : Value) (front out : List Value) → v ≡ group out
     → out ≡ front ++ map tag_value ts → front ≡ plain head ∷ [] → v ≡ tag_value (list head (tags ts))
-list_written head ts v front out e f g =
-    e ∙ ap group (f ∙ ap (λ (us : List Value). us ++ map tag_value ts) g)
-    ∙ ap (λ us. value.list (value.more (plain head) us)) (sym (tag_values-tags ts))
+list_written head ts v front out e f g = search (rules, tag_values-tags)
 
 -- a set is written by the star, its word and its members
 pub set_written : (ts : List Tag) (v : Value) (front out : List Value) → v ≡ group out
     → out ≡ front ++ map tag_value ts → front ≡ plain (codes "*") ∷ plain (codes "set") ∷ []
     → v ≡ tag_value (set (tags ts))
-set_written ts v front out e f g =
-    e ∙ ap group (f ∙ ap (λ (us : List Value). us ++ map tag_value ts) g)
-    ∙ ap (λ us. value.list (value.more (plain (codes "*")) (value.more (plain (codes "set")) us))) (sym (tag_values-tags ts))
+set_written ts v front out e f g = search (rules, tag_values-tags)

@@ -1,5 +1,5 @@
 -- What two written tags leave together is a written tag.
-use Rattle.std.proofs.Common.{ℕ, Bool, true, false, List, [], ◌∷◌, ◌++◌, Option, Some, None}
+use Rattle.std.proofs.Common.{ℕ, Bool, true, false, List, [], ◌∷◌, ◌++◌, Option, Some, None, rules}
 use Rattle.std.specs.Prelude.{if◌then◌else◌, nat_eq}
 use Rattle.std.specs.List.{starts_with}
 use Rattle.std.specs.Str.{bytes_eq}
@@ -31,9 +31,7 @@ range-tag o l u (set us) = tt
 prefix-tag : (p : List ℕ) (b : Tag) → IsTag (prefix_meet p b)
 prefix-tag p star = tt
 prefix-tag p (string s) = string-tag s (prefix p)
-prefix-tag p (prefix q) =
-    if_tag (starts_with nat_eq p q) (prefix p) (if starts_with nat_eq q p then prefix q else nothing) tt
-    (if_tag (starts_with nat_eq q p) (prefix q) nothing tt tt)
+prefix-tag p (prefix q) = search (rules, if_tag)
 prefix-tag p (range o l u) =
     ranged-tag (ordering_meet alpha o) (greater_low (from p) l) (lesser_up (strict_limit (least_above p)) u)
 prefix-tag p (list head us) = tt
@@ -88,9 +86,7 @@ list-tag head f (string s) h k e = tt
 list-tag head f (prefix s) h k e = tt
 list-tag head f (range o l u) h k e = tt
 list-tag head f (set us) h k e = tt
-list-tag head f (list other us) h k e =
-    if_tag (bytes_eq head other) (listed head (f us)) nothing
-    (if_tag (has_nothing (f us)) nothing (list head (tags (f us))) tt (h, e us k.1)) tt
+list-tag head f (list other us) h k e = search (rules, if_tag)
 
 items-tags : (ts : Tags) → AreTags ts → AreTags (tags (items ts))
 items-tags none h = tt

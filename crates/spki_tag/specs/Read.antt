@@ -19,7 +19,7 @@ pub record ReadsAs (v : Value) (t : Tag) : Type 0 where
   pub written : IsTag w
   pub spelled : tag_value w ≡ v
   pub few : nodes w ≤ most_read
-  pub which : t ≡ normal w
+  pub value : t ≡ normal w
   pub normal : IsNormalOf w t
 
 -- Unless memory ran out, no tag of at most 1,024 nodes is written as the value.

@@ -1,7 +1,7 @@
 -- The results of the readers' steps.
 use Rattle.std.specs.Prelude.{◌≡◌, ◌≢◌, ℕ, ◌+◌, ◌≤◌, List, ◌++◌, map, Option, Some}
 use Rattle.spki_tag.specs.declared.fault.TagFault.{TagFault}
-use Rattle.sexpr_core.specs.Value.{Value, values, plain}
+use Rattle.sexpr_core.specs.Value.{Value, values}
 use Rattle.sexpr_core.specs.Value as value
 use Rattle.spki_tag.specs.FirstFault.{first_fault}
 use Rattle.spki_tag.specs.FaultOf.{tags_in, tags_in_all, looks, part_fault}
@@ -25,7 +25,7 @@ pub record IsRead (used : ℕ) (v : Value) (t : Tag) (after : ℕ) : Type 0 wher
   pub w : Tag
   pub written : IsTag w
   pub spelled : tag_value w ≡ v
-  pub which : t ≡ normal w
+  pub value : t ≡ normal w
   pub counted : after ≡ used + nodes w
   pub few : after ≤ most_read
 
@@ -34,7 +34,7 @@ pub record AreRead (used : ℕ) (vs : List Value) (ts : List Tag) (after : ℕ) 
   pub ws : List Tag
   pub written : AreTags (tags ws)
   pub spelled : map tag_value ws ≡ vs
-  pub which : ts ≡ normals (tags ws)
+  pub value : ts ≡ normals (tags ws)
   pub counted : after ≡ used + nodes_all (tags ws)
   pub few : after ≤ most_read
 

@@ -151,7 +151,7 @@ impl Tag {
     ///
     /// `TooLarge` if the product of the numbers of their nodes is over 1,000,000, and `Memory` if memory ran out.
     pub fn meet(&self, alloc: Global, other: &Tag) -> Result<Tag, MeetFault>
-        ensures which { IfOk result (λ c. c ≡ meet self.now other.now) }
+        ensures value { IfOk result (λ c. c ≡ meet self.now other.now) }
         ensures exact { IfOk result (λ c. (g : Request) → IsRequest g
             → contains c g ≡ (contains self.now g && contains other.now g)) }
         ensures bounds { IfOk result (λ c. (nodes c ≤ nodes self.now * nodes other.now)
@@ -168,7 +168,7 @@ impl Tag {
     /// `TooLarge` if the product of the numbers of their nodes is over `most`, and `Memory` if memory ran out.
     pub fn meet_within(&self, alloc: Global, other: &Tag, most: usize) -> Result<Tag, MeetFault>
         requires { most ≤ 1000000 }
-        ensures which { IfOk result (λ c. c ≡ meet self.now other.now) }
+        ensures value { IfOk result (λ c. c ≡ meet self.now other.now) }
         ensures exact { IfOk result (λ c. (g : Request) → IsRequest g
             → contains c g ≡ (contains self.now g && contains other.now g)) }
         ensures bounds { IfOk result (λ c. (nodes c ≤ nodes self.now * nodes other.now)

@@ -172,8 +172,8 @@ impl Ground {
         }
     }
 
-    /// States that a request is always well-formed, however it was made.
-    pub fn known(&self)
+    /// A fact for the prover: a request is always well-formed, however it was made. Does nothing.
+    pub fn prove_well_formed(&self)
         ensures { spec.IsRequest self.now }
     {
         let _ = &self.node;

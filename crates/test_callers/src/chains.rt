@@ -42,12 +42,12 @@ pub fn grants<'a>(
     ensures too_large { IsErrOf result ReduceFault.TooLarge →
         1000000 < nodes_product (all_tags (five (five_tuple first.now) ∷ tuples_of steps.now)) }
 {
-    asked.request.known();
+    asked.request.prove_well_formed();
     match fold_chain(alloc, first, steps, policy)? {
         Fold::Stopped { .. } => Ok(false),
         Fold::Done(five) => {
-            let lack = five.first_lack(asked.key, asked.request, asked.moment, policy);
-            Ok(lack.is_none())
+            let denial = five.first_denial(asked.key, asked.request, asked.moment, policy);
+            Ok(denial.is_none())
         }
     }
 }

@@ -20,7 +20,7 @@ use sha2::{Digest, Sha256};
 use spki_cert::{
     Date, Entry, Key, Names, Policy, Principal, Subject, Window, acl_of, date_of, key_of,
 };
-use spki_guard::{AcceptedTable, Case, Decision, Instant, Question as Posed, Wanted};
+use spki_guard::{AcceptedTable, Case, Decision, Moment, Question as Posed, RequestInput};
 use spki_reduce::{Five, Issuer};
 use spki_tag::{Ground, Tag};
 use std::alloc::Global;
@@ -200,8 +200,8 @@ fn posed(key: &[u8]) -> Posed<'_> {
     Posed {
         sequence: SHOWN.as_bytes(),
         key,
-        request: Wanted::Words(&[b"ftp", b"host"]),
-        moment: Instant::Seconds(1_795_428_000),
+        request: RequestInput::Words(&[b"ftp", b"host"]),
+        moment: Moment::Seconds(1_795_428_000),
     }
 }
 

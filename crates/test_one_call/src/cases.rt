@@ -40,7 +40,7 @@ fn judged(alloc: Global, text: &[u8], rows: &[u8]) -> Result<Vec<u8>, Failure> {
     let verifier = RowVerifier::read(alloc, rows)?;
     let case = Case::read(alloc, text)?;
     match judge(alloc, &case.sequence, case.policy, &verifier)? {
-        Evidence::Stands(steps) => Ok(format!(in alloc; "{}", steps.len())?.into_bytes()),
+        Evidence::Verified(steps) => Ok(format!(in alloc; "{}", steps.len())?.into_bytes()),
         Evidence::Fails { item, stop } => Ok(format!(in alloc; "{item} {stop:?}")?.into_bytes()),
     }
 }

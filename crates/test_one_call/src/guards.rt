@@ -5,7 +5,7 @@ use crate::failure::Failure;
 use crate::texts::{at, behind, number, word};
 use crate::verifier::RowVerifier;
 use spki_cert::Policy;
-use spki_guard::{Asked, Guard, Instant, Limits, Question, Wanted, Wish, answer_question};
+use spki_guard::{Asked, Guard, Limits, Moment, Query, Question, RequestInput, answer_question};
 use std::alloc::Global;
 use std::str;
 
@@ -103,8 +103,8 @@ pub(crate) fn question(texts: &[Vec<u8>]) -> Question<'_> {
     Question {
         sequence: at(texts, 0),
         key: at(texts, 1),
-        request: Wanted::Text(at(texts, 2)),
-        moment: Instant::Text(at(texts, 3)),
+        request: RequestInput::Text(at(texts, 2)),
+        moment: Moment::Text(at(texts, 3)),
     }
 }
 
@@ -122,8 +122,8 @@ fn ask_words(alloc: Global, texts: &[Vec<u8>]) -> Result<Vec<u8>, Failure> {
     let question = Question {
         sequence: b"(8:sequence)",
         key: at(texts, 4),
-        request: Wanted::Words(&words),
-        moment: Instant::Seconds(seconds(at(texts, 5))),
+        request: RequestInput::Words(&words),
+        moment: Moment::Seconds(seconds(at(texts, 5))),
     };
     let guard = guard(alloc, texts)?;
     let read = guard.texts(alloc, &question)?;
@@ -149,21 +149,21 @@ pub(crate) fn marks(alloc: Global, text: &[u8]) -> Result<Vec<bool>, Failure> {
 }
 
 /// What is asked for.
-pub(crate) fn wish_of(text: &[u8]) -> Wish {
+pub(crate) fn query_of(text: &[u8]) -> Query {
     match text {
-        b"explain" => Wish::Explain,
-        b"reduce" => Wish::Reduce,
-        _ => Wish::Decide,
+        b"explain" => Query::Explain,
+        b"reduce" => Query::Reduce,
+        _ => Query::Decide,
     }
 }
 
 /// What one guard answers to several questions. The fifth text says what is asked for; each question has four texts and its marks.
 fn answer(alloc: Global, texts: &[Vec<u8>]) -> Result<Vec<u8>, Failure> {
     let guard = guard(alloc, texts)?;
-    let wish = wish_of(at(texts, 4));
+    let query = query_of(at(texts, 4));
     let mut out = Vec::new(alloc);
     for asked in behind(texts, 5).chunks(5) {
-        out.extend_from_slice(&answer_to(alloc, &guard, wish, asked)?)?;
+        out.extend_from_slice(&answer_to(alloc, &guard, query, asked)?)?;
     }
     Ok(out)
 }
@@ -171,11 +171,11 @@ fn answer(alloc: Global, texts: &[Vec<u8>]) -> Result<Vec<u8>, Failure> {
 fn answer_to(
     alloc: Global,
     guard: &Guard,
-    wish: Wish,
+    query: Query,
     texts: &[Vec<u8>],
 ) -> Result<Vec<u8>, Failure> {
     let marks = marks(alloc, at(texts, 4))?;
-    match answer_question(alloc, wish, guard, &question(texts), &marks) {
+    match answer_question(alloc, query, guard, &question(texts), &marks) {
         Some(answer) => answered(alloc, &answer),
         None => word(alloc, "other marks"),
     }

@@ -2,7 +2,7 @@
 
 use crate::cases::{answered, decided};
 use crate::failure::Failure;
-use crate::guards::{guard, marks, question, wish_of};
+use crate::guards::{guard, marks, query_of, question};
 use crate::texts::{at, behind, word};
 use spki_guard::{Opened, SharedGuard, answer_opened, open_question};
 use std::alloc::Global;
@@ -57,7 +57,7 @@ fn answer(alloc: Global, texts: &[Vec<u8>]) -> Result<Vec<u8>, Failure> {
     let marks = marks(alloc, at(asked, 4))?;
     match open_question(alloc, &shared, &question(asked)) {
         Err(refusal) => answered(alloc, &refusal),
-        Ok(opened) => match answer_opened(alloc, wish_of(at(texts, 4)), &opened, &marks) {
+        Ok(opened) => match answer_opened(alloc, query_of(at(texts, 4)), &opened, &marks) {
             Some(answer) => answered(alloc, &answer),
             None => word(alloc, "other marks"),
         },

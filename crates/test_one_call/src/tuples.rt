@@ -18,7 +18,7 @@ pub(crate) fn call(
 ) -> Option<Result<Vec<u8>, Failure>> {
     match name {
         "Five::write" => Some(write(alloc, texts)),
-        "Five::first_lack" => Some(first_lack(alloc, texts)),
+        "Five::first_denial" => Some(first_denial(alloc, texts)),
         "Five::then" => Some(then(alloc, texts)),
         "Five::resolve" => Some(resolve(alloc, texts)),
         "Five::into_resolve" => Some(into_resolve(alloc, texts)),
@@ -112,12 +112,12 @@ fn request(alloc: Global, text: &[u8]) -> Result<Ground, Failure> {
 }
 
 /// What an authorization lacks to grant a key a request at a moment.
-fn first_lack(alloc: Global, texts: &[Vec<u8>]) -> Result<Vec<u8>, Failure> {
+fn first_denial(alloc: Global, texts: &[Vec<u8>]) -> Result<Vec<u8>, Failure> {
     let holder = key(alloc, at(texts, 3))?;
     let request = request(alloc, at(texts, 4))?;
     let moment = date(alloc, at(texts, 5))?;
-    let lack = five(alloc, texts)?.first_lack(&holder, &request, &moment, Policy::Open);
-    Ok(format!(in alloc; "{lack:?}")?.into_bytes())
+    let denial = five(alloc, texts)?.first_denial(&holder, &request, &moment, Policy::Open);
+    Ok(format!(in alloc; "{denial:?}")?.into_bytes())
 }
 
 fn then(alloc: Global, texts: &[Vec<u8>]) -> Result<Vec<u8>, Failure> {

@@ -1,6 +1,6 @@
 use Rattle.std.proofs.Common.{[], refl, arith}
 use Rattle.std.proofs.lemmas.Result.{err_from_is_err_and}
-use Rattle.sexpr_core.proofs.Steps.{value_none, string_value, deep_list, in_list, list_passed, no_members, member_passed, members_passed, members_end, in_member}
+use Rattle.sexpr_core.proofs.ValueSteps.{value_none, string_value, deep_list, in_list, list_passed, no_members, member_passed, members_passed, members_end, in_member}
 use Rattle.sexpr_core.proofs.checker.+passing.Goals as goal
 
 pub pass_list-returns-then-room-eq0 : goal.pass_list-returns-then-room-eq0

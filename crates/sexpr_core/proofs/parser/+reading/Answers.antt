@@ -1,6 +1,6 @@
 use Rattle.std.proofs.Common.{◌-◌, arith}
 use Rattle.std.proofs.lemmas.Result.{err_from_is_err_and}
-use Rattle.sexpr_core.proofs.Steps.{value_none, string_value, deep_list, in_list, list_read, list_short, no_members, more_members, members_end, in_member}
+use Rattle.sexpr_core.proofs.ValueSteps.{value_none, string_value, deep_list, in_list, list_read, list_short, no_members, more_members, members_end, in_member}
 use Rattle.sexpr_core.proofs.parser.+reading.Goals as goal
 
 pub read_list-returns-then-room-eq0 : goal.read_list-returns-then-room-eq0

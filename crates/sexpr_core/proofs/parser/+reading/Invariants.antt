@@ -1,6 +1,6 @@
 -- Each list that opens leaves room for one less.
 use Rattle.std.proofs.Common.{◌+◌, ◌*◌, ◌-◌, length}
-use Rattle.sexpr_core.proofs.Steps.{HasMembers}
+use Rattle.sexpr_core.proofs.ValueSteps.{HasMembers}
 use Rattle.sexpr_core.proofs.parser.+reading.Given as goal
 
 abbrev pub decreases-read_value : goal.decreases-read_value

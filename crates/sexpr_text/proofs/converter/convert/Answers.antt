@@ -1,7 +1,7 @@
 use Rattle.std.proofs.Common.{inl, inr}
 use Rattle.std.proofs.lemmas.Bool.{both_ways}
 use Rattle.std.proofs.lemmas.Result.{IfOk-weaker, IfErr-weaker}
-use Rattle.sexpr_text.proofs.Trees.{braced_text, spelled_text}
+use Rattle.sexpr_text.proofs.WholeTrees.{braced_text, spelled_text}
 use Rattle.sexpr_text.proofs.Openings.{spelling_refused, braces_refused}
 use Rattle.sexpr_text.proofs.converter.convert.Goals as goal
 

@@ -2,7 +2,8 @@ use Rattle.std.proofs.Common.{sym, subst, arith}
 use Rattle.std.proofs.lemmas.Result.{err_from_is_err_and}
 use Rattle.sexpr_core.specs.Spaces.{AreSpaces}
 use Rattle.sexpr_text.proofs.WholeEnds.{trailing_refused, value_refused}
-use Rattle.sexpr_text.proofs.Trees.{same_value, whole_at}
+use Rattle.sexpr_text.proofs.Trees.{same_value}
+use Rattle.sexpr_text.proofs.WholeTrees.{whole_at}
 use Rattle.sexpr_text.proofs.reader.read_advanced.Goals as goal
 
 pub returns-in_err-tree-clause-only : goal.returns-in_err-tree-clause-only

@@ -1,6 +1,6 @@
 use Rattle.std.proofs.lemmas.Bool.{both_ways}
 use Rattle.std.proofs.lemmas.Result.{IfErr-weaker}
-use Rattle.sexpr_text.proofs.Trees.{braced_text, spelled_text}
+use Rattle.sexpr_text.proofs.WholeTrees.{braced_text, spelled_text}
 use Rattle.sexpr_text.proofs.Openings.{spelling_refused, braces_refused}
 use Rattle.sexpr_text.proofs.reader.read_any.Goals as goal
 

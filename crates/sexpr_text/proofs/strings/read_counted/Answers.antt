@@ -2,7 +2,7 @@ use Rattle.std.proofs.Common.{sym, ◌∙◌}
 use Rattle.std.proofs.lemmas.Result.{err_from_is_err_and, IfOk-weaker, IfErr-weaker}
 use Rattle.sexpr_text.proofs.CountedLaws.{counted_ended, marked_stands, verbatim_fits, verbatim_string, counted_string, counted_right}
 use Rattle.sexpr_text.proofs.RefusedStrings.{short_refused, marked_missed, count_missed}
-use Rattle.sexpr_text.proofs.StringEnds.{count_short, verbatim_end, counted_end, count_end}
+use Rattle.sexpr_text.proofs.MarkedEnds.{count_short, verbatim_end, counted_end, count_end}
 use Rattle.sexpr_text.proofs.strings.read_counted.Goals as goal
 
 pub returns-in_default-clause-only : goal.returns-in_default-clause-only

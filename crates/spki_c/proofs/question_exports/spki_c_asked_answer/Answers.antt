@@ -17,7 +17,7 @@ returns-in-Some-answer_opened-clause-answered c w q e opened lent =
     let it = c.in-Some-answer_opened in let handed = c.hand_over-in-Some-answer_opened in
     let same = c.question.ensures in
     let here = subst (λ (o : Opened). IsOpened o.guard q o) (sym same) opened in
-    inl (answered w c.in-Some.wish c.args.wish e c.in-Some.ensures
+    inl (answered w c.in-Some.query c.args.query e c.in-Some.ensures
     c.args.lent.now.question.guard c.question.result.now.guard q (marks_from c.args.verified.octets) c.as_slice.result.now
-    it.answer.verdict (written_by it.answer) c.args.buffer.now handed.new.buffer handed.new.needed handed.result c.wish_status.result
-    (ap (λ (o : Opened). o.guard) same) (c.as_slice.ensures.value ∙ c.in-Ok.ensures ∙ ap marks_from (c.octets.ensures ∙ ap (λ t. t.octets) c.is_lent.ensures.0)) (it.ensures.answer q here) c.wish_status.ensures handed.ensures)
+    it.answer.verdict (written_by it.answer) c.args.buffer.now handed.new.buffer handed.new.needed handed.result c.query_status.result
+    (ap (λ (o : Opened). o.guard) same) (c.as_slice.ensures.value ∙ c.in-Ok.ensures ∙ ap marks_from (c.octets.ensures ∙ ap (λ t. t.octets) c.is_lent.ensures.0)) (it.ensures.answer q here) c.query_status.ensures handed.ensures)

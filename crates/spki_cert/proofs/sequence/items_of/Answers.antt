@@ -11,7 +11,7 @@ use Rattle.spki_cert.proofs.Looking.{carried}
 use Rattle.spki_cert.proofs.EntryLaws.{items-push}
 use Rattle.spki_cert.proofs.SeqLaws.{place-more, waits-more}
 use Rattle.spki_cert.specs.SequenceFaults.{items_fault}
-use Rattle.spki_cert.proofs.ItemFaultNone.{item-none}
+use Rattle.spki_cert.proofs.SequenceFaultNone.{item-none}
 use Rattle.spki_cert.proofs.SequenceFaultLaws.{sequence-all, sequence-place, sequence-item, sequence-next, sequence-end}
 use Rattle.spki_cert.proofs.sequence.items_of.Goals as goal
 

@@ -1,5 +1,5 @@
 use Rattle.std.proofs.lemmas.Result.{IfErr-weaker}
-use Rattle.spki_cert.proofs.ItemFaultNone.{sequence-refused}
+use Rattle.spki_cert.proofs.SequenceFaultNone.{sequence-refused}
 use Rattle.spki_cert.proofs.sequence.read_sequence.Goals as goal
 
 pub returns-clause-none : goal.returns-clause-none

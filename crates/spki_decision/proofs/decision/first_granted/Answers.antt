@@ -1,4 +1,4 @@
-use Rattle.std.proofs.Common.{refl, arith}
+use Rattle.std.proofs.Common.{refl, rules}
 use Rattle.std.proofs.lemmas.Option.{slice_get_within}
 use Rattle.spki_case.specs.View.{model}
 use Rattle.spki_reduce.specs.Chain.{tuples_of}
@@ -24,6 +24,4 @@ loop-place-preserved c =
     c.grants.result c.if-grants.false (c.grants.ensures tuples c.in_ok-membership.ensures).1 c.loop-place.invariant
 
 pub returns : goal.returns
-returns c k e there =
-    let within = slice_get_within c.args.acl.now k e there in
-    c.loop-place.invariant k e (omega (arith, within, c.loop-place-test.false)) there
+returns c k e there = search (rules, slice_get_within)

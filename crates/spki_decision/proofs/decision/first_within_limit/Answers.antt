@@ -1,4 +1,4 @@
-use Rattle.std.proofs.Common.{length, ap, arith}
+use Rattle.std.proofs.Common.{rules}
 use Rattle.std.proofs.lemmas.Option.{slice_get_within}
 use Rattle.spki_case.specs.View.{model}
 use Rattle.spki_reduce.specs.Chain.{tuples_of}
@@ -14,12 +14,12 @@ returns-then-grants-clause-named c =
     (stands case _ _ c.entry-item.result c.deref-entry-items.ensures.value c.loop-index-test.true c.entry-item.is)
     ((c.grants.ensures tuples c.in_ok-membership.ensures).0 c.if-grants.true) c.loop-index.invariant.none_before
 
-pub returns-then-grants-clause-small : goal.returns-then-grants-clause-small
-returns-then-grants-clause-small c =
+pub returns-then-grants-clause-within_limit : goal.returns-then-grants-clause-within_limit
+returns-then-grants-clause-within_limit c =
     let case = model c.args.case.now in
     small_yet case (tuples_of c.args.steps.now) c.loop-index.index c.entry-item.result
     (stands case _ _ c.entry-item.result c.deref-entry-items.ensures.value c.loop-index-test.true c.entry-item.is)
-    c.in_ok-require_small.ensures.small c.loop-index.invariant.small_before
+    c.in_ok-require_small.ensures.within_limit c.loop-index.invariant.small_before
 
 pub loop-index-preserved : goal.loop-index-preserved
 loop-index-preserved c =
@@ -30,11 +30,8 @@ loop-index-preserved c =
     record {
       none_before = not_yet case tuples c.loop-index.index e here c.grants.result c.if-grants.false
           (c.grants.ensures tuples c.in_ok-membership.ensures).1 c.loop-index.invariant.none_before;
-      small_before = small_yet case tuples c.loop-index.index e here c.in_ok-require_small.ensures.small c.loop-index.invariant.small_before;
+      small_before = small_yet case tuples c.loop-index.index e here c.in_ok-require_small.ensures.within_limit c.loop-index.invariant.small_before;
     }
 
 pub returns-clause-named : goal.returns-clause-named
-returns-clause-named c k e there =
-    let within = slice_get_within c.args.case.now.acl.items k e there in
-    let long = ap length c.deref-entry-items.ensures.value in
-    c.loop-index.invariant.none_before k e (omega (arith, within, long, c.loop-index-test.false)) there
+returns-clause-named c k e there = search (rules, slice_get_within)

@@ -1,28 +1,16 @@
-use Rattle.std.proofs.Common.{ℕ, Some, None, map, ap, sym, ◌∙◌, subst, List, arith}
-use Rattle.std.specs.List.{AllByRecursion}
+use Rattle.std.proofs.Common.{ℕ, Some, map, ap, sym, ◌∙◌, subst, rules}
 use Rattle.spki_decision.specs.declared.evidence.Stop.TheVariants.{NotAccepted}
 use Rattle.spki_decision.specs.Standing.{FailsAt}
 use Rattle.spki_decision.specs.Views.{signed_of}
-use Rattle.spki_decision.specs.Asked.{Signed, IsAccepted, IsFirstRefused, RefusedAt}
+use Rattle.spki_decision.specs.Asked.{IsFirstRefused, RefusedAt}
 use Rattle.spki_decision.proofs.Answering.{all_accepted, not_accepted, refused_within, refused_item}
 use Rattle.spki_decision.proofs.evidence.judge.Goals as goal
 
 pub returns-in-None : goal.returns-in-None
-returns-in-None g c =
-    let verified = g.V.Verifier.accepted c.args.verifier.now in
-    let first : IsFirstRefused verified (map signed_of c.deref.result.now) None = rw c.in-None.is at c.in_ok-first_refused.ensures in
-    let accepted : AllByRecursion (IsAccepted verified) (map signed_of c.in_ok-examined.examined.signed.items) =
-    rw c.deref.ensures.value at first in
-    all_accepted c.args.policy verified c.args.sequence.now c.in_ok-examined.examined.evidence
-    (subst (λ (xs : List Signed). AllByRecursion (IsAccepted verified) xs) c.in_ok-examined.ensures.asked accepted) c.in_ok-examined.ensures.evidence
+returns-in-None g c = search (rules, all_accepted)
 
 pub index-requires : goal.index-requires
-index-requires g c =
-    let verified = g.V.Verifier.accepted c.args.verifier.now in
-    let first : IsFirstRefused verified (map signed_of c.deref.result.now) (Some c.in-Some.place) = rw c.in-Some.is at c.in_ok-first_refused.ensures in
-    let within = refused_within verified c.deref.result.now c.in-Some.place first in
-    let long = c.deref.ensures.len in
-    omega arith
+index-requires g c = search (rules, refused_within)
 
 pub returns : goal.returns
 returns g c =

@@ -1,9 +1,9 @@
-use Rattle.std.proofs.Common.{◌≡◌, ◌∙◌, sym, ap, map, Some}
+use Rattle.std.proofs.Common.{◌≡◌, ◌∙◌, sym, ap, map, Some, rules}
 use Rattle.std.proofs.lemmas.List.{map-append}
 use Rattle.spki_decision.specs.declared.examination.Tested.TheVariants.{Fails}
 use Rattle.spki_case.specs.Sequence.{certificates, keys_of}
 use Rattle.spki_decision.specs.Standing.{FailsBy}
-use Rattle.spki_decision.specs.Asked.{asked_in, asked_of, every}
+use Rattle.spki_decision.specs.Asked.{asked_of, every}
 use Rattle.spki_decision.specs.Steps.{IsTested, PassesAs}
 use Rattle.spki_decision.specs.Views.{shown_of, signed_of}
 use Rattle.spki_decision.proofs.AskedOf.{stands_asked, not_asked, asked_more, asked_whole}
@@ -11,27 +11,10 @@ use Rattle.spki_decision.proofs.Chains.{signed_here, failing_here, standing_more
 use Rattle.spki_decision.proofs.examination.examine.Goals as goal
 
 pub test-requires : goal.test-requires
-test-requires c =
-    let items = c.args.sequence.now in
-    let kept = c.deref-shown-items.result.now in
-    let same : map shown_of kept ≡ certificates items = ap (map shown_of) c.deref-shown-items.ensures.value ∙ c.in_ok-certificates.ensures in
-    signed_here items kept same c.loop-shown.shown-index c.loop-shown-test.true c.shown-item.result c.shown-item.is c.requires
+test-requires c = search (rules, signed_here)
 
 pub returns-in-Fails-clause-asked : goal.returns-in-Fails-clause-asked
-returns-in-Fails-clause-asked c =
-    let items = c.args.sequence.now in
-    let policy = c.args.policy in
-    let kept = c.deref-shown-items.result.now in
-    let one = c.shown-item.result in
-    let i = c.loop-shown.shown-index in
-    let same : map shown_of kept ≡ certificates items = ap (map shown_of) c.deref-shown-items.ensures.value ∙ c.in_ok-certificates.ensures in
-    let keys : c.loop-shown.keys ≡ keys_of items = c.loop-shown.invariant.keys in
-    let tested : IsTested policy c.loop-shown.keys (shown_of one) (Fails c.in-Fails.stop) = rw c.in-Fails.is at c.in_ok-one.ensures.tested in
-    let fails : FailsBy policy (keys_of items) every (shown_of one) c.in-Fails.stop = rw keys at tested in
-    let rest = rest_of shown_of kept i c.loop-shown-test.true one c.shown-item.is in
-    let whole = asked_whole policy (keys_of items) (map signed_of c.loop-shown.signed.items) (map shown_of kept) i (shown_of one) rest
-    c.loop-shown.invariant.asked (not_asked policy (keys_of items) (shown_of one) c.in-Fails.stop fails) in
-    sym whole ∙ ap (asked_in policy (keys_of items)) same
+returns-in-Fails-clause-asked c = search (rules, rest_of, asked_whole, not_asked)
 
 pub returns-in-Fails-clause-evidence : goal.returns-in-Fails-clause-evidence
 returns-in-Fails-clause-evidence c =

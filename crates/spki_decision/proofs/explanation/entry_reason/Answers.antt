@@ -17,9 +17,9 @@ returns-in-Done-clause-exact c es =
     rw c.in-Done.is at (c.in_ok-item.ensures.exact es) in
     let folds = became.0 in
     let is_own : issuer_of f.issuer ≡ own = rw c.in-Done.is at c.in_ok-item.ensures.issuer in
-    rw c.reason_of.ensures (reasoned (with_entries (model c.args.case.now) es) steps c.args.entry.now f c.first_lack-lack.result folds became.1
-    (c.first_lack-lack.ensures.lack folds.root folds.reduced)
-    (c.first_lack-lack.ensures.supported first steps folds is_own))
+    rw c.reason_of.ensures (reasoned (with_entries (model c.args.case.now) es) steps c.args.entry.now f c.first_denial-denial.result folds became.1
+    (c.first_denial-denial.ensures.denial folds.root folds.reduced)
+    (c.first_denial-denial.ensures.supported first steps folds is_own))
 
 pub returns-in-Stopped-clause-exact : goal.returns-in-Stopped-clause-exact
 returns-in-Stopped-clause-exact c es = rw c.in-Stopped.is at (c.in_ok-item.ensures.exact es)

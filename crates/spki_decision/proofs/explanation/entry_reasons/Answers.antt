@@ -9,11 +9,7 @@ use Rattle.spki_decision.proofs.Stopping.{answered, small_here, too_large_here, 
 use Rattle.spki_decision.proofs.explanation.entry_reasons.Goals as goal
 
 pub returns-in_err-entry_reason-clause-too_large : goal.returns-in_err-entry_reason-clause-too_large
-returns-in_err-entry_reason-clause-too_large c h =
-    too_large_here (with_entries (model c.args.case.now) c.args.acl.now) c.args.acl.now c.loop-entry.entry-index c.entry-item.result
-    refl c.loop-entry-test.true c.entry-item.is (tuples_of c.args.steps.now) (left_of c.loop-entry.work)
-    c.loop-entry.invariant.worked.0 c.loop-entry.invariant.worked.1 c.loop-entry.invariant.worked.2
-    (c.in_err-entry_reason.ensures.too_large (search (rules, h, c.from_residual-in_err-entry_reason.ensures)))
+returns-in_err-entry_reason-clause-too_large c h = search (rules, too_large_here)
 
 pub loop-entry-preserved : goal.loop-entry-preserved
 loop-entry-preserved c = record {
@@ -21,22 +17,22 @@ loop-entry-preserved c = record {
       refl c.loop-entry-test.true c.entry-item.is
       (IsReason (with_entries (model c.args.case.now) c.args.acl.now) (tuples_of c.args.steps.now)) c.loop-entry.reasons.items c.push.new.self.items
       c.in_ok-entry_reason.field-0 c.loop-entry.invariant.each (c.in_ok-entry_reason.ensures.exact c.args.acl.now) c.in_ok-push.ensures.items;
-  small = small_here (with_entries (model c.args.case.now) c.args.acl.now) c.args.acl.now c.loop-entry.entry-index c.entry-item.result
+  within_limit = small_here (with_entries (model c.args.case.now) c.args.acl.now) c.args.acl.now c.loop-entry.entry-index c.entry-item.result
       refl c.loop-entry-test.true c.entry-item.is (tuples_of c.args.steps.now)
-      c.in_ok-entry_reason.ensures.small c.loop-entry.invariant.small;
+      c.in_ok-entry_reason.ensures.within_limit c.loop-entry.invariant.within_limit;
   worked = work_here (with_entries (model c.args.case.now) c.args.acl.now) c.args.acl.now c.loop-entry.entry-index c.entry-item.result
       refl c.loop-entry-test.true c.entry-item.is (tuples_of c.args.steps.now) (left_of c.loop-entry.work) (left_of c.entry_reason.new.work)
       c.loop-entry.invariant.worked.0 c.in_ok-entry_reason.ensures.worked.0 c.loop-entry.invariant.worked.1 c.loop-entry.invariant.worked.2
       c.in_ok-entry_reason.ensures.worked.1 c.in_ok-entry_reason.ensures.worked.2;
 }
 
-pub returns-clause-small : goal.returns-clause-small
-returns-clause-small c k e below there =
-    c.loop-entry.invariant.small k e (omega arith) there
+pub returns-clause-within_limit : goal.returns-clause-within_limit
+returns-clause-within_limit c k e below there =
+    c.loop-entry.invariant.within_limit k e (omega arith) there
 
 pub loop-entry-init : goal.loop-entry-init
 loop-entry-init c = record {
   each = rw c.new-reasons.ensures.items tt;
-  small = λ k e below there. absurd (omega (arith, below));
+  within_limit = λ k e below there. absurd (omega (arith, below));
   worked = (0, refl, none_taken c.args.case.now.most_work (left_of c.new-work.result) c.new-work.ensures);
 }

@@ -12,7 +12,7 @@ use Rattle.spki_decision.proofs.explanation.entry_reasons.Given as goal
 abbrev pub invariant-loop-entry : goal.invariant-loop-entry
 invariant-loop-entry l = record {
   each : AllZip (IsReason (with_entries (model l.case) l.acl) (tuples_of l.steps)) (take l.entry-index l.acl) l.reasons.items;
-  small : SmallBefore (with_entries (model l.case) l.acl) (tuples_of l.steps) l.entry-index;
+  within_limit : SmallBefore (with_entries (model l.case) l.acl) (tuples_of l.steps) l.entry-index;
   worked : (n : ℕ) × IsEntryWork (with_entries (model l.case) l.acl) (tuples_of l.steps) l.entry-index n
       × Takes l.case.most_work (left_of l.work) n;
 }

@@ -9,8 +9,8 @@ pub entry_reasons-requires : goal.entry_reasons-requires
 entry_reasons-requires g c =
     let policy = c.args.case.now.policy in
     let verified = g.V.Verifier.accepted c.args.verifier.now in
-    ap length c.deref-in-Stands-2.ensures.value ∙ as_many policy verified c.args.case.now.sequence.items c.in-Stands.steps.items
-    (all_stand policy verified _ _ _ c.deref.ensures.value c.in_ok-item.ensures c.in-Stands.steps c.in-Stands.is)
+    ap length c.deref-in-Verified-2.ensures.value ∙ as_many policy verified c.args.case.now.sequence.items c.in-Verified.steps.items
+    (all_stand policy verified _ _ _ c.deref.ensures.value c.in_ok-item.ensures c.in-Verified.steps c.in-Verified.is)
 
 pub returns-in-Fails-clause-exact : goal.returns-in-Fails-clause-exact
 returns-in-Fails-clause-exact g c =
@@ -18,12 +18,12 @@ returns-in-Fails-clause-exact g c =
     failure (model c.args.case.now) verified c.in-Fails.item c.in-Fails.stop
     (one_fails c.args.case.now.policy verified _ _ _ c.deref.ensures.value c.in_ok-item.ensures c.in-Fails.item c.in-Fails.stop c.in-Fails.is)
 
-pub returns-in_ok-reasons-in-Stands-clause-exact : goal.returns-in_ok-reasons-in-Stands-clause-exact
-returns-in_ok-reasons-in-Stands-clause-exact g c =
+pub returns-in_ok-reasons-in-Verified-clause-exact : goal.returns-in_ok-reasons-in-Verified-clause-exact
+returns-in_ok-reasons-in-Verified-clause-exact g c =
     let verified = g.V.Verifier.accepted c.args.verifier.now in
-    let shown = all_stand c.args.case.now.policy verified _ _ _ c.deref.ensures.value c.in_ok-item.ensures c.in-Stands.steps c.in-Stands.is in
-    let each = rw (c.deref-in-Stands-2.ensures.value, c.deref-in-Stands.ensures.value) at c.in_ok-reasons-in-Stands.ensures.each in
-    let small = rw (c.deref-in-Stands-2.ensures.value, c.deref-in-Stands.ensures.value) at c.in_ok-reasons-in-Stands.ensures.small in
-    let worked = rw (c.deref-in-Stands-2.ensures.value, c.deref-in-Stands.ensures.value) at c.in_ok-reasons-in-Stands.ensures.worked in
-    are_reasons (model c.args.case.now) verified (tuples_of c.in-Stands.steps.items) c.in_ok-reasons-in-Stands.reasons.items
-    c.known.ensures shown each small worked
+    let shown = all_stand c.args.case.now.policy verified _ _ _ c.deref.ensures.value c.in_ok-item.ensures c.in-Verified.steps c.in-Verified.is in
+    let each = rw (c.deref-in-Verified-2.ensures.value, c.deref-in-Verified.ensures.value) at c.in_ok-reasons-in-Verified.ensures.each in
+    let small = rw (c.deref-in-Verified-2.ensures.value, c.deref-in-Verified.ensures.value) at c.in_ok-reasons-in-Verified.ensures.within_limit in
+    let worked = rw (c.deref-in-Verified-2.ensures.value, c.deref-in-Verified.ensures.value) at c.in_ok-reasons-in-Verified.ensures.worked in
+    are_reasons (model c.args.case.now) verified (tuples_of c.in-Verified.steps.items) c.in_ok-reasons-in-Verified.reasons.items
+    c.prove_well_formed.ensures shown each small worked

@@ -1,15 +1,15 @@
 use Rattle.spki_case.specs.View.{model}
+use Rattle.std.proofs.Common.{rules}
 use Rattle.spki_reduce.specs.Tuples.{five}
 use Rattle.spki_reduce.specs.Views.{entry_tuple}
-use Rattle.spki_reduce.specs.Chain.{tuples_of, StopsAt, Excludes}
-use Rattle.spki_decision.specs.Views.{with_entries}
+use Rattle.spki_reduce.specs.Chain.{tuples_of, StopsAt}
 use Rattle.spki_decision.proofs.Stopping.{stops_within, stops_at_item}
 use Rattle.spki_decision.proofs.reduction.entry_fold.Goals as goal
 
 pub returns-in-Done-clause-exact : goal.returns-in-Done-clause-exact
 returns-in-Done-clause-exact c es = (
   rw c.in-Done.is at c.in_ok-five.ensures.fold,
-  rw c.in-Done.is at c.in_ok-five.ensures.which,
+  rw c.in-Done.is at c.in_ok-five.ensures.value,
   λ none. rw c.in-Done.is at (c.in_ok-five.ensures.alone none),
 )
 
@@ -22,12 +22,4 @@ bounds-shown-step c =
     c.in-Stopped.step c.in-Stopped.cause stops
 
 pub returns-in-Stopped-clause-exact : goal.returns-in-Stopped-clause-exact
-returns-in-Stopped-clause-exact c es =
-    let policy = c.args.case.now.policy in
-    let first = five (entry_tuple c.args.entry.now) in
-    let steps = tuples_of c.args.steps.now in
-    let stops : StopsAt policy first steps c.in-Stopped.step c.in-Stopped.cause = rw c.in-Stopped.is at c.in_ok-five.ensures.fold in
-    let excludes : Excludes policy first steps c.in-Stopped.step c.in-Stopped.cause =
-    rw c.in-Stopped.is at c.in_ok-five.ensures.excluded in
-    stops_at_item (with_entries (model c.args.case.now) es) c.args.entry.now c.args.steps.now c.args.shown.now c.requires.whole c.requires.as_many
-    c.in-Stopped.step c.in-Stopped.cause stops c.index-shown-step.result c.index-shown-step.is excludes
+returns-in-Stopped-clause-exact c es = search (rules, stops_at_item)

@@ -9,11 +9,7 @@ use Rattle.spki_decision.proofs.Stopping.{all_pushed, answered, small_here, too_
 use Rattle.spki_decision.proofs.reduction.entry_folds.Goals as goal
 
 pub returns-in_err-entry_fold-clause-too_large : goal.returns-in_err-entry_fold-clause-too_large
-returns-in_err-entry_fold-clause-too_large c h =
-    too_large_here (with_entries (model c.args.case.now) c.args.acl.now) c.args.acl.now c.loop-entry.entry-index c.entry-item.result
-    refl c.loop-entry-test.true c.entry-item.is (tuples_of c.args.steps.now) (left_of c.loop-entry.work)
-    c.loop-entry.invariant.worked.0 c.loop-entry.invariant.worked.1 c.loop-entry.invariant.worked.2
-    (c.in_err-entry_fold.ensures.too_large (search (rules, h, c.from_residual-in_err-entry_fold.ensures)))
+returns-in_err-entry_fold-clause-too_large c h = search (rules, too_large_here)
 
 pub loop-entry-preserved : goal.loop-entry-preserved
 loop-entry-preserved c = record {
@@ -25,24 +21,24 @@ loop-entry-preserved c = record {
       c.loop-entry.invariant.dated c.in_ok-entry_fold.ensures.dated c.in_ok-push.ensures.items;
   end = all_pushed EndsAtDate c.loop-entry.folds.items c.push.new.self.items c.in_ok-entry_fold.field-0
       c.loop-entry.invariant.end c.in_ok-entry_fold.ensures.end c.in_ok-push.ensures.items;
-  small = small_here (with_entries (model c.args.case.now) c.args.acl.now) c.args.acl.now c.loop-entry.entry-index c.entry-item.result
+  within_limit = small_here (with_entries (model c.args.case.now) c.args.acl.now) c.args.acl.now c.loop-entry.entry-index c.entry-item.result
       refl c.loop-entry-test.true c.entry-item.is (tuples_of c.args.steps.now)
-      c.in_ok-entry_fold.ensures.small c.loop-entry.invariant.small;
+      c.in_ok-entry_fold.ensures.within_limit c.loop-entry.invariant.within_limit;
   worked = work_here (with_entries (model c.args.case.now) c.args.acl.now) c.args.acl.now c.loop-entry.entry-index c.entry-item.result
       refl c.loop-entry-test.true c.entry-item.is (tuples_of c.args.steps.now) (left_of c.loop-entry.work) (left_of c.entry_fold.new.work)
       c.loop-entry.invariant.worked.0 c.in_ok-entry_fold.ensures.worked.0 c.loop-entry.invariant.worked.1 c.loop-entry.invariant.worked.2
       c.in_ok-entry_fold.ensures.worked.1 c.in_ok-entry_fold.ensures.worked.2;
 }
 
-pub returns-clause-small : goal.returns-clause-small
-returns-clause-small c k e below there =
-    c.loop-entry.invariant.small k e (omega arith) there
+pub returns-clause-within_limit : goal.returns-clause-within_limit
+returns-clause-within_limit c k e below there =
+    c.loop-entry.invariant.within_limit k e (omega arith) there
 
 pub loop-entry-init : goal.loop-entry-init
 loop-entry-init c = record {
   each = rw c.new-folds.ensures.items tt;
   dated = rw c.new-folds.ensures.items tt;
   end = rw c.new-folds.ensures.items tt;
-  small = λ k e below there. absurd (omega (arith, below));
+  within_limit = λ k e below there. absurd (omega (arith, below));
   worked = (0, refl, none_taken c.args.case.now.most_work (left_of c.new-work.result) c.new-work.ensures);
 }

@@ -13,7 +13,7 @@ invariant-loop-entry l = record {
   each : AllZip (IsEntryFold (with_entries (model l.case) l.acl) (tuples_of l.steps)) (take l.entry-index l.acl) l.folds.items;
   dated : AllByRecursion IsDated l.folds.items;
   end : AllByRecursion EndsAtDate l.folds.items;
-  small : SmallBefore (with_entries (model l.case) l.acl) (tuples_of l.steps) l.entry-index;
+  within_limit : SmallBefore (with_entries (model l.case) l.acl) (tuples_of l.steps) l.entry-index;
   worked : (n : ℕ) × IsEntryWork (with_entries (model l.case) l.acl) (tuples_of l.steps) l.entry-index n
       × Takes l.case.most_work (left_of l.work) n;
 }

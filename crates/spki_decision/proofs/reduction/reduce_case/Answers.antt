@@ -7,8 +7,8 @@ pub entry_folds-requires : goal.entry_folds-requires
 entry_folds-requires g c =
     let policy = c.args.case.now.policy in
     let verified = g.V.Verifier.accepted c.args.verifier.now in
-    ap length c.deref-in-Stands-2.ensures.value ∙ as_many policy verified c.args.case.now.sequence.items c.in-Stands.steps.items
-    (all_stand policy verified _ _ _ c.deref.ensures.value c.in_ok-item.ensures c.in-Stands.steps c.in-Stands.is)
+    ap length c.deref-in-Verified-2.ensures.value ∙ as_many policy verified c.args.case.now.sequence.items c.in-Verified.steps.items
+    (all_stand policy verified _ _ _ c.deref.ensures.value c.in_ok-item.ensures c.in-Verified.steps c.in-Verified.is)
 
 pub returns-in-Fails-clause-exact : goal.returns-in-Fails-clause-exact
 returns-in-Fails-clause-exact g c =

@@ -1,12 +1,9 @@
-use Rattle.std.proofs.Common.{◌≡◌, ◌∷◌, drop}
+use Rattle.std.proofs.Common.{rules}
 use Rattle.spki_decision.proofs.RequiredSubjects.{begins_more, begins_not}
 use Rattle.spki_decision.proofs.required_subject.names_after.Goals as goal
 
 pub loop-place-preserved : goal.loop-place-preserved
-loop-place-preserved c =
-    let first : c.loop-place.rest ≡ c.at.result.now ∷ drop 1 c.loop-place.rest = c.has_first.ensures.0 c.if-not-has_first.false in
-    rw (← c.behind_first-rest.ensures) at (begins_more c.args.names c.args.front.now c.loop-place.rest c.loop-place.place c.at.result.now c.at.ensures
-    c.loop-place.invariant first)
+loop-place-preserved c = search (rules, begins_more)
 
 pub returns-then-not-has_first-clause-none : goal.returns-then-not-has_first-clause-none
 returns-then-not-has_first-clause-none c =

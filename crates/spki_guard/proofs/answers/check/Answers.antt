@@ -8,7 +8,7 @@ use Rattle.spki_guard.proofs.answers.check.Goals as goal
 pub returns-clause-answered : goal.returns-clause-answered
 returns-clause-answered c text is =
     let exact = rw c.accepted.ensures at c.in_ok-decision.ensures.exact in
-    let small = rw c.accepted.ensures at c.in_ok-decision.ensures.small in
+    let small = rw c.accepted.ensures at c.in_ok-decision.ensures.within_limit in
     record {
       case_read = model c.args.case.now;
       text_is = is;

@@ -1,4 +1,5 @@
 use Rattle.spki_case.specs.View.{model}
+use Rattle.std.proofs.Common.{rules}
 use Rattle.spki_guard.proofs.Standing.{standing_answered, standing_refused, converted_answered, converted_refused}
 use Rattle.spki_guard.proofs.answers.reply_to.Goals as goal
 
@@ -13,11 +14,7 @@ returns-in-Standing-clause-refused c text is =
     standing_refused c.args.command text (model c.in-Standing.case) c.reply_to_case.result read.1 c.reply_to_case.ensures.refused
 
 pub returns-in-Converted-clause-answered : goal.returns-in-Converted-clause-answered
-returns-in-Converted-clause-answered c text is =
-    converted_answered c.args.command text _ c.reply_to_octets.result (rw c.in-Converted.is at is)
-    (rw c.deref.ensures.value at c.reply_to_octets.ensures.answered)
+returns-in-Converted-clause-answered c text is = search (rules, converted_answered)
 
 pub returns-in-Converted-clause-refused : goal.returns-in-Converted-clause-refused
-returns-in-Converted-clause-refused c text is =
-    converted_refused c.args.command text _ c.reply_to_octets.result (rw c.in-Converted.is at is)
-    (rw c.deref.ensures.value at c.reply_to_octets.ensures.refused)
+returns-in-Converted-clause-refused c text is = search (rules, converted_refused)

@@ -1,4 +1,4 @@
-use Rattle.std.proofs.Common.{◌*◌, ◌<◌, ◌≤◌, arith}
+use Rattle.std.proofs.Common.{◌*◌, ◌<◌, ◌≤◌, arith, rules}
 use Rattle.sexpr_core.specs.Value.{Value}
 use Rattle.spki_tag.specs.Read.{ReadsAs}
 use Rattle.spki_tag.specs.Tag.{Tag, nodes, IsNormalTag}
@@ -25,9 +25,9 @@ returns-clause-read c =
       b = c.in-Ok-of.tag;
       first_read = c.in-Ok.ensures.read;
       second_read = c.in-Ok-of.ensures.read;
-      small = few;
-      which = met.which;
-      normal = rw met.which (meet-normal_tag c.in-Ok.tag c.in-Ok-of.tag a b few);
+      within_limit = few;
+      value = met.value;
+      normal = rw met.value (meet-normal_tag c.in-Ok.tag c.in-Ok-of.tag a b few);
       exact = met.exact;
       few = met.bounds.0;
       shallow = met.bounds.1;
@@ -39,7 +39,4 @@ returns-in-Err-clause-refused c =
     c.in-Some.ensures c.in-Err.ensures.refused c.in-Err.ensures.named c.fault_of_first.ensures
 
 pub returns-in-Err-of-clause-refused : goal.returns-in-Err-of-clause-refused
-returns-in-Err-of-clause-refused c =
-    second_refused c.args.node.now c.in-Some.operands.first c.in-Some.operands.second c.in-Ok.tag c.in-Err-of.fault c.fault_of_second.result
-    c.in-Some.ensures c.in-Ok.ensures.read c.in-Err-of.ensures.refused c.in-Err-of.ensures.named
-    c.fault_of_second.ensures
+returns-in-Err-of-clause-refused c = search (rules, second_refused)

@@ -5,4 +5,4 @@ pub returns-clause-same : goal.returns-clause-same
 returns-clause-same c = answer_one
 
 pub returns-clause-counted : goal.returns-clause-counted
-returns-clause-counted c wish held q marks = counted_or_not held q wish marks
+returns-clause-counted c query held q marks = counted_or_not held q query marks

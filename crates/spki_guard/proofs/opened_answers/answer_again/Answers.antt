@@ -1,4 +1,4 @@
-use Rattle.std.proofs.Common.{inr, ap, Err, arith}
+use Rattle.std.proofs.Common.{inr, ap, Err, arith, rules}
 use Rattle.spki_guard.proofs.HeldAnswers.{opened_reads, answered, unread}
 use Rattle.spki_guard.proofs.opened_answers.answer_again.Goals as goal
 
@@ -6,18 +6,12 @@ pub returns-in-Ok-clause-answer : goal.returns-in-Ok-clause-answer
 returns-in-Ok-clause-answer c q opened =
     let held = c.args.opened.now.guard in
     let read = c.in-Ok.ensures.asked in
-    answered c.args.wish held q c.args.marks.now c.in-Ok.read c.answer_asked.result
+    answered c.args.query held q c.args.marks.now c.in-Ok.read c.answer_asked.result
     (opened_reads held q c.args.opened.now c.in-Ok.read opened read)
     read.entries read.answer c.answer_asked.ensures.answer c.answer_asked.ensures.counted
 
 pub returns-in-Ok-clause-none : goal.returns-in-Ok-clause-none
-returns-in-Ok-clause-none c q opened none =
-    let held = c.args.opened.now.guard in
-    record {
-      case_read = c.in-Ok.read.case;
-      read = opened_reads held q c.args.opened.now c.in-Ok.read opened c.in-Ok.ensures.asked;
-      other = c.answer_asked.ensures.none none;
-    }
+returns-in-Ok-clause-none c q opened none = search (rules, opened_reads)
 
 pub returns-in-Err-clause-answer : goal.returns-in-Err-clause-answer
 returns-in-Err-clause-answer c q opened =

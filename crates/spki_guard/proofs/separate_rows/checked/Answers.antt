@@ -1,13 +1,11 @@
 use Rattle.spki_case.specs.View.{model}
+use Rattle.std.proofs.Common.{rules}
 use Rattle.spki_guard.proofs.Standing.{apart_answered, apart_refused, no_case_apart}
 use Rattle.spki_guard.proofs.Undecided.{err_lifted}
 use Rattle.spki_guard.proofs.separate_rows.checked.Goals as goal
 
 pub returns-in_err-case-clause-refused : goal.returns-in_err-case-clause-refused
-returns-in_err-case-clause-refused c =
-    let from = c.from_residual.ensures in
-    err_lifted c.from_residual.result _ _ from.1
-    (λ outer h. no_case_apart c.args.text.now c.args.rows.now c.in_err-case.field-0.0 outer c.in_err-case.ensures.refused h)
+returns-in_err-case-clause-refused c = search (rules, err_lifted, no_case_apart)
 
 pub returns-in-Some-clause-answered : goal.returns-in-Some-clause-answered
 returns-in-Some-clause-answered c =

@@ -1,6 +1,4 @@
-use Rattle.std.proofs.Common.{sym, ap, ◌∙◌, subst, refl, arith}
-use Rattle.sexpr_text.specs.Printed.{adv}
-use Rattle.spki_tag.specs.Tag.{tag_value}
+use Rattle.std.proofs.Common.{refl, arith, rules}
 use Rattle.spki_tag.proofs.Members.{nodes_le-of_read}
 use Rattle.sexpr_text.proofs.SinkLaws.{in_two, in_three}
 use Rattle.spki_guard.proofs.PrintedTags.{star_whole, member_behind, list_whole, set_whole}
@@ -16,9 +14,7 @@ print_each-loop-member-preserved g t c =
     (member_behind c.args.members.now c.loop-member.member-index c.member-item.result c.loop-member-test.true c.member-item.is)
 
 pub print_tag-returns-in-Everything : goal.print_tag-returns-in-Everything
-print_tag-returns-in-Everything g t c =
-    subst (λ octets. g.S.Sink.takes c.args.sink.now octets c.put.new.self) (star_whole ∙ ap (λ u. adv (tag_value u)) (sym c.in-Everything.ensures))
-    c.put.ensures
+print_tag-returns-in-Everything g t c = search (rules, star_whole)
 
 pub print_tag-returns-in-List : goal.print_tag-returns-in-List
 print_tag-returns-in-List g t c =

@@ -20,7 +20,7 @@ returns-in_err-next-clause-too_large c e =
     let same = same_fault c.from_residual-in_err-next.result c.in_err-next.field-0.0 TooLarge c.from_residual-in_err-next.ensures.1 e in
     inl (too_large_here c.args.policy (five (five_tuple c.args.first)) c.args.steps.now c.loop-place.place
     c.index-steps-place.result c.loop-place.folded (omega arith) c.index-steps-place.is c.loop-place.invariant.folds
-    c.loop-place.invariant.which c.args.most (c.in_err-next.ensures.too_large (ap Err same)))
+    c.loop-place.invariant.value c.args.most (c.in_err-next.ensures.too_large (ap Err same)))
 
 pub returns-in_err-take-clause-too_large : goal.returns-in_err-take-clause-too_large
 returns-in_err-take-clause-too_large c e =
@@ -33,7 +33,7 @@ returns-in_err-take-clause-too_large c e =
       within = omega (arith, place, long);
       work = so_far.0 + c.cost_with.result;
       is = work_here c.args.policy first c.args.steps.now c.loop-place.place c.index-steps-place.result c.loop-place.folded place
-          c.index-steps-place.is c.loop-place.invariant.folds c.loop-place.invariant.which so_far.0 c.cost_with.result so_far.1
+          c.index-steps-place.is c.loop-place.invariant.folds c.loop-place.invariant.value so_far.0 c.cost_with.result so_far.1
           c.cost_with.ensures;
       over = over _ _ so_far.0 c.cost_with.result so_far.2 c.in_err-take.ensures.over;
     })
@@ -41,10 +41,10 @@ returns-in_err-take-clause-too_large c e =
 pub returns-in-Stopped-clause-fold : goal.returns-in-Stopped-clause-fold
 returns-in-Stopped-clause-fold c =
     let stopped = rw c.in-Stopped.is at c.in_ok-next.ensures.joined in
-    let nothing = rw c.in-Stopped.is at c.in_ok-next.ensures.which in
+    let nothing = rw c.in-Stopped.is at c.in_ok-next.ensures.value in
     stops_here c.args.policy (five (five_tuple c.args.first)) c.args.steps.now c.loop-place.place
     c.index-steps-place.result c.loop-place.folded (omega arith) c.index-steps-place.is c.loop-place.invariant.folds
-    c.loop-place.invariant.which c.in-Stopped.cause stopped nothing
+    c.loop-place.invariant.value c.in-Stopped.cause stopped nothing
 
 pub returns-in-Stopped-clause-excluded : goal.returns-in-Stopped-clause-excluded
 returns-in-Stopped-clause-excluded c =
@@ -56,11 +56,11 @@ returns-in-Stopped-clause-unsupported c =
     unsupported c.args.policy (five (five_tuple c.args.first)) (tuples_of c.args.steps.now) (c.loop-place.place + 1)
     c.in-Stopped.cause (returns-in-Stopped-clause-fold c)
 
-pub returns-in-Stopped-clause-small : goal.returns-in-Stopped-clause-small
-returns-in-Stopped-clause-small c =
+pub returns-in-Stopped-clause-within_limit : goal.returns-in-Stopped-clause-within_limit
+returns-in-Stopped-clause-within_limit c =
     small_stopped c.args.most c.args.policy (five (five_tuple c.args.first)) c.args.steps.now c.loop-place.place
     c.index-steps-place.result c.loop-place.folded (omega arith) c.index-steps-place.is c.loop-place.invariant.folds
-    c.loop-place.invariant.which c.loop-place.invariant.small c.in_ok-next.ensures.small c.in-Stopped.cause
+    c.loop-place.invariant.value c.loop-place.invariant.within_limit c.in_ok-next.ensures.within_limit c.in-Stopped.cause
     (returns-in-Stopped-clause-fold c)
 
 pub returns-in-Stopped-clause-worked : goal.returns-in-Stopped-clause-worked
@@ -70,7 +70,7 @@ returns-in-Stopped-clause-worked c =
     let place : c.loop-place.place < length c.args.steps.now = omega arith in
     let long = length-map c.args.steps.now step_tuple in
     let here = work_here c.args.policy first c.args.steps.now c.loop-place.place c.index-steps-place.result c.loop-place.folded place
-    c.index-steps-place.is c.loop-place.invariant.folds c.loop-place.invariant.which so_far.0 c.cost_with.result so_far.1
+    c.index-steps-place.is c.loop-place.invariant.folds c.loop-place.invariant.value so_far.0 c.cost_with.result so_far.1
     c.cost_with.ensures in (
       so_far.0 + c.cost_with.result,
       work_stopped c.args.policy first (tuples_of c.args.steps.now) (steps_tagged c.args.steps.now) (c.loop-place.place + 1)
@@ -84,18 +84,18 @@ loop-place-preserved c =
     record {
       folds = goes_on c.args.policy (five (five_tuple c.args.first)) c.args.steps.now c.loop-place.place
           c.index-steps-place.result c.loop-place.folded (omega arith) c.index-steps-place.is c.loop-place.invariant.folds
-          c.loop-place.invariant.which c.in-Done.next made;
-      which = (rw c.in-Done.is at c.in_ok-next.ensures.which)
+          c.loop-place.invariant.value c.in-Done.next made;
+      value = (rw c.in-Done.is at c.in_ok-next.ensures.value)
           ∙ met_here c.args.policy (five (five_tuple c.args.first)) c.args.steps.now c.loop-place.place
           c.index-steps-place.result c.loop-place.folded (omega arith) c.index-steps-place.is c.loop-place.invariant.folds
-          c.loop-place.invariant.which;
-      small = small_here c.args.most c.args.policy (five (five_tuple c.args.first)) c.args.steps.now c.loop-place.place
+          c.loop-place.invariant.value;
+      within_limit = small_here c.args.most c.args.policy (five (five_tuple c.args.first)) c.args.steps.now c.loop-place.place
           c.index-steps-place.result c.loop-place.folded (omega arith) c.index-steps-place.is c.loop-place.invariant.folds
-          c.loop-place.invariant.which c.loop-place.invariant.small c.in_ok-next.ensures.small;
+          c.loop-place.invariant.value c.loop-place.invariant.within_limit c.in_ok-next.ensures.within_limit;
       worked = (
         c.loop-place.invariant.worked.0 + c.cost_with.result,
         work_here c.args.policy (five (five_tuple c.args.first)) c.args.steps.now c.loop-place.place c.index-steps-place.result
-            c.loop-place.folded (omega arith) c.index-steps-place.is c.loop-place.invariant.folds c.loop-place.invariant.which
+            c.loop-place.folded (omega arith) c.index-steps-place.is c.loop-place.invariant.folds c.loop-place.invariant.value
             c.loop-place.invariant.worked.0 c.cost_with.result c.loop-place.invariant.worked.1 c.cost_with.ensures,
         taken _ _ _ c.loop-place.invariant.worked.0 c.cost_with.result c.loop-place.invariant.worked.2 c.in_ok-take.ensures.taken,
       );

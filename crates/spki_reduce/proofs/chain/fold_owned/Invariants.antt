@@ -9,8 +9,8 @@ use Rattle.spki_reduce.proofs.chain.fold_owned.Given as goal
 abbrev pub invariant-loop-place : goal.invariant-loop-place
 invariant-loop-place l = record {
   folds : FoldsTo l.policy (five (five_tuple l.fn.first)) (take l.place (tuples_of l.steps)) l.folded;
-  which : HasMet (five (five_tuple l.fn.first)) (take l.place (tuples_of l.steps)) l.folded;
-  small : TooLargeAt l.most l.policy (five (five_tuple l.fn.first)) (take l.place (tuples_of l.steps)) → ⊥;
+  value : HasMet (five (five_tuple l.fn.first)) (take l.place (tuples_of l.steps)) l.folded;
+  within_limit : TooLargeAt l.most l.policy (five (five_tuple l.fn.first)) (take l.place (tuples_of l.steps)) → ⊥;
   worked : (n : ℕ) × IsWorkOf l.policy (five (five_tuple l.fn.first)) (tuples_of l.steps) l.place n
       × Takes (left_of l.fn.work) (left_of l.work) n;
   issuer : issuer_of l.folded.issuer ≡ issuer_of l.fn.first.issuer;

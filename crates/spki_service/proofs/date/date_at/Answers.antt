@@ -1,4 +1,4 @@
-use Rattle.std.proofs.Common.{FitsSigned, w64, arith, sym, true≢false, ◌*ℤ◌, ◌<ℤ◌, ◌≤ℤ◌, pos}
+use Rattle.std.proofs.Common.{FitsSigned, w64, arith, true≢false, ◌*ℤ◌, ◌≤ℤ◌, pos, rules}
 use Rattle.std.specs.Int.{w128}
 use Rattle.std.proofs.lemmas.Int.{to_z-of_z}
 use Rattle.jiff_core.proofs.SignedLemmas.{signed_arith}
@@ -6,18 +6,10 @@ use Rattle.spki_service.proofs.DateLaws.{none_beyond, none_before, date_of, date
 use Rattle.spki_service.proofs.date.date_at.Goals as goal
 
 pub returns-in-Err : goal.returns-in-Err
-returns-in-Err c =
-    let f : FitsSigned w64 c.args.seconds = c.ranges.seconds in
-    let g : FitsSigned w128 (c.args.seconds *ℤ pos 1_000_000_000) = omega (arith, signed_arith) in
-    let k = simp to_z-of_z at (rw c.nanoseconds_of.ensures at c.in-Err.ensures.succeeds.1) in
-    none_beyond c.args.seconds (λ h. true≢false (sym (k h)))
+returns-in-Err c = search (rules, w64, pos, signed_arith, to_z-of_z, none_beyond, true≢false)
 
 pub returns-then-civil-lt0 : goal.returns-then-civil-lt0
-returns-then-civil-lt0 c =
-    let f : FitsSigned w64 c.args.seconds = c.ranges.seconds in
-    let g : FitsSigned w128 (c.args.seconds *ℤ pos 1_000_000_000) = omega (arith, signed_arith) in
-    let early : c.in-Ok.civil.date.year <ℤ pos 0 = omega (arith, signed_arith, c.in-Ok.civil.date.year_in, c.if-civil-lt0.true) in
-    none_before c.args.seconds c.in-Ok.civil (simp to_z-of_z at (rw c.nanoseconds_of.ensures at c.in-Ok.ensures.value)) early
+returns-then-civil-lt0 c = search (rules, w64, pos, signed_arith, none_before, to_z-of_z)
 
 pub returns : goal.returns
 returns c =

@@ -1,4 +1,4 @@
-use Rattle.std.proofs.Common.{◌≡◌, true, false, sym, ◌∙◌, map}
+use Rattle.std.proofs.Common.{sym, ◌∙◌, map, rules}
 use Rattle.spki_decision.specs.Views.{signed_of}
 use Rattle.spki_decision.specs.Asked.{IsAccepted}
 use Rattle.spki_decision.proofs.Answering.{refused_here, one_more}
@@ -8,16 +8,7 @@ use Rattle.spki_service.proofs.marks.first_unmarked.Goals.{then-is_true_at, else
 use Rattle.spki_service.proofs.marks.first_unmarked.Goals as goal
 
 pub returns-then-not-is_marked : goal.returns-then-not-is_marked
-returns-then-not-is_marked c =
-    refused_here (MarksAccept (map signed_of c.args.signed.now) c.args.marks.now) c.args.signed.now c.loop-place.place c.loop-place-test.true
-    c.index-signed-place.result c.index-signed-place.is c.loop-place.invariant
-    (λ accepted. elim c.if-is_true_at.branch [
-      | then-is_true_at w ↦ let clash : false ≡ true = sym c.if-not-is_marked.true ∙ w.value-is ∙ w.if-is_true_at.true in absurd cc
-      | else-is_true_at w ↦
-          let yes = w.is_marked.ensures.1 accepted in
-          let clash : false ≡ true = sym c.if-not-is_marked.true ∙ w.value-is ∙ yes in
-          absurd cc
-    ])
+returns-then-not-is_marked c = search (rules, refused_here, then-is_true_at, else-is_true_at)
 
 pub loop-place-preserved : goal.loop-place-preserved
 loop-place-preserved c =

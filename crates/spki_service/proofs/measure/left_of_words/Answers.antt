@@ -1,11 +1,9 @@
 use Rattle.spki_service.proofs.WordLaws.{none_left, too_few, one_less, all_less}
+use Rattle.std.proofs.Common.{rules}
 use Rattle.spki_service.proofs.measure.left_of_words.Goals as goal
 
 pub returns-in_err-left-2 : goal.returns-in_err-left-2
-returns-in_err-left-2 c =
-    none_left _ _ _ c.from_residual-in_err-left-2.ensures
-    (too_few c.args.words.now c.loop-word.word-index c.loop-word.left c.args.room c.loop-word.invariant _ c.if-words-eq1.false
-    c.loop-word-test.true c.in_err-left-2.ensures)
+returns-in_err-left-2 c = search (rules, none_left, too_few)
 
 pub loop-word-preserved : goal.loop-word-preserved
 loop-word-preserved c =
@@ -13,6 +11,4 @@ loop-word-preserved c =
     c.loop-word-test.true c.in_ok-left-2.ensures
 
 pub returns : goal.returns
-returns c =
-    all_less c.args.words.now c.loop-word.word-index c.loop-word.left c.args.room c.loop-word.invariant c.if-words-eq1.false
-    c.loop-word-test.false
+returns c = search (rules, all_less)

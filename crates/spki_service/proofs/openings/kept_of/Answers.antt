@@ -1,6 +1,4 @@
-use Rattle.std.proofs.Common.{ap, map, ◌∙◌}
-use Rattle.spki_decision.specs.Asked.{asked}
-use Rattle.spki_decision.specs.Views.{signed_of}
+use Rattle.std.proofs.Common.{◌∙◌}
 use Rattle.spki_service.proofs.openings.kept_of.Goals as goal
 
 pub returns-clause-kept : goal.returns-clause-kept

@@ -1,4 +1,4 @@
-use Rattle.std.proofs.Common.{ℕ, ◌-◌, ◌≤◌, length}
+use Rattle.std.proofs.Common.{◌-◌, ◌≤◌, length}
 use Rattle.spki_service.proofs.owned_signed.is_before.Given as goal
 
 abbrev pub invariant-loop-at : goal.invariant-loop-at

@@ -1,20 +1,13 @@
-use Rattle.std.proofs.Common.{ap, map}
+use Rattle.std.proofs.Common.{ap, map, rules}
 use Rattle.spki_case.specs.View.{model, row_of}
 use Rattle.spki_service.proofs.PartLaws.{asked_case, sequence_read, key_read, request_read, sequence_lacks, key_lacks, request_lacks, moment_lacks, lifted}
 use Rattle.spki_service.proofs.parts.case_of.Goals as goal
 
 pub returns-in_err-sequence-clause-refused : goal.returns-in_err-sequence-clause-refused
-returns-in_err-sequence-clause-refused c = λ q t.
-    let texts = c.args.texts.now in
-    lifted q c.in_err-sequence.field-0.0 c.from_residual.result c.from_residual.ensures.1
-    (λ found. sequence_lacks q texts t c.in_err-sequence.field-0.0 (c.in_err-sequence.ensures.refused found))
+returns-in_err-sequence-clause-refused c = search (rules, lifted, sequence_lacks)
 
 pub returns-in_err-key-clause-refused : goal.returns-in_err-key-clause-refused
-returns-in_err-key-clause-refused c = λ q t.
-    let texts = c.args.texts.now in
-    let sequence = sequence_read q texts t c.in_ok-sequence.sequence.items c.in_ok-sequence.ensures.read in
-    lifted q c.in_err-key.field-0.0 c.from_residual-in_err-key.result c.from_residual-in_err-key.ensures.1
-    (λ found. key_lacks q texts t c.in_err-key.field-0.0 sequence (c.in_err-key.ensures.refused found))
+returns-in_err-key-clause-refused c = search (rules, sequence_read, lifted, key_lacks)
 
 pub returns-in_err-request-clause-refused : goal.returns-in_err-request-clause-refused
 returns-in_err-request-clause-refused c = λ q t.

@@ -1,5 +1,5 @@
 use Rattle.std.proofs.Common.{inl, inr}
-use Rattle.spki_cert.proofs.ItemFaultNone.{sequence-refused}
+use Rattle.spki_cert.proofs.SequenceFaultNone.{sequence-refused}
 use Rattle.spki_case.proofs.Signed.{signed}
 use Rattle.spki_service.proofs.parts.sequence_at.Goals as goal
 

@@ -1,8 +1,5 @@
-use Rattle.std.proofs.Common.{FitsSigned, w64, rules, subst, ℤ, to_z-of_z}
-use Rattle.spki_service.specs.Moment.{IsAtNoDate}
+use Rattle.std.proofs.Common.{w64, rules, to_z-of_z}
 use Rattle.spki_service.proofs.texts.seconds_text.Goals as goal
 
 pub returns-in-None : goal.returns-in-None
-returns-in-None c =
-    let f : FitsSigned w64 c.args.seconds.now = search rules in
-    subst (λ (s : ℤ). IsAtNoDate s) (to_z-of_z f) c.in-None.ensures
+returns-in-None c = search (rules, w64, to_z-of_z)

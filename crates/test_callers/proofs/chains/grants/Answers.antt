@@ -11,5 +11,5 @@ returns-in-Stopped-clause-exact c =
     let nothing : SupportsNothing c.args.policy (five (five_tuple c.args.first.now) ∷ tuples_of c.args.steps.now) =
     rw c.in-Stopped.is at c.in_ok-fold_chain.ensures.unsupported in (
       λ h. absurd (let clash : false ≡ true = h in cc),
-      λ s. absurd (nothing s.tree asked.key.now asked.request.now asked.moment.now s.leaves_are c.known.ensures s.supports),
+      λ s. absurd (nothing s.tree asked.key.now asked.request.now asked.moment.now s.leaves_are c.prove_well_formed.ensures s.supports),
     )

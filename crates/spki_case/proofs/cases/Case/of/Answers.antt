@@ -1,7 +1,7 @@
 use Rattle.std.proofs.Common.{◌≢◌, refl, sym, ◌∙◌, rules, inl, inr, Option, Some, ◌≡◌}
 use Rattle.spki_cert.specs.declared.fault.CertFaultKind.TheVariants as kinds
 use Rattle.spki_cert.proofs.EntryFaultNone.{acl-refused}
-use Rattle.spki_cert.proofs.ItemFaultNone.{sequence-refused}
+use Rattle.spki_cert.proofs.SequenceFaultNone.{sequence-refused}
 use Rattle.spki_case.specs.CaseForm.{Parts, acl_value, sequence_value, ReadsAcl, ReadsRows, ReadsItems, ReadsKey, ReadsRequest}
 use Rattle.spki_case.proofs.Lacking.{lacks}
 use Rattle.spki_case.proofs.RowFaultNone.{rows-refused}
@@ -13,7 +13,7 @@ use Rattle.spki_case.proofs.cases.Case.of.Goals as goal
 
 request-named : (fault : TagFault) (found : Option TagFault) → IsNamed fault found → fault ≢ tag_faults.Memory → found ≡ Some fault
 unfolding IsNamed
-request-named fault found (inl lack) known = absurd (known lack)
+request-named fault found (inl denial) known = absurd (known denial)
 request-named fault found (inr named) known = named
 
 pub returns-in-Err-clause-refused : goal.returns-in-Err-clause-refused

@@ -1,4 +1,4 @@
-use Rattle.std.proofs.Common.{◌≡◌, ◌+◌, ◌*◌, ◌≤◌, false, subst, sym, ◌∙◌, arith}
+use Rattle.std.proofs.Common.{◌≡◌, ◌+◌, ◌*◌, ◌≤◌, false, subst, sym, ◌∙◌, rules}
 use borrow.Author.Tests.{leb-true}
 use Rattle.std.proofs.Math.Nat.{mul-le-mul_left}
 use Rattle.spki_tag.specs.Tag.{nodes, nests_set}
@@ -9,23 +9,13 @@ use Rattle.spki_decision.proofs.PlainChains.{small_plain}
 use Rattle.spki_decision.proofs.sizes.Sizes.are_small.Goals as goal
 
 pub returns-then-nodes-most : goal.returns-then-nodes-most
-returns-then-nodes-most c _ =
-    let counted = rw c.in-Some.is at c.requires.counted in
-    let small : nodes c.args.tag.now * c.in-Some.nodes ≤ c.args.most =
-    subst (λ n. n * c.in-Some.nodes ≤ c.args.most) c.nodes.ensures.count c.if-nodes-most.true in
-    small_product c.args.most c.args.tag.now (tuples_of c.args.steps.now) c.in-Some.nodes counted.0 small
+returns-then-nodes-most c _ = search (rules, small_product)
 
 pub overflow_add-result : goal.overflow_add-result
-overflow_add-result c =
-    let plain : ArePlain (tuples_of c.args.steps.now) c.in-Some-plain.plain = rw c.in-Some-plain.is at c.requires.plain in
-    omega (arith, plain.few.0, c.nodes-then-not-nests_set.ensures.count, c.nodes-then-not-nests_set.ensures.normal.few)
+overflow_add-result c = search rules
 
 pub overflow_mul-result : goal.overflow_mul-result
-overflow_mul-result c =
-    let plain : ArePlain (tuples_of c.args.steps.now) c.in-Some-plain.plain = rw c.in-Some-plain.is at c.requires.plain in
-    let n = c.nodes-then-not-nests_set.result + c.in-Some-plain.plain.all in
-    let most : n * c.in-Some-plain.plain.most ≤ n * 1000000 = mul-le-mul_left n plain.few.1 in
-    omega (arith, most, plain.few.0, c.nodes-then-not-nests_set.ensures.count, c.nodes-then-not-nests_set.ensures.normal.few)
+overflow_mul-result c = search (rules, mul-le-mul_left)
 
 -- no tag has a set
 pub returns-then-not-nests_set : goal.returns-then-not-nests_set

@@ -1,19 +1,11 @@
-use Rattle.std.proofs.Common.{Some, None, map, ap, ◌∙◌, subst, List}
-use Rattle.std.specs.List.{AllByRecursion}
+use Rattle.std.proofs.Common.{Some, map, ap, ◌∙◌, rules}
 use Rattle.spki_decision.specs.Views.{signed_of}
-use Rattle.spki_decision.specs.Asked.{Signed, asked, IsAccepted, IsFirstRefused, RefusedAt}
+use Rattle.spki_decision.specs.Asked.{asked, IsFirstRefused, RefusedAt}
 use Rattle.spki_service.proofs.Outcomes.{decided_all, decided_none, moved}
 use Rattle.spki_service.proofs.asked.Asked.decide.Goals as goal
 
 pub returns-in-None : goal.returns-in-None
-returns-in-None g c =
-    let verified = g.V.Verifier.accepted c.args.verifier.now in
-    let kept = c.self.inside.examined.signed.items in
-    let first : IsFirstRefused verified (map signed_of c.deref.result.now) None = rw c.in-None.is at c.in_ok-first_refused.ensures in
-    let accepted : AllByRecursion (IsAccepted verified) (map signed_of kept) = rw c.deref.ensures.value at first in
-    let same = c.self.invariant.0 ∙ ap (λ a. asked a.case) c.self.view_is in
-    decided_all c.args.self.now verified (subst (λ (xs : List Signed). AllByRecursion (IsAccepted verified) xs) same accepted) c.decided.result
-    c.decided.ensures
+returns-in-None g c = search (rules, decided_all)
 
 pub returns-in-Some : goal.returns-in-Some
 returns-in-Some g c =

@@ -1,18 +1,12 @@
-use Rattle.std.proofs.Common.{None, map, ap, ◌∙◌, subst, List}
+use Rattle.std.proofs.Common.{map, ap, ◌∙◌, subst, List, rules}
 use Rattle.spki_decision.specs.Views.{signed_of}
-use Rattle.spki_decision.specs.Asked.{Signed, asked, IsFirstRefused, RefusedAt}
+use Rattle.spki_decision.specs.Asked.{Signed, asked, RefusedAt}
 use Rattle.spki_service.specs.Asking.{MarksAccept}
 use Rattle.spki_service.proofs.Outcomes.{decided_all, decided_none}
 use Rattle.spki_service.proofs.asked.Asked.decide_by.Goals as goal
 
 pub returns-in-None : goal.returns-in-None
-returns-in-None c =
-    let marks = c.args.verified.now in
-    let first : IsFirstRefused (MarksAccept (map signed_of c.deref.result.now) marks) (map signed_of c.deref.result.now) None =
-    rw c.in-None.is at c.first_unmarked.ensures in
-    let same = ap (map signed_of) c.deref.ensures.value ∙ c.self.invariant.0 ∙ ap (λ a. asked a.case) c.self.view_is in
-    let accepted = subst (λ (xs : List Signed). IsFirstRefused (MarksAccept xs marks) xs None) same first in
-    decided_all c.args.self.now (MarksAccept (asked c.args.self.now.case) marks) accepted c.decided.result c.decided.ensures
+returns-in-None c = search (rules, decided_all)
 
 pub returns-in-Some : goal.returns-in-Some
 returns-in-Some c =

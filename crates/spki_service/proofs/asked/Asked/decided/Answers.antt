@@ -12,9 +12,9 @@ returns-in-Fails c =
     let fails = rw c.in-Fails.is at evident in
     decided_failed c.args.self.now _ _ fails
 
-pub returns-in-Stands : goal.returns-in-Stands
-returns-in-Stands c =
+pub returns-in-Verified : goal.returns-in-Verified
+returns-in-Verified c =
     let evident = subst (λ (a : AskedOf). IsEvidence a.case.policy every a.case.items c.self.inside.examined.evidence) c.self.view_is c.self.invariant.1 in
-    let stands = rw c.in-Stands.is at evident in
-    decided_partly c.args.self.now (tuples_of c.in-Stands.steps.items) stands c.granted.result
+    let stands = rw c.in-Verified.is at evident in
+    decided_partly c.args.self.now (tuples_of c.in-Verified.steps.items) stands c.granted.result
     (λ es are. rw c.deref.ensures.value at (c.granted.ensures es are))

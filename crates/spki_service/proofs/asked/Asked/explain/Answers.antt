@@ -1,20 +1,12 @@
-use Rattle.std.proofs.Common.{Some, None, map, ap, ◌∙◌, subst, List, arith}
-use Rattle.std.specs.List.{AllByRecursion}
+use Rattle.std.proofs.Common.{Some, map, ap, ◌∙◌, rules}
 use Rattle.spki_decision.specs.Views.{signed_of}
-use Rattle.spki_decision.specs.Asked.{Signed, asked, IsAccepted, IsFirstRefused, RefusedAt}
+use Rattle.spki_decision.specs.Asked.{asked, IsFirstRefused, RefusedAt}
 use Rattle.spki_decision.proofs.Answering.{refused_within, refused_item}
 use Rattle.spki_service.proofs.Outcomes.{explained_all, explained_none, moved}
 use Rattle.spki_service.proofs.asked.Asked.explain.Goals as goal
 
 pub returns-in-None : goal.returns-in-None
-returns-in-None g c =
-    let verified = g.V.Verifier.accepted c.args.verifier.now in
-    let kept = c.self.inside.examined.signed.items in
-    let first : IsFirstRefused verified (map signed_of c.deref.result.now) None = rw c.in-None.is at c.in_ok-first_refused.ensures in
-    let accepted : AllByRecursion (IsAccepted verified) (map signed_of kept) = rw c.deref.ensures.value at first in
-    let same = c.self.invariant.0 ∙ ap (λ a. asked a.case) c.self.view_is in
-    explained_all c.args.self.now verified (subst (λ (xs : List Signed). AllByRecursion (IsAccepted verified) xs) same accepted) c.explained.result
-    c.explained.ensures
+returns-in-None g c = search (rules, explained_all)
 
 pub returns-in-Some : goal.returns-in-Some
 returns-in-Some g c =
@@ -28,9 +20,4 @@ returns-in-Some g c =
     (ap (λ s. s.item) c.index.ensures ∙ refused_item verified kept c.in-Some.place refused c.index.result.now)
 
 pub index-requires : goal.index-requires
-index-requires g c =
-    let verified = g.V.Verifier.accepted c.args.verifier.now in
-    let first : IsFirstRefused verified (map signed_of c.deref.result.now) (Some c.in-Some.place) = rw c.in-Some.is at c.in_ok-first_refused.ensures in
-    let within = refused_within verified c.deref.result.now c.in-Some.place first in
-    let long = c.deref.ensures.len in
-    omega arith
+index-requires g c = search (rules, refused_within)

@@ -1,4 +1,4 @@
-use Rattle.std.proofs.Common.{ℕ, sym, ◌∙◌, ap, subst, List, length}
+use Rattle.std.proofs.Common.{ℕ, sym, ◌∙◌, ap, subst, List, length, rules}
 use Rattle.spki_cert.specs.declared.entry.Entry.{Entry}
 use Rattle.spki_reduce.specs.Chain.{tuples_of}
 use Rattle.spki_decision.specs.Judged.{IsEvidence}
@@ -17,28 +17,25 @@ pub entry_reasons-requires : goal.entry_reasons-requires
 entry_reasons-requires c =
     let m = model c.self.inside.case in
     let evident : IsEvidence m.policy every m.items c.self.inside.examined.evidence = c.self.invariant.1 in
-    let stands = rw c.in-Stands.is at evident in
-    ap length c.deref-in-Stands-2.ensures.value ∙ as_many m.policy every m.items c.in-Stands.steps.items stands
+    let stands = rw c.in-Verified.is at evident in
+    ap length c.deref-in-Verified-2.ensures.value ∙ as_many m.policy every m.items c.in-Verified.steps.items stands
 
 pub returns-in-Fails : goal.returns-in-Fails
-returns-in-Fails c =
-    let evident = subst (λ (a : AskedOf). IsEvidence a.case.policy every a.case.items c.self.inside.examined.evidence) c.self.view_is c.self.invariant.1 in
-    let fails = rw c.in-Fails.is at evident in
-    explained_failed c.args.self.now c.in-Fails.item c.in-Fails.stop fails
+returns-in-Fails c = search (rules, explained_failed)
 
-pub returns-in_ok-reasons-in-Stands : goal.returns-in_ok-reasons-in-Stands
-returns-in_ok-reasons-in-Stands c =
+pub returns-in_ok-reasons-in-Verified : goal.returns-in_ok-reasons-in-Verified
+returns-in_ok-reasons-in-Verified c =
     let m = model c.self.inside.case in
-    let tuples = tuples_of c.in-Stands.steps.items in
+    let tuples = tuples_of c.in-Verified.steps.items in
     let evident : IsEvidence m.policy every m.items c.self.inside.examined.evidence = c.self.invariant.1 in
-    let stands = rw c.in-Stands.is at evident in
+    let stands = rw c.in-Verified.is at evident in
     let texts = ap octets_of_texts c.deref.ensures.value ∙ ap (λ h. h.texts) c.guard.view_is in
-    let inner : (es : List Entry) → AreEntries c.self.inside.guard.now.texts es → AreReasons (with_entries m es) every c.in_ok-reasons-in-Stands.reasons.items =
+    let inner : (es : List Entry) → AreEntries c.self.inside.guard.now.texts es → AreReasons (with_entries m es) every c.in_ok-reasons-in-Verified.reasons.items =
     λ es are.
     let there : AreEntries (octets_of_texts c.deref.result.now) es = subst (λ (ts : List (List ℕ)). AreEntries ts es) (sym texts) are in
-    let all = c.deref-in-Stands.ensures.value ∙ c.in_ok-entries-in-Stands.ensures es there in
-    let each = rw (c.deref-in-Stands-2.ensures.value, all) at c.in_ok-reasons-in-Stands.ensures.each in
-    let small = rw (c.deref-in-Stands-2.ensures.value, all) at c.in_ok-reasons-in-Stands.ensures.small in
-    let worked = rw (c.deref-in-Stands-2.ensures.value, all) at c.in_ok-reasons-in-Stands.ensures.worked in
-    are_reasons (with_entries m es) every tuples c.in_ok-reasons-in-Stands.reasons.items c.known.ensures stands each small worked in
-    subst (λ (a : AskedOf). (es : List Entry) → AreEntries a.texts es → AreReasons (with_entries a.case es) every c.in_ok-reasons-in-Stands.reasons.items) c.self.view_is inner
+    let all = c.deref-in-Verified.ensures.value ∙ c.in_ok-entries-in-Verified.ensures es there in
+    let each = rw (c.deref-in-Verified-2.ensures.value, all) at c.in_ok-reasons-in-Verified.ensures.each in
+    let small = rw (c.deref-in-Verified-2.ensures.value, all) at c.in_ok-reasons-in-Verified.ensures.within_limit in
+    let worked = rw (c.deref-in-Verified-2.ensures.value, all) at c.in_ok-reasons-in-Verified.ensures.worked in
+    are_reasons (with_entries m es) every tuples c.in_ok-reasons-in-Verified.reasons.items c.prove_well_formed.ensures stands each small worked in
+    subst (λ (a : AskedOf). (es : List Entry) → AreEntries a.texts es → AreReasons (with_entries a.case es) every c.in_ok-reasons-in-Verified.reasons.items) c.self.view_is inner

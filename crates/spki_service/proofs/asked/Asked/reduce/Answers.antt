@@ -1,20 +1,12 @@
-use Rattle.std.proofs.Common.{Some, None, map, ap, ◌∙◌, subst, List, arith}
-use Rattle.std.specs.List.{AllByRecursion}
+use Rattle.std.proofs.Common.{Some, map, ap, ◌∙◌, rules}
 use Rattle.spki_decision.specs.Views.{signed_of}
-use Rattle.spki_decision.specs.Asked.{Signed, asked, IsAccepted, IsFirstRefused, RefusedAt}
+use Rattle.spki_decision.specs.Asked.{asked, IsFirstRefused, RefusedAt}
 use Rattle.spki_decision.proofs.Answering.{refused_within, refused_item}
 use Rattle.spki_service.proofs.Outcomes.{reduced_all, reduced_none, moved}
 use Rattle.spki_service.proofs.asked.Asked.reduce.Goals as goal
 
 pub returns-in-None-clause-reduced : goal.returns-in-None-clause-reduced
-returns-in-None-clause-reduced g c =
-    let verified = g.V.Verifier.accepted c.args.verifier.now in
-    let kept = c.self.inside.examined.signed.items in
-    let first : IsFirstRefused verified (map signed_of c.deref.result.now) None = rw c.in-None.is at c.in_ok-first_refused.ensures in
-    let accepted : AllByRecursion (IsAccepted verified) (map signed_of kept) = rw c.deref.ensures.value at first in
-    let same = c.self.invariant.0 ∙ ap (λ a. asked a.case) c.self.view_is in
-    reduced_all c.args.self.now verified (subst (λ (xs : List Signed). AllByRecursion (IsAccepted verified) xs) same accepted) c.reduced.result
-    c.reduced.ensures.reduced
+returns-in-None-clause-reduced g c = search (rules, reduced_all)
 
 pub returns-in-Some-clause-reduced : goal.returns-in-Some-clause-reduced
 returns-in-Some-clause-reduced g c =
@@ -28,9 +20,4 @@ returns-in-Some-clause-reduced g c =
     (ap (λ s. s.item) c.index.ensures ∙ refused_item verified kept c.in-Some.place refused c.index.result.now)
 
 pub index-requires : goal.index-requires
-index-requires g c =
-    let verified = g.V.Verifier.accepted c.args.verifier.now in
-    let first : IsFirstRefused verified (map signed_of c.deref.result.now) (Some c.in-Some.place) = rw c.in-Some.is at c.in_ok-first_refused.ensures in
-    let within = refused_within verified c.deref.result.now c.in-Some.place first in
-    let long = c.deref.ensures.len in
-    omega arith
+index-requires g c = search (rules, refused_within)

@@ -1,19 +1,13 @@
-use Rattle.std.proofs.Common.{◌≡◌, None, map, ap, sym, ◌∙◌, subst, List, get_or, arith}
+use Rattle.std.proofs.Common.{◌≡◌, map, ap, sym, ◌∙◌, subst, List, get_or, rules}
 use Rattle.spki_decision.specs.Views.{signed_of}
-use Rattle.spki_decision.specs.Asked.{Signed, asked, IsFirstRefused, RefusedAt}
+use Rattle.spki_decision.specs.Asked.{Signed, asked, RefusedAt}
 use Rattle.spki_decision.proofs.Answering.{refused_within, refused_item}
 use Rattle.spki_service.specs.Asking.{MarksAccept}
 use Rattle.spki_service.proofs.Outcomes.{reduced_all, reduced_none}
 use Rattle.spki_service.proofs.asked.Asked.reduce_by.Goals as goal
 
 pub returns-in-None-clause-reduced : goal.returns-in-None-clause-reduced
-returns-in-None-clause-reduced c =
-    let marks = c.args.verified.now in
-    let first : IsFirstRefused (MarksAccept (map signed_of c.deref.result.now) marks) (map signed_of c.deref.result.now) None =
-    rw c.in-None.is at c.first_unmarked.ensures in
-    let same = ap (map signed_of) c.deref.ensures.value ∙ c.self.invariant.0 ∙ ap (λ a. asked a.case) c.self.view_is in
-    let accepted = subst (λ (xs : List Signed). IsFirstRefused (MarksAccept xs marks) xs None) same first in
-    reduced_all c.args.self.now (MarksAccept (asked c.args.self.now.case) marks) accepted c.reduced.result c.reduced.ensures.reduced
+returns-in-None-clause-reduced c = search (rules, reduced_all)
 
 pub returns-in-Some-clause-reduced : goal.returns-in-Some-clause-reduced
 returns-in-Some-clause-reduced c =
@@ -29,10 +23,4 @@ returns-in-Some-clause-reduced c =
     reduced_none c.args.self.now (MarksAccept (asked c.args.self.now.case) marks) c.in-Some.place there.0 item there.1
 
 pub index-requires : goal.index-requires
-index-requires c =
-    let marks = c.args.verified.now in
-    let first : RefusedAt (MarksAccept (map signed_of c.deref.result.now) marks) (map signed_of c.deref.result.now) c.in-Some.place =
-    rw c.in-Some.is at c.first_unmarked.ensures in
-    let within = refused_within (MarksAccept (map signed_of c.deref.result.now) marks) c.deref.result.now c.in-Some.place first in
-    let long = c.deref.ensures.len in
-    omega arith
+index-requires c = search (rules, refused_within)

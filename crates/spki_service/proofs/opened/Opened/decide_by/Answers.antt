@@ -1,4 +1,4 @@
-use Rattle.std.proofs.Common.{None, Ok, ◌∙◌, sym, subst, List}
+use Rattle.std.proofs.Common.{None, Ok, ◌∙◌, subst, List}
 use Rattle.spki_decision.specs.Asked.{Signed, asked, IsFirstRefused, RefusedAt}
 use Rattle.spki_service.specs.Asking.{MarksAccept}
 use Rattle.spki_service.proofs.Outcomes.{decided_all, decided_none}

@@ -1,4 +1,4 @@
-use Rattle.std.proofs.Common.{◌≡◌, ◌<◌, ◌≤◌, subst, sym, ◌∙◌, arith}
+use Rattle.std.proofs.Common.{◌<◌, ◌≤◌, subst, sym, arith}
 use Rattle.spki_service.specs.Held.{Held}
 use Rattle.spki_service.specs.KeptOf.{IsKeptOf}
 use Rattle.spki_service.specs.Questions.{asked_octets}

@@ -24,8 +24,8 @@ returns-clause-read c =
       written = read.written;
       spelled = read.spelled;
       few = omega (arith, read.counted, read.few);
-      which = read.which;
-      normal = subst (IsNormalOf read.w) (sym read.which) (normal-of read.w read.written);
+      value = read.value;
+      normal = subst (IsNormalOf read.w) (sym read.value) (normal-of read.w read.written);
     }
 
 pub returns-in_err-tag-clause-named : goal.returns-in_err-tag-clause-named

@@ -5,7 +5,7 @@ use Rattle.spki_cert.specs.declared.fault.CertFaultKind.TheVariants.{Memory}
 use Rattle.spki_cert.proofs.Looking.{carried}
 use Rattle.spki_cert.specs.FieldFaults.{cert_field_fault}
 use Rattle.spki_cert.proofs.FieldFaultLaws.{cert-issuer_field, cert-subject_field, cert-version_field, cert-unread, cert-common}
-use Rattle.spki_cert.proofs.fields.said_in_certificate.Goals as goal
+use Rattle.spki_cert.proofs.fields.read_certificate_field.Goals as goal
 
 pub returns-in_err-issuer_in-clause-named : goal.returns-in_err-issuer_in-clause-named
 returns-in_err-issuer_in-clause-named c =
@@ -36,12 +36,12 @@ returns-then-is_unread-clause-faultless c = cert-unread c.args.field.now c.if-is
 
 pub returns-clause-faultless : goal.returns-clause-faultless
 returns-clause-faultless c =
-    IfOk-weaker c.said_in_both.result _ _
+    IfOk-weaker c.read_common_field.result _ _
     (λ _ faultless. cert-common c.args.field.now _ c.in_default.ensures c.in_default-headed.ensures c.in_default-headed-2.ensures c.if-is_unread.ensures faultless)
-    c.said_in_both.ensures.faultless
+    c.read_common_field.ensures.faultless
 
 pub returns-clause-named : goal.returns-clause-named
 returns-clause-named c =
-    IfErr-weaker c.said_in_both.result _ _
+    IfErr-weaker c.read_common_field.result _ _
     (λ kind named known. cert-common c.args.field.now _ c.in_default.ensures c.in_default-headed.ensures c.in_default-headed-2.ensures c.if-is_unread.ensures (named known))
-    c.said_in_both.ensures.named
+    c.read_common_field.ensures.named

@@ -6,7 +6,7 @@ use Rattle.spki_cert.specs.FieldFaults.{time_fault}
 use Rattle.spki_cert.proofs.Groups.{not-headed}
 use Rattle.spki_cert.proofs.SubjectFaultLaws.{headed-else}
 use Rattle.spki_cert.proofs.FieldFaultLaws.{time-valid as time-valid_field, time-limit, limit-first, limit-last, limit-online, limit-other}
-use Rattle.spki_cert.proofs.fields.said_of_time.Goals as goal
+use Rattle.spki_cert.proofs.fields.read_validity_field.Goals as goal
 
 pub returns-in_err-date_in-clause-named : goal.returns-in_err-date_in-clause-named
 returns-in_err-date_in-clause-named c =

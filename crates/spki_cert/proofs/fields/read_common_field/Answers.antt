@@ -8,7 +8,7 @@ use Rattle.spki_cert.specs.declared.fault.CertFaultKind.TheVariants.{Shape}
 use Rattle.spki_cert.specs.Places.{unless_none}
 use Rattle.spki_cert.specs.FieldFaults.{entry_field_fault}
 use Rattle.spki_cert.proofs.FieldFaultLaws.{entry-tag_field, entry-propagate, entry-comment, entry-time, none-some}
-use Rattle.spki_cert.proofs.fields.said_in_both.Goals as goal
+use Rattle.spki_cert.proofs.fields.read_common_field.Goals as goal
 
 pub returns-in_err-tag_in-clause-named : goal.returns-in_err-tag_in-clause-named
 returns-in_err-tag_in-clause-named c =
@@ -32,10 +32,10 @@ returns-in-Some-headed-2-clause-faultless c = entry-comment c.args.field.now _ c
 
 pub returns-clause-faultless : goal.returns-clause-faultless
 returns-clause-faultless c =
-    IfOk-weaker c.said_of_time.result _ _
-    (λ _ faultless. entry-time c.args.field.now _ c.in_default.ensures c.in_default-headed.ensures c.in_default-headed-2.ensures faultless) c.said_of_time.ensures.faultless
+    IfOk-weaker c.read_validity_field.result _ _
+    (λ _ faultless. entry-time c.args.field.now _ c.in_default.ensures c.in_default-headed.ensures c.in_default-headed-2.ensures faultless) c.read_validity_field.ensures.faultless
 
 pub returns-clause-named : goal.returns-clause-named
 returns-clause-named c =
-    IfErr-weaker c.said_of_time.result _ _
-    (λ kind named _. entry-time c.args.field.now _ c.in_default.ensures c.in_default-headed.ensures c.in_default-headed-2.ensures named) c.said_of_time.ensures.named
+    IfErr-weaker c.read_validity_field.result _ _
+    (λ kind named _. entry-time c.args.field.now _ c.in_default.ensures c.in_default-headed.ensures c.in_default-headed-2.ensures named) c.read_validity_field.ensures.named

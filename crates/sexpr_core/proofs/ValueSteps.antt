@@ -1,0 +1,256 @@
+-- Each step of the reader of values and members, over the text and its offsets.
+use Rattle.std.proofs.Common.{◌≡◌, ℕ, suc, ◌+◌, ◌-◌, ◌<◌, ◌≤◌, List, [], ◌∷◌, ◌++◌, length, drop, Some, None, refl, sym, ◌∙◌, ap, subst, arith, append_assoc, length-append, append-nil, set, rules}
+use Rattle.std.proofs.Math.Seq.{set-append_seam}
+use Rattle.sexpr_core.specs.declared.fault.FormFault.{FormFault}
+use Rattle.sexpr_core.specs.declared.layout.Record.{Record}
+use Rattle.sexpr_core.specs.declared.layout.Shape.TheVariants.{List as Group}
+use Rattle.sexpr_core.specs.Value.{Value, Values, string, list, none, more, members, canon, canons, depth, depths, nodes, nodes_all, size}
+use Rattle.sexpr_core.specs.Layout.{shape, records, records_all}
+use Rattle.sexpr_core.specs.Prefix.{Front}
+use Rattle.sexpr_core.specs.Inner.PartFaults.{IsDeep, FaultAt}
+use Rattle.sexpr_core.specs.Texts.{IsCanon, IsCanonWithin, IsMembers, IsMembersWithin}
+use Rattle.sexpr_core.specs.Reading.{StandsAt, ReadsString, ReadsValue, ReadsMembers, PassesValue, PassesMembers}
+use Rattle.sexpr_core.proofs.ListTexts.{join, canons-join, depths-join}
+use Rattle.sexpr_core.proofs.Faults.{verbatim_none, value_ended, list_deep, list_fault, members_short, member_fault}
+use Rattle.sexpr_core.proofs.Steps.{read_length, read_both}
+
+-- ---- values
+
+pub value_none : (room : ℕ) (text : List ℕ) (at : ℕ) → drop at text ≡ [] → Front (IsCanonWithin room) (drop at text)
+value_none room text at e = subst (λ s. Front (IsCanonWithin room) s) (sym e) (value_ended room at)
+
+canon_some : (v : Value) → 0 < length (canon v)
+canon_some (string None a) = verbatim_none a
+canon_some (string (Some h) a) = omega arith
+canon_some (list vs) = omega arith
+
+pub string_value :
+    (room : ℕ) (text : List ℕ) (at : ℕ) (read : Record) (old new : List Record) → at ≤ length text →
+    ReadsString text at read → new ≡ old ++ read ∷ [] → ReadsValue room text at read.end old new
+string_value room text at read old new w r e =
+    let k : read.end ≤ length text = r.within in
+    let l : read.end ≡ at + length (canon (string r.hint r.octets)) =
+    read_length text (canon (string r.hint r.octets)) at read.end w k r.spelled in
+    record {
+      value = string r.hint r.octets;
+      fits = omega arith;
+      spelled = r.spelled;
+      placed = e ∙ ap (λ rs. old ++ rs) (sym r.placed);
+      goes_on = omega (arith, canon_some (string r.hint r.octets));
+      within = k;
+    }
+
+pub deep_list :
+    (room : ℕ) (text : List ℕ) (at : ℕ) → room ≡ 0 → StandsAt text at 40 →
+    IsDeep IsCanon (IsCanonWithin room) (drop at text)
+deep_list room text at z s =
+    subst (λ n. IsDeep IsCanon (IsCanonWithin n) (drop at text)) (sym z)
+    (subst (λ xs. IsDeep IsCanon (IsCanonWithin 0) xs) (sym s.spelled) (list_deep at (drop (at + 1) text)))
+
+pub in_list :
+    (room inner : ℕ) (text : List ℕ) (at : ℕ) (e : FormFault) → room ≡ suc inner → StandsAt text at 40 →
+    FaultAt IsMembers (IsMembersWithin inner) (at + 1) (drop (at + 1) text) e →
+    FaultAt IsCanon (IsCanonWithin room) at (drop at text) e
+in_list room inner text at e q s h = search (rules, list_fault)
+
+mutual
+  records_many : (at : ℕ) (v : Value) → length (records at v) ≡ length (nodes v)
+  records_many at (string hint octets) = refl
+  records_many at (list vs) = ap suc (records_all_many (at + 1) vs)
+
+  records_all_many : (at : ℕ) (vs : Values) → length (records_all at vs) ≡ length (nodes_all vs)
+  records_all_many at none = refl
+  records_all_many at (more v vs) =
+      let a : length (records at v) ≡ length (nodes v) = records_many at v in
+      let b : length (records_all (at + length (canon v)) vs) ≡ length (nodes_all vs) = records_all_many (at + length (canon v)) vs in
+      omega (arith, length-append (records at v) (records_all (at + length (canon v)) vs), length-append (nodes v) (nodes_all vs))
+
+-- a list's record
+abbrev pub listed : ℕ → ℕ → ℕ → ℕ → Record
+listed at to many parts = record { start = at; end = to; size = many; shape = Group parts }
+
+list_record :
+    (at to size many parts : ℕ) (vs : Values) → to ≡ at + length (canon (list vs)) → many ≡ size →
+    parts ≡ length (members vs) →
+    ◌≡◌ {A = Record} (listed at to many parts) (listed at (at + length (canon (list vs))) size (length (members vs)))
+list_record at to size many parts vs a b c = cc
+
+mutual
+  -- a value has no more nodes than its text has octets
+  size_short : (v : Value) → size v ≤ length (canon v)
+  size_short (string hint octets) = omega (arith, canon_some (string hint octets))
+  size_short (list vs) = omega (arith, (many_short vs).1, length-append (canons vs) (41 ∷ []))
+
+  many_short : (vs : Values) → (length (members vs) ≤ length (canons vs)) × (length (nodes_all vs) ≤ length (canons vs))
+  many_short none = (omega arith, omega arith)
+  many_short (more v vs) =
+      let m = many_short vs in
+      let long = length-append (canon v) (canons vs) in (
+        omega (arith, canon_some v, m.0, long),
+        omega (arith, size_short v, m.1, long, length-append (nodes v) (nodes_all vs)),
+      )
+
+-- what was read of a list: its text, its records, and how many nodes it has
+list_is :
+    (inner : ℕ) (text : List ℕ) (at parts to index many : ℕ) (kept : Record) (old pushed grown : List Record) →
+    StandsAt text at 40 → index ≡ length old → pushed ≡ old ++ kept ∷ [] →
+    (r : ReadsMembers inner text (at + 1) parts to pushed grown) → many ≡ length grown - index →
+    (drop at text ≡ canon (list r.items) ++ drop to text) × (grown ≡ old ++ (kept ∷ records_all (at + 1) r.items))
+    × (many ≡ size (list r.items)) × (to ≡ at + length (canon (list r.items)))
+list_is inner text at parts to index many kept old pushed grown s i d r m =
+    let w : at < length text = s.within in
+    let e : drop at text ≡ canon (list r.items) ++ drop to text =
+    s.spelled ∙ ap (λ t. 40 ∷ t) (r.spelled ∙ sym (append_assoc (canons r.items) (41 ∷ []) (drop to text))) in
+    let p : grown ≡ old ++ (kept ∷ records_all (at + 1) r.items) =
+    r.placed ∙ ap (λ rs. rs ++ records_all (at + 1) r.items) d
+    ∙ append_assoc old (kept ∷ []) (records_all (at + 1) r.items) in
+    let n : many ≡ size (list r.items) =
+    omega (arith, ap length p, length-append old (kept ∷ records_all (at + 1) r.items), records_all_many (at + 1) r.items) in
+    (e, p, n, read_length text (canon (list r.items)) at to (omega arith) r.within e)
+
+-- a list's record has room for the numbers of its nodes and members
+pub list_short :
+    (inner : ℕ) (text : List ℕ) (at parts to index many : ℕ) (kept : Record) (old pushed grown : List Record) →
+    StandsAt text at 40 → index ≡ length old → pushed ≡ old ++ kept ∷ [] → ReadsMembers inner text (at + 1) parts to pushed grown →
+    many ≡ length grown - index → (many ≤ length text) × (parts ≤ length text)
+list_short inner text at parts to index many kept old pushed grown s i d r m =
+    let l = list_is inner text at parts to index many kept old pushed grown s i d r m in (
+      omega (arith, size_short (list r.items), l.2, r.within, l.3),
+      omega (arith, r.counted, (many_short r.items).0, r.within, l.3, length-append (canons r.items) (41 ∷ [])),
+    )
+
+-- a list's record takes the place that was kept for it
+pub list_read :
+    (room inner : ℕ) (text : List ℕ) (at parts to index many : ℕ) (kept : Record) (old pushed grown : List Record) →
+    room ≡ suc inner → StandsAt text at 40 → index ≡ length old → pushed ≡ old ++ kept ∷ [] →
+    ReadsMembers inner text (at + 1) parts to pushed grown → many ≡ length grown - index →
+    ReadsValue room text at to old (set grown index (listed at to many parts))
+list_read room inner text at parts to index many kept old pushed grown q s i d r m =
+    let k : to ≤ length text = r.within in
+    let g : at + 1 < to = r.goes_on in
+    let f : depths r.items ≤ inner = r.fits in
+    let l = list_is inner text at parts to index many kept old pushed grown s i d r m in
+    let is = list_record at to (size (list r.items)) many parts r.items l.3 l.2 r.counted in
+    record {
+      value = list r.items;
+      fits = omega arith;
+      spelled = l.0;
+      placed = ap (λ rs. set rs index (listed at to many parts)) l.1
+          ∙ ap (λ n. set (old ++ (kept ∷ records_all (at + 1) r.items)) n (listed at to many parts)) i
+          ∙ set-append_seam old kept (records_all (at + 1) r.items) (listed at to many parts)
+          ∙ ap (λ k. old ++ (k ∷ records_all (at + 1) r.items)) is;
+      goes_on = omega arith;
+      within = k;
+    }
+
+-- ---- members
+
+-- what a loop over members has read when it stands at an offset
+pub record HasMembers (room : ℕ) (text : List ℕ) (at parts to : ℕ) (old new : List Record) : Type 0 where
+  pub items : Values
+  pub fits : depths items ≤ room
+  pub spelled : drop at text ≡ canons items ++ drop to text
+  pub placed : new ≡ old ++ records_all at items
+  pub counted : parts ≡ length (members items)
+  pub ahead : at + parts ≤ to
+  pub within : to ≤ length text
+
+pub no_members :
+    (room : ℕ) (text : List ℕ) (at : ℕ) (old : List Record) → at ≤ length text →
+    HasMembers room text at 0 at old old
+no_members room text at old w = record {
+  items = none;
+  fits = omega arith;
+  spelled = refl;
+  placed = sym (append-nil old);
+  counted = refl;
+  ahead = omega arith;
+  within = w;
+}
+
+records_all-join :
+    (at : ℕ) (vs ws : Values) →
+    records_all at (join vs ws) ≡ records_all at vs ++ records_all (at + length (canons vs)) ws
+records_all-join at none ws = ap (λ n. records_all n ws) (omega arith)
+records_all-join at (more v vs) ws =
+    let n : at + length (canon v) + length (canons vs) ≡ at + length (canon v ++ canons vs) =
+    omega (arith, length-append (canon v) (canons vs)) in
+    ap (λ rs. records at v ++ rs)
+    (records_all-join (at + length (canon v)) vs ws
+    ∙ ap (λ k. records_all (at + length (canon v)) vs ++ records_all k ws) n)
+    ∙ sym (append_assoc (records at v) (records_all (at + length (canon v)) vs) (records_all (at + length (canon v ++ canons vs)) ws))
+
+members-join : (vs ws : Values) → length (members (join vs ws)) ≡ length (members vs) + length (members ws)
+members-join none ws = omega arith
+members-join (more v vs) ws = let h : length (members (join vs ws)) ≡ length (members vs) + length (members ws) = members-join vs ws in omega arith
+
+pub more_members :
+    (room : ℕ) (text : List ℕ) (at parts via to : ℕ) (old new newer : List Record) → at ≤ length text →
+    HasMembers room text at parts via old new → ReadsValue room text via to new newer →
+    HasMembers room text at (parts + 1) to old newer
+more_members room text at parts via to old new newer w h r =
+    let k : via ≤ length text = h.within in
+    let l : via ≡ at + length (canons h.items) = read_length text (canons h.items) at via w k h.spelled in
+    let g : via < to = r.goes_on in
+    let a : at + parts ≤ via = h.ahead in
+    let c : parts ≡ length (members h.items) = h.counted in
+    let f : depth r.value ≤ room = r.fits in
+    record {
+      items = join h.items (more r.value none);
+      fits = depths-join room h.items (more r.value none) h.fits (omega arith);
+      spelled = read_both text (canons h.items) (canon r.value) at via to h.spelled r.spelled
+          ∙ ap (λ t. t ++ drop to text)
+          (ap (λ t. canons h.items ++ t) (sym (append-nil (canon r.value))) ∙ sym (canons-join h.items (more r.value none)));
+      placed = r.placed ∙ ap (λ rs. rs ++ records via r.value) h.placed
+          ∙ append_assoc old (records_all at h.items) (records via r.value)
+          ∙ ap (λ rs. old ++ rs)
+          (ap (λ n. records_all at h.items ++ records n r.value) l
+          ∙ ap (λ rs. records_all at h.items ++ rs) (sym (append-nil (records (at + length (canons h.items)) r.value)))
+          ∙ sym (records_all-join at h.items (more r.value none)));
+      counted = omega (arith, members-join h.items (more r.value none));
+      ahead = omega arith;
+      within = r.within;
+    }
+
+pub members_end :
+    (room : ℕ) (text : List ℕ) (at parts to : ℕ) (old new : List Record) →
+    HasMembers room text at parts to old new → drop to text ≡ [] → Front (IsMembersWithin room) (drop at text)
+members_end room text at parts to old new h e =
+    members_short room at h.items (drop at text) h.fits (h.spelled ∙ ap (λ t. canons h.items ++ t) e)
+
+pub in_member :
+    (room : ℕ) (text : List ℕ) (at parts to c : ℕ) (old new : List Record) (e : FormFault) → at ≤ length text →
+    HasMembers room text at parts to old new → StandsAt text to c → (c ≡ 41 → ⊥) →
+    FaultAt IsCanon (IsCanonWithin room) to (drop to text) e →
+    FaultAt IsMembers (IsMembersWithin room) at (drop at text) e
+in_member room text at parts to c old new e w h s nc f = search (rules, member_fault, read_length)
+
+-- ---- without records
+
+value_behind : (room : ℕ) (text : List ℕ) (at to : ℕ) (old : List Record) (p : PassesValue room text at to) → ReadsValue room text at to old (old ++ p.0)
+value_behind room text at to old p = search rules
+
+members_behind :
+    (room : ℕ) (text : List ℕ) (at to : ℕ) (old : List Record) (p : PassesMembers room text at to) →
+    ReadsMembers room text at p.0 to old (old ++ p.1)
+members_behind room text at to old p = search rules
+
+pub list_passed :
+    (room inner : ℕ) (text : List ℕ) (at to : ℕ) → room ≡ suc inner → StandsAt text at 40 →
+    PassesMembers inner text (at + 1) to → PassesValue room text at to
+list_passed room inner text at to q s p =
+    let kept : Record = listed at to 1 0 in
+    (_, list_read room inner text at p.0 to 0 _ kept [] (kept ∷ []) _ q s refl refl (members_behind inner text (at + 1) to (kept ∷ []) p) refl)
+
+pub member_passed :
+    (room : ℕ) (text : List ℕ) (at via to : ℕ) → at ≤ length text →
+    (parts : ℕ) × (nodes : List Record) × HasMembers room text at parts via [] nodes → PassesValue room text via to →
+    (parts : ℕ) × (nodes : List Record) × HasMembers room text at parts to [] nodes
+member_passed room text at via to w h p =
+    (h.0 + 1, h.1 ++ p.0, more_members room text at h.0 via to [] h.1 (h.1 ++ p.0) w h.2 (value_behind room text via to h.1 p))
+
+pub members_passed :
+    (room : ℕ) (text : List ℕ) (at i c : ℕ) →
+    (parts : ℕ) × (nodes : List Record) × HasMembers room text at parts i [] nodes → StandsAt text i c → c ≡ 41 →
+    PassesMembers room text at (i + 1)
+members_passed room text at i c h s e = search rules
