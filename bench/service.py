@@ -55,7 +55,7 @@ MOST = {"10,000 keys, no certificate": 1.5, "10,000 keys, three certificates": 1
         "three caveats, opened before": 0.05, "by the digests": 5.0, "Rust": 1.04, "Python, µs more": 12.0,
         "memory of an opened question by its octets": 70.0,
         "opening a question of 1 MiB, ms": 500.0, "a decision, ms": 100.0, "a decision, MiB": 16.0, "a decision by default, ms": 100.0,
-        "an explanation or a reduction, ms": 200.0, "an explanation or a reduction, MiB": 24.0, "waits of 1,000 decisions": 1.0}
+        "an explanation or a reduction, ms": 200.0, "an explanation or a reduction, MiB": 16.0, "waits of 1,000 decisions": 1.0}
 LEAST = {"threads": 3.5}
 # What the library's statuses say.
 ANSWERS = {1: "no", 2: "refused", 6: "done", 9: "yes"}

@@ -1,6 +1,7 @@
 -- The lines of entries' chains and reasons, one behind another.
-use Rattle.std.proofs.Common.{◌≡◌, ℕ, suc, ◌+◌, ◌<◌, ◌==◌, false, Vec, Global, List, [], ◌∷◌, ◌++◌, length, take, get_or, refl, ap, ◌∙◌, append_assoc}
+use Rattle.std.proofs.Common.{◌≡◌, ℕ, suc, ◌+◌, ◌<◌, ◌==◌, false, Vec, Global, List, [], ◌∷◌, ◌++◌, length, take, get_or, refl, sym, ap, subst, ◌∙◌, append_assoc, append-nil, arith, length-take-le}
 use Rattle.std.specs.Prelude.{codes}
+use Rattle.std.proofs.lemmas.List.{take_more}
 use Rattle.std.specs.List.{AllZip}
 use Rattle.sexpr_core.specs.Value.{Value, decimal}
 use Rattle.sexpr_text.specs.Printed.{adv}
@@ -8,9 +9,10 @@ use Rattle.spki_decision.specs.declared.reduction.EntryFold.{EntryFold}
 use Rattle.spki_decision.specs.declared.reduction.Reduction.{Reduction}
 use Rattle.spki_decision.specs.declared.reduction.Reduction.TheVariants as reduction
 use Rattle.spki_decision.specs.declared.explanation.Reason.{Reason}
+use Rattle.spki_guard.specs.declared.answers.Verdict.{Verdict}
 use Rattle.spki_guard.specs.declared.reports.FoldLine.{FoldLine}
 use Rattle.spki_guard.specs.Lines.{entry_line, reason_line}
-use Rattle.spki_guard.specs.Reports.{verdict_of, AreFoldLines, ReportsFolds, IsReductionReport, some_done, reason_lines}
+use Rattle.spki_guard.specs.Reports.{verdict_of, IsFoldLine, AreFoldLines, ReportsFolds, IsReductionReport, some_done, reason_lines}
 use Rattle.spki_guard.specs.Inner.FoldLines.{fold_line, fold_lines, some_done_line, IsLineOfFold}
 use Rattle.spki_guard.proofs.EntryLines.{line_behind, line_at, entry_whole}
 
@@ -25,6 +27,40 @@ fold_behind = line_behind fold_line fold_lines (λ n. refl) (λ n x xs. refl)
 pub reason_behind : (xs : List Reason) (k : ℕ) (d : Reason) → k < length xs
     → reason_lines 1 (take k xs) ++ reason_line (k + 1) (get_or xs k d) ≡ reason_lines 1 (take (k + 1) xs)
 reason_behind = line_at reason_line reason_lines (λ n. refl) (λ n x xs. refl)
+
+-- ---- one line more
+
+pub lines_after : (n : ℕ) (folds : List EntryFold) (fold : EntryFold) (lines line : List ℕ) → AreFoldLines n folds lines
+    → IsFoldLine (n + length folds) fold line → AreFoldLines n (folds ++ fold ∷ []) (lines ++ line)
+lines_after n [] fold lines line e h =
+    let here : n + 0 ≡ n = omega arith in
+    (line, [], subst (λ m. IsFoldLine m fold line) here h, refl, ap (λ s. s ++ line) e ∙ sym (append-nil line))
+lines_after n (f ∷ fs) fold lines line (first, rest, one, others, e) h =
+    let count : n + suc (length fs) ≡ suc n + length fs = omega arith in (
+      first,
+      rest ++ line,
+      one,
+      lines_after (suc n) fs fold rest line others (subst (λ m. IsFoldLine m fold line) count h),
+      ap (λ s. s ++ line) e ∙ append_assoc first rest line,
+    )
+
+pub lines_at : (folds : List EntryFold) (k : ℕ) (fold : EntryFold) (lines line : List ℕ) → k < length folds → fold ≡ get_or folds k fold
+    → AreFoldLines 1 (take k folds) lines → IsFoldLine (k + 1) fold line → AreFoldLines 1 (take (k + 1) folds) (lines ++ line)
+lines_at folds k fold lines line lt at h here =
+    let count : k + 1 ≡ 1 + length (take k folds) = omega (arith, length-take-le k folds (omega arith)) in
+    let front : take k folds ++ fold ∷ [] ≡ take (k + 1) folds = ap (λ u. take k folds ++ u ∷ []) at ∙ sym (take_more folds k fold lt) in
+    subst (λ fs. AreFoldLines 1 fs (lines ++ line)) front
+    (lines_after 1 (take k folds) fold lines line h (subst (λ m. IsFoldLine m fold line) count here))
+
+chains_reported : (folds : List EntryFold) (lines : List ℕ) → 0 < length folds → AreFoldLines 1 folds lines
+    → ReportsFolds folds (verdict_of (some_done folds)) lines
+chains_reported [] lines some h = absurd (omega (arith, some))
+chains_reported (f ∷ fs) lines some h = (refl, h)
+
+-- the same of a verdict and octets that are these
+pub reported_as : (folds : List EntryFold) (lines output : List ℕ) (verdict : Verdict) → 0 < length folds → AreFoldLines 1 folds lines
+    → verdict ≡ verdict_of (some_done folds) → output ≡ lines → ReportsFolds folds verdict output
+reported_as folds lines output verdict some h e f = rw (e, f) (chains_reported folds lines some h)
 
 -- ---- the lines of chains are those of what the chains become
 

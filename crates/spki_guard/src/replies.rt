@@ -3,17 +3,19 @@ ghost use Rattle.std.specs.Prelude.{◌≡◌, [], ◌∷◌, ◌++◌, ◌+◌,
 ghost use Rattle.sexpr_text.specs.Printed.{adv};
 ghost use Rattle.spki_tag.specs.Tag.{tag_value};
 ghost use Rattle.spki_guard.specs.Answer.{written_by};
-ghost use Rattle.spki_guard.specs.Reports.{IsReductionReport, IsExplanationReport};
-ghost use Rattle.spki_guard.specs.Inner.Replies.{reply_verdict, printed};
+ghost use Rattle.spki_guard.specs.Reports.{ReportsFolds, IsReductionReport, IsExplanationReport};
+ghost use Rattle.spki_guard.specs.Inner.Replies.{reply_verdict, printed, AreLongFolds, IsLongReport};
 
 use crate::answers::{Answer, Output, Verdict};
+use crate::capped_sink::CappedSink;
 use crate::entry_lines::print_item;
 use crate::reports::{
-    FoldLine, fold_lines_of, print_folds, print_reasons, some_done, some_grant, verdict_of,
+    FoldLine, fold_lines_of, print_as_made, print_folds, print_reasons, some_done, some_fold_done,
+    some_grant, verdict_of,
 };
 use crate::tag_printer::print_tag;
 use sexpr_text::{Counter, Sink, VectorSink};
-use spki_decision::{Explanation, GuardFault, Reason, Reduction, Stop};
+use spki_decision::{EntryFold, Explanation, GuardFault, Reason, Reduction, Stop};
 use spki_tag::Tag;
 use std::alloc::{AllocError, Global};
 
@@ -162,22 +164,71 @@ fn print_whole(alloc: Global, reply: &Reply) -> Result<Answer, AllocError>
     })
 }
 
-/// The answer that has the octets of a reply, if they are at most so many. They are counted before they are printed.
+/// The answer that has the octets of a reply, if they are at most so many.
 ///
 /// # Errors
 ///
 /// `TooLarge` if they are more. `Memory` if memory ran out.
-pub(crate) fn whole_within(alloc: Global, reply: Reply, most: usize) -> Result<Answer, GuardFault>
-    ensures verdict { IfOk result (λ a. a.verdict ≡ reply_verdict reply.entry) }
-    ensures octets { IfOk result (λ a. written_by a ≡ printed reply.entry) }
-    ensures short { IfOk result (λ a. length (printed reply.entry) ≤ most) }
-    ensures large { IsErrOf result GuardFault.TooLarge → most < length (printed reply.entry) }
+pub(crate) fn whole_within(alloc: Global, reply: &Reply, most: usize) -> Result<Answer, GuardFault>
+    ensures verdict { IfOk result (λ a. a.verdict ≡ reply_verdict reply.now) }
+    ensures octets { IfOk result (λ a. written_by a ≡ printed reply.now) }
+    ensures short { IfOk result (λ a. length (written_by a) ≤ most) }
+    ensures large { IsErrOf result GuardFault.TooLarge → most < length (printed reply.now) }
 {
-    let Some(count) = count_with(&reply, 1) else {
-        return Err(GuardFault::Memory);
-    };
-    if count - 1 > most as u64 {
-        return Err(GuardFault::TooLarge);
+    let mut out = Vec::new(alloc);
+    let mut sink = CappedSink::new(&mut out, most);
+    print_reply(reply, &mut sink);
+    sink.end()?;
+    Ok(Answer {
+        verdict: reply.verdict(),
+        output: Output::Made(out),
+    })
+}
+
+/// The answer that shows a reduction, if its octets are at most so many. What the line of a chain needs is made when it is printed.
+///
+/// # Errors
+///
+/// `TooLarge` if they are more. `Memory` if memory ran out.
+pub(crate) fn reduction_within(
+    alloc: Global,
+    reduction: Reduction,
+    most: usize,
+) -> Result<Answer, GuardFault>
+    ensures report { IfOk result (λ a. IsReductionReport reduction.entry a.verdict (written_by a)) }
+    ensures short { IfOk result (λ a. length (written_by a) ≤ most) }
+    ensures large { IsErrOf result GuardFault.TooLarge → IsLongReport reduction.entry most }
+{
+    match reduction {
+        Reduction::Evidence { item, stop } => whole_within(
+            alloc,
+            &Reply::Item { item, stop },
+            most,
+        ),
+        Reduction::Entries(folds) => {
+            if folds.is_empty() {
+                return whole_within(alloc, &Reply::NoEntries, most);
+            }
+            folds_within(alloc, &folds, most)
+        }
     }
-    Ok(whole(alloc, reply)?)
+}
+
+/// The answer that shows what chains become, if its octets are at most so many.
+fn folds_within(alloc: Global, folds: &[EntryFold], most: usize) -> Result<Answer, GuardFault>
+    requires { 0 < length folds.now }
+    ensures report { IfOk result (λ a. ReportsFolds folds.now a.verdict (written_by a)) }
+    ensures short { IfOk result (λ a. length (written_by a) ≤ most) }
+    ensures large { IsErrOf result GuardFault.TooLarge → AreLongFolds folds.now most }
+{
+    let mut out = Vec::new(alloc);
+    let mut sink = CappedSink::new(&mut out, most);
+    let printed = print_as_made(alloc, folds, &mut sink);
+    let ended = sink.end();
+    printed?;
+    ended?;
+    Ok(Answer {
+        verdict: verdict_of(some_fold_done(folds)),
+        output: Output::Made(out),
+    })
 }

@@ -1,8 +1,10 @@
 //! The lines of a case's reduction and explanation: one for each entry.
-ghost use Rattle.std.specs.Prelude.{◌≡◌, IfOk};
+ghost use Rattle.std.specs.Prelude.{◌≡◌, ℕ, List, [], ◌∷◌, IfOk, OnOk};
 ghost use Rattle.std.specs.List.{AllZip};
-ghost use Rattle.spki_guard.specs.Reports.{verdict_of, is_grant, some_grant, reason_lines};
-ghost use Rattle.spki_guard.specs.Inner.FoldLines.{is_done_line, some_done_line, fold_line, fold_lines, IsLineOfFold};
+ghost use Rattle.spki_guard.specs.Reports.{verdict_of, IsFoldLine, AreFoldLines, is_done, some_done, is_grant, some_grant, reason_lines};
+ghost use Rattle.sexpr_text.specs.Printed.{adv};
+ghost use Rattle.spki_guard.specs.Lines.{entry_line};
+ghost use Rattle.spki_guard.specs.Inner.FoldLines.{value_of, is_done_line, some_done_line, fold_line, fold_lines, IsLineOfFold};
 
 use crate::answers::Verdict;
 use crate::entry_lines::{print_entry, print_reason, print_stopped};
@@ -87,16 +89,21 @@ fn is_done(line: &FoldLine) -> bool
     }
 }
 
+/// Prints the line of a tuple, of which these parts were written.
+fn print_done<S: Sink>(entry: usize, five: &Five, parts: &WrittenParts, sink: &mut S)
+    ensures { S.takes sink.old (entry_line entry (adv (value_of parts.now five.now) ∷ [])) sink.new }
+{
+    print_entry(entry, sink);
+    print_five(five, parts, sink);
+    sink.put_octet(b'\n');
+}
+
 /// Prints the line of a chain; `entry` is counted from 1.
 fn print_fold<S: Sink>(entry: usize, line: &FoldLine, sink: &mut S)
     ensures { S.takes sink.old (fold_line entry line.now) sink.new }
 {
     match line {
-        FoldLine::Done { five, parts } => {
-            print_entry(entry, sink);
-            print_five(five, parts, sink);
-            sink.put_octet(b'\n');
-        }
+        FoldLine::Done { five, parts } => print_done(entry, five, parts, sink),
         FoldLine::Stopped { item, cause } => print_stopped(entry, *item, *cause, sink),
     }
 }
@@ -107,6 +114,61 @@ pub(crate) fn print_folds<S: Sink>(lines: &[FoldLine], sink: &mut S)
 {
     for (place, line) in lines.iter().enumerate() {
         print_fold(place + 1, line, sink);
+    }
+}
+
+/// Prints the line of a chain, of which nothing is made before; `entry` is counted from 1.
+fn print_made<S: Sink>(
+    alloc: Global,
+    entry: usize,
+    fold: &EntryFold,
+    sink: &mut S,
+) -> Result<(), AllocError>
+    ensures { OnOk result ((line : List ℕ) × IsFoldLine entry fold.now line × S.takes sink.old line sink.new) }
+{
+    match fold {
+        EntryFold::Done(five) => {
+            let parts = five.write_parts(alloc)?;
+            print_done(entry, five, &parts, sink);
+        }
+        EntryFold::Stopped { item, cause } => print_stopped(entry, *item, *cause, sink),
+    }
+    Ok(())
+}
+
+/// Prints the lines of chains. What a line needs is made before it is printed, and not kept.
+pub(crate) fn print_as_made<S: Sink>(
+    alloc: Global,
+    folds: &[EntryFold],
+    sink: &mut S,
+) -> Result<(), AllocError>
+    ensures { OnOk result ((lines : List ℕ) × AreFoldLines 1 folds.now lines × S.takes sink.old lines sink.new) }
+{
+    for (place, fold) in folds.iter().enumerate() {
+        print_made(alloc, place + 1, fold, sink)?;
+    }
+    Ok(())
+}
+
+/// Whether some chain becomes a tuple, of chains whose lines are not made.
+pub(crate) fn some_fold_done(folds: &[EntryFold]) -> bool
+    ensures { result ≡ some_done folds.now }
+{
+    for fold in folds {
+        if is_fold_done(fold) {
+            return true;
+        }
+    }
+    false
+}
+
+/// Whether a chain becomes a tuple.
+fn is_fold_done(fold: &EntryFold) -> bool
+    ensures { result ≡ is_done fold.now }
+{
+    match fold {
+        EntryFold::Done(_) => true,
+        EntryFold::Stopped { .. } => false,
     }
 }
 

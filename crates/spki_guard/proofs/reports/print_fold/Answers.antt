@@ -1,9 +1,0 @@
-use Rattle.spki_guard.specs.Inner.FoldLines.{value_of}
-use Rattle.sexpr_text.proofs.SinkLaws.{in_three}
-use Rattle.spki_guard.proofs.ReportLines.{fold_whole}
-use Rattle.spki_guard.proofs.reports.print_fold.Goals as goal
-
-pub returns-in-Done : goal.returns-in-Done
-returns-in-Done g c =
-    rw c.in-Done.is (in_three g.S.Sink.takes g.met.S.Sink.both _ c.print_entry.ensures c.print_five.ensures c.put_octet.ensures
-    (fold_whole c.args.entry (value_of c.in-Done.parts c.in-Done.five)))

@@ -1,0 +1,83 @@
+//! A sink that keeps at most so many octets.
+ghost use Rattle.std.specs.Prelude.{◌≡◌, ◌-◌, ◌^◌, ◌<◌, ◌≤◌, false, OnOk, IsErrOf};
+ghost use Rattle.sexpr_text.specs.Sinks.{count_of};
+ghost use Rattle.spki_guard.specs.Inner.Capped.{lender_of, kept_by, most_of, counter_of, has_failed, CappedTakes};
+ghost use Rattle.spki_guard.specs.Inner.CappedLaws.{capped_takes_nothing, capped_takes_both};
+
+use sexpr_text::{Counter, Sink};
+use spki_decision::GuardFault;
+
+/// Appends octets to a vector as long as they are at most so many, and counts them all.
+pub(crate) struct CappedSink<'v> {
+    octets: &'v mut Vec<u8>,
+    counter: Counter,
+    most: usize,
+    failed: bool,
+}
+
+impl<'v> CappedSink<'v> {
+    /// A sink that appends at most so many octets to this vector.
+    pub(crate) fn new(octets: &'v mut Vec<u8>, most: usize) -> CappedSink<'v>
+        ensures lender { lender_of result ≡ octets.entry.ghost_name }
+        ensures kept { kept_by result ≡ octets.old.items }
+        ensures count { count_of (counter_of result) ≡ 0 }
+        ensures most { most_of result ≡ most }
+        ensures failed { has_failed result ≡ false }
+    {
+        CappedSink {
+            octets,
+            counter: Counter::new(),
+            most,
+            failed: false,
+        }
+    }
+
+    /// Ends the sink.
+    ///
+    /// # Errors
+    ///
+    /// `TooLarge` if more octets were put: the vector lacks some. `Memory` if memory ran out.
+    pub(crate) fn end(self) -> Result<(), GuardFault>
+        ensures kept { self.exit.0.now.items ≡ kept_by self.entry }
+        ensures ok { OnOk result ((has_failed self.entry ≡ false)
+            × (count_of (counter_of self.entry) ≤ most_of self.entry) × (count_of (counter_of self.entry) < 2 ^ 64 - 1)) }
+        ensures large { IsErrOf result GuardFault.TooLarge
+            → (most_of self.entry < count_of (counter_of self.entry)) × (count_of (counter_of self.entry) < 2 ^ 64 - 1) }
+    {
+        let CappedSink {
+            octets: _,
+            counter,
+            most,
+            failed,
+        } = self;
+        let count = counter.count();
+        if failed || count == u64::MAX {
+            return Err(GuardFault::Memory);
+        }
+        if count > most as u64 {
+            return Err(GuardFault::TooLarge);
+        }
+        Ok(())
+    }
+}
+
+impl<'v> Sink for CappedSink<'v> {
+    ghost takes = { CappedTakes };
+
+    fn put(&mut self, octets: &[u8]) {
+        self.counter.put(octets);
+        if self.counter.count() <= self.most as u64
+            && self.octets.extend_from_slice(octets).is_err()
+        {
+            self.failed = true;
+        }
+    }
+
+    fn put_octet(&mut self, octet: u8) {
+        self.put(&[octet]);
+    }
+
+    ghost nothing = { capped_takes_nothing };
+
+    ghost both = { capped_takes_both };
+}
