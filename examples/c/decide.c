@@ -10,6 +10,7 @@
  */
 #include "verify.h"
 
+#include <err.h>
 #include <spki.h>
 #include <stdio.h>
 #include <string.h>
@@ -38,40 +39,31 @@ static bool is_granted(const spki_guard *guard, struct spki_text sequence, struc
     return granted;
 }
 
-/* The text of a file of at most MOST_OCTETS octets. A longer one is refused, and not cut off. */
-static bool read_file(const char *path, unsigned char *octets, struct spki_text *text)
+/* The text of a file of at most MOST_OCTETS octets. The program ends where it cannot be read, or is longer: it is not cut off. */
+static struct spki_text text_of(const char *path, unsigned char *octets)
 {
     FILE *file = fopen(path, "rb");
-    if (!file)
-        return false;
-    *text = (struct spki_text){octets, fread(octets, 1, MOST_OCTETS, file)};
-    bool is_whole = getc(file) == EOF && !ferror(file);
+    const struct spki_text text = {octets, file ? fread(octets, 1, MOST_OCTETS, file) : 0};
+    if (!file || getc(file) != EOF || ferror(file))
+        errx(3, "%s cannot be read, or is too long", path);
     fclose(file);
-    return is_whole;
+    return text;
 }
 
 int main(int count, char **given)
 {
     static unsigned char octets[3][MOST_OCTETS], line[256];
     struct spki_text texts[3], words[MOST_WORDS];
-    size_t word_count = count > FIRST_WORD ? (size_t)(count - FIRST_WORD) : 0;
-    if (word_count == 0 || word_count > MOST_WORDS) {
-        fprintf(stderr, "usage: decide ACL SEQUENCE KEY WORD ..\n");
-        return 2;
-    }
+    if (count <= FIRST_WORD || count > FIRST_WORD + MOST_WORDS)
+        errx(2, "usage: decide ACL SEQUENCE KEY WORD ..");
     for (int place = 0; place < 3; place++)
-        if (!read_file(given[place + 1], octets[place], &texts[place])) {
-            fprintf(stderr, "%s cannot be read, or is too long\n", given[place + 1]);
-            return 3;
-        }
-    for (size_t place = 0; place < word_count; place++)
-        words[place] = (struct spki_text){given[FIRST_WORD + place], strlen(given[FIRST_WORD + place])};
+        texts[place] = text_of(given[place + 1], octets[place]);
+    for (int place = FIRST_WORD; place < count; place++)
+        words[place - FIRST_WORD] = (struct spki_text){given[place], strlen(given[place])};
     spki_guard *guard;
-    if (spki_guard_open(texts[0].octets, texts[0].length, SPKI_STRICT, NULL, &guard, line, sizeof line, NULL) != SPKI_DONE) {
-        fprintf(stderr, "%s is no access list\n", given[1]);
-        return 2;
-    }
-    bool granted = is_granted(guard, texts[1], texts[2], words, word_count, time(NULL));
+    if (spki_guard_open(texts[0].octets, texts[0].length, SPKI_STRICT, NULL, &guard, line, sizeof line, NULL) != SPKI_DONE)
+        errx(2, "%s is no access list", given[1]);
+    bool granted = is_granted(guard, texts[1], texts[2], words, (size_t)(count - FIRST_WORD), time(NULL));
     puts(granted ? "granted" : "denied");
     spki_guard_close(guard);
     return !granted;
