@@ -4,7 +4,7 @@ use seplogic.Ra.Ura.{Ura}
 use mir.Val.{Val}
 use base.Fraction.{full_share}
 use base.Logic.{SProp, ent, sep, emp, id⊢}
-use base.Fml.{Lft, Share, GName, ftrue, fsep, flft, fbor, fobor, fauth}
+use base.Fml.{Lft, Share, GName, Fml, ftrue, fsep, flft, fbor, fobor, fauth}
 use base.Before.{before}
 use types.Logic.{Logic, sem}
 use types.Kit.{‵, raw, ◌⊛◌, later, ◌$◌, ◌∵◌, !, qed, move, drop, split, join, fjoin, fpack, use0, use1, use2, use3, await, updating, now, done}

@@ -1,27 +1,36 @@
 -- `count` reads a field.
-use Rattle.std.proofs.Common.{List, [], ◌∷◌, refl, sym}
+use seplogic.Ra.Ura.{Ura}
+use types.Logic.{Logic, sem}
+use base.Logic.{ent, sep}
+use Rattle.std.proofs.Common.{◌≡◌, ℕ, List, [], ◌∷◌, refl, sym, ap, ◌∙◌, Bool, true, false}
 use Rattle.std.proofs.raw_atomic.Walks.{proved}
-use mir.Syntax.{named}
+use Rattle.std.specs.Prelude.{◌↔◌, IsTrue}
+use lib.Dec.{T, lit<}
+use mir.Syntax.{named, ty_ptr, ptr_eq}
 use mir.Syntax.{w64}
 use mir.Val.{vint}
 use Rattle.std.proofs.Common.{◌<◌, ◌^◌}
-use mir.Val.{Val}
+use mir.Val.{Val, vbool, vnull, op2_val, has_ty, WT}
 use base.Fraction.{full_share}
-use base.Fml.{ftrue, flft}
-use types.Kit.{‵, ◌⊛◌, ◌$◌, ◌∵◌, !, qed, done, move, keep, drop, split, join, fsplit, fsplit3, fpick, fpack, fjoin, feq_i, rewrite, suffices}
-use types.Run.{enter, of_opd, load, stop, fld, returns}
-use types.ByLocal.{alloc_all, pass_all, free_all, look_at, through, sets}
+use base.Fml.{ftrue, flft, fex}
+use types.Kit.{‵, raw, ◌⊛◌, ◌$◌, ◌∵◌, !, qed, done, move, keep, drop, split, join, fsplit, fsplit3, fpick, fpack, fjoin, feq_i, rewrite, suffices, use1}
+use types.Run.{enter, of_opd, load, stop, fld, returns, bin, lit}
+use types.ByLocal.{alloc_all, pass_all, free_all, look_at, get, is, through, sets}
 use types.Part.{whole, sub, look_in}
 use contract.Running.{tables}
+use denote.Exit.{yes}
 use denote.Builtin.{usize}
 use denote.Laws.{Is, shows}
 use denote.Plain.{uint_Makes}
 use denote.Memory.{cell_at}
+use denote.RattleType.{RattleType}
+use denote.RawPtr.{Ptr, block_ptr, null_ptr, ptr_val, Testable, tests_null}
 use denote.Ref.{MutRef, mut_vals, mut_Tells}
 use denote.Signature.{plain}
 use denote.Steps.{owned, nothing, opens, closes, peeks}
 use denote.Triple.Walked.{Stays, walk_of, says, stay_ref, Goes-ref, ends_at}
 use Rattle.spki_c.specs.Texts.{IsCounted}
+use Rattle.spki_c.proofs.Counted.{pointer_typed}
 use Rattle.spki_c.specs.contracts.text.Text.{the_row as R}
 use Rattle.spki_c.specs.contracts.text.Text.count as f
 use Rattle.spki_c.proofs.text.Text.TheLaws.{lowers}

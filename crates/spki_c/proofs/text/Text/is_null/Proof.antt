@@ -1,19 +1,25 @@
 -- `is_null` compares the pointer with null, which what the struct owns allows.
-use Rattle.std.proofs.Common.{◌≡◌, ℕ, List, [], ◌∷◌, refl, sym, Bool, true, false}
+use seplogic.Ra.Ura.{Ura}
+use types.Logic.{Logic, sem}
+use base.Logic.{ent, sep}
+use Rattle.std.proofs.Common.{◌≡◌, ℕ, List, [], ◌∷◌, refl, sym, ap, ◌∙◌, Bool, true, false}
 use Rattle.std.proofs.raw_atomic.Walks.{proved}
 use Rattle.std.specs.Prelude.{◌↔◌, IsTrue}
-use mir.Syntax.{named, ptr_eq}
-use mir.Val.{Val, vbool, vnull, op2_val}
+use lib.Dec.{T, lit<}
+use mir.Syntax.{named, ty_ptr, ptr_eq}
+use mir.Val.{Val, vbool, vnull, op2_val, has_ty, WT}
 use base.Fraction.{full_share}
-use base.Fml.{ftrue, flft}
-use types.Kit.{‵, ◌⊛◌, ◌$◌, ◌∵◌, !, qed, done, move, keep, drop, split, join, fsplit, fsplit3, fpick, fpack, fjoin, feq_i, rewrite, suffices}
+use base.Fml.{ftrue, flft, fex}
+use types.Kit.{‵, raw, ◌⊛◌, ◌$◌, ◌∵◌, !, qed, done, move, keep, drop, split, join, fsplit, fsplit3, fpick, fpack, fjoin, feq_i, rewrite, suffices, use1}
 use types.Run.{enter, of_opd, load, stop, fld, returns, bin, lit}
 use types.ByLocal.{alloc_all, pass_all, free_all, look_at, get, is, through, sets}
 use types.Part.{whole, sub, look_in}
 use contract.Running.{tables}
+use denote.Exit.{yes}
 use denote.Laws.{shows}
 use denote.Memory.{cell_at}
-use denote.RawPtr.{Ptr, block_ptr, null_ptr, ptr_val, tests_null}
+use denote.RattleType.{RattleType}
+use denote.RawPtr.{Ptr, block_ptr, null_ptr, ptr_val, Testable, tests_null}
 use denote.Ref.{MutRef, mut_vals, mut_Tells}
 use denote.Signature.{plain}
 use denote.Steps.{nothing, opens, closes, peeks}

@@ -1,11 +1,11 @@
 -- `slice` reads through the pointer, for as long as the struct is borrowed.
-use Rattle.std.proofs.Common.{◌≡◌, ℕ, ◌<◌, ◌^◌, ◌*◌, List, [], ◌∷◌, length, refl, sym, ap, ◌∙◌, subst, arith, w64}
+use Rattle.std.proofs.Common.{◌≡◌, ◌≢◌, ℕ, ◌<◌, ◌^◌, ◌*◌, List, [], ◌∷◌, length, refl, sym, ap, ◌∙◌, subst, arith, w64}
 use Rattle.std.proofs.raw_atomic.Walks.{proved}
 use mir.Syntax.{named}
-use mir.Val.{Val}
+use mir.Val.{Val, vptr, vint}
 use base.Fraction.{full_share}
 use base.Logic.{ent}
-use base.Fml.{ftrue, flft}
+use base.Fml.{ftrue, flft, fex}
 use seplogic.Ra.Ura.{Ura}
 use types.Logic.{Logic, sem}
 use types.Kit.{‵, raw, ◌⊛◌, later, at_ret, ◌$◌, ◌∵◌, !, qed, done, move, keep, drop, use1, split, join, fsplit, fsplit3, fpick, fpack, fjoin, feq_i, flt_i, await, rewrite, suffices, group}
@@ -22,7 +22,7 @@ use denote.Memory.{cell_at}
 use denote.Opens.{hide}
 use denote.Plain.{uint_row_laws, uint_vals, uint_Tells}
 use denote.RattleType.{RattleType, RowLaws}
-use denote.RawPtr.{Ptr, InBlock, block_ptr, null_ptr, block_of, count_of, at_block}
+use denote.RawPtr.{Ptr, InBlock, block_ptr, null_ptr, block_of, count_of, at_block, Testable}
 use denote.Ref.{Bor, MutRef, mut_vals, mut_Tells}
 use denote.Signature.{plain}
 use denote.Slice.{slice_val}
