@@ -55,7 +55,8 @@ MOST = {"10,000 keys, no certificate": 1.5, "10,000 keys, three certificates": 1
         "three caveats, opened before": 0.05, "by the digests": 5.0, "Rust": 1.04, "Python, µs more": 12.0,
         "memory of an opened question by its octets": 70.0,
         "opening a question of 1 MiB, ms": 500.0, "a decision, ms": 100.0, "a decision, MiB": 16.0, "a decision by default, ms": 100.0,
-        "an explanation or a reduction, ms": 200.0, "an explanation or a reduction, MiB": 16.0, "waits of 1,000 decisions": 1.0}
+        "an explanation or a reduction, ms": 200.0, "an explanation or a reduction, MiB": 16.0, "a reduction of equal strings, ms": 10_000.0,
+        "waits of 1,000 decisions": 1.0}
 LEAST = {"threads": 3.5}
 # What the library's statuses say.
 ANSWERS = {1: "no", 2: "refused", 6: "done", 9: "yes"}
@@ -323,6 +324,18 @@ def widest(driver):
         yield f"an explanation or a reduction, {unit}", max(each[wish][place] for each in met for wish in ("explain", "reduce"))
 
 
+def equal_strings(driver):
+    """The milliseconds of the reduction that takes longest of all known, which is refused for its length. The two tags of its certificates have a
+    long string in common a thousand times. The octets over the limit of an answer are still read and counted, for each entry."""
+    keys = keys_of(2)
+    prefixes = group(string("*"), string("set"), *[group(string("*"), string("prefix"), string(""))] * 1_000)
+    one = group(string("*"), string("set"), string("a" + " " * 43_999))
+    links = [(certificate(keys[0], keys[1], prefixes), keys[0]), (certificate(keys[1], keys[2], one), keys[1])]
+    path = driver.question("equal", case([entry(keys[0])] * 60, links, asks=keys[2]))
+    _, took, *_ = driver.run("widest", "reduce", path)
+    yield "a reduction of equal strings, ms", took
+
+
 def in_transport_form(count):
     """A question that is decoded first."""
     return chained(count, lambda octets: braced(octets))
@@ -416,7 +429,8 @@ def main():
     library = os.path.abspath(sys.argv[1] if len(sys.argv) > 1 else LIBRARY)
     with tempfile.TemporaryDirectory() as room:
         driver = Driver(room, library)
-        met = [each for part in (by_instructions, through_python, opening_of_widest, by_default, widest, threads) for each in part(driver)]
+        parts = (by_instructions, through_python, opening_of_widest, by_default, widest, equal_strings, threads)
+        met = [each for part in parts for each in part(driver)]
     if not all([is_kept(*each) for each in met]):
         sys.exit(1)
 
