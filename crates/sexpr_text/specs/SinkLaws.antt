@@ -23,11 +23,13 @@ vector_takes_both a b c x y f g = record {
 pub nothing_counted : (c : Counter) → IsCounted c [] c
 nothing_counted c = record {
   grows = omega arith;
+  bound = omega arith;
   sum = λ _. omega arith;
 }
 
 pub both_counted : (a b c : Counter) (x y : List ℕ) → IsCounted a x b → IsCounted b y c → IsCounted a (x ++ y) c
 both_counted a b c x y f g = record {
   grows = omega (arith, f.grows, g.grows);
+  bound = omega (arith, length-append x y, f.bound, g.bound);
   sum = λ below. omega (arith, length-append x y, f.sum (omega (arith, g.grows, below)), g.sum below);
 }

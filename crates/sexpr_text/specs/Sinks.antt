@@ -27,7 +27,8 @@ pub record VectorTakes (old : VectorSink) (octets : List ℕ) (new : VectorSink)
 abbrev pub count_of : Counter → ℕ
 count_of c = c.count
 
--- the count grows, and below the greatest `u64` it is the sum
+-- the count grows, at most by the number of these octets, and below the greatest `u64` by this number
 pub record IsCounted (old : Counter) (octets : List ℕ) (new : Counter) : Type 0 where
   pub grows : count_of old ≤ count_of new
+  pub bound : count_of new ≤ count_of old + length octets
   pub sum : count_of new < 2 ^ 64 - 1 → count_of new ≡ count_of old + length octets

@@ -136,6 +136,9 @@ pub fn print_octets<S: Sink>(octets: &[u8], sink: &mut S)
     ensures printed { S.takes sink.old (printed_string octets.now) sink.new }
     ensures octets { IsBytes octets.now }
 {
+    if sink.is_full() {
+        return;
+    }
     if is_token_text(octets) {
         sink.put(octets);
     } else if all_printable(octets) {

@@ -1,6 +1,6 @@
 //! Where printed octets go: a vector, a count, or what a crate above writes to.
 
-ghost use Rattle.std.specs.Prelude.{◌≡◌, ℕ, List, [], ◌∷◌, ◌++◌, false, OnOk};
+ghost use Rattle.std.specs.Prelude.{◌≡◌, ℕ, List, [], ◌∷◌, ◌++◌, false, IsTrue, OnOk};
 ghost use Rattle.sexpr_text.specs.Sinks.{VectorTakes, IsCounted, lender_of, text_of, has_failed, count_of};
 ghost use Rattle.sexpr_text.specs.SinkLaws.{vector_takes_nothing, vector_takes_both, nothing_counted, both_counted};
 
@@ -19,6 +19,10 @@ pub trait Sink {
     /// Takes one octet.
     fn put_octet(&mut self, octet: u8)
         ensures { takes self.old (octet ∷ []) self.new };
+
+    /// Whether the sink stays as it is, whatever is put from now on. Then a printer need not find out how to print.
+    fn is_full(&self) -> bool
+        ensures { IsTrue result → (octets : List ℕ) → takes self.now octets self.now };
 
     // Nothing is taken between two calls, and what two calls take is one behind the other.
     ghost nothing: { (s : Self) → takes s [] s };
@@ -77,6 +81,10 @@ impl<'v> Sink for VectorSink<'v> {
         }
     }
 
+    fn is_full(&self) -> bool {
+        self.failed
+    }
+
     ghost nothing = { vector_takes_nothing };
 
     ghost both = { vector_takes_both };
@@ -113,6 +121,10 @@ impl Sink for Counter {
 
     fn put_octet(&mut self, _octet: u8) {
         self.count = self.count.saturating_add(1);
+    }
+
+    fn is_full(&self) -> bool {
+        self.count == u64::MAX
     }
 
     ghost nothing = { nothing_counted };

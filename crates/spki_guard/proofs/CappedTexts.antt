@@ -6,14 +6,11 @@ use Rattle.spki_guard.specs.Inner.Capped.{kept_by, counter_of, most_of, has_fail
 
 module _ (s t : CappedSink) (octets : List ℕ) (taken : CappedTakes s octets t) (empty : kept_by s ≡ []) (none : count_of (counter_of s) ≡ 0)
     (exact : count_of (counter_of t) < 2 ^ 64 - 1) where
-  counted : count_of (counter_of t) ≡ length octets
-  counted = let sum = taken.counted.sum exact in omega (arith, sum, none)
-
   pub all_kept : has_failed t ≡ false → count_of (counter_of t) ≤ most_of t → kept_by t ≡ octets
   all_kept well few = (taken.kept few well).1 ∙ ap (λ x. x ++ octets) empty
 
   pub few_kept : count_of (counter_of t) ≤ most_of t → length octets ≤ most_of s
-  few_kept few = omega (arith, counted, few, taken.same_most)
+  few_kept few = let sum = taken.sum few exact in omega (arith, sum, none, few, taken.same_most)
 
   pub too_many : most_of t < count_of (counter_of t) → most_of s < length octets
-  too_many many = omega (arith, counted, many, taken.same_most)
+  too_many many = omega (arith, many, none, taken.bound, taken.same_most)

@@ -7,7 +7,7 @@ ghost use Rattle.spki_guard.specs.Inner.CappedLaws.{capped_takes_nothing, capped
 use sexpr_text::{Counter, Sink};
 use spki_decision::GuardFault;
 
-/// Appends octets to a vector as long as they are at most so many, and counts them all.
+/// Appends octets to a vector, and counts them, as long as they are at most so many. With one more it is full.
 pub(crate) struct CappedSink<'v> {
     octets: &'v mut Vec<u8>,
     counter: Counter,
@@ -36,7 +36,8 @@ impl<'v> CappedSink<'v> {
     ///
     /// # Errors
     ///
-    /// `TooLarge` if more octets were put: the vector lacks some. `Memory` if memory ran out.
+    /// `TooLarge` if more octets were put: the vector lacks some. `Memory` if memory ran out, or the count is the greatest `u64`, which
+    /// is no count: no memory holds so many.
     pub(crate) fn end(self) -> Result<(), GuardFault>
         ensures kept { self.exit.0.now.items ≡ kept_by self.entry }
         ensures ok { OnOk result ((has_failed self.entry ≡ false)
@@ -75,6 +76,10 @@ impl<'v> Sink for CappedSink<'v> {
 
     fn put_octet(&mut self, octet: u8) {
         self.put(&[octet]);
+    }
+
+    fn is_full(&self) -> bool {
+        self.counter.count() > self.most as u64
     }
 
     ghost nothing = { capped_takes_nothing };

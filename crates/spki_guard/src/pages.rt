@@ -126,6 +126,10 @@ impl<'w, W: Write> Sink for PageSink<'w, W> {
         self.take_behind(&[octet]);
     }
 
+    fn is_full(&self) -> bool {
+        self.failed
+    }
+
     ghost nothing = { page_takes_nothing W.contents };
 
     ghost both = { page_takes_both W.contents };

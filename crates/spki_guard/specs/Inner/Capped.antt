@@ -1,8 +1,8 @@
 -- What a sink has taken that keeps at most so many octets.
-use Rattle.std.specs.Prelude.{◌≡◌, ℕ, ◌≤◌, List, ◌++◌, Bool, false}
+use Rattle.std.specs.Prelude.{◌≡◌, ℕ, ◌+◌, ◌-◌, ◌^◌, ◌<◌, ◌≤◌, List, ◌++◌, length, Bool, false}
 use Rattle.std.specs.Borrow.{GName}
 use Rattle.sexpr_text.specs.declared.sinks.Counter.{Counter}
-use Rattle.sexpr_text.specs.Sinks.{IsCounted, count_of}
+use Rattle.sexpr_text.specs.Sinks.{count_of}
 use Rattle.spki_guard.specs.declared.capped_sink.CappedSink.{CappedSink}
 
 -- ---- the parts of a sink
@@ -25,10 +25,13 @@ most_of s = s.most
 abbrev pub has_failed : CappedSink → Bool
 has_failed s = s.failed
 
--- all octets are counted, and as long as they are so many they are kept, unless memory ran out
+-- Octets are counted, and kept unless memory ran out, as long as they are so many. Of more octets, so many and one are counted at least.
 pub record CappedTakes (old : CappedSink) (octets : List ℕ) (new : CappedSink) : Type 0 where
   pub same_lender : lender_of new ≡ lender_of old
   pub same_most : most_of new ≡ most_of old
-  pub counted : IsCounted (counter_of old) octets (counter_of new)
+  pub grows : count_of (counter_of old) ≤ count_of (counter_of new)
+  pub bound : count_of (counter_of new) ≤ count_of (counter_of old) + length octets
+  pub sum : count_of (counter_of new) ≤ most_of new → count_of (counter_of new) < 2 ^ 64 - 1
+      → count_of (counter_of new) ≡ count_of (counter_of old) + length octets
   pub kept : count_of (counter_of new) ≤ most_of new → has_failed new ≡ false
       → (has_failed old ≡ false) × (kept_by new ≡ kept_by old ++ octets)

@@ -1,14 +1,15 @@
 -- What a sink takes that keeps at most so many octets, one call after another.
-use Rattle.std.proofs.Common.{ℕ, List, [], ◌++◌, refl, sym, ap, ◌∙◌, append_assoc, append-nil, arith}
-use Rattle.sexpr_text.specs.SinkLaws.{nothing_counted, both_counted}
+use Rattle.std.proofs.Common.{ℕ, List, [], ◌++◌, refl, sym, ap, ◌∙◌, append_assoc, append-nil, length-append, arith}
 use Rattle.spki_guard.specs.declared.capped_sink.CappedSink.{CappedSink}
-use Rattle.spki_guard.specs.Inner.Capped.{kept_by, counter_of, CappedTakes}
+use Rattle.spki_guard.specs.Inner.Capped.{kept_by, CappedTakes}
 
 pub capped_takes_nothing : (s : CappedSink) → CappedTakes s [] s
 capped_takes_nothing s = record {
   same_lender = refl;
   same_most = refl;
-  counted = nothing_counted (counter_of s);
+  grows = omega arith;
+  bound = omega arith;
+  sum = λ few exact. omega arith;
   kept = λ few well. (well, sym (append-nil (kept_by s)));
 }
 
@@ -16,9 +17,13 @@ pub capped_takes_both : (a b c : CappedSink) (x y : List ℕ) → CappedTakes a 
 capped_takes_both a b c x y f g = record {
   same_lender = g.same_lender ∙ f.same_lender;
   same_most = g.same_most ∙ f.same_most;
-  counted = both_counted (counter_of a) (counter_of b) (counter_of c) x y f.counted g.counted;
+  grows = omega (arith, f.grows, g.grows);
+  bound = omega (arith, length-append x y, f.bound, g.bound);
+  sum = λ few exact.
+      let first = f.sum (omega (arith, g.grows, g.same_most, few)) (omega (arith, g.grows, exact)) in
+      omega (arith, length-append x y, first, g.sum few exact);
   kept = λ few well.
       let second = g.kept few well in
-      let first = f.kept (omega (arith, g.counted.grows, g.same_most, few)) second.0 in
+      let first = f.kept (omega (arith, g.grows, g.same_most, few)) second.0 in
       (first.0, second.1 ∙ ap (λ s. s ++ y) first.1 ∙ append_assoc (kept_by a) x y);
 }
