@@ -41,14 +41,14 @@ impl Parts {
         Question {
             sequence: self.sequence.octets(),
             key: self.key.octets(),
-            request: wanted_of(is_worded, self.request.octets(), words),
-            moment: instant_of(self.moment.octets(), seconds),
+            request: request_of(is_worded, self.request.octets(), words),
+            moment: moment_of(self.moment.octets(), seconds),
         }
     }
 }
 
 /// The request: its strings, or its text.
-fn wanted_of<'a>(is_worded: bool, text: &'a [u8], words: &'a [&'a [u8]]) -> RequestInput<'a>
+fn request_of<'a>(is_worded: bool, text: &'a [u8], words: &'a [&'a [u8]]) -> RequestInput<'a>
     ensures { IsRequestBy is_worded text.entry.now (map (λ w. w.now) words.entry.now) result }
 {
     if is_worded {
@@ -59,7 +59,7 @@ fn wanted_of<'a>(is_worded: bool, text: &'a [u8], words: &'a [&'a [u8]]) -> Requ
 }
 
 /// The moment: the first of the seconds, or its text.
-fn instant_of<'a>(text: &'a [u8], seconds: &[i64]) -> Moment<'a>
+fn moment_of<'a>(text: &'a [u8], seconds: &[i64]) -> Moment<'a>
     ensures { IsMomentBy text.entry.now seconds.now result }
 {
     match seconds {
