@@ -32,7 +32,7 @@ use Rattle.spki_decision.specs.Answered.{IsDecided, IsExplained, IsReduced, AreS
 use Rattle.spki_decision.proofs.OneDecision.{decided_one, explained_one, explained_small, reduced_one, reduced_small, own_of_text}
 use Rattle.spki_decision.proofs.Unrefused.{not_both}
 use Rattle.spki_words.specs.declared.commands.Command.{Command}
-use Rattle.spki_words.specs.declared.commands.Command.TheVariants.{Canonical, Advanced, Transport, Intersect, Reduce, Check, Explain}
+use Rattle.spki_words.specs.declared.commands.Command.TheVariants.{Intersect, Reduce, Check, Explain}
 use Rattle.spki_guard.specs.declared.answers.Refusal.{Refusal}
 use Rattle.spki_guard.specs.declared.answers.Refusal.TheVariants as refusals
 use Rattle.spki_guard.specs.declared.answers.Verdict.{Verdict}
@@ -82,7 +82,6 @@ meets_one text x y output line m n =
     (m.verdict_is ∙ sym n.verdict_is, m.line ∙ ap (λ (t : Tag). adv (tag_value t) ++ 10 ∷ []) tag ∙ sym n.line)
 
 met_or_not : (v : Value) (t : Tag) (fault : IntersectFault) → Intersects v t → ValueNotMet v fault → ⊥
-met_or_not v t (intersect.Form fault) m n = n
 met_or_not v t intersect.Shape m n = n m.first m.second m.written
 met_or_not v t (intersect.First fault) m n =
     let both = operands m.first m.second n.first n.second (sym m.written ∙ n.written) in
@@ -100,11 +99,10 @@ met_or_not v t intersect.TooLarge m n =
     let small : nodes m.a * nodes m.b ≤ 1000000 = m.within_limit in
     let large : 1000000 < nodes n.a * nodes n.b = n.large in
     absurd (omega (arith, product, small, large))
-met_or_not v t intersect.Memory m n = n
+met_or_not v t fault m n = n
 
 -- two tags are too large together, or something else is wrong
 pub large_one : (v : Value) (fault : IntersectFault) → AreTooLarge v → ValueNotMet v fault → fault ≡ intersect.TooLarge
-large_one v (intersect.Form fault) m n = absurd n
 large_one v intersect.Shape m n = absurd (n m.first m.second m.written)
 large_one v (intersect.First fault) m n =
     let both = operands m.first m.second n.first n.second (sym m.written ∙ n.written) in
@@ -115,7 +113,7 @@ large_one v (intersect.Second fault) m n =
     let r = m.second_read in
     absurd (n.found (n.none r.w r.written r.few (r.spelled ∙ both.1)))
 large_one v intersect.TooLarge m n = refl
-large_one v intersect.Memory m n = absurd n
+large_one v fault m n = absurd n
 
 text_large : (text : List ℕ) (fault : IntersectFault) → TextNotMet text intersect.TooLarge → TextNotMet text fault → fault ≡ intersect.TooLarge
 text_large text fault (inl m) n = absurd (let e = m.is in cc)
@@ -152,10 +150,9 @@ pub explanation_line : (r s : Explanation) (x y : Verdict) (output line : List �
     → IsExplanationReport s y line → Same x y output line
 explanation_line (explanation.Evidence item stop) (explanation.Evidence other last) x y output line same a b =
     (a.0 ∙ sym b.0, a.1 ∙ (λ i. item_line (same.0 i) (same.1 i)) ∙ sym b.1)
-explanation_line (explanation.Evidence item stop) (explanation.Entries reasons) x y output line same a b = absurd same
-explanation_line (explanation.Entries reasons) (explanation.Evidence item stop) x y output line same a b = absurd same
 explanation_line (explanation.Entries reasons) (explanation.Entries others) x y output line same a b =
     reasons_line others.items x y output line (subst (λ (rs : List Reason). ReportsReasons rs x output) same a) b
+explanation_line r s x y output line same a b = absurd same
 
 explains_one : (text : List ℕ) (x y : Verdict) (output line : List ℕ) → Explains text x output → Explains text y line → Same x y output line
 explains_one text x y output line m n =
@@ -186,10 +183,9 @@ pub reduction_line : (r s : Reduction) (x y : Verdict) (output line : List ℕ) 
     → IsReductionReport s y line → Same x y output line
 reduction_line (reduction.Evidence item stop) (reduction.Evidence other last) x y output line same a b =
     (a.0 ∙ sym b.0, a.1 ∙ (λ i. item_line (same.0 i) (same.1 i)) ∙ sym b.1)
-reduction_line (reduction.Evidence item stop) (reduction.Entries folds) x y output line same a b = absurd same
-reduction_line (reduction.Entries folds) (reduction.Evidence item stop) x y output line same a b = absurd same
 reduction_line (reduction.Entries folds) (reduction.Entries others) x y output line same a b =
     folds_line others.items x y output line (subst (λ (fs : List EntryFold). ReportsFolds fs x output) same a) b
+reduction_line r s x y output line same a b = absurd same
 
 reduced_lines : (text : List ℕ) (c d : Case) (r s : Reduction) (x y : Verdict) (output line : List ℕ) → IsCaseText text c → IsCaseText text d
     → IsReduced c (accepted_by c) (Ok r) → IsReduced d (accepted_by d) (Ok s) → IsReductionReport r x output → IsReductionReport s y line
@@ -207,13 +203,11 @@ reduces_one text x y output line m n =
 
 value_lines : (command : Command) (v : Value) (x y : Verdict) (output line : List ℕ) → AnswersValue command v x output
     → AnswersValue command v y line → Same x y output line
-value_lines Canonical v x y output line a b = (a.0 ∙ sym b.0, a.1 ∙ sym b.1)
-value_lines Advanced v x y output line a b = (a.0 ∙ sym b.0, a.1 ∙ sym b.1)
-value_lines Transport v x y output line a b = (a.0 ∙ sym b.0, a.1 ∙ sym b.1)
 value_lines Intersect v x y output line a b = meets_one (canon v) x y output line a b
 value_lines Reduce v x y output line a b = reduces_one (canon v) x y output line a b
 value_lines Check v x y output line a b = decides_one (canon v) x y output line a b
 value_lines Explain v x y output line a b = explains_one (canon v) x y output line a b
+value_lines command v x y output line a b = (a.0 ∙ sym b.0, a.1 ∙ sym b.1)
 
 pub read_one : (command : Command) (text : List ℕ) (x y : Verdict) (output line : List ℕ) → AnswersRead command text x output
     → AnswersRead command text y line → (x ≡ y) × (output ≡ line)
@@ -226,20 +220,13 @@ read_one command text x y output line m n =
 -- the case of an answer to a command on cases
 case_of : (command : Command) (v : Value) (x : Verdict) (output : List ℕ) → IsOnCase command → AnswersValue command v x output
     → (c : Case) × IsCaseText (canon v) c
-case_of Canonical v x output on a = absurd on
-case_of Advanced v x output on a = absurd on
-case_of Transport v x output on a = absurd on
-case_of Intersect v x output on a = absurd on
 case_of Reduce v x output on a = (a.case_read, a.text_is)
 case_of Check v x output on a = (a.case_read, a.text_is)
 case_of Explain v x output on a = (a.case_read, a.text_is)
+case_of command v x output on a = absurd on
 
 large_or_not : (command : Command) (v : Value) (x : Verdict) (output : List ℕ) (d : Case) → AnswersValue command v x output
     → IsCaseText (canon v) d → HasTooLarge command d (accepted_by d) → ⊥
-large_or_not Canonical v x output d a read large = large
-large_or_not Advanced v x output d a read large = large
-large_or_not Transport v x output d a read large = large
-large_or_not Intersect v x output d a read large = large
 large_or_not Reduce v x output d a read large =
     reduced_small a.case_read (accepted_by a.case_read) a.reduction a.reduction_is
     (subst (λ (c : Case). HasTooLarge Reduce c (accepted_by c)) (text-one (canon v) d a.case_read read a.text_is) large)
@@ -249,18 +236,18 @@ large_or_not Check v x output d a read large =
 large_or_not Explain v x output d a read large =
     explained_small a.case_read (accepted_by a.case_read) a.explanation a.explanation_is
     (subst (λ (c : Case). HasTooLarge Explain c (accepted_by c)) (text-one (canon v) d a.case_read read a.text_is) large)
+large_or_not command v x output d a read large = large
 
 value_answered : (command : Command) (v : Value) (x : Verdict) (output : List ℕ) (refusal : Refusal) → AnswersValue command v x output
     → RefusesValue command v refusal → refusal ≡ refusals.Memory
-value_answered command v x output (refusals.Form fault) a r = absurd r
 value_answered command v x output (refusals.Intersect fault) a r =
     let met = subst (λ (k : Command). AnswersValue k v x output) r.0 a in absurd (text_met (canon v) met.tag fault met.met r.1)
 value_answered command v x output (refusals.Case fault) a r =
     let c = case_of command v x output r.0 a in absurd (case_unrefused (canon v) c.0 fault c.1 r.1)
 value_answered command v x output (refusals.Decision fault) a r =
     absurd (large_or_not command v x output r.case_read a r.text_is r.large)
-value_answered command v x output (refusals.Rows fault) a r = absurd r
 value_answered command v x output refusals.Memory a r = refl
+value_answered command v x output refusal a r = absurd r
 
 by_value : (command : Command) (text : List ℕ) (x : Verdict) (output : List ℕ) (refusal : Refusal) → AnswersRead command text x output
     → (v : Value) → IsTextWithin text v → RefusesValue command v refusal → refusal ≡ refusals.Memory
@@ -271,11 +258,9 @@ by_value command text x output refusal a v read r =
 pub answered : (command : Command) (text : List ℕ) (x : Verdict) (output : List ℕ) (refusal : Refusal) → AnswersRead command text x output
     → RefusesAnswer command text refusal → refusal ≡ refusals.Memory
 answered command text x output (refusals.Form fault) a r = absurd (r.none a.value a.read)
-answered command text x output (refusals.Intersect fault) a r = by_value command text x output (refusals.Intersect fault) a r.value r.read r.refused
-answered command text x output (refusals.Case fault) a r = by_value command text x output (refusals.Case fault) a r.value r.read r.refused
-answered command text x output (refusals.Decision fault) a r = by_value command text x output (refusals.Decision fault) a r.value r.read r.refused
 answered command text x output (refusals.Rows fault) a r = absurd r
 answered command text x output refusals.Memory a r = refl
+answered command text x output refusal a r = by_value command text x output refusal a r.value r.read r.refused
 
 -- ---- refusals as too large
 
@@ -288,21 +273,19 @@ no_case command is on = subst IsOnCase is on
 -- the value of a refusal that is said of one
 large_value : (command : Command) (v : Value) (fault : GuardFault) (refusal : Refusal) → RefusesValue command v (refusals.Decision fault)
     → RefusesValue command v refusal → refusal ≢ refusals.Memory → refusal ≡ refusals.Decision TooLarge
-large_value command v fault (refusals.Form other) a r found = absurd r
 large_value command v fault (refusals.Intersect other) a r found = absurd (none_large command a.case_read r.0 a.large)
 large_value command v fault (refusals.Case other) a r found = absurd (case_unrefused (canon v) a.case_read other a.text_is r.1)
 large_value command v fault (refusals.Decision other) a r found = ap refusals.Decision r.named
-large_value command v fault (refusals.Rows other) a r found = absurd r
 large_value command v fault refusals.Memory a r found = absurd (found refl)
+large_value command v fault refusal a r found = absurd r
 
 product_value : (command : Command) (v : Value) (refusal : Refusal) → RefusesValue command v (refusals.Intersect intersect.TooLarge)
     → RefusesValue command v refusal → refusal ≢ refusals.Memory → refusal ≡ refusals.Intersect intersect.TooLarge
-product_value command v (refusals.Form other) a r found = absurd r
 product_value command v (refusals.Intersect other) a r found = ap refusals.Intersect (text_large (canon v) other a.1 r.1)
 product_value command v (refusals.Case other) a r found = absurd (no_case command a.0 r.0)
 product_value command v (refusals.Decision other) a r found = absurd (none_large command r.case_read a.0 r.large)
-product_value command v (refusals.Rows other) a r found = absurd r
 product_value command v refusals.Memory a r found = absurd (found refl)
+product_value command v refusal a r found = absurd r
 
 module _ (command : Command) (text : List ℕ) (Said : Value → Refusal → Type 0) (one : Refusal)
     (large : (v : Value) (refusal : Refusal) → Said v one → RefusesValue command v refusal → refusal ≢ refusals.Memory → refusal ≡ one) where
@@ -310,14 +293,9 @@ module _ (command : Command) (text : List ℕ) (Said : Value → Refusal → Typ
   only : (v : Value) → IsTextWithin text v → Said v one → (refusal : Refusal) → RefusesAnswer command text refusal
       → refusal ≢ refusals.Memory → refusal ≡ one
   only v read a (refusals.Form fault) r found = absurd (r.none v read)
-  only v read a (refusals.Intersect fault) r found =
-      large r.value (refusals.Intersect fault) (subst (λ (w : Value). Said w one) (read_value text v r.value read r.read) a) r.refused found
-  only v read a (refusals.Case fault) r found =
-      large r.value (refusals.Case fault) (subst (λ (w : Value). Said w one) (read_value text v r.value read r.read) a) r.refused found
-  only v read a (refusals.Decision fault) r found =
-      large r.value (refusals.Decision fault) (subst (λ (w : Value). Said w one) (read_value text v r.value read r.read) a) r.refused found
   only v read a (refusals.Rows fault) r found = absurd r
   only v read a refusals.Memory r found = absurd (found refl)
+  only v read a refusal r found = large r.value refusal (subst (λ (w : Value). Said w one) (read_value text v r.value read r.read) a) r.refused found
 
 pub large_only : (command : Command) (text : List ℕ) (refusal : Refusal) → RefusesAnswer command text (refusals.Decision TooLarge)
     → RefusesAnswer command text refusal → refusal ≢ refusals.Memory → refusal ≡ refusals.Decision TooLarge

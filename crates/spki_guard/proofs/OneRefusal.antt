@@ -20,7 +20,7 @@ use Rattle.spki_case.specs.declared.cases.CaseFault.TheVariants as case_faults
 use Rattle.spki_case.proofs.OneFault.{one-fault}
 use Rattle.spki_case.proofs.Unrefused.{one_text, well_formed, case_unrefused}
 use Rattle.spki_words.specs.declared.commands.Command.{Command}
-use Rattle.spki_words.specs.declared.commands.Command.TheVariants.{Canonical, Advanced, Transport, Intersect, Reduce, Check, Explain}
+use Rattle.spki_words.specs.declared.commands.Command.TheVariants.{Intersect, Reduce, Check, Explain}
 use Rattle.spki_guard.specs.declared.answers.Refusal.{Refusal}
 use Rattle.spki_guard.specs.declared.answers.Refusal.TheVariants as refusals
 use Rattle.spki_service.specs.Form.{RefusesForm}
@@ -34,11 +34,8 @@ use Rattle.spki_guard.proofs.OneLine.{large_one, operands, read_value}
 
 too_long_or : (fault : FormFault) → fault ≢ Memory → (fault ≡ TooLong) ⊎ IsOfForm fault
 too_long_or TooLong found = inl refl
-too_long_or TooDeep found = inr tt
-too_long_or Short found = inr tt
-too_long_or (Bad at) found = inr tt
-too_long_or (Trailing at) found = inr tt
 too_long_or Memory found = absurd (found refl)
+too_long_or fault found = inr tt
 
 pub form_one : (text : List ℕ) (e f : FormFault) → RefusesForm text e → RefusesForm text f → e ≡ f
 form_one text e f a b = by (too_long_or e a.found) (too_long_or f b.found)
@@ -88,13 +85,10 @@ module _ (v : Value) where
   not_met_one : (fault other : IntersectFault) → ValueNotMet v fault → ValueNotMet v other → fault ≡ other
   not_met_one (intersect.Form e) other m n = absurd m
   not_met_one intersect.Memory other m n = absurd m
-  not_met_one intersect.Shape (intersect.Form f) m n = absurd n
   not_met_one intersect.Shape intersect.Shape m n = refl
   not_met_one intersect.Shape (intersect.First f) m n = absurd (m n.first n.second n.written)
   not_met_one intersect.Shape (intersect.Second f) m n = absurd (m n.first n.second n.written)
   not_met_one intersect.Shape intersect.TooLarge m n = absurd (m n.first n.second n.written)
-  not_met_one intersect.Shape intersect.Memory m n = absurd n
-  not_met_one (intersect.First e) (intersect.Form f) m n = absurd n
   not_met_one (intersect.First e) intersect.Shape m n = absurd (n m.first m.second m.written)
   not_met_one (intersect.First e) (intersect.First f) m n =
       let both = operands m.first m.second n.first n.second (sym m.written ∙ n.written) in
@@ -107,8 +101,6 @@ module _ (v : Value) where
       let both = operands m.first m.second n.first n.second (sym m.written ∙ n.written) in
       let r = n.first_read in
       absurd (m.found (m.none r.w r.written r.few (r.spelled ∙ sym both.0)))
-  not_met_one (intersect.First e) intersect.Memory m n = absurd n
-  not_met_one (intersect.Second e) (intersect.Form f) m n = absurd n
   not_met_one (intersect.Second e) intersect.Shape m n = absurd (n m.first m.second m.written)
   not_met_one (intersect.Second e) (intersect.First f) m n =
       let both = operands m.first m.second n.first n.second (sym m.written ∙ n.written) in
@@ -121,8 +113,8 @@ module _ (v : Value) where
       let both = operands m.first m.second n.first n.second (sym m.written ∙ n.written) in
       let r = n.second_read in
       absurd (m.found (m.none r.w r.written r.few (r.spelled ∙ sym both.1)))
-  not_met_one (intersect.Second e) intersect.Memory m n = absurd n
   not_met_one intersect.TooLarge other m n = sym (large_one v other m n)
+  not_met_one fault other m n = absurd n
 
 text_not_met_one : (v : Value) (fault other : IntersectFault) → IsShallow v → TextNotMet (canon v) fault
     → TextNotMet (canon v) other → fault ≡ other
@@ -140,13 +132,10 @@ text_not_met_one v fault other h (inr m) (inr n) =
 
 -- only a command on a case is refused for a case
 on_case : (command : Command) (c : Case) → HasTooLarge command c (accepted_by c) → IsOnCase command
-on_case Canonical c large = large
-on_case Advanced c large = large
-on_case Transport c large = large
-on_case Intersect c large = large
 on_case Reduce c large = tt
 on_case Check c large = tt
 on_case Explain c large = tt
+on_case command c large = large
 
 -- an intersection is on no case
 off_case : (command : Command) → command ≡ Intersect → IsOnCase command → ⊥
@@ -174,24 +163,19 @@ module _ (command : Command) (v : Value) (h : IsShallow v) where
   value_one (refusals.Form e) other r s found known = absurd r
   value_one (refusals.Rows e) other r s found known = absurd r
   value_one refusals.Memory other r s found known = absurd (found refl)
-  value_one (refusals.Intersect e) (refusals.Form f) r s found known = absurd s
   value_one (refusals.Intersect e) (refusals.Intersect f) r s found known = ap refusals.Intersect (text_not_met_one v e f h r.1 s.1)
   value_one (refusals.Intersect e) (refusals.Case f) r s found known = absurd (off_case command r.0 s.0)
   value_one (refusals.Intersect e) (refusals.Decision f) r s found known = absurd (off_case command r.0 (on_case command s.case_read s.large))
-  value_one (refusals.Intersect e) (refusals.Rows f) r s found known = absurd s
   value_one (refusals.Intersect e) refusals.Memory r s found known = absurd (known refl)
-  value_one (refusals.Case e) (refusals.Form f) r s found known = absurd s
   value_one (refusals.Case e) (refusals.Intersect f) r s found known = absurd (off_case command s.0 r.0)
   value_one (refusals.Case e) (refusals.Case f) r s found known = ap refusals.Case (text_case_one v e f h r.1 s.1)
   value_one (refusals.Case e) (refusals.Decision f) r s found known = absurd (case_unrefused (canon v) s.case_read e s.text_is r.1)
-  value_one (refusals.Case e) (refusals.Rows f) r s found known = absurd s
   value_one (refusals.Case e) refusals.Memory r s found known = absurd (known refl)
-  value_one (refusals.Decision e) (refusals.Form f) r s found known = absurd s
   value_one (refusals.Decision e) (refusals.Intersect f) r s found known = absurd (off_case command s.0 (on_case command r.case_read r.large))
   value_one (refusals.Decision e) (refusals.Case f) r s found known = absurd (case_unrefused (canon v) r.case_read f r.text_is s.1)
   value_one (refusals.Decision e) (refusals.Decision f) r s found known = ap refusals.Decision (r.named ∙ sym s.named)
-  value_one (refusals.Decision e) (refusals.Rows f) r s found known = absurd s
   value_one (refusals.Decision e) refusals.Memory r s found known = absurd (known refl)
+  value_one refusal other r s found known = absurd s
 
 -- of what a refusal is said: the form of the text, or a value
 data IsSaid (command : Command) (text : List ℕ) (refusal : Refusal) : Type 0 where
@@ -201,11 +185,9 @@ data IsSaid (command : Command) (text : List ℕ) (refusal : Refusal) : Type 0 w
 said : (command : Command) (text : List ℕ) (refusal : Refusal) → RefusesAnswer command text refusal
     → refusal ≢ refusals.Memory → IsSaid command text refusal
 said command text (refusals.Form fault) r found = of_form fault refl r
-said command text (refusals.Intersect fault) r found = of_value r
-said command text (refusals.Case fault) r found = of_value r
-said command text (refusals.Decision fault) r found = of_value r
 said command text (refusals.Rows fault) r found = absurd r
 said command text refusals.Memory r found = absurd (found refl)
+said command text refusal r found = of_value r
 
 pub refusal_one : (command : Command) (text : List ℕ) (refusal other : Refusal)
     → RefusesAnswer command text refusal → RefusesAnswer command text other

@@ -66,15 +66,13 @@ reported_as folds lines output verdict some h e f = rw (e, f) (chains_reported f
 
 are_lines : (n : ℕ) (folds : List EntryFold) (lines : List FoldLine) → AllZip IsLineOfFold folds lines → AreFoldLines n folds (fold_lines n lines)
 are_lines n [] [] h = refl
-are_lines n [] (l ∷ ls) h = elim h [ ]
-are_lines n (f ∷ fs) [] h = elim h [ ]
 are_lines n (f ∷ fs) (l ∷ ls) h = (fold_line n l, fold_lines (suc n) ls, h.0.line n, are_lines (suc n) fs ls h.1, refl)
+are_lines n folds lines h = elim h [ ]
 
 same_done : (folds : List EntryFold) (lines : List FoldLine) → AllZip IsLineOfFold folds lines → some_done_line lines ≡ some_done folds
 same_done [] [] h = refl
-same_done [] (l ∷ ls) h = elim h [ ]
-same_done (f ∷ fs) [] h = elim h [ ]
 same_done (f ∷ fs) (l ∷ ls) h = rw (h.0.done, same_done fs ls h.1) refl
+same_done folds lines h = elim h [ ]
 
 pub folds_reported : (folds : List EntryFold) (lines : List FoldLine) → ¬ (folds ≡ []) → AllZip IsLineOfFold folds lines
     → ReportsFolds folds (verdict_of (some_done_line lines)) (fold_lines 1 lines)
@@ -85,9 +83,8 @@ folds_reported (f ∷ fs) (l ∷ ls) some h = (ap verdict_of (same_done (f ∷ f
 zip_more : (folds : List EntryFold) (lines : List FoldLine) (fold : EntryFold) (one : FoldLine) → AllZip IsLineOfFold folds lines
     → IsLineOfFold fold one → AllZip IsLineOfFold (folds ++ fold ∷ []) (lines ++ one ∷ [])
 zip_more [] [] fold one h here = (here, tt)
-zip_more [] (l ∷ ls) fold one h here = elim h [ ]
-zip_more (f ∷ fs) [] fold one h here = elim h [ ]
 zip_more (f ∷ fs) (l ∷ ls) fold one h here = (h.0, zip_more fs ls fold one h.1 here)
+zip_more folds lines fold one h here = elim h [ ]
 
 pub line_pushed : (folds : List EntryFold) (lines new : List FoldLine) (fold : EntryFold) (one : FoldLine) → AllZip IsLineOfFold folds lines
     → IsLineOfFold fold one → new ≡ lines ++ one ∷ [] → AllZip IsLineOfFold (folds ++ fold ∷ []) new

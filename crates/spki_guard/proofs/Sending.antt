@@ -16,24 +16,17 @@ use Rattle.spki_guard.proofs.EndedReplies.{ended_unless_refused}
 -- the status of an answer says its verdict
 status_one : (a b : Verdict) → answer_status a ≡ answer_status b → a ≡ b
 status_one Done Done e = refl
-status_one Done No e = cc
-status_one Done Refused e = cc
-status_one No Done e = cc
 status_one No No e = refl
-status_one No Refused e = cc
-status_one Refused Done e = cc
-status_one Refused No e = cc
 status_one Refused Refused e = refl
+status_one a b e = cc
 
 no_write_fault : (v : Verdict) → answer_status v ≡ WriteFault → ⊥
 no_write_fault Done e = cc
-no_write_fault No e = cc
-no_write_fault Refused e = cc
+no_write_fault v e = cc
 
 no_read_fault : (v : Verdict) → answer_status v ≡ ReadFault → ⊥
 no_read_fault Done e = cc
-no_read_fault No e = cc
-no_read_fault Refused e = cc
+no_read_fault v e = cc
 
 module _ {W : Type 0} (contents : W → Option (List ℕ)) where
   -- what is said of what is sent may be weaker

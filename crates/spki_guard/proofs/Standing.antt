@@ -44,11 +44,9 @@ answered_by command text v (Err refusal) t h = tt
 refused_by : (command : Command) (text : List ℕ) (v : Value) (refusal : Refusal) → IsTextWithin text v
     → RefusesValue command v refusal → RefusesAnswer command text refusal
 refused_by command text v (refusals.Form fault) t h = absurd h
-refused_by command text v (refusals.Intersect fault) t h = record { value = v; read = t; refused = h }
-refused_by command text v (refusals.Case fault) t h = record { value = v; read = t; refused = h }
-refused_by command text v (refusals.Decision fault) t h = record { value = v; read = t; refused = h }
 refused_by command text v (refusals.Rows fault) t h = absurd h
 refused_by command text v refusals.Memory t h = tt
+refused_by command text v refusal t h = record { value = v; read = t; refused = h }
 
 err_by : (command : Command) (text : List ℕ) (v : Value) (r : Result Reply Refusal) → IsTextWithin text v
     → IfErr r (λ refusal. RefusesValue command v refusal) → IfErr r (λ refusal. RefusesAnswer command text refusal)
@@ -114,12 +112,10 @@ apart_answered text rows c (Err refusal) t h = tt
 
 apart_refusal : (text rows : List ℕ) (c : Case) (refusal : Refusal) → IsCaseText text c → RefusesBy c rows refusal
     → RefusesApart text rows refusal
-apart_refusal text rows c (refusals.Form fault) t h = absurd h
-apart_refusal text rows c (refusals.Intersect fault) t h = absurd h
-apart_refusal text rows c (refusals.Case fault) t h = absurd h
 apart_refusal text rows c (refusals.Decision fault) t h = record { case_read = c; text_is = reads_case text c t; is = h }
 apart_refusal text rows c (refusals.Rows fault) t h = record { case_read = c; text_is = reads_case text c t; is = h }
 apart_refusal text rows c refusals.Memory t h = tt
+apart_refusal text rows c refusal t h = absurd h
 
 pub apart_refused : (text rows : List ℕ) (c : Case) (r : Result Answer Refusal) → IsCaseText text c
     → IfErr r (λ refusal. RefusesBy c rows refusal) → IfErr r (λ refusal. RefusesApart text rows refusal)

@@ -15,12 +15,7 @@ each_command P all Explain = all 6 Canonical (omega arith)
 
 finds_itself : (c : Command) → find (λ d. bytes_eq (word_of d) (word_of c)) commands ≡ Some c
 finds_itself Canonical = refl
-finds_itself Advanced = refl
-finds_itself Transport = refl
-finds_itself Intersect = refl
-finds_itself Reduce = refl
-finds_itself Check = refl
-finds_itself Explain = refl
+finds_itself c = refl
 
 pub same_command : (a b : Command) → Some (word_of a) ≡ Some (word_of b) → a ≡ b
 same_command a b e =

@@ -16,19 +16,9 @@ simple_and_free = refl
 pub word_taken : (program : Text) (c : Command) → takes spki (program ∷ word_of c ∷ []) ≡ true
 unfolding clap_on_literals
 word_taken program Canonical = refl
-word_taken program Advanced = refl
-word_taken program Transport = refl
-word_taken program Intersect = refl
-word_taken program Reduce = refl
-word_taken program Check = refl
-word_taken program Explain = refl
+word_taken program c = refl
 
 pub word_read : (program : Text) (c : Command) → subcommand_in (program ∷ word_of c ∷ []) ≡ Some (word_of c)
 unfolding clap_on_literals
 word_read program Canonical = refl
-word_read program Advanced = refl
-word_read program Transport = refl
-word_read program Intersect = refl
-word_read program Reduce = refl
-word_read program Check = refl
-word_read program Explain = refl
+word_read program c = refl
