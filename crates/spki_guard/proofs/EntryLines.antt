@@ -1,5 +1,5 @@
 -- The lines of entries, piece by piece.
-use Rattle.std.proofs.Common.{◌≡◌, ℕ, suc, ◌+◌, ◌<◌, List, [], ◌∷◌, ◌++◌, length, take, get_or, sym, ap, ◌∙◌, append_assoc, append-nil, arith, length-take-le}
+use Rattle.std.proofs.Common.{◌≡◌, ℕ, suc, ◌+◌, ◌<◌, List, [], ◌∷◌, ◌++◌, length, take, get_or, sym, ap, ◌∙◌, append_assoc, append-nil, arith, length-take-le, rules}
 use Rattle.std.specs.Prelude.{codes}
 use Rattle.std.proofs.lemmas.List.{take_more}
 use Rattle.sexpr_core.specs.Value.{decimal}
@@ -18,10 +18,7 @@ entry_whole n word words = ap (λ s. codes "entry " ++ s) (append_assoc (decimal
 module _ {A : Type 0} (one : ℕ → A → List ℕ) (all : ℕ → List A → List ℕ) (none : (n : ℕ) → all n [] ≡ [])
     (more : (n : ℕ) (x : A) (xs : List A) → all n (x ∷ xs) ≡ one n x ++ all (suc n) xs) where
   lines_append : (n : ℕ) (xs : List A) (x : A) → all n (xs ++ x ∷ []) ≡ all n xs ++ one (n + length xs) x
-  lines_append n [] x =
-      let e : n + 0 ≡ n = omega arith in
-      more n x [] ∙ ap (λ s. one n x ++ s) (none (suc n)) ∙ append-nil (one n x) ∙ ap (λ m. one m x) (sym e)
-      ∙ ap (λ s. s ++ one (n + 0) x) (sym (none n))
+  lines_append n [] x = search (rules, append-nil)
   lines_append n (y ∷ ys) x =
       let e : suc n + length ys ≡ n + suc (length ys) = omega arith in
       more n y (ys ++ x ∷ []) ∙ ap (λ s. one n y ++ s) (lines_append (suc n) ys x)

@@ -1,5 +1,5 @@
 -- Answers to questions that are asked of a guard, from those of the questions' cases.
-use Rattle.std.proofs.Common.{◌≡◌, ◌≢◌, ◌⊎◌, ◌<◌, ◌≤◌, ℕ, List, Bool, Option, Some, None, IfSome, length, inl, inr, refl, sym, ap, ◌∙◌, subst, arith}
+use Rattle.std.proofs.Common.{◌≡◌, ◌≢◌, ◌⊎◌, ◌<◌, ◌≤◌, ℕ, List, Bool, Option, Some, None, IfSome, length, inl, inr, refl, ap, ◌∙◌, subst, arith, rules}
 use Rattle.spki_case.specs.Case.{Case}
 use Rattle.spki_decision.specs.declared.decision.Decision.{Decision}
 use Rattle.spki_decision.specs.Asked.{asked}
@@ -34,9 +34,7 @@ reads held q c within is policy nodes work few few_strings =
 -- the same for one that was opened
 pub opened_reads : (held : Held) (q : Question) (o : Opened) (a : AskedOf) → IsOpened held q o → IsReadFrom held o.texts a
     → ReadsQuestion held q a.case
-opened_reads held q o a opened read =
-    reads held q a.case (λ long. omega (arith, opened.short, long)) (read.is q opened.texts) read.policy read.nodes read.work read.few
-    (read.short q opened.texts)
+opened_reads held q o a opened read = search (rules, reads)
 
 pub answered : (query : Query) (held : Held) (q : Question) (marks : List Bool) (a : AskedOf) (answer : Option Answer) → ReadsQuestion held q a.case
     → a.texts ≡ held.texts → a.answer ≡ held.answer
@@ -92,10 +90,4 @@ module _ (q : Question) (o : Opened) (marks : List Bool) (opened : IsOpened o.gu
       })
 
   pub opened_miscounted : ¬ (length marks ≡ length o.signed.items) → HasOtherCount o.guard q marks
-  opened_miscounted other =
-      let kept = opened.kept in
-      record {
-        case_read = kept.read.case;
-        read = opened_reads o.guard q o kept.read opened kept.is;
-        other = λ e. other (e ∙ ap length (sym kept.signed_are));
-      }
+  opened_miscounted other = search (rules, opened_reads, length)

@@ -1,8 +1,7 @@
 -- A question that is asked of a guard has one answer, unless memory ran out.
-use Rattle.std.proofs.Common.{◌≡◌, ℕ, inl, inr, List, Bool, Ok, length, sym, ap, subst, ◌∙◌, arith}
+use Rattle.std.proofs.Common.{◌≡◌, ℕ, inl, inr, List, Bool, Ok, length, sym, ap, subst, ◌∙◌, arith, rules}
 use Rattle.spki_cert.specs.declared.entry.Entry.{Entry}
 use Rattle.spki_case.specs.Case.{Case, Verified}
-use Rattle.spki_decision.specs.declared.decision.Decision.{Decision}
 use Rattle.spki_decision.specs.Asked.{asked}
 use Rattle.spki_decision.specs.Views.{with_entries}
 use Rattle.spki_decision.proofs.OneDecision.{decision_one, explained_one, explained_small, reduced_one, reduced_small}
@@ -15,7 +14,6 @@ use Rattle.spki_service.proofs.OneRefusal.{unrefused-one, refusal-one}
 use Rattle.spki_guard.specs.declared.answers.Verdict.{Verdict}
 use Rattle.spki_guard.specs.declared.question_answers.Query.{Query}
 use Rattle.spki_guard.specs.declared.question_answers.Query.TheVariants.{Decide, Explain, Reduce}
-use Rattle.spki_guard.specs.Answer.{IsLineOf}
 use Rattle.spki_guard.specs.Held.{ReadsQuestion, IsUnreadFor, IsUnreadQuestion, WritesAsked, IsTooLargeFor, AnswersAsked, AnswersHeld, IsAnswerHeld, HasOtherCount, beside, marked}
 use Rattle.spki_guard.specs.HeldLines.{refused_question}
 use Rattle.spki_guard.specs.Run.{RefusesForMemory}
@@ -65,9 +63,7 @@ module _ (a : AskedOf) (es : List Entry) (are : AreEntries a.texts es) (verified
 
   writes_one : (query : Query) (x y : Verdict) (output line : List ℕ) → WritesAsked query a verified x output
       → WritesAsked query a verified y line → Same x y output line
-  writes_one Decide x y output line (d, at, is) (e, also, other) =
-      let same : d ≡ e = decision_one whole verified d e (at es are) (also es are) in
-      decision_line e x y output line (subst (λ (f : Decision). IsLineOf f x output) same is) other
+  writes_one Decide x y output line (d, at, is) (e, also, other) = search (rules, decision_one, whole, decision_line)
   writes_one Explain x y output line (d, at, is, short) (e, also, other, within) =
       explanation_line d e x y output line (explained_one whole verified (Ok d) (Ok e) (at es are) (also es are)) is other
   writes_one Reduce x y output line (d, at, end, is, short) (e, also, ends, other, within) =

@@ -1,5 +1,5 @@
 -- A text has one answer of a command, and is not refused where it has one.
-use Rattle.std.proofs.Common.{◌≡◌, ◌≢◌, ℕ, suc, ◌*◌, ◌<◌, ◌≤◌, inl, inr, List, [], ◌∷◌, ◌++◌, Result, Ok, refl, sym, ap, subst, ◌∙◌, arith}
+use Rattle.std.proofs.Common.{◌≡◌, ◌≢◌, ℕ, suc, ◌*◌, ◌<◌, ◌≤◌, inl, inr, List, [], ◌∷◌, ◌++◌, Result, Ok, refl, sym, ap, subst, ◌∙◌, arith, rules}
 use Rattle.std.specs.Prelude.{codes}
 use Rattle.sexpr_core.specs.Value.{Value, canon}
 use Rattle.sexpr_text.specs.Printed.{adv}
@@ -60,9 +60,7 @@ read_value text v w m n = one_value text v w (text_is text v m) (text_is text w 
 -- ---- intersections
 
 pub operands : (a b c d : Value) → intersect_value a b ≡ intersect_value c d → (a ≡ c) × (b ≡ d)
-operands a b c d e =
-    let both : a ∷ b ∷ [] ≡ c ∷ d ∷ [] = behind_head (codes "intersect") (a ∷ b ∷ []) (c ∷ d ∷ []) e in
-    (cc, cc)
+operands a b c d e = search (rules, behind_head, codes)
 
 read_tag : (v w : Value) (t u : Tag) → v ≡ w → ReadsAs v t → ReadsAs w u → t ≡ u
 read_tag v w t u e r s = reading-one w t u (subst (λ (x : Value). ReadsAs x t) e r) s
@@ -83,14 +81,8 @@ meets_one text x y output line m n =
 
 met_or_not : (v : Value) (t : Tag) (fault : IntersectFault) → Intersects v t → ValueNotMet v fault → ⊥
 met_or_not v t intersect.Shape m n = n m.first m.second m.written
-met_or_not v t (intersect.First fault) m n =
-    let both = operands m.first m.second n.first n.second (sym m.written ∙ n.written) in
-    let r = m.first_read in
-    n.found (n.none r.w r.written r.few (r.spelled ∙ both.0))
-met_or_not v t (intersect.Second fault) m n =
-    let both = operands m.first m.second n.first n.second (sym m.written ∙ n.written) in
-    let r = m.second_read in
-    n.found (n.none r.w r.written r.few (r.spelled ∙ both.1))
+met_or_not v t (intersect.First fault) m n = search (rules, operands)
+met_or_not v t (intersect.Second fault) m n = search (rules, operands)
 met_or_not v t intersect.TooLarge m n =
     let both = operands m.first m.second n.first n.second (sym m.written ∙ n.written) in
     let a : m.a ≡ n.a = read_tag m.first n.first m.a n.a both.0 m.first_read n.first_read in
@@ -104,14 +96,8 @@ met_or_not v t fault m n = n
 -- two tags are too large together, or something else is wrong
 pub large_one : (v : Value) (fault : IntersectFault) → AreTooLarge v → ValueNotMet v fault → fault ≡ intersect.TooLarge
 large_one v intersect.Shape m n = absurd (n m.first m.second m.written)
-large_one v (intersect.First fault) m n =
-    let both = operands m.first m.second n.first n.second (sym m.written ∙ n.written) in
-    let r = m.first_read in
-    absurd (n.found (n.none r.w r.written r.few (r.spelled ∙ both.0)))
-large_one v (intersect.Second fault) m n =
-    let both = operands m.first m.second n.first n.second (sym m.written ∙ n.written) in
-    let r = m.second_read in
-    absurd (n.found (n.none r.w r.written r.few (r.spelled ∙ both.1)))
+large_one v (intersect.First fault) m n = search (rules, operands)
+large_one v (intersect.Second fault) m n = search (rules, operands)
 large_one v intersect.TooLarge m n = refl
 large_one v fault m n = absurd n
 

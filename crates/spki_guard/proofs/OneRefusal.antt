@@ -1,5 +1,5 @@
 -- A text has one refusal of a command, unless memory ran out.
-use Rattle.std.proofs.Common.{◌≡◌, ◌≢◌, ℕ, ◌+◌, ◌<◌, ◌⊎◌, inl, inr, List, [], ◌++◌, length, take, drop, Some, refl, sym, ap, subst, ◌∙◌, arith, append-nil, length-drop}
+use Rattle.std.proofs.Common.{◌≡◌, ◌≢◌, ℕ, ◌+◌, ◌<◌, ◌⊎◌, inl, inr, List, [], ◌++◌, length, take, drop, Some, refl, sym, ap, subst, ◌∙◌, arith, append-nil, length-drop, rules}
 use Rattle.std.proofs.lemmas.List.{take-append-drop}
 use Rattle.sexpr_core.specs.declared.fault.FormFault.{FormFault}
 use Rattle.sexpr_core.specs.declared.fault.FormFault.TheVariants.{TooLong, TooDeep, Short, Bad, Trailing, Memory}
@@ -90,29 +90,13 @@ module _ (v : Value) where
   not_met_one intersect.Shape (intersect.Second f) m n = absurd (m n.first n.second n.written)
   not_met_one intersect.Shape intersect.TooLarge m n = absurd (m n.first n.second n.written)
   not_met_one (intersect.First e) intersect.Shape m n = absurd (n m.first m.second m.written)
-  not_met_one (intersect.First e) (intersect.First f) m n =
-      let both = operands m.first m.second n.first n.second (sym m.written ∙ n.written) in
-      ap intersect.First (fault_one m.first n.first e f both.0 m.named n.named)
-  not_met_one (intersect.First e) (intersect.Second f) m n =
-      let both = operands m.first m.second n.first n.second (sym m.written ∙ n.written) in
-      let r = n.first_read in
-      absurd (m.found (m.none r.w r.written r.few (r.spelled ∙ sym both.0)))
-  not_met_one (intersect.First e) intersect.TooLarge m n =
-      let both = operands m.first m.second n.first n.second (sym m.written ∙ n.written) in
-      let r = n.first_read in
-      absurd (m.found (m.none r.w r.written r.few (r.spelled ∙ sym both.0)))
+  not_met_one (intersect.First e) (intersect.First f) m n = search (rules, operands, fault_one)
+  not_met_one (intersect.First e) (intersect.Second f) m n = search (rules, operands)
+  not_met_one (intersect.First e) intersect.TooLarge m n = search (rules, operands)
   not_met_one (intersect.Second e) intersect.Shape m n = absurd (n m.first m.second m.written)
-  not_met_one (intersect.Second e) (intersect.First f) m n =
-      let both = operands m.first m.second n.first n.second (sym m.written ∙ n.written) in
-      let r = m.first_read in
-      absurd (n.found (n.none r.w r.written r.few (r.spelled ∙ both.0)))
-  not_met_one (intersect.Second e) (intersect.Second f) m n =
-      let both = operands m.first m.second n.first n.second (sym m.written ∙ n.written) in
-      ap intersect.Second (fault_one m.second n.second e f both.1 m.named n.named)
-  not_met_one (intersect.Second e) intersect.TooLarge m n =
-      let both = operands m.first m.second n.first n.second (sym m.written ∙ n.written) in
-      let r = n.second_read in
-      absurd (m.found (m.none r.w r.written r.few (r.spelled ∙ sym both.1)))
+  not_met_one (intersect.Second e) (intersect.First f) m n = search (rules, operands)
+  not_met_one (intersect.Second e) (intersect.Second f) m n = search (rules, operands, fault_one)
+  not_met_one (intersect.Second e) intersect.TooLarge m n = search (rules, operands)
   not_met_one intersect.TooLarge other m n = sym (large_one v other m n)
   not_met_one fault other m n = absurd n
 

@@ -1,5 +1,5 @@
 -- The two operands of an intersection.
-use Rattle.std.proofs.Common.{◌≡◌, ◌≢◌, inl, inr, subst, List, [], ◌∷◌, Option, Some, None, MatchOption, sym, ap, ◌∙◌}
+use Rattle.std.proofs.Common.{◌≡◌, ◌≢◌, inl, inr, List, [], ◌∷◌, Option, Some, None, MatchOption, sym, ap, ◌∙◌, rules}
 use Rattle.std.specs.Prelude.{codes}
 use Rattle.sexpr_core.specs.Value.{Value}
 use Rattle.spki_tag.specs.declared.fault.TagFault.{TagFault}
@@ -29,15 +29,7 @@ pub first_refused : (v a b : Value) (fault : TagFault) (outer : IntersectFault) 
     → IsOuter (fault ≡ tag_faults.Memory) intersect.Memory (intersect.First fault) outer → outer ≢ intersect.Memory
     → ValueNotMet v outer
 first_refused v a b fault outer e none named (inl (inside, is)) found = absurd (found is)
-first_refused v a b fault outer e none named (inr (known, is)) found =
-    subst (ValueNotMet v) (sym is) (record {
-      first = a;
-      second = b;
-      written = e;
-      found = known;
-      named = named-sure fault (tag_fault a) named known;
-      none = none;
-    })
+first_refused v a b fault outer e none named (inr (known, is)) found = search (rules, named-sure, tag_fault)
 
 -- the first is one, and the second isn't
 pub second_refused : (v a b : Value) (t : Tag) (fault : TagFault) (outer : IntersectFault) → v ≡ intersect_value a b
@@ -45,14 +37,4 @@ pub second_refused : (v a b : Value) (t : Tag) (fault : TagFault) (outer : Inter
     → IsOuter (fault ≡ tag_faults.Memory) intersect.Memory (intersect.Second fault) outer → outer ≢ intersect.Memory
     → ValueNotMet v outer
 second_refused v a b t fault outer e read none named (inl (inside, is)) found = absurd (found is)
-second_refused v a b t fault outer e read none named (inr (known, is)) found =
-    subst (ValueNotMet v) (sym is) (record {
-      first = a;
-      second = b;
-      written = e;
-      a = t;
-      first_read = read;
-      found = known;
-      named = named-sure fault (tag_fault b) named known;
-      none = none;
-    })
+second_refused v a b t fault outer e read none named (inr (known, is)) found = search (rules, named-sure, tag_fault)

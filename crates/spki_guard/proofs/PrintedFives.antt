@@ -1,5 +1,5 @@
 -- Authorizations in advanced form, member by member.
-use Rattle.std.proofs.Common.{◌≡◌, ◌≢◌, ℕ, ◌+◌, ◌<◌, List, [], ◌∷◌, ◌++◌, length, map, take, get_or, slice_get, Some, refl, sym, ap, ◌∙◌, append_assoc, append-nil}
+use Rattle.std.proofs.Common.{◌≡◌, ◌≢◌, ℕ, ◌+◌, ◌<◌, List, [], ◌∷◌, ◌++◌, length, map, take, get_or, slice_get, Some, refl, sym, ap, ◌∙◌, append_assoc, append-nil, rules}
 use Rattle.std.specs.Prelude.{codes}
 use Rattle.std.proofs.lemmas.List.{take_more}
 use Rattle.sexpr_core.specs.declared.tree.Sexp.{Sexp}
@@ -63,9 +63,7 @@ spaced_on vs ws opened mid new e f =
 -- a list of one member, behind others
 around : (led opened middle closed begins inner : List ℕ) → opened ≡ led ++ begins → middle ≡ opened ++ inner → closed ≡ middle ++ 41 ∷ []
     → closed ≡ led ++ (begins ++ (inner ++ 41 ∷ []))
-around led opened middle closed begins inner e f g =
-    g ∙ ap (λ s. s ++ 41 ∷ []) (f ∙ ap (λ s. s ++ inner) e)
-    ∙ append_assoc (led ++ begins) inner (41 ∷ []) ∙ append_assoc led begins (inner ++ 41 ∷ [])
+around led opened middle closed begins inner e f g = search (rules, append_assoc)
 
 pub subject_printed : (v : Value) (led opened middle closed : List ℕ) → opened ≡ led ++ codes " (subject " → middle ≡ opened ++ adv v
     → closed ≡ middle ++ 41 ∷ [] → closed ≡ led ++ spaced (headed (codes "subject") (v ∷ []) ∷ [])

@@ -1,5 +1,5 @@
 -- Tags in advanced form, member by member.
-use Rattle.std.proofs.Common.{◌≡◌, ℕ, suc, ◌+◌, ◌<◌, ◌==◌, false, cond, List, [], ◌∷◌, ◌++◌, Option, length, take, get_or, refl, sym, ap, ◌∙◌, append_assoc, append-nil, arith}
+use Rattle.std.proofs.Common.{◌≡◌, ℕ, suc, ◌+◌, ◌<◌, ◌==◌, false, cond, List, [], ◌∷◌, ◌++◌, Option, length, take, get_or, refl, sym, ap, ◌∙◌, append_assoc, append-nil, arith, rules}
 use Rattle.std.specs.Prelude.{codes}
 use Rattle.std.proofs.lemmas.Bool.Decides.{nat_tests}
 use Rattle.std.proofs.lemmas.List.{take_more}
@@ -40,12 +40,7 @@ member_printed ts k t out mid opened new lt at e f g =
 
 pub list_printed : (head : List ℕ) (ts : List Tag) (out opened named each new : List ℕ) → opened ≡ out ++ 40 ∷ [] → named ≡ opened ++ adv (plain head)
     → each ≡ named ++ spaced ts → new ≡ each ++ 41 ∷ [] → new ≡ out ++ adv (tag_value (list head (tags ts)))
-list_printed head ts out opened named each new e f g h =
-    h ∙ ap (λ s. s ++ 41 ∷ []) (g ∙ ap (λ s. s ++ spaced ts) (f ∙ ap (λ s. s ++ adv (plain head)) e))
-    ∙ append_assoc ((out ++ 40 ∷ []) ++ adv (plain head)) (spaced ts) (41 ∷ [])
-    ∙ append_assoc (out ++ 40 ∷ []) (adv (plain head)) (spaced ts ++ 41 ∷ [])
-    ∙ append_assoc out (40 ∷ []) (adv (plain head) ++ (spaced ts ++ 41 ∷ []))
-    ∙ ap (λ s. out ++ 40 ∷ s) (sym (append_assoc (adv (plain head)) (spaced ts) (41 ∷ [])))
+list_printed head ts out opened named each new e f g h = search (rules, spaced, adv, plain, append_assoc)
 
 set_begins : (ts : List Tag) → adv (tag_value (set (tags ts))) ≡ codes "(* set" ++ (spaced ts ++ 41 ∷ [])
 unfolding printed_string
@@ -53,11 +48,7 @@ set_begins ts = ap (λ s. codes "(* set" ++ (s ++ 41 ∷ [])) (past_first 1 (tag
 
 pub set_printed : (ts : List Tag) (out opened each new : List ℕ) → opened ≡ out ++ codes "(* set" → each ≡ opened ++ spaced ts → new ≡ each ++ 41 ∷ []
     → new ≡ out ++ adv (tag_value (set (tags ts)))
-set_printed ts out opened each new e f g =
-    g ∙ ap (λ s. s ++ 41 ∷ []) (f ∙ ap (λ s. s ++ spaced ts) e)
-    ∙ append_assoc (out ++ codes "(* set") (spaced ts) (41 ∷ [])
-    ∙ append_assoc out (codes "(* set") (spaced ts ++ 41 ∷ [])
-    ∙ ap (λ s. out ++ s) (sym (set_begins ts))
+set_printed ts out opened each new e f g = search (rules, spaced, append_assoc, codes, set_begins)
 
 -- ---- pieces
 
@@ -96,14 +87,7 @@ pub range_whole : (ordering : Ordering) (low up : Option Limit)
     → (((codes "(* range " ++ printed_string (ordering_name ordering)) ++ spaced_values (limit_values (codes "g") (codes "ge") low))
     ++ spaced_values (limit_values (codes "l") (codes "le") up)) ++ 41 ∷ [] ≡ adv (tag_value (range ordering low up))
 range_whole ordering low up =
-    let name = printed_string (ordering_name ordering) in
-    let lows = limit_values (codes "g") (codes "ge") low in
-    let ups = limit_values (codes "l") (codes "le") up in
-    ap (λ s. s ++ 41 ∷ []) (append_assoc (codes "(* range " ++ name) (spaced_values lows) (spaced_values ups)
-    ∙ ap (λ s. (codes "(* range " ++ name) ++ s) (sym (values_append lows ups)))
-    ∙ ap (λ s. s ++ 41 ∷ []) (append_assoc (codes "(* range ") name (spaced_values (lows ++ ups)))
-    ∙ append_assoc (codes "(* range ") (name ++ spaced_values (lows ++ ups)) (41 ∷ [])
-    ∙ sym (range_begins (lows ++ ups) (ordering_name ordering))
+    search (rules, printed_string, ordering_name, limit_values, codes, append_assoc, range, spaced_values, values_append, range_begins)
 
 pub member_behind : (ts : List Tag) (k : ℕ) (t : Tag) → k < length ts → t ≡ get_or ts k t
     → (spaced (take k ts) ++ 32 ∷ []) ++ adv (tag_value t) ≡ spaced (take (k + 1) ts)
