@@ -26,7 +26,7 @@ pub fn is_space(octet: u8) -> bool
     octet == b' ' || (octet >= 9 && octet <= 13)
 }
 
-/// Returns the offset after the whitespace that begins at an offset.
+/// Returns the offset of the first octet from `at` on that is not whitespace, or the length of the text if there is none.
 pub fn skip_spaces(text: &[u8], at: usize) -> usize
     requires { at ≤ length text.now }
     ensures { Skips text.now at result }

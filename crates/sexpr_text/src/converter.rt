@@ -72,7 +72,7 @@ fn advanced_of(alloc: Global, octets: &[u8]) -> Result<Vec<u8>, FormFault>
     convert_advanced(alloc, Form::Advanced, octets)
 }
 
-/// Writes the value of a text in advanced form.
+/// Reads a text in advanced form, and writes its value in the given form.
 fn convert_advanced(alloc: Global, form: Form, text: &[u8]) -> Result<Vec<u8>, FormFault>
     ensures read { IfOk result (λ out. (v : Value) × IsSpelledWithin text.now v × (out.items ≡ written form v)) }
     ensures only { (v : Value) → IsSpelledWithin text.now v → IsOkUnless result FormFault.Memory }
@@ -169,7 +169,7 @@ fn convert_token(
     Ok(end)
 }
 
-/// Appends the octets of a token to the output. In advanced form they are written as they are.
+/// Appends the string of a token to the output: in canonical form its length, a colon and its octets, in advanced form the token itself.
 fn write_token(form: Form, octets: &[u8], out: &mut Vec<u8>) -> Result<(), AllocError>
     requires { IsToken octets.now }
     ensures { OnOk result (out.new.items ≡ out.old.items ++ written_string form octets.now) }

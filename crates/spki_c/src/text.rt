@@ -22,7 +22,7 @@ impl Model for Text {
 }
 
 impl Text {
-    /// The number of octets that the caller says.
+    /// The number of octets that the caller states, `length` of `struct spki_text`.
     pub(crate) fn count(&mut self) -> usize
         ensures { (self.new ≡ self.old) × (result ≡ self.old.count) × (length self.old.octets ≡ lent_count self.old.at self.old.count) }
     {

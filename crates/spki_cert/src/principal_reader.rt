@@ -77,7 +77,7 @@ fn names_behind<'a>(
     Ok(all)
 }
 
-/// Reads the name after the head `name`.
+/// Reads the members after the head `name`: a principal and its names, or names alone, which are relative. There is at least one name.
 fn named_by<'a>(alloc: Global, members: Members<'_, 'a>) -> Result<Who<'a>, CertFaultKind>
     ensures found { IfOk result (λ who. NamesWho members.entry who.principal who.names.items) }
     ensures faultless { IfOk result (λ _. names_fault members.entry ≡ None) }
@@ -106,7 +106,8 @@ fn named_by<'a>(alloc: Global, members: Members<'_, 'a>) -> Result<Who<'a>, Cert
     })
 }
 
-/// Reads the subject of a node: a principal, a name, or a relative name.
+/// Reads a node as a subject, as it is written: a principal, a name `(name principal n n*)`, or a relative name `(name n n*)`. A list
+/// headed `k-of-n` is `Threshold`, and one headed `keyholder` is `Keyholder`.
 pub(crate) fn who_of<'a>(alloc: Global, node: &Node<'_, 'a>) -> Result<Who<'a>, CertFaultKind>
     ensures found { IfOk result (λ who. WhoOf node.now who.principal who.names.items) }
     ensures faultless { IfOk result (λ _. subject_fault node.now ≡ None) }

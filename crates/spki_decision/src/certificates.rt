@@ -53,7 +53,8 @@ impl<'s, 'a> Certificate<'s, 'a> {
         }
     }
 
-    /// Its tuple, if this is its issuer's key (RFC 2693, sections 6.1 and 6.2).
+    /// Its tuple with this key as the issuer: a 5-tuple or a 4-tuple (RFC 2693, sections 6.1 and 6.2). Whether the certificate's issuer
+    /// names the key is not tested.
     pub fn step(&self, holder: &Key<'a>) -> Result<Step<'a>, AllocError>
         ensures { IfOk result (λ step. step_tuple step ≡ tuple_of holder.now (certificate_of self.now)) }
     {
@@ -102,7 +103,7 @@ fn is_operation(item: &SeqItem) -> bool
     }
 }
 
-/// The signature that an item is. None for an item of another kind.
+/// The item as a signature. None if it is a key, an operation or a certificate.
 fn signature_of<'s, 'a>(item: &'s SeqItem<'a>) -> Option<&'s Signature<'a>>
     ensures { option_copied result ≡ signature_of item.entry.now }
 {

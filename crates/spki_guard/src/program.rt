@@ -34,7 +34,7 @@ pub fn run_words<R: Read, W: Write, E: Write>(
 {
     match asked_by(alloc, words) {
         Ok(command) => run_command(alloc, command, reader, writer, errors),
-        Err(fault) => say_fault(&fault, reader, writer, errors),
+        Err(fault) => report_words_fault(&fault, reader, writer, errors),
     }
 }
 
@@ -97,8 +97,8 @@ fn report<E: Write>(errors: &mut Metered<E>, status: Status)
     }
 }
 
-/// Writes why there is no command, and returns the exit status.
-fn say_fault<R: Read, W: Write, E: Write>(
+/// Writes the help, or why the words are refused, and returns the exit status. Nothing is read. All three meters are reset.
+fn report_words_fault<R: Read, W: Write, E: Write>(
     fault: &WordsFault,
     reader: &mut Metered<R>,
     writer: &mut Metered<W>,
@@ -108,12 +108,12 @@ fn say_fault<R: Read, W: Write, E: Write>(
         result fault.now }
 {
     reader.restart();
-    refuse_words(fault, writer, errors);
+    write_words_fault(fault, writer, errors);
     fault.code()
 }
 
-/// Writes why there is no command.
-fn refuse_words<W: Write, E: Write>(
+/// Writes the help, or why the words are refused, to `errors`. If memory ran out, writes `refused Memory` to `writer`.
+fn write_words_fault<W: Write, E: Write>(
     fault: &WordsFault,
     writer: &mut Metered<W>,
     errors: &mut Metered<E>,

@@ -31,7 +31,7 @@ pub fn any_bracketing()
         Supports policy (from_left first rest) holder request moment }
 {}
 
-/// Two derivations from the same tuples, in any bracketings, have the same root.
+/// Two derivations from the same tuples in the same order, under the same policy, have the same root, whatever their bracketings.
 pub fn one_root()
     ensures { (policy : Policy) (tree other : Tree) (root another : Tuple) →
         leaves tree ≡ leaves other → Derives policy tree root → Derives policy other another →
@@ -61,8 +61,8 @@ pub fn one_writing()
     ensures { (f : Five) (v w : Value) → IsWrittenFive f v → IsWrittenFive f w → v ≡ w }
 {}
 
-/// Some tuples have a derivation in one bracketing and none in another. A name's definition between two authorizations joins
-/// the left one, and never the right one.
+/// Under every policy there are tuples that, in one order, have a derivation in one bracketing and none in another. A name's definition
+/// may join the authorization before it, and never the one after it.
 pub fn other_bracketings()
     ensures { (policy : Policy) → (tree other : Tree) × (root : Tuple) ×
         (leaves other ≡ leaves tree) × Derives policy tree root ×

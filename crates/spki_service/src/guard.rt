@@ -99,7 +99,7 @@ impl Guard {
         self.texts.len()
     }
 
-    /// The most octets of the lines of an explanation or a reduction.
+    /// The guard's limit of an explanation or a reduction: the most octets that its lines have together. A decision has no such limit.
     pub(crate) fn most_answer(&self) -> usize
         ensures { result ≡ self.now.answer }
     {

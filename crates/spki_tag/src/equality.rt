@@ -9,7 +9,8 @@ use crate::leaf::{Leaf, Limit, RangeOrdering};
 use crate::tag::{Node, Tag};
 
 impl Tag {
-    /// Whether another tag is the same value. Allocates nothing.
+    /// Whether another tag has the same normal form, with the members of sets in the same order. So two tags of the same requests may
+    /// differ. Allocates nothing.
     #[cycle(same)]
     pub fn same(&self, other: &Tag) -> bool
         ensures { IsTrue result ↔ (self.now ≡ other.now) }
@@ -88,7 +89,7 @@ impl Leaf {
                 Leaf::String(_) => false,
                 Leaf::Prefix(_) => false,
                 Leaf::Range(second, from, to) => {
-                    is_ordering(*ordering, *second) && same_limit(low, from) && same_limit(up, to)
+                    same_ordering(*ordering, *second) && same_limit(low, from) && same_limit(up, to)
                 }
             },
         }
@@ -96,7 +97,7 @@ impl Leaf {
 }
 
 /// Whether two orderings are the same.
-fn is_ordering(one: RangeOrdering, other: RangeOrdering) -> bool
+fn same_ordering(one: RangeOrdering, other: RangeOrdering) -> bool
     ensures { IsTrue result ↔ (ordering_of one ≡ ordering_of other) }
 {
     one == other

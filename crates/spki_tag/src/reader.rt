@@ -201,10 +201,10 @@ impl Tag {
     /// # Errors
     ///
     /// The first fault, depth first from the left. `TooManyNodes`: more than 1,024 nodes as written. `Hint`: a string with a
-    /// display hint. `EmptyList`: a list without members. `ListHead`: a list that begins with a list. `UnknownStar`: a list
-    /// that begins with `*` and is no form of a tag. `RangeOrdering`: a range of an ordering other than `alpha`, `time` and
-    /// `date`. `RangeLimit`: limits that are not at most one lower limit and then at most one upper limit. `Memory`: memory
-    /// ran out.
+    /// display hint; among the limits of a range it is named before `RangeLimit`. `EmptyList`: a list without members. `ListHead`:
+    /// a list that begins with a list. `UnknownStar`: a list that begins with `*` and is no form of a tag. `RangeOrdering`: a range
+    /// without an ordering, or of another one than `alpha`, `time` and `date`. `RangeLimit`: limits that are not at most one lower
+    /// limit and then at most one upper limit. `Memory`: memory ran out.
     pub fn of(alloc: Global, value: &Node<'_, '_>) -> Result<Tag, TagFault>
         ensures read { IfOk result (λ tag. ReadsAs value.now tag) }
         ensures only { (t : Tag) → IsTag t → nodes t ≤ most_read → tag_value t ≡ value.now
