@@ -300,6 +300,15 @@ def one_question(driver, what, text):
     return met
 
 
+def lists_in_lists(entries, depth):
+    """Entries for the first issuer, and a certificate for a list of one list, and so on: nothing takes more memory for each node."""
+    tag = string("x")
+    for _ in range(depth):
+        tag = group(string("l"), tag)
+    issuer, subject = keys_of(1)
+    return case([entry(issuer)] * entries, [(certificate(issuer, subject, tag), issuer)], asks=subject)
+
+
 def equal_strings(entries, *prefixes):
     """Entries for the first issuer, whose lines are far longer than an answer: the tags of the certificates have a long string in common, as often
     as the product of these numbers. It begins as a token and is none, so that a printer reads it to its end."""
@@ -330,7 +339,8 @@ def widest(driver):
     """The most milliseconds and MiB of one answer. docs/PERFORMANCE.md says what a decision takes."""
     texts = [widest_of(shape) for shape in wide_shapes()]
     texts += [(f"large tags: {what}", text) for what, text in large_tags()]
-    texts += [("a string 1,000 times, 60 entries", equal_strings(60, 1_000)), ("a string 9,801 times", equal_strings(1, 99, 99))]
+    texts += [("a string 1,000 times, 60 entries", equal_strings(60, 1_000)), ("a string 9,801 times", equal_strings(1, 99, 99)),
+              ("10 lists in one another, 9,500 entries", lists_in_lists(9_500, 10))]
     met = [one_question(driver, what, text) for what, text in texts]
     yield "a decision, ms", max(each["decide"][0] for each in met)
     yield "a decision, MiB", max(each["decide"][1] for each in met)

@@ -140,7 +140,7 @@ enum spki_policy {
     SPKI_OPEN = 1    /* hashes of all algorithms name keys, as in a case without a policy */
 };
 
-/* Limits of each question. A null pointer means 65,536 octets, 16 certificates, 64 strings, 1,000,000 nodes, 200,000 of work and
+/* Limits of each question. A null pointer means 65,536 octets, 16 certificates, 64 strings, 1,000,000 nodes, 100,000 of work and
  * 1,048,576 octets of an answer. `nodes`, `work` and `answer` are for spki_asked_explain and _reduce: what exceeds one of them is
  * `refused TooLarge`. A decision computes no intersection. */
 struct spki_limits {
@@ -159,7 +159,7 @@ struct spki_limits {
 
 /* An initialiser of a struct spki_limits: the usual limits, and the highest. On some questions within the highest an explanation takes
  * minutes. */
-#define SPKI_USUAL_LIMITS {sizeof(struct spki_limits), 65536, 16, 64, SPKI_MOST_NODES, 200000, 1048576}
+#define SPKI_USUAL_LIMITS {sizeof(struct spki_limits), 65536, 16, 64, SPKI_MOST_NODES, 100000, 1048576}
 #define SPKI_HIGHEST_LIMITS \
     {sizeof(struct spki_limits), SPKI_MOST_OCTETS, SIZE_MAX, SIZE_MAX, SPKI_MOST_NODES, SIZE_MAX, SIZE_MAX}
 

@@ -50,7 +50,7 @@ class Limits:
     certificates: int = 16
     words: int = 64
     nodes: int = intersection.MOST_PRODUCT
-    work: int = 200_000
+    work: int = 100_000
     answer: int = 1_048_576
 
 

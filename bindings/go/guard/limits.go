@@ -21,7 +21,7 @@ type Limits struct {
 	Words int
 	// Nodes is the most nodes of one tag times nodes of another whose intersection is computed: usually and at most 1,000,000.
 	Nodes int
-	// Work is the most of these products together, over all certificates and entries: usually 200,000.
+	// Work is the most of these products together, over all certificates and entries: usually 100,000.
 	Work int
 	// Answer is the most octets of the lines: usually 1,048,576.
 	Answer int
@@ -29,7 +29,7 @@ type Limits struct {
 
 // The usual limits, and the highest. On some questions within the highest an explanation takes minutes.
 var (
-	usual   = Limits{Octets: 65_536, Certificates: 16, Words: 64, Nodes: 1_000_000, Work: 200_000, Answer: 1_048_576}
+	usual   = Limits{Octets: 65_536, Certificates: 16, Words: 64, Nodes: 1_000_000, Work: 100_000, Answer: 1_048_576}
 	highest = Limits{Octets: 1_048_576, Certificates: most, Words: most, Nodes: 1_000_000, Work: most, Answer: most}
 )
 

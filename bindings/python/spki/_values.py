@@ -55,7 +55,7 @@ class Limits:
     """The most strings of a request."""
     nodes: int = MOST_NODES
     """The most nodes of one tag times nodes of another whose intersection is computed."""
-    work: int = 200_000
+    work: int = 100_000
     """The most of these products together, over all certificates and entries."""
     answer: int = 1_048_576
     """The most octets of the lines."""

@@ -88,7 +88,7 @@ impl Limits {
         self
     }
 
-    /// The most of these products together, over all certificates and entries: 200,000 by default.
+    /// The most of these products together, over all certificates and entries: 100,000 by default.
     pub const fn work(mut self, most: usize) -> Limits {
         self.values.work = most;
         self
@@ -107,7 +107,7 @@ impl Default for Limits {
             .octets(65_536)
             .certificates(16)
             .words(64)
-            .work(200_000)
+            .work(100_000)
             .answer(1_048_576)
     }
 }

@@ -48,7 +48,7 @@ pub record Numbers : Type 0 where
 
 -- the first limits that are passed, or the usual ones if there are none
 abbrev pub numbers_in : List LimitParts → Numbers
-numbers_in [] = record { octets = 65536; certificates = 16; words = 64; nodes = 1000000; work = 200000; answer = 1048576 }
+numbers_in [] = record { octets = 65536; certificates = 16; words = 64; nodes = 1000000; work = 100000; answer = 1048576 }
 numbers_in (l ∷ others) =
     record { octets = l.octets; certificates = l.certificates; words = l.words; nodes = l.nodes; work = l.work; answer = l.answer }
 

@@ -66,11 +66,11 @@ impl Limits {
     }
 }
 
-/// 65,536 octets of a question, 16 certificates, 64 strings of a request, 1,000,000 nodes of an intersection, 200,000 of all
+/// 65,536 octets of a question, 16 certificates, 64 strings of a request, 1,000,000 nodes of an intersection, 100,000 of all
 /// intersections of a question together, and 1,048,576 octets of an answer.
 impl Default for Limits {
     ghost is_default = { λ limits. (limits.octets ≡ 65536) × (limits.certificates ≡ 16) × (limits.words ≡ 64)
-        × (limits.nodes ≡ 1000000) × (limits.work ≡ 200000) × (limits.answer ≡ 1048576) };
+        × (limits.nodes ≡ 1000000) × (limits.work ≡ 100000) × (limits.answer ≡ 1048576) };
 
     fn default() -> Limits {
         Limits {
@@ -78,7 +78,7 @@ impl Default for Limits {
             certificates: 16,
             words: 64,
             nodes: 1_000_000,
-            work: 200_000,
+            work: 100_000,
             answer: 1_048_576,
         }
     }

@@ -93,7 +93,7 @@ fn meet_each(alloc: Global, ones: &[Tag], others: &[Tag]) -> Result<Option<Vec<T
         MatchOption r (has_nothing met ≡ true) (λ v. (v.items ≡ met) × (has_nothing met ≡ false))) }
 {
     let common = ones.len().min(others.len());
-    let mut met = Vec::new(alloc);
+    let mut met = Vec::with_capacity(alloc, ones.len().max(others.len()))?;
     for i in 0..common {
         let member = meet_tags(alloc, &ones[i], &others[i])?;
         if member.is_nothing() {

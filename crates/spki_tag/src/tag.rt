@@ -169,7 +169,7 @@ impl Clone for Tag {
 fn copies_of(alloc: Global, members: &[Tag]) -> Result<Vec<Tag>, AllocError>
     ensures { IfOk result (λ copies. copies.items ≡ members.now) }
 {
-    let mut copies = Vec::new(alloc);
+    let mut copies = Vec::with_capacity(alloc, members.len())?;
     for member in members {
         copies.push(member.clone()?)?;
     }
