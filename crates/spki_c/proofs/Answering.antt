@@ -16,8 +16,7 @@ all = Decide ∷ Decide ∷ Decide ∷ Decide ∷ Reduce ∷ Decide ∷ Explain 
 
 at_number : (w : Query) → slice_get all (query_number w) ≡ Some w
 at_number Decide = refl
-at_number Explain = refl
-at_number Reduce = refl
+at_number w = refl
 
 one_query : (v w : Query) → query_number v ≡ query_number w → v ≡ w
 one_query v w e =
@@ -40,8 +39,7 @@ module _ (w v : Query) (n : ℕ) (e : n ≡ query_number w) (f : n ≡ query_num
 
 refused_status : (w : Query) → status_for w Refused ≡ 2
 refused_status Decide = refl
-refused_status Explain = refl
-refused_status Reduce = refl
+refused_status w = refl
 
 pub no_memory : (w : Query) (guard : Held) (q : Question) (marks : List Bool) (output old new : List ℕ) (needed status : ℕ)
     → (output ≡ refused_memory) ⊎ (output ≡ refused_memory) → IsHanded old new needed status 2 output

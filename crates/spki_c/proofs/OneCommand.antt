@@ -10,12 +10,7 @@ all = Canonical ∷ Advanced ∷ Transport ∷ Intersect ∷ Reduce ∷ Check �
 
 at_number : (c : Command) → slice_get all (number_of c) ≡ Some c
 at_number Canonical = refl
-at_number Advanced = refl
-at_number Transport = refl
-at_number Intersect = refl
-at_number Reduce = refl
-at_number Check = refl
-at_number Explain = refl
+at_number c = refl
 
 pub one_command : (c d : Command) → number_of c ≡ number_of d → c ≡ d
 one_command c d e =
