@@ -1,5 +1,5 @@
 -- The answer to a question has the status of its query.
-use Rattle.std.proofs.Common.{◌≡◌, ◌⊎◌, ℕ, List, [], ◌∷◌, Bool, Some, slice_get, refl, sym, ap, ◌∙◌, subst, inl, inr}
+use Rattle.std.proofs.Common.{◌≡◌, ◌⊎◌, ℕ, List, [], ◌∷◌, Bool, Some, slice_get, refl, sym, ap, ◌∙◌, subst, inl, inr, rules}
 use Rattle.spki_service.specs.Held.{Held}
 use Rattle.spki_service.specs.declared.question.Question.{Question}
 use Rattle.spki_guard.specs.declared.answers.Verdict.{Verdict}
@@ -19,9 +19,7 @@ at_number Decide = refl
 at_number w = refl
 
 one_query : (v w : Query) → query_number v ≡ query_number w → v ≡ w
-one_query v w e =
-    let same : Some v ≡ Some w = sym (at_number v) ∙ ap (λ n. slice_get all n) e ∙ at_number w in
-    cc
+one_query v w e = search (rules, at_number, slice_get, all)
 
 module _ (w v : Query) (n : ℕ) (e : n ≡ query_number w) (f : n ≡ query_number v) where
   pub answered : (guard held : Held) (q : Question) (marks taken : List Bool) (verdict : Verdict) (output old new : List ℕ) (needed status given : ℕ)
@@ -44,15 +42,5 @@ refused_status w = refl
 pub no_memory : (w : Query) (guard : Held) (q : Question) (marks : List Bool) (output old new : List ℕ) (needed status : ℕ)
     → (output ≡ refused_memory) ⊎ (output ≡ refused_memory) → IsHanded old new needed status 2 output
     → IsAnswered w guard q marks old new needed status
-no_memory w guard q marks output old new needed status (inl line) handed = record {
-  verdict = Refused;
-  output = output;
-  answer = inr (inr (record { verdict_is = refl; line = line }));
-  handed = subst (λ (s : ℕ). IsHanded old new needed status s output) (sym (refused_status w)) handed;
-}
-no_memory w guard q marks output old new needed status (inr line) handed = record {
-  verdict = Refused;
-  output = output;
-  answer = inr (inr (record { verdict_is = refl; line = line }));
-  handed = subst (λ (s : ℕ). IsHanded old new needed status s output) (sym (refused_status w)) handed;
-}
+no_memory w guard q marks output old new needed status (inl line) handed = search (rules, refused_status)
+no_memory w guard q marks output old new needed status (inr line) handed = search (rules, refused_status)

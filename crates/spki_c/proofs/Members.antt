@@ -1,5 +1,5 @@
 -- The members of a list stand in its canonical text, one behind another.
-use Rattle.std.proofs.Common.{◌≡◌, ℕ, zero, suc, ◌+◌, ◌-◌, ◌≤◌, ◌<◌, List, [], ◌∷◌, ◌++◌, length, Some, None, slice_get, get_or, take, drop, refl, sym, ap, ◌∙◌, subst, arith}
+use Rattle.std.proofs.Common.{◌≡◌, ℕ, zero, suc, ◌+◌, ◌-◌, ◌≤◌, ◌<◌, List, [], ◌∷◌, ◌++◌, length, Some, None, slice_get, get_or, take, drop, refl, sym, ap, ◌∙◌, subst, arith, rules}
 use Rattle.std.proofs.lemmas.List.{length-append, append_assoc}
 use Rattle.std.proofs.Math.Seq.{take-length}
 use Rattle.sexpr_core.specs.Characters.{char}
@@ -145,9 +145,7 @@ module _ (v : Value) (begins left number : ℕ) (all : List Value) (l : Left v b
 
   pub goes_on : (m : Value) (rest : List Value) (octets : List ℕ) → all ≡ m ∷ rest → (left ≡ 0 → ⊥) → octets ≡ canon m
       → Left v (begins + length octets) (left - 1) number rest
-  goes_on m rest octets is some same =
-      let next = next_left v begins left number m rest (omega (arith, some)) (subst (λ (ms : List Value). Left v begins left number ms) is l) in
-      subst (λ (os : List ℕ). Left v (begins + length os) (left - 1) number rest) (sym same) next
+  goes_on m rest octets is some same = search (rules, next_left, length)
 
   pub goes_short : (m : Value) (rest : List Value) (octets : List ℕ) → all ≡ m ∷ rest → octets ≡ canon m → begins + length octets ≤ length (canon v)
   goes_short m rest octets is same =

@@ -1,5 +1,5 @@
 -- A number is that of one command.
-use Rattle.std.proofs.Common.{◌≡◌, List, [], ◌∷◌, Some, refl, sym, ap, ◌∙◌}
+use Rattle.std.proofs.Common.{◌≡◌, List, [], ◌∷◌, Some, refl, sym, ap, ◌∙◌, rules}
 use Rattle.std.specs.Prelude.{slice_get}
 use Rattle.spki_words.specs.declared.commands.Command.{Command}
 use Rattle.spki_words.specs.declared.commands.Command.TheVariants.{Canonical, Advanced, Transport, Intersect, Reduce, Check, Explain}
@@ -13,6 +13,4 @@ at_number Canonical = refl
 at_number c = refl
 
 pub one_command : (c d : Command) → number_of c ≡ number_of d → c ≡ d
-one_command c d e =
-    let same : Some c ≡ Some d = sym (at_number c) ∙ ap (λ n. slice_get all n) e ∙ at_number d in
-    cc
+one_command c d e = search (rules, at_number, slice_get, all)

@@ -1,5 +1,5 @@
 -- The octets of a string stand at the end of its canonical text.
-use Rattle.std.proofs.Common.{◌≡◌, ℕ, ◌+◌, ◌-◌, ◌≤◌, List, [], ◌∷◌, ◌++◌, length, take, drop, Option, Some, None, refl, sym, ap, ◌∙◌, subst, arith, append_assoc}
+use Rattle.std.proofs.Common.{◌≡◌, ℕ, ◌+◌, ◌-◌, ◌≤◌, List, [], ◌∷◌, ◌++◌, length, take, drop, Option, Some, None, refl, sym, ap, ◌∙◌, subst, arith, append_assoc, rules}
 use Rattle.std.proofs.Math.Seq.{drop-append_seam, take-append_seam}
 use Rattle.std.proofs.lemmas.List.{length-append}
 use Rattle.sexpr_core.specs.Characters.{char}
@@ -12,14 +12,7 @@ append-none [] = refl
 append-none (o ∷ octets) = ap (λ (os : List ℕ). o ∷ os) (append-none octets)
 
 at_end : (text front octets : List ℕ) → text ≡ front ++ octets → LiesAt text octets (length text - length octets)
-at_end text front octets is =
-    let long : length text ≡ length front + length octets = ap length is ∙ length-append front octets in
-    record {
-      before = front;
-      behind = [];
-      parts = is ∙ ap (λ os. front ++ os) (sym (append-none octets));
-      begins = omega (arith, long);
-    }
+at_end text front octets is = search (rules, length, length-append, append-none)
 
 front_of : Option (List ℕ) → List ℕ → List ℕ
 front_of None octets = decimal (length octets) ++ char ":" ∷ []
@@ -35,21 +28,11 @@ with_front (Some hint) octets =
 
 pub string_stands : (v : Value) (hint : Option (List ℕ)) (octets whole : List ℕ) → string hint octets ≡ v → whole ≡ canon v
     → StandsIn (canon v) (octets_of v) (length whole - length octets) (length octets)
-string_stands v hint octets whole is all = record {
-  octets = octets;
-  there_is = ap octets_of (sym is);
-  place = subst (λ (w : Value). LiesAt (canon w) octets (length whole - length octets)) is
-      (subst (λ (os : List ℕ). LiesAt (canon (string hint octets)) octets (length os - length octets)) (sym (all ∙ ap canon (sym is)))
-      (at_end (canon (string hint octets)) (front_of hint octets) octets (with_front hint octets)));
-  counted = refl;
-}
+string_stands v hint octets whole is all = search (rules, octets_of, canon, length, string, at_end, front_of, with_front)
 
 pub string_short : (v : Value) (hint : Option (List ℕ)) (octets whole : List ℕ) → string hint octets ≡ v → whole ≡ canon v
     → length octets ≤ length whole
-string_short v hint octets whole is all =
-    let long = ap length (all ∙ ap canon (sym is) ∙ with_front hint octets) in
-    let both = length-append (front_of hint octets) octets in
-    omega (arith, long, both)
+string_short v hint octets whole is all = search (rules, length, canon, with_front, length-append, front_of)
 
 -- the octets that lie at a place of a text are the part of the text there
 pub part_at : (text octets : List ℕ) (at count : ℕ) → LiesAt text octets at → count ≡ length octets

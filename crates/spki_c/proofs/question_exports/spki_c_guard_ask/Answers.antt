@@ -1,4 +1,4 @@
-use Rattle.std.proofs.Common.{◌≡◌, ℕ, List, map, inl, inr, ap, subst, ◌∙◌, Some, refl}
+use Rattle.std.proofs.Common.{ℕ, List, map, inl, inr, ap, subst, ◌∙◌, Some, refl}
 use Rattle.spki_service.specs.Held.{Held}
 use Rattle.spki_service.specs.Opened.{IsOpened}
 use Rattle.spki_guard.specs.Answer.{written_by}

@@ -1,4 +1,4 @@
-use Rattle.std.proofs.Common.{◌≡◌, ◌++◌, List, ℕ, [], Some, None, sym, ap, subst, ◌∙◌, take, drop, ◌+◌, ◌-◌}
+use Rattle.std.proofs.Common.{◌≡◌, ◌++◌, List, ℕ, [], sym, ap, subst, ◌∙◌}
 use Rattle.sexpr_core.specs.Value.{Value, canon}
 use Rattle.sexpr_core.proofs.Texts.{canon_one}
 use Rattle.spki_c.specs.Strings.{octets_of, StandsIn}
