@@ -1,5 +1,5 @@
 -- Where writing page by page ends.
-use Rattle.std.proofs.Common.{◌≡◌, ◌⊎◌, ℕ, ◌+◌, ◌<◌, ◌≤◌, max, List, [], ◌++◌, length, Option, Bool, true, false, Result, Ok, Err, OnErr, IsTrue, inl, inr, sym, ap, ◌∙◌, subst, append_assoc, arith}
+use Rattle.std.proofs.Common.{◌≡◌, ◌⊎◌, ℕ, ◌+◌, ◌<◌, ◌≤◌, max, List, [], ◌++◌, length, Option, Bool, true, false, Result, Ok, Err, OnErr, IsTrue, inl, inr, sym, ap, ◌∙◌, subst, append_assoc, arith, rules}
 use Rattle.std.proofs.KnownBytes.{Appends-trans}
 use Rattle.metered_io.specs.declared.meters.Metered.{Metered}
 use Rattle.metered_io.specs.Metered.{counted, inner_of, asks_of, faults_of, flushed_of, Takes, TakesNone}
@@ -42,20 +42,13 @@ module _ {W : Type 0} (contents : W → Option (List ℕ)) where
   cut_off : (old new : Metered W) (octets rest : List ℕ) → asks_of old ≡ 0 → asks_of new ≤ max (asks_of old) (length octets + 2097152)
       → SendsFront contents old new octets rest → (0 < faults_of new) ⊎ (length octets + 2097152 ≤ asks_of new)
       → IsCutOff contents old new octets
-  cut_off old new octets rest unasked asks front faulty = record {
-    rest = rest;
-    front = front;
-    faulty = faulty_end old new octets unasked asks faulty;
-    asks = omega (arith, unasked, asks);
-  }
+  cut_off old new octets rest unasked asks front faulty = search (rules, faulty_end)
 
   module _ (s t : PageSink W) (old end : Metered W) (octets : List ℕ) (most : ℕ) (from : writer_of s ≡ old) (empty : page_of s ≡ [])
       (ok : has_failed s ≡ false) (unasked : asks_of old ≡ 0) (most_is : most_of s ≡ most) (limit : most ≡ length octets + 2097152)
       (taken : PageTakes contents s octets t) (asks : asks_of end ≤ max (asks_of (writer_of t)) (most_of t)) where
     bounded : asks_of end ≤ max (asks_of old) (length octets + 2097152)
-    bounded =
-        let before = rw from at taken.asks in
-        omega (arith, asks, before, taken.same_most, most_is, limit)
+    bounded  = search (rules)
 
     pub all_written : (has_failed t ≡ false) × Takes contents (writer_of t) end (page_of t) × (faults_of end ≡ faults_of (writer_of t))
         × IsTrue (flushed_of end) → IsWritten contents old end octets × (faults_of end ≡ faults_of old)
@@ -75,14 +68,7 @@ module _ {W : Type 0} (contents : W → Option (List ℕ)) where
     before_last : has_failed t ≡ true → end ≡ writer_of t
         → IsCutAfter contents (has_failed s) (writer_of s) (writer_of t) (page_of s ++ octets) (most_of s) → IsCutOff contents old end octets
     before_last failed same (inl h) = let clash : false ≡ true = sym ok ∙ h.0 in cc
-    before_last failed same (inr (well, rest, front, faulty)) =
-        let all : page_of s ++ octets ≡ octets = ap (λ p. p ++ octets) empty in
-        let whole = subst (λ o. SendsFront contents (writer_of s) (writer_of t) o rest) all front in
-        let of_old = subst (λ w. SendsFront contents w (writer_of t) octets rest) from whole in
-        let of_end = subst (λ w. SendsFront contents old w octets rest) (sym same) of_old in
-        let fault = subst (λ n. (0 < faults_of (writer_of t)) ⊎ (n ≤ asks_of (writer_of t))) (most_is ∙ limit) faulty in
-        cut_off old end octets rest unasked bounded of_end
-        (subst (λ w. (0 < faults_of w) ⊎ (length octets + 2097152 ≤ asks_of w)) (sym same) fault)
+    before_last failed same (inr (well, rest, front, faulty)) = search (rules, page_of, writer_of, faults_of, asks_of, cut_off, bounded, length)
 
     pub front_written : IsCutAfter contents (has_failed t) (writer_of t) end (page_of t) (most_of t) → IsCutOff contents old end octets
     front_written (inl (failed, same)) = before_last failed same (taken.cut failed)
@@ -102,6 +88,4 @@ module _ {W : Type 0} (contents : W → Option (List ℕ)) where
       → page_of s ≡ [] → has_failed s ≡ false → asks_of old ≡ 0 → most_of s ≡ most → most ≡ length octets + 2097152
       → PageTakes contents s octets t → asks_of end ≤ max (asks_of (writer_of t)) (most_of t) → final ≡ end
       → OnErr r (IsCutAfter contents (has_failed t) (writer_of t) end (page_of t) (most_of t)) → OnErr r (IsCutOff contents old final octets)
-  cut_pages r s t old end final octets most from empty ok unasked most_is limit taken asks same h =
-      subst (λ w. OnErr r (IsCutOff contents old w octets)) (sym same)
-      (on_err r (front_written s t old end octets most from empty ok unasked most_is limit taken asks) h)
+  cut_pages r s t old end final octets most from empty ok unasked most_is limit taken asks same h = search (rules, on_err, front_written)

@@ -1,6 +1,5 @@
 -- What is sent, and the status that it has.
-use Rattle.std.proofs.Common.{◌≡◌, ◌⊎◌, ℕ, List, Option, Bool, IsTrue, inl, inr, refl, sym, ◌∙◌, subst}
-use Rattle.std.specs.Io.KnownBytes.{Appends}
+use Rattle.std.proofs.Common.{◌≡◌, ◌⊎◌, ℕ, List, Option, Bool, IsTrue, inl, inr, refl, sym, ◌∙◌, rules}
 use Rattle.metered_io.specs.declared.meters.Metered.{Metered}
 use Rattle.metered_io.specs.Metered.{inner_of, faults_of}
 use Rattle.spki_words.specs.declared.commands.Command.{Command}
@@ -36,24 +35,11 @@ module _ {W : Type 0} (contents : W → Option (List ℕ)) where
 
   written_from : (old mid new : Metered W) (output : List ℕ) → inner_of mid ≡ inner_of old → IsWritten contents mid new output
       → IsWritten contents old new output
-  written_from old mid new output e h = record {
-    whole = subst (λ i. Appends (contents i) (contents (inner_of new)) output) e h.whole;
-    flushed = h.flushed;
-    asks = h.asks;
-  }
+  written_from old mid new output e h = search (rules, inner_of)
 
   cut_from : (old mid new : Metered W) (output : List ℕ) → inner_of mid ≡ inner_of old → IsCutOff contents mid new output
       → IsCutOff contents old new output
-  cut_from old mid new output e h = record {
-    rest = h.rest;
-    front = record {
-      sent = h.front.sent;
-      whole = h.front.whole;
-      taken = subst (λ i. Appends (contents i) (contents (inner_of new)) h.front.sent) e h.front.taken;
-    };
-    faulty = h.faulty;
-    asks = h.asks;
-  }
+  cut_from old mid new output e h = search (rules, inner_of)
 
   module _ (P : Verdict → List ℕ → Type 0) (old mid new : Metered W) (status : Status) (same : inner_of mid ≡ inner_of old)
       (sent : Sends contents P mid new status) where
@@ -61,9 +47,7 @@ module _ {W : Type 0} (contents : W → Option (List ℕ)) where
         → ((status ≡ answer_status sent.verdict) × IsWritten contents mid new sent.output × (faults_of new ≡ faults_of mid))
         ⊎ ((status ≡ WriteFault) × IsCutOff contents mid new sent.output)
         → (output : List ℕ) × P v output × IsWritten contents old new output
-    written_as v e (inl h) =
-        let one : sent.verdict ≡ v = status_one sent.verdict v (sym h.0 ∙ e) in
-        (sent.output, subst (λ w. P w sent.output) one sent.is, written_from old mid new sent.output same h.1)
+    written_as v e (inl h) = search (rules, status_one, written_from)
     written_as v e (inr h) = absurd (no_write_fault v (sym e ∙ h.0))
 
     pub sends_written : (v : Verdict) → status ≡ answer_status v → (output : List ℕ) × P v output × IsWritten contents old new output
@@ -100,6 +84,4 @@ module _ {W : Type 0} (contents : W → Option (List ℕ)) where
   pub sends_ended : (command : Command) (known left : Option (List ℕ)) (ended : Bool) (mid new : Metered W) (status : Status)
       → Sends contents (IsReply command known left ended) mid new status → (v : Verdict) → status ≡ answer_status v → ¬ (v ≡ Refused)
       → IsTrue ended
-  sends_ended command known left ended mid new status sent v e other =
-      let (output, reply, written) = sends_written (IsReply command known left ended) mid mid new status refl sent v e in
-      ended_unless_refused command known left ended v output reply other
+  sends_ended command known left ended mid new status sent v e other = search (rules, sends_written, ended_unless_refused)

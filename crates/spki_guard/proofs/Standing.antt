@@ -1,9 +1,9 @@
 -- Cases that are read where they stand, since their text is canonical.
-use Rattle.std.proofs.Common.{◌≡◌, ◌≢◌, ◌≤◌, List, ℕ, length, inl, inr, sym, subst, Result, Ok, Err, IfOk, IfErr}
+use Rattle.std.proofs.Common.{◌≡◌, ◌≢◌, List, ℕ, length, inl, inr, subst, Result, Ok, Err, IfOk, IfErr, rules}
 use Rattle.sexpr_core.specs.Limits.{octet_limit}
 use Rattle.sexpr_core.specs.Value.{Value, canon, IsWithinLimits}
 use Rattle.sexpr_core.specs.declared.fault.FormFault.{FormFault}
-use Rattle.sexpr_text.specs.Spelling.{Spells, IsTextWithin}
+use Rattle.sexpr_text.specs.Spelling.{IsTextWithin}
 use Rattle.sexpr_text.specs.Written.{written}
 use Rattle.sexpr_text.proofs.CanonicalSpelled.{canonical_spelled}
 use Rattle.spki_case.specs.Case.{Case}
@@ -22,12 +22,7 @@ use Rattle.spki_guard.specs.Inner.Replies.{reply_verdict, printed}
 use Rattle.spki_guard.specs.Apart.{ReadsCase, DecidesApart, DecidesBy, RefusesApart, RefusesBy}
 
 canonical_text : (text : List ℕ) (v : Value) → IsWithinLimits v → text ≡ canon v → IsTextWithin text v
-canonical_text text v within e =
-    inl (record {
-      spelling = subst (λ s. Spells s v) (sym e) (canonical_spelled v);
-      short = subst (λ s. length s ≤ octet_limit) (sym e) within.short;
-      shallow = within.shallow;
-    })
+canonical_text text v within e = search (rules, canonical_spelled, length, octet_limit)
 
 -- a fault that isn't of the form is one of the value
 pub of_value : (text : List ℕ) (fault : CaseFault) → TextRefused text fault → ((form : FormFault) × (fault ≡ faults.Form form) → ⊥)
@@ -99,11 +94,7 @@ no_case command text fault outer f (inr h) =
 -- ---- with an accepted list that stands apart
 
 reads_case : (text : List ℕ) (c : Case) → IsCaseText text c → ReadsCase text c
-reads_case text c t = record {
-  value = t.value;
-  read = canonical_text text t.value t.within t.written;
-  is_case = subst (λ s. IsCaseText s c) t.written t;
-}
+reads_case text c t = search (rules, canonical_text, written)
 
 pub apart_answered : (text rows : List ℕ) (c : Case) (r : Result Answer Refusal) → IsCaseText text c
     → IfOk r (λ a. DecidesBy c rows a.verdict (written_by a)) → IfOk r (λ a. DecidesApart text rows a.verdict (written_by a))
