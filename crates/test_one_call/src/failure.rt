@@ -1,5 +1,6 @@
 //! Why a row has no answer.
 
+use crate::answers::Reply;
 use hex::FromHexError;
 use sexpr_core::FormFault;
 use spki_cert::{CertFault, CertFaultKind};
@@ -68,7 +69,7 @@ impl Failure {
     }
 
     /// The fault and its text, as the answer to a row. `Memory` if memory ran out.
-    pub(crate) fn said(self, alloc: Global) -> Result<Vec<u8>, Failure> {
+    pub(crate) fn said(self, alloc: Global) -> Reply {
         if self.is_memory() {
             return Err(Failure::Memory);
         }

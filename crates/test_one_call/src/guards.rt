@@ -1,39 +1,30 @@
 //! The calls for guards. Their first texts are the access list, its policy, and the most octets and nodes of a question.
 
-use crate::cases::{answered, decided, explained, reduced};
+use crate::answers::{Answered, Reply, shown, word};
 use crate::failure::Failure;
-use crate::texts::{at, behind, number, word};
+use crate::texts::{at, behind, number};
 use crate::verifier::RowVerifier;
 use spki_cert::Policy;
-use spki_guard::{Asked, Guard, Limits, Moment, Query, Question, RequestInput, answer_question};
-use std::alloc::Global;
+use spki_guard::{Asked, Guard, Limits, Moment, Query, Question, RequestInput, Texts, answer_question};
+use std::alloc::{AllocError, Global};
 use std::str;
 
 /// The answer of the call with this name. None if there is no such call.
-pub(crate) fn call(
-    alloc: Global,
-    name: &str,
-    texts: &[Vec<u8>],
-) -> Option<Result<Vec<u8>, Failure>> {
+pub(crate) fn call(alloc: Global, name: &str, texts: &[Vec<u8>]) -> Option<Reply> {
     match name {
         "Limits::new" => Some(new_limits(alloc, texts)),
-        "Guard::read" => Some(read(alloc, texts)),
         "refused_list" => Some(refused_list(alloc, texts)),
-        "Guard::texts" => Some(texts_of(alloc, texts)),
-        "Guard::ask" => Some(ask_words(alloc, texts)),
-        "answer_question" => Some(answer(alloc, texts)),
-        "Asked::decide"
-        | "Asked::decide_by"
-        | "Asked::explain"
-        | "Asked::explain_by"
-        | "Asked::reduce"
-        | "Asked::reduce_by" => Some(ask(alloc, name, texts)),
+        "Guard::read" | "Guard::ask" | "answer_question" => Some(of_guard(alloc, name, texts)),
+        "Guard::texts" | "Asked::decide" | "Asked::decide_by" | "Asked::explain"
+        | "Asked::explain_by" | "Asked::reduce" | "Asked::reduce_by" => {
+            Some(of_guard(alloc, name, texts))
+        }
         _ => None,
     }
 }
 
 /// Whether these are limits, and which: of octets, certificates, strings, nodes, work and the answer.
-fn new_limits(alloc: Global, texts: &[Vec<u8>]) -> Result<Vec<u8>, Failure> {
+fn new_limits(alloc: Global, texts: &[Vec<u8>]) -> Reply {
     let (octets, certificates, words) = (
         number(at(texts, 0)),
         number(at(texts, 1)),
@@ -83,17 +74,11 @@ pub(crate) fn guard(alloc: Global, texts: &[Vec<u8>]) -> Result<Guard, Failure> 
     Ok(Guard::read(alloc, at(texts, 0), policy, limits)?)
 }
 
-/// The number of entries.
-fn read(alloc: Global, texts: &[Vec<u8>]) -> Result<Vec<u8>, Failure> {
-    let entries = guard(alloc, texts)?.entries();
-    Ok(format!(in alloc; "{entries}")?.into_bytes())
-}
-
 /// The line of a refused list.
-fn refused_list(alloc: Global, texts: &[Vec<u8>]) -> Result<Vec<u8>, Failure> {
+fn refused_list(alloc: Global, texts: &[Vec<u8>]) -> Reply {
     match guard(alloc, texts) {
         Ok(_) => word(alloc, "read"),
-        Err(Failure::Acl(fault)) => answered(alloc, &spki_guard::refused_list(alloc, fault)),
+        Err(Failure::Acl(fault)) => spki_guard::refused_list(alloc, fault).answered(alloc),
         Err(failure) => Err(failure),
     }
 }
@@ -108,27 +93,30 @@ pub(crate) fn question(texts: &[Vec<u8>]) -> Question<'_> {
     }
 }
 
-fn texts_of(alloc: Global, texts: &[Vec<u8>]) -> Result<Vec<u8>, Failure> {
-    guard(alloc, texts)?.texts(alloc, &question(behind(texts, 4)))?;
-    word(alloc, "read")
+/// What the guard of the first four texts answers. The ninth text is the verifier, or the marks.
+fn of_guard(alloc: Global, name: &str, texts: &[Vec<u8>]) -> Reply {
+    let guard = guard(alloc, texts)?;
+    match name {
+        "Guard::read" => shown(alloc, &guard.entries()),
+        "Guard::ask" => ask_words(alloc, &guard, behind(texts, 4)),
+        "answer_question" => answer(alloc, &guard, query_of(at(texts, 4)), behind(texts, 5)),
+        _ => ask(alloc, name, &guard, &question(behind(texts, 4)), at(texts, 8)),
+    }
 }
 
 /// The decision on a key that shows nothing, at a moment in seconds. The texts behind these two are the strings of the request.
-fn ask_words(alloc: Global, texts: &[Vec<u8>]) -> Result<Vec<u8>, Failure> {
+fn ask_words(alloc: Global, guard: &Guard, texts: &[Vec<u8>]) -> Reply {
     let mut words = Vec::new(alloc);
-    for text in behind(texts, 6) {
+    for text in behind(texts, 2) {
         words.push(text.as_slice())?;
     }
     let question = Question {
         sequence: b"(8:sequence)",
-        key: at(texts, 4),
+        key: at(texts, 0),
         request: RequestInput::Words(&words),
-        moment: Moment::Seconds(seconds(at(texts, 5))),
+        moment: Moment::Seconds(seconds(at(texts, 1))),
     };
-    let guard = guard(alloc, texts)?;
-    let read = guard.texts(alloc, &question)?;
-    let asked = guard.ask(alloc, &read)?;
-    decided(alloc, asked.decide_by(alloc, &[])?)
+    ask(alloc, "Asked::decide_by", guard, &question, b"")
 }
 
 /// Seconds in decimal digits.
@@ -140,7 +128,7 @@ fn seconds(text: &[u8]) -> i64 {
 }
 
 /// Which signatures are verified: those whose octet is 1.
-pub(crate) fn marks(alloc: Global, text: &[u8]) -> Result<Vec<bool>, Failure> {
+pub(crate) fn marks(alloc: Global, text: &[u8]) -> Result<Vec<bool>, AllocError> {
     let mut marks = Vec::new(alloc);
     for octet in text {
         marks.push(*octet == b'1')?;
@@ -157,67 +145,53 @@ pub(crate) fn query_of(text: &[u8]) -> Query {
     }
 }
 
-/// What one guard answers to several questions. The fifth text says what is asked for; each question has four texts and its marks.
-fn answer(alloc: Global, texts: &[Vec<u8>]) -> Result<Vec<u8>, Failure> {
-    let guard = guard(alloc, texts)?;
-    let query = query_of(at(texts, 4));
+/// What a guard answers to several questions. Each has four texts and its marks.
+fn answer(alloc: Global, guard: &Guard, query: Query, texts: &[Vec<u8>]) -> Reply {
     let mut out = Vec::new(alloc);
-    for asked in behind(texts, 5).chunks(5) {
-        out.extend_from_slice(&answer_to(alloc, &guard, query, asked)?)?;
+    for asked in texts.chunks(5) {
+        out.extend_from_slice(&answer_to(alloc, guard, query, asked)?)?;
     }
     Ok(out)
 }
 
-fn answer_to(
-    alloc: Global,
-    guard: &Guard,
-    query: Query,
-    texts: &[Vec<u8>],
-) -> Result<Vec<u8>, Failure> {
+fn answer_to(alloc: Global, guard: &Guard, query: Query, texts: &[Vec<u8>]) -> Reply {
     let marks = marks(alloc, at(texts, 4))?;
-    match answer_question(alloc, query, guard, &question(texts), &marks) {
-        Some(answer) => answered(alloc, &answer),
-        None => word(alloc, "other marks"),
-    }
+    answer_question(alloc, query, guard, &question(texts), &marks).answered(alloc)
 }
 
-/// The answer of a call of a question that was asked. The ninth text is the verifier, or the marks.
-fn ask(alloc: Global, name: &str, texts: &[Vec<u8>]) -> Result<Vec<u8>, Failure> {
-    let guard = guard(alloc, texts)?;
-    let read = guard.texts(alloc, &question(behind(texts, 4)))?;
-    let asked = guard.ask(alloc, &read)?;
+/// What is answered to a question of a guard, by a verifier or by marks.
+fn ask(alloc: Global, name: &str, guard: &Guard, question: &Question, by: &[u8]) -> Reply {
+    let texts = guard.texts(alloc, question)?;
     match name {
-        "Asked::decide" => decide(alloc, &asked, at(texts, 8)),
-        "Asked::explain" => explain(alloc, &asked, at(texts, 8)),
-        "Asked::reduce" => reduce(alloc, &asked, at(texts, 8)),
-        _ => ask_by(alloc, name, &asked, at(texts, 8)),
+        "Guard::texts" => word(alloc, "read"),
+        _ => ask_texts(alloc, name, guard, &texts, by),
     }
 }
 
-fn decide(alloc: Global, asked: &Asked, rows: &[u8]) -> Result<Vec<u8>, Failure> {
-    let verifier = RowVerifier::read(alloc, rows)?;
-    decided(alloc, asked.decide(alloc, &verifier)?)
+fn ask_texts(alloc: Global, name: &str, guard: &Guard, texts: &Texts, by: &[u8]) -> Reply {
+    let asked = guard.ask(alloc, texts)?;
+    match name {
+        "Asked::decide" | "Asked::explain" | "Asked::reduce" => {
+            by_verifier(alloc, name, &asked, by)
+        }
+        _ => by_marks(alloc, name, &asked, by),
+    }
 }
 
-fn explain(alloc: Global, asked: &Asked, rows: &[u8]) -> Result<Vec<u8>, Failure> {
+fn by_verifier(alloc: Global, name: &str, asked: &Asked, rows: &[u8]) -> Reply {
     let verifier = RowVerifier::read(alloc, rows)?;
-    let explanation = asked.explain(alloc, &verifier)?;
-    explained(alloc, &explanation)
+    match name {
+        "Asked::decide" => asked.decide(alloc, &verifier).answered(alloc),
+        "Asked::explain" => asked.explain(alloc, &verifier).answered(alloc),
+        _ => asked.reduce(alloc, &verifier).answered(alloc),
+    }
 }
 
-fn reduce(alloc: Global, asked: &Asked, rows: &[u8]) -> Result<Vec<u8>, Failure> {
-    let verifier = RowVerifier::read(alloc, rows)?;
-    let reduction = asked.reduce(alloc, &verifier)?;
-    reduced(alloc, &reduction)
-}
-
-/// The same by marks.
-fn ask_by(alloc: Global, name: &str, asked: &Asked, text: &[u8]) -> Result<Vec<u8>, Failure> {
+fn by_marks(alloc: Global, name: &str, asked: &Asked, text: &[u8]) -> Reply {
     let marks = marks(alloc, text)?;
     match name {
-        "Asked::decide_by" => decided(alloc, asked.decide_by(alloc, &marks)?),
-        "Asked::explain_by" => explained(alloc, &asked.explain_by(alloc, &marks)?),
-        "Asked::reduce_by" => reduced(alloc, &asked.reduce_by(alloc, &marks)?),
-        _ => Err(Failure::Unknown),
+        "Asked::decide_by" => asked.decide_by(alloc, &marks).answered(alloc),
+        "Asked::explain_by" => asked.explain_by(alloc, &marks).answered(alloc),
+        _ => asked.reduce_by(alloc, &marks).answered(alloc),
     }
 }

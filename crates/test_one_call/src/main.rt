@@ -6,18 +6,21 @@
 //! allocation of a call in turn.
 #![tactic(auto)]
 
+mod answers;
 mod cases;
+mod documents;
 mod failure;
 mod forms;
 mod guards;
 mod opened;
 mod streams;
-mod structures;
 mod tags;
 mod texts;
 mod tuples;
 mod verifier;
+mod windows;
 
+use crate::answers::Reply;
 use crate::failure::Failure;
 use std::alloc::Global;
 use std::io;
@@ -25,10 +28,11 @@ use std::io::{BufRead, BufReader};
 use std::process::ExitCode;
 
 /// The answer of the call with this name. None if there is no such call.
-fn answer_of(alloc: Global, name: &str, texts: &[Vec<u8>]) -> Option<Result<Vec<u8>, Failure>> {
+fn answer_of(alloc: Global, name: &str, texts: &[Vec<u8>]) -> Option<Reply> {
     forms::call(alloc, name, texts)
+        .or_else(|| documents::call(alloc, name, texts))
         .or_else(|| tags::call(alloc, name, texts))
-        .or_else(|| structures::call(alloc, name, texts))
+        .or_else(|| windows::call(alloc, name, texts))
         .or_else(|| tuples::call(alloc, name, texts))
         .or_else(|| cases::call(alloc, name, texts))
         .or_else(|| guards::call(alloc, name, texts))
@@ -36,30 +40,35 @@ fn answer_of(alloc: Global, name: &str, texts: &[Vec<u8>]) -> Option<Result<Vec<
         .or_else(|| streams::call(alloc, name, texts))
 }
 
-/// The name of the call of a row, and its texts.
-fn parts_of(alloc: Global, line: &str) -> Result<(String, Vec<Vec<u8>>), Failure> {
-    let mut words = line.split(' ');
-    let name = words.next().unwrap_or("").to_string(alloc)?;
-    let mut texts = Vec::new(alloc);
-    for digits in words {
-        texts.push(hex::decode(alloc, digits)?)?;
-    }
-    Ok((name, texts))
-}
-
-/// What is answered to a row: the call's answer, or why there is none.
-fn said(alloc: Global, line: &str) -> Result<Vec<u8>, Failure> {
-    let (name, texts) = parts_of(alloc, line)?;
-    match answer_of(alloc, &name, &texts) {
+/// What is answered to a call: its answer, or why there is none.
+fn said(alloc: Global, name: &str, texts: &[Vec<u8>]) -> Reply {
+    match answer_of(alloc, name, texts) {
         Some(Err(failure)) => failure.said(alloc),
         Some(answer) => answer,
         None => Err(Failure::Unknown),
     }
 }
 
+/// The texts that these digits are, with a space between each two.
+fn texts_of(alloc: Global, digits: &str) -> Result<Vec<Vec<u8>>, Failure> {
+    let mut texts = Vec::new(alloc);
+    for word in digits.split(' ') {
+        texts.push(hex::decode(alloc, word)?)?;
+    }
+    Ok(texts)
+}
+
+/// What is answered to a row.
+fn reply_to(alloc: Global, line: &str) -> Reply {
+    match line.split_once(' ') {
+        None => said(alloc, line, &[]),
+        Some((name, digits)) => said(alloc, name, &texts_of(alloc, digits)?),
+    }
+}
+
 /// The line that answers a row.
 fn line_for(alloc: Global, line: &str) -> Result<String, Failure> {
-    let answer = said(alloc, line)?;
+    let answer = reply_to(alloc, line)?;
     Ok(hex::encode(alloc, answer.as_slice())?)
 }
 

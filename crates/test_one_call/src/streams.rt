@@ -2,8 +2,9 @@
 
 ghost use Rattle.std.specs.Prelude.{◌≡◌, ◌≤◌, IfOk};
 
+use crate::answers::{Reply, joined};
 use crate::failure::Failure;
-use crate::texts::{at, behind, number, word};
+use crate::texts::{at, behind, number};
 use metered_io::{ReadFault, WriteFault};
 use sexpr_core::FormFault;
 use spki_cert::CertFaultKind;
@@ -15,11 +16,7 @@ use std::io;
 use std::io::{Error, ErrorKind, Read, Write};
 
 /// The answer of the call with this name. None if there is no such call.
-pub(crate) fn call(
-    alloc: Global,
-    name: &str,
-    texts: &[Vec<u8>],
-) -> Option<Result<Vec<u8>, Failure>> {
+pub(crate) fn call(alloc: Global, name: &str, texts: &[Vec<u8>]) -> Option<Reply> {
     match name {
         "run" => Some(run(alloc, texts)),
         "Metered::read" => Some(read_once(alloc, at(texts, 0))),
@@ -153,55 +150,64 @@ fn command(word: &[u8]) -> Command {
 
 /// The exit status; the reader's calls, its faults, whether it ended, how many octets it has left; the writer's calls, its
 /// faults, whether it was flushed; and what was written.
-fn run(alloc: Global, texts: &[Vec<u8>]) -> Result<Vec<u8>, Failure> {
+fn run(alloc: Global, texts: &[Vec<u8>]) -> Reply {
     let mut reader = Metered::new(End::new(alloc, at(texts, 1), behind(texts, 2)));
     let mut writer = Metered::new(End::new(alloc, b"", behind(texts, 5)));
     let status = spki_guard::run(alloc, command(at(texts, 0)), &mut reader, &mut writer).code();
     let (reads, read_faults, ended) = (reader.asks(), reader.faults(), reader.ended());
     let (writes, write_faults, flushed) = (writer.asks(), writer.faults(), writer.flushed());
     let left = reader.into_inner().text.len();
-    let taken = writer.into_inner().taken;
-    if taken.as_slice() == b"refused Memory\n".as_slice() {
+    let counts = format!(in alloc;
+        "{status}, {reads} {read_faults} {ended} {left}, {writes} {write_faults} {flushed};"
+    )?;
+    written(alloc, counts.as_bytes(), &writer.into_inner().taken)
+}
+
+/// The counts of a run and what was written.
+fn written(alloc: Global, counts: &[u8], taken: &[u8]) -> Reply {
+    if taken == b"refused Memory\n".as_slice() {
         return Err(Failure::Memory);
     }
-    let mut out = format!(in alloc;
-        "{status}, {reads} {read_faults} {ended} {left}, {writes} {write_faults} {flushed};"
-    )?.into_bytes();
-    out.extend_from_slice(&taken)?;
-    Ok(out)
+    joined(alloc, &[counts, taken])
 }
 
 /// What a meter passes on to a reader of a text: how many octets were read into a buffer of three, the buffer, the meter's count
 /// of calls and faults; and the reader's count, its buffer's length, and its flushes.
-fn read_once(alloc: Global, text: &[u8]) -> Result<Vec<u8>, Failure> {
+fn read_once(alloc: Global, text: &[u8]) -> Reply {
     let mut meter = Metered::new(End::new(alloc, text, &[]));
     let mut buffer = [0; 3];
     let count = meter.read(&mut buffer)?;
     let (asks, faults) = (meter.asks(), meter.faults());
-    let inner = meter.into_inner();
-    let (calls, last, flushes) = (inner.calls, inner.last, inner.flushes);
-    Ok(format!(in alloc;
-        "{count} {buffer:?}, {asks} {faults}, {calls} {last} {flushes}"
-    )?.into_bytes())
+    passed_on(alloc, count, &buffer, asks, faults, &meter.into_inner())
 }
 
 /// The same for a writer, which is flushed.
-fn write_once(alloc: Global, octets: &[u8]) -> Result<Vec<u8>, Failure> {
+fn write_once(alloc: Global, octets: &[u8]) -> Reply {
     let mut meter = Metered::new(End::new(alloc, b"", &[]));
     let count = meter.write(octets)?;
     meter.flush()?;
     let (asks, faults) = (meter.asks(), meter.faults());
-    let inner = meter.into_inner();
-    let (calls, last, flushes) = (inner.calls, inner.last, inner.flushes);
+    let end = meter.into_inner();
+    passed_on(alloc, count, &end.taken, asks, faults, &end)
+}
+
+fn passed_on(
+    alloc: Global,
+    count: usize,
+    octets: &[u8],
+    asks: u64,
+    faults: u64,
+    end: &End,
+) -> Reply {
+    let (calls, last, flushes) = (end.calls, end.last, end.flushes);
     let line = format!(in alloc;
-        "{count} {:?}, {asks} {faults}, {calls} {last} {flushes}",
-        inner.taken
+        "{count} {octets:?}, {asks} {faults}, {calls} {last} {flushes}"
     )?;
     Ok(line.into_bytes())
 }
 
 /// The texts of the faults that no row shows.
-fn fault_texts(alloc: Global) -> Result<Vec<u8>, Failure> {
+fn fault_texts(alloc: Global) -> Reply {
     let (form, tag, meet) = (FormFault::Memory, TagFault::Memory, MeetFault::Memory);
     let (kind, case, both) = (
         CertFaultKind::Memory,

@@ -1,11 +1,9 @@
-//! The texts of a row.
-
-ghost use Rattle.std.specs.Prelude.{IfOk, IsSome};
-ghost use Rattle.sexpr_core.specs.Value.{node};
+//! The texts of a row, and the values that they are read as.
 
 use crate::failure::Failure;
-use sexpr_core::{Doc, NodeId, encode};
-use spki_tag::Tag;
+use sexpr_core::Doc;
+use spki_cert::{Date, Key, date_of, key_of};
+use spki_tag::{Ground, Tag};
 use std::alloc::Global;
 use std::str;
 
@@ -33,35 +31,22 @@ pub(crate) fn number(text: &[u8]) -> usize {
     }
 }
 
-/// The number of a document's root, which is one of its nodes.
-pub(crate) fn root_of(document: &Doc) -> Result<NodeId, Failure>
-    ensures { IfOk result (λ root. IsSome (node document.now root.0)) }
-{
-    let root = document.root();
-    if document.node(root).is_none() {
-        return Err(Failure::Unknown);
-    }
-    Ok(root)
-}
-
-/// The tag with a text.
-pub(crate) fn tag(alloc: Global, text: &[u8]) -> Result<Tag, Failure> {
+pub(crate) fn read_tag(alloc: Global, text: &[u8]) -> Result<Tag, Failure> {
     let document = Doc::open(alloc, text)?;
     Ok(Tag::of(alloc, &document.top())?)
 }
 
-/// The text of a tag.
-pub(crate) fn written(alloc: Global, tag: &Tag) -> Result<Vec<u8>, Failure> {
-    let tree = tag.write(alloc)?;
-    Ok(encode(alloc, &tree)?)
+pub(crate) fn request(alloc: Global, text: &[u8]) -> Result<Ground, Failure> {
+    let document = Doc::open(alloc, text)?;
+    Ok(Ground::of(alloc, &document.top())?)
 }
 
-/// A number, a truth value or another word as an answer.
-pub(crate) fn word(alloc: Global, word: &str) -> Result<Vec<u8>, Failure> {
-    Ok(Vec::from_slice(alloc, word.as_bytes())?)
+pub(crate) fn date(alloc: Global, text: &[u8]) -> Result<Date, Failure> {
+    let document = Doc::open(alloc, text)?;
+    Ok(date_of(&document.top())?)
 }
 
-/// Yes or no as an answer.
-pub(crate) fn yes_or_no(alloc: Global, is_so: bool) -> Result<Vec<u8>, Failure> {
-    word(alloc, if is_so { "yes" } else { "no" })
+pub(crate) fn key<'a>(alloc: Global, text: &'a [u8]) -> Result<Key<'a>, Failure> {
+    let document = Doc::open(alloc, text)?;
+    Ok(key_of(&document.top())?)
 }

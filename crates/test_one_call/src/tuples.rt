@@ -1,30 +1,24 @@
 //! The calls for tuples. A tuple is three texts: its issuer's key, or none for the owner of the access list; the name that it defines,
 //! or none if it is an authorization; and the rest as an entry.
 
+use crate::answers::{Answered, Reply, shown};
 use crate::failure::Failure;
-use crate::structures::{date, key};
-use crate::texts::{at, behind, number};
-use sexpr_core::{Doc, encode};
-use spki_cert::{Entry, Octets, Policy, entry_of};
-use spki_reduce::{Five, Fold, Four, Issuer, Joined, Step, Work};
-use spki_tag::{Ground, Tag};
+use crate::texts::{at, behind, date, key, number, request};
+use sexpr_core::Doc;
+use spki_cert::{Entry, Key, Octets, Policy, entry_of};
+use spki_reduce::{Five, Four, Issuer, Step, Work};
+use spki_tag::Ground;
 use std::alloc::Global;
 
 /// The answer of the call with this name. None if there is no such call.
-pub(crate) fn call(
-    alloc: Global,
-    name: &str,
-    texts: &[Vec<u8>],
-) -> Option<Result<Vec<u8>, Failure>> {
+pub(crate) fn call(alloc: Global, name: &str, texts: &[Vec<u8>]) -> Option<Reply> {
     match name {
-        "Five::write" => Some(write(alloc, texts)),
-        "Five::first_denial" => Some(first_denial(alloc, texts)),
+        "Five::write" | "Five::first_denial" => Some(of_five(alloc, name, texts)),
         "Five::then" => Some(then(alloc, texts)),
-        "Five::resolve" => Some(resolve(alloc, texts)),
-        "Five::into_resolve" => Some(into_resolve(alloc, texts)),
-        "Four::then" => Some(four_then(alloc, texts)),
-        "fold_chain" => Some(fold_chain(alloc, texts)),
-        "fold_owned" => Some(fold_owned(alloc, texts)),
+        "Five::resolve" | "Five::into_resolve" | "Four::then" => {
+            Some(by_definition(alloc, name, texts))
+        }
+        "fold_chain" | "fold_owned" => Some(fold(alloc, name, texts)),
         _ => None,
     }
 }
@@ -67,98 +61,76 @@ fn four<'a>(alloc: Global, texts: &'a [Vec<u8>]) -> Result<Four<'a>, Failure> {
     })
 }
 
+fn step<'a>(alloc: Global, texts: &'a [Vec<u8>]) -> Result<Step<'a>, Failure> {
+    if at(texts, 1).is_empty() {
+        Ok(Step::Auth(five(alloc, texts)?))
+    } else {
+        Ok(Step::Name(four(alloc, texts)?))
+    }
+}
+
 /// The steps of the texts.
 fn steps<'a>(alloc: Global, texts: &'a [Vec<u8>]) -> Result<Vec<Step<'a>>, Failure> {
     let mut steps = Vec::new(alloc);
     for tuple in texts.chunks(3) {
-        if at(tuple, 1).is_empty() {
-            steps.push(Step::Auth(five(alloc, tuple)?))?;
-        } else {
-            steps.push(Step::Name(four(alloc, tuple)?))?;
-        }
+        steps.push(step(alloc, tuple)?)?;
     }
     Ok(steps)
 }
 
-/// An authorization in canonical form.
-pub(crate) fn written(alloc: Global, five: &Five) -> Result<Vec<u8>, Failure> {
-    let tree = five.write(alloc)?;
-    Ok(encode(alloc, &tree)?)
-}
-
-fn joined(alloc: Global, joined: Joined<Five>) -> Result<Vec<u8>, Failure> {
-    match joined {
-        Joined::Done(five) => written(alloc, &five),
-        Joined::Stopped(cause) => Ok(format!(in alloc; "{cause:?}")?.into_bytes()),
-    }
-}
-
-fn folded(alloc: Global, fold: Fold) -> Result<Vec<u8>, Failure> {
-    match fold {
-        Fold::Done(five) => written(alloc, &five),
-        Fold::Stopped { step, cause } => Ok(format!(in alloc; "{step} {cause:?}")?.into_bytes()),
-    }
-}
-
-fn write(alloc: Global, texts: &[Vec<u8>]) -> Result<Vec<u8>, Failure> {
+/// An authorization in canonical form, or what it lacks to grant a key a request at a moment.
+fn of_five(alloc: Global, name: &str, texts: &[Vec<u8>]) -> Reply {
     let five = five(alloc, texts)?;
-    written(alloc, &five)
-}
-
-/// The request that a text is.
-fn request(alloc: Global, text: &[u8]) -> Result<Ground, Failure> {
-    let document = Doc::open(alloc, text)?;
-    Ok(Ground::of(alloc, &document.top())?)
-}
-
-/// What an authorization lacks to grant a key a request at a moment.
-fn first_denial(alloc: Global, texts: &[Vec<u8>]) -> Result<Vec<u8>, Failure> {
-    let holder = key(alloc, at(texts, 3))?;
-    let request = request(alloc, at(texts, 4))?;
-    let moment = date(alloc, at(texts, 5))?;
-    let denial = five(alloc, texts)?.first_denial(&holder, &request, &moment, Policy::Open);
-    Ok(format!(in alloc; "{denial:?}")?.into_bytes())
-}
-
-fn then(alloc: Global, texts: &[Vec<u8>]) -> Result<Vec<u8>, Failure> {
-    let next = five(alloc, behind(texts, 3))?;
-    let both = five(alloc, texts)?.then(alloc, &next, Policy::Open)?;
-    joined(alloc, both)
-}
-
-fn resolve(alloc: Global, texts: &[Vec<u8>]) -> Result<Vec<u8>, Failure> {
-    let definition = four(alloc, behind(texts, 3))?;
-    let both = five(alloc, texts)?.resolve(alloc, &definition, Policy::Open)?;
-    joined(alloc, both)
-}
-
-fn into_resolve(alloc: Global, texts: &[Vec<u8>]) -> Result<Vec<u8>, Failure> {
-    let definition = four(alloc, behind(texts, 3))?;
-    let both = five(alloc, texts)?.into_resolve(&definition, Policy::Open)?;
-    joined(alloc, both)
-}
-
-/// The name that two definitions define, and the rest as an authorization of everything.
-fn four_then(alloc: Global, texts: &[Vec<u8>]) -> Result<Vec<u8>, Failure> {
-    let next = four(alloc, behind(texts, 3))?;
-    match four(alloc, texts)?.then(alloc, &next, Policy::Open)? {
-        Joined::Done(both) => defined(alloc, both),
-        Joined::Stopped(cause) => Ok(format!(in alloc; "{cause:?}")?.into_bytes()),
+    match name {
+        "Five::write" => (&five).answered(alloc),
+        _ => first_denial(alloc, &five, behind(texts, 3)),
     }
 }
 
-fn defined(alloc: Global, four: Four) -> Result<Vec<u8>, Failure> {
-    let mut out = Vec::from_slice(alloc, four.name.as_slice())?;
-    let five = Five {
-        issuer: Issuer::Key(four.key),
-        subject: four.subject,
-        propagate: false,
-        tag: Tag::everything(),
-        window: four.window,
-    };
-    out.push(b' ')?;
-    out.extend_from_slice(&written(alloc, &five)?)?;
-    Ok(out)
+fn first_denial(alloc: Global, five: &Five, texts: &[Vec<u8>]) -> Reply {
+    let holder = key(alloc, at(texts, 0))?;
+    let request = request(alloc, at(texts, 1))?;
+    denial(alloc, five, &holder, &request, at(texts, 2))
+}
+
+fn denial(alloc: Global, five: &Five, holder: &Key, request: &Ground, moment: &[u8]) -> Reply {
+    let moment = date(alloc, moment)?;
+    shown(alloc, &five.first_denial(holder, request, &moment, Policy::Open))
+}
+
+fn then(alloc: Global, texts: &[Vec<u8>]) -> Reply {
+    let next = five(alloc, behind(texts, 3))?;
+    then_next(alloc, texts, &next)
+}
+
+fn then_next<'a>(alloc: Global, texts: &'a [Vec<u8>], next: &Five<'a>) -> Reply {
+    let first = five(alloc, texts)?;
+    first.then(alloc, next, Policy::Open).answered(alloc)
+}
+
+/// The first tuple with the definition behind it.
+fn by_definition(alloc: Global, name: &str, texts: &[Vec<u8>]) -> Reply {
+    let definition = four(alloc, behind(texts, 3))?;
+    match name {
+        "Four::then" => four_then(alloc, texts, &definition),
+        "Five::resolve" => resolve(alloc, texts, &definition),
+        _ => into_resolve(alloc, texts, &definition),
+    }
+}
+
+fn four_then<'a>(alloc: Global, texts: &'a [Vec<u8>], definition: &Four<'a>) -> Reply {
+    let first = four(alloc, texts)?;
+    first.then(alloc, definition, Policy::Open).answered(alloc)
+}
+
+fn resolve<'a>(alloc: Global, texts: &'a [Vec<u8>], definition: &Four<'a>) -> Reply {
+    let first = five(alloc, texts)?;
+    first.resolve(alloc, definition, Policy::Open).answered(alloc)
+}
+
+fn into_resolve<'a>(alloc: Global, texts: &'a [Vec<u8>], definition: &Four<'a>) -> Reply {
+    let first = five(alloc, texts)?;
+    first.into_resolve(definition, Policy::Open).answered(alloc)
 }
 
 /// The number that a text is, if it has octets.
@@ -170,20 +142,25 @@ fn bound(text: &[u8]) -> Option<usize> {
     }
 }
 
-fn fold_chain(alloc: Global, texts: &[Vec<u8>]) -> Result<Vec<u8>, Failure> {
-    let first = five(alloc, texts)?;
-    let steps = steps(alloc, behind(texts, 3))?;
-    let fold = spki_reduce::fold_chain(alloc, &first, &steps, Policy::Open)?;
-    folded(alloc, fold)
+/// A chain. Before the tuples of `fold_owned` are the most nodes, 1,000,000 at most, and the bound on work, if there is one. The first
+/// authorization is consumed then.
+fn fold(alloc: Global, name: &str, texts: &[Vec<u8>]) -> Reply {
+    if name == "fold_chain" {
+        let steps = steps(alloc, behind(texts, 3))?;
+        return fold_chain(alloc, texts, &steps);
+    }
+    let steps = steps(alloc, behind(texts, 5))?;
+    fold_owned(alloc, texts, &steps)
 }
 
-/// The first two texts are the most nodes, 1,000,000 at most, and the bound on work, if there is one. The first authorization is
-/// consumed.
-fn fold_owned(alloc: Global, texts: &[Vec<u8>]) -> Result<Vec<u8>, Failure> {
+fn fold_chain<'a>(alloc: Global, texts: &'a [Vec<u8>], steps: &[Step<'a>]) -> Reply {
+    let first = five(alloc, texts)?;
+    spki_reduce::fold_chain(alloc, &first, steps, Policy::Open).answered(alloc)
+}
+
+fn fold_owned<'a>(alloc: Global, texts: &'a [Vec<u8>], steps: &[Step<'a>]) -> Reply {
     let most = number(at(texts, 0)).min(1_000_000);
-    let steps = steps(alloc, behind(texts, 5))?;
-    let first = five(alloc, behind(texts, 2))?;
     let mut work = Work::new(bound(at(texts, 1)));
-    let fold = spki_reduce::fold_owned(alloc, first, &steps, Policy::Open, most, &mut work)?;
-    folded(alloc, fold)
+    let first = five(alloc, behind(texts, 2))?;
+    spki_reduce::fold_owned(alloc, first, steps, Policy::Open, most, &mut work).answered(alloc)
 }

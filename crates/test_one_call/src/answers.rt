@@ -1,0 +1,257 @@
+//! How the values that calls return are written as answers.
+
+use crate::failure::Failure;
+use sexpr_core::{Sexp, encode};
+use spki_cert::{Date, Entry, Key, Policy, Principal, SeqItem};
+use spki_decision::Evidence;
+use spki_guard::{Answer, Decision, EntryFold, Explanation, Reduction, Verdict};
+use spki_reduce::{Five, Fold, Four, Issuer, Joined};
+use spki_tag::{Ground, Tag};
+use std::alloc::Global;
+use std::fmt::Debug;
+
+/// The octets that are answered to a row, or why there are none.
+pub(crate) type Reply = Result<Vec<u8>, Failure>;
+
+/// A value that a call returns.
+pub(crate) trait Answered {
+    /// The answer to a row whose call returned this value.
+    fn answered(self, alloc: Global) -> Reply;
+}
+
+/// A word as an answer.
+pub(crate) fn word(alloc: Global, word: &str) -> Reply {
+    octets(alloc, word.as_bytes())
+}
+
+/// Octets as an answer.
+pub(crate) fn octets(alloc: Global, octets: &[u8]) -> Reply {
+    Ok(Vec::from_slice(alloc, octets)?)
+}
+
+/// A value as an answer, as `Debug` writes it.
+pub(crate) fn shown<T: Debug>(alloc: Global, value: &T) -> Reply {
+    Ok(format!(in alloc; "{value:?}")?.into_bytes())
+}
+
+/// Octets one behind another, as an answer.
+pub(crate) fn joined(alloc: Global, parts: &[&[u8]]) -> Reply {
+    let mut out = Vec::new(alloc);
+    for part in parts {
+        out.extend_from_slice(part)?;
+    }
+    Ok(out)
+}
+
+/// A number and what follows it, as `Debug` writes that.
+fn numbered<T: Debug>(alloc: Global, number: usize, value: &T) -> Reply {
+    Ok(format!(in alloc; "{number} {value:?}")?.into_bytes())
+}
+
+impl<T: Answered, E: Into<Failure>> Answered for Result<T, E> {
+    fn answered(self, alloc: Global) -> Reply {
+        match self {
+            Ok(value) => value.answered(alloc),
+            Err(fault) => Err(fault.into()),
+        }
+    }
+}
+
+impl Answered for Vec<u8> {
+    fn answered(self, _: Global) -> Reply {
+        Ok(self)
+    }
+}
+
+impl Answered for Vec<usize> {
+    fn answered(self, alloc: Global) -> Reply {
+        shown(alloc, &self)
+    }
+}
+
+impl Answered for bool {
+    fn answered(self, alloc: Global) -> Reply {
+        word(alloc, if self { "yes" } else { "no" })
+    }
+}
+
+/// In canonical form.
+impl Answered for Sexp {
+    fn answered(self, alloc: Global) -> Reply {
+        Ok(encode(alloc, &self)?)
+    }
+}
+
+impl Answered for Tag {
+    fn answered(self, alloc: Global) -> Reply {
+        self.write(alloc).answered(alloc)
+    }
+}
+
+/// That it was read.
+impl Answered for Ground {
+    fn answered(self, alloc: Global) -> Reply {
+        word(alloc, "yes")
+    }
+}
+
+/// Its octets, if it names itself.
+impl Answered for Key<'_> {
+    fn answered(self, alloc: Global) -> Reply {
+        if Principal::Key(self.share()).names(&self, Policy::Strict) {
+            octets(alloc, self.as_slice())
+        } else {
+            word(alloc, "no")
+        }
+    }
+}
+
+impl Answered for Date {
+    fn answered(self, alloc: Global) -> Reply {
+        octets(alloc, self.as_slice())
+    }
+}
+
+/// The number of entries of an access list.
+impl Answered for Vec<Entry<'_>> {
+    fn answered(self, alloc: Global) -> Reply {
+        shown(alloc, &self.len())
+    }
+}
+
+/// The number of items of a sequence.
+impl Answered for Vec<SeqItem<'_>> {
+    fn answered(self, alloc: Global) -> Reply {
+        shown(alloc, &self.len())
+    }
+}
+
+/// An authorization in canonical form.
+impl Answered for &Five<'_> {
+    fn answered(self, alloc: Global) -> Reply {
+        self.write(alloc).answered(alloc)
+    }
+}
+
+/// An authorization, or the cause of a stop.
+impl Answered for Joined<Five<'_>> {
+    fn answered(self, alloc: Global) -> Reply {
+        match self {
+            Joined::Done(five) => (&five).answered(alloc),
+            Joined::Stopped(cause) => shown(alloc, &cause),
+        }
+    }
+}
+
+/// The name that is defined, and the rest as an authorization of everything; or the cause of a stop.
+impl Answered for Joined<Four<'_>> {
+    fn answered(self, alloc: Global) -> Reply {
+        match self {
+            Joined::Done(four) => defined(alloc, four),
+            Joined::Stopped(cause) => shown(alloc, &cause),
+        }
+    }
+}
+
+fn defined(alloc: Global, four: Four) -> Reply {
+    let name = four.name.share();
+    let five = Five {
+        issuer: Issuer::Key(four.key),
+        subject: four.subject,
+        propagate: false,
+        tag: Tag::everything(),
+        window: four.window,
+    };
+    let text = (&five).answered(alloc)?;
+    joined(alloc, &[name.as_slice(), b" ", &text])
+}
+
+/// An authorization, or the step that stops the chain, and the cause.
+impl Answered for Fold<'_> {
+    fn answered(self, alloc: Global) -> Reply {
+        match self {
+            Fold::Done(five) => (&five).answered(alloc),
+            Fold::Stopped { step, cause } => numbered(alloc, step, &cause),
+        }
+    }
+}
+
+/// An authorization, or the item that stops the entry, and the cause.
+impl Answered for &EntryFold<'_> {
+    fn answered(self, alloc: Global) -> Reply {
+        match self {
+            EntryFold::Done(five) => five.answered(alloc),
+            EntryFold::Stopped { item, cause } => numbered(alloc, *item, cause),
+        }
+    }
+}
+
+/// The number of tuples, or the first item whose certificate fails, and why.
+impl Answered for Evidence<'_> {
+    fn answered(self, alloc: Global) -> Reply {
+        match self {
+            Evidence::Verified(steps) => shown(alloc, &steps.len()),
+            Evidence::Fails { item, stop } => numbered(alloc, item, &stop),
+        }
+    }
+}
+
+impl Answered for Decision {
+    fn answered(self, alloc: Global) -> Reply {
+        shown(alloc, &self)
+    }
+}
+
+/// The reasons of the entries, or an item and its stop.
+impl Answered for Explanation {
+    fn answered(self, alloc: Global) -> Reply {
+        match self {
+            Explanation::Entries(reasons) => shown(alloc, &reasons),
+            Explanation::Evidence { item, stop } => numbered(alloc, item, &stop),
+        }
+    }
+}
+
+/// A line for each entry, or an item and its stop.
+impl Answered for Reduction<'_> {
+    fn answered(self, alloc: Global) -> Reply {
+        match self {
+            Reduction::Entries(folds) => lines_of(alloc, &folds),
+            Reduction::Evidence { item, stop } => numbered(alloc, item, &stop),
+        }
+    }
+}
+
+fn lines_of(alloc: Global, folds: &[EntryFold]) -> Reply {
+    let mut out = Vec::new(alloc);
+    for fold in folds {
+        out.extend_from_slice(&fold.answered(alloc)?)?;
+        out.push(b'\n')?;
+    }
+    Ok(out)
+}
+
+/// Its verdict and its line.
+impl Answered for Answer {
+    fn answered(self, alloc: Global) -> Reply {
+        if self.verdict == Verdict::Refused && self.octets() == b"refused Memory\n".as_slice() {
+            return Err(Failure::Memory);
+        }
+        with_verdict(alloc, self.verdict, self.octets())
+    }
+}
+
+fn with_verdict(alloc: Global, verdict: Verdict, line: &[u8]) -> Reply {
+    let word = shown(alloc, &verdict)?;
+    joined(alloc, &[&word, b" ", line])
+}
+
+/// None if there are not as many marks as signatures.
+impl Answered for Option<Answer> {
+    fn answered(self, alloc: Global) -> Reply {
+        match self {
+            Some(answer) => answer.answered(alloc),
+            None => word(alloc, "other marks"),
+        }
+    }
+}

@@ -1,0 +1,127 @@
+//! The calls for documents: their nodes, and what is read of a node.
+
+ghost use Rattle.std.specs.Prelude.{IsSome};
+ghost use Rattle.sexpr_core.specs.Value.{node};
+
+use crate::answers::{Answered, Reply, joined, octets, shown};
+use crate::failure::Failure;
+use crate::texts::at;
+use sexpr_core::syntax::append_verbatim;
+use sexpr_core::{Doc, NodeId, Sexp};
+use spki_cert::{read_acl, read_date, read_key, read_sequence};
+use spki_tag::{Ground, Tag};
+use std::alloc::{AllocError, Global};
+
+/// The answer of the call with this name. None if there is no such call.
+pub(crate) fn call(alloc: Global, name: &str, texts: &[Vec<u8>]) -> Option<Reply> {
+    match name {
+        "Doc::open" | "Doc::nodes" | "Sexp::of_node" => Some(of_document(alloc, name, texts)),
+        "read_key" | "read_hash" | "read_date" | "read_acl" | "read_sequence" | "Tag::read"
+        | "Ground::read" => Some(of_document(alloc, name, texts)),
+        _ => None,
+    }
+}
+
+/// The same for a document that the first text is.
+fn of_document(alloc: Global, name: &str, texts: &[Vec<u8>]) -> Reply {
+    let document = Doc::open(alloc, at(texts, 0))?;
+    match name {
+        "Doc::open" => octets(alloc, document.top().slice()),
+        "Doc::nodes" => nodes(alloc, &document, at(texts, 0).len()),
+        "Sexp::of_node" => Sexp::of_node(alloc, &document.top()).answered(alloc),
+        _ => of_root(alloc, name, &document, at(texts, 1)),
+    }
+}
+
+/// A line for each node, from the root on, and one for the first number that is no node. A document of so many octets has no more nodes.
+fn nodes(alloc: Global, document: &Doc, most: usize) -> Reply {
+    let mut out = format!(in alloc; "root {}\n", document.root().0)?.into_bytes();
+    for n in 0..=most {
+        push_node(alloc, &mut out, document, NodeId(n))?;
+        if document.start(NodeId(n)).is_none() {
+            break;
+        }
+    }
+    Ok(out)
+}
+
+/// A line for a node: the numbers of it, its octets, its string and its hint.
+fn push_node(
+    alloc: Global,
+    out: &mut Vec<u8>,
+    document: &Doc,
+    n: NodeId,
+) -> Result<(), AllocError> {
+    push_numbers(alloc, out, document, n)?;
+    push_octets(out, document.slice(n))?;
+    push_octets(out, document.body(n))?;
+    push_octets(out, document.hint(n))?;
+    Ok(out.push(b'\n')?)
+}
+
+/// Where a node begins, how many parts it has, and the numbers of the first three.
+fn push_numbers(
+    alloc: Global,
+    out: &mut Vec<u8>,
+    document: &Doc,
+    n: NodeId,
+) -> Result<(), AllocError> {
+    let start = document.start(n);
+    let count = document.parts(n);
+    let parts = [0, 1, 2].map(|i| document.part(n, i));
+    let line = format!(in alloc; "{start:?} {count:?} {parts:?}")?;
+    Ok(out.extend_from_slice(line.as_bytes())?)
+}
+
+/// A space and octets as a verbatim string, or a hyphen.
+fn push_octets(out: &mut Vec<u8>, octets: Option<&[u8]>) -> Result<(), AllocError> {
+    out.push(b' ')?;
+    match octets {
+        Some(octets) => append_verbatim(octets, out),
+        None => Ok(out.push(b'-')?),
+    }
+}
+
+/// What is read of the root.
+fn of_root(alloc: Global, name: &str, document: &Doc, octets: &[u8]) -> Reply {
+    let root = document.root();
+    if document.node(root).is_none() {
+        return Err(Failure::Unknown);
+    }
+    read(alloc, name, document, root, octets)
+}
+
+fn read(alloc: Global, name: &str, document: &Doc, n: NodeId, octets: &[u8]) -> Reply
+    requires { IsSome (node document.now n.0) }
+{
+    match name {
+        "read_key" => read_key(document, n).answered(alloc),
+        "read_hash" => read_hash(alloc, document, n, octets),
+        "read_date" => read_date(document, n).answered(alloc),
+        "read_acl" => read_acl(alloc, document, n).answered(alloc),
+        "read_sequence" => read_sequence(alloc, document, n).answered(alloc),
+        "Tag::read" => counted(alloc, &Tag::read(alloc, document, n)?),
+        "Ground::read" => Ground::read(alloc, document, n).answered(alloc),
+        _ => Err(Failure::Unknown),
+    }
+}
+
+/// The algorithm of a hash, and whether its digest is that of these octets.
+fn read_hash(alloc: Global, document: &Doc, n: NodeId, octets: &[u8]) -> Reply
+    requires { IsSome (node document.now n.0) }
+{
+    let (alg, digest) = spki_cert::read_hash(document, n)?;
+    let fits = alg.fits(digest.as_slice(), octets);
+    Ok(format!(in alloc; "{alg:?} {fits}")?.into_bytes())
+}
+
+/// The number of nodes of a tag, and its normal form.
+fn counted(alloc: Global, tag: &Tag) -> Reply {
+    let text = tag.write(alloc).answered(alloc)?;
+    behind_number(alloc, tag.nodes(), &text)
+}
+
+fn behind_number(alloc: Global, number: usize, text: &[u8]) -> Reply {
+    let number = shown(alloc, &number)?;
+    joined(alloc, &[&number, b" ", text])
+}

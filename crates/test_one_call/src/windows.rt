@@ -1,0 +1,79 @@
+//! The calls for windows, and for keys that a principal names.
+
+use crate::answers::{Answered, Reply, shown, word};
+use crate::failure::Failure;
+use crate::texts::{at, date, key};
+use spki_cert::{Date, HashAlg, Key, Octets, Principal, Window};
+use std::alloc::Global;
+
+/// The answer of the call with this name. None if there is no such call.
+pub(crate) fn call(alloc: Global, name: &str, texts: &[Vec<u8>]) -> Option<Reply> {
+    match name {
+        "Window::holds" | "Window::meet" => Some(at_moment(alloc, name, texts)),
+        "first_named" => Some(first_named(alloc, texts)),
+        _ => None,
+    }
+}
+
+/// The limit with a text, and none without a text.
+fn limit(alloc: Global, text: &[u8]) -> Result<Option<Date>, Failure> {
+    if text.is_empty() {
+        return Ok(None);
+    }
+    Ok(Some(date(alloc, text)?))
+}
+
+fn window(alloc: Global, from: &[u8], until: &[u8]) -> Result<Window, Failure> {
+    Ok(Window {
+        not_before: limit(alloc, from)?,
+        not_after: limit(alloc, until)?,
+    })
+}
+
+/// Whether the moment that the third text is is within the window from the first text until the second; or within the intersection of
+/// the window until the first text and that from the second on.
+fn at_moment(alloc: Global, name: &str, texts: &[Vec<u8>]) -> Reply {
+    let (one, other) = (at(texts, 0), at(texts, 1));
+    let moment = date(alloc, at(texts, 2))?;
+    if name == "Window::holds" {
+        return window(alloc, one, other)?.holds(&moment).answered(alloc);
+    }
+    let up_to = window(alloc, b"", one)?;
+    match up_to.meet(&window(alloc, other, b"")?) {
+        None => word(alloc, "no moment"),
+        Some(both) => both.holds(&moment).answered(alloc),
+    }
+}
+
+/// A digest that two keys share. No real digest does this.
+const SHARED: &[u8] = b"0123456789abcdef0123456789abcdef";
+
+/// The two keys.
+const OWNERS: [&[u8]; 2] = [b"(10:public-key(4:test1:a))", b"(10:public-key(4:test1:b))"];
+
+/// Whether a key has the principal's digest, if that is the shared one.
+fn is_owner(principal: &Principal, key: &Key) -> bool {
+    match principal {
+        Principal::Key(own) => own.same(key),
+        Principal::Hash { digest, .. } => {
+            digest.as_slice() == SHARED && OWNERS.iter().any(|owner| key.as_slice() == *owner)
+        }
+    }
+}
+
+/// The place of the first of these keys that has the shared digest.
+fn first_named(alloc: Global, texts: &[Vec<u8>]) -> Reply {
+    let mut keys = Vec::new(alloc);
+    for text in texts {
+        keys.push(key(alloc, text)?)?;
+    }
+    place_of(alloc, &keys)
+}
+
+fn place_of(alloc: Global, keys: &[Key]) -> Reply {
+    let hash = Principal::Hash {
+        alg: HashAlg::Sha256,
+        digest: Octets::new(SHARED),
+    };
+    shown(alloc, &spki_guard::first_named(&hash, keys, is_owner))
+}
