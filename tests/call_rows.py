@@ -13,6 +13,7 @@ commas between them are a row each. Texts and answers are written as in `tables/
     answer_question                 the same, with what is asked for behind the first four; then questions of five texts each
     answer_opened, Opened::signed   one question, which is opened: with what is asked for, and without it
     Guard::ask                      the first four; a key, seconds, and the strings of a request
+    first_member, grants ..         what the callers in `test_callers` take: `crates/test_one_call/src/callers.rt` says it
     run                             a command, a text; of the reader and of the writer: the octets of each call, the room, what follows
                                     then (`fails`, `interrupted`, or nothing more); and whether a flush fails. The answer is the status;
                                     the reader's calls, faults, whether it ended, octets left; the writer's calls, faults, whether it was

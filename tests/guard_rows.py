@@ -125,6 +125,20 @@ def of_separate_rows() -> Iterator[CallRow]:
         yield CallRow(f"calls/rows:{name}", "check_accepted", (given, listed), wanted)
 
 
+# ---- callers that accept no signature of a revoked key
+
+
+def of_revoked_keys() -> Iterator[CallRow]:
+    """What `test_callers` decides of a case in which KA delegates its right to KB, while some keys are revoked."""
+    text = case(entry("a"), row(C1, KA), signed(C1, KA))
+    parts, rows = parts_of(text)[:5], rows_of(text)
+    ka, kb = canonical(KA), canonical(KB)
+    for revoked, wanted in (((), b"Yes(1)"), ((kb,), b"Yes(1)"), ((kb, ka), b"No")):
+        yield CallRow(f"calls/callers:decide_unrevoked {len(revoked)}", "decide_unrevoked", (*parts, rows, *revoked), wanted)
+    for revoked, wanted in (((), b"(Yes(1), No)"), ((ka,), b"(No, No)")):
+        yield CallRow(f"calls/callers:answer_both {len(revoked)}", "answer_both", (*parts[:2], kb, ka, rows, *revoked), wanted)
+
+
 # ---- the questions of cases
 
 

@@ -15,9 +15,9 @@ from rows import shown
 
 MADE: dict[str, Callable[[], Iterator[CallRow]]] = {
     "CutShort": call_rows.cut_short, "FailingEnds": call_rows.failing_ends, "Verifiers": guard_rows.of_verifiers,
-    "SeparateRows": guard_rows.of_separate_rows, "Questions": guard_rows.of_questions, "RefusedParts": question_rows.of_refused_parts,
-    "Strings": question_rows.of_strings, "Seconds": question_rows.of_seconds, "Limits": question_rows.of_limits,
-    "SeveralEntries": question_rows.of_several_entries}
+    "SeparateRows": guard_rows.of_separate_rows, "RevokedKeys": guard_rows.of_revoked_keys, "Questions": guard_rows.of_questions,
+    "RefusedParts": question_rows.of_refused_parts, "Strings": question_rows.of_strings, "Seconds": question_rows.of_seconds,
+    "Limits": question_rows.of_limits, "SeveralEntries": question_rows.of_several_entries}
 
 
 FAULT = re.compile(rb"\w+\(.*\): ")

@@ -5,8 +5,6 @@ pub mod cases;
 pub mod certificates;
 pub mod chains;
 pub mod decisions;
-#[cfg(test)]
-mod examples;
 pub mod services;
 pub mod streams;
 pub mod tags;

@@ -202,6 +202,12 @@ impl Answered for Decision {
     }
 }
 
+impl Answered for (Decision, Decision) {
+    fn answered(self, alloc: Global) -> Reply {
+        shown(alloc, &self)
+    }
+}
+
 /// The reasons of the entries, or an item and its stop.
 impl Answered for Explanation {
     fn answered(self, alloc: Global) -> Reply {

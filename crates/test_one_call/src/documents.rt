@@ -16,7 +16,12 @@ use std::alloc::{AllocError, Global};
 pub(crate) fn call(alloc: Global, name: &str, texts: &[Vec<u8>]) -> Option<Reply> {
     match name {
         "Doc::open" | "Doc::nodes" | "Sexp::of_node" => Some(of_document(alloc, name, texts)),
-        "read_key" | "read_hash" | "read_date" | "read_acl" | "read_sequence" | "Tag::read"
+        "read_key"
+        | "read_hash"
+        | "read_date"
+        | "read_acl"
+        | "read_sequence"
+        | "Tag::read"
         | "Ground::read" => Some(of_document(alloc, name, texts)),
         _ => None,
     }

@@ -10,6 +10,9 @@ use spki_tag::{MeetFault, TagFault};
 use std::alloc::{AllocError, AllocFailed, Global};
 use std::io;
 use std::io::ErrorKind;
+use test_callers::services::ServiceFault;
+use test_callers::streams::TextFault;
+use test_callers::tags::NarrowFault;
 use thiserror::Error;
 
 /// Why a row has no answer.
@@ -45,27 +48,42 @@ pub enum Failure {
     Acl(#[from] AclFault),
     #[error(transparent)]
     Ask(#[from] AskFault),
+    #[error(transparent)]
+    Text(#[from] TextFault),
+    #[error(transparent)]
+    Narrow(#[from] NarrowFault),
+    #[error(transparent)]
+    Service(#[from] ServiceFault),
 }
 
 impl Failure {
     /// Whether memory ran out.
-    pub(crate) fn is_memory(&self) -> bool {
-        match self {
-            Failure::Memory => true,
-            Failure::Unknown => false,
-            Failure::Form(fault) => *fault == FormFault::Memory,
-            Failure::Tag(fault) => *fault == TagFault::Memory,
-            Failure::Meet(fault) => *fault == MeetFault::Memory,
-            Failure::Cert(fault) => fault.kind == CertFaultKind::Memory,
-            Failure::Kind(kind) => *kind == CertFaultKind::Memory,
-            Failure::Reduce(fault) => *fault == ReduceFault::Memory,
-            Failure::Case(fault) => *fault == CaseFault::Memory,
-            Failure::Rows(fault) => *fault == RowsFault::Memory,
-            Failure::Decision(fault) => *fault == GuardFault::Memory,
-            Failure::Intersect(fault) => *fault == IntersectFault::Memory,
-            Failure::Acl(fault) => *fault == AclFault::Memory,
-            Failure::Ask(fault) => *fault == AskFault::Memory,
-        }
+    fn is_memory(&self) -> bool {
+        matches!(
+            self,
+            Failure::Memory
+                | Failure::Form(FormFault::Memory)
+                | Failure::Tag(TagFault::Memory)
+                | Failure::Meet(MeetFault::Memory)
+                | Failure::Cert(CertFault {
+                    kind: CertFaultKind::Memory,
+                    ..
+                })
+                | Failure::Kind(CertFaultKind::Memory)
+                | Failure::Reduce(ReduceFault::Memory)
+                | Failure::Case(CaseFault::Memory)
+                | Failure::Rows(RowsFault::Memory)
+                | Failure::Decision(GuardFault::Memory)
+                | Failure::Intersect(IntersectFault::Memory)
+                | Failure::Acl(AclFault::Memory)
+                | Failure::Ask(AskFault::Memory)
+                | Failure::Text(TextFault::Memory)
+                | Failure::Narrow(NarrowFault::Tag(TagFault::Memory))
+                | Failure::Narrow(NarrowFault::Meet(MeetFault::Memory))
+                | Failure::Service(ServiceFault::List(AclFault::Memory))
+                | Failure::Service(ServiceFault::Question(AskFault::Memory))
+                | Failure::Service(ServiceFault::Memory)
+        )
     }
 
     /// The fault and its text, as the answer to a row. `Memory` if memory ran out.

@@ -5,7 +5,9 @@ use crate::failure::Failure;
 use crate::texts::{at, behind, number};
 use crate::verifier::RowVerifier;
 use spki_cert::Policy;
-use spki_guard::{Asked, Guard, Limits, Moment, Query, Question, RequestInput, Texts, answer_question};
+use spki_guard::{
+    Asked, Guard, Limits, Moment, Query, Question, RequestInput, Texts, answer_question,
+};
 use std::alloc::{AllocError, Global};
 use std::str;
 
@@ -15,10 +17,13 @@ pub(crate) fn call(alloc: Global, name: &str, texts: &[Vec<u8>]) -> Option<Reply
         "Limits::new" => Some(new_limits(alloc, texts)),
         "refused_list" => Some(refused_list(alloc, texts)),
         "Guard::read" | "Guard::ask" | "answer_question" => Some(of_guard(alloc, name, texts)),
-        "Guard::texts" | "Asked::decide" | "Asked::decide_by" | "Asked::explain"
-        | "Asked::explain_by" | "Asked::reduce" | "Asked::reduce_by" => {
-            Some(of_guard(alloc, name, texts))
-        }
+        "Guard::texts"
+        | "Asked::decide"
+        | "Asked::decide_by"
+        | "Asked::explain"
+        | "Asked::explain_by"
+        | "Asked::reduce"
+        | "Asked::reduce_by" => { Some(of_guard(alloc, name, texts)) }
         _ => None,
     }
 }
@@ -100,7 +105,13 @@ fn of_guard(alloc: Global, name: &str, texts: &[Vec<u8>]) -> Reply {
         "Guard::read" => shown(alloc, &guard.entries()),
         "Guard::ask" => ask_words(alloc, &guard, behind(texts, 4)),
         "answer_question" => answer(alloc, &guard, query_of(at(texts, 4)), behind(texts, 5)),
-        _ => ask(alloc, name, &guard, &question(behind(texts, 4)), at(texts, 8)),
+        _ => ask(
+            alloc,
+            name,
+            &guard,
+            &question(behind(texts, 4)),
+            at(texts, 8),
+        ),
     }
 }
 

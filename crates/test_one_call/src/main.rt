@@ -7,6 +7,7 @@
 #![tactic(auto)]
 
 mod answers;
+mod callers;
 mod cases;
 mod documents;
 mod failure;
@@ -38,6 +39,7 @@ fn answer_of(alloc: Global, name: &str, texts: &[Vec<u8>]) -> Option<Reply> {
         .or_else(|| guards::call(alloc, name, texts))
         .or_else(|| opened::call(alloc, name, texts))
         .or_else(|| streams::call(alloc, name, texts))
+        .or_else(|| callers::call(alloc, name, texts))
 }
 
 /// What is answered to a call: its answer, or why there is none.

@@ -200,9 +200,7 @@ fn passed_on(
     end: &End,
 ) -> Reply {
     let (calls, last, flushes) = (end.calls, end.last, end.flushes);
-    let line = format!(in alloc;
-        "{count} {octets:?}, {asks} {faults}, {calls} {last} {flushes}"
-    )?;
+    let line = format!(in alloc; "{count} {octets:?}, {asks} {faults}, {calls} {last} {flushes}")?;
     Ok(line.into_bytes())
 }
 

@@ -9,7 +9,11 @@ use std::alloc::{AllocError, Global};
 /// The answer of the call with this name. None if there is no such call.
 pub(crate) fn call(alloc: Global, name: &str, texts: &[Vec<u8>]) -> Option<Reply> {
     match name {
-        "Tag::clone" | "Tag::holds" | "Tag::same" | "Tag::meet" | "Tag::meet_within"
+        "Tag::clone"
+        | "Tag::holds"
+        | "Tag::same"
+        | "Tag::meet"
+        | "Tag::meet_within"
         | "Index::places" => Some(of_tag(alloc, name, texts)),
         "merged" => Some(merge(alloc, at(texts, 0), at(texts, 1))),
         "intersect" => Some(intersect(alloc, at(texts, 0)).answered(alloc)),

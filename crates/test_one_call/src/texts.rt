@@ -50,3 +50,11 @@ pub(crate) fn key<'a>(alloc: Global, text: &'a [u8]) -> Result<Key<'a>, Failure>
     let document = Doc::open(alloc, text)?;
     Ok(key_of(&document.top())?)
 }
+
+pub(crate) fn keys<'a>(alloc: Global, texts: &'a [Vec<u8>]) -> Result<Vec<Key<'a>>, Failure> {
+    let mut keys = Vec::new(alloc);
+    for text in texts {
+        keys.push(key(alloc, text)?)?;
+    }
+    Ok(keys)
+}

@@ -24,7 +24,7 @@ pub(crate) fn call(alloc: Global, name: &str, texts: &[Vec<u8>]) -> Option<Reply
 }
 
 /// The entry with a text.
-fn entry<'a>(alloc: Global, text: &'a [u8]) -> Result<Entry<'a>, Failure> {
+pub(crate) fn entry<'a>(alloc: Global, text: &'a [u8]) -> Result<Entry<'a>, Failure> {
     let document = Doc::open(alloc, text)?;
     Ok(entry_of(alloc, &document.top())?)
 }
@@ -95,7 +95,10 @@ fn first_denial(alloc: Global, five: &Five, texts: &[Vec<u8>]) -> Reply {
 
 fn denial(alloc: Global, five: &Five, holder: &Key, request: &Ground, moment: &[u8]) -> Reply {
     let moment = date(alloc, moment)?;
-    shown(alloc, &five.first_denial(holder, request, &moment, Policy::Open))
+    shown(
+        alloc,
+        &five.first_denial(holder, request, &moment, Policy::Open),
+    )
 }
 
 fn then(alloc: Global, texts: &[Vec<u8>]) -> Reply {
@@ -125,7 +128,9 @@ fn four_then<'a>(alloc: Global, texts: &'a [Vec<u8>], definition: &Four<'a>) -> 
 
 fn resolve<'a>(alloc: Global, texts: &'a [Vec<u8>], definition: &Four<'a>) -> Reply {
     let first = five(alloc, texts)?;
-    first.resolve(alloc, definition, Policy::Open).answered(alloc)
+    first
+        .resolve(alloc, definition, Policy::Open)
+        .answered(alloc)
 }
 
 fn into_resolve<'a>(alloc: Global, texts: &'a [Vec<u8>], definition: &Four<'a>) -> Reply {

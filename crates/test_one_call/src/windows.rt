@@ -2,7 +2,7 @@
 
 use crate::answers::{Answered, Reply, shown, word};
 use crate::failure::Failure;
-use crate::texts::{at, date, key};
+use crate::texts::{at, date, keys};
 use spki_cert::{Date, HashAlg, Key, Octets, Principal, Window};
 use std::alloc::Global;
 
@@ -63,17 +63,10 @@ fn is_owner(principal: &Principal, key: &Key) -> bool {
 
 /// The place of the first of these keys that has the shared digest.
 fn first_named(alloc: Global, texts: &[Vec<u8>]) -> Reply {
-    let mut keys = Vec::new(alloc);
-    for text in texts {
-        keys.push(key(alloc, text)?)?;
-    }
-    place_of(alloc, &keys)
-}
-
-fn place_of(alloc: Global, keys: &[Key]) -> Reply {
+    let keys = keys(alloc, texts)?;
     let hash = Principal::Hash {
         alg: HashAlg::Sha256,
         digest: Octets::new(SHARED),
     };
-    shown(alloc, &spki_guard::first_named(&hash, keys, is_owner))
+    shown(alloc, &spki_guard::first_named(&hash, &keys, is_owner))
 }

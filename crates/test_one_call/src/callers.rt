@@ -1,0 +1,175 @@
+//! The callers of the libraries in `test_callers`, which are called themselves.
+
+ghost use Rattle.std.specs.Prelude.{◌≡◌};
+ghost use Rattle.spki_reduce.specs.Tuples.{own};
+ghost use Rattle.spki_reduce.specs.Views.{issuer_of};
+
+use crate::answers::{Answered, Reply, octets, shown, word};
+use crate::failure::Failure;
+use crate::texts::{at, behind, date, key, keys, number, read_tag, request};
+use crate::tuples::entry;
+use metered_io::Metered;
+use sexpr_core::Doc;
+use sexpr_core::syntax::Node;
+use spki_cert::{Entry, Policy, acl_of};
+use spki_guard::{AcceptedTable, Case, Moment, Question as Posed, RequestInput};
+use spki_reduce::{Five, Issuer};
+use spki_tag::Tag;
+use std::alloc::Global;
+use test_callers::cases::{Question, case_of};
+use test_callers::certificates::pinned_key;
+use test_callers::chains::{Asked, grants};
+use test_callers::decisions::decide_unrevoked;
+use test_callers::services::{answer_both, shared_guard};
+use test_callers::streams::text_from;
+use test_callers::tags::narrowed;
+use test_callers::texts::same_value;
+use test_callers::values::first_member;
+
+/// The answer of the call with this name. None if there is no such call.
+pub(crate) fn call(alloc: Global, name: &str, texts: &[Vec<u8>]) -> Option<Reply> {
+    let (one, other) = (at(texts, 0), at(texts, 1));
+    match name {
+        "first_member" => Some(member(alloc, one)),
+        "same_value" => Some(same_value(alloc, one, other).answered(alloc)),
+        "text_from" => Some(whole(alloc, one, number(other))),
+        "narrowed" => Some(narrow(alloc, one, other)),
+        "pinned_key" => Some(pinned(alloc, one, other)),
+        "grants" => Some(granted(alloc, one, behind(texts, 1))),
+        "decide_unrevoked" => Some(decide(alloc, texts)),
+        "answer_both" => Some(both(alloc, texts)),
+        "shared_guard" => Some(entries_of(alloc, one)),
+        _ => None,
+    }
+}
+
+fn member(alloc: Global, text: &[u8]) -> Reply {
+    match first_member(alloc, text)? {
+        Some(member) => octets(alloc, member),
+        None => word(alloc, "none"),
+    }
+}
+
+/// A text that a reader passes on, of so many octets at most.
+fn whole(alloc: Global, text: &[u8], most: usize) -> Reply {
+    let mut client = Metered::new(text);
+    text_from(alloc, &mut client, most).answered(alloc)
+}
+
+/// A tag, narrowed by a given one.
+fn narrow(alloc: Global, text: &[u8], given: &[u8]) -> Reply {
+    let own = read_tag(alloc, text)?;
+    narrow_by(alloc, &own, given)
+}
+
+fn narrow_by(alloc: Global, own: &Tag, given: &[u8]) -> Reply {
+    let document = Doc::open(alloc, given)?;
+    narrowed(alloc, own, &document.top()).answered(alloc)
+}
+
+/// Whether a text is the key with this digest.
+fn pinned(alloc: Global, text: &[u8], pin: &[u8]) -> Reply {
+    let document = Doc::open(alloc, text)?;
+    let found = pinned_key(&document, pin)?;
+    found.is_some().answered(alloc)
+}
+
+/// Whether an entry grants a key a request at a moment, which are three texts.
+fn granted(alloc: Global, text: &[u8], texts: &[Vec<u8>]) -> Reply {
+    let first = of_list(entry(alloc, text)?);
+    asks(alloc, &first, texts)
+}
+
+/// The authorization of an entry of the owner's access list.
+fn of_list<'a>(entry: Entry<'a>) -> Five<'a>
+    ensures { issuer_of result.issuer ≡ own }
+{
+    Five {
+        issuer: Issuer::Own,
+        subject: entry.subject,
+        propagate: entry.propagate,
+        tag: entry.tag,
+        window: entry.window,
+    }
+}
+
+fn asks(alloc: Global, first: &Five, texts: &[Vec<u8>]) -> Reply
+    requires { issuer_of first.now.issuer ≡ own }
+{
+    let (holder, moment) = (key(alloc, at(texts, 0))?, date(alloc, at(texts, 2))?);
+    let request = request(alloc, at(texts, 1))?;
+    let asked = Asked {
+        key: &holder,
+        request: &request,
+        moment: &moment,
+    };
+    grants(alloc, first, &[], &asked, Policy::Open).answered(alloc)
+}
+
+/// The decision of a case of five parts: its list, its sequence, its key, its request and its moment. Behind them are the accepted list
+/// and the revoked keys.
+fn decide(alloc: Global, texts: &[Vec<u8>]) -> Reply {
+    let case = made(alloc, texts)?;
+    by_table(alloc, &case, behind(texts, 5))
+}
+
+fn made<'a>(alloc: Global, texts: &'a [Vec<u8>]) -> Result<Case<'a>, Failure> {
+    let document = Doc::open(alloc, at(texts, 1))?;
+    of_parts(alloc, &document.top(), texts)
+}
+
+fn of_parts<'a>(
+    alloc: Global,
+    shown: &Node<'_, 'a>,
+    texts: &'a [Vec<u8>],
+) -> Result<Case<'a>, Failure> {
+    let question = question(alloc, behind(texts, 2))?;
+    let entries = entries(alloc, at(texts, 0))?;
+    Ok(case_of(alloc, entries, shown, question)?)
+}
+
+fn question<'a>(alloc: Global, texts: &'a [Vec<u8>]) -> Result<Question<'a>, Failure> {
+    let (key, moment) = (key(alloc, at(texts, 0))?, date(alloc, at(texts, 2))?);
+    let request = request(alloc, at(texts, 1))?;
+    Ok(Question {
+        key,
+        request,
+        moment,
+    })
+}
+
+fn entries<'a>(alloc: Global, text: &'a [u8]) -> Result<Vec<Entry<'a>>, Failure> {
+    let document = Doc::open(alloc, text)?;
+    Ok(acl_of(alloc, &document.top())?)
+}
+
+fn by_table(alloc: Global, case: &Case, texts: &[Vec<u8>]) -> Reply {
+    let revoked = keys(alloc, behind(texts, 1))?;
+    let table = AcceptedTable::read(alloc, at(texts, 0))?;
+    decide_unrevoked(alloc, case, &table, &revoked).answered(alloc)
+}
+
+/// The question whether a key may do `(ftp host)` with a sequence.
+fn posed<'a>(sequence: &'a [u8], key: &'a [u8]) -> Posed<'a> {
+    Posed {
+        sequence,
+        key,
+        request: RequestInput::Words(&[b"ftp", b"host"]),
+        moment: Moment::Seconds(1_795_428_000),
+    }
+}
+
+/// The decisions on two keys. The texts are the list, the sequence, the keys, the accepted list, and the revoked keys.
+fn both(alloc: Global, texts: &[Vec<u8>]) -> Reply {
+    let revoked = keys(alloc, behind(texts, 5))?;
+    let table = AcceptedTable::read(alloc, at(texts, 4))?;
+    let first = posed(at(texts, 1), at(texts, 2));
+    let second = posed(at(texts, 1), at(texts, 3));
+    answer_both(alloc, at(texts, 0), &first, &second, &table, &revoked).answered(alloc)
+}
+
+/// The number of entries of a guard that threads may share.
+fn entries_of(alloc: Global, list: &[u8]) -> Reply {
+    let guard = shared_guard(alloc, list)?;
+    shown(alloc, &guard.entries())
+}
