@@ -11,7 +11,7 @@ use crate::tuples::entry;
 use metered_io::Metered;
 use sexpr_core::Doc;
 use sexpr_core::syntax::Node;
-use spki_cert::{Entry, Policy, acl_of};
+use spki_cert::{Entry, Key, Policy, acl_of};
 use spki_guard::{AcceptedTable, Case, Moment, Question as Posed, RequestInput};
 use spki_reduce::{Five, Issuer};
 use spki_tag::Tag;
@@ -110,7 +110,7 @@ fn asks(alloc: Global, first: &Five, texts: &[Vec<u8>]) -> Reply
 /// and the revoked keys.
 fn decide(alloc: Global, texts: &[Vec<u8>]) -> Reply {
     let case = made(alloc, texts)?;
-    by_table(alloc, &case, behind(texts, 5))
+    with_revoked(alloc, &case, at(texts, 5), behind(texts, 6))
 }
 
 fn made<'a>(alloc: Global, texts: &'a [Vec<u8>]) -> Result<Case<'a>, Failure> {
@@ -143,10 +143,14 @@ fn entries<'a>(alloc: Global, text: &'a [u8]) -> Result<Vec<Entry<'a>>, Failure>
     Ok(acl_of(alloc, &document.top())?)
 }
 
-fn by_table(alloc: Global, case: &Case, texts: &[Vec<u8>]) -> Reply {
-    let revoked = keys(alloc, behind(texts, 1))?;
-    let table = AcceptedTable::read(alloc, at(texts, 0))?;
-    decide_unrevoked(alloc, case, &table, &revoked).answered(alloc)
+fn with_revoked(alloc: Global, case: &Case, rows: &[u8], texts: &[Vec<u8>]) -> Reply {
+    let revoked = keys(alloc, texts)?;
+    by_rows(alloc, case, rows, &revoked)
+}
+
+fn by_rows(alloc: Global, case: &Case, rows: &[u8], revoked: &[Key]) -> Reply {
+    let table = AcceptedTable::read(alloc, rows)?;
+    decide_unrevoked(alloc, case, &table, revoked).answered(alloc)
 }
 
 /// The question whether a key may do `(ftp host)` with a sequence.
@@ -162,10 +166,14 @@ fn posed<'a>(sequence: &'a [u8], key: &'a [u8]) -> Posed<'a> {
 /// The decisions on two keys. The texts are the list, the sequence, the keys, the accepted list, and the revoked keys.
 fn both(alloc: Global, texts: &[Vec<u8>]) -> Reply {
     let revoked = keys(alloc, behind(texts, 5))?;
+    both_without(alloc, texts, &revoked)
+}
+
+fn both_without(alloc: Global, texts: &[Vec<u8>], revoked: &[Key]) -> Reply {
     let table = AcceptedTable::read(alloc, at(texts, 4))?;
     let first = posed(at(texts, 1), at(texts, 2));
     let second = posed(at(texts, 1), at(texts, 3));
-    answer_both(alloc, at(texts, 0), &first, &second, &table, &revoked).answered(alloc)
+    answer_both(alloc, at(texts, 0), &first, &second, &table, revoked).answered(alloc)
 }
 
 /// The number of entries of a guard that threads may share.

@@ -15,26 +15,30 @@ use std::alloc::{AllocError, Global};
 /// The answer of the call with this name. None if there is no such call.
 pub(crate) fn call(alloc: Global, name: &str, texts: &[Vec<u8>]) -> Option<Reply> {
     match name {
-        "Doc::open" | "Doc::nodes" | "Sexp::of_node" => Some(of_document(alloc, name, texts)),
+        "Doc::open" | "Doc::nodes" | "Sexp::of_node" => Some(with_document(alloc, name, texts)),
         "read_key"
         | "read_hash"
         | "read_date"
         | "read_acl"
         | "read_sequence"
         | "Tag::read"
-        | "Ground::read" => Some(of_document(alloc, name, texts)),
+        | "Ground::read" => Some(with_document(alloc, name, texts)),
         _ => None,
     }
 }
 
 /// The same for a document that the first text is.
-fn of_document(alloc: Global, name: &str, texts: &[Vec<u8>]) -> Reply {
+fn with_document(alloc: Global, name: &str, texts: &[Vec<u8>]) -> Reply {
     let document = Doc::open(alloc, at(texts, 0))?;
+    of_document(alloc, name, &document, texts)
+}
+
+fn of_document(alloc: Global, name: &str, document: &Doc, texts: &[Vec<u8>]) -> Reply {
     match name {
         "Doc::open" => octets(alloc, document.top().slice()),
-        "Doc::nodes" => nodes(alloc, &document, at(texts, 0).len()),
+        "Doc::nodes" => nodes(alloc, document, at(texts, 0).len()),
         "Sexp::of_node" => Sexp::of_node(alloc, &document.top()).answered(alloc),
-        _ => of_root(alloc, name, &document, at(texts, 1)),
+        _ => of_root(alloc, name, document, at(texts, 1)),
     }
 }
 
@@ -105,7 +109,7 @@ fn read(alloc: Global, name: &str, document: &Doc, n: NodeId, octets: &[u8]) -> 
         "read_date" => read_date(document, n).answered(alloc),
         "read_acl" => read_acl(alloc, document, n).answered(alloc),
         "read_sequence" => read_sequence(alloc, document, n).answered(alloc),
-        "Tag::read" => counted(alloc, &Tag::read(alloc, document, n)?),
+        "Tag::read" => read_tag(alloc, document, n),
         "Ground::read" => Ground::read(alloc, document, n).answered(alloc),
         _ => Err(Failure::Unknown),
     }
@@ -118,6 +122,13 @@ fn read_hash(alloc: Global, document: &Doc, n: NodeId, octets: &[u8]) -> Reply
     let (alg, digest) = spki_cert::read_hash(document, n)?;
     let fits = alg.fits(digest.as_slice(), octets);
     Ok(format!(in alloc; "{alg:?} {fits}")?.into_bytes())
+}
+
+fn read_tag(alloc: Global, document: &Doc, n: NodeId) -> Reply
+    requires { IsSome (node document.now n.0) }
+{
+    let tag = Tag::read(alloc, document, n)?;
+    counted(alloc, &tag)
 }
 
 /// The number of nodes of a tag, and its normal form.

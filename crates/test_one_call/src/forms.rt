@@ -15,7 +15,7 @@ pub(crate) fn call(alloc: Global, name: &str, texts: &[Vec<u8>]) -> Option<Reply
         "read_any" => Some(read_any(alloc, text).answered(alloc)),
         "read_advanced" => Some(read_advanced(alloc, text).answered(alloc)),
         "unwrap_braces" => Some(unwrap_braces(alloc, text).answered(alloc)),
-        "print_advanced" | "wrap" => Some(of_tree(alloc, name, text)),
+        "print_advanced" | "wrap" => Some(with_tree(alloc, name, text)),
         "append_verbatim" => Some(verbatim(alloc, text)),
         "wrap_octets" => Some(wrap_octets(alloc, text).answered(alloc)),
         "octets_in_braces" => Some(octets_in_braces(alloc, text).answered(alloc)),
@@ -26,11 +26,15 @@ pub(crate) fn call(alloc: Global, name: &str, texts: &[Vec<u8>]) -> Option<Reply
 }
 
 /// The same for the calls that write a tree.
-fn of_tree(alloc: Global, name: &str, text: &[u8]) -> Reply {
+fn with_tree(alloc: Global, name: &str, text: &[u8]) -> Reply {
     let tree = decode(alloc, text)?;
+    of_tree(alloc, name, &tree)
+}
+
+fn of_tree(alloc: Global, name: &str, tree: &Sexp) -> Reply {
     match name {
-        "wrap" => wrap(alloc, &tree).answered(alloc),
-        _ => print_advanced(alloc, &tree).answered(alloc),
+        "wrap" => wrap(alloc, tree).answered(alloc),
+        _ => print_advanced(alloc, tree).answered(alloc),
     }
 }
 

@@ -16,14 +16,14 @@ pub(crate) fn call(alloc: Global, name: &str, texts: &[Vec<u8>]) -> Option<Reply
     match name {
         "Limits::new" => Some(new_limits(alloc, texts)),
         "refused_list" => Some(refused_list(alloc, texts)),
-        "Guard::read" | "Guard::ask" | "answer_question" => Some(of_guard(alloc, name, texts)),
+        "Guard::read" | "Guard::ask" | "answer_question" => Some(with_guard(alloc, name, texts)),
         "Guard::texts"
         | "Asked::decide"
         | "Asked::decide_by"
         | "Asked::explain"
         | "Asked::explain_by"
         | "Asked::reduce"
-        | "Asked::reduce_by" => { Some(of_guard(alloc, name, texts)) }
+        | "Asked::reduce_by" => { Some(with_guard(alloc, name, texts)) }
         _ => None,
     }
 }
@@ -99,16 +99,20 @@ pub(crate) fn question(texts: &[Vec<u8>]) -> Question<'_> {
 }
 
 /// What the guard of the first four texts answers. The ninth text is the verifier, or the marks.
-fn of_guard(alloc: Global, name: &str, texts: &[Vec<u8>]) -> Reply {
+fn with_guard(alloc: Global, name: &str, texts: &[Vec<u8>]) -> Reply {
     let guard = guard(alloc, texts)?;
+    of_guard(alloc, name, &guard, texts)
+}
+
+fn of_guard(alloc: Global, name: &str, guard: &Guard, texts: &[Vec<u8>]) -> Reply {
     match name {
         "Guard::read" => shown(alloc, &guard.entries()),
-        "Guard::ask" => ask_words(alloc, &guard, behind(texts, 4)),
-        "answer_question" => answer(alloc, &guard, query_of(at(texts, 4)), behind(texts, 5)),
+        "Guard::ask" => ask_words(alloc, guard, behind(texts, 4)),
+        "answer_question" => answer(alloc, guard, query_of(at(texts, 4)), behind(texts, 5)),
         _ => ask(
             alloc,
             name,
-            &guard,
+            guard,
             &question(behind(texts, 4)),
             at(texts, 8),
         ),
@@ -127,7 +131,8 @@ fn ask_words(alloc: Global, guard: &Guard, texts: &[Vec<u8>]) -> Reply {
         request: RequestInput::Words(&words),
         moment: Moment::Seconds(seconds(at(texts, 1))),
     };
-    ask(alloc, "Asked::decide_by", guard, &question, b"")
+    let read = guard.texts(alloc, &question)?;
+    of_texts(alloc, "Asked::decide_by", guard, &read, b"")
 }
 
 /// Seconds in decimal digits.
@@ -173,36 +178,52 @@ fn answer_to(alloc: Global, guard: &Guard, query: Query, texts: &[Vec<u8>]) -> R
 /// What is answered to a question of a guard, by a verifier or by marks.
 fn ask(alloc: Global, name: &str, guard: &Guard, question: &Question, by: &[u8]) -> Reply {
     let texts = guard.texts(alloc, question)?;
+    of_texts(alloc, name, guard, &texts, by)
+}
+
+fn of_texts(alloc: Global, name: &str, guard: &Guard, texts: &Texts, by: &[u8]) -> Reply {
     match name {
         "Guard::texts" => word(alloc, "read"),
-        _ => ask_texts(alloc, name, guard, &texts, by),
+        _ => with_asked(alloc, name, guard, texts, by),
     }
 }
 
-fn ask_texts(alloc: Global, name: &str, guard: &Guard, texts: &Texts, by: &[u8]) -> Reply {
+fn with_asked(alloc: Global, name: &str, guard: &Guard, texts: &Texts, by: &[u8]) -> Reply {
     let asked = guard.ask(alloc, texts)?;
+    of_asked(alloc, name, &asked, by)
+}
+
+fn of_asked(alloc: Global, name: &str, asked: &Asked, by: &[u8]) -> Reply {
     match name {
         "Asked::decide" | "Asked::explain" | "Asked::reduce" => {
-            by_verifier(alloc, name, &asked, by)
+            with_verifier(alloc, name, asked, by)
         }
-        _ => by_marks(alloc, name, &asked, by),
+        _ => with_marks(alloc, name, asked, by),
     }
 }
 
-fn by_verifier(alloc: Global, name: &str, asked: &Asked, rows: &[u8]) -> Reply {
+fn with_verifier(alloc: Global, name: &str, asked: &Asked, rows: &[u8]) -> Reply {
     let verifier = RowVerifier::read(alloc, rows)?;
+    by_verifier(alloc, name, asked, &verifier)
+}
+
+fn by_verifier(alloc: Global, name: &str, asked: &Asked, verifier: &RowVerifier) -> Reply {
     match name {
-        "Asked::decide" => asked.decide(alloc, &verifier).answered(alloc),
-        "Asked::explain" => asked.explain(alloc, &verifier).answered(alloc),
-        _ => asked.reduce(alloc, &verifier).answered(alloc),
+        "Asked::decide" => asked.decide(alloc, verifier).answered(alloc),
+        "Asked::explain" => asked.explain(alloc, verifier).answered(alloc),
+        _ => asked.reduce(alloc, verifier).answered(alloc),
     }
 }
 
-fn by_marks(alloc: Global, name: &str, asked: &Asked, text: &[u8]) -> Reply {
+fn with_marks(alloc: Global, name: &str, asked: &Asked, text: &[u8]) -> Reply {
     let marks = marks(alloc, text)?;
+    by_marks(alloc, name, asked, &marks)
+}
+
+fn by_marks(alloc: Global, name: &str, asked: &Asked, marks: &[bool]) -> Reply {
     match name {
-        "Asked::decide_by" => asked.decide_by(alloc, &marks).answered(alloc),
-        "Asked::explain_by" => asked.explain_by(alloc, &marks).answered(alloc),
-        _ => asked.reduce_by(alloc, &marks).answered(alloc),
+        "Asked::decide_by" => asked.decide_by(alloc, marks).answered(alloc),
+        "Asked::explain_by" => asked.explain_by(alloc, marks).answered(alloc),
+        _ => asked.reduce_by(alloc, marks).answered(alloc),
     }
 }

@@ -10,7 +10,7 @@ use std::alloc::Global;
 /// The answer of the call with this name. None if there is no such call.
 pub(crate) fn call(alloc: Global, name: &str, texts: &[Vec<u8>]) -> Option<Reply> {
     match name {
-        "Opened::signed" | "Opened::decide_by" => Some(of_opened(alloc, name, texts)),
+        "Opened::signed" | "Opened::decide_by" => Some(with_opened(alloc, name, texts)),
         "answer_opened" => Some(answer(alloc, texts)),
         _ => None,
     }
@@ -27,11 +27,15 @@ fn opened(alloc: Global, texts: &[Vec<u8>]) -> Result<Opened, Failure> {
     Ok(Opened::open(alloc, &shared, &question(behind(texts, 4)))?)
 }
 
-fn of_opened(alloc: Global, name: &str, texts: &[Vec<u8>]) -> Reply {
+fn with_opened(alloc: Global, name: &str, texts: &[Vec<u8>]) -> Reply {
     let opened = opened(alloc, texts)?;
+    of_opened(alloc, name, &opened, at(texts, 8))
+}
+
+fn of_opened(alloc: Global, name: &str, opened: &Opened, marks: &[u8]) -> Reply {
     match name {
-        "Opened::signed" => signed(alloc, &opened),
-        _ => decide(alloc, &opened, at(texts, 8)),
+        "Opened::signed" => signed(alloc, opened),
+        _ => with_marks(alloc, opened, marks),
     }
 }
 
@@ -47,13 +51,17 @@ fn signed(alloc: Global, opened: &Opened) -> Reply {
     Ok(out)
 }
 
-/// The decision by marks, which is asked for twice.
-fn decide(alloc: Global, opened: &Opened, text: &[u8]) -> Reply {
+fn with_marks(alloc: Global, opened: &Opened, text: &[u8]) -> Reply {
     let marks = marks(alloc, text)?;
-    if opened.decide_by(&marks) != opened.decide_by(&marks) {
+    decide(alloc, opened, &marks)
+}
+
+/// The decision by marks, which is asked for twice.
+fn decide(alloc: Global, opened: &Opened, marks: &[bool]) -> Reply {
+    if opened.decide_by(marks) != opened.decide_by(marks) {
         return word(alloc, "two decisions");
     }
-    opened.decide_by(&marks).answered(alloc)
+    opened.decide_by(marks).answered(alloc)
 }
 
 /// The line by marks. The fifth text says what is asked for.

@@ -14,7 +14,7 @@ pub(crate) fn call(alloc: Global, name: &str, texts: &[Vec<u8>]) -> Option<Reply
         | "Tag::same"
         | "Tag::meet"
         | "Tag::meet_within"
-        | "Index::places" => Some(of_tag(alloc, name, texts)),
+        | "Index::places" => Some(with_tag(alloc, name, texts)),
         "merged" => Some(merge(alloc, at(texts, 0), at(texts, 1))),
         "intersect" => Some(intersect(alloc, at(texts, 0)).answered(alloc)),
         _ => None,
@@ -22,12 +22,16 @@ pub(crate) fn call(alloc: Global, name: &str, texts: &[Vec<u8>]) -> Option<Reply
 }
 
 /// The same for the tag that the first text is.
-fn of_tag(alloc: Global, name: &str, texts: &[Vec<u8>]) -> Reply {
+fn with_tag(alloc: Global, name: &str, texts: &[Vec<u8>]) -> Reply {
     let tag = read_tag(alloc, at(texts, 0))?;
+    of_tag(alloc, name, &tag, texts)
+}
+
+fn of_tag(alloc: Global, name: &str, tag: &Tag, texts: &[Vec<u8>]) -> Reply {
     match name {
-        "Tag::clone" => copied(alloc, &tag),
-        "Tag::holds" => holds(alloc, &tag, at(texts, 1)),
-        _ => of_two(alloc, name, &tag, texts),
+        "Tag::clone" => copied(alloc, tag),
+        "Tag::holds" => holds(alloc, tag, at(texts, 1)),
+        _ => with_other(alloc, name, tag, texts),
     }
 }
 
@@ -40,17 +44,22 @@ fn holds(alloc: Global, tag: &Tag, text: &[u8]) -> Reply {
     tag.holds(&request).answered(alloc)
 }
 
-/// The same for that tag and another one, which the second text is. The third text is a number of nodes, which is 1,000,000 at most.
-fn of_two(alloc: Global, name: &str, tag: &Tag, texts: &[Vec<u8>]) -> Reply {
+/// The same for that tag and another one, which the second text is.
+fn with_other(alloc: Global, name: &str, tag: &Tag, texts: &[Vec<u8>]) -> Reply {
     let other = read_tag(alloc, at(texts, 1))?;
+    of_both(alloc, name, tag, &other, at(texts, 2))
+}
+
+/// The last text is a number of nodes, which is 1,000,000 at most.
+fn of_both(alloc: Global, name: &str, tag: &Tag, other: &Tag, most: &[u8]) -> Reply {
     match name {
-        "Tag::same" => tag.same(&other).answered(alloc),
-        "Tag::meet" => tag.meet(alloc, &other).answered(alloc),
+        "Tag::same" => tag.same(other).answered(alloc),
+        "Tag::meet" => tag.meet(alloc, other).answered(alloc),
         "Tag::meet_within" => {
-            let most = number(at(texts, 2)).min(1_000_000);
-            tag.meet_within(alloc, &other, most).answered(alloc)
+            let most = number(most).min(1_000_000);
+            tag.meet_within(alloc, other, most).answered(alloc)
         }
-        _ => places(alloc, tag, &other),
+        _ => places(alloc, tag, other),
     }
 }
 

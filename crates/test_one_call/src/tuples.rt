@@ -13,12 +13,13 @@ use std::alloc::Global;
 /// The answer of the call with this name. None if there is no such call.
 pub(crate) fn call(alloc: Global, name: &str, texts: &[Vec<u8>]) -> Option<Reply> {
     match name {
-        "Five::write" | "Five::first_denial" => Some(of_five(alloc, name, texts)),
+        "Five::write" | "Five::first_denial" => Some(with_five(alloc, name, texts)),
         "Five::then" => Some(then(alloc, texts)),
         "Five::resolve" | "Five::into_resolve" | "Four::then" => {
-            Some(by_definition(alloc, name, texts))
+            Some(with_definition(alloc, name, texts))
         }
-        "fold_chain" | "fold_owned" => Some(fold(alloc, name, texts)),
+        "fold_chain" => Some(chain(alloc, texts)),
+        "fold_owned" => Some(owned_chain(alloc, texts)),
         _ => None,
     }
 }
@@ -79,11 +80,15 @@ fn steps<'a>(alloc: Global, texts: &'a [Vec<u8>]) -> Result<Vec<Step<'a>>, Failu
 }
 
 /// An authorization in canonical form, or what it lacks to grant a key a request at a moment.
-fn of_five(alloc: Global, name: &str, texts: &[Vec<u8>]) -> Reply {
+fn with_five(alloc: Global, name: &str, texts: &[Vec<u8>]) -> Reply {
     let five = five(alloc, texts)?;
+    of_five(alloc, name, &five, behind(texts, 3))
+}
+
+fn of_five(alloc: Global, name: &str, five: &Five, texts: &[Vec<u8>]) -> Reply {
     match name {
-        "Five::write" => (&five).answered(alloc),
-        _ => first_denial(alloc, &five, behind(texts, 3)),
+        "Five::write" => five.answered(alloc),
+        _ => first_denial(alloc, five, texts),
     }
 }
 
@@ -112,12 +117,21 @@ fn then_next<'a>(alloc: Global, texts: &'a [Vec<u8>], next: &Five<'a>) -> Reply 
 }
 
 /// The first tuple with the definition behind it.
-fn by_definition(alloc: Global, name: &str, texts: &[Vec<u8>]) -> Reply {
+fn with_definition(alloc: Global, name: &str, texts: &[Vec<u8>]) -> Reply {
     let definition = four(alloc, behind(texts, 3))?;
+    by_definition(alloc, name, texts, &definition)
+}
+
+fn by_definition<'a>(
+    alloc: Global,
+    name: &str,
+    texts: &'a [Vec<u8>],
+    definition: &Four<'a>,
+) -> Reply {
     match name {
-        "Four::then" => four_then(alloc, texts, &definition),
-        "Five::resolve" => resolve(alloc, texts, &definition),
-        _ => into_resolve(alloc, texts, &definition),
+        "Four::then" => four_then(alloc, texts, definition),
+        "Five::resolve" => resolve(alloc, texts, definition),
+        _ => into_resolve(alloc, texts, definition),
     }
 }
 
@@ -147,13 +161,13 @@ fn bound(text: &[u8]) -> Option<usize> {
     }
 }
 
-/// A chain. Before the tuples of `fold_owned` are the most nodes, 1,000,000 at most, and the bound on work, if there is one. The first
-/// authorization is consumed then.
-fn fold(alloc: Global, name: &str, texts: &[Vec<u8>]) -> Reply {
-    if name == "fold_chain" {
-        let steps = steps(alloc, behind(texts, 3))?;
-        return fold_chain(alloc, texts, &steps);
-    }
+fn chain(alloc: Global, texts: &[Vec<u8>]) -> Reply {
+    let steps = steps(alloc, behind(texts, 3))?;
+    fold_chain(alloc, texts, &steps)
+}
+
+/// Before the tuples are the most nodes, 1,000,000 at most, and the bound on work, if there is one. The first authorization is consumed.
+fn owned_chain(alloc: Global, texts: &[Vec<u8>]) -> Reply {
     let steps = steps(alloc, behind(texts, 5))?;
     fold_owned(alloc, texts, &steps)
 }
