@@ -1,4 +1,4 @@
-//! The callers of the libraries in `test_callers`, which are called themselves.
+//! The calls of the callers in `test_callers`, which the pages `CALLING.md` quote.
 
 ghost use Rattle.std.specs.Prelude.{◌≡◌};
 ghost use Rattle.spki_reduce.specs.Tuples.{own};

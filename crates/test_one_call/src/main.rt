@@ -2,6 +2,9 @@
 //! digits, with one space between them. For each row it writes a line: the answer, as hexadecimal digits. `tests/calls.py` says
 //! which texts a call takes.
 //!
+//! A function `with_..` reads a value, and passes it by reference to the one that does the calls. So a function owns one value at most that
+//! is freed, which keeps its proof short.
+//!
 //! If memory runs out for a row, its line is `refused Memory`, and the program ends with status 2. `tests/test_hostile.py` refuses each
 //! allocation of a call in turn.
 #![tactic(auto)]
