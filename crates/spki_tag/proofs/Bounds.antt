@@ -11,12 +11,8 @@ use Rattle.spki_tag.specs.Meet.{greater_low, lesser_up, exclude, ordering_meet, 
 -- ---- at least one node
 
 pub nodes-some : (t : Tag) → 1 ≤ nodes t
-nodes-some star = omega arith
-nodes-some (string s) = omega arith
-nodes-some (prefix s) = omega arith
 nodes-some (range o l u) = omega arith
-nodes-some (list head ts) = omega arith
-nodes-some (set ts) = omega arith
+nodes-some t = omega arith
 
 if_one : (b : Bool) (t u : Tag) → nodes t ≡ 1 → nodes u ≡ 1 → nodes (if b then t else u) ≡ 1
 if_one true t u h k = h
@@ -30,22 +26,18 @@ pub string-one : (s : List ℕ) (b : Tag) → nodes (string_meet s b) ≡ 1
 string-one s b = if_one (contains b (request.string s)) (string s) nothing refl refl
 
 pub range-one : (o : Ordering) (l u : Option Limit) (b : Tag) → nodes (range_meet o l u b) ≡ 1
-range-one o l u star = refl
 range-one o l u (string s) = string-one s (range o l u)
 range-one o l u (prefix p) =
     ranged-one (ordering_meet o alpha) (greater_low l (from p)) (lesser_up u (strict_limit (least_above p)))
 range-one o l u (range p m v) = ranged-one (ordering_meet o p) (greater_low l m) (lesser_up u v)
-range-one o l u (list head us) = refl
-range-one o l u (set us) = refl
+range-one o l u b = refl
 
 pub prefix-one : (p : List ℕ) (b : Tag) → nodes (prefix_meet p b) ≡ 1
-prefix-one p star = refl
 prefix-one p (string s) = string-one s (prefix p)
 prefix-one p (prefix q) = search (rules, if_one)
 prefix-one p (range o l u) =
     ranged-one (ordering_meet alpha o) (greater_low (from p) l) (lesser_up (strict_limit (least_above p)) u)
-prefix-one p (list head us) = refl
-prefix-one p (set us) = refl
+prefix-one p b = refl
 
 -- ---- sets
 
@@ -57,9 +49,8 @@ kept-le t ts = by (is_nothing t)
     by false = omega arith
 
 pub gather-le : (ts : List Tag) → nodes (gather ts) ≤ 1 + nodes_all (tags ts)
-gather-le [] = omega arith
-gather-le (t ∷ []) = omega arith
 gather-le (t ∷ u ∷ us) = omega arith
+gather-le ts = omega arith
 
 pub append-nodes : (ts us : List Tag) → nodes_all (tags (ts ++ us)) ≡ nodes_all (tags ts) + nodes_all (tags us)
 append-nodes [] us = omega arith
@@ -76,12 +67,9 @@ row-le f n (more b bs) h =
 across-le : (a : Tag) (f : Tag → Tag) (b : Tag) → ((b : Tag) → nodes (f b) ≤ nodes a * nodes b)
     → nodes (across a f b) ≤ nodes a * nodes b
 across-le a f star h = omega (arith, mul-one (nodes a))
-across-le a f (string s) h = h (string s)
-across-le a f (prefix s) h = h (prefix s)
-across-le a f (range o l u) h = h (range o l u)
-across-le a f (list head us) h = h (list head us)
 across-le a f (set bs) h =
     omega (arith, gather-le (row f bs), row-le f (nodes a) bs h, mul-add (nodes a) 1 (nodes_all bs), mul-one (nodes a), nodes-some a)
+across-le a f b h = h b
 
 -- a set of tags with some of a tag
 set_across-by : (m n r k : ℕ) → r ≤ 1 + k → k ≤ m * n → 1 ≤ n → r ≤ (1 + m) * n
@@ -91,14 +79,10 @@ set_across-le : (ms : Tags) (f : Tags → List Tag) (b : Tag)
     → ((bs : Tags) → nodes_all (tags (f bs)) ≤ nodes_all ms * nodes_all bs)
     → nodes (set_across ms f b) ≤ (1 + nodes_all ms) * nodes b
 set_across-le ms f star h = omega (arith, mul-one (1 + nodes_all ms))
-set_across-le ms f (string s) h =
-    set_across-by (nodes_all ms) 1 _ _ (gather-le (f (more (string s) none))) (h (more (string s) none)) (omega arith)
-set_across-le ms f (prefix s) h =
-    set_across-by (nodes_all ms) 1 _ _ (gather-le (f (more (prefix s) none))) (h (more (prefix s) none)) (omega arith)
-set_across-le ms f (range o l u) h =
-    set_across-by (nodes_all ms) 1 _ _ (gather-le (f (more (range o l u) none))) (h (more (range o l u) none)) (omega arith)
 set_across-le ms f (list head us) h = search (rules, set_across-by, gather-le)
 set_across-le ms f (set bs) h = search (rules, set_across-by, gather-le, le_trans, mul-le-mul_left)
+set_across-le ms f b h =
+    set_across-by (nodes_all ms) 1 _ _ (gather-le (f (more b none))) (h (more b none)) (omega arith)
 
 pub tags-items : (ts : Tags) → tags (items ts) ≡ ts
 tags-items none = refl
@@ -114,10 +98,6 @@ pair_few m n h k = one-le-mul h k
 list-le : (head : List ℕ) (m : ℕ) (f : Tags → List Tag) (b : Tag)
     → ((us : Tags) → nodes_all (tags (f us)) ≤ m * nodes_all us + m + nodes_all us)
     → nodes (list_meet head f b) ≤ (2 + m) * nodes b
-list-le head m f star h = pair_few (2 + m) 1 (omega arith) (omega arith)
-list-le head m f (string s) h = pair_few (2 + m) 1 (omega arith) (omega arith)
-list-le head m f (prefix s) h = pair_few (2 + m) 1 (omega arith) (omega arith)
-list-le head m f (range o l u) h = pair_few (2 + m) 1 (omega arith) (omega arith)
 list-le head m f (set us) h = pair_few (2 + m) (1 + nodes_all us) (omega arith) (omega arith)
 list-le head m f (list other us) h =
     if_few (bytes_eq head other) (listed head (f us)) nothing _
@@ -127,6 +107,7 @@ list-le head m f (list other us) h =
   where
     small : 1 ≤ (2 + m) * (2 + nodes_all us)
     small = pair_few (2 + m) (2 + nodes_all us) (omega arith) (omega arith)
+list-le head m f b h = pair_few (2 + m) 1 (omega arith) (omega arith)
 
 one_le : (t : Tag) → nodes t ≡ 1 → (c : Tag) → nodes t ≤ 1 * nodes c
 one_le t e c = omega (arith, e, one-mul (nodes c), nodes-some c)

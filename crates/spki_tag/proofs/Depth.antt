@@ -22,24 +22,20 @@ string-flat : (n : ℕ) (s : List ℕ) (b : Tag) → ldepth (string_meet s b) �
 string-flat n s b = if_flat n (contains b (request.string s)) (string s) nothing (least n) (least n)
 
 range-flat : (n : ℕ) (o : Ordering) (l u : Option Limit) (b : Tag) → ldepth (range_meet o l u b) ≤ n
-range-flat n o l u star = least n
 range-flat n o l u (string s) = string-flat n s (range o l u)
 range-flat n o l u (prefix p) =
     ranged-flat n (ordering_meet o alpha) (greater_low l (from p)) (lesser_up u (strict_limit (least_above p)))
 range-flat n o l u (range p m v) = ranged-flat n (ordering_meet o p) (greater_low l m) (lesser_up u v)
-range-flat n o l u (list head us) = least n
-range-flat n o l u (set us) = least n
+range-flat n o l u b = least n
 
 prefix-flat : (n : ℕ) (p : List ℕ) (b : Tag) → ldepth (prefix_meet p b) ≤ n
-prefix-flat n p star = least n
 prefix-flat n p (string s) = string-flat n s (prefix p)
 prefix-flat n p (prefix q) =
     if_flat n (starts_with nat_eq p q) (prefix p) (if starts_with nat_eq q p then prefix q else nothing) (least n)
     (if_flat n (starts_with nat_eq q p) (prefix q) nothing (least n) (least n))
 prefix-flat n p (range o l u) =
     ranged-flat n (ordering_meet alpha o) (greater_low (from p) l) (lesser_up (strict_limit (least_above p)) u)
-prefix-flat n p (list head us) = least n
-prefix-flat n p (set us) = least n
+prefix-flat n p b = least n
 
 -- ---- sets
 
@@ -61,9 +57,8 @@ kept-flat n t ts h k = by (is_nothing t)
     by false = both (ldepth t) (ldepth_most (tags ts)) n h k
 
 gather-flat : (n : ℕ) (ts : List Tag) → ldepth_most (tags ts) ≤ n → ldepth (gather ts) ≤ n
-gather-flat n [] h = h
 gather-flat n (t ∷ []) h = left (ldepth t) 0 n h
-gather-flat n (t ∷ u ∷ us) h = h
+gather-flat n ts h = h
 
 append-flat : (n : ℕ) (ts us : List Tag) → ldepth_most (tags ts) ≤ n → ldepth_most (tags us) ≤ n
     → ldepth_most (tags (ts ++ us)) ≤ n
@@ -80,11 +75,8 @@ row-flat n f (more b bs) e h = search (rules, kept-flat, left, right, row-flat n
 across-flat : (n : ℕ) (a : Tag) (f : Tag → Tag) (b : Tag) → ldepth a ≤ n → ldepth b ≤ n
     → ((b : Tag) → ldepth b ≤ n → ldepth (f b) ≤ n) → ldepth (across a f b) ≤ n
 across-flat n a f star h k e = h
-across-flat n a f (string s) h k e = e (string s) k
-across-flat n a f (prefix s) h k e = e (prefix s) k
-across-flat n a f (range o l u) h k e = e (range o l u) k
-across-flat n a f (list head us) h k e = e (list head us) k
 across-flat n a f (set bs) h k e = gather-flat n (row f bs) (row-flat n f bs e k)
+across-flat n a f b h k e = e b k
 
 alone : (n m : ℕ) → m ≤ n → max m 0 ≤ n
 alone n m h = both m 0 n h (least n)
@@ -92,22 +84,16 @@ alone n m h = both m 0 n h (least n)
 set_across-flat : (n : ℕ) (ms : Tags) (f : Tags → List Tag) (b : Tag) → ldepth_most ms ≤ n → ldepth b ≤ n
     → ((bs : Tags) → ldepth_most bs ≤ n → ldepth_most (tags (f bs)) ≤ n) → ldepth (set_across ms f b) ≤ n
 set_across-flat n ms f star h k e = h
-set_across-flat n ms f (string s) h k e = gather-flat n (f (more (string s) none)) (e (more (string s) none) (alone n 0 k))
-set_across-flat n ms f (prefix s) h k e = gather-flat n (f (more (prefix s) none)) (e (more (prefix s) none) (alone n 0 k))
 set_across-flat n ms f (range o l u) h k e =
     gather-flat n (f (more (range o l u) none)) (e (more (range o l u) none) (alone n 0 k))
 set_across-flat n ms f (list head us) h k e =
     gather-flat n (f (more (list head us) none)) (e (more (list head us) none) (alone n (1 + ldepth_most us) k))
 set_across-flat n ms f (set bs) h k e = gather-flat n (f bs) (e bs k)
+set_across-flat n ms f b h k e = gather-flat n (f (more b none)) (e (more b none) (alone n 0 k))
 
 -- within a list
 list-flat : (n : ℕ) (head : List ℕ) (f : Tags → List Tag) (b : Tag) → ldepth b ≤ suc n
     → ((us : Tags) → ldepth_most us ≤ n → ldepth_most (tags (f us)) ≤ n) → ldepth (list_meet head f b) ≤ suc n
-list-flat n head f star k e = least (suc n)
-list-flat n head f (string s) k e = least (suc n)
-list-flat n head f (prefix s) k e = least (suc n)
-list-flat n head f (range o l u) k e = least (suc n)
-list-flat n head f (set us) k e = least (suc n)
 list-flat n head f (list other us) k e =
     if_flat (suc n) (bytes_eq head other) (listed head (f us)) nothing
     (if_flat (suc n) (has_nothing (f us)) nothing (list head (tags (f us))) (least (suc n))
@@ -115,6 +101,7 @@ list-flat n head f (list other us) k e =
   where
     up : ldepth_most (tags (f us)) ≤ n → 1 + ldepth_most (tags (f us)) ≤ suc n
     up h = omega (arith, h)
+list-flat n head f b k e = least (suc n)
 
 items-flat : (n : ℕ) (ts : Tags) → ldepth_most ts ≤ n → ldepth_most (tags (items ts)) ≤ n
 items-flat n none h = h

@@ -117,9 +117,7 @@ ranged-string (Some o) l u x = by (exclude l u) refl
   where
     shut : (a b c : Bool) → (b ≡ true → c ≡ true → false ≡ true) → false ≡ (a && b && c)
     shut true true true f = f refl refl
-    shut true true false f = refl
-    shut true false c f = refl
-    shut false b c f = refl
+    shut a b c f = refl
 
     by : (t : Bool) → exclude l u ≡ t
         → contains (if t then nothing else range o l u) (request.string x) ≡ (is_ordered o x && is_above l x && is_below u x)
@@ -157,7 +155,6 @@ string-exact s b g = by (contains b (request.string s)) refl g
 
 range-exact : (o : Ordering) (l u : Option Limit) (b : Tag) (g : Request) → IsRequest g → is_set_or_star b ≡ false
     → contains (range_meet o l u b) g ≡ (contains (range o l u) g && contains b g)
-range-exact o l u star g k n = absurd (true≢false n)
 range-exact o l u (string s) g k n = string-exact s (range o l u) g ∙ and_comm (contains (string s) g) (contains (range o l u) g)
 range-exact o l u (prefix p) (request.string x) k n = search (rules, ranges, least_above-exact)
 range-exact o l u (prefix p) (request.list head gs) k n =
@@ -167,11 +164,10 @@ range-exact o l u (range p m v) (request.list head gs) k n =
     ranged-list (ordering_meet o p) (greater_low l m) (lesser_up u v) head gs
 range-exact o l u (list other us) (request.string x) k n = and_false _
 range-exact o l u (list other us) (request.list head gs) k n = refl
-range-exact o l u (set us) g k n = absurd (true≢false n)
+range-exact o l u b g k n = absurd (true≢false n)
 
 prefix-exact : (p : List ℕ) (b : Tag) (g : Request) → IsRequest g → is_set_or_star b ≡ false
     → contains (prefix_meet p b) g ≡ (contains (prefix p) g && contains b g)
-prefix-exact p star g k n = absurd (true≢false n)
 prefix-exact p (string s) g k n = string-exact s (prefix p) g ∙ and_comm (contains (string s) g) (contains (prefix p) g)
 prefix-exact p (prefix q) (request.string x) k n =
     by (starts_with nat_eq p q) (starts_with nat_eq q p) ∙ prefixes-exact p q x
@@ -194,24 +190,18 @@ prefix-exact p (range o l u) (request.list head gs) k n =
     ranged-list (ordering_meet alpha o) (greater_low (from p) l) (lesser_up (strict_limit (least_above p)) u) head gs
 prefix-exact p (list other us) (request.string x) k n = and_false _
 prefix-exact p (list other us) (request.list head gs) k n = refl
-prefix-exact p (set us) g k n = absurd (true≢false n)
+prefix-exact p b g k n = absurd (true≢false n)
 
 -- ---- sets
 
 kept-exact : (t : Tag) (ts : List Tag) (g : Request)
     → some_contains (tags (kept t ts)) g ≡ (contains t g || some_contains (tags ts) g)
-kept-exact star ts g = refl
-kept-exact (string s) ts g = refl
-kept-exact (prefix s) ts g = refl
-kept-exact (range o l u) ts g = refl
-kept-exact (list head us) ts g = refl
-kept-exact (set none) ts g = refl
 kept-exact (set (more u us)) ts g = refl
+kept-exact t ts g = refl
 
 pub gather-exact : (ts : List Tag) (g : Request) → contains (gather ts) g ≡ some_contains (tags ts) g
-gather-exact [] g = refl
 gather-exact (t ∷ []) g = sym (or_false _)
-gather-exact (t ∷ u ∷ us) g = refl
+gather-exact ts g = refl
 
 pub append-exact : (ts us : List Tag) (g : Request)
     → some_contains (tags (ts ++ us)) g ≡ (some_contains (tags ts) g || some_contains (tags us) g)
@@ -246,25 +236,18 @@ across-exact : (a : Tag) (f : Tag → Tag) (b : Tag) (g : Request) → is_normal
     → ((b : Tag) → is_set_or_star b ≡ false → is_normal b ≡ true → contains (f b) g ≡ (contains a g && contains b g))
     → contains (across a f b) g ≡ (contains a g && contains b g)
 across-exact a f star g n e = and_true _
-across-exact a f (string s) g n e = e (string s) refl n
-across-exact a f (prefix s) g n e = e (prefix s) refl n
-across-exact a f (range o l u) g n e = e (range o l u) refl n
-across-exact a f (list head us) g n e = e (list head us) refl n
 across-exact a f (set bs) g n e = gather-exact (row f bs) g ∙ row-exact f (contains a g) g bs e (second_true _ _ n)
+across-exact a f b g n e = e b refl n
 
 set_across-exact : (ms : Tags) (f : Tags → List Tag) (b : Tag) (g : Request) → is_normal b ≡ true
     → ((bs : Tags) → each_normal is_set_or_star bs ≡ true → some_contains (tags (f bs)) g ≡ (some_contains ms g && some_contains bs g))
     → contains (set_across ms f b) g ≡ (some_contains ms g && contains b g)
 set_across-exact ms f star g n e = and_true _
-set_across-exact ms f (string s) g n e =
-    gather-exact (f (more (string s) none)) g ∙ e (more (string s) none) refl ∙ ap (λ b. some_contains ms g && b) (or_false _)
-set_across-exact ms f (prefix s) g n e =
-    gather-exact (f (more (prefix s) none)) g ∙ e (more (prefix s) none) refl ∙ ap (λ b. some_contains ms g && b) (or_false _)
-set_across-exact ms f (range o l u) g n e =
-    gather-exact (f (more (range o l u) none)) g ∙ e (more (range o l u) none) refl ∙ ap (λ b. some_contains ms g && b) (or_false _)
 set_across-exact ms f (list head us) g n e =
     gather-exact (f (more (list head us) none)) g ∙ e (more (list head us) none) (sym (and_true _) ∙ n) ∙ ap (λ b. some_contains ms g && b) (or_false _)
 set_across-exact ms f (set bs) g n e = gather-exact (f bs) g ∙ e bs (second_true _ _ n)
+set_across-exact ms f b g n e =
+    gather-exact (f (more b none)) g ∙ e (more b none) refl ∙ ap (λ b. some_contains ms g && b) (or_false _)
 
 -- ---- lists
 
@@ -273,13 +256,8 @@ tags-items none = refl
 tags-items (more t ts) = ap (more t) (tags-items ts)
 
 nothing-none : (t : Tag) (g : Request) → is_nothing t ≡ true → contains t g ≡ false
-nothing-none star g h = absurd (true≢false (sym h))
-nothing-none (string s) g h = absurd (true≢false (sym h))
-nothing-none (prefix s) g h = absurd (true≢false (sym h))
-nothing-none (range o l u) g h = absurd (true≢false (sym h))
-nothing-none (list head us) g h = absurd (true≢false (sym h))
 nothing-none (set none) g h = refl
-nothing-none (set (more u us)) g h = absurd (true≢false (sym h))
+nothing-none t g h = absurd (true≢false (sym h))
 
 pub has_nothing-none : (ts : List Tag) (gs : Requests) → has_nothing ts ≡ true → contain_each (tags ts) gs ≡ false
 has_nothing-none [] gs h = absurd (true≢false (sym h))
@@ -306,11 +284,8 @@ list-exact : (head : List ℕ) (ts : Tags) (f : Tags → List Tag) (b : Tag) (g 
     → contain_each (tags (f us)) gs ≡ (contain_each ts gs && contain_each us gs))
     → contains (list_meet head f b) g ≡ (contains (list head ts) g && contains b g)
 list-exact head ts f star g k n m e = absurd (true≢false n)
-list-exact head ts f (string s) (request.string x) k n m e = refl
 list-exact head ts f (string s) (request.list requested gs) k n m e = and_false _
-list-exact head ts f (prefix s) (request.string x) k n m e = refl
 list-exact head ts f (prefix s) (request.list requested gs) k n m e = and_false _
-list-exact head ts f (range o l u) (request.string x) k n m e = refl
 list-exact head ts f (range o l u) (request.list requested gs) k n m e = and_false _
 list-exact head ts f (set us) g k n m e = absurd (true≢false n)
 list-exact head ts f (list other us) g k n m e = by (bytes_eq head other) refl g k
@@ -329,6 +304,7 @@ list-exact head ts f (list other us) g k n m e = by (bytes_eq head other) refl g
         sym h ∙ (bytes_decides head other).1
         (same_text head requested (sym (first_true (bytes_eq head requested) (contain_each ts gs) p))
         ∙ sym (same_text other requested (sym (first_true (bytes_eq other requested) (contain_each us gs) q)))))
+list-exact head ts f b (request.string x) k n m e = refl
 
 -- ---- tags
 

@@ -94,8 +94,7 @@ limits-fine (Some l) (Some u) = both_by l.strict u.strict l.octets u.octets
 
 ordered-fine : (o : Ordering) (vs : List Value) → range_fault (plain (ordering_name o) ∷ vs) ≡ limits_fault vs
 ordered-fine alpha vs = refl
-ordered-fine time vs = refl
-ordered-fine date vs = refl
+ordered-fine o vs = refl
 
 range-fine : (o : Ordering) (low up : Option Limit) → own_fault (tag_value (range o low up)) ≡ None
 range-fine o low up = search (rules, ordered-fine, limits-fine)
@@ -121,14 +120,12 @@ one-part Q v us vs e h = rw e h
 
 mutual
   pub tag-fine : (w : Tag) → IsTag w → AllByRecursion IsFine (tags_in (tag_value w))
-  tag-fine star h = (refl, tt)
-  tag-fine (string octets) h = (refl, tt)
-  tag-fine (prefix octets) h = (refl, tt)
   tag-fine (range o low up) h = (range-fine o low up, tt)
   tag-fine (list head further) h =
       one-part IsFine (plain head) _ _ (tags_in-list head (tag_values further) h.0)
       (list-fine head (tag_values further) h.0, (refl, tags-fine further h.1))
   tag-fine (set members) h = (refl, tags-fine members h)
+  tag-fine w h = (refl, tt)
 
   pub tags-fine : (ws : Tags) → AreTags ws → AllByRecursion IsFine (tags_in_all (tag_values ws))
   tags-fine none h = tt
@@ -138,13 +135,10 @@ mutual
 mutual
   -- there are as many tags in a written tag as nodes
   pub tags-count : (w : Tag) → IsTag w → length (tags_in (tag_value w)) ≡ nodes w
-  tags-count star h = refl
-  tags-count (string octets) h = refl
-  tags-count (prefix octets) h = refl
-  tags-count (range ordering low up) h = refl
   tags-count (list head further) h =
       omega (arith, ap (λ (us : List Value). length us) (tags_in-list head (tag_values further) h.0), tags-count_all further h.1)
   tags-count (set ws) h = omega (arith, tags-count_all ws h)
+  tags-count w h = refl
 
   pub tags-count_all : (ws : Tags) → AreTags ws → length (tags_in_all (tag_values ws)) ≡ nodes_all ws
   tags-count_all none h = refl

@@ -30,8 +30,7 @@ use Rattle.std.proofs.Common.{◌||◌}
 look-none : {A : Type 0} (b : Bool) (most : A) (o : Option A) (fs : List (Option A))
     → first_fault (unless b most ∷ o ∷ fs) ≡ None → (b ≡ true) × (o ≡ None) × (first_fault fs ≡ None)
 look-none true most None fs e = (refl, refl, e)
-look-none true most (Some f) fs e = absurd cc
-look-none false most o fs e = absurd cc
+look-none b most o fs e = absurd cc
 
 room : (n : ℕ) → nat_lt n 1024 ≡ true → n + 1 ≤ most_read
 room n h = grind (arith, nat_tests)
@@ -79,14 +78,10 @@ pub limits-none : (vs : List Value) → limits_fault vs ≡ None → are_limits 
 limits-none vs e = by (list_any is_hinted vs) (are_limits vs) e
   where
     by : (a b : Bool) → first_fault (unless (not a) faults.Hint ∷ unless b faults.RangeLimit ∷ []) ≡ None → b ≡ true
-    by true b e = absurd cc
     by false true e = refl
-    by false false e = absurd cc
+    by a b e = absurd cc
 
 range-of : (vs : List Value) → range_fault vs ≡ None → TagOf (starred (codes "range") (values vs))
-range-of [] e = absurd cc
-range-of (value.list us ∷ vs) e = absurd cc
-range-of (value.string (Some hint) octets ∷ vs) e = absurd cc
 range-of (value.string None name ∷ vs) e = by (is_ordering name) refl e
   where
     by : (b : Bool) → is_ordering name ≡ b → (if b then limits_fault vs else Some faults.RangeOrdering) ≡ None
@@ -96,6 +91,7 @@ range-of (value.string None name ∷ vs) e = by (is_ordering name) refl e
         let l = limits-of vs (limits-none vs e) in
         (range o.0 l.0 l.1, tt, λ i. starred (codes "range") (values (plain (o.1 i) ∷ l.2 i)))
     by false d e = absurd cc
+range-of vs e = absurd cc
 
 prefix-of : (vs : List Value) → prefix_fault vs ≡ None → TagOf (starred (codes "prefix") (values vs))
 prefix-of [] e = absurd cc
@@ -133,9 +129,8 @@ star-of : (form : Value) (vs : Values) → star_fault (form ∷ members vs) ≡ 
     → AllByRecursion IsFine (tags_in_set (value.more form vs))
     → (AllByRecursion IsFine (tags_in_all vs) → TagsOf vs)
     → TagOf (value.list (value.more (plain (codes "*")) (value.more form vs)))
-star-of (value.list us) vs e each rec = absurd cc
-star-of (value.string (Some hint) octets) vs e each rec = absurd cc
 star-of (value.string None word) vs e each rec = form-of word vs e each rec
+star-of form vs e each rec = absurd cc
 
 -- a list with this head
 headed-of : (head : List ℕ) (vs : Values) → list_fault (plain head ∷ members vs) ≡ None
@@ -158,15 +153,12 @@ headed-of head vs e each rec starry = by (bytes_eq head (codes "*")) refl e each
 mutual
   tag-of : (v : Value) → AllByRecursion IsFine (tags_in v) → TagOf v
   tag-of (value.string None octets) h = (string octets, tt, refl)
-  tag-of (value.string (Some hint) octets) h = absurd (none_is_not_some _ h.0)
-  tag-of (value.list value.none) h = absurd (none_is_not_some _ h.0)
-  tag-of (value.list (value.more (value.list us) vs)) h = absurd (none_is_not_some _ h.0)
-  tag-of (value.list (value.more (value.string (Some hint) octets) vs)) h = absurd (none_is_not_some _ h.0)
   tag-of (value.list (value.more (value.string None head) value.none)) h =
       headed-of head value.none h.0 h.1 (λ each. (none, tt, refl)) (λ e each. (star, tt, refl))
   tag-of (value.list (value.more (value.string None head) (value.more form vs))) h =
       headed-of head (value.more form vs) h.0 h.1 (λ each. tags-of (value.more form vs) each)
       (λ e each. star-of form vs e each (λ more_each. tags-of vs more_each))
+  tag-of v h = absurd (none_is_not_some _ h.0)
 
   tags-of : (vs : Values) → AllByRecursion IsFine (tags_in_all vs) → TagsOf vs
   tags-of value.none h = (none, tt, refl)
@@ -239,13 +231,10 @@ starless head e = by (bytes_eq head (codes "*")) refl e
 mutual
   request-of : (v : Value) → HasOctets v → AllByRecursion IsFinePart (value.nodes v) → RequestFor v
   request-of (value.string None octets) o h = (request.string octets, octets-of octets o, refl)
-  request-of (value.string (Some hint) octets) o h = absurd (none_is_not_some _ h.0)
-  request-of (value.list value.none) o h = absurd (none_is_not_some _ h.0)
-  request-of (value.list (value.more (value.list us) vs)) o h = absurd (none_is_not_some _ h.0)
-  request-of (value.list (value.more (value.string (Some hint) octets) vs)) o h = absurd (none_is_not_some _ h.0)
   request-of (value.list (value.more (value.string None head) vs)) o h =
       let p = requests-of vs o.1 h.1.1 in
       (request.list head p.0, (octets-of head o.0, starless head h.0, p.1), ap (λ us. value.list (value.more (plain head) us)) p.2)
+  request-of v o h = absurd (none_is_not_some _ h.0)
 
   requests-of : (vs : Values) → HaveOctets vs → AllByRecursion IsFinePart (value.nodes_all vs) → RequestsFor vs
   requests-of value.none o h = (request.none, tt, refl)

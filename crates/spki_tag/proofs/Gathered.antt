@@ -45,11 +45,8 @@ items-tags (t ∷ ts) = ap (λ us. t ∷ us) (items-tags ts)
 
 in_place-exact : (t : Tag) (g : Request) → some_contains (tags (in_place t)) g ≡ contains t g
 in_place-exact star g = refl
-in_place-exact (string s) g = or_false _
-in_place-exact (prefix s) g = or_false _
-in_place-exact (range o l u) g = or_false _
-in_place-exact (list head ts) g = or_false _
 in_place-exact (set ts) g = ap (λ us. some_contains us g) (tags-items ts)
+in_place-exact t g = or_false _
 
 spread-exact : (ts : List Tag) (g : Request) → some_contains (tags (spread ts)) g ≡ some_contains (tags ts) g
 spread-exact [] g = refl
@@ -57,12 +54,8 @@ spread-exact (t ∷ ts) g =
     append-exact (in_place t) (spread ts) g ∙ (λ i. in_place-exact t g i || spread-exact ts g i)
 
 in_place-nodes : (t : Tag) → nodes_all (tags (in_place t)) ≤ nodes t
-in_place-nodes star = omega arith
-in_place-nodes (string s) = omega arith
-in_place-nodes (prefix s) = omega arith
-in_place-nodes (range o l u) = omega arith
-in_place-nodes (list head ts) = omega arith
 in_place-nodes (set ts) = omega (arith, ap nodes_all (tags-items ts))
+in_place-nodes t = omega arith
 
 spread-nodes : (ts : List Tag) → nodes_all (tags (spread ts)) ≤ nodes_all (tags ts)
 spread-nodes [] = omega arith
@@ -82,11 +75,8 @@ AreMembers-append (t ∷ ts) us h k = (h.0, AreMembers-append ts us h.1 k)
 
 no_star : (t : Tag) → is_set_or_star t ≡ false → is_set_or_star t ≡ is_star t
 no_star star h = absurd (true≢false h)
-no_star (string s) h = refl
-no_star (prefix s) h = refl
-no_star (range o l u) h = refl
-no_star (list head ts) h = refl
 no_star (set ts) h = absurd (true≢false h)
+no_star t h = refl
 
 items-members : (ts : Tags) → AreTags ts → each_normal is_set_or_star ts ≡ true → AreMembers (items ts)
 items-members none h k = tt
@@ -100,13 +90,9 @@ items-members (more t ts) h k = (
 )
 
 in_place-members : (t : Tag) → IsTag t → is_normal t ≡ true → AreMembers (in_place t)
-in_place-members star h k = ((h, refl, k), tt)
-in_place-members (string s) h k = ((h, refl, k), tt)
-in_place-members (prefix s) h k = ((h, refl, k), tt)
-in_place-members (range o l u) h k = ((h, refl, k), tt)
-in_place-members (list head ts) h k = ((h, refl, k), tt)
 in_place-members (set ts) h k =
     items-members ts h (second_true (is_none_or_many ts) (each_normal is_set_or_star ts) k)
+in_place-members t h k = ((h, refl, k), tt)
 
 spread-members : (ts : List Tag) → AreNormal ts → AreMembers (spread ts)
 spread-members [] h = tt
@@ -123,11 +109,7 @@ spread-all front (t ∷ rest) ts n e len h = absurd (omega (arith, len, h))
 
 star-all : (t : Tag) (g : Request) → is_star t ≡ true → contains t g ≡ true
 star-all star g h = refl
-star-all (string s) g h = absurd (true≢false (sym h))
-star-all (prefix s) g h = absurd (true≢false (sym h))
-star-all (range o l u) g h = absurd (true≢false (sym h))
-star-all (list head ts) g h = absurd (true≢false (sym h))
-star-all (set ts) g h = absurd (true≢false (sym h))
+star-all t g h = absurd (true≢false (sym h))
 
 star_among : (ts : List Tag) (g : Request) → list_any is_star ts ≡ true → some_contains (tags ts) g ≡ true
 star_among [] g h = absurd (true≢false (sym h))

@@ -15,14 +15,12 @@ and_left true b f = sym (f refl)
 and_left false b f = refl
 
 pub and_right : (a b : Bool) → (b ≡ true → a ≡ true) → b ≡ (a && b)
-and_right true b f = refl
 and_right false true f = absurd (true≢false (sym (f refl)))
-and_right false false f = refl
+and_right a b f = refl
 
 pub and_never : (a b : Bool) → (a ≡ true → b ≡ true → false ≡ true) → false ≡ (a && b)
 and_never true true f = f refl refl
-and_never true false f = refl
-and_never false b f = refl
+and_never a b f = refl
 
 pub not_flipped : (a b : Bool) → a ≡ not b → b ≡ false → a ≡ true
 not_flipped a true e h = absurd (true≢false h)
@@ -49,11 +47,10 @@ chain_by : (p q r : Order) → (p ≡ Less → q ≡ Less → r ≡ Less) → (p
     → (s t : Bool) → w s p ≡ true → w t q ≡ true → w (s || t) r ≡ true
 chain_by Less Less r both first second s t h g = ap (w (s || t)) (both refl refl) ∙ w_less (s || t)
 chain_by Less Equal r both first second s t h g = ap (w (s || t)) (second refl) ∙ w_less (s || t)
-chain_by Less Greater r both first second s t h g = absurd (true≢false (sym (w_greater t g)))
 chain_by Equal Less r both first second s t h g = ap (w (s || t)) (first refl) ∙ w_less (s || t)
 chain_by Equal Equal r both first second s t h g = ap (w (s || t)) (first refl) ∙ w_equal s t h g
-chain_by Equal Greater r both first second s t h g = absurd (true≢false (sym (w_greater t g)))
 chain_by Greater q r both first second s t h g = absurd (true≢false (sym (w_greater s h)))
+chain_by p Greater r both first second s t h g = absurd (true≢false (sym (w_greater t g)))
 
 pub within_chain : (s t : Bool) (x y z : List ℕ) → is_within s x y ≡ true → is_within t y z ≡ true
     → is_within (s || t) x z ≡ true
@@ -76,38 +73,28 @@ within_flip s x y =
     ap (w s) (o.antisymm x y) ∙ flip_by s (slice_cmp nat_cmp y x)
 
 pub weak_by : (s t : Bool) (r : Order) → w (s || t) r ≡ true → w s r ≡ true
-weak_by true t r h = h
 weak_by false true Less h = refl
 weak_by false true Equal h = refl
-weak_by false true Greater h = h
-weak_by false false r h = h
+weak_by s t r h = h
 
 pub weak_second : (s t : Bool) (r : Order) → w (s || t) r ≡ true → w t r ≡ true
-weak_second true true r h = h
 weak_second true false Less h = refl
 weak_second true false Equal h = refl
-weak_second true false Greater h = h
-weak_second false t r h = h
+weak_second s t r h = h
 
 weak_strict : (s t : Bool) (r : Order) → w (not s || s) r ≡ true → w t r ≡ true
-weak_strict true true r h = h
-weak_strict false true r h = h
 weak_strict true false Less h = refl
 weak_strict true false Equal h = refl
-weak_strict true false Greater h = h
 weak_strict false false Less h = refl
 weak_strict false false Equal h = refl
-weak_strict false false Greater h = h
+weak_strict s t r h = h
 
 weak_strict_back : (s t : Bool) (r : Order) → w (s || not s) r ≡ true → w t r ≡ true
-weak_strict_back true true r h = h
-weak_strict_back false true r h = h
 weak_strict_back true false Less h = refl
 weak_strict_back true false Equal h = refl
-weak_strict_back true false Greater h = h
 weak_strict_back false false Less h = refl
 weak_strict_back false false Equal h = refl
-weak_strict_back false false Greater h = h
+weak_strict_back s t r h = h
 
 -- ---- two lower limits
 
@@ -155,6 +142,5 @@ not_true false e h = h
 
 pub exclude-none : (low up : Option Limit) (x : List ℕ) → exclude low up ≡ true → is_above low x ≡ true
     → is_below up x ≡ true → false ≡ true
-exclude-none None up x e h g = e
-exclude-none (Some l) None x e h g = e
 exclude-none (Some l) (Some u) x e h g = not_true _ e (within_chain l.strict u.strict l.octets x u.octets h g)
+exclude-none low up x e h g = e

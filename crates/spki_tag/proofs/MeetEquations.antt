@@ -15,12 +15,8 @@ use Rattle.spki_tag.proofs.MeetSteps.{tags-members, meet-by_members}
 -- ---- stars
 
 star_left : (t : Tag) → meet t star ≡ t
-star_left star = refl
-star_left (string octets) = refl
-star_left (prefix octets) = refl
 star_left (range ordering low up) = refl
-star_left (list head further) = refl
-star_left (set members) = refl
+star_left t = refl
 
 pub star_rule : StarRule
 star_rule t = (refl, star_left t)
@@ -76,12 +72,10 @@ same_string s x = by (bytes_eq s x) (bytes_eq x s) refl refl
     by false true d e = absurd (other_text s x d (sym (same_text x s e)))
 
 pub string_rule : StringRule
-string_rule s star h = absurd h
 string_rule s (string x) h = (refl, same_string s x)
 string_rule s (prefix x) h = (refl, refl)
 string_rule s (range o l u) h = (refl, refl)
-string_rule s (list head ts) h = absurd h
-string_rule s (set ts) h = absurd h
+string_rule s y h = absurd h
 
 -- ---- ranges
 
@@ -144,16 +138,14 @@ each-left : (ts us further : List Tag) → length ts ≡ length us
     → each_meet (tags (ts ++ further)) (tags us) ≡ side_by_side ts us ++ further
 each-left [] [] [] e = refl
 each-left [] [] (t ∷ further) e = ap (λ (vs : List Tag). t ∷ vs) (items-tags further)
-each-left [] (u ∷ us) further e = absurd (omega (arith, e))
-each-left (t ∷ ts) [] further e = absurd (omega (arith, e))
 each-left (t ∷ ts) (u ∷ us) further e = ap (λ (vs : List Tag). meet t u ∷ vs) (each-left ts us further (omega (arith, e)))
+each-left ts us further e = absurd (omega (arith, e))
 
 each-right : (ts us further : List Tag) → length ts ≡ length us
     → each_meet (tags ts) (tags (us ++ further)) ≡ side_by_side ts us ++ further
 each-right [] [] further e = items-tags further
-each-right [] (u ∷ us) further e = absurd (omega (arith, e))
-each-right (t ∷ ts) [] further e = absurd (omega (arith, e))
 each-right (t ∷ ts) (u ∷ us) further e = ap (λ (vs : List Tag). meet t u ∷ vs) (each-right ts us further (omega (arith, e)))
+each-right ts us further e = absurd (omega (arith, e))
 
 headed : (head : List ℕ) (ts us : Tags) → meet (list head ts) (list head us) ≡ listed head (each_meet ts us)
 headed head ts us = ap (λ b. if b then listed head (each_meet ts us) else nothing) (bytes_same head)
@@ -165,9 +157,7 @@ pub heads_apart : HeadsApart
 heads_apart head other ts us h = ap (λ b. if b then listed head (each_meet (tags ts) (tags us)) else nothing) h
 
 pub lists_and_strings : ListsAndStrings
-lists_and_strings head ts star h = absurd h
 lists_and_strings head ts (string x) h = (refl, refl)
 lists_and_strings head ts (prefix x) h = (refl, refl)
 lists_and_strings head ts (range o l u) h = (refl, refl)
-lists_and_strings head ts (list other us) h = absurd h
-lists_and_strings head ts (set us) h = absurd h
+lists_and_strings head ts z h = absurd h

@@ -35,34 +35,27 @@ string-fits : (s : List ℕ) (b : Tag) → fits (string_meet s b) ≡ true
 string-fits s b = if_fits (contains b (request.string s)) (string s) nothing refl refl
 
 range-fits : (o : Ordering) (l u : Option Limit) (b : Tag) → fits (range_meet o l u b) ≡ true
-range-fits o l u star = refl
 range-fits o l u (string s) = string-fits s (range o l u)
 range-fits o l u (prefix p) =
     ranged-fits (ordering_meet o alpha) (greater_low l (from p)) (lesser_up u (strict_limit (least_above p)))
 range-fits o l u (range p m v) = ranged-fits (ordering_meet o p) (greater_low l m) (lesser_up u v)
-range-fits o l u (list head us) = refl
-range-fits o l u (set us) = refl
+range-fits o l u b = refl
 
 prefix-fits : (p : List ℕ) (b : Tag) → fits (prefix_meet p b) ≡ true
-prefix-fits p star = refl
 prefix-fits p (string s) = string-fits s (prefix p)
 prefix-fits p (prefix q) = search (rules, if_fits)
 prefix-fits p (range o l u) =
     ranged-fits (ordering_meet alpha o) (greater_low (from p) l) (lesser_up (strict_limit (least_above p)) u)
-prefix-fits p (list head us) = refl
-prefix-fits p (set us) = refl
+prefix-fits p b = refl
 
 -- ---- sets
 
 kept-normal : (t : Tag) (ts : List Tag) → fits t ≡ true → each_normal is_set_or_star (tags ts) ≡ true
     → each_normal is_set_or_star (tags (kept t ts)) ≡ true
 kept-normal star ts h k = absurd (true≢false (sym h))
-kept-normal (string s) ts h k = k
-kept-normal (prefix s) ts h k = k
-kept-normal (range o l u) ts h k = k
 kept-normal (list head us) ts h k = both_true (each_normal is_nothing us) (each_normal is_set_or_star (tags ts)) h k
-kept-normal (set none) ts h k = k
 kept-normal (set (more u us)) ts h k = absurd (true≢false (sym h))
+kept-normal t ts h k = k
 
 gather-normal : (ts : List Tag) → each_normal is_set_or_star (tags ts) ≡ true → is_normal (gather ts) ≡ true
 gather-normal [] h = refl
@@ -116,13 +109,9 @@ listed-fits head ts h = by (has_nothing ts) refl
 list-fits : (head : List ℕ) (f : Tags → List Tag) (b : Tag) → is_normal b ≡ true
     → ((us : Tags) → each_normal is_nothing us ≡ true → each_normal never (tags (f us)) ≡ true)
     → fits (list_meet head f b) ≡ true
-list-fits head f star n e = refl
-list-fits head f (string s) n e = refl
-list-fits head f (prefix s) n e = refl
-list-fits head f (range o l u) n e = refl
-list-fits head f (set us) n e = refl
 list-fits head f (list other us) n e =
     if_fits (bytes_eq head other) (listed head (f us)) nothing (listed-fits head (f us) (e us n)) refl
+list-fits head f b n e = refl
 
 items-normal : (ts : Tags) → each_normal is_nothing ts ≡ true → each_normal never (tags (items ts)) ≡ true
 items-normal none h = refl
@@ -135,32 +124,24 @@ items-normal (more t ts) h =
 
 across-fits : (a : Tag) (f : Tag → Tag) (b : Tag) → is_set_or_star b ≡ false → fits (f b) ≡ true → fits (across a f b) ≡ true
 across-fits a f star n e = absurd (true≢false n)
-across-fits a f (string s) n e = e
-across-fits a f (prefix s) n e = e
-across-fits a f (range o l u) n e = e
-across-fits a f (list head us) n e = e
 across-fits a f (set us) n e = absurd (true≢false n)
+across-fits a f b n e = e
 
 across-normal : (a : Tag) (f : Tag → Tag) (b : Tag) → is_normal a ≡ true → is_normal b ≡ true
     → ((b : Tag) → is_normal b ≡ true → fits (f b) ≡ true) → is_normal (across a f b) ≡ true
 across-normal a f star m n e = m
-across-normal a f (string s) m n e = second_true (is_nothing (f (string s)) || not (is_set_or_star (f (string s)))) (is_normal (f (string s))) (e (string s) n)
-across-normal a f (prefix s) m n e = second_true (is_nothing (f (prefix s)) || not (is_set_or_star (f (prefix s)))) (is_normal (f (prefix s))) (e (prefix s) n)
-across-normal a f (range o l u) m n e = second_true (is_nothing (f (range o l u)) || not (is_set_or_star (f (range o l u)))) (is_normal (f (range o l u))) (e (range o l u) n)
-across-normal a f (list head us) m n e = second_true (is_nothing (f (list head us)) || not (is_set_or_star (f (list head us)))) (is_normal (f (list head us))) (e (list head us) n)
 across-normal a f (set bs) m n e =
     gather-normal (row f bs) (row-normal f bs (λ b p q. e b q) (second_true (is_none_or_many bs) (each_normal is_set_or_star bs) n))
+across-normal a f b m n e = second_true (is_nothing (f b) || not (is_set_or_star (f b))) (is_normal (f b)) (e b n)
 
 set_across-normal : (ms : Tags) (f : Tags → List Tag) (b : Tag) → is_normal (set ms) ≡ true → is_normal b ≡ true
     → ((bs : Tags) → each_normal is_set_or_star bs ≡ true → each_normal is_set_or_star (tags (f bs)) ≡ true)
     → is_normal (set_across ms f b) ≡ true
 set_across-normal ms f star m n e = m
-set_across-normal ms f (string s) m n e = gather-normal (f (more (string s) none)) (e (more (string s) none) refl)
-set_across-normal ms f (prefix s) m n e = gather-normal (f (more (prefix s) none)) (e (more (prefix s) none) refl)
-set_across-normal ms f (range o l u) m n e = gather-normal (f (more (range o l u) none)) (e (more (range o l u) none) refl)
 set_across-normal ms f (list head us) m n e = search (rules, gather-normal, both_true)
 set_across-normal ms f (set bs) m n e =
     gather-normal (f bs) (e bs (second_true (is_none_or_many bs) (each_normal is_set_or_star bs) n))
+set_across-normal ms f b m n e = gather-normal (f (more b none)) (e (more b none) refl)
 
 mutual
   -- of tags in normal form
@@ -179,14 +160,13 @@ mutual
   -- of tags that are neither a set nor a star
   meet-fits : (a b : Tag) → is_set_or_star a ≡ false → is_normal a ≡ true → is_set_or_star b ≡ false → is_normal b ≡ true
       → fits (meet a b) ≡ true
-  meet-fits star b p m q n = absurd (true≢false p)
   meet-fits (string s) b p m q n = across-fits (string s) (string_meet s) b q (string-fits s b)
   meet-fits (prefix s) b p m q n = across-fits (prefix s) (prefix_meet s) b q (prefix-fits s b)
   meet-fits (range o l u) b p m q n = across-fits (range o l u) (range_meet o l u) b q (range-fits o l u b)
   meet-fits (list head ts) b p m q n =
       across-fits (list head ts) (list_meet head (each_meet ts)) b q
       (list-fits head (each_meet ts) b n (λ us r. each_meet-normal ts us m r))
-  meet-fits (set ms) b p m q n = absurd (true≢false p)
+  meet-fits a b p m q n = absurd (true≢false p)
 
   each_meet-normal : (ts us : Tags) → each_normal is_nothing ts ≡ true → each_normal is_nothing us ≡ true
       → each_normal never (tags (each_meet ts us)) ≡ true

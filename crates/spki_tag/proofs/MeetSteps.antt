@@ -21,12 +21,8 @@ members_of (list head further) = more (list head further) none
 members_of (set ts) = ts
 
 pub tags-members : (t : Tag) → tags (members t) ≡ members_of t
-tags-members star = refl
-tags-members (string octets) = refl
-tags-members (prefix octets) = refl
-tags-members (range ordering low up) = refl
-tags-members (list head further) = refl
 tags-members (set ts) = tags-items ts
+tags-members t = refl
 
 row-same : (f g : Tag → Tag) (bs : Tags) → ((b : Tag) → is_set_or_star b ≡ false → f b ≡ g b)
     → each_normal is_set_or_star bs ≡ true → row f bs ≡ row g bs
@@ -36,11 +32,8 @@ row-same f g (more b bs) e h =
 
 across-same : (a : Tag) (f : Tag → Tag) (b : Tag) → is_set_or_star b ≡ false → f b ≡ across a f b
 across-same a f star h = absurd (true≢false h)
-across-same a f (string s) h = refl
-across-same a f (prefix s) h = refl
-across-same a f (range o l u) h = refl
-across-same a f (list head us) h = refl
 across-same a f (set us) h = absurd (true≢false h)
+across-same a f b h = refl
 
 one_row : (f g : Tag → Tag) (bs : Tags) → ((b : Tag) → is_set_or_star b ≡ false → f b ≡ g b)
     → is_normal (set bs) ≡ true → gather (row f bs) ≡ gather (row g bs ++ [])
@@ -57,49 +50,26 @@ meet-by_members (set ms) (range o l u) h k j n = refl
 meet-by_members (set ms) (list head us) h k j n = refl
 meet-by_members (set ms) (set us) h k j n = refl
 meet-by_members (string s) star h k j n = absurd (true≢false k)
-meet-by_members (string s) (string x) h k j n = absurd (true≢false (sym j))
-meet-by_members (string s) (prefix x) h k j n = absurd (true≢false (sym j))
-meet-by_members (string s) (range o l u) h k j n = absurd (true≢false (sym j))
-meet-by_members (string s) (list head us) h k j n = absurd (true≢false (sym j))
 meet-by_members (string s) (set us) h k j n =
     sym (one_row (string_meet s) (meet (string s)) us (across-same (string s) (string_meet s)) n)
 meet-by_members (prefix s) star h k j n = absurd (true≢false k)
-meet-by_members (prefix s) (string x) h k j n = absurd (true≢false (sym j))
-meet-by_members (prefix s) (prefix x) h k j n = absurd (true≢false (sym j))
-meet-by_members (prefix s) (range o l u) h k j n = absurd (true≢false (sym j))
-meet-by_members (prefix s) (list head us) h k j n = absurd (true≢false (sym j))
 meet-by_members (prefix s) (set us) h k j n =
     sym (one_row (prefix_meet s) (meet (prefix s)) us (across-same (prefix s) (prefix_meet s)) n)
 meet-by_members (range o l u) star h k j n = absurd (true≢false k)
-meet-by_members (range o l u) (string x) h k j n = absurd (true≢false (sym j))
-meet-by_members (range o l u) (prefix x) h k j n = absurd (true≢false (sym j))
-meet-by_members (range o l u) (range p m v) h k j n = absurd (true≢false (sym j))
-meet-by_members (range o l u) (list head us) h k j n = absurd (true≢false (sym j))
 meet-by_members (range o l u) (set us) h k j n =
     sym (one_row (range_meet o l u) (meet (range o l u)) us (across-same (range o l u) (range_meet o l u)) n)
 meet-by_members (list head ts) star h k j n = absurd (true≢false k)
-meet-by_members (list head ts) (string x) h k j n = absurd (true≢false (sym j))
-meet-by_members (list head ts) (prefix x) h k j n = absurd (true≢false (sym j))
-meet-by_members (list head ts) (range o l u) h k j n = absurd (true≢false (sym j))
-meet-by_members (list head ts) (list other us) h k j n = absurd (true≢false (sym j))
 meet-by_members (list head ts) (set us) h k j n =
     sym (one_row (list_meet head (each_meet ts)) (meet (list head ts)) us (across-same (list head ts) (list_meet head (each_meet ts))) n)
+meet-by_members a b h k j n = absurd (true≢false (sym j))
 
 members-le : (a : Tag) → nodes_all (members_of a) ≤ nodes a
-members-le star = omega arith
-members-le (string s) = omega arith
-members-le (prefix s) = omega arith
 members-le (range o l u) = omega arith
-members-le (list head us) = omega arith
-members-le (set us) = omega arith
+members-le a = omega arith
 
 members-less : (a : Tag) → is_set a ≡ true → nodes_all (members_of a) + 1 ≤ nodes a
-members-less star h = absurd (true≢false (sym h))
-members-less (string s) h = absurd (true≢false (sym h))
-members-less (prefix s) h = absurd (true≢false (sym h))
-members-less (range o l u) h = absurd (true≢false (sym h))
-members-less (list head us) h = absurd (true≢false (sym h))
 members-less (set us) h = omega arith
+members-less a h = absurd (true≢false (sym h))
 
 fewer : (a b : Tag) (s t : Bool) → is_set a ≡ s → is_set b ≡ t → (s || t) ≡ true
     → nodes_all (members_of a) + nodes_all (members_of b) + 1 ≤ nodes a + nodes b
@@ -191,13 +161,8 @@ pub nothing-is : (t : Tag) → t ≡ nothing → is_nothing t ≡ true
 nothing-is t e = ap is_nothing e
 
 pub nothing-is_not : (t : Tag) → (t ≡ nothing → ⊥) → is_nothing t ≡ false
-nothing-is_not star n = refl
-nothing-is_not (string s) n = refl
-nothing-is_not (prefix s) n = refl
-nothing-is_not (range o l u) n = refl
-nothing-is_not (list head us) n = refl
 nothing-is_not (set none) n = absurd (n refl)
-nothing-is_not (set (more u us)) n = refl
+nothing-is_not t n = refl
 
 pub items-tags : (ts : List Tag) → items (tags ts) ≡ ts
 items-tags [] = refl

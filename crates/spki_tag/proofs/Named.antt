@@ -133,9 +133,8 @@ head-hinted v h vs =
 -- ---- prefixes
 
 prefix-long : (v w : Value) (vs : List Value) → prefix_fault (v ∷ w ∷ vs) ≡ Some faults.UnknownStar
-prefix-long (value.string None octets) w vs = refl
 prefix-long (value.string (Some hint) octets) w vs = refl
-prefix-long (value.list us) w vs = refl
+prefix-long v w vs = refl
 
 pub prefix-more : (vs : List Value) (v : Value) (us : List Value) → vs ≡ v ∷ us → us ≢ []
     → prefix_fault vs ≡ Some faults.UnknownStar
@@ -192,9 +191,6 @@ limit-of above from (value.string None word) (value.string None limit) h = by (b
 pub limits-of : (vs : List Value) → are_limits vs ≡ true
     → (low : Option Limit) × (up : Option Limit) × (low_values low ++ up_values up ≡ vs)
 limits-of [] h = (None, None, refl)
-limits-of (v ∷ []) h = absurd (true≢false (sym h))
-limits-of (v ∷ w ∷ x ∷ []) h = absurd (true≢false (sym h))
-limits-of (v ∷ w ∷ x ∷ y ∷ z ∷ vs) h = absurd (true≢false (sym h))
 limits-of (v ∷ w ∷ []) h =
     by (is_limit (codes "g") (codes "ge") v w) (is_limit (codes "l") (codes "le") v w) refl refl h
   where
@@ -217,8 +213,8 @@ limits-of (v ∷ w ∷ x ∷ y ∷ []) h =
         let l = limit-of (codes "g") (codes "ge") v w d in
         let u = limit-of (codes "l") (codes "le") x y e in
         (Some l.0, Some u.0, λ i. l.1 i ++ u.1 i)
-    by true false d e h = absurd (true≢false (sym h))
-    by false b d e h = absurd (true≢false (sym h))
+    by a b d e h = absurd (true≢false (sym h))
+limits-of vs h = absurd (true≢false (sym h))
 
 pub no_limits : (vs : List Value) → AreNoLimits vs → are_limits vs ≡ false
 no_limits vs none = by (are_limits vs) refl

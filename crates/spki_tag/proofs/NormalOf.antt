@@ -22,30 +22,26 @@ AreNormalOf (more w ws) (t ∷ ts) = IsNormalOf w t × AreNormalOf ws ts
 
 pub AreNormal-of : (ws : Tags) (ts : List Tag) → AreNormalOf ws ts → AreNormal ts
 AreNormal-of none [] h = tt
-AreNormal-of none (t ∷ ts) h = absurd h
-AreNormal-of (more w ws) [] h = absurd h
 AreNormal-of (more w ws) (t ∷ ts) h = (h.0.written, h.0.normal, AreNormal-of ws ts h.1)
+AreNormal-of ws ts h = absurd h
 
 pub nodes_all-of : (ws : Tags) (ts : List Tag) → AreNormalOf ws ts → nodes_all (tags ts) ≤ nodes_all ws
 nodes_all-of none [] h = omega arith
-nodes_all-of none (t ∷ ts) h = absurd h
-nodes_all-of (more w ws) [] h = absurd h
 nodes_all-of (more w ws) (t ∷ ts) h = omega (arith, h.0.no_more, nodes_all-of ws ts h.1)
+nodes_all-of ws ts h = absurd h
 
 some_contains-of : (ws : Tags) (ts : List Tag) (g : Request) → AreNormalOf ws ts
     → some_contains (tags ts) g ≡ some_contains ws g
 some_contains-of none [] g h = refl
-some_contains-of none (t ∷ ts) g h = absurd h
-some_contains-of (more w ws) [] g h = absurd h
 some_contains-of (more w ws) (t ∷ ts) g h = λ i. h.0.same g i || some_contains-of ws ts g h.1 i
+some_contains-of ws ts g h = absurd h
 
 contain_each-of : (ws : Tags) (ts : List Tag) (gs : Requests) → AreNormalOf ws ts
     → contain_each (tags ts) gs ≡ contain_each ws gs
-contain_each-of none [] gs h = refl
 contain_each-of none (t ∷ ts) gs h = absurd h
 contain_each-of (more w ws) [] gs h = absurd h
-contain_each-of (more w ws) (t ∷ ts) request.none h = refl
 contain_each-of (more w ws) (t ∷ ts) (request.more g gs) h = λ i. h.0.same g i && contain_each-of ws ts gs h.1 i
+contain_each-of ws ts gs h = refl
 
 -- the normal form of a set of normal forms is that of the set as it was written
 set-of : (ws : Tags) (ts : List Tag) (t : Tag) → AreNormalOf ws ts → IsNormalOf (set (tags ts)) t → IsNormalOf (set ws) t
@@ -69,10 +65,6 @@ list-of head ws ts t h k = record {
 
 mutual
   pub normal-of : (w : Tag) → IsTag w → IsNormalOf w (normal w)
-  normal-of star h = record { written = h; normal = refl; same = λ g. refl; no_more = omega arith }
-  normal-of (string octets) h = record { written = h; normal = refl; same = λ g. refl; no_more = omega arith }
-  normal-of (prefix octets) h = record { written = h; normal = refl; same = λ g. refl; no_more = omega arith }
-  normal-of (range ordering low up) h = record { written = h; normal = refl; same = λ g. refl; no_more = omega arith }
   normal-of (list head ws) h =
       let each = normals-of ws h.1 in
       list-of head ws (normals ws) (listed head (normals ws)) each
@@ -81,6 +73,7 @@ mutual
       let each = normals-of ws h in
       set-of ws (normals ws) (set_of (spread (normals ws))) each
       (set_of-normal (normals ws) (AreNormal-of ws (normals ws) each))
+  normal-of w h = record { written = h; normal = refl; same = λ g. refl; no_more = omega arith }
 
   pub normals-of : (ws : Tags) → AreTags ws → AreNormalOf ws (normals ws)
   normals-of none h = tt

@@ -28,16 +28,14 @@ ordering_only date time e = absurd (apart (codes "date") (codes "time") refl e)
 ordering_only date date e = refl
 
 low_word_only : (a b : Bool) → (if a then codes "g" else codes "ge") ≡ (if b then codes "g" else codes "ge") → a ≡ b
-low_word_only true true e = refl
 low_word_only true false e = absurd (apart (codes "g") (codes "ge") refl e)
 low_word_only false true e = absurd (apart (codes "ge") (codes "g") refl e)
-low_word_only false false e = refl
+low_word_only a b e = refl
 
 up_word_only : (a b : Bool) → (if a then codes "l" else codes "le") ≡ (if b then codes "l" else codes "le") → a ≡ b
-up_word_only true true e = refl
 up_word_only true false e = absurd (apart (codes "l") (codes "le") refl e)
 up_word_only false true e = absurd (apart (codes "le") (codes "l") refl e)
-up_word_only false false e = refl
+up_word_only a b e = refl
 
 low_is_not_up : (a b : Bool) → (if a then codes "g" else codes "ge") ≡ (if b then codes "l" else codes "le") → ⊥
 low_is_not_up true true e = apart (codes "g") (codes "l") refl e
@@ -50,19 +48,17 @@ same_limit k m e f = search rules
 
 up_only : (k m : Option Limit) → values (up_values k) ≡ values (up_values m) → k ≡ m
 up_only None None e = refl
-up_only None (Some m) e = absurd cc
-up_only (Some k) None e = absurd cc
 up_only (Some k) (Some m) e = same_limit k m (up_word_only k.strict m.strict cc) cc
+up_only k m e = absurd cc
 
 limits_only : (low up low' up' : Option Limit)
     → values (low_values low ++ up_values up) ≡ values (low_values low' ++ up_values up')
     → (low ≡ low') × (up ≡ up')
 limits_only None up None up' e = (refl, up_only up up' e)
-limits_only None None (Some m) up' e = absurd cc
 limits_only None (Some u) (Some m) up' e = absurd (low_is_not_up m.strict u.strict (sym cc))
-limits_only (Some k) up None None e = absurd cc
 limits_only (Some k) up None (Some u) e = absurd (low_is_not_up k.strict u.strict cc)
 limits_only (Some k) up (Some m) up' e = (same_limit k m (low_word_only k.strict m.strict cc) cc, up_only up up' cc)
+limits_only low up low' up' e = absurd cc
 
 same_range : (o p : Ordering) (low up low' up' : Option Limit) → o ≡ p → (low ≡ low') × (up ≡ up')
     → range o low up ≡ range p low' up'
@@ -73,33 +69,19 @@ same_range o p low up low' up' e f = let a = f.0 in let b = f.1 in cc
 mutual
   pub tag_only : (t w : Tag) → IsTag t → IsTag w → tag_value w ≡ tag_value t → w ≡ t
   tag_only star star h k e = refl
-  tag_only star (string s) h k e = absurd cc
-  tag_only star (prefix s) h k e = absurd cc
-  tag_only star (range ordering low up) h k e = absurd cc
   tag_only star (list head ws) h k e = absurd (k.0 cc)
-  tag_only star (set ws) h k e = absurd cc
-  tag_only (string octets) star h k e = absurd cc
   tag_only (string octets) (string s) h k e = ap string cc
-  tag_only (string octets) (prefix s) h k e = absurd cc
-  tag_only (string octets) (range ordering low up) h k e = absurd cc
-  tag_only (string octets) (list head ws) h k e = absurd cc
-  tag_only (string octets) (set ws) h k e = absurd cc
-  tag_only (prefix octets) star h k e = absurd cc
-  tag_only (prefix octets) (string s) h k e = absurd cc
   tag_only (prefix octets) (prefix s) h k e = ap prefix cc
   tag_only (prefix octets) (range ordering low up) h k e =
       absurd (apart (codes "range") (codes "prefix") refl (word_only _ _ _ _ e))
   tag_only (prefix octets) (list head ws) h k e = absurd (k.0 cc)
   tag_only (prefix octets) (set ws) h k e = absurd (apart (codes "set") (codes "prefix") refl (word_only _ _ _ _ e))
-  tag_only (range o l u) star h k e = absurd cc
-  tag_only (range o l u) (string s) h k e = absurd cc
   tag_only (range o l u) (prefix s) h k e = absurd (apart (codes "prefix") (codes "range") refl (word_only _ _ _ _ e))
   tag_only (range o l u) (range ordering low up) h k e =
       same_range ordering o low up l u (ordering_only ordering o cc) (limits_only low up l u cc)
   tag_only (range o l u) (list head ws) h k e = absurd (k.0 cc)
   tag_only (range o l u) (set ws) h k e = absurd (apart (codes "set") (codes "range") refl (word_only _ _ _ _ e))
   tag_only (list other ts) star h k e = absurd (h.0 (sym cc))
-  tag_only (list other ts) (string s) h k e = absurd cc
   tag_only (list other ts) (prefix s) h k e = absurd (h.0 (sym cc))
   tag_only (list other ts) (range ordering low up) h k e = absurd (h.0 (sym cc))
   tag_only (list other ts) (list head ws) h k e =
@@ -107,18 +89,16 @@ mutual
       let b : ws ≡ ts = tags_only ts ws h.1 k.1 cc in
       cc
   tag_only (list other ts) (set ws) h k e = absurd (h.0 (sym cc))
-  tag_only (set ts) star h k e = absurd cc
-  tag_only (set ts) (string s) h k e = absurd cc
   tag_only (set ts) (prefix s) h k e = absurd (apart (codes "prefix") (codes "set") refl (word_only _ _ _ _ e))
   tag_only (set ts) (range ordering low up) h k e = absurd (apart (codes "range") (codes "set") refl (word_only _ _ _ _ e))
   tag_only (set ts) (list head ws) h k e = absurd (k.0 cc)
   tag_only (set ts) (set ws) h k e = ap set (tags_only ts ws h k cc)
+  tag_only t w h k e = absurd cc
 
   pub tags_only : (ts ws : Tags) → AreTags ts → AreTags ws → tag_values ws ≡ tag_values ts → ws ≡ ts
   tags_only none none h k e = refl
-  tags_only none (more w ws) h k e = absurd cc
-  tags_only (more t ts) none h k e = absurd cc
   tags_only (more t ts) (more w ws) h k e =
       let a : w ≡ t = tag_only t w h.0 k.0 cc in
       let b : ws ≡ ts = tags_only ts ws h.1 k.1 cc in
       cc
+  tags_only ts ws h k e = absurd cc

@@ -63,44 +63,36 @@ merge-places p q apart n (t ∷ ts) = by (p t) (q t) (apart t) (merge-places p q
 -- ---- kinds
 
 one-shares : (octets : List ℕ) (k : Kind) → (is_one octets k || has_many_strings k) ≡ kinds_share (one octets) k
-one-shares octets any = refl
-one-shares octets strings = refl
 one-shares octets (one other) = by (bytes_eq octets other)
   where
     by : (b : Bool) → (b || false) ≡ b
     by true = refl
     by false = refl
-one-shares octets (lists head) = refl
+one-shares octets k = refl
 
 one-apart : (octets : List ℕ) (k : Kind) → (is_one octets k && has_many_strings k) ≡ false
-one-apart octets any = refl
-one-apart octets strings = refl
 one-apart octets (one other) = by (bytes_eq octets other)
   where
     by : (b : Bool) → (b && false) ≡ false
     by true = refl
     by false = refl
-one-apart octets (lists head) = refl
+one-apart octets k = refl
 
 lists-share : (head : List ℕ) (k : Kind) → (is_lists head k || is_any k) ≡ kinds_share (lists head) k
-lists-share head any = refl
-lists-share head strings = refl
-lists-share head (one octets) = refl
 lists-share head (lists other) = by (bytes_eq head other)
   where
     by : (b : Bool) → (b || false) ≡ b
     by true = refl
     by false = refl
+lists-share head k = refl
 
 lists-apart : (head : List ℕ) (k : Kind) → (is_lists head k && is_any k) ≡ false
-lists-apart head any = refl
-lists-apart head strings = refl
-lists-apart head (one octets) = refl
 lists-apart head (lists other) = by (bytes_eq head other)
   where
     by : (b : Bool) → (b && false) ≡ false
     by true = refl
     by false = refl
+lists-apart head k = refl
 
 -- the places of what can share a string: those of the string and those of what has more strings
 pub places-of_string : (octets : List ℕ) (ts : List Tag)

@@ -39,22 +39,18 @@ ranged_plain None l u = inr refl
 ranged_plain (Some o) l u = if_plain (exclude l u) nothing (range o l u) (inr refl) (inl refl)
 
 range_plain : (o : Ordering) (l u : Option Limit) (b : Tag) → IsPlain (range_meet o l u b)
-range_plain o l u star = inr refl
 range_plain o l u (string s) = string_plain s (range o l u)
 range_plain o l u (prefix p) =
     ranged_plain (ordering_meet o alpha) (greater_low l (from p)) (lesser_up u (strict_limit (least_above p)))
 range_plain o l u (range p m v) = ranged_plain (ordering_meet o p) (greater_low l m) (lesser_up u v)
-range_plain o l u (list head us) = inr refl
-range_plain o l u (set us) = inr refl
+range_plain o l u b = inr refl
 
 prefix_plain : (p : List ℕ) (b : Tag) → IsPlain (prefix_meet p b)
-prefix_plain p star = inr refl
 prefix_plain p (string s) = string_plain s (prefix p)
 prefix_plain p (prefix q) = search (rules, if_plain)
 prefix_plain p (range o l u) =
     ranged_plain (ordering_meet alpha o) (greater_low (from p) l) (lesser_up (strict_limit (least_above p)) u)
-prefix_plain p (list head us) = inr refl
-prefix_plain p (set us) = inr refl
+prefix_plain p b = inr refl
 
 -- ---- lists
 
@@ -95,10 +91,6 @@ nothing_within n h = record { plain = inr refl; few = h }
 list_plain : (head : List ℕ) (m : ℕ) (f : Tags → List Tag) (b : Tag)
     → ((us : Tags) → some_nests_set us ≡ false → ArePlainWithin (m + nodes_all us) (f us)) → nests_set b ≡ false
     → IsPlainWithin (2 + m + nodes b) (list_meet head f b)
-list_plain head m f star h q = nothing_within _ (omega arith)
-list_plain head m f (string s) h q = nothing_within _ (omega arith)
-list_plain head m f (prefix s) h q = nothing_within _ (omega arith)
-list_plain head m f (range o l u) h q = nothing_within _ (omega arith)
 list_plain head m f (set us) h q = absurd cc
 list_plain head m f (list other us) h q =
     let both : IsPlainWithin (4 + (m + nodes_all us)) (listed head (f us)) =
@@ -106,6 +98,7 @@ list_plain head m f (list other us) h q =
     let same : 4 + (m + nodes_all us) ≡ 2 + m + (2 + nodes_all us) = omega arith in
     if_within _ (bytes_eq head other) (listed head (f us)) nothing (subst (λ n. IsPlainWithin n (listed head (f us))) same both)
     (nothing_within _ (omega arith))
+list_plain head m f b h q = nothing_within _ (omega arith)
 
 -- ---- tags
 
@@ -113,11 +106,8 @@ across_plain : (a : Tag) (f : Tag → Tag) (b : Tag) → nests_set a ≡ false
     → ((c : Tag) → nests_set c ≡ false → IsPlainWithin (nodes a + nodes c) (f c)) → nests_set b ≡ false
     → IsPlainWithin (nodes a + nodes b) (across a f b)
 across_plain a f star p h q = record { plain = inl p; few = omega arith }
-across_plain a f (string s) p h q = h (string s) q
-across_plain a f (prefix s) p h q = h (prefix s) q
-across_plain a f (range o l u) p h q = h (range o l u) q
-across_plain a f (list head us) p h q = h (list head us) q
 across_plain a f (set bs) p h q = absurd cc
+across_plain a f b p h q = h b q
 
 one_plain : (t : Tag) (c : Tag) → IsPlain t → nodes t ≡ 1 → IsPlainWithin (1 + nodes c) t
 one_plain t c h e = record { plain = h; few = omega (arith, e) }
@@ -150,12 +140,8 @@ mutual
       record { plain = (front.plain, back.plain); few = omega (arith, front.few, back.few) }
 
 nothing_meets : (b : Tag) → nests_set b ≡ false → meet nothing b ≡ nothing
-nothing_meets star q = refl
-nothing_meets (string s) q = refl
-nothing_meets (prefix s) q = refl
-nothing_meets (range o l u) q = refl
-nothing_meets (list head us) q = refl
 nothing_meets (set us) q = absurd cc
+nothing_meets b q = refl
 
 pub plain_meet : (a b : Tag) → IsPlain a → nests_set b ≡ false → IsPlainWithin (nodes a + nodes b) (meet a b)
 plain_meet a b (inl p) q = two_plain a b p q

@@ -12,21 +12,19 @@ use Rattle.spki_tag.proofs.Weight.{weight, weights, weight_le-weights}
 mutual
   pub request_only : (g h : Request) → request_value h ≡ request_value g → h ≡ g
   request_only (string octets) (string s) e = ap string cc
-  request_only (string octets) (list head hs) e = absurd cc
-  request_only (list head gs) (string s) e = absurd cc
   request_only (list head gs) (list other hs) e =
       let a : other ≡ head = cc in
       let b : hs ≡ gs = requests_only gs hs cc in
       cc
+  request_only g h e = absurd cc
 
   pub requests_only : (gs hs : Requests) → request_values hs ≡ request_values gs → hs ≡ gs
   requests_only none none e = refl
-  requests_only none (more h hs) e = absurd cc
-  requests_only (more g gs) none e = absurd cc
   requests_only (more g gs) (more h hs) e =
       let a : h ≡ g = request_only g h cc in
       let b : hs ≡ gs = requests_only gs hs cc in
       cc
+  requests_only gs hs e = absurd cc
 
 -- ---- the members of a list, one after the other
 

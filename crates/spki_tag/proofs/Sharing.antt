@@ -12,40 +12,22 @@ bytes_eq_sym : (xs ys : List ℕ) → bytes_eq xs ys ≡ bytes_eq ys xs
 bytes_eq_sym xs ys = by (bytes_eq xs ys) (bytes_eq ys xs) refl refl
   where
     by : (a b : Bool) → bytes_eq xs ys ≡ a → bytes_eq ys xs ≡ b → a ≡ b
-    by true true e f = refl
     by true false e f = sym ((bytes_decides ys xs).1 (sym ((bytes_decides xs ys).0 e))) ∙ f
     by false true e f = sym e ∙ (bytes_decides xs ys).1 (sym ((bytes_decides ys xs).0 f))
-    by false false e f = refl
+    by a b e f = refl
 
 -- tags that can have no request in common leave nothing together
 pub meet-apart : (t u : Tag) → may_share t u ≡ false → meet t u ≡ nothing
-meet-apart star u e = absurd cc
-meet-apart (set ts) u e = absurd cc
-meet-apart (string octets) star e = absurd cc
 meet-apart (string octets) (string other) e =
     ap (λ b. if b then string octets else nothing) (bytes_eq_sym other octets ∙ e)
-meet-apart (string octets) (prefix p) e = absurd cc
-meet-apart (string octets) (range o l u) e = absurd cc
 meet-apart (string octets) (list head ts) e = refl
-meet-apart (string octets) (set ts) e = absurd cc
-meet-apart (prefix p) star e = absurd cc
-meet-apart (prefix p) (string other) e = absurd cc
-meet-apart (prefix p) (prefix q) e = absurd cc
-meet-apart (prefix p) (range o l u) e = absurd cc
 meet-apart (prefix p) (list head ts) e = refl
-meet-apart (prefix p) (set ts) e = absurd cc
-meet-apart (range o l u) star e = absurd cc
-meet-apart (range o l u) (string other) e = absurd cc
-meet-apart (range o l u) (prefix q) e = absurd cc
-meet-apart (range o l u) (range p m v) e = absurd cc
 meet-apart (range o l u) (list head ts) e = refl
-meet-apart (range o l u) (set ts) e = absurd cc
-meet-apart (list head ts) star e = absurd cc
 meet-apart (list head ts) (string other) e = refl
 meet-apart (list head ts) (prefix q) e = refl
 meet-apart (list head ts) (range o l u) e = refl
 meet-apart (list head ts) (list other us) e = ap (λ b. if b then listed head (each_meet ts us) else nothing) e
-meet-apart (list head ts) (set us) e = absurd cc
+meet-apart t u e = absurd cc
 
 -- the tags at places, in a list and behind its first tag
 tags_at-behind : (t : Tag) (ts : List Tag) (p : Tag → Bool) (m n : ℕ) (us : List Tag) → m ≡ n + 1 → 0 < n

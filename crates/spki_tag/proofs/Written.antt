@@ -20,22 +20,18 @@ string-tag : (s : List ℕ) (b : Tag) → IsTag (string_meet s b)
 string-tag s b = if_tag (contains b (request.string s)) (string s) nothing tt tt
 
 range-tag : (o : Ordering) (l u : Option Limit) (b : Tag) → IsTag (range_meet o l u b)
-range-tag o l u star = tt
 range-tag o l u (string s) = string-tag s (range o l u)
 range-tag o l u (prefix p) =
     ranged-tag (ordering_meet o alpha) (greater_low l (from p)) (lesser_up u (strict_limit (least_above p)))
 range-tag o l u (range p m v) = ranged-tag (ordering_meet o p) (greater_low l m) (lesser_up u v)
-range-tag o l u (list head us) = tt
-range-tag o l u (set us) = tt
+range-tag o l u b = tt
 
 prefix-tag : (p : List ℕ) (b : Tag) → IsTag (prefix_meet p b)
-prefix-tag p star = tt
 prefix-tag p (string s) = string-tag s (prefix p)
 prefix-tag p (prefix q) = search (rules, if_tag)
 prefix-tag p (range o l u) =
     ranged-tag (ordering_meet alpha o) (greater_low (from p) l) (lesser_up (strict_limit (least_above p)) u)
-prefix-tag p (list head us) = tt
-prefix-tag p (set us) = tt
+prefix-tag p b = tt
 
 -- ---- sets
 
@@ -64,29 +60,20 @@ row-tags f (more b bs) e h = kept-tags (f b) (row f bs) (e b h.0) (row-tags f bs
 across-tag : (a : Tag) (f : Tag → Tag) (b : Tag) → IsTag a → IsTag b → ((b : Tag) → IsTag b → IsTag (f b))
     → IsTag (across a f b)
 across-tag a f star h k e = h
-across-tag a f (string s) h k e = e (string s) k
-across-tag a f (prefix s) h k e = e (prefix s) k
-across-tag a f (range o l u) h k e = e (range o l u) k
-across-tag a f (list head us) h k e = e (list head us) k
 across-tag a f (set bs) h k e = gather-tag (row f bs) (row-tags f bs e k)
+across-tag a f b h k e = e b k
 
 set_across-tag : (ms : Tags) (f : Tags → List Tag) (b : Tag) → AreTags ms → IsTag b
     → ((bs : Tags) → AreTags bs → AreTags (tags (f bs))) → IsTag (set_across ms f b)
 set_across-tag ms f star h k e = h
-set_across-tag ms f (string s) h k e = gather-tag (f (more (string s) none)) (e (more (string s) none) (tt, tt))
-set_across-tag ms f (prefix s) h k e = gather-tag (f (more (prefix s) none)) (e (more (prefix s) none) (tt, tt))
-set_across-tag ms f (range o l u) h k e = gather-tag (f (more (range o l u) none)) (e (more (range o l u) none) (tt, tt))
 set_across-tag ms f (list head us) h k e = gather-tag (f (more (list head us) none)) (e (more (list head us) none) (k, tt))
 set_across-tag ms f (set bs) h k e = gather-tag (f bs) (e bs k)
+set_across-tag ms f b h k e = gather-tag (f (more b none)) (e (more b none) (tt, tt))
 
 list-tag : (head : List ℕ) (f : Tags → List Tag) (b : Tag) → IsHead head → IsTag b
     → ((us : Tags) → AreTags us → AreTags (tags (f us))) → IsTag (list_meet head f b)
-list-tag head f star h k e = tt
-list-tag head f (string s) h k e = tt
-list-tag head f (prefix s) h k e = tt
-list-tag head f (range o l u) h k e = tt
-list-tag head f (set us) h k e = tt
 list-tag head f (list other us) h k e = search (rules, if_tag)
+list-tag head f b h k e = tt
 
 items-tags : (ts : Tags) → AreTags ts → AreTags (tags (items ts))
 items-tags none h = tt
