@@ -1,12 +1,12 @@
 -- How large what two tags leave together is.
-use Rattle.std.proofs.Common.{◌≡◌, ℕ, ◌+◌, ◌*◌, ◌≤◌, Bool, true, false, List, [], ◌∷◌, ◌++◌, Option, Some, None, refl, ap, subst, arith, le_trans, rules}
+use Rattle.std.proofs.Common.{◌≡◌, ℕ, ◌+◌, ◌*◌, ◌≤◌, Bool, true, false, List, [], ◌∷◌, ◌++◌, Option, Some, None, refl, ap, arith, le_trans, rules}
 use Rattle.std.proofs.Math.Nat.{mul-add, add-mul, mul-one, one-mul, mul_comm, two-mul, one-le-mul, mul-le-mul_left}
-use Rattle.std.specs.Prelude.{if◌then◌else◌, nat_eq}
-use Rattle.std.specs.List.{starts_with}
+use Rattle.std.specs.Prelude.{if◌then◌else◌}
 use Rattle.std.specs.Str.{bytes_eq}
 use Rattle.spki_tag.specs.Request as request
 use Rattle.spki_tag.specs.Tag.{Tag, Tags, tags, Limit, Ordering, alpha, star, string, prefix, range, list, set, none, more, contains, nodes, nodes_all, is_nothing}
-use Rattle.spki_tag.specs.Meet.{greater_low, lesser_up, exclude, ordering_meet, nothing, ranged, least_above, strict_limit, from, string_meet, range_meet, prefix_meet, items, kept, row, gather, has_nothing, listed, list_meet, across, set_across, meet, each_meet, pairs}
+use Rattle.spki_tag.specs.Meet.{greater_low, lesser_up, exclude, ordering_meet, nothing, ranged, least_above, strict_limit, from, string_meet, range_meet, prefix_meet, kept, row, gather, has_nothing, listed, list_meet, across, set_across, meet, each_meet, pairs}
+use Rattle.spki_tag.proofs.Exact.{tags-items}
 
 -- ---- at least one node
 
@@ -83,10 +83,6 @@ set_across-le ms f (list head us) h = search (rules, set_across-by, gather-le)
 set_across-le ms f (set bs) h = search (rules, set_across-by, gather-le, le_trans, mul-le-mul_left)
 set_across-le ms f b h =
     set_across-by (nodes_all ms) 1 _ _ (gather-le (f (more b none))) (h (more b none)) (omega arith)
-
-pub tags-items : (ts : Tags) → tags (items ts) ≡ ts
-tags-items none = refl
-tags-items (more t ts) = ap (more t) (tags-items ts)
 
 if_few : (b : Bool) (t u : Tag) (n : ℕ) → nodes t ≤ n → nodes u ≤ n → nodes (if b then t else u) ≤ n
 if_few true t u n h k = h

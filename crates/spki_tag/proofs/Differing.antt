@@ -3,7 +3,7 @@ use Rattle.std.proofs.Common.{◌≡◌, ◌≢◌, ◌↔◌, ◌<◌, ℕ, fal
 use Rattle.std.proofs.lemmas.List.{get_or_default}
 use Rattle.spki_tag.specs.Tag.{Tag, tags}
 use Rattle.spki_tag.specs.Meet.{items}
-use Rattle.spki_tag.proofs.Places.{items-tags}
+use Rattle.spki_tag.proofs.Exact.{items-tags}
 
 -- the members are those of one list
 pub tags_one : (ts us : List Tag) → tags ts ≡ tags us → ts ≡ us

@@ -1,10 +1,12 @@
 -- What two tags leave together contains a request exactly if both do.
 use Rattle.std.proofs.Common.{◌≡◌, ℕ, Bool, true, false, ◌&&◌, ◌||◌, not, List, [], ◌∷◌, ◌++◌, length, Option, Some, None, refl, sym, ap, ◌∙◌, subst, true≢false, arith, eqb-true, rules}
-use Rattle.std.specs.Prelude.{if◌then◌else◌, nat_eq, ◌==◌, slice_index, drop}
+use Rattle.std.specs.Prelude.{if◌then◌else◌, nat_eq}
 use Rattle.std.specs.List.{starts_with}
 use Rattle.std.specs.Str.{bytes_eq}
 use Rattle.std.specs.Cmp.Lexicographic.{same_text, bytes_decides}
-use Rattle.spki_tag.specs.Time.{is_time, is_date, is_number_at}
+use Rattle.std.proofs.Math.Bool.{and_self, and-true, and-false, and_comm, or-false, or_assoc, and-or_distrib_left, and-or_distrib_right}
+use Rattle.std.proofs.lemmas.Bool.{and_parts}
+use Rattle.spki_tag.specs.Time.{is_time, is_date}
 use Rattle.spki_tag.specs.Request as request
 use Rattle.spki_tag.specs.Request.{Request, Requests, IsRequest, AreRequests}
 use Rattle.spki_tag.specs.Tag.{Tag, Tags, tags, Limit, Ordering, alpha, time, date, star, string, prefix, range, list, set, none, more, contains, contain_each, some_contains, is_above, is_below, is_ordered, is_nothing, is_normal, each_normal, is_set_or_star}
@@ -14,61 +16,24 @@ use Rattle.spki_tag.proofs.Prefixes.{least_above-exact, prefixes-exact}
 
 -- ---- truth values
 
-first_true : (a b : Bool) → (a && b) ≡ true → a ≡ true
-first_true true b h = refl
-first_true false b h = h
-
-pub second_true : (a b : Bool) → (a && b) ≡ true → b ≡ true
-second_true true b h = h
-second_true false b h = absurd (true≢false (sym h))
-
-pub and_false : (b : Bool) → false ≡ (b && false)
-and_false true = refl
-and_false false = refl
-
-and_true : (b : Bool) → b ≡ (b && true)
-and_true true = refl
-and_true false = refl
-
-and_comm : (a b : Bool) → (a && b) ≡ (b && a)
-and_comm true true = refl
-and_comm true false = refl
-and_comm false true = refl
-and_comm false false = refl
-
--- three pairs, and three of each
-thrice : (a b c d e f : Bool) → ((a && d) && (b && e) && (c && f)) ≡ ((a && b && c) && (d && e && f))
-thrice true true true d e f = refl
-thrice true true false true true f = refl
-thrice true true false true false f = refl
-thrice true true false false e f = refl
-thrice true false c true e f = refl
-thrice true false c false e f = refl
-thrice false b c d e f = refl
-
+-- two pairs, and two of each
 twice : (a b c d : Bool) → ((a && b) && (c && d)) ≡ ((a && c) && (b && d))
 twice true b true d = refl
 twice true true false d = refl
 twice true false false d = refl
 twice false b c d = refl
 
-or_and : (a b c : Bool) → ((a && c) || (b && c)) ≡ ((a || b) && c)
-or_and true b true = refl
-or_and true true false = refl
-or_and true false false = refl
-or_and false b c = refl
+-- three pairs, and three of each
+thrice : (a b c d e f : Bool) → ((a && d) && (b && e) && (c && f)) ≡ ((a && b && c) && (d && e && f))
+thrice a b c d e f = ap (λ x. x && (c && f)) (twice a d b e) ∙ twice (a && b) (d && e) c f
 
-and_or : (a b c : Bool) → ((a && b) || (a && c)) ≡ (a && (b || c))
-and_or true b c = refl
-and_or false b c = refl
+-- what is said of a member, what is said of it alone, and what is said of the others
+pub three_parts : (b n r : Bool) → (not b && n && r) ≡ true → (b ≡ false) × (n ≡ true) × (r ≡ true)
+three_parts true n r h = absurd (true≢false (sym h))
+three_parts false n r h = let both = and_parts n r h in (refl, both.0, both.1)
 
-or_assoc : (a b c : Bool) → ((a || b) || c) ≡ (a || (b || c))
-or_assoc true b c = refl
-or_assoc false b c = refl
-
-pub or_false : (a : Bool) → (a || false) ≡ a
-or_false true = refl
-or_false false = refl
+pub all_three : (b n r : Bool) → b ≡ false → n ≡ true → r ≡ true → (not b && n && r) ≡ true
+all_three b n r h k j = λ i. not (h i) && k i && j i
 
 -- ---- orderings
 
@@ -91,22 +56,18 @@ date_length x h = search (rules, eqb-true, first_nine)
 time_or_date : (x : List ℕ) → is_time x ≡ true → is_date x ≡ true → false ≡ true
 time_or_date x h k = absurd (omega (arith, time_length x h, date_length x k))
 
-twofold : (b : Bool) → b ≡ (b && b)
-twofold true = refl
-twofold false = refl
-
 abbrev ordered_in : Option Ordering → List ℕ → Bool
 ordered_in None x = false
 ordered_in (Some o) x = is_ordered o x
 
 ordering-exact : (o p : Ordering) (x : List ℕ) → ordered_in (ordering_meet o p) x ≡ (is_ordered o x && is_ordered p x)
 ordering-exact alpha p x = refl
-ordering-exact time alpha x = and_true (is_time x)
-ordering-exact time time x = twofold (is_time x)
+ordering-exact time alpha x = sym (and-true (is_time x))
+ordering-exact time time x = sym (and_self (is_time x))
 ordering-exact time date x = and_never (is_time x) (is_date x) (time_or_date x)
-ordering-exact date alpha x = and_true (is_date x)
+ordering-exact date alpha x = sym (and-true (is_date x))
 ordering-exact date time x = and_never (is_date x) (is_time x) (λ h k. time_or_date x k h)
-ordering-exact date date x = twofold (is_date x)
+ordering-exact date date x = sym (and_self (is_date x))
 
 -- ---- ranges
 
@@ -162,7 +123,7 @@ range-exact o l u (prefix p) (request.list head gs) k n =
 range-exact o l u (range p m v) (request.string x) k n = ranges o p l u m v x
 range-exact o l u (range p m v) (request.list head gs) k n =
     ranged-list (ordering_meet o p) (greater_low l m) (lesser_up u v) head gs
-range-exact o l u (list other us) (request.string x) k n = and_false _
+range-exact o l u (list other us) (request.string x) k n = sym (and-false _)
 range-exact o l u (list other us) (request.list head gs) k n = refl
 range-exact o l u b g k n = absurd (true≢false n)
 
@@ -188,7 +149,7 @@ prefix-exact p (range o l u) (request.string x) k n =
     ∙ ap (λ b. b && (is_ordered o x && is_above l x && is_below u x)) (sym (least_above-exact p x k))
 prefix-exact p (range o l u) (request.list head gs) k n =
     ranged-list (ordering_meet alpha o) (greater_low (from p) l) (lesser_up (strict_limit (least_above p)) u) head gs
-prefix-exact p (list other us) (request.string x) k n = and_false _
+prefix-exact p (list other us) (request.string x) k n = sym (and-false _)
 prefix-exact p (list other us) (request.list head gs) k n = refl
 prefix-exact p b g k n = absurd (true≢false n)
 
@@ -200,7 +161,7 @@ kept-exact (set (more u us)) ts g = refl
 kept-exact t ts g = refl
 
 pub gather-exact : (ts : List Tag) (g : Request) → contains (gather ts) g ≡ some_contains (tags ts) g
-gather-exact (t ∷ []) g = sym (or_false _)
+gather-exact (t ∷ []) g = sym (or-false _)
 gather-exact ts g = refl
 
 pub append-exact : (ts us : List Tag) (g : Request)
@@ -209,51 +170,43 @@ append-exact [] us g = refl
 append-exact (t ∷ ts) us g = ap (λ b. contains t g || b) (append-exact ts us g)
     ∙ sym (or_assoc (contains t g) (some_contains (tags ts) g) (some_contains (tags us) g))
 
-pub not_barred : (b n r : Bool) → (not b && n && r) ≡ true → b ≡ false
-not_barred true n r h = absurd (true≢false (sym h))
-not_barred false n r h = refl
-
-pub its_normal : (b n r : Bool) → (not b && n && r) ≡ true → n ≡ true
-its_normal true n r h = absurd (true≢false (sym h))
-its_normal false n r h = first_true n r h
-
-pub rest_normal : (b n r : Bool) → (not b && n && r) ≡ true → r ≡ true
-rest_normal true n r h = absurd (true≢false (sym h))
-rest_normal false n r h = second_true n r h
-
 row-exact : (f : Tag → Tag) (t : Bool) (g : Request) (bs : Tags)
     → ((b : Tag) → is_set_or_star b ≡ false → is_normal b ≡ true → contains (f b) g ≡ (t && contains b g))
     → each_normal is_set_or_star bs ≡ true → some_contains (tags (row f bs)) g ≡ (t && some_contains bs g)
-row-exact f t g none e n = and_false t
+row-exact f t g none e n = sym (and-false t)
 row-exact f t g (more b bs) e n =
     kept-exact (f b) (row f bs) g
-    ∙ (λ i. e b (not_barred (is_set_or_star b) (is_normal b) (each_normal is_set_or_star bs) n)
-    (its_normal (is_set_or_star b) (is_normal b) (each_normal is_set_or_star bs) n) i
-    || row-exact f t g bs e (rest_normal (is_set_or_star b) (is_normal b) (each_normal is_set_or_star bs) n) i)
-    ∙ and_or t (contains b g) (some_contains bs g)
+    ∙ (λ i. e b ((three_parts (is_set_or_star b) (is_normal b) (each_normal is_set_or_star bs) n).0)
+    ((three_parts (is_set_or_star b) (is_normal b) (each_normal is_set_or_star bs) n).1) i
+    || row-exact f t g bs e ((three_parts (is_set_or_star b) (is_normal b) (each_normal is_set_or_star bs) n).2) i)
+    ∙ sym (and-or_distrib_left t (contains b g) (some_contains bs g))
 
 across-exact : (a : Tag) (f : Tag → Tag) (b : Tag) (g : Request) → is_normal b ≡ true
     → ((b : Tag) → is_set_or_star b ≡ false → is_normal b ≡ true → contains (f b) g ≡ (contains a g && contains b g))
     → contains (across a f b) g ≡ (contains a g && contains b g)
-across-exact a f star g n e = and_true _
-across-exact a f (set bs) g n e = gather-exact (row f bs) g ∙ row-exact f (contains a g) g bs e (second_true _ _ n)
+across-exact a f star g n e = sym (and-true _)
+across-exact a f (set bs) g n e = gather-exact (row f bs) g ∙ row-exact f (contains a g) g bs e ((and_parts _ _ n).1)
 across-exact a f b g n e = e b refl n
 
 set_across-exact : (ms : Tags) (f : Tags → List Tag) (b : Tag) (g : Request) → is_normal b ≡ true
     → ((bs : Tags) → each_normal is_set_or_star bs ≡ true → some_contains (tags (f bs)) g ≡ (some_contains ms g && some_contains bs g))
     → contains (set_across ms f b) g ≡ (some_contains ms g && contains b g)
-set_across-exact ms f star g n e = and_true _
+set_across-exact ms f star g n e = sym (and-true _)
 set_across-exact ms f (list head us) g n e =
-    gather-exact (f (more (list head us) none)) g ∙ e (more (list head us) none) (sym (and_true _) ∙ n) ∙ ap (λ b. some_contains ms g && b) (or_false _)
-set_across-exact ms f (set bs) g n e = gather-exact (f bs) g ∙ e bs (second_true _ _ n)
+    gather-exact (f (more (list head us) none)) g ∙ e (more (list head us) none) (and-true _ ∙ n) ∙ ap (λ b. some_contains ms g && b) (or-false _)
+set_across-exact ms f (set bs) g n e = gather-exact (f bs) g ∙ e bs ((and_parts _ _ n).1)
 set_across-exact ms f b g n e =
-    gather-exact (f (more b none)) g ∙ e (more b none) refl ∙ ap (λ b. some_contains ms g && b) (or_false _)
+    gather-exact (f (more b none)) g ∙ e (more b none) refl ∙ ap (λ b. some_contains ms g && b) (or-false _)
 
 -- ---- lists
 
 pub tags-items : (ts : Tags) → tags (items ts) ≡ ts
 tags-items none = refl
 tags-items (more t ts) = ap (more t) (tags-items ts)
+
+pub items-tags : (ts : List Tag) → items (tags ts) ≡ ts
+items-tags [] = refl
+items-tags (t ∷ ts) = ap (λ (us : List Tag). t ∷ us) (items-tags ts)
 
 nothing-none : (t : Tag) (g : Request) → is_nothing t ≡ true → contains t g ≡ false
 nothing-none (set none) g h = refl
@@ -267,7 +220,7 @@ has_nothing-none (t ∷ ts) (request.more g gs) h = by (is_nothing t) refl (has_
     by : (b : Bool) → is_nothing t ≡ b → (has_nothing ts ≡ true → contain_each (tags ts) gs ≡ false)
         → (b || has_nothing ts) ≡ true → (contains t g && contain_each (tags ts) gs) ≡ false
     by true e rest k = ap (λ c. c && contain_each (tags ts) gs) (nothing-none t g e)
-    by false e rest k = ap (λ c. contains t g && c) (rest k) ∙ sym (and_false _)
+    by false e rest k = ap (λ c. contains t g && c) (rest k) ∙ and-false _
 
 listed-exact : (head : List ℕ) (ts : List Tag) (g : Request) → contains (listed head ts) g ≡ contains (list head (tags ts)) g
 listed-exact head ts g = by (has_nothing ts) refl g
@@ -275,7 +228,7 @@ listed-exact head ts g = by (has_nothing ts) refl g
     by : (b : Bool) → has_nothing ts ≡ b → (g : Request)
         → contains (if b then nothing else list head (tags ts)) g ≡ contains (list head (tags ts)) g
     by true e (request.string x) = refl
-    by true e (request.list requested gs) = and_false _ ∙ sym (ap (λ c. bytes_eq head requested && c) (has_nothing-none ts gs e))
+    by true e (request.list requested gs) = sym (and-false _) ∙ sym (ap (λ c. bytes_eq head requested && c) (has_nothing-none ts gs e))
     by false e g = refl
 
 list-exact : (head : List ℕ) (ts : Tags) (f : Tags → List Tag) (b : Tag) (g : Request) → IsRequest g
@@ -284,9 +237,6 @@ list-exact : (head : List ℕ) (ts : Tags) (f : Tags → List Tag) (b : Tag) (g 
     → contain_each (tags (f us)) gs ≡ (contain_each ts gs && contain_each us gs))
     → contains (list_meet head f b) g ≡ (contains (list head ts) g && contains b g)
 list-exact head ts f star g k n m e = absurd (true≢false n)
-list-exact head ts f (string s) (request.list requested gs) k n m e = and_false _
-list-exact head ts f (prefix s) (request.list requested gs) k n m e = and_false _
-list-exact head ts f (range o l u) (request.list requested gs) k n m e = and_false _
 list-exact head ts f (set us) g k n m e = absurd (true≢false n)
 list-exact head ts f (list other us) g k n m e = by (bytes_eq head other) refl g k
   where
@@ -295,16 +245,17 @@ list-exact head ts f (list other us) g k n m e = by (bytes_eq head other) refl g
     by true h (request.string x) k = listed-exact head (f us) (request.string x)
     by true h (request.list requested gs) k =
         listed-exact head (f us) (request.list requested gs)
-        ∙ (λ i. twofold (bytes_eq head requested) i && e us gs k.2 m i)
+        ∙ (λ i. sym (and_self (bytes_eq head requested)) i && e us gs k.2 m i)
         ∙ twice (bytes_eq head requested) (bytes_eq head requested) (contain_each ts gs) (contain_each us gs)
         ∙ ap (λ z. (bytes_eq head requested && contain_each ts gs) && (bytes_eq z requested && contain_each us gs)) (same_text head other (sym h))
     by false h (request.string x) k = refl
     by false h (request.list requested gs) k =
         and_never (bytes_eq head requested && contain_each ts gs) (bytes_eq other requested && contain_each us gs) (λ p q.
         sym h ∙ (bytes_decides head other).1
-        (same_text head requested (sym (first_true (bytes_eq head requested) (contain_each ts gs) p))
-        ∙ sym (same_text other requested (sym (first_true (bytes_eq other requested) (contain_each us gs) q)))))
+        (same_text head requested (sym ((and_parts (bytes_eq head requested) (contain_each ts gs) p).0))
+        ∙ sym (same_text other requested (sym ((and_parts (bytes_eq other requested) (contain_each us gs) q).0)))))
 list-exact head ts f b (request.string x) k n m e = refl
+list-exact head ts f b (request.list requested gs) k n m e = sym (and-false _)
 
 -- ---- tags
 
@@ -319,19 +270,19 @@ mutual
       across-exact (list head ts) (list_meet head (each_meet ts)) b g n
       (λ c p q. list-exact head ts (each_meet ts) c g k p q (λ us gs j r. each-exact ts us gs j m r))
   meet-exact (set ms) b g k m n =
-      set_across-exact ms (pairs ms) b g n (λ bs r. pairs-exact ms bs g k (second_true _ _ m) r)
+      set_across-exact ms (pairs ms) b g n (λ bs r. pairs-exact ms bs g k ((and_parts _ _ m).1) r)
 
   each-exact : (ts us : Tags) (gs : Requests) → AreRequests gs → each_normal is_nothing ts ≡ true
       → each_normal is_nothing us ≡ true
       → contain_each (tags (each_meet ts us)) gs ≡ (contain_each ts gs && contain_each us gs)
   each-exact none us gs k m n = ap (λ ws. contain_each ws gs) (tags-items us)
-  each-exact (more t ts) none gs k m n = ap (λ ws. contain_each (more t ws) gs) (tags-items ts) ∙ and_true _
+  each-exact (more t ts) none gs k m n = ap (λ ws. contain_each (more t ws) gs) (tags-items ts) ∙ sym (and-true _)
   each-exact (more t ts) (more u us) request.none k m n = refl
   each-exact (more t ts) (more u us) (request.more g gs) k m n =
-      (λ i. meet-exact t u g k.0 (its_normal (is_nothing t) (is_normal t) (each_normal is_nothing ts) m)
-      (its_normal (is_nothing u) (is_normal u) (each_normal is_nothing us) n) i
-      && each-exact ts us gs k.1 (rest_normal (is_nothing t) (is_normal t) (each_normal is_nothing ts) m)
-      (rest_normal (is_nothing u) (is_normal u) (each_normal is_nothing us) n) i)
+      (λ i. meet-exact t u g k.0 ((three_parts (is_nothing t) (is_normal t) (each_normal is_nothing ts) m).1)
+      ((three_parts (is_nothing u) (is_normal u) (each_normal is_nothing us) n).1) i
+      && each-exact ts us gs k.1 ((three_parts (is_nothing t) (is_normal t) (each_normal is_nothing ts) m).2)
+      ((three_parts (is_nothing u) (is_normal u) (each_normal is_nothing us) n).2) i)
       ∙ twice (contains t g) (contains u g) (contain_each ts gs) (contain_each us gs)
 
   pairs-exact : (ms bs : Tags) (g : Request) → IsRequest g → each_normal is_set_or_star ms ≡ true
@@ -341,6 +292,6 @@ mutual
   pairs-exact (more a ms) bs g k m n =
       append-exact (row (meet a) bs) (pairs ms bs) g
       ∙ (λ i. row-exact (meet a) (contains a g) g bs
-      (λ b p q. meet-exact a b g k (its_normal (is_set_or_star a) (is_normal a) (each_normal is_set_or_star ms) m) q) n i
-      || pairs-exact ms bs g k (rest_normal (is_set_or_star a) (is_normal a) (each_normal is_set_or_star ms) m) n i)
-      ∙ or_and (contains a g) (some_contains ms g) (some_contains bs g)
+      (λ b p q. meet-exact a b g k ((three_parts (is_set_or_star a) (is_normal a) (each_normal is_set_or_star ms) m).1) q) n i
+      || pairs-exact ms bs g k ((three_parts (is_set_or_star a) (is_normal a) (each_normal is_set_or_star ms) m).2) n i)
+      ∙ sym (and-or_distrib_right (contains a g) (some_contains ms g) (some_contains bs g))

@@ -5,15 +5,14 @@ use Rattle.std.specs.List.{AllByRecursion}
 use Rattle.std.specs.Str.{bytes_eq}
 use Rattle.std.specs.Cmp.Lexicographic.{same_text}
 use Rattle.std.proofs.lemmas.Bool.Decides.{nat_tests}
-use Rattle.sexpr_core.specs.Labels.{members-values}
 use Rattle.sexpr_core.specs.Value as value
 use Rattle.sexpr_core.specs.Value.{Value, Values, plain, members}
 use Rattle.spki_tag.specs.declared.fault.TagFault.{TagFault}
 use Rattle.spki_tag.specs.declared.fault.TagFault.TheVariants as faults
 use Rattle.spki_tag.specs.FirstFault.{first_fault, unless}
-use Rattle.spki_tag.specs.FaultOf.{tags_in, tags_in_set, tags_in_all, own_fault, list_fault, star_fault, range_fault, limits_fault, looks}
+use Rattle.spki_tag.specs.FaultOf.{tags_in, tags_in_all, own_fault, star_fault, range_fault, limits_fault, looks}
 use Rattle.spki_tag.specs.Request.{IsHead}
-use Rattle.spki_tag.specs.Tag.{Tag, Tags, Limit, Ordering, alpha, time, date, star, string, prefix, range, list, set, none, more, IsTag, AreTags, tag_value, tag_values, ordering_name, low_values, up_values, nodes, nodes_all}
+use Rattle.spki_tag.specs.Tag.{Tag, Tags, Limit, Ordering, alpha, range, list, set, none, more, IsTag, AreTags, tag_value, tag_values, ordering_name, low_values, up_values, nodes, nodes_all}
 use Rattle.spki_tag.specs.Read.{most_read}
 
 -- ---- the first fault of two lists of looks

@@ -1,52 +1,33 @@
 -- Sets and lists of tags in normal form, and their own normal form.
-use Rattle.std.proofs.Common.{◌≡◌, ℕ, ◌≤◌, Bool, true, false, ◌&&◌, ◌||◌, not, List, [], ◌∷◌, ◌++◌, refl, sym, ap, ◌∙◌, true≢false, length, append-nil, arith, le_trans, rules}
+use Rattle.std.proofs.Common.{◌≡◌, ℕ, ◌≤◌, Bool, true, false, ◌&&◌, ◌||◌, List, [], ◌∷◌, ◌++◌, refl, sym, ap, ◌∙◌, true≢false, length, append-nil, arith, le_trans, rules}
 use Rattle.std.specs.Prelude.{if◌then◌else◌}
 use Rattle.std.specs.List.{list_any}
 use Rattle.std.specs.Str.{bytes_eq}
+use Rattle.std.proofs.Math.Bool.{and-false, or-false, or-true}
+use Rattle.std.proofs.lemmas.Bool.{and_parts, or_parts}
 use Rattle.spki_tag.specs.Request as request
 use Rattle.spki_tag.specs.Request.{Request, IsHead}
-use Rattle.spki_tag.specs.Tag.{Tag, Tags, tags, star, string, prefix, range, list, set, none, more, IsTag, AreTags, contains, some_contains, nodes, nodes_all, is_star, is_nothing, is_set_or_star, is_none_or_many, is_normal, each_normal, most_nodes, IsNormalTag}
+use Rattle.spki_tag.specs.Tag.{Tag, Tags, tags, star, string, list, set, none, more, IsTag, AreTags, contains, some_contains, nodes, nodes_all, is_star, is_nothing, is_set_or_star, is_none_or_many, is_normal, each_normal, most_nodes, IsNormalTag}
 use Rattle.spki_tag.specs.Meet.{items, gather, nothing, has_nothing, listed}
 use Rattle.spki_tag.specs.NormalForm.{IsNormalOf, AreNormal}
 use Rattle.spki_tag.specs.Normal.{spread, set_of}
 use Rattle.spki_tag.specs.Index.{members as in_place}
-use Rattle.spki_tag.proofs.Exact.{second_true, or_false, and_false, append-exact, gather-exact, tags-items, not_barred, its_normal, rest_normal, has_nothing-none}
+use Rattle.spki_tag.proofs.Exact.{three_parts, all_three, append-exact, gather-exact, tags-items, has_nothing-none}
 use Rattle.spki_tag.proofs.Bounds.{append-nodes, gather-le}
 
 -- ---- truth values
 
-or_true : (a : Bool) → (a || true) ≡ true
-or_true true = refl
-or_true false = refl
-
 -- where each implies another, some of the former implies some of the latter
 some_too : (a b c d : Bool) → (a ≡ true → c ≡ true) → (b ≡ true → d ≡ true) → (a || b) ≡ true → (c || d) ≡ true
 some_too true b c d f k h = ap (λ x. x || d) (f refl)
-some_too false b c d f k h = ap (λ x. c || x) (k h) ∙ or_true c
-
-first_none : (a b : Bool) → (a || b) ≡ false → a ≡ false
-first_none true b h = absurd (true≢false h)
-first_none false b h = refl
-
-second_none : (a b : Bool) → (a || b) ≡ false → b ≡ false
-second_none true b h = absurd (true≢false h)
-second_none false b h = h
-
-all_three : (b n r : Bool) → b ≡ false → n ≡ true → r ≡ true → (not b && n && r) ≡ true
-all_three true n r h k j = absurd (true≢false h)
-all_three false true r h k j = j
-all_three false false r h k j = absurd (true≢false (sym k))
+some_too false b c d f k h = ap (λ x. c || x) (k h) ∙ or-true c
 
 -- ---- members of a set
-
-pub items-tags : (ts : List Tag) → items (tags ts) ≡ ts
-items-tags [] = refl
-items-tags (t ∷ ts) = ap (λ us. t ∷ us) (items-tags ts)
 
 in_place-exact : (t : Tag) (g : Request) → some_contains (tags (in_place t)) g ≡ contains t g
 in_place-exact star g = refl
 in_place-exact (set ts) g = ap (λ us. some_contains us g) (tags-items ts)
-in_place-exact t g = or_false _
+in_place-exact t g = or-false _
 
 spread-exact : (ts : List Tag) (g : Request) → some_contains (tags (spread ts)) g ≡ some_contains (tags ts) g
 spread-exact [] g = refl
@@ -83,15 +64,15 @@ items-members none h k = tt
 items-members (more t ts) h k = (
   (
     h.0,
-    no_star t (not_barred (is_set_or_star t) (is_normal t) (each_normal is_set_or_star ts) k),
-    its_normal (is_set_or_star t) (is_normal t) (each_normal is_set_or_star ts) k,
+    no_star t ((three_parts (is_set_or_star t) (is_normal t) (each_normal is_set_or_star ts) k).0),
+    (three_parts (is_set_or_star t) (is_normal t) (each_normal is_set_or_star ts) k).1,
   ),
-  items-members ts h.1 (rest_normal (is_set_or_star t) (is_normal t) (each_normal is_set_or_star ts) k),
+  items-members ts h.1 ((three_parts (is_set_or_star t) (is_normal t) (each_normal is_set_or_star ts) k).2),
 )
 
 in_place-members : (t : Tag) → IsTag t → is_normal t ≡ true → AreMembers (in_place t)
 in_place-members (set ts) h k =
-    items-members ts h (second_true (is_none_or_many ts) (each_normal is_set_or_star ts) k)
+    items-members ts h (and_parts (is_none_or_many ts) (each_normal is_set_or_star ts) k).1
 in_place-members t h k = ((h, refl, k), tt)
 
 spread-members : (ts : List Tag) → AreNormal ts → AreMembers (spread ts)
@@ -129,7 +110,7 @@ members-normal : (ts : List Tag) → AreMembers ts → list_any is_star ts ≡ f
     → AreTags (tags ts) × (each_normal is_set_or_star (tags ts) ≡ true)
 members-normal [] h k = (tt, refl)
 members-normal (t ∷ ts) h k =
-    search (rules, second_none, all_three, first_none, members-normal ts h.1 (second_none (is_star t) (list_any is_star ts) k))
+    let none = or_parts (is_star t) (list_any is_star ts) k in search (rules, all_three, members-normal ts h.1 none.1)
 
 gather-normal : (ts : List Tag) → AreMembers ts → list_any is_star ts ≡ false
     → IsTag (gather ts) × (is_normal (gather ts) ≡ true)
@@ -167,13 +148,13 @@ nothing_of_list head ts h = record { written = tt; normal = refl; same = same; n
   where
     same : (g : Request) → contains nothing g ≡ contains (list head (tags ts)) g
     same (request.string s) = refl
-    same (request.list requested gs) = and_false _ ∙ ap (λ b. bytes_eq head requested && b) (sym (has_nothing-none ts gs (any_nothing ts ∙ h)))
+    same (request.list requested gs) = sym (and-false _) ∙ ap (λ b. bytes_eq head requested && b) (sym (has_nothing-none ts gs (any_nothing ts ∙ h)))
 
 list-members : (ts : List Tag) → AreNormal ts → list_any is_nothing ts ≡ false
     → AreTags (tags ts) × (each_normal is_nothing (tags ts) ≡ true)
 list-members [] h k = (tt, refl)
 list-members (t ∷ ts) h k =
-    search (rules, second_none, all_three, first_none, list-members ts h.2 (second_none (is_nothing t) (list_any is_nothing ts) k))
+    let none = or_parts (is_nothing t) (list_any is_nothing ts) k in search (rules, all_three, list-members ts h.2 none.1)
 
 -- a list without a member (* set)
 pub list_is_normal : (head : List ℕ) (ts : List Tag) → IsHead head → AreNormal ts → list_any is_nothing ts ≡ false

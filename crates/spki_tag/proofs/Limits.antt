@@ -4,6 +4,7 @@ use Rattle.std.specs.Prelude.{if◌then◌else◌}
 use Rattle.std.specs.Cmp.{IsTotalOrder, alike_right}
 use Rattle.std.specs.Ordering.{ordering_reverse}
 use Rattle.std.specs.Cmp.Lexicographic.{slice_cmp, nat_list_cmp_total}
+use Rattle.std.proofs.Math.Bool.{and-true}
 use Rattle.spki_tag.specs.Tag.{Limit, is_within, is_above, is_below}
 use Rattle.spki_tag.specs.Meet.{greater_low, lesser_up, exclude}
 
@@ -108,13 +109,9 @@ low_by l m x false e =
     (within_chain l.strict m.strict l.octets m.octets x
     (not_flipped _ _ (within_flip l.strict l.octets m.octets) e) h))
 
-and_true : (b : Bool) → b ≡ (b && true)
-and_true true = refl
-and_true false = refl
-
 pub greater_low-exact : (k m : Option Limit) (x : List ℕ) → is_above (greater_low k m) x ≡ (is_above k x && is_above m x)
 greater_low-exact None m x = refl
-greater_low-exact (Some l) None x = and_true (is_above (Some l) x)
+greater_low-exact (Some l) None x = sym (and-true (is_above (Some l) x))
 greater_low-exact (Some l) (Some m) x = low_by l m x (is_within (not l.strict) m.octets l.octets) refl
 
 -- ---- two upper limits
@@ -131,7 +128,7 @@ up_by l m x false e =
 
 pub lesser_up-exact : (k m : Option Limit) (x : List ℕ) → is_below (lesser_up k m) x ≡ (is_below k x && is_below m x)
 lesser_up-exact None m x = refl
-lesser_up-exact (Some l) None x = and_true (is_below (Some l) x)
+lesser_up-exact (Some l) None x = sym (and-true (is_below (Some l) x))
 lesser_up-exact (Some l) (Some m) x = up_by l m x (is_within (not l.strict) l.octets m.octets) refl
 
 -- ---- limits that exclude each other

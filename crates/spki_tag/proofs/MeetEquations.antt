@@ -6,11 +6,12 @@ use Rattle.std.specs.Str.{bytes_eq}
 use Rattle.std.specs.Cmp.Lexicographic.{same_text, other_text}
 use Rattle.std.proofs.lemmas.Slice.Eq.{starts_is}
 use Rattle.std.proofs.lemmas.Bool.Decides.{Decides-eqb}
-use Rattle.spki_tag.specs.Tag.{Tag, Tags, tags, alpha, time, date, star, string, prefix, range, list, set, is_nothing}
-use Rattle.spki_tag.specs.Meet.{meet, each_meet, pairs, row, kept, items, nothing, gather, listed}
+use Rattle.spki_tag.specs.Tag.{Tag, Tags, tags, alpha, time, date, star, string, prefix, range, list, is_nothing}
+use Rattle.spki_tag.specs.Meet.{meet, each_meet, pairs, row, kept, nothing, gather, listed}
 use Rattle.spki_tag.specs.MeetRules.{StarRule, SetRule, StringRule, PrefixRule, PrefixesApart, RangeRule, PrefixAsRange, OrderingRule, TimesAndDates, side_by_side, ListRule, HeadsApart, ListsAndStrings}
 use Rattle.spki_tag.specs.Index.{members}
 use Rattle.spki_tag.proofs.MeetSteps.{tags-members, meet-by_members}
+use Rattle.spki_tag.proofs.Exact.{items-tags}
 
 -- ---- stars
 
@@ -122,10 +123,6 @@ prefixes_apart p q h k =
     ∙ ap (λ b. if b then prefix q else nothing) k
 
 -- ---- lists
-
-items-tags : (ts : List Tag) → items (tags ts) ≡ ts
-items-tags [] = refl
-items-tags (t ∷ ts) = ap (λ (us : List Tag). t ∷ us) (items-tags ts)
 
 bytes_same : (octets : List ℕ) → bytes_eq octets octets ≡ true
 bytes_same octets = by (bytes_eq octets octets) refl

@@ -1,11 +1,11 @@
 -- What two tags in normal form leave together is in normal form.
 use Rattle.std.proofs.Common.{◌≡◌, ℕ, Bool, true, false, ◌&&◌, ◌||◌, not, List, [], ◌∷◌, ◌++◌, Option, Some, None, refl, sym, true≢false, rules}
-use Rattle.std.specs.Prelude.{if◌then◌else◌, nat_eq}
-use Rattle.std.specs.List.{starts_with}
+use Rattle.std.specs.Prelude.{if◌then◌else◌}
 use Rattle.std.specs.Str.{bytes_eq}
+use Rattle.std.proofs.lemmas.Bool.{and_parts, and_from, or_parts}
 use Rattle.spki_tag.specs.Request as request
 use Rattle.spki_tag.specs.Tag.{Tag, Tags, tags, Limit, Ordering, alpha, star, string, prefix, range, list, set, none, more, contains, is_nothing, is_set_or_star, is_normal, each_normal, is_none_or_many}
-use Rattle.spki_tag.proofs.Exact.{second_true, not_barred, its_normal, rest_normal}
+use Rattle.spki_tag.proofs.Exact.{three_parts, all_three}
 use Rattle.spki_tag.specs.Meet.{greater_low, lesser_up, exclude, ordering_meet, nothing, ranged, least_above, strict_limit, from, string_meet, range_meet, prefix_meet, items, kept, row, gather, has_nothing, listed, list_meet, across, set_across, meet, each_meet, pairs}
 
 -- (* set), or neither a set nor a star; and in normal form
@@ -14,14 +14,6 @@ fits t = (is_nothing t || not (is_set_or_star t)) && is_normal t
 
 abbrev never : Tag → Bool
 never t = false
-
-both_true : (a b : Bool) → a ≡ true → b ≡ true → (a && b) ≡ true
-both_true true b h k = k
-both_true false b h k = h
-
-all_three : (b n r : Bool) → b ≡ false → n ≡ true → r ≡ true → (not b && n && r) ≡ true
-all_three true n r h k j = absurd (true≢false h)
-all_three false n r h k j = both_true n r k j
 
 if_fits : (b : Bool) (t u : Tag) → fits t ≡ true → fits u ≡ true → fits (if b then t else u) ≡ true
 if_fits true t u h k = h
@@ -53,13 +45,13 @@ prefix-fits p b = refl
 kept-normal : (t : Tag) (ts : List Tag) → fits t ≡ true → each_normal is_set_or_star (tags ts) ≡ true
     → each_normal is_set_or_star (tags (kept t ts)) ≡ true
 kept-normal star ts h k = absurd (true≢false (sym h))
-kept-normal (list head us) ts h k = both_true (each_normal is_nothing us) (each_normal is_set_or_star (tags ts)) h k
+kept-normal (list head us) ts h k = and_from (each_normal is_nothing us) (each_normal is_set_or_star (tags ts)) h k
 kept-normal (set (more u us)) ts h k = absurd (true≢false (sym h))
 kept-normal t ts h k = k
 
 gather-normal : (ts : List Tag) → each_normal is_set_or_star (tags ts) ≡ true → is_normal (gather ts) ≡ true
 gather-normal [] h = refl
-gather-normal (t ∷ []) h = its_normal (is_set_or_star t) (is_normal t) true h
+gather-normal (t ∷ []) h = (three_parts (is_set_or_star t) (is_normal t) true h).1
 gather-normal (t ∷ u ∷ us) h = h
 
 append-normal : (ts us : List Tag) → each_normal is_set_or_star (tags ts) ≡ true
@@ -68,8 +60,8 @@ append-normal [] us h k = k
 append-normal (t ∷ ts) us h k =
     let r = each_normal is_set_or_star (tags ts) in
     all_three (is_set_or_star t) (is_normal t) (each_normal is_set_or_star (tags (ts ++ us)))
-    (not_barred (is_set_or_star t) (is_normal t) r h) (its_normal (is_set_or_star t) (is_normal t) r h)
-    (append-normal ts us (rest_normal (is_set_or_star t) (is_normal t) r h) k)
+    ((three_parts (is_set_or_star t) (is_normal t) r h).0) ((three_parts (is_set_or_star t) (is_normal t) r h).1)
+    (append-normal ts us ((three_parts (is_set_or_star t) (is_normal t) r h).2) k)
 
 row-normal : (f : Tag → Tag) (bs : Tags) → ((b : Tag) → is_set_or_star b ≡ false → is_normal b ≡ true → fits (f b) ≡ true)
     → each_normal is_set_or_star bs ≡ true → each_normal is_set_or_star (tags (row f bs)) ≡ true
@@ -77,8 +69,8 @@ row-normal f none e h = refl
 row-normal f (more b bs) e h =
     let r = each_normal is_set_or_star bs in
     kept-normal (f b) (row f bs)
-    (e b (not_barred (is_set_or_star b) (is_normal b) r h) (its_normal (is_set_or_star b) (is_normal b) r h))
-    (row-normal f bs e (rest_normal (is_set_or_star b) (is_normal b) r h))
+    (e b ((three_parts (is_set_or_star b) (is_normal b) r h).0) ((three_parts (is_set_or_star b) (is_normal b) r h).1))
+    (row-normal f bs e ((three_parts (is_set_or_star b) (is_normal b) r h).2))
 
 -- ---- lists
 
@@ -87,17 +79,9 @@ listed-by : (head : List ℕ) (ts : List Tag) → each_normal never (tags ts) �
 listed-by head [] h k = refl
 listed-by head (t ∷ ts) h k =
     let r = each_normal never (tags ts) in
-    all_three (is_nothing t) (is_normal t) (each_normal is_nothing (tags ts)) (left_false (is_nothing t) (has_nothing ts) k)
-    (its_normal false (is_normal t) r h)
-    (listed-by head ts (rest_normal false (is_normal t) r h) (right_false (is_nothing t) (has_nothing ts) k))
-  where
-    left_false : (a b : Bool) → (a || b) ≡ false → a ≡ false
-    left_false true b h = h
-    left_false false b h = refl
-
-    right_false : (a b : Bool) → (a || b) ≡ false → b ≡ false
-    right_false true b h = absurd (true≢false h)
-    right_false false b h = h
+    all_three (is_nothing t) (is_normal t) (each_normal is_nothing (tags ts)) (or_parts (is_nothing t) (has_nothing ts) k).0
+    ((three_parts false (is_normal t) r h).1)
+    (listed-by head ts ((three_parts false (is_normal t) r h).2) (or_parts (is_nothing t) (has_nothing ts) k).1)
 
 listed-fits : (head : List ℕ) (ts : List Tag) → each_normal never (tags ts) ≡ true → fits (listed head ts) ≡ true
 listed-fits head ts h = by (has_nothing ts) refl
@@ -117,8 +101,8 @@ items-normal : (ts : Tags) → each_normal is_nothing ts ≡ true → each_norma
 items-normal none h = refl
 items-normal (more t ts) h =
     let r = each_normal is_nothing ts in
-    both_true (is_normal t) (each_normal never (tags (items ts))) (its_normal (is_nothing t) (is_normal t) r h)
-    (items-normal ts (rest_normal (is_nothing t) (is_normal t) r h))
+    and_from (is_normal t) (each_normal never (tags (items ts))) ((three_parts (is_nothing t) (is_normal t) r h).1)
+    (items-normal ts ((three_parts (is_nothing t) (is_normal t) r h).2))
 
 -- ---- tags
 
@@ -131,16 +115,16 @@ across-normal : (a : Tag) (f : Tag → Tag) (b : Tag) → is_normal a ≡ true �
     → ((b : Tag) → is_normal b ≡ true → fits (f b) ≡ true) → is_normal (across a f b) ≡ true
 across-normal a f star m n e = m
 across-normal a f (set bs) m n e =
-    gather-normal (row f bs) (row-normal f bs (λ b p q. e b q) (second_true (is_none_or_many bs) (each_normal is_set_or_star bs) n))
-across-normal a f b m n e = second_true (is_nothing (f b) || not (is_set_or_star (f b))) (is_normal (f b)) (e b n)
+    gather-normal (row f bs) (row-normal f bs (λ b p q. e b q) (and_parts (is_none_or_many bs) (each_normal is_set_or_star bs) n).1)
+across-normal a f b m n e = (and_parts (is_nothing (f b) || not (is_set_or_star (f b))) (is_normal (f b)) (e b n)).1
 
 set_across-normal : (ms : Tags) (f : Tags → List Tag) (b : Tag) → is_normal (set ms) ≡ true → is_normal b ≡ true
     → ((bs : Tags) → each_normal is_set_or_star bs ≡ true → each_normal is_set_or_star (tags (f bs)) ≡ true)
     → is_normal (set_across ms f b) ≡ true
 set_across-normal ms f star m n e = m
-set_across-normal ms f (list head us) m n e = search (rules, gather-normal, both_true)
+set_across-normal ms f (list head us) m n e = search (rules, gather-normal, and_from)
 set_across-normal ms f (set bs) m n e =
-    gather-normal (f bs) (e bs (second_true (is_none_or_many bs) (each_normal is_set_or_star bs) n))
+    gather-normal (f bs) (e bs (and_parts (is_none_or_many bs) (each_normal is_set_or_star bs) n).1)
 set_across-normal ms f b m n e = gather-normal (f (more b none)) (e (more b none) refl)
 
 mutual
@@ -155,7 +139,7 @@ mutual
       (λ c q. list-fits head (each_meet ts) c q (λ us r. each_meet-normal ts us m r))
   meet-normal (set ms) b m n =
       set_across-normal ms (pairs ms) b m n
-      (λ bs r. pairs-normal ms bs (second_true (is_none_or_many ms) (each_normal is_set_or_star ms) m) r)
+      (λ bs r. pairs-normal ms bs ((and_parts (is_none_or_many ms) (each_normal is_set_or_star ms) m).1) r)
 
   -- of tags that are neither a set nor a star
   meet-fits : (a b : Tag) → is_set_or_star a ≡ false → is_normal a ≡ true → is_set_or_star b ≡ false → is_normal b ≡ true
@@ -175,9 +159,9 @@ mutual
   each_meet-normal (more t ts) (more u us) m n =
       let r = each_normal is_nothing ts in
       let s = each_normal is_nothing us in
-      both_true (is_normal (meet t u)) (each_normal never (tags (each_meet ts us)))
-      (meet-normal t u (its_normal (is_nothing t) (is_normal t) r m) (its_normal (is_nothing u) (is_normal u) s n))
-      (each_meet-normal ts us (rest_normal (is_nothing t) (is_normal t) r m) (rest_normal (is_nothing u) (is_normal u) s n))
+      and_from (is_normal (meet t u)) (each_normal never (tags (each_meet ts us)))
+      (meet-normal t u ((three_parts (is_nothing t) (is_normal t) r m).1) ((three_parts (is_nothing u) (is_normal u) s n).1))
+      (each_meet-normal ts us ((three_parts (is_nothing t) (is_normal t) r m).2) ((three_parts (is_nothing u) (is_normal u) s n).2))
 
   pub pairs-normal : (ms bs : Tags) → each_normal is_set_or_star ms ≡ true → each_normal is_set_or_star bs ≡ true
       → each_normal is_set_or_star (tags (pairs ms bs)) ≡ true
@@ -186,5 +170,5 @@ mutual
       let r = each_normal is_set_or_star ms in
       append-normal (row (meet a) bs) (pairs ms bs)
       (row-normal (meet a) bs
-      (λ b p q. meet-fits a b (not_barred (is_set_or_star a) (is_normal a) r m) (its_normal (is_set_or_star a) (is_normal a) r m) p q) n)
-      (pairs-normal ms bs (rest_normal (is_set_or_star a) (is_normal a) r m) n)
+      (λ b p q. meet-fits a b ((three_parts (is_set_or_star a) (is_normal a) r m).0) ((three_parts (is_set_or_star a) (is_normal a) r m).1) p q) n)
+      (pairs-normal ms bs ((three_parts (is_set_or_star a) (is_normal a) r m).2) n)

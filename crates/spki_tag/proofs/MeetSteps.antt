@@ -1,12 +1,13 @@
 -- The steps of the intersection: what they need and what they find.
-use Rattle.std.proofs.Common.{◌≡◌, ℕ, zero, suc, ◌+◌, ◌*◌, ◌<◌, ◌≤◌, min, Bool, true, false, ◌||◌, List, [], ◌∷◌, ◌++◌, length, drop, get_or, refl, sym, ap, ◌∙◌, subst, true≢false, append_assoc, arith, add-one, le_trans, rules}
+use Rattle.std.proofs.Common.{◌≡◌, ℕ, zero, suc, ◌+◌, ◌*◌, ◌<◌, ◌≤◌, min, Bool, true, false, ◌||◌, List, [], ◌∷◌, ◌++◌, length, drop, get_or, refl, sym, ap, ◌∙◌, true≢false, append_assoc, arith, add-one, le_trans, rules}
 use Rattle.std.proofs.lemmas.Nat.{mul-le}
 use Rattle.std.proofs.Math.Seq.{drop-cons}
 use Rattle.std.proofs.lemmas.List.{append-nil}
+use Rattle.std.proofs.lemmas.Bool.{and_parts, or_from, or_right}
 use Rattle.spki_tag.specs.Tag.{Tag, Tags, tags, star, string, prefix, range, list, set, none, more, IsNormalTag, is_star, is_set, is_nothing, is_set_or_star, is_normal, each_normal, is_none_or_many, nodes, nodes_all, most_nodes}
-use Rattle.spki_tag.specs.Meet.{nothing, string_meet, prefix_meet, range_meet, items, kept, row, gather, has_nothing, list_meet, across, meet, each_meet, pairs}
+use Rattle.spki_tag.specs.Meet.{nothing, string_meet, prefix_meet, range_meet, row, gather, has_nothing, list_meet, across, meet, each_meet, pairs}
 use Rattle.spki_tag.specs.Index.{members}
-use Rattle.spki_tag.proofs.Exact.{second_true, not_barred, rest_normal, tags-items}
+use Rattle.spki_tag.proofs.Exact.{three_parts, tags-items, items-tags}
 use Rattle.spki_tag.proofs.NormalTag.{meet-normal_tag}
 
 -- ---- sets
@@ -28,7 +29,7 @@ row-same : (f g : Tag → Tag) (bs : Tags) → ((b : Tag) → is_set_or_star b �
     → each_normal is_set_or_star bs ≡ true → row f bs ≡ row g bs
 row-same f g none e h = refl
 row-same f g (more b bs) e h =
-    search (rules, not_barred, rest_normal, row-same f g bs e (rest_normal (is_set_or_star b) (is_normal b) (each_normal is_set_or_star bs) h))
+    let parts = three_parts (is_set_or_star b) (is_normal b) (each_normal is_set_or_star bs) h in search (rules, row-same f g bs e parts.2)
 
 across-same : (a : Tag) (f : Tag → Tag) (b : Tag) → is_set_or_star b ≡ false → f b ≡ across a f b
 across-same a f star h = absurd (true≢false h)
@@ -37,30 +38,22 @@ across-same a f b h = refl
 
 one_row : (f g : Tag → Tag) (bs : Tags) → ((b : Tag) → is_set_or_star b ≡ false → f b ≡ g b)
     → is_normal (set bs) ≡ true → gather (row f bs) ≡ gather (row g bs ++ [])
-one_row f g bs e n = search (rules, row-same, second_true, append-nil)
+one_row f g bs e n = search (rules, row-same f g bs e (and_parts (is_none_or_many bs) (each_normal is_set_or_star bs) n).1, append-nil)
 
 -- Where one is a set, the members of each are met with those of the other.
 pub meet-by_members : (a b : Tag) → is_star a ≡ false → is_star b ≡ false → (is_set a || is_set b) ≡ true
     → is_normal b ≡ true → gather (pairs (members_of a) (members_of b)) ≡ meet a b
 meet-by_members star b h k j n = absurd (true≢false h)
-meet-by_members (set ms) star h k j n = absurd (true≢false k)
-meet-by_members (set ms) (string s) h k j n = refl
-meet-by_members (set ms) (prefix s) h k j n = refl
-meet-by_members (set ms) (range o l u) h k j n = refl
-meet-by_members (set ms) (list head us) h k j n = refl
-meet-by_members (set ms) (set us) h k j n = refl
-meet-by_members (string s) star h k j n = absurd (true≢false k)
 meet-by_members (string s) (set us) h k j n =
     sym (one_row (string_meet s) (meet (string s)) us (across-same (string s) (string_meet s)) n)
-meet-by_members (prefix s) star h k j n = absurd (true≢false k)
 meet-by_members (prefix s) (set us) h k j n =
     sym (one_row (prefix_meet s) (meet (prefix s)) us (across-same (prefix s) (prefix_meet s)) n)
-meet-by_members (range o l u) star h k j n = absurd (true≢false k)
 meet-by_members (range o l u) (set us) h k j n =
     sym (one_row (range_meet o l u) (meet (range o l u)) us (across-same (range o l u) (range_meet o l u)) n)
-meet-by_members (list head ts) star h k j n = absurd (true≢false k)
 meet-by_members (list head ts) (set us) h k j n =
     sym (one_row (list_meet head (each_meet ts)) (meet (list head ts)) us (across-same (list head ts) (list_meet head (each_meet ts))) n)
+meet-by_members a star h k j n = absurd (true≢false k)
+meet-by_members (set ms) b h k j n = refl
 meet-by_members a b h k j n = absurd (true≢false (sym j))
 
 members-le : (a : Tag) → nodes_all (members_of a) ≤ nodes a
@@ -127,21 +120,9 @@ each_meet-rest ts us i t u h k e f =
         drop-cons ts i t h ∙ ap (λ n. get_or ts i t ∷ drop n ts) (sym (add-one i))
         ∙ ap (λ (x : Tag). x ∷ drop (i + 1) ts) (sym e)
 
-or_false : (b : Bool) → b ≡ false → (b || false) ≡ false
-or_false true h = h
-or_false false h = refl
-
-or_both : (a b : Bool) → a ≡ false → b ≡ false → (a || b) ≡ false
-or_both true b h k = h
-or_both false b h k = k
-
-or_true : (a b : Bool) → b ≡ true → (a || b) ≡ true
-or_true true b h = refl
-or_true false b h = h
-
 pub has_nothing-found : (met ts : List Tag) (t : Tag) → is_nothing t ≡ true → has_nothing (met ++ t ∷ ts) ≡ true
 has_nothing-found [] ts t h = ap (λ b. b || has_nothing ts) h
-has_nothing-found (m ∷ met) ts t h = or_true (is_nothing m) (has_nothing (met ++ t ∷ ts)) (has_nothing-found met ts t h)
+has_nothing-found (m ∷ met) ts t h = or_right (is_nothing m) (has_nothing (met ++ t ∷ ts)) (has_nothing-found met ts t h)
 
 has_nothing-append : (ts us : List Tag) → has_nothing ts ≡ false → has_nothing us ≡ false → has_nothing (ts ++ us) ≡ false
 has_nothing-append [] us h k = k
@@ -154,7 +135,7 @@ has_nothing-append (t ∷ ts) us h k = by (is_nothing t) h (λ j. has_nothing-ap
 
 pub has_nothing-push : (ts : List Tag) (t : Tag) → has_nothing ts ≡ false → is_nothing t ≡ false
     → has_nothing (ts ++ t ∷ []) ≡ false
-has_nothing-push ts t h k = has_nothing-append ts (t ∷ []) h (or_false (is_nothing t) k)
+has_nothing-push ts t h k = has_nothing-append ts (t ∷ []) h (or_from (is_nothing t) false k refl)
 
 -- (* set) is told by its equation
 pub nothing-is : (t : Tag) → t ≡ nothing → is_nothing t ≡ true
@@ -163,10 +144,6 @@ nothing-is t e = ap is_nothing e
 pub nothing-is_not : (t : Tag) → (t ≡ nothing → ⊥) → is_nothing t ≡ false
 nothing-is_not (set none) n = absurd (n refl)
 nothing-is_not t n = refl
-
-pub items-tags : (ts : List Tag) → items (tags ts) ≡ ts
-items-tags [] = refl
-items-tags (t ∷ ts) = ap (λ (us : List Tag). t ∷ us) (items-tags ts)
 
 -- past the end of one the members of the other stay
 pub each_meet-end : (ts us : List Tag) → min (length ts) (length us) ≡ 0 → each_meet (tags ts) (tags us) ≡ ts ++ us
@@ -177,14 +154,14 @@ each_meet-end (t ∷ ts) (u ∷ us) h = absurd (omega (arith, h))
 pub normal-none : (ts : List Tag) → each_normal is_nothing (tags ts) ≡ true → has_nothing ts ≡ false
 normal-none [] h = refl
 normal-none (t ∷ ts) h =
-    or_both (is_nothing t) (has_nothing ts) (not_barred (is_nothing t) (is_normal t) (each_normal is_nothing (tags ts)) h)
-    (normal-none ts (rest_normal (is_nothing t) (is_normal t) (each_normal is_nothing (tags ts)) h))
+    or_from (is_nothing t) (has_nothing ts) ((three_parts (is_nothing t) (is_normal t) (each_normal is_nothing (tags ts)) h).0)
+    (normal-none ts ((three_parts (is_nothing t) (is_normal t) (each_normal is_nothing (tags ts)) h).2))
 
 normal-drop : (ts : List Tag) (i : ℕ) → each_normal is_nothing (tags ts) ≡ true → each_normal is_nothing (tags (drop i ts)) ≡ true
 normal-drop ts zero h = h
 normal-drop [] (suc i) h = h
 normal-drop (t ∷ ts) (suc i) h =
-    normal-drop ts i (rest_normal (is_nothing t) (is_normal t) (each_normal is_nothing (tags ts)) h)
+    normal-drop ts i ((three_parts (is_nothing t) (is_normal t) (each_normal is_nothing (tags ts)) h).2)
 
 -- The end of the loop over the places of two lists.
 pub each_meet-last : (ts us met out all : List Tag) (i : ℕ) → min (length (drop i ts)) (length (drop i us)) ≡ 0

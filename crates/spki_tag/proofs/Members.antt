@@ -1,5 +1,6 @@
 -- The members of a tag one after the other, as loops visit them.
-use Rattle.std.proofs.Common.{◌≡◌, ℕ, zero, suc, ◌≤◌, ◌<◌, Bool, true, false, List, [], ◌∷◌, length, get_or, refl, ap, ◌∙◌, arith, ◌&&◌}
+use Rattle.std.proofs.Common.{◌≡◌, ℕ, zero, suc, ◌≤◌, ◌<◌, false, List, [], ◌∷◌, length, get_or, refl, ap, ◌∙◌, arith, ◌&&◌}
+use Rattle.std.proofs.Math.Bool.{and-false}
 use Rattle.spki_tag.specs.Request.{Request, requests}
 use Rattle.spki_tag.specs.Tag.{Tag, tags, contains, contain_each, nodes, nodes_all}
 
@@ -14,10 +15,6 @@ nodes_le-nodes_all (t ∷ ts) (suc i) d h = omega (arith, nodes_le-nodes_all ts 
 pub nodes_le-of_read : (ts : List Tag) (i : ℕ) (t : Tag) → i < length ts → t ≡ get_or ts i t
     → nodes t ≤ nodes_all (tags ts)
 nodes_le-of_read ts i t h e = rw e (nodes_le-nodes_all ts i t h)
-
-and-false : (b : Bool) → (b && false) ≡ false
-and-false true = refl
-and-false false = refl
 
 -- a tag's list has no requests that are shorter
 pub contain_each-too_few : (ts : List Tag) (gs : List Request) → length gs < length ts

@@ -3,8 +3,8 @@ use Rattle.std.proofs.Common.{◌≡◌, ℕ, suc, ◌+◌, ◌<◌, Bool, true,
 use Rattle.std.proofs.lemmas.List.{take_more}
 use Rattle.std.specs.Prelude.{if◌then◌else◌}
 use Rattle.std.specs.Str.{bytes_eq}
-use Rattle.spki_tag.specs.Tag.{Tag, tags}
-use Rattle.spki_tag.specs.Meet.{items}
+use Rattle.std.proofs.Math.Bool.{and-false, or-false}
+use Rattle.spki_tag.specs.Tag.{Tag}
 use Rattle.spki_tag.specs.Index.{Kind, any, strings, one, lists, kind, kinds_share, places_where}
 use Rattle.spki_tag.specs.Places.{is_any, has_many_strings, is_one, is_lists, has_strings, place_if, ArePlacesOf, IsAdded}
 use Rattle.spki_tag.specs.Merged.{merge}
@@ -63,35 +63,19 @@ merge-places p q apart n (t ∷ ts) = by (p t) (q t) (apart t) (merge-places p q
 -- ---- kinds
 
 one-shares : (octets : List ℕ) (k : Kind) → (is_one octets k || has_many_strings k) ≡ kinds_share (one octets) k
-one-shares octets (one other) = by (bytes_eq octets other)
-  where
-    by : (b : Bool) → (b || false) ≡ b
-    by true = refl
-    by false = refl
+one-shares octets (one other) = or-false (bytes_eq octets other)
 one-shares octets k = refl
 
 one-apart : (octets : List ℕ) (k : Kind) → (is_one octets k && has_many_strings k) ≡ false
-one-apart octets (one other) = by (bytes_eq octets other)
-  where
-    by : (b : Bool) → (b && false) ≡ false
-    by true = refl
-    by false = refl
+one-apart octets (one other) = and-false (bytes_eq octets other)
 one-apart octets k = refl
 
 lists-share : (head : List ℕ) (k : Kind) → (is_lists head k || is_any k) ≡ kinds_share (lists head) k
-lists-share head (lists other) = by (bytes_eq head other)
-  where
-    by : (b : Bool) → (b || false) ≡ b
-    by true = refl
-    by false = refl
+lists-share head (lists other) = or-false (bytes_eq head other)
 lists-share head k = refl
 
 lists-apart : (head : List ℕ) (k : Kind) → (is_lists head k && is_any k) ≡ false
-lists-apart head (lists other) = by (bytes_eq head other)
-  where
-    by : (b : Bool) → (b && false) ≡ false
-    by true = refl
-    by false = refl
+lists-apart head (lists other) = and-false (bytes_eq head other)
 lists-apart head k = refl
 
 -- the places of what can share a string: those of the string and those of what has more strings
@@ -107,11 +91,6 @@ pub places-of_lists : (head : List ℕ) (ts : List Tag)
 places-of_lists head ts = search (rules, merge-places, lists-apart, places_where-same, lists-share)
 
 -- ---- members
-
--- the members of a list of tags are the list
-pub items-tags : (ts : List Tag) → items (tags ts) ≡ ts
-items-tags [] = refl
-items-tags (t ∷ ts) = ap (λ us. t ∷ us) (items-tags ts)
 
 -- ---- tags by kind
 

@@ -1,12 +1,14 @@
 -- Two tags without sets leave a tag without sets, or nothing, and it has no more nodes than both together.
 use Rattle.std.proofs.Common.{◌≡◌, ◌⊎◌, inl, inr, ℕ, ◌+◌, ◌≤◌, Bool, true, false, List, [], ◌∷◌, Option, Some, None, refl, sym, ap, ◌∙◌, subst, arith, rules}
-use Rattle.std.specs.Prelude.{if◌then◌else◌, ◌||◌, nat_eq}
-use Rattle.std.specs.List.{AllByRecursion, starts_with}
+use Rattle.std.specs.Prelude.{if◌then◌else◌, ◌||◌}
+use Rattle.std.specs.List.{AllByRecursion}
 use Rattle.std.specs.Str.{bytes_eq}
+use Rattle.std.proofs.lemmas.Bool.{or_from}
 use Rattle.spki_tag.specs.Request as request
 use Rattle.spki_tag.specs.Tag.{Tag, Tags, tags, Limit, Ordering, alpha, star, string, prefix, range, list, set, none, more, contains, nodes, nodes_all, nests_set, some_nests_set, is_nothing}
 use Rattle.spki_tag.specs.Meet.{greater_low, lesser_up, exclude, ordering_meet, nothing, ranged, least_above, strict_limit, from, string_meet, range_meet, prefix_meet, items, has_nothing, listed, list_meet, across, meet, each_meet}
-use Rattle.spki_tag.proofs.Bounds.{nodes-some, string-one, range-one, prefix-one, tags-items}
+use Rattle.spki_tag.proofs.Bounds.{nodes-some, string-one, range-one, prefix-one}
+use Rattle.spki_tag.proofs.Exact.{tags-items}
 
 -- a tag without sets, or nothing
 abbrev pub IsPlain : Tag → Type 0
@@ -20,10 +22,6 @@ pub record IsPlainWithin (n : ℕ) (t : Tag) : Type 0 where
 pub neither : (a b : Bool) → (a || b) ≡ false → (a ≡ false) × (b ≡ false)
 neither true b h = absurd cc
 neither false b h = (refl, h)
-
-none_of : (a b : Bool) → a ≡ false → b ≡ false → (a || b) ≡ false
-none_of true b h k = absurd cc
-none_of false b h k = k
 
 -- ---- tags without members
 
@@ -70,7 +68,7 @@ no_sets : (ts : List Tag) → AllByRecursion IsPlain ts → has_nothing ts ≡ f
 no_sets [] h some = refl
 no_sets (t ∷ ts) h some =
     let parts = neither (is_nothing t) (has_nothing ts) some in
-    none_of (nests_set t) (some_nests_set (tags ts)) (no_set t h.0 parts.0) (no_sets ts h.1 parts.1)
+    or_from (nests_set t) (some_nests_set (tags ts)) (no_set t h.0 parts.0) (no_sets ts h.1 parts.1)
 
 items_plain : (ts : Tags) → some_nests_set ts ≡ false → AllByRecursion IsPlain (items ts)
 items_plain none h = tt

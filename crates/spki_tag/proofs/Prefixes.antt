@@ -5,6 +5,7 @@ use Rattle.std.specs.List.{starts_with}
 use Rattle.std.specs.Cmp.Lexicographic.{slice_cmp}
 use Rattle.std.specs.Cmp.{nat_cmp_is, nat_eq_equiv, IsEquivalence}
 use Rattle.std.specs.Ordering.{ordering_then}
+use Rattle.std.proofs.Math.Bool.{and-true, and-false}
 use Rattle.spki_tag.specs.Request.{AreOctets}
 use Rattle.spki_tag.specs.Tag.{is_above, is_below}
 use Rattle.spki_tag.specs.Meet.{least_above, above_from, strict_limit, from}
@@ -72,10 +73,6 @@ below_same c x None = by (nat_lt c 255)
     by true = ap (λ r. is_lt (ordering_then r (slice_cmp nat_cmp x []))) (cmp_less c (c + 1) (omega arith))
     by false = refl
 
-and-false : (b : Bool) → (b && false) ≡ false
-and-false true = refl
-and-false false = refl
-
 octet_first : (d : ℕ) (x : List ℕ) → AreOctets (d ∷ x) → d < 256
 octet_first d x k = k 0 0 (omega arith)
 
@@ -115,11 +112,7 @@ prefixes-exact [] [] (e ∷ x) = refl
 prefixes-exact [] (d ∷ q) [] = refl
 prefixes-exact [] (d ∷ q) (e ∷ x) = refl
 prefixes-exact (c ∷ p) [] [] = refl
-prefixes-exact (c ∷ p) [] (e ∷ x) = and_true (starts_with nat_eq (e ∷ x) (c ∷ p))
-  where
-    and_true : (b : Bool) → b ≡ (b && true)
-    and_true true = refl
-    and_true false = refl
+prefixes-exact (c ∷ p) [] (e ∷ x) = sym (and-true (starts_with nat_eq (e ∷ x) (c ∷ p)))
 prefixes-exact (c ∷ p) (d ∷ q) [] = by (starts_with nat_eq (c ∷ p) (d ∷ q)) (starts_with nat_eq (d ∷ q) (c ∷ p))
   where
     by : (s t : Bool) → (if s then false else (if t then false else false)) ≡ false

@@ -4,7 +4,7 @@ use Rattle.std.specs.Prelude.{if◌then◌else◌, slice_index_or, All}
 use Rattle.std.specs.Cmp.Lexicographic.{bytes_decides}
 use Rattle.std.specs.Str.{bytes_eq}
 use Rattle.std.proofs.lemmas.List.Elements.{All-cons}
-use Rattle.spki_tag.specs.Tag.{Tag, tags, star, string, prefix, range, list, set}
+use Rattle.spki_tag.specs.Tag.{Tag, tags, star, string, prefix, range, list}
 use Rattle.spki_tag.specs.Meet.{nothing, meet, kept, row, listed, each_meet}
 use Rattle.spki_tag.specs.Index.{may_share, places_where, tags_at}
 

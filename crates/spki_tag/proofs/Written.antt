@@ -1,12 +1,10 @@
 -- What two written tags leave together is a written tag.
 use Rattle.std.proofs.Common.{ℕ, Bool, true, false, List, [], ◌∷◌, ◌++◌, Option, Some, None, rules}
-use Rattle.std.specs.Prelude.{if◌then◌else◌, nat_eq}
-use Rattle.std.specs.List.{starts_with}
-use Rattle.std.specs.Str.{bytes_eq}
+use Rattle.std.specs.Prelude.{if◌then◌else◌}
 use Rattle.spki_tag.specs.Request as request
 use Rattle.spki_tag.specs.Request.{IsHead}
 use Rattle.spki_tag.specs.Tag.{Tag, Tags, tags, IsTag, AreTags, Limit, Ordering, alpha, star, string, prefix, range, list, set, none, more, contains, is_nothing}
-use Rattle.spki_tag.specs.Meet.{greater_low, lesser_up, exclude, ordering_meet, nothing, ranged, least_above, strict_limit, from, string_meet, range_meet, prefix_meet, items, kept, row, gather, has_nothing, listed, list_meet, across, set_across, meet, each_meet, pairs}
+use Rattle.spki_tag.specs.Meet.{greater_low, lesser_up, exclude, ordering_meet, nothing, ranged, least_above, strict_limit, from, string_meet, range_meet, prefix_meet, items, kept, row, gather, list_meet, across, set_across, meet, each_meet, pairs}
 
 if_tag : (b : Bool) (t u : Tag) → IsTag t → IsTag u → IsTag (if b then t else u)
 if_tag true t u h k = h

@@ -1,4 +1,4 @@
-use Rattle.spki_tag.proofs.Gathered.{items-tags}
+use Rattle.spki_tag.proofs.Exact.{items-tags}
 use Rattle.spki_tag.proofs.normal_forms.push_member.Goals as goal
 
 pub returns-in_ok-append-in-Set : goal.returns-in_ok-append-in-Set

@@ -1,5 +1,5 @@
 use Rattle.std.proofs.Common.{sym, ◌∙◌}
-use Rattle.spki_tag.proofs.Places.{items-tags}
+use Rattle.spki_tag.proofs.Exact.{items-tags}
 use Rattle.spki_tag.proofs.tag.Tag.members.Goals as goal
 
 pub returns-in-Set : goal.returns-in-Set
