@@ -1,6 +1,6 @@
 -- The fault that is named of an entry or of an access list, along the way of its reading.
 use Rattle.std.proofs.Common.{◌≡◌, ℕ, ◌+◌, List, [], ◌∷◌, ◌++◌, drop, length, Bool, true, false, Option, Some, None, refl, sym, ap, ◌∙◌, inl, inr, length-append, rules}
-use Rattle.std.specs.Prelude.{codes, not, if◌then◌else◌, ◌&&◌}
+use Rattle.std.specs.Prelude.{codes, not, ◌&&◌}
 use Rattle.sexpr_core.specs.Value.{Value, plain, group}
 use Rattle.sexpr_core.specs.Shapes.{IsNotHeaded}
 use Rattle.spki_tag.specs.FirstFault.{first_fault, unless}
@@ -10,12 +10,12 @@ use Rattle.spki_cert.specs.declared.fault.CertFaultKind.TheVariants.{Shape, Rela
 use Rattle.spki_cert.specs.declared.principal.Principal.{Principal}
 use Rattle.spki_cert.specs.declared.principal.Principal.TheVariants.{Key, Hash}
 use Rattle.spki_cert.specs.Subjects.{PrincipalOf, WhoOf, plains}
-use Rattle.spki_cert.specs.Fields.{is_headed, behind_head}
-use Rattle.spki_cert.specs.Places.{fault_at, sole_fault}
+use Rattle.spki_cert.specs.Fields.{behind_head}
+use Rattle.spki_cert.specs.Places.{fault_at}
 use Rattle.spki_cert.specs.SubjectFaults.{is_name, subject_fault, entry_subject_fault, is_relative, begins_named}
-use Rattle.spki_cert.specs.FieldFaults.{has, fields_fault, version_fault, entry_field_fault, is_both_ways}
+use Rattle.spki_cert.specs.FieldFaults.{has, fields_fault, entry_field_fault, is_both_ways}
 use Rattle.spki_cert.specs.EntryFaults.{entry_fault, at_item, each_looked, acl_version_fault, outer_fault, entries_fault, acl_fault, behind_version}
-use Rattle.spki_cert.proofs.Groups.{not-headed, behind-group}
+use Rattle.spki_cert.proofs.Groups.{behind-group}
 use Rattle.spki_cert.proofs.SubjectFaultLaws.{principal-else}
 use Rattle.spki_cert.proofs.Looking.{of-form, of-no_form, one-look}
 
@@ -64,12 +64,9 @@ pub entry-unheaded : (v : Value) → IsNotHeaded v (codes "entry") → entry_fau
 unfolding entry_fault
 entry-unheaded v other = of-no_form (codes "entry") v Shape _ other
 
-entry-form : (v : Value) (rest : List Value) → IsEntered v rest → entry_fault v ≡ entry_looked true rest
+pub entry-form : (v : Value) (rest : List Value) → IsEntered v rest → entry_fault v ≡ entry_looked true rest
 unfolding entry_fault
 entry-form v rest e = of-form entry_looked (codes "entry") v rest e
-
-pub entry-empty : (v : Value) (rest : List Value) → IsEntered v rest → rest ≡ [] → entry_fault v ≡ Some Shape
-entry-empty v rest e f = entry-form v rest e ∙ ap (entry_looked true) f
 
 -- what is found in the parts of an entry
 abbrev pub parts_looked : Option CertFaultKind → Option CertFaultKind → Bool → Bool → Option CertFaultKind
@@ -79,27 +76,10 @@ pub entry-parts : (v subject : Value) (rest fields : List Value) → IsEntered v
     → entry_fault v ≡ parts_looked (entry_subject_fault subject) (fields_fault entry_field_fault fields) (is_both_ways fields) (has (codes "tag") fields)
 entry-parts v subject rest fields e f = entry-form v rest e ∙ ap (entry_looked true) f
 
-pub entry-subject_found : (v subject : Value) (rest fields : List Value) (kind : CertFaultKind) → IsEntered v rest → rest ≡ subject ∷ fields
-    → entry_subject_fault subject ≡ Some kind → entry_fault v ≡ Some kind
-entry-subject_found v subject rest fields kind e f g =
-    entry-parts v subject rest fields e f
-    ∙ ap (λ (x : Option CertFaultKind). parts_looked x (fields_fault entry_field_fault fields) (is_both_ways fields) (has (codes "tag") fields)) g
-
-pub entry-fields_found : (v subject : Value) (rest fields : List Value) (kind : CertFaultKind) → IsEntered v rest → rest ≡ subject ∷ fields
-    → entry_subject_fault subject ≡ None → fields_fault entry_field_fault fields ≡ Some kind → entry_fault v ≡ Some kind
-entry-fields_found v subject rest fields kind e f g h =
-    entry-parts v subject rest fields e f ∙ (λ i. parts_looked (g i) (h i) (is_both_ways fields) (has (codes "tag") fields))
-
-pub entry-both_ways : (v subject : Value) (rest fields : List Value) → IsEntered v rest → rest ≡ subject ∷ fields
-    → entry_subject_fault subject ≡ None → fields_fault entry_field_fault fields ≡ None → is_both_ways fields ≡ true → entry_fault v ≡ Some Shape
-entry-both_ways v subject rest fields e f g h both =
-    entry-parts v subject rest fields e f ∙ (λ i. parts_looked (g i) (h i) (both i) (has (codes "tag") fields))
-
-pub entry-tagged : (v subject : Value) (rest fields : List Value) (b : Bool) → IsEntered v rest → rest ≡ subject ∷ fields
-    → entry_subject_fault subject ≡ None → fields_fault entry_field_fault fields ≡ None → is_both_ways fields ≡ false → has (codes "tag") fields ≡ b
-    → entry_fault v ≡ parts_looked None None false b
-entry-tagged v subject rest fields b e f g h one tagged =
-    entry-parts v subject rest fields e f ∙ (λ i. parts_looked (g i) (h i) (one i) (tagged i))
+pub entry-looked : (v subject : Value) (rest fields : List Value) (found others : Option CertFaultKind) (both tag : Bool) → IsEntered v rest → rest ≡ subject ∷ fields
+    → entry_subject_fault subject ≡ found → fields_fault entry_field_fault fields ≡ others → is_both_ways fields ≡ both → has (codes "tag") fields ≡ tag
+    → entry_fault v ≡ parts_looked found others both tag
+entry-looked v subject rest fields found others both tag e f g h i j = entry-parts v subject rest fields e f ∙ (λ k. parts_looked (g k) (h k) (i k) (j k))
 
 -- ---- the outer list
 
@@ -113,27 +93,9 @@ pub outer-unheaded : (v : Value) → IsNotHeaded v (codes "acl") → outer_fault
 unfolding outer_fault
 outer-unheaded v other = of-no_form (codes "acl") v Shape _ other
 
-outer-form : (v : Value) (rest : List Value) → IsListed v rest → outer_fault v ≡ outer_looked true rest
+pub outer-form : (v : Value) (rest : List Value) → IsListed v rest → outer_fault v ≡ outer_looked true rest
 unfolding outer_fault
 outer-form v rest e = of-form outer_looked (codes "acl") v rest e
-
-pub outer-empty : (v : Value) (rest : List Value) → IsListed v rest → rest ≡ [] → outer_fault v ≡ None
-outer-empty v rest e f = outer-form v rest e ∙ ap (outer_looked true) f
-
-abbrev version_looked : Bool → List Value → Option CertFaultKind
-version_looked headed rest = first_fault ((if headed then sole_fault Shape version_fault rest else None) ∷ [])
-
-outer-first : (v first : Value) (rest others : List Value) → IsListed v rest → rest ≡ first ∷ others → outer_fault v ≡ version_looked (is_headed (codes "version") first) (behind_head first)
-outer-first v first rest others e f = outer-form v rest e ∙ ap (outer_looked true) f
-
-pub outer-unversioned : (v first : Value) (rest others : List Value) → IsListed v rest → rest ≡ first ∷ others → IsNotHeaded first (codes "version") → outer_fault v ≡ None
-outer-unversioned v first rest others e f other =
-    outer-first v first rest others e f ∙ ap (λ (b : Bool). version_looked b (behind_head first)) (not-headed (codes "version") first other)
-
-pub outer-versioned : (v first : Value) (rest others behind : List Value) (found : Option CertFaultKind) → IsListed v rest → rest ≡ first ∷ others
-    → first ≡ group (plain (codes "version") ∷ behind) → sole_fault Shape version_fault behind ≡ found → outer_fault v ≡ found
-outer-versioned v first rest others behind found e f g h =
-    outer-first v first rest others e f ∙ of-form version_looked (codes "version") first behind g ∙ one-look (sole_fault Shape version_fault behind) ∙ h
 
 -- ---- items one after the other
 

@@ -2,6 +2,8 @@
 use Rattle.std.proofs.Common.{◌≡◌, ℕ, ◌+◌, List, [], ◌∷◌, ◌++◌, length, arith, Bool, true, false, ◌&&◌, ◌||◌, Option, Some, None, refl, sym, ap, ◌∙◌, rules}
 use Rattle.std.specs.Prelude.{codes, ◌↔◌, not, if◌then◌else◌}
 use Rattle.std.specs.List.{AllZip}
+use Rattle.std.proofs.Math.Bool.{and-false}
+use Rattle.std.proofs.lemmas.Bool.{not-true}
 use Rattle.sexpr_core.specs.Value.{Value, plain, group}
 use Rattle.spki_tag.specs.Read.{ReadsAs}
 use Rattle.spki_tag.specs.FirstFault.{first_fault, unless}
@@ -21,26 +23,20 @@ use Rattle.spki_cert.specs.FieldFaults.{has, fields_fault, version_fault, entry_
 use Rattle.spki_cert.specs.EntryFaults.{entry_fault, at_item, each_looked, acl_version_fault, outer_fault, entries_fault, acl_fault}
 use Rattle.spki_cert.specs.Inner.Gathering.{is_word_among}
 use Rattle.spki_cert.proofs.Groups.{behind-group}
-use Rattle.spki_cert.proofs.Looking.{unless-none, none-found, sole-read, sole-one}
+use Rattle.spki_cert.proofs.Looking.{unless-none, none-found, sole-read}
 use Rattle.spki_cert.proofs.KnownLaws.{none-headed, headed-none}
 use Rattle.spki_cert.proofs.FieldLaws.{other-word, time-first, time-last, time-valid, field-tag}
 use Rattle.spki_cert.proofs.EntryLaws.{entries-behind, entry-unversioned, acl-read}
-use Rattle.spki_cert.proofs.FieldFaultLaws.{is-headed, has-given, version-zero}
-use Rattle.spki_cert.proofs.EntryFaultLaws.{entry-parts, entry-empty, parts_looked, outer-empty, outer-unversioned, outer-versioned, acl-entries}
+use Rattle.spki_cert.proofs.FieldFaultLaws.{is-headed, has-given, version-faultless}
+use Rattle.spki_cert.proofs.EntryFaultLaws.{entry-form, entry-parts, parts_looked, entry-looked, outer-form, acl-entries}
 use Rattle.spki_cert.proofs.SubjectFaultNone.{entry_subject-none}
-use Rattle.spki_cert.proofs.FieldFaultNone.{again-false, given-read, entry_fields-none, version-read}
+use Rattle.spki_cert.proofs.FieldFaultNone.{given-read, entry_fields-none, version-read}
 
 -- ---- windows
 
 neither : (valid first last : Bool) → valid ≡ true → (valid && (first || last)) ≡ false → (first ≡ false) × (last ≡ false)
 neither true false false e f = (refl, refl)
-neither true true last e f = absurd (cc)
-neither true false true e f = absurd (cc)
-neither false first last e f = absurd (cc)
-
-and-false : (b : Bool) → (b && false) ≡ false
-and-false true = refl
-and-false false = refl
+neither valid first last e f = absurd (cc)
 
 -- words of fields that say nothing of validity
 abbrev pub untimed_words : List (List ℕ)
@@ -95,7 +91,7 @@ entry-of v subject fields e f =
     let tagged = none-found (unless (has (codes "tag") fields) Shape) [] one.1 in
     let named = (entry_subject-none subject).0 who.0 in
     let read = (entry_fields-none fields).0 each.0 in
-    let window = window-read IsField field-timed fields read (again-false (is_both_ways fields) (unless-none (not (is_both_ways fields)) Shape one.0)) in
+    let window = window-read IsField field-timed fields read (not-true (is_both_ways fields) (unless-none (not (is_both_ways fields)) Shape one.0)) in
     let found = given-read (codes "tag") (Sole ReadsAs) IsField field-tag fields read in
     let given = some-given (codes "tag") (Sole ReadsAs) fields found.0 found.1 (unless-none (has (codes "tag") fields) Shape tagged.0) in (
       record { subject = named.0; propagate = propagates fields; tag = given.0; window = window.0 },
@@ -118,14 +114,13 @@ entry-read v e =
     let form = is-headed (codes "entry") v (unless-none (is_headed (codes "entry") v) Shape looks.0) in by form.0 form.1
   where
     by : (rest : List Value) → v ≡ group (plain (codes "entry") ∷ rest) → SomeEntry v
-    by [] f = absurd (let g = sym (entry-empty v [] f refl) ∙ e in cc)
+    by [] f = absurd (let g = sym (entry-form v [] f) ∙ e in cc)
     by (subject ∷ fields) f = entry-of v subject fields f (sym (entry-parts v subject (subject ∷ fields) fields f refl) ∙ e)
 
 entry-faultless : (v : Value) (e : Entry) → EntryOf v e → entry_fault v ≡ None
 entry-faultless v e read =
-    entry-parts v read.subject (read.subject ∷ read.fields) read.fields read.written refl
-    ∙ (λ i. parts_looked ((entry_subject-none read.subject).1 (e.subject, read.subject_is) i) ((entry_fields-none read.fields).1 read.are_fields i)
-    (window-one_way read.fields e.window read.window_is i) (has-given (codes "tag") (Sole ReadsAs) read.fields (Some e.tag) read.tag_is i))
+    entry-looked v read.subject _ read.fields None None false true read.written refl ((entry_subject-none read.subject).1 (e.subject, read.subject_is))
+    ((entry_fields-none read.fields).1 read.are_fields) (window-one_way read.fields e.window read.window_is) (has-given (codes "tag") (Sole ReadsAs) read.fields (Some e.tag) read.tag_is)
 
 pub entry-none : (v : Value) → (entry_fault v ≡ None) ↔ SomeEntry v
 entry-none v = (entry-read v, λ some. entry-faultless v some.0 some.1)
@@ -239,13 +234,11 @@ acl-whole v e =
 
 outer-faultless : (v : Value) (version entries : List Value) (es : List Entry) → v ≡ group (plain (codes "acl") ∷ (version ++ entries)) → IsVersion version → AllZip EntryOf entries es
     → outer_fault v ≡ None
-outer-faultless v [] [] es e is zip = outer-empty v [] e refl
+unfolding outer_fault
+outer-faultless v [] [] es e is zip = search (rules, outer-form)
 outer-faultless v [] (x ∷ xs) [] e is zip = absurd zip
-outer-faultless v [] (x ∷ xs) (a ∷ es) e is zip =
-    outer-unversioned v x (x ∷ xs) xs e refl (λ us f. absurd (let g = sym (entry-unversioned x a zip.0) ∙ ap (is_headed (codes "version")) f in cc))
-outer-faultless v (w ∷ []) entries es e is zip =
-    outer-versioned v w (w ∷ entries) entries (plain (codes "0") ∷ []) None e refl is
-    (sole-one Shape version_fault (plain (codes "0") ∷ []) [] (plain (codes "0")) refl (version-zero (plain (codes "0")) refl) refl)
+outer-faultless v [] (x ∷ xs) (a ∷ es) e is zip = let other = entry-unversioned x a zip.0 in search (rules, outer-form)
+outer-faultless v (w ∷ []) entries es e is zip = let fine = version-faultless (plain (codes "0") ∷ []) refl in search (rules, outer-form)
 outer-faultless v (w ∷ x ∷ xs) entries es e is zip = absurd is
 
 acl-faultless : (v : Value) (es : List Entry) → AclOf v es → acl_fault v ≡ None

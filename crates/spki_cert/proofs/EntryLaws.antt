@@ -26,9 +26,8 @@ relative-is_no_subject v names relative s (inr read) = search (rules, same_other
 
 pub items-push : {A : Type 0} (R : Value → A → Type 0) (vs : List Value) (es : List A) (v : Value) (e : A) → AllZip R vs es → R v e → AllZip R (vs ++ v ∷ []) (es ++ e ∷ [])
 items-push R [] [] v e zip here = (here, tt)
-items-push R [] (y ∷ ys) v e zip here = absurd zip
-items-push R (x ∷ xs) [] v e zip here = absurd zip
 items-push R (x ∷ xs) (y ∷ ys) v e zip here = (zip.0, items-push R xs ys v e zip.1 here)
+items-push R vs es v e zip here = absurd zip
 
 -- ---- access lists
 

@@ -3,7 +3,7 @@ use Rattle.std.proofs.Common.{◌≡◌, ℕ, List, [], ◌∷◌, arith, Bool, 
 use Rattle.std.specs.Prelude.{codes, ◌↔◌, ◌==◌, is_some, if◌then◌else◌}
 use Rattle.std.specs.Str.{bytes_eq}
 use Rattle.std.proofs.lemmas.Slice.Eq.{bytes_eq-Decides}
-use Rattle.sexpr_core.specs.Value.{Value, plain, group, members, canon}
+use Rattle.sexpr_core.specs.Value.{Value, plain, group, members}
 use Rattle.sexpr_core.specs.Value as sexpr
 use Rattle.sexpr_core.specs.Labels.{values-members}
 use Rattle.spki_tag.specs.Time.{is_date}
@@ -15,18 +15,15 @@ use Rattle.spki_cert.specs.Readings.{KeyOf, HashOf, DateOf, IsAlgorithm, AreUris
 use Rattle.spki_cert.specs.Fields.{is_headed}
 use Rattle.spki_cert.specs.FixedFaults.{is_plain, any_octets, begins_plain, key_fault, is_alg, alg_fault, are_uris, hash_fault, date_fault}
 use Rattle.spki_cert.proofs.Looking.{unless-none, none-found}
-use Rattle.spki_cert.proofs.FixedLaws.{key_looked, key-form, key-whole, named-alg, digest-sized, hash_looked, hash-form, hash-whole, alg-known, date-tested}
+use Rattle.spki_cert.proofs.FixedLaws.{key_looked, key-form, begins-plain, named-alg, digest-sized, hash_looked, hash-form, hash-digest, uris-are, alg-known, date-tested}
 use Rattle.spki_cert.proofs.FieldFaultLaws.{is-headed}
 
 -- ---- keys
 
 algorithm : (v : Value) → begins_plain v ≡ true → IsAlgorithm v
-algorithm (sexpr.string hint octets) e = absurd (cc)
-algorithm (sexpr.list sexpr.none) e = absurd (cc)
-algorithm (sexpr.list (sexpr.more (sexpr.list us) vs)) e = absurd (cc)
-algorithm (sexpr.list (sexpr.more (sexpr.string (Some hint) octets) vs)) e = absurd (cc)
 algorithm (sexpr.list (sexpr.more (sexpr.string None octets) vs)) e =
     (octets, members vs, λ i. sexpr.list (sexpr.more (sexpr.string None octets) (sym (values-members vs) i)))
+algorithm v e = absurd (cc)
 
 abbrev SomeKey : Value → Type 0
 SomeKey v = (octets : List ℕ) × KeyOf v octets
@@ -43,8 +40,12 @@ key-read v e =
     let form = is-headed (codes "public-key") v (unless-none (is_headed (codes "public-key") v) Shape looks.0) in
     key-of v form.0 form.1 (sym (key-form v form.0 form.1) ∙ e)
 
+key-faultless : (v : Value) (octets : List ℕ) → KeyOf v octets → key_fault v ≡ None
+unfolding key_fault
+key-faultless v octets read = search (rules, key-form, begins-plain)
+
 pub key-none : (v : Value) → (key_fault v ≡ None) ↔ SomeKey v
-key-none v = (key-read v, λ key. key-whole v key.1.body (key.1.body ∷ []) [] key.1.written refl key.1.algorithm refl)
+key-none v = (key-read v, λ key. key-faultless v key.0 key.1)
 
 -- ---- hashes
 
@@ -61,16 +62,14 @@ named-read word e = by (bytes_eq word (codes "sha1")) (bytes_eq word (codes "sha
 alg-read : (v : Value) → alg_fault v ≡ None → (alg : HashAlg) × (v ≡ plain (alg_name alg))
 unfolding alg_fault
 alg-read (sexpr.string None octets) e = search (rules, none-found, named-read, unless-none)
-alg-read (sexpr.string (Some hint) octets) e = absurd (cc)
-alg-read (sexpr.list vs) e = absurd (cc)
+alg-read v e = absurd (cc)
 
 pub alg-none : (v : Value) → (alg_fault v ≡ None) ↔ ((alg : HashAlg) × (v ≡ plain (alg_name alg)))
 alg-none v = (alg-read v, λ some. alg-known v some.0 some.1)
 
 pub plain-read : (v : Value) → is_plain any_octets v ≡ true → (octets : List ℕ) × (v ≡ plain octets)
 plain-read (sexpr.string None octets) e = (octets, refl)
-plain-read (sexpr.string (Some hint) octets) e = absurd (cc)
-plain-read (sexpr.list vs) e = absurd (cc)
+plain-read v e = absurd (cc)
 
 uris-read : (vs : List Value) → are_uris vs ≡ true → AreUris vs
 uris-read [] e = tt
@@ -95,14 +94,12 @@ hash-read v e =
     let form = is-headed (codes "hash") v (unless-none (is_headed (codes "hash") v) Shape looks.0) in
     hash-of v form.0 form.1 (sym (hash-form v form.0 form.1) ∙ e)
 
+hash-faultless : (v : Value) (alg : HashAlg) (digest : List ℕ) → HashOf v alg digest → hash_fault v ≡ None
+hash-faultless v alg digest read =
+    hash-digest v _ _ _ _ _ alg None true read.written refl refl refl (digest-sized alg read.octets digest read.digest_is.written read.digest_is.sized) (uris-are read.further read.uris)
+
 pub hash-none : (v : Value) → (hash_fault v ≡ None) ↔ SomeHash v
-hash-none v = (
-  hash-read v,
-  λ hash.
-      let read = hash.2 in
-      hash-whole v (plain (alg_name hash.0)) read.octets (plain (alg_name hash.0) ∷ read.octets ∷ read.further) (read.octets ∷ read.further) read.further hash.0
-      read.written refl refl refl (digest-sized hash.0 read.octets hash.1 read.digest_is.written read.digest_is.sized) read.uris,
-)
+hash-none v = (hash-read v, λ hash. hash-faultless v hash.0 hash.1 hash.2)
 
 -- ---- dates
 
@@ -112,8 +109,7 @@ SomeDate v = (octets : List ℕ) × DateOf v octets
 date-read : (v : Value) → date_fault v ≡ None → SomeDate v
 unfolding date_fault
 date-read (sexpr.string None octets) e = (octets, record { written = refl; date = unless-none (is_date octets) BadDate e })
-date-read (sexpr.string (Some hint) octets) e = absurd (cc)
-date-read (sexpr.list vs) e = absurd (cc)
+date-read v e = absurd (cc)
 
 pub date-none : (v : Value) → (date_fault v ≡ None) ↔ SomeDate v
 date-none v = (date-read v, λ date. date-tested v date.0 true date.1.written date.1.date)

@@ -11,7 +11,7 @@ use Rattle.sexpr_core.specs.Shapes.{IsNotHeaded}
 use Rattle.spki_tag.specs.FirstFault.{first_fault, unless}
 use Rattle.spki_cert.specs.declared.window.Window.{Window}
 use Rattle.spki_cert.specs.declared.fault.CertFaultKind.{CertFaultKind}
-use Rattle.spki_cert.specs.declared.fault.CertFaultKind.TheVariants.{Shape, UnknownVersion, Online, Memory}
+use Rattle.spki_cert.specs.declared.fault.CertFaultKind.TheVariants.{Shape, Online, Memory}
 use Rattle.spki_tag.specs.Read.{ReadsAs}
 use Rattle.spki_cert.specs.Fields.{is_headed, behind_head, contents, Given, Sole, IsLimitField, ValidOf, IsUnread, display, issuer_info, subject_info}
 use Rattle.spki_cert.specs.Places.{sole_fault, unless_none}
@@ -22,38 +22,17 @@ use Rattle.spki_cert.specs.declared.fields.Place.{Place}
 use Rattle.spki_cert.specs.declared.fields.Place.TheVariants as places
 use Rattle.spki_cert.specs.SubjectFaults.{subject_fault, issuer_fault}
 use Rattle.spki_cert.specs.Inner.Gathering.{IsTagKind, is_word_among, IsNew, AreRead, KnownOf, IsOneWay, IsBothWays, fault_in, IssuerAt, WhoAt}
-use Rattle.spki_cert.specs.FixedFaults.{is_string, is_plain, date_fault}
-use Rattle.spki_cert.specs.FieldFaults.{head_of, has, has_head, is_again, fields_looked, fields_fault, is_zero, version_fault, limit_fault, time_fault, as_tag, kind_of_tag, entry_field_fault, is_unread, cert_field_fault, is_both_ways}
+use Rattle.spki_cert.specs.FixedFaults.{date_fault}
+use Rattle.spki_cert.specs.FieldFaults.{head_of, has, has_head, is_again, fields_looked, fields_fault, version_fault, limit_fault, time_fault, as_tag, kind_of_tag, entry_field_fault, is_unread, cert_field_fault, is_both_ways}
 use Rattle.spki_cert.proofs.Groups.{headed-by, not-headed, behind-group}
-use Rattle.spki_cert.proofs.Looking.{of-form, found-first, found-none, one-look}
+use Rattle.spki_cert.proofs.Looking.{of-form, first-of, one-look}
 use Rattle.spki_cert.proofs.SubjectFaultLaws.{headed-else}
 
 -- ---- versions
 
-abbrev version_looked : Value → Option CertFaultKind
-version_looked v = first_fault (unless (is_string v) Shape ∷ unless (is_plain is_zero v) UnknownVersion ∷ [])
-
-pub version-list : (v : Value) (vs : List Value) → v ≡ group vs → version_fault v ≡ Some Shape
+pub version-faultless : (vs : List Value) → vs ≡ plain (codes "0") ∷ [] → sole_fault Shape version_fault vs ≡ None
 unfolding version_fault
-version-list v vs e = ap version_looked e
-
-pub version-hinted : (v : Value) (hint octets : List ℕ) → v ≡ sexpr.string (Some hint) octets → version_fault v ≡ Some UnknownVersion
-unfolding version_fault
-version-hinted v hint octets e = ap version_looked e
-
-version-plain : (v : Value) (octets : List ℕ) (b : Bool) → v ≡ plain octets → is_zero octets ≡ b → version_fault v ≡ first_fault (unless b UnknownVersion ∷ [])
-unfolding version_fault
-version-plain v octets b e f = ap version_looked e ∙ ap (λ (x : Bool). first_fault (unless x UnknownVersion ∷ [])) f
-
-pub version-other : (v : Value) (octets word : List ℕ) → v ≡ plain octets → true ≡ not (bytes_eq octets word) → word ≡ codes "0" → version_fault v ≡ Some UnknownVersion
-version-other v octets word e f g = version-plain v octets false e (ap (bytes_eq octets) (sym g) ∙ by (bytes_eq octets word) f)
-  where
-    by : (b : Bool) → true ≡ not b → b ≡ false
-    by true x = absurd (cc)
-    by false x = refl
-
-pub version-zero : (v : Value) → v ≡ plain (codes "0") → version_fault v ≡ None
-version-zero v e = version-plain v (codes "0") true e refl
+version-faultless vs e = ap (sole_fault Shape version_fault) e
 
 -- ---- heads that were met
 
@@ -158,11 +137,12 @@ pub left-fault : (fault_of : Value → Option CertFaultKind) (all before rest ot
     → Left fault_of all before rest → rest ≡ v ∷ others → first_fault (field_looked fault_of before v) ≡ Some kind → fields_fault fault_of all ≡ Some kind
 left-fault fault_of all before rest others v kind left e f =
     left ∙ ap (λ (vs : List Value). first_fault (fields_looked fault_of before vs)) e
-    ∙ found-first (field_looked fault_of before v) (fields_looked fault_of (before ++ v ∷ []) others) kind f
+    ∙ first-of (field_looked fault_of before v) (fields_looked fault_of (before ++ v ∷ []) others)
+    ∙ ap (λ (x : Option CertFaultKind). first_fault (x ∷ fields_looked fault_of (before ++ v ∷ []) others)) f
 
 pub left-next : (fault_of : Value → Option CertFaultKind) (all before rest others : List Value) (v : Value)
     → Left fault_of all before rest → rest ≡ v ∷ others → first_fault (field_looked fault_of before v) ≡ None → Left fault_of all (before ++ v ∷ []) others
-left-next fault_of all before rest others v left e f = search (rules, found-none)
+left-next fault_of all before rest others v left e f = search (rules, first-of)
 
 pub left-none : (fault_of : Value → Option CertFaultKind) (all before rest : List Value) → Left fault_of all before rest → rest ≡ [] → fields_fault fault_of all ≡ None
 left-none fault_of all before rest left e = left ∙ ap (λ (vs : List Value). first_fault (fields_looked fault_of before vs)) e
@@ -214,10 +194,6 @@ pub entry-time : (v : Value) (found : Option CertFaultKind) → IsNotHeaded v (c
     → entry_field_fault v ≡ found
 entry-time v found p q r e = entry-else v (not-headed (codes "tag") v p) (not-headed (codes "propagate") v q) (not-headed (codes "comment") v r) ∙ e
 
-pub none-some : (vs : List Value) → (vs ≡ [] → ⊥) → unless_none vs Shape ≡ Some Shape
-none-some [] some = absurd (some refl)
-none-some (v ∷ vs) some = refl
-
 -- ---- fields of certificates
 
 abbrev cert_looked : Bool → Bool → Bool → Bool → List Value → Option CertFaultKind → Option CertFaultKind
@@ -262,13 +238,10 @@ unfolding cert_field_fault
 cert-else v p q r s = λ i. cert_looked (p i) (q i) (r i) (s i) (behind_head v) (entry_field_fault v)
 
 pub is-headed : (word : List ℕ) (v : Value) → is_headed word v ≡ true → (rest : List Value) × (v ≡ group (plain word ∷ rest))
-is-headed word (sexpr.string hint octets) e = absurd (cc)
-is-headed word (sexpr.list sexpr.none) e = absurd (cc)
-is-headed word (sexpr.list (sexpr.more (sexpr.list vs) others)) e = absurd (cc)
-is-headed word (sexpr.list (sexpr.more (sexpr.string (Some hint) head) others)) e = absurd (cc)
 is-headed word (sexpr.list (sexpr.more (sexpr.string None head) others)) e =
     let same : head ≡ word = (bytes_eq-Decides head word).0 e in
     (members others, λ i. sexpr.list (sexpr.more (sexpr.string None (same i)) (sym (values-members others) i)))
+is-headed word v e = absurd (cc)
 
 not-unread : (v : Value) → (IsUnread v → ⊥) → is_unread v ≡ false
 not-unread v other = by (is_headed (codes "display") v) (is_headed (codes "issuer-info") v) (is_headed (codes "subject-info") v) refl refl refl
@@ -287,11 +260,8 @@ cert-common v found p q r other e =
 -- ---- what has no head is no field
 
 headless : (word : List ℕ) (v : Value) → head_of v ≡ None → is_headed word v ≡ false
-headless word (sexpr.string hint octets) e = refl
-headless word (sexpr.list sexpr.none) e = refl
-headless word (sexpr.list (sexpr.more (sexpr.list vs) others)) e = refl
-headless word (sexpr.list (sexpr.more (sexpr.string (Some hint) head) others)) e = refl
 headless word (sexpr.list (sexpr.more (sexpr.string None head) others)) e = absurd (cc)
+headless word v e = refl
 
 headless-limit : (v : Value) → head_of v ≡ None → limit_fault v ≡ Some Shape
 unfolding limit_fault
@@ -308,12 +278,9 @@ headless-field places.Entry v e = headless-entry v e
 headless-field places.Certificate v e = headless-cert v e
 
 head-group : (v : Value) (head : List ℕ) → head_of v ≡ Some head → (rest : List Value) × (v ≡ group (plain head ∷ rest))
-head-group (sexpr.string hint octets) head e = absurd (cc)
-head-group (sexpr.list sexpr.none) head e = absurd (cc)
-head-group (sexpr.list (sexpr.more (sexpr.list vs) others)) head e = absurd (cc)
-head-group (sexpr.list (sexpr.more (sexpr.string (Some hint) word) others)) head e = absurd (cc)
 head-group (sexpr.list (sexpr.more (sexpr.string None word) others)) head e =
     let same : word ≡ head = cc in (members others, λ i. sexpr.list (sexpr.more (sexpr.string None (same i)) (sym (values-members others) i)))
+head-group v head e = absurd (cc)
 
 -- a field whose head isn't new, or that has none
 pub field-not_new : (place : Place) (before : List Value) (heads : List (List ℕ)) (k : Known) (v : Value) → AreRead before heads k

@@ -1,8 +1,9 @@
 -- A value has no fault as a limit or as a field, and values have none as fields, exactly where they are.
-use Rattle.std.proofs.Common.{◌≡◌, ℕ, ◌≤◌, List, [], ◌∷◌, ◌++◌, length, append_assoc, arith, Bool, true, false, ◌||◌, Option, Some, None, refl, sym, ap, subst, ◌∙◌, inl, inr, rules}
+use Rattle.std.proofs.Common.{◌≡◌, ℕ, ◌≤◌, List, [], ◌∷◌, ◌++◌, length, append_assoc, append-nil, arith, Bool, true, false, ◌||◌, Option, Some, None, refl, sym, ap, subst, ◌∙◌, inl, inr, rules}
 use Rattle.std.specs.Prelude.{codes, ◌↔◌, not, if◌then◌else◌}
 use Rattle.std.specs.List.{AllByRecursion}
 use Rattle.std.proofs.lemmas.Slice.Eq.{bytes_eq-Decides}
+use Rattle.std.proofs.lemmas.Bool.{not-true}
 use Rattle.sexpr_core.specs.Value.{Value, plain, group}
 use Rattle.sexpr_core.specs.Value as sexpr
 use Rattle.spki_tag.specs.Tag as tags
@@ -27,14 +28,14 @@ use Rattle.spki_cert.specs.FieldFaults.{is_again, fields_looked, fields_fault, v
 use Rattle.spki_cert.specs.declared.fields.Place.{Place}
 use Rattle.spki_cert.specs.declared.fields.Place.TheVariants as places
 use Rattle.spki_cert.specs.Inner.Gathering.{is_word_among, fault_in, IsFieldOf}
-use Rattle.spki_cert.proofs.Groups.{headed-by, head-same, behind-group}
+use Rattle.spki_cert.proofs.Groups.{headed-by, behind-group}
 use Rattle.spki_cert.proofs.Looking.{unless-none, none-found, sole-read, sole-one}
-use Rattle.spki_cert.proofs.GivenLaws.{each-push, each-at, contents-headed, contents-other, once-before, once-push}
+use Rattle.spki_cert.proofs.GivenLaws.{each-push, each-at, contents-headed, contents-other, once-before, once-new}
 use Rattle.spki_cert.proofs.KnownLaws.{none-headed, headed-none}
 use Rattle.spki_cert.proofs.FieldLaws.{HasHead, field-word, cert-word, HeadAmong, other-word, time_words, field_words, time-head, field-head}
 use Rattle.spki_cert.proofs.ValidLaws.{first-limit, last-limit}
 use Rattle.spki_cert.proofs.FieldFaultLaws as faults
-use Rattle.spki_cert.proofs.FieldFaultLaws.{is-headed, again-headed, version-zero, limit-first, limit-last, entry-tag_field, entry-propagate, entry-comment, entry-else, cert-issuer_field, cert-subject_field, cert-version_field, cert-unread, cert-else}
+use Rattle.spki_cert.proofs.FieldFaultLaws.{is-headed, again-headed, version-faultless, limit-first, limit-last, entry-tag_field, entry-propagate, entry-comment, entry-else, cert-issuer_field, cert-subject_field, cert-version_field, cert-unread, cert-else}
 use Rattle.spki_cert.proofs.FaultNone.{date-none}
 use Rattle.spki_cert.proofs.SubjectFaultNone.{subject-none, issuer-none}
 
@@ -49,8 +50,7 @@ sole-faultless other fault_of R whole vs b read = sole-one other fault_of vs [] 
 pub version-read : (v : Value) → version_fault v ≡ None → v ≡ plain (codes "0")
 unfolding version_fault
 version-read (sexpr.string None octets) e = search (rules, none-found, bytes_eq-Decides, unless-none)
-version-read (sexpr.string (Some hint) octets) e = absurd (cc)
-version-read (sexpr.list vs) e = absurd (cc)
+version-read v e = absurd (cc)
 
 -- ---- limits
 
@@ -94,28 +94,20 @@ limit-word v (word, rest, date, is, e, read) = (word, rest, e)
 
 -- ---- fields, each at most once
 
-append-none : (vs : List Value) → vs ++ [] ≡ vs
-append-none [] = refl
-append-none (v ∷ vs) = ap (λ (ws : List Value). v ∷ ws) (append-none vs)
-
-pub again-false : (b : Bool) → not b ≡ true → b ≡ false
-again-false true e = absurd (cc)
-again-false false e = refl
-
 module _ (fault_of : Value → Option CertFaultKind) (IsOne : Value → Type 0) (none : (v : Value) → (fault_of v ≡ None) ↔ IsOne v) (headed : (v : Value) → IsOne v → HasHead v) where
   fields-behind : (before vs : List Value) → AreFields IsOne before → first_fault (fields_looked fault_of before vs) ≡ None → AreFields IsOne (before ++ vs)
-  fields-behind before [] read e = subst (AreFields IsOne) (sym (append-none before)) read
+  fields-behind before [] read e = subst (AreFields IsOne) (sym (append-nil before)) read
   fields-behind before (v ∷ vs) read e =
       let again = none-found (unless (not (is_again before v)) Shape) _ e in
       let looks = none-found (fault_of v) _ again.1 in
       let this = (none v).0 looks.0 in
       let head = headed v this in
       let fresh : contents head.0 before ≡ [] =
-      none-headed head.0 before (sym (again-headed head.0 before v head.1 head.2) ∙ again-false (is_again before v) (unless-none (not (is_again before v)) Shape again.0)) in
+      none-headed head.0 before (sym (again-headed head.0 before v head.1 head.2) ∙ not-true (is_again before v) (unless-none (not (is_again before v)) Shape again.0)) in
       let more : AreFields IsOne (before ++ v ∷ []) =
       record {
         each = each-push IsOne before v read.each this;
-        once = once-push before v read.once (λ word h. subst (λ (w : List ℕ). contents w before ≡ []) (head-same v head.0 word head.1 head.2 h) fresh);
+        once = once-new before v head.0 head.1 head.2 read.once fresh;
       } in
       subst (AreFields IsOne) (append_assoc before (v ∷ []) vs) (fields-behind (before ++ v ∷ []) vs more looks.1)
 
@@ -287,7 +279,7 @@ cert_field-faultless v (common f) =
     || among-else field_words v (codes "subject-info") refl among i)
     ∙ entry_field-faultless v f
 cert_field-faultless v (version e) =
-    cert-version_field v (plain (codes "0") ∷ []) e ∙ sole-one Shape version_fault (plain (codes "0") ∷ []) [] (plain (codes "0")) refl (version-zero (plain (codes "0")) refl) refl
+    cert-version_field v (plain (codes "0") ∷ []) e ∙ version-faultless (plain (codes "0") ∷ []) refl
 cert_field-faultless v (issuer rest i e read) =
     cert-issuer_field v rest e
     ∙ sole-faultless Shape issuer_fault (λ w (j : Principal × Option (List ℕ)). IssuerOf w j.0 j.1) (λ w j this. (issuer-none w).1 (j.0, j.1, this)) rest i read

@@ -12,14 +12,13 @@ use Rattle.spki_tag.specs.FirstFault.{first_fault, unless}
 use Rattle.spki_cert.specs.declared.hash.HashAlg.{HashAlg}
 use Rattle.spki_cert.specs.declared.hash.HashAlg.TheVariants.{Sha1, Sha256, Sha512}
 use Rattle.spki_cert.specs.declared.fault.CertFaultKind.{CertFaultKind}
-use Rattle.spki_cert.specs.declared.fault.CertFaultKind.TheVariants.{Shape, HashAlg as UnknownAlg, DigestLength, KeyUris, BadDate}
+use Rattle.spki_cert.specs.declared.fault.CertFaultKind.TheVariants.{Shape, HashAlg as UnknownAlg, DigestLength, BadDate}
 use Rattle.spki_cert.specs.Readings.{IsAlgorithm, alg_name, digest_len, AreUris}
-use Rattle.spki_cert.specs.Fields.{is_headed}
 use Rattle.spki_cert.specs.Places.{fault_at}
 use Rattle.spki_cert.specs.FixedFaults.{is_plain, any_octets, begins_plain, behind_key, key_fault, date_fault, alg_fault, hash_fault, alg_named, is_alg, is_sized, digest_fits, are_uris, is_string}
 use Rattle.spki_cert.proofs.Groups.{headed-by, not-headed}
 use Rattle.spki_cert.specs.Inner.Gathering.{digest_fault}
-use Rattle.spki_cert.proofs.Looking.{of-form, of-no_form, no-plain, found-first, found-none}
+use Rattle.spki_cert.proofs.Looking.{of-form, of-no_form, no-plain, first-of}
 
 -- ---- keys
 
@@ -27,12 +26,9 @@ pub begins-plain : (v : Value) → IsAlgorithm v → begins_plain v ≡ true
 begins-plain v (alg, parts, e) = ap begins_plain e
 
 pub begins-other : (v : Value) → (IsAlgorithm v → ⊥) → begins_plain v ≡ false
-begins-other (sexpr.string hint octets) other = refl
-begins-other (sexpr.list sexpr.none) other = refl
-begins-other (sexpr.list (sexpr.more (sexpr.list us) vs)) other = refl
-begins-other (sexpr.list (sexpr.more (sexpr.string (Some hint) octets) vs)) other = refl
 begins-other (sexpr.list (sexpr.more (sexpr.string None octets) vs)) other =
     absurd (other (octets, members vs, λ i. sexpr.list (sexpr.more (sexpr.string None octets) (sym (values-members vs) i))))
+begins-other v other = refl
 
 pub key-unheaded : (v : Value) → IsNotHeaded v (codes "public-key") → key_fault v ≡ Some Shape
 unfolding key_fault
@@ -46,41 +42,6 @@ key_looked headed rest =
 pub key-form : (v : Value) (rest : List Value) → v ≡ group (plain (codes "public-key") ∷ rest) → key_fault v ≡ key_looked true rest
 unfolding key_fault
 key-form v rest e = of-form key_looked (codes "public-key") v rest e
-
-pub key-empty : (v : Value) (rest : List Value) → v ≡ group (plain (codes "public-key") ∷ rest) → rest ≡ [] → key_fault v ≡ Some Shape
-key-empty v rest e f = key-form v rest e ∙ ap (key_looked true) f
-
--- what is looked at in a key with these members
-abbrev key_members : Bool → List Value → Option CertFaultKind
-key_members begins more = first_fault (None ∷ unless begins Shape ∷ behind_key more ∷ [])
-
-key-body : (v body : Value) (rest more : List Value) (b : Bool) → v ≡ group (plain (codes "public-key") ∷ rest) → rest ≡ body ∷ more → begins_plain body ≡ b
-    → key_fault v ≡ key_members b more
-key-body v body rest more b e f g = key-form v rest e ∙ ap (key_looked true) f ∙ ap (λ (x : Bool). key_members x more) g
-
-pub key-other_body : (v body : Value) (rest more : List Value) → v ≡ group (plain (codes "public-key") ∷ rest) → rest ≡ body ∷ more → (IsAlgorithm body → ⊥)
-    → key_fault v ≡ Some Shape
-key-other_body v body rest more e f other = key-body v body rest more false e f (begins-other body other)
-
-pub key-whole : (v body : Value) (rest more : List Value) → v ≡ group (plain (codes "public-key") ∷ rest) → rest ≡ body ∷ more → IsAlgorithm body → more ≡ []
-    → key_fault v ≡ None
-key-whole v body rest more e f is_alg g = key-body v body rest more true e f (begins-plain body is_alg) ∙ ap (key_members true) g
-
-abbrev third_fault : Bool → Option CertFaultKind
-third_fault uris = Some (if uris then KeyUris else Shape)
-
-key-third : (v body third : Value) (rest more others : List Value) (b : Bool) → v ≡ group (plain (codes "public-key") ∷ rest) → rest ≡ body ∷ more → IsAlgorithm body
-    → more ≡ third ∷ others → is_headed (codes "uri") third ≡ b → key_fault v ≡ third_fault b
-key-third v body third rest more others b e f is_alg g h =
-    key-body v body rest more true e f (begins-plain body is_alg) ∙ ap (key_members true) g ∙ ap third_fault h
-
-pub key-uris : (v body third : Value) (rest more others uris : List Value) → v ≡ group (plain (codes "public-key") ∷ rest) → rest ≡ body ∷ more → IsAlgorithm body
-    → more ≡ third ∷ others → third ≡ group (plain (codes "uri") ∷ uris) → key_fault v ≡ Some KeyUris
-key-uris v body third rest more others uris e f is_alg g h = key-third v body third rest more others true e f is_alg g (headed-by third (codes "uri") uris h)
-
-pub key-surplus : (v body third : Value) (rest more others : List Value) → v ≡ group (plain (codes "public-key") ∷ rest) → rest ≡ body ∷ more → IsAlgorithm body
-    → more ≡ third ∷ others → IsNotHeaded third (codes "uri") → key_fault v ≡ Some Shape
-key-surplus v body third rest more others e f is_alg g other = key-third v body third rest more others false e f is_alg g (not-headed (codes "uri") third other)
 
 -- ---- dates
 
@@ -96,8 +57,7 @@ date-tested v octets b e f = ap (λ (w : Value). unless (is_plain is_date w) Bad
 
 pub named-alg : (alg : HashAlg) → alg_named (alg_name alg) ≡ Some alg
 named-alg Sha1 = refl
-named-alg Sha256 = refl
-named-alg Sha512 = refl
+named-alg alg = refl
 
 pub named-no_alg : (word : List ℕ) → ((alg : HashAlg) → word ≢ alg_name alg) → alg_named word ≡ None
 named-no_alg word other = by (bytes_eq word (codes "sha1")) (bytes_eq word (codes "sha256")) (bytes_eq word (codes "sha512")) refl refl refl
@@ -151,73 +111,26 @@ pub hash-form : (v : Value) (rest : List Value) → IsHashed v rest → hash_fau
 unfolding hash_fault
 hash-form v rest e = of-form hash_looked (codes "hash") v rest e
 
-pub hash-empty : (v : Value) (rest : List Value) → IsHashed v rest → rest ≡ [] → hash_fault v ≡ Some Shape
-hash-empty v rest e f = hash-form v rest e ∙ ap (hash_looked true) f
-
--- what is looked at behind the algorithm's name
-abbrev behind_alg : Value → List Value → List (Option CertFaultKind)
-behind_alg word more =
-    fault_at 0 Shape (λ digest. unless (is_plain any_octets digest) Shape) more
-    ∷ unless (digest_fits (word ∷ more)) DigestLength
-    ∷ unless (are_uris (drop 1 more)) Shape
-    ∷ []
-
-hash-word : (v word : Value) (rest more : List Value) → IsHashed v rest → rest ≡ word ∷ more → hash_fault v ≡ first_fault (alg_fault word ∷ behind_alg word more)
-hash-word v word rest more e f = hash-form v rest e ∙ ap (hash_looked true) f
-
-pub hash-alg_fault : (v word : Value) (rest more : List Value) (kind : CertFaultKind) → IsHashed v rest → rest ≡ word ∷ more → alg_fault word ≡ Some kind → hash_fault v ≡ Some kind
-hash-alg_fault v word rest more kind e f g = hash-word v word rest more e f ∙ ap (λ (x : Option CertFaultKind). first_fault (x ∷ behind_alg word more)) g
-
-hash-known : (v word : Value) (rest more : List Value) (alg : HashAlg) → IsHashed v rest → rest ≡ word ∷ more → word ≡ plain (alg_name alg)
-    → hash_fault v ≡ first_fault (behind_alg (plain (alg_name alg)) more)
-hash-known v word rest more alg e f g =
-    hash-word v word rest more e f
-    ∙ ap (λ (x : Option CertFaultKind). first_fault (x ∷ behind_alg word more)) (alg-known word alg g)
-    ∙ ap (λ (w : Value). first_fault (behind_alg w more)) g
-
-pub hash-no_digest : (v word : Value) (rest more : List Value) (alg : HashAlg) → IsHashed v rest → rest ≡ word ∷ more → word ≡ plain (alg_name alg) → more ≡ []
-    → hash_fault v ≡ Some Shape
-hash-no_digest v word rest more alg e f g h = hash-known v word rest more alg e f g ∙ ap (λ (vs : List Value). first_fault (behind_alg (plain (alg_name alg)) vs)) h
-
 abbrev digest_looked : Option HashAlg → Value → List (Option CertFaultKind)
 digest_looked found digest = unless (is_plain any_octets digest) Shape ∷ unless (is_plain (is_sized found) digest) DigestLength ∷ []
 
-hash-digest : (v word digest : Value) (rest more others : List Value) (alg : HashAlg) → IsHashed v rest → rest ≡ word ∷ more → word ≡ plain (alg_name alg) → more ≡ digest ∷ others
-    → hash_fault v ≡ first_fault (digest_looked (Some alg) digest ++ unless (are_uris others) Shape ∷ [])
-hash-digest v word digest rest more others alg e f g h =
-    hash-known v word rest more alg e f g
-    ∙ ap (λ (vs : List Value). first_fault (behind_alg (plain (alg_name alg)) vs)) h
-    ∙ ap (λ (x : Option HashAlg). first_fault (digest_looked x digest ++ unless (are_uris others) Shape ∷ [])) (named-alg alg)
+-- what is found in a digest and in what stands behind it
+pub hash-digest : (v word digest : Value) (rest more others : List Value) (alg : HashAlg) (found : Option CertFaultKind) (uris : Bool) → IsHashed v rest → rest ≡ word ∷ more
+    → word ≡ plain (alg_name alg) → more ≡ digest ∷ others → digest_fault alg digest ≡ found → are_uris others ≡ uris → hash_fault v ≡ first_fault (found ∷ unless uris Shape ∷ [])
+unfolding hash_fault
+hash-digest v word digest rest more others alg found uris e f g h i j =
+    (let looked : hash_fault v ≡ first_fault (digest_looked (Some alg) digest ++ unless (are_uris others) Shape ∷ []) = search (rules, hash-form, alg-known, named-alg) in looked)
+    ∙ first-of (digest_looked (Some alg) digest) (unless (are_uris others) Shape ∷ []) ∙ (λ k. first_fault (i k ∷ unless (j k) Shape ∷ []))
 
-pub hash-digest_fault : (v word digest : Value) (rest more others : List Value) (alg : HashAlg) (kind : CertFaultKind) → IsHashed v rest → rest ≡ word ∷ more → word ≡ plain (alg_name alg) → more ≡ digest ∷ others
-    → digest_fault alg digest ≡ Some kind → hash_fault v ≡ Some kind
-hash-digest_fault v word digest rest more others alg kind e f g h i =
-    hash-digest v word digest rest more others alg e f g h ∙ found-first (digest_looked (Some alg) digest) (unless (are_uris others) Shape ∷ []) kind i
-
-hash-sized : (v word digest : Value) (rest more others : List Value) (alg : HashAlg) (b : Bool) → IsHashed v rest → rest ≡ word ∷ more → word ≡ plain (alg_name alg) → more ≡ digest ∷ others
-    → digest_fault alg digest ≡ None → are_uris others ≡ b → hash_fault v ≡ first_fault (unless b Shape ∷ [])
-hash-sized v word digest rest more others alg b e f g h i j =
-    hash-digest v word digest rest more others alg e f g h
-    ∙ found-none (digest_looked (Some alg) digest) (unless (are_uris others) Shape ∷ []) i
-    ∙ ap (λ (x : Bool). first_fault (unless x Shape ∷ [])) j
-
-uris-are : (vs : List Value) → AreUris vs → are_uris vs ≡ true
+pub uris-are : (vs : List Value) → AreUris vs → are_uris vs ≡ true
 uris-are [] are = refl
 uris-are (v ∷ []) are = headed-by v (codes "uri") are.0 are.1
 uris-are (v ∷ w ∷ vs) are = absurd are
 
-others-are : (vs : List Value) → (AreUris vs → ⊥) → are_uris vs ≡ false
+pub others-are : (vs : List Value) → (AreUris vs → ⊥) → are_uris vs ≡ false
 others-are [] other = absurd (other tt)
 others-are (v ∷ []) other = not-headed (codes "uri") v (λ uris e. other (uris, e))
 others-are (v ∷ w ∷ vs) other = refl
-
-pub hash-whole : (v word digest : Value) (rest more others : List Value) (alg : HashAlg) → IsHashed v rest → rest ≡ word ∷ more → word ≡ plain (alg_name alg) → more ≡ digest ∷ others
-    → digest_fault alg digest ≡ None → AreUris others → hash_fault v ≡ None
-hash-whole v word digest rest more others alg e f g h i are = hash-sized v word digest rest more others alg true e f g h i (uris-are others are)
-
-pub hash-surplus : (v word digest : Value) (rest more others : List Value) (alg : HashAlg) → IsHashed v rest → rest ≡ word ∷ more → word ≡ plain (alg_name alg) → more ≡ digest ∷ others
-    → digest_fault alg digest ≡ None → (AreUris others → ⊥) → hash_fault v ≡ Some Shape
-hash-surplus v word digest rest more others alg e f g h i other = hash-sized v word digest rest more others alg false e f g h i (others-are others other)
 
 -- ---- digests
 

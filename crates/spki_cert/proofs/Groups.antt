@@ -1,5 +1,5 @@
 -- Lists that are the same have the same members, and those with two heads are not the same.
-use Rattle.std.proofs.Common.{◌≡◌, ℕ, List, [], ◌∷◌, ◌++◌, drop, refl, sym, ap, ◌∙◌, append_assoc, Bool, true, false, Some, None}
+use Rattle.std.proofs.Common.{◌≡◌, ℕ, List, [], ◌∷◌, ◌++◌, drop, refl, sym, ap, ◌∙◌, append_assoc, Bool, true, false, None}
 use Rattle.std.specs.Str.{bytes_eq}
 use Rattle.sexpr_core.specs.Shapes.{IsNotHeaded}
 use Rattle.std.proofs.lemmas.Slice.Eq.{bytes_eq-Decides}
@@ -60,10 +60,6 @@ moved all seen others v e = e ∙ sym (append_assoc seen (v ∷ []) others)
 
 -- a value without this head isn't headed so
 pub not-headed : (word : List ℕ) (v : Value) → IsNotHeaded v word → is_headed word v ≡ false
-not-headed word (sexpr.string hint octets) other = refl
-not-headed word (sexpr.list sexpr.none) other = refl
-not-headed word (sexpr.list (sexpr.more (sexpr.list vs) others)) other = refl
-not-headed word (sexpr.list (sexpr.more (sexpr.string (Some hint) head) others)) other = refl
 not-headed word (sexpr.list (sexpr.more (sexpr.string None head) others)) other = by (bytes_eq head word) refl
   where
     by : (b : Bool) → bytes_eq head word ≡ b → bytes_eq head word ≡ false
@@ -71,12 +67,10 @@ not-headed word (sexpr.list (sexpr.more (sexpr.string None head) others)) other 
         let same : head ≡ word = (bytes_eq-Decides head word).0 e in
         absurd (other (members others) (λ i. sexpr.list (sexpr.more (sexpr.string None (same i)) (sym (values-members others) i))))
     by false e = e
+not-headed word v other = refl
 
 -- a value with one head hasn't another
 pub other-head : (word other : List ℕ) (v : Value) → bytes_eq word other ≡ false → is_headed word v ≡ true → is_headed other v ≡ false
-other-head word other (sexpr.string hint octets) e f = refl
-other-head word other (sexpr.list sexpr.none) e f = refl
-other-head word other (sexpr.list (sexpr.more (sexpr.list vs) others)) e f = refl
-other-head word other (sexpr.list (sexpr.more (sexpr.string (Some hint) head) others)) e f = refl
 other-head word other (sexpr.list (sexpr.more (sexpr.string None head) others)) e f =
     ap (λ (w : List ℕ). bytes_eq w other) ((bytes_eq-Decides head word).0 f) ∙ e
+other-head word other v e f = refl

@@ -1,12 +1,13 @@
 -- A value has no fault as a signature, an operation or a certificate exactly where it is one.
-use Rattle.std.proofs.Common.{◌≡◌, ℕ, ◌⊎◌, inl, inr, List, [], ◌∷◌, ◌++◌, Bool, true, false, Option, Some, None, refl, sym, ap, ◌∙◌, rules}
+use Rattle.std.proofs.Common.{◌≡◌, ℕ, ◌⊎◌, inl, inr, List, [], ◌∷◌, Bool, true, false, Option, Some, None, refl, sym, ap, ◌∙◌, rules}
 use Rattle.std.specs.Prelude.{codes, ◌↔◌, not, is_some}
 use Rattle.std.proofs.lemmas.Slice.Eq.{bytes_eq-Decides}
+use Rattle.std.proofs.lemmas.Bool.{not-true}
 use Rattle.sexpr_core.specs.Value.{Value, plain, group, canon}
 use Rattle.sexpr_core.specs.Value as sexpr
 use Rattle.spki_tag.specs.Tag as tags
 use Rattle.spki_tag.specs.Read.{ReadsAs}
-use Rattle.spki_tag.specs.FirstFault.{first_fault, unless}
+use Rattle.spki_tag.specs.FirstFault.{unless}
 use Rattle.spki_cert.specs.declared.hash.HashAlg.{HashAlg}
 use Rattle.spki_cert.specs.declared.fault.CertFaultKind.TheVariants.{Shape, UnknownOp}
 use Rattle.spki_cert.specs.declared.principal.Principal.{Principal}
@@ -22,16 +23,16 @@ use Rattle.spki_cert.specs.Certificates.{IssuedBy, IssuedFor, AuthCertOf, NameCe
 use Rattle.spki_cert.specs.FixedFaults.{is_plain, alg_fault}
 use Rattle.spki_cert.specs.FieldFaults.{has, fields_fault, cert_field_fault, is_both_ways}
 use Rattle.spki_cert.specs.ItemFaults.{signature_fault, do_fault, cert_fault, is_hash_word, is_tagged_right}
-use Rattle.spki_cert.specs.Inner.Gathering.{PartsOf, parts_looked, parts_fault}
+use Rattle.spki_cert.specs.Inner.Gathering.{PartsOf, parts_fault}
 use Rattle.spki_cert.proofs.Looking.{unless-none, none-found}
 use Rattle.spki_cert.proofs.FieldLaws.{other-word, field-tag, cert-issuer, cert-subject}
 use Rattle.spki_cert.proofs.FieldFaultLaws.{is-headed, has-given}
-use Rattle.spki_cert.proofs.Triples.{triple-read, triple-whole}
-use Rattle.spki_cert.proofs.ItemFaultLaws.{signature-looks, do-form, do-whole}
-use Rattle.spki_cert.proofs.SequenceFaultLaws.{parts-tested, cert-form, cert-tagged, tagged-right, right}
+use Rattle.spki_cert.proofs.Triples.{triple-read, triple-form}
+use Rattle.spki_cert.proofs.ItemFaultLaws.{signature-looks, do-form}
+use Rattle.spki_cert.proofs.SequenceFaultLaws.{parts-tested, cert-looked, tagged-right, right}
 use Rattle.spki_cert.proofs.FaultNone.{hash-none, alg-none}
 use Rattle.spki_cert.proofs.SubjectFaultNone.{principal-none}
-use Rattle.spki_cert.proofs.FieldFaultNone.{again-false, given-read, cert_fields-none}
+use Rattle.spki_cert.proofs.FieldFaultNone.{given-read, cert_fields-none}
 use Rattle.spki_cert.proofs.EntryFaultNone.{untimed_words, TimedBy, window-read, window-one_way, some-given}
 
 -- ---- signatures
@@ -57,7 +58,8 @@ signature-read v e =
     )
 
 pub signature-faultless : (v : Value) (s : Signature) → SignatureOf v s → signature_fault v ≡ None
-signature-faultless v s read = search (rules, triple-whole, signature-looks, hash-none, principal-none)
+unfolding signature_fault
+signature-faultless v s read = let hash = (hash-none read.digest).1 (s.alg, s.digest, read.digest_is) in let who = (principal-none read.signer).1 (s.signer, read.signer_is) in search (rules, triple-form signature-looks)
 
 pub signature-none : (v : Value) → (signature_fault v ≡ None) ↔ SomeSignature v
 signature-none v = (signature-read v, λ some. signature-faultless v some.0 some.1)
@@ -69,8 +71,7 @@ SomeDo v = (alg : HashAlg) × DoHashOf v alg
 
 pub hash-word : (v : Value) → is_plain is_hash_word v ≡ true → v ≡ plain (codes "hash")
 hash-word (sexpr.string None octets) e = ap plain ((bytes_eq-Decides octets (codes "hash")).0 e)
-hash-word (sexpr.string (Some hint) octets) e = absurd (cc)
-hash-word (sexpr.list vs) e = absurd (cc)
+hash-word v e = absurd (cc)
 
 do-of : (v : Value) (rest : List Value) → v ≡ group (plain (codes "do") ∷ rest) → do_fault v ≡ None → SomeDo v
 do-of v [] e f = absurd (let g = sym (do-form v [] e) ∙ f in cc)
@@ -92,9 +93,8 @@ unfolding do_fault
 do-read v e = search (rules, none-found, is-headed, unless-none, do-of)
 
 pub do-faultless : (v : Value) (alg : HashAlg) → DoHashOf v alg → do_fault v ≡ None
-do-faultless v alg read =
-    do-whole v (plain (codes "hash")) (plain (alg_name alg)) (plain (codes "hash") ∷ plain (alg_name alg) ∷ []) (plain (alg_name alg) ∷ []) [] read refl refl refl
-    ((alg-none (plain (alg_name alg))).1 (alg, refl)) refl
+unfolding do_fault
+do-faultless v alg read = let known = (alg-none (plain (alg_name alg))).1 (alg, refl) in search (rules, do-form)
 
 pub do-none : (v : Value) → (do_fault v ≡ None) ↔ SomeDo v
 do-none v = (do-read v, λ some. do-faultless v some.0 some.1)
@@ -144,7 +144,7 @@ parts-read fields e =
     let issued = none-found (unless (has (codes "issuer") fields) Shape) _ one.1 in
     let meant = none-found (unless (has (codes "subject") fields) Shape) _ issued.1 in
     let read = (cert_fields-none fields).0 each.0 in
-    let window = window-read IsCertField cert-timed fields read (again-false (is_both_ways fields) (unless-none (not (is_both_ways fields)) Shape one.0)) in
+    let window = window-read IsCertField cert-timed fields read (not-true (is_both_ways fields) (unless-none (not (is_both_ways fields)) Shape one.0)) in
     let by = given-read (codes "issuer") IssuerIn IsCertField cert-issuer fields read in
     let who = some-given (codes "issuer") IssuerIn fields by.0 by.1 (unless-none (has (codes "issuer") fields) Shape issued.0) in
     let for_one = given-read (codes "subject") WhoIn IsCertField cert-subject fields read in
@@ -170,7 +170,7 @@ parts-read fields e =
 
 parts-faultless : (fields : List Value) (p : CertParts) → PartsOf fields p → parts_fault fields ≡ None
 parts-faultless fields p parts =
-    parts-tested fields false true true ((cert_fields-none fields).1 parts.are_fields) (window-one_way fields p.window parts.window_is)
+    parts-tested fields None false true true ((cert_fields-none fields).1 parts.are_fields) (window-one_way fields p.window parts.window_is)
     (has-given (codes "issuer") IssuerIn fields (Some (p.issuer.principal, p.issuer.name)) parts.issuer_is)
     (has-given (codes "subject") (Sole (IssuedTo p.issuer.principal)) fields (Some p.subject) parts.subject_is)
 
@@ -179,11 +179,6 @@ parts-faultless fields p parts =
 abbrev pub SomeCert : Value → Type 0
 SomeCert v = ((c : AuthCert) × AuthCertOf v c) ⊎ ((c : NameCert) × NameCertOf v c)
 
-none-append : {A : Type 0} (looks more : List (Option A)) → first_fault (looks ++ more) ≡ None → (first_fault looks ≡ None) × (first_fault more ≡ None)
-none-append [] more e = (refl, e)
-none-append (None ∷ looks) more e = none-append looks more e
-none-append (Some fault ∷ looks) more e = absurd (cc)
-
 cert-of : (v : Value) (fields : List Value) → v ≡ group (plain (codes "cert") ∷ fields) → (p : CertParts) (parts : PartsOf fields p) → is_tagged_right fields ≡ true → SomeCert v
 cert-of v fields e p parts is =
     by p.issuer.name p.tag p.propagate parts.issuer_is parts.tag_is parts.propagates_is
@@ -191,7 +186,6 @@ cert-of v fields e p parts is =
   where
     by : (name : Option (List ℕ)) (t : Option tags.Tag) (b : Bool) → IssuedBy fields p.issuer.principal name → Given (codes "tag") (Sole ReadsAs) fields t
         → b ≡ propagates fields → right (is_some name) (is_some t) b ≡ true → SomeCert v
-    by None None b issued given f g = absurd (cc)
     by None (Some t) b issued given f g =
         inl (
           record { issuer = p.issuer.principal; subject = p.subject; propagate = b; tag = t; window = p.window; octets = canon v },
@@ -207,8 +201,6 @@ cert-of v fields e p parts is =
             octets_are = refl;
           },
         )
-    by (Some name) (Some t) b issued given f g = absurd (cc)
-    by (Some name) None true issued given f g = absurd (cc)
     by (Some name) None false issued given f g =
         inr (
           record { issuer = p.issuer.principal; name = name; subject = p.subject; window = p.window; octets = canon v },
@@ -224,13 +216,14 @@ cert-of v fields e p parts is =
             octets_are = refl;
           },
         )
+    by name t b issued given f g = absurd (cc)
 
 pub cert-read : (v : Value) → cert_fault v ≡ None → SomeCert v
 unfolding cert_fault parts_fault
 cert-read v e =
     let looks = none-found (unless (is_headed (codes "cert") v) Shape) _ e in
     let form = is-headed (codes "cert") v (unless-none (is_headed (codes "cert") v) Shape looks.0) in
-    let found = none-append (parts_looked form.0) (unless (is_tagged_right form.0) Shape ∷ []) (sym (cert-form v form.0 form.1) ∙ e) in
+    let found = none-found (parts_fault form.0) _ (sym (cert-looked v form.0 _ _ form.1 refl refl) ∙ e) in
     let tagged = none-found (unless (is_tagged_right form.0) Shape) [] found.1 in
     let parts = parts-read form.0 found.0 in
     cert-of v form.0 form.1 parts.0 parts.1 (unless-none (is_tagged_right form.0) Shape tagged.0)
@@ -238,7 +231,7 @@ cert-read v e =
 cert-parts : (v : Value) (fields : List Value) (p : CertParts) → v ≡ group (plain (codes "cert") ∷ fields) → PartsOf fields p
     → right (is_some p.issuer.name) (is_some p.tag) p.propagate ≡ true → cert_fault v ≡ None
 cert-parts v fields p e parts is =
-    cert-tagged v fields true e (parts-faultless fields p parts) (tagged-right fields p (is_some p.issuer.name) (is_some p.tag) p.propagate parts refl refl refl ∙ is)
+    cert-looked v fields None true e (parts-faultless fields p parts) (tagged-right fields p (is_some p.issuer.name) (is_some p.tag) p.propagate parts refl refl refl ∙ is)
 
 pub auth-faultless : (v : Value) (c : AuthCert) → AuthCertOf v c → cert_fault v ≡ None
 auth-faultless v c read =

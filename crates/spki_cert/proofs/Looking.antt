@@ -23,8 +23,7 @@ of-no_form word v fault looked other = ap (λ (b : Bool). first_fault (unless b 
 
 pub no-plain : (passes : List ℕ → Bool) (v : Value) → IsNoString v → is_plain passes v ≡ false
 no-plain passes (sexpr.string None octets) other = absurd (other octets refl)
-no-plain passes (sexpr.string (Some hint) octets) other = refl
-no-plain passes (sexpr.list vs) other = refl
+no-plain passes v other = refl
 
 -- ---- lists of what is looked at
 
@@ -32,17 +31,10 @@ pub one-look : {A : Type 0} (found : Option A) → first_fault (found ∷ []) �
 one-look None = refl
 one-look (Some fault) = refl
 
--- a fault that is found stays the first, whatever is looked at behind it
-pub found-first : {A : Type 0} (looks more : List (Option A)) (fault : A) → first_fault looks ≡ Some fault → first_fault (looks ++ more) ≡ Some fault
-found-first [] more fault e = absurd (cc)
-found-first (None ∷ looks) more fault e = found-first looks more fault e
-found-first (Some other ∷ looks) more fault e = e
-
--- where none is found, what is looked at behind it decides
-pub found-none : {A : Type 0} (looks more : List (Option A)) → first_fault looks ≡ None → first_fault (looks ++ more) ≡ first_fault more
-found-none [] more e = refl
-found-none (None ∷ looks) more e = found-none looks more e
-found-none (Some other ∷ looks) more e = absurd (cc)
+-- the first fault of looks, then that of what is looked at behind them
+pub first-of : {A : Type 0} (looks more : List (Option A)) → first_fault (looks ++ more) ≡ first_fault (first_fault looks ∷ more)
+first-of (None ∷ looks) more = first-of looks more
+first-of looks more = refl
 
 -- where nothing is found in all, nothing is found in the first, and nothing behind it
 pub none-found : {A : Type 0} (look : Option A) (looks : List (Option A)) → first_fault (look ∷ looks) ≡ None → (look ≡ None) × (first_fault looks ≡ None)
@@ -55,9 +47,9 @@ unless-none false fault e = absurd (cc)
 
 -- ---- one value and nothing behind it
 
-pub end-some : {A : Type 0} (vs : List Value) (fault : A) → (vs ≡ [] → ⊥) → first_fault (unless_none vs fault ∷ []) ≡ Some fault
-end-some [] fault some = absurd (some refl)
-end-some (v ∷ vs) fault some = refl
+pub none-some : {A : Type 0} (vs : List Value) (fault : A) → (vs ≡ [] → ⊥) → unless_none vs fault ≡ Some fault
+none-some [] fault some = absurd (some refl)
+none-some (v ∷ vs) fault some = refl
 
 pub sole-found : {A : Type 0} (other : A) (fault_of : Value → Option A) (vs more : List Value) (v : Value) (found : Option A) → vs ≡ v ∷ more → fault_of v ≡ found
     → sole_fault other fault_of vs ≡ first_fault (found ∷ unless_none more other ∷ [])
@@ -65,7 +57,7 @@ sole-found {A = A} other fault_of vs more v found e f = ap (sole_fault other fau
 
 pub sole-more : {A : Type 0} (other : A) (fault_of : Value → Option A) (vs more : List Value) (v : Value) → vs ≡ v ∷ more → fault_of v ≡ None → (more ≡ [] → ⊥)
     → sole_fault other fault_of vs ≡ Some other
-sole-more other fault_of vs more v e f some = sole-found other fault_of vs more v None e f ∙ end-some more other some
+sole-more {A = A} other fault_of vs more v e f some = sole-found other fault_of vs more v None e f ∙ ap (λ (x : Option A). first_fault (x ∷ [])) (none-some more other some)
 
 pub sole-one : {A : Type 0} (other : A) (fault_of : Value → Option A) (vs more : List Value) (v : Value) → vs ≡ v ∷ more → fault_of v ≡ None → more ≡ []
     → sole_fault other fault_of vs ≡ None

@@ -1,15 +1,12 @@
 -- A value has one reading.
-use Rattle.std.proofs.Common.{◌≡◌, ℕ, inl, inr, false, List, [], ◌∷◌, ◌++◌, Option, Some, None, refl, sym, ap, subst, ◌∙◌, rules}
+use Rattle.std.proofs.Common.{◌≡◌, ℕ, inl, inr, List, [], ◌∷◌, ◌++◌, Option, Some, None, refl, sym, ap, subst, ◌∙◌, rules}
 use Rattle.std.specs.Prelude.{codes}
-use Rattle.std.specs.Str.{bytes_eq}
 use Rattle.std.specs.List.{AllZip}
-use Rattle.std.specs.Cmp.Lexicographic.{other_text}
 use Rattle.sexpr_core.specs.Value.{Value, plain}
 use Rattle.spki_tag.specs.Tag as tags
 use Rattle.spki_tag.specs.Read.{ReadsAs}
 use Rattle.spki_tag.proofs.NormalOf.{reading-one}
 use Rattle.spki_cert.specs.declared.hash.HashAlg.{HashAlg}
-use Rattle.spki_cert.specs.declared.hash.HashAlg.TheVariants.{Sha1, Sha256, Sha512}
 use Rattle.spki_cert.specs.declared.principal.Principal.{Principal}
 use Rattle.spki_cert.specs.declared.principal.Principal.TheVariants.{Key, Hash}
 use Rattle.spki_cert.specs.declared.entry.Subject.{Subject}
@@ -28,6 +25,8 @@ use Rattle.spki_cert.specs.EntryFaults.{behind_version}
 use Rattle.spki_cert.specs.Certificates.{IssuedBy, IssuedFor, AuthCertOf, NameCertOf, SignatureOf, DoHashOf}
 use Rattle.spki_cert.specs.Sequences.{ItemOf, SeqOf}
 use Rattle.spki_cert.proofs.Groups.{same_others, same_second, same_rest, apart}
+use Rattle.spki_cert.specs.FixedFaults.{alg_named}
+use Rattle.spki_cert.proofs.FixedLaws.{named-alg}
 use Rattle.spki_cert.proofs.GivenLaws.{given-else}
 use Rattle.spki_cert.proofs.SubjectLaws.{name-is_no_principal}
 use Rattle.spki_cert.proofs.EntryLaws.{relative-is_no_subject, entries-behind}
@@ -41,19 +40,8 @@ key-one v k l read other = read.canonical ∙ sym other.canonical
 plain-one : (a b : List ℕ) → plain a ≡ plain b → a ≡ b
 plain-one a b e = cc
 
-word-apart : (a b : List ℕ) → false ≡ bytes_eq a b → a ≡ b → ⊥
-word-apart a b d e = other_text a b d e
-
 pub alg-one : (a b : HashAlg) → alg_name a ≡ alg_name b → a ≡ b
-alg-one Sha1 Sha1 e = refl
-alg-one Sha1 Sha256 e = absurd (word-apart (codes "sha1") (codes "sha256") refl e)
-alg-one Sha1 Sha512 e = absurd (word-apart (codes "sha1") (codes "sha512") refl e)
-alg-one Sha256 Sha1 e = absurd (word-apart (codes "sha256") (codes "sha1") refl e)
-alg-one Sha256 Sha256 e = refl
-alg-one Sha256 Sha512 e = absurd (word-apart (codes "sha256") (codes "sha512") refl e)
-alg-one Sha512 Sha1 e = absurd (word-apart (codes "sha512") (codes "sha1") refl e)
-alg-one Sha512 Sha256 e = absurd (word-apart (codes "sha512") (codes "sha256") refl e)
-alg-one Sha512 Sha512 e = refl
+alg-one a b e = let same : Some a ≡ Some b = sym (named-alg a) ∙ ap alg_named e ∙ named-alg b in cc
 
 pub hash-one : (v : Value) (a b : HashAlg) (d e : List ℕ) → HashOf v a d → HashOf v b e → (a ≡ b) × (d ≡ e)
 hash-one v a b d e read other = search (rules, same_second, same_rest, alg-one, plain-one)
@@ -71,9 +59,8 @@ principal-one v (Hash a d) (Hash b e) read other = (let same = hash-one v a b d 
 
 names-one : (ns ms : List (List ℕ)) → plains ns ≡ plains ms → ns ≡ ms
 names-one [] [] e = refl
-names-one [] (m ∷ ms) e = absurd (cc)
-names-one (n ∷ ns) [] e = absurd (cc)
 names-one (n ∷ ns) (m ∷ ms) e = search (rules, names-one ns ms (cc))
+names-one ns ms e = absurd (cc)
 
 -- the same principal and names
 abbrev Same : Principal → Principal → List (List ℕ) → List (List ℕ) → Type 0
@@ -152,12 +139,11 @@ entry-one v e f read other =
 items-one : {A : Type 0} (R : Value → A → Type 0) → ((v : Value) (a b : A) → R v a → R v b → a ≡ b)
     → (vs : List Value) (xs ys : List A) → AllZip R vs xs → AllZip R vs ys → xs ≡ ys
 items-one R one [] [] [] read other = refl
-items-one R one [] [] (b ∷ ys) read other = absurd other
 items-one R one [] (a ∷ xs) ys read other = absurd read
 items-one R one (v ∷ vs) [] ys read other = absurd read
-items-one R one (v ∷ vs) (a ∷ xs) [] read other = absurd other
 items-one R one (v ∷ vs) (a ∷ xs) (b ∷ ys) read other =
     λ i. one v a b read.0 other.0 i ∷ items-one R one vs xs ys read.1 other.1 i
+items-one R one vs xs ys read other = absurd other
 
 pub acl-one : (v : Value) (es fs : List Entry) → AclOf v es → AclOf v fs → es ≡ fs
 acl-one v es fs read other =
@@ -228,29 +214,21 @@ do-one v a b read other = search (rules, same_rest, alg-one)
 item-one : (v : Value) (i j : SeqItem) → ItemOf v i → ItemOf v j → i ≡ j
 item-one v (items.Key k) (items.Key l) read other = ap items.Key (key-one v k l read other)
 item-one v (items.Key k) (items.DoHash b) read other = absurd (apart (codes "do") v _ _ other read.written refl refl)
-item-one v (items.Key k) (items.Auth c) read other = absurd (apart (codes "cert") v _ _ other.written read.written refl refl)
-item-one v (items.Key k) (items.Name c) read other = absurd (apart (codes "cert") v _ _ other.written read.written refl refl)
 item-one v (items.Key k) (items.Signature t) read other = absurd (apart (codes "signature") v _ _ other.written read.written refl refl)
 item-one v (items.DoHash a) (items.Key l) read other = absurd (apart (codes "do") v _ _ read other.written refl refl)
 item-one v (items.DoHash a) (items.DoHash b) read other = ap items.DoHash (do-one v a b read other)
-item-one v (items.DoHash a) (items.Auth c) read other = absurd (apart (codes "cert") v _ _ other.written read refl refl)
-item-one v (items.DoHash a) (items.Name c) read other = absurd (apart (codes "cert") v _ _ other.written read refl refl)
 item-one v (items.DoHash a) (items.Signature t) read other = absurd (apart (codes "signature") v _ _ other.written read refl refl)
-item-one v (items.Auth b) (items.Key l) read other = absurd (apart (codes "cert") v _ _ read.written other.written refl refl)
-item-one v (items.Auth b) (items.DoHash a) read other = absurd (apart (codes "cert") v _ _ read.written other refl refl)
 item-one v (items.Auth b) (items.Auth c) read other = ap items.Auth (auth-one v b c read other)
 item-one v (items.Auth b) (items.Name c) read other = absurd (no-auth_and_name v b c read other)
-item-one v (items.Auth b) (items.Signature t) read other = absurd (apart (codes "cert") v _ _ read.written other.written refl refl)
-item-one v (items.Name b) (items.Key l) read other = absurd (apart (codes "cert") v _ _ read.written other.written refl refl)
-item-one v (items.Name b) (items.DoHash a) read other = absurd (apart (codes "cert") v _ _ read.written other refl refl)
 item-one v (items.Name b) (items.Auth c) read other = absurd (no-auth_and_name v c b other read)
 item-one v (items.Name b) (items.Name c) read other = ap items.Name (name_cert-one v b c read other)
-item-one v (items.Name b) (items.Signature t) read other = absurd (apart (codes "cert") v _ _ read.written other.written refl refl)
-item-one v (items.Signature s) (items.Key l) read other = absurd (apart (codes "signature") v _ _ read.written other.written refl refl)
 item-one v (items.Signature s) (items.DoHash a) read other = absurd (apart (codes "signature") v _ _ read.written other refl refl)
-item-one v (items.Signature s) (items.Auth c) read other = absurd (apart (codes "signature") v _ _ read.written other.written refl refl)
-item-one v (items.Signature s) (items.Name c) read other = absurd (apart (codes "signature") v _ _ read.written other.written refl refl)
 item-one v (items.Signature s) (items.Signature t) read other = ap items.Signature (signature-one v s t read other)
+item-one v (items.Key k) j read other = absurd (apart (codes "cert") v _ _ other.written read.written refl refl)
+item-one v (items.DoHash a) j read other = absurd (apart (codes "cert") v _ _ other.written read refl refl)
+item-one v i (items.DoHash a) read other = absurd (apart (codes "cert") v _ _ read.written other refl refl)
+item-one v (items.Signature s) j read other = absurd (apart (codes "signature") v _ _ read.written other.written refl refl)
+item-one v i j read other = absurd (apart (codes "cert") v _ _ read.written other.written refl refl)
 
 pub sequence-one : (v : Value) (is js : List SeqItem) → SeqOf v is → SeqOf v js → is ≡ js
 sequence-one v is js read other =

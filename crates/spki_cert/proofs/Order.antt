@@ -3,27 +3,26 @@ use Rattle.std.proofs.Common.{◌≡◌, ℕ, Bool, true, false, cond, ◌&&◌,
 use Rattle.std.specs.Prelude.{codes}
 use Rattle.std.specs.Cmp.Lexicographic.{slice_cmp}
 use Rattle.std.specs.declared.cmp.Ordering.{Ordering}
-use Rattle.std.specs.declared.cmp.Ordering.TheVariants.{Less, Equal, Greater}
+use Rattle.std.specs.declared.cmp.Ordering.TheVariants.{Greater}
 use Rattle.std.specs.Ordering.{nat_cmp, is_le, is_gt, ordering_reverse}
 use Rattle.std.proofs.lemmas.Cmp.{nat_list_cmp_total, upto as goes_on, tied_itself}
+use Rattle.std.proofs.Math.Bool.{and-true, and_comm}
+use Rattle.std.proofs.lemmas.Bool.{and_parts}
 use Rattle.spki_cert.specs.declared.window.Window.{Window}
 use Rattle.spki_tag.specs.Time.{is_time, is_date}
 use Rattle.spki_cert.specs.Time.{upto, is_from, is_until, within, later, earlier, in_order, IsLimit, IsMeet, Overlap, AreApart}
 
 le_or_gt : (o : Ordering) → is_le o ≡ true → is_gt o ≡ false
-le_or_gt Less e = refl
-le_or_gt Equal e = refl
 le_or_gt Greater e = absurd cc
+le_or_gt o e = refl
 
 gt_or_le : (o : Ordering) → is_gt o ≡ false → is_le o ≡ true
-gt_or_le Less e = refl
-gt_or_le Equal e = refl
 gt_or_le Greater e = absurd cc
+gt_or_le o e = refl
 
 turned : (o : Ordering) → is_le o ≡ false → is_le (ordering_reverse o) ≡ true
-turned Less e = absurd cc
-turned Equal e = absurd cc
 turned Greater e = refl
+turned o e = absurd cc
 
 pub upto-self : (s : List ℕ) → upto s s ≡ true
 upto-self s = ap is_le (tied_itself nat_list_cmp_total s)
@@ -39,49 +38,31 @@ upto-turned s t h = ap is_le (nat_list_cmp_total.antisymm t s) ∙ turned (slice
 
 -- a test that holds wherever another does is all that a conjunction adds
 narrower : (p q : Bool) → (q ≡ true → p ≡ true) → q ≡ (p && q)
-narrower true q h = refl
 narrower false true h = absurd (let e : false ≡ true = h refl in cc)
-narrower false false h = refl
-
-swapped : (p q : Bool) → (p && q) ≡ (q && p)
-swapped true true = refl
-swapped true false = refl
-swapped false true = refl
-swapped false false = refl
+narrower p q h = refl
 
 regrouped : (p q r s : Bool) → ((p && q) && (r && s)) ≡ ((p && r) && (q && s))
-regrouped true true r s = refl
 regrouped true false true s = refl
-regrouped true false false s = refl
-regrouped false q true s = refl
-regrouped false q false s = refl
-
-and_true : (p q : Bool) → (p && q) ≡ true → (p ≡ true) × (q ≡ true)
-and_true true q e = (refl, e)
-and_true false q e = absurd cc
+regrouped p q r s = refl
 
 -- ---- limits
 
 from-chosen : (s r t : List ℕ) (b : Bool) → upto s r ≡ b → upto (cond b r s) t ≡ (upto s t && upto r t)
 from-chosen s r t true e = narrower (upto s t) (upto r t) (λ h. upto-then s r t e h)
-from-chosen s r t false e = narrower (upto r t) (upto s t) (λ h. upto-then r s t (upto-turned s r e) h) ∙ swapped (upto r t) (upto s t)
-
-and-true-right : (p : Bool) → p ≡ (p && true)
-and-true-right true = refl
-and-true-right false = refl
+from-chosen s r t false e = narrower (upto r t) (upto s t) (λ h. upto-then r s t (upto-turned s r e) h) ∙ and_comm (upto r t) (upto s t)
 
 is_from-later : (p q : Option (List ℕ)) (t : List ℕ) → is_from (later p q) t ≡ (is_from p t && is_from q t)
 is_from-later None q t = refl
-is_from-later (Some s) None t = and-true-right (upto s t)
+is_from-later (Some s) None t = sym (and-true (upto s t))
 is_from-later (Some s) (Some r) t = from-chosen s r t (upto s r) refl
 
 until-chosen : (s r t : List ℕ) (b : Bool) → upto s r ≡ b → upto t (cond b s r) ≡ (upto t s && upto t r)
-until-chosen s r t true e = narrower (upto t r) (upto t s) (λ h. upto-then t s r h e) ∙ swapped (upto t r) (upto t s)
+until-chosen s r t true e = narrower (upto t r) (upto t s) (λ h. upto-then t s r h e) ∙ and_comm (upto t r) (upto t s)
 until-chosen s r t false e = narrower (upto t s) (upto t r) (λ h. upto-then t r s h (upto-turned s r e))
 
 is_until-earlier : (p q : Option (List ℕ)) (t : List ℕ) → is_until (earlier p q) t ≡ (is_until p t && is_until q t)
 is_until-earlier None q t = refl
-is_until-earlier (Some s) None t = and-true-right (upto t s)
+is_until-earlier (Some s) None t = sym (and-true (upto t s))
 is_until-earlier (Some s) (Some r) t = until-chosen s r t (upto s r) refl
 
 -- ---- windows
@@ -95,9 +76,8 @@ within-inner v w t = search (rules, is_from-later, is_until-earlier, regrouped)
 
 -- a first and a last moment round a third are in order
 in_order-around : (p q : Option (List ℕ)) (t : List ℕ) → is_from p t ≡ true → is_until q t ≡ true → in_order p q ≡ true
-in_order-around None q t h k = refl
-in_order-around (Some s) None t h k = refl
 in_order-around (Some s) (Some r) t h k = upto-then s t r h k
+in_order-around p q t h k = refl
 
 -- between limits in order there is a moment
 moment-between : (p q : Option (List ℕ)) → IsLimit p → IsLimit q → in_order p q ≡ true → (t : List ℕ) × (is_date t ≡ true) × (is_from p t ≡ true) × (is_until q t ≡ true)
@@ -113,7 +93,7 @@ none-apart v w h t a = by (within t w) refl
     by : (b : Bool) → within t w ≡ b → b ≡ false
     by true e =
         let m : within t (inner v w) ≡ true = within-inner v w t ∙ (λ i. a i && e i) in
-        let p = and_true (is_from (inner v w).not_before t) (is_until (inner v w).not_after t) m in
+        let p = and_parts (is_from (inner v w).not_before t) (is_until (inner v w).not_after t) m in
         let o = in_order-around (inner v w).not_before (inner v w).not_after t p.0 p.1 in
         absurd (let x : true ≡ false = sym o ∙ h in cc)
     by false e = refl
@@ -122,5 +102,5 @@ pub some-overlaps : (v w : Window) → IsLimit (inner v w).not_before → IsLimi
 some-overlaps v w d e h =
     let m = moment-between (inner v w).not_before (inner v w).not_after d e h in
     let k : within m.0 (inner v w) ≡ true = λ i. m.2 i && m.3 i in
-    let p = and_true (within m.0 v) (within m.0 w) (sym (within-inner v w m.0) ∙ k) in
+    let p = and_parts (within m.0 v) (within m.0 w) (sym (within-inner v w m.0) ∙ k) in
     (m.0, m.1, p.0, p.1)

@@ -19,9 +19,9 @@ use Rattle.spki_cert.specs.ItemFaults.{signature_fault, do_fault, has_name_issue
 use Rattle.spki_cert.specs.SequenceFaults.{unsigned_fault, place_fault, waiting, items_looked, items_fault, sequence_fault}
 use Rattle.spki_cert.specs.Inner.Gathering.{PartsOf, parts_looked, parts_fault}
 use Rattle.spki_cert.proofs.Groups.{headed-by, not-headed}
-use Rattle.spki_cert.proofs.Looking.{of-form, of-no_form, found-first, found-none, one-look}
+use Rattle.spki_cert.proofs.Looking.{of-form, of-no_form, first-of, one-look}
 use Rattle.spki_cert.proofs.SubjectFaultLaws.{headed-else, principal-else}
-use Rattle.spki_cert.proofs.KnownLaws.{or-false}
+use Rattle.std.proofs.Math.Bool.{or-false}
 use Rattle.spki_cert.proofs.FieldFaultLaws.{has-given}
 
 -- ---- the fields of certificates
@@ -29,14 +29,10 @@ use Rattle.spki_cert.proofs.FieldFaultLaws.{has-given}
 abbrev parts_found : Option CertFaultKind → Bool → Bool → Bool → Option CertFaultKind
 parts_found fields both issuer subject = first_fault (fields ∷ unless (not both) Shape ∷ unless issuer Shape ∷ unless subject Shape ∷ [])
 
-pub parts-fields : (fields : List Value) (kind : CertFaultKind) → fields_fault cert_field_fault fields ≡ Some kind → parts_fault fields ≡ Some kind
+pub parts-tested : (fields : List Value) (found : Option CertFaultKind) (both issuer subject : Bool) → fields_fault cert_field_fault fields ≡ found → is_both_ways fields ≡ both
+    → has (codes "issuer") fields ≡ issuer → has (codes "subject") fields ≡ subject → parts_fault fields ≡ parts_found found both issuer subject
 unfolding parts_fault
-parts-fields fields kind e = ap (λ (x : Option CertFaultKind). parts_found x (is_both_ways fields) (has (codes "issuer") fields) (has (codes "subject") fields)) e
-
-pub parts-tested : (fields : List Value) (both issuer subject : Bool) → fields_fault cert_field_fault fields ≡ None → is_both_ways fields ≡ both
-    → has (codes "issuer") fields ≡ issuer → has (codes "subject") fields ≡ subject → parts_fault fields ≡ parts_found None both issuer subject
-unfolding parts_fault
-parts-tested fields both issuer subject e f g h = λ i. parts_found (e i) (f i) (g i) (h i)
+parts-tested fields found both issuer subject e f g h = λ i. parts_found (e i) (f i) (g i) (h i)
 
 -- ---- certificates
 
@@ -54,16 +50,12 @@ pub cert-form : (v : Value) (rest : List Value) → IsCert v rest → cert_fault
 unfolding cert_fault
 cert-form v rest e = of-form cert_looked (codes "cert") v rest e
 
-pub cert-parts : (v : Value) (rest : List Value) (kind : CertFaultKind) → IsCert v rest → parts_fault rest ≡ Some kind → cert_fault v ≡ Some kind
+-- what is found in the fields, and then whether tag and propagate are right
+pub cert-looked : (v : Value) (rest : List Value) (found : Option CertFaultKind) (b : Bool) → IsCert v rest → parts_fault rest ≡ found → is_tagged_right rest ≡ b
+    → cert_fault v ≡ first_fault (found ∷ unless b Shape ∷ [])
 unfolding parts_fault
-cert-parts v rest kind e f = cert-form v rest e ∙ found-first (parts_looked rest) (unless (is_tagged_right rest) Shape ∷ []) kind f
-
-pub cert-tagged : (v : Value) (rest : List Value) (b : Bool) → IsCert v rest → parts_fault rest ≡ None → is_tagged_right rest ≡ b
-    → cert_fault v ≡ first_fault (unless b Shape ∷ [])
-unfolding parts_fault
-cert-tagged v rest b e f g =
-    cert-form v rest e ∙ found-none (parts_looked rest) (unless (is_tagged_right rest) Shape ∷ []) f
-    ∙ ap (λ (x : Bool). first_fault (unless x Shape ∷ [])) g
+cert-looked v rest found b e f g =
+    cert-form v rest e ∙ first-of (parts_looked rest) (unless (is_tagged_right rest) Shape ∷ []) ∙ (λ i. first_fault (f i ∷ unless (g i) Shape ∷ []))
 
 issuer-named : (v : Value) (p : Principal) (name : Option (List ℕ)) → IssuerOf v p name → is_headed (codes "name") v ≡ is_some name
 issuer-named v p None read = principal-else (codes "name") v p read refl refl

@@ -95,9 +95,8 @@ waits-same : (v : Value) (waits : Option ℕ) (n : ℕ) → is_some (waiting v w
 waits-same v waits n = by (is_headed (codes "cert") v) (is_headed (codes "signature") v)
   where
     by : (a b : Bool) → is_some (if a then Some n else (if b then None else waits)) ≡ (if a then true else (if b then false else is_some waits))
-    by true b = refl
     by false true = refl
-    by false false = refl
+    by a b = refl
 
 abbrev SomeItems : Bool → List Value → Type 0
 SomeItems waits vs = (is : List SeqItem) × AllZip ItemOf vs is × AreInPlace waits vs × (waits_after waits vs ≡ false)

@@ -12,14 +12,14 @@ use Rattle.spki_cert.specs.declared.principal.Principal.TheVariants.{Key, Hash}
 use Rattle.spki_cert.specs.declared.entry.Subject.{Subject}
 use Rattle.spki_cert.specs.Subjects.{PrincipalOf, WhoOf, SubjectOf, IssuerOf, plains}
 use Rattle.spki_cert.specs.Fields.{is_headed, behind_head}
-use Rattle.spki_cert.specs.FixedFaults.{key_fault, hash_fault}
+use Rattle.spki_cert.specs.FixedFaults.{any_octets, key_fault, hash_fault}
 use Rattle.spki_cert.specs.SubjectFaults.{principal_fault, is_name, are_names, names_fault, subject_fault, is_relative, entry_subject_fault, issuer_name_fault, issuer_fault}
 use Rattle.spki_cert.specs.Inner.Gathering.{NamesWho}
 use Rattle.spki_cert.proofs.Groups.{behind-group}
-use Rattle.spki_cert.proofs.Looking.{unless-none, none-found}
+use Rattle.spki_cert.proofs.Looking.{unless-none, none-found, no-plain}
 use Rattle.spki_cert.proofs.FieldFaultLaws.{is-headed}
 use Rattle.spki_cert.proofs.SubjectLaws.{string-is_no_principal, name-who, name-names_who}
-use Rattle.spki_cert.proofs.SubjectFaultLaws.{principal-else, plains-all, all-plains, names-none, names-relative, names-behind, subject-names, issuer-whole}
+use Rattle.spki_cert.proofs.SubjectFaultLaws.{principal-else, plains-all, all-plains, subject-names, issuer-form}
 use Rattle.spki_cert.proofs.EntryFaultLaws.{subject-relative, subject-absolute}
 use Rattle.spki_cert.proofs.FaultNone.{key-none, hash-none}
 
@@ -63,13 +63,12 @@ abbrev SomePlains : List Value → Type 0
 SomePlains vs = (first : List ℕ) × (others : List (List ℕ)) × (vs ≡ plains (first ∷ others))
 
 plains-read : (vs : List Value) → are_names vs ≡ true → SomePlains vs
-plains-read [] e = absurd (cc)
 plains-read (sexpr.string None octets ∷ vs) e = let more = all-plains vs e in (octets, more.0, ap (λ (ws : List Value). plain octets ∷ ws) more.1)
-plains-read (sexpr.string (Some hint) octets ∷ vs) e = absurd (cc)
-plains-read (sexpr.list us ∷ vs) e = absurd (cc)
+plains-read vs e = absurd (cc)
 
 names-read : (vs : List Value) → names_fault vs ≡ None → SomeNames vs
-names-read [] e = absurd (let f = sym (names-none [] refl) ∙ e in cc)
+unfolding names_fault
+names-read [] e = absurd (cc)
 names-read (v ∷ vs) e = by (is_name v) refl
   where
     by : (b : Bool) → is_name v ≡ b → SomeNames (v ∷ vs)
@@ -85,11 +84,10 @@ names-read (v ∷ vs) e = by (is_name v) refl
         (Some who.0, names.0 ∷ names.1, (v, names.0, names.1, who.1, refl, ap (λ (ws : List Value). v ∷ ws) names.2))
 
 names-faultless : (vs : List Value) (p : Option Principal) (names : List (List ℕ)) → NamesWho vs p names → names_fault vs ≡ None
-names-faultless vs None names read =
-    names-relative vs (plains read.1) (plain read.0) read.0 true (read.3 ∙ ap plains read.2) refl (plains-all read.1)
+unfolding names_fault
+names-faultless vs None names read = let all = plains-all read.1 in search rules
 names-faultless vs (Some p) names read =
-    names-behind vs (plains (read.1 ∷ read.2)) read.0 true (read.5 ∙ ap (λ (ns : List (List ℕ)). read.0 ∷ plains ns) read.4) (principal-no_string read.0 p read.3)
-    (principal-faultless read.0 p read.3) (λ e. absurd (cc)) (plains-all read.2)
+    let all = plains-all read.2 in let fine = principal-faultless read.0 p read.3 in let no_name = no-plain any_octets read.0 (principal-no_string read.0 p read.3) in search rules
 
 -- ---- subjects
 
@@ -167,8 +165,7 @@ issuer-by v b e = ap (λ (x : Bool). if x then issuer_name_fault (behind_head v)
 
 name-read : (v : Value) → is_name v ≡ true → (octets : List ℕ) × (v ≡ plain octets)
 name-read (sexpr.string None octets) e = (octets, refl)
-name-read (sexpr.string (Some hint) octets) e = absurd (cc)
-name-read (sexpr.list vs) e = absurd (cc)
+name-read v e = absurd (cc)
 
 issuer-named : (v : Value) (rest : List Value) → v ≡ group (plain (codes "name") ∷ rest) → issuer_name_fault rest ≡ None → SomeIssuer v
 issuer-named v [] e f = absurd (cc)
@@ -201,9 +198,9 @@ issuer-read v e = by (is_headed (codes "name") v) refl
     by false h = let read = principal-read v (sym (issuer-by v false h) ∙ e) in (read.0, None, read.1)
 
 pub issuer-faultless : (v : Value) (p : Principal) (name : Option (List ℕ)) → IssuerOf v p name → issuer_fault v ≡ None
+unfolding issuer_fault
 issuer-faultless v p None read = issuer-by v false (principal-else (codes "name") v p read refl refl) ∙ principal-faultless v p read
-issuer-faultless v p (Some name) read =
-    issuer-whole v read.owner (plain name) (read.owner ∷ plain name ∷ []) (plain name ∷ []) [] name read.written refl (principal-faultless read.owner p read.owner_is) refl refl refl
+issuer-faultless v p (Some name) read = let fine = principal-faultless read.owner p read.owner_is in search (rules, issuer-form)
 
 pub issuer-none : (v : Value) → (issuer_fault v ≡ None) ↔ SomeIssuer v
 issuer-none v = (issuer-read v, λ some. issuer-faultless v some.0 some.1 some.2)

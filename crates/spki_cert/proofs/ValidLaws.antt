@@ -1,13 +1,14 @@
 -- Limits and versions that were read, and those that are none.
-use Rattle.std.proofs.Common.{◌≡◌, ℕ, inl, inr, true, false, List, [], ◌∷◌, ◌++◌, Some, None, refl, sym, ap, subst, ◌∙◌, arith}
+use Rattle.std.proofs.Common.{◌≡◌, ℕ, inl, inr, List, [], ◌∷◌, ◌++◌, Some, None, refl, sym, ap, subst, ◌∙◌, arith, rules}
 use Rattle.std.specs.Prelude.{codes}
 use Rattle.sexpr_core.specs.Value.{Value, plain, group}
 use Rattle.spki_cert.specs.declared.window.Window.{Window}
 use Rattle.spki_cert.specs.Readings.{DateOf}
-use Rattle.spki_cert.specs.Fields.{is_headed, contents, Sole, IsLimitField, ValidOf}
+use Rattle.spki_cert.specs.Fields.{contents, Sole, IsLimitField, ValidOf}
 use Rattle.spki_cert.specs.Inner.Gathering.{Headed, AddsLimit, first, last}
-use Rattle.spki_cert.proofs.Groups.{same_others, apart, head-same, headed-by, behind-group}
-use Rattle.spki_cert.proofs.GivenLaws.{each-push, once-push, given-kept, given-first, given-none}
+use Rattle.spki_cert.proofs.Groups.{same_others, apart, headed-by, behind-group}
+use Rattle.spki_cert.proofs.SubjectFaultLaws.{headed-else}
+use Rattle.spki_cert.proofs.GivenLaws.{each-push, once-new, given-kept, given-first, given-none}
 
 -- ---- one limit
 
@@ -32,32 +33,16 @@ valid-none = record { each = tt; once = (λ word. omega arith); limits_are = (re
 valid-first : (xs : List Value) (v : Value) (w : Window) (date : List ℕ) → ValidOf xs w → Headed (codes "not-before") (Sole DateOf) v date → w.not_before ≡ None
     → ValidOf (xs ++ v ∷ []) (record { not_before = Some date; not_after = w.not_after })
 valid-first xs v w date read says none =
-    let here : is_headed (codes "not-before") v ≡ true = headed-by v (codes "not-before") says.0 says.1 in
-    let other : is_headed (codes "not-after") v ≡ false = ap (is_headed (codes "not-after")) says.1 in
+    let this : IsLimitField v = (codes "not-before", says.0, date, inl refl, says.1, says.2) in
     let fresh : contents (codes "not-before") xs ≡ [] = given-none (codes "not-before") (Sole DateOf) xs w.not_before read.limits_are.0 none in
-    record {
-      each = each-push IsLimitField xs v read.each (codes "not-before", says.0, date, inl refl, says.1, says.2);
-      once = once-push xs v read.once (λ word e. subst (λ (u : List ℕ). contents u xs ≡ []) (head-same v (codes "not-before") word says.0 says.1 e) fresh);
-      limits_are = (
-        given-first (codes "not-before") (Sole DateOf) xs v says.0 date here (behind-group v (plain (codes "not-before")) says.0 says.1) says.2 fresh,
-        given-kept (codes "not-after") (Sole DateOf) xs v w.not_after other read.limits_are.1,
-      );
-    }
+    search (rules, each-push, once-new, headed-by, headed-else, behind-group, given-first, given-kept)
 
 valid-last : (xs : List Value) (v : Value) (w : Window) (date : List ℕ) → ValidOf xs w → Headed (codes "not-after") (Sole DateOf) v date → w.not_after ≡ None
     → ValidOf (xs ++ v ∷ []) (record { not_before = w.not_before; not_after = Some date })
 valid-last xs v w date read says none =
-    let here : is_headed (codes "not-after") v ≡ true = headed-by v (codes "not-after") says.0 says.1 in
-    let other : is_headed (codes "not-before") v ≡ false = ap (is_headed (codes "not-before")) says.1 in
+    let this : IsLimitField v = (codes "not-after", says.0, date, inr refl, says.1, says.2) in
     let fresh : contents (codes "not-after") xs ≡ [] = given-none (codes "not-after") (Sole DateOf) xs w.not_after read.limits_are.1 none in
-    record {
-      each = each-push IsLimitField xs v read.each (codes "not-after", says.0, date, inr refl, says.1, says.2);
-      once = once-push xs v read.once (λ word e. subst (λ (u : List ℕ). contents u xs ≡ []) (head-same v (codes "not-after") word says.0 says.1 e) fresh);
-      limits_are = (
-        given-kept (codes "not-before") (Sole DateOf) xs v w.not_before other read.limits_are.0,
-        given-first (codes "not-after") (Sole DateOf) xs v says.0 date here (behind-group v (plain (codes "not-after")) says.0 says.1) says.2 fresh,
-      );
-    }
+    search (rules, each-push, once-new, headed-by, headed-else, behind-group, given-first, given-kept)
 
 pub valid-more : (xs : List Value) (v : Value) (w after : Window) → ValidOf xs w → AddsLimit v w after → ValidOf (xs ++ v ∷ []) after
 valid-more xs v w after read (first date says none is) = subst (ValidOf (xs ++ v ∷ [])) (sym is) (valid-first xs v w date read says none)

@@ -1,6 +1,4 @@
-use Rattle.std.proofs.Common.{◌≡◌, ◌≢◌, ◌∷◌, List, ap, ◌∙◌, Some, Option, true, false}
-use Rattle.std.specs.Prelude.{codes}
-use Rattle.sexpr_core.specs.Value.{Value, plain, group}
+use Rattle.std.proofs.Common.{◌≡◌, ◌≢◌, ap, ◌∙◌, Some, Option, refl, rules}
 use Rattle.spki_cert.specs.declared.fault.CertFaultKind.{CertFaultKind}
 use Rattle.spki_cert.specs.declared.fault.CertFaultKind.TheVariants.{Memory}
 use Rattle.spki_cert.proofs.Looking.{carried}
@@ -10,43 +8,43 @@ use Rattle.std.specs.Prelude.{is_some}
 use Rattle.spki_tag.specs.Tag as tags
 use Rattle.spki_cert.specs.EntryFaults.{entry_fault}
 use Rattle.spki_cert.proofs.FieldFaultLaws.{both-ways, one-way, has-tag}
-use Rattle.spki_cert.proofs.EntryFaultLaws.{entry-unheaded, entry-empty, entry-subject_found, entry-fields_found, entry-both_ways, entry-tagged}
+use Rattle.spki_cert.proofs.EntryFaultLaws.{entry-unheaded, entry-form, entry-looked}
 use Rattle.spki_cert.proofs.acl.entry_of.Goals as goal
-
--- the entry's parts
-written : (v : Value) (all : List Value) (subject : Value) (rest : List Value) → v ≡ group (plain (codes "entry") ∷ all) → all ≡ subject ∷ rest → v ≡ group (plain (codes "entry") ∷ subject ∷ rest)
-written v all subject rest e f = e ∙ ap (λ (vs : List Value). group (plain (codes "entry") ∷ vs)) f
 
 pub returns-in_default-clause-named : goal.returns-in_default-clause-named
 returns-in_default-clause-named c = λ _. entry-unheaded c.args.node.now c.in_default.ensures
 
 pub returns-in_default-split_first-clause-named : goal.returns-in_default-split_first-clause-named
-returns-in_default-split_first-clause-named c = λ _. entry-empty c.args.node.now _ c.in-Some.ensures c.in_default-split_first.ensures
+unfolding entry_fault
+returns-in_default-split_first-clause-named c = λ _. search (rules, entry-form)
 
 pub returns-in_err-subject-clause-named : goal.returns-in_err-subject-clause-named
 returns-in_err-subject-clause-named c =
     carried c.from_residual.result _ (λ (kind : CertFaultKind). kind ≢ Memory → entry_fault c.args.node.now ≡ Some kind) c.from_residual.ensures.1
-    (λ known. entry-subject_found c.args.node.now _ _ c.in-Some-split_first.rest _ c.in-Some.ensures c.in-Some-split_first.ensures (c.in_err-subject.ensures.named known))
+    (λ known. entry-looked c.args.node.now _ _ c.in-Some-split_first.rest _ _ _ _ c.in-Some.ensures c.in-Some-split_first.ensures (c.in_err-subject.ensures.named known) refl refl refl)
 
 pub returns-in_err-propagate-clause-named : goal.returns-in_err-propagate-clause-named
 returns-in_err-propagate-clause-named c =
     carried c.from_residual-in_err-propagate.result _ (λ (kind : CertFaultKind). kind ≢ Memory → entry_fault c.args.node.now ≡ Some kind) c.from_residual-in_err-propagate.ensures.1
-    (λ known. entry-fields_found c.args.node.now _ _ c.in-Some-split_first.rest _ c.in-Some.ensures c.in-Some-split_first.ensures c.in_ok-subject.ensures.faultless (c.in_err-propagate.ensures.named known))
+    (λ known. entry-looked c.args.node.now _ _ c.in-Some-split_first.rest _ _ _ _ c.in-Some.ensures c.in-Some-split_first.ensures c.in_ok-subject.ensures.faultless (c.in_err-propagate.ensures.named known) refl refl)
 
 pub returns-in_default-one_way-clause-named : goal.returns-in_default-one_way-clause-named
 returns-in_default-one_way-clause-named c = λ _.
-    entry-both_ways c.args.node.now _ _ c.in-Some-split_first.rest c.in-Some.ensures c.in-Some-split_first.ensures c.in_ok-subject.ensures.faultless c.in_ok-propagate.ensures.faultless
-    (both-ways c.in-Some-split_first.rest c.in_ok-propagate.field-0.known c.in_ok-propagate.ensures.found.1 c.in_default-one_way.ensures)
+    entry-looked c.args.node.now _ _ c.in-Some-split_first.rest _ _ _ _ c.in-Some.ensures c.in-Some-split_first.ensures
+    c.in_ok-subject.ensures.faultless c.in_ok-propagate.ensures.faultless
+    (both-ways c.in-Some-split_first.rest c.in_ok-propagate.field-0.known c.in_ok-propagate.ensures.found.1 c.in_default-one_way.ensures) refl
 
 pub returns-in_default-tag-clause-named : goal.returns-in_default-tag-clause-named
 returns-in_default-tag-clause-named c = λ _.
-    entry-tagged c.args.node.now _ _ c.in-Some-split_first.rest false c.in-Some.ensures c.in-Some-split_first.ensures c.in_ok-subject.ensures.faultless c.in_ok-propagate.ensures.faultless
+    entry-looked c.args.node.now _ _ c.in-Some-split_first.rest _ _ _ _ c.in-Some.ensures c.in-Some-split_first.ensures
+    c.in_ok-subject.ensures.faultless c.in_ok-propagate.ensures.faultless
     (one-way c.in-Some-split_first.rest c.in_ok-propagate.field-0.known _ c.in_ok-propagate.ensures.found.1 c.in-Some-one_way.ensures)
     (has-tag c.in-Some-split_first.rest c.in_ok-propagate.field-0.known c.in_ok-propagate.ensures.found.1 ∙ ap (λ (t : Option tags.Tag). is_some t) c.in_default-tag.is)
 
 pub returns-clause-faultless : goal.returns-clause-faultless
 returns-clause-faultless c =
-    entry-tagged c.args.node.now _ _ c.in-Some-split_first.rest true c.in-Some.ensures c.in-Some-split_first.ensures c.in_ok-subject.ensures.faultless c.in_ok-propagate.ensures.faultless
+    entry-looked c.args.node.now _ _ c.in-Some-split_first.rest _ _ _ _ c.in-Some.ensures c.in-Some-split_first.ensures
+    c.in_ok-subject.ensures.faultless c.in_ok-propagate.ensures.faultless
     (one-way c.in-Some-split_first.rest c.in_ok-propagate.field-0.known _ c.in_ok-propagate.ensures.found.1 c.in-Some-one_way.ensures)
     (has-tag c.in-Some-split_first.rest c.in_ok-propagate.field-0.known c.in_ok-propagate.ensures.found.1 ∙ ap (λ (t : Option tags.Tag). is_some t) c.in-Some-tag.is)
 

@@ -2,12 +2,12 @@ use Rattle.std.proofs.Common.{◌≢◌, ◌≡◌, ◌∙◌, Some, [], List, a
 use Rattle.std.proofs.lemmas.Result.{IfErr-weaker, IfOk-weaker}
 use Rattle.spki_cert.specs.declared.fault.CertFaultKind.{CertFaultKind}
 use Rattle.spki_cert.specs.declared.fault.CertFaultKind.TheVariants.{Memory}
-use Rattle.spki_cert.proofs.Looking.{carried}
+use Rattle.spki_cert.proofs.Looking.{carried, none-some}
 use Rattle.sexpr_core.specs.Value.{Value}
 use Rattle.spki_cert.specs.declared.fault.CertFaultKind.TheVariants.{Shape}
 use Rattle.spki_cert.specs.Places.{unless_none}
 use Rattle.spki_cert.specs.FieldFaults.{entry_field_fault}
-use Rattle.spki_cert.proofs.FieldFaultLaws.{entry-tag_field, entry-propagate, entry-comment, entry-time, none-some}
+use Rattle.spki_cert.proofs.FieldFaultLaws.{entry-tag_field, entry-propagate, entry-comment, entry-time}
 use Rattle.spki_cert.proofs.fields.read_common_field.Goals as goal
 
 pub returns-in_err-tag_in-clause-named : goal.returns-in_err-tag_in-clause-named
@@ -25,7 +25,7 @@ returns-then-is_empty-clause-faultless c =
 
 pub returns-else-is_empty-clause-named : goal.returns-else-is_empty-clause-named
 returns-else-is_empty-clause-named c = λ _.
-    entry-propagate c.args.field.now _ c.in-Some-headed.ensures ∙ none-some c.in-Some-headed.members (λ e. absurd (let f = c.if-is_empty.ensures.1 e in cc))
+    entry-propagate c.args.field.now _ c.in-Some-headed.ensures ∙ none-some c.in-Some-headed.members Shape (λ e. absurd (let f = c.if-is_empty.ensures.1 e in cc))
 
 pub returns-in-Some-headed-2-clause-faultless : goal.returns-in-Some-headed-2-clause-faultless
 returns-in-Some-headed-2-clause-faultless c = entry-comment c.args.field.now _ c.in-Some-headed-2.ensures

@@ -1,38 +1,40 @@
-use Rattle.std.proofs.Common.{◌≡◌, Some}
+use Rattle.std.proofs.Common.{◌≡◌, Some, rules}
 use Rattle.spki_cert.specs.declared.fault.CertFaultKind.{CertFaultKind}
-use Rattle.spki_cert.proofs.Looking.{carried}
+use Rattle.spki_cert.specs.declared.fault.CertFaultKind.TheVariants.{Shape}
+use Rattle.spki_cert.proofs.Looking.{carried, none-some}
 use Rattle.spki_cert.specs.ItemFaults.{signature_fault}
 use Rattle.spki_cert.proofs.ItemFaultLaws.{signature-looks}
-use Rattle.spki_cert.proofs.Triples.{triple-unheaded, triple-empty, triple-first, triple-one, triple-second, triple-two, triple-surplus}
+use Rattle.spki_cert.proofs.Triples.{triple-unheaded, triple-form}
 use Rattle.spki_cert.proofs.signature.signature_of.Goals as goal
 
 pub returns-in_default-clause-named : goal.returns-in_default-clause-named
 returns-in_default-clause-named c = triple-unheaded signature-looks c.args.node.now c.in_default.ensures
 
 pub returns-in_default-split_first-clause-named : goal.returns-in_default-split_first-clause-named
-returns-in_default-split_first-clause-named c = triple-empty signature-looks c.args.node.now _ c.in-Some.ensures c.in_default-split_first.ensures
+unfolding signature_fault
+returns-in_default-split_first-clause-named c = search (rules, triple-form signature-looks)
 
 pub returns-in_err-alg-clause-named : goal.returns-in_err-alg-clause-named
+unfolding signature_fault
 returns-in_err-alg-clause-named c =
     carried c.from_residual.result _ (λ (kind : CertFaultKind). signature_fault c.args.node.now ≡ Some kind) c.from_residual.ensures.1
-    (triple-first signature-looks c.args.node.now _ _ _ _ c.in-Some.ensures c.in-Some-split_first.ensures c.in_err-alg.ensures.named)
+    (search (rules, triple-form signature-looks))
 
 pub returns-in_default-split_first-2-clause-named : goal.returns-in_default-split_first-2-clause-named
-returns-in_default-split_first-2-clause-named c =
-    triple-one signature-looks c.args.node.now _ _ _ c.in-Some.ensures c.in-Some-split_first.ensures c.in_ok-alg.ensures.faultless c.in_default-split_first-2.ensures
+unfolding signature_fault
+returns-in_default-split_first-2-clause-named c = search (rules, triple-form signature-looks)
 
 pub returns-in_err-signer-clause-named : goal.returns-in_err-signer-clause-named
+unfolding signature_fault
 returns-in_err-signer-clause-named c =
     carried c.from_residual-in_err-signer.result _ (λ (kind : CertFaultKind). signature_fault c.args.node.now ≡ Some kind) c.from_residual-in_err-signer.ensures.1
-    (triple-second signature-looks c.args.node.now _ _ _ _ _ _ c.in-Some.ensures c.in-Some-split_first.ensures c.in_ok-alg.ensures.faultless c.in-Some-split_first-2.ensures
-    c.in_err-signer.ensures.named)
+    (search (rules, triple-form signature-looks))
 
 pub returns-in_default-split_first-3-clause-named : goal.returns-in_default-split_first-3-clause-named
-returns-in_default-split_first-3-clause-named c =
-    triple-two signature-looks c.args.node.now _ _ _ _ _ c.in-Some.ensures c.in-Some-split_first.ensures c.in_ok-alg.ensures.faultless c.in-Some-split_first-2.ensures
-    c.in_ok-signer.ensures.faultless c.in_default-split_first-3.ensures
+unfolding signature_fault
+returns-in_default-split_first-3-clause-named c = search (rules, triple-form signature-looks)
 
 pub returns-then-not-is_empty-clause-named : goal.returns-then-not-is_empty-clause-named
+unfolding signature_fault
 returns-then-not-is_empty-clause-named c =
-    triple-surplus signature-looks c.args.node.now _ _ _ _ _ _ _ c.in-Some.ensures c.in-Some-split_first.ensures c.in_ok-alg.ensures.faultless c.in-Some-split_first-2.ensures
-    c.in_ok-signer.ensures.faultless c.in-Some-split_first-3.ensures (λ e. absurd (let f = c.if-not-is_empty.ensures.1 e in cc))
+    let some = none-some c.in-Some-split_first-3.more Shape (λ e. absurd (let f = c.if-not-is_empty.ensures.1 e in cc)) in search (rules, triple-form signature-looks)

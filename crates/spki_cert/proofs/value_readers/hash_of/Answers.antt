@@ -1,10 +1,10 @@
-use Rattle.std.proofs.Common.{◌≡◌, ◌∷◌, Some}
+use Rattle.std.proofs.Common.{◌≡◌, ◌∷◌, Some, refl, rules}
 use Rattle.sexpr_core.specs.Value.{plain}
 use Rattle.spki_cert.specs.Readings.{alg_name}
 use Rattle.spki_cert.specs.declared.fault.CertFaultKind.{CertFaultKind}
 use Rattle.spki_cert.specs.FixedFaults.{hash_fault}
 use Rattle.spki_cert.proofs.Looking.{carried}
-use Rattle.spki_cert.proofs.FixedLaws.{hash-unheaded, hash-empty, hash-alg_fault, hash-no_digest, hash-digest_fault, hash-whole, hash-surplus}
+use Rattle.spki_cert.proofs.FixedLaws.{hash-unheaded, hash-form, hash-digest, uris-are, others-are}
 use Rattle.spki_cert.proofs.value_readers.hash_of.Goals as goal
 
 pub returns-in_default-clause-refused : goal.returns-in_default-clause-refused
@@ -15,29 +15,30 @@ pub returns-in_default-clause-named : goal.returns-in_default-clause-named
 returns-in_default-clause-named c = hash-unheaded c.args.node.now c.in_default.ensures
 
 pub returns-in_default-split_first-clause-named : goal.returns-in_default-split_first-clause-named
-returns-in_default-split_first-clause-named c = hash-empty c.args.node.now _ c.in-Some.ensures c.in_default-split_first.ensures
+unfolding hash_fault
+returns-in_default-split_first-clause-named c = search (rules, hash-form)
 
 pub returns-in_err-alg-clause-named : goal.returns-in_err-alg-clause-named
+unfolding hash_fault
 returns-in_err-alg-clause-named c =
     carried c.from_residual.result _ (λ (kind : CertFaultKind). hash_fault c.args.node.now ≡ Some kind) c.from_residual.ensures.1
-    (hash-alg_fault c.args.node.now _ _ _ _ c.in-Some.ensures c.in-Some-split_first.ensures c.in_err-alg.ensures.first)
+    (search (rules, hash-form))
 
 pub returns-in_default-split_first-2-clause-named : goal.returns-in_default-split_first-2-clause-named
-returns-in_default-split_first-2-clause-named c =
-    hash-no_digest c.args.node.now _ _ _ c.in_ok-alg.alg c.in-Some.ensures c.in-Some-split_first.ensures c.in_ok-alg.ensures.named c.in_default-split_first-2.ensures
+unfolding hash_fault
+returns-in_default-split_first-2-clause-named c = search (rules, hash-form)
 
 pub returns-in_err-digest-clause-named : goal.returns-in_err-digest-clause-named
 returns-in_err-digest-clause-named c =
     carried c.from_residual-in_err-digest.result _ (λ (kind : CertFaultKind). hash_fault c.args.node.now ≡ Some kind) c.from_residual-in_err-digest.ensures.1
-    (hash-digest_fault c.args.node.now _ _ _ _ _ c.in_ok-alg.alg _ c.in-Some.ensures c.in-Some-split_first.ensures c.in_ok-alg.ensures.named c.in-Some-split_first-2.ensures
-    c.in_err-digest.ensures.named)
+    (hash-digest c.args.node.now _ _ _ _ _ c.in_ok-alg.alg _ _ c.in-Some.ensures c.in-Some-split_first.ensures c.in_ok-alg.ensures.named c.in-Some-split_first-2.ensures c.in_err-digest.ensures.named refl)
 
 pub returns-then-ends_in_uris-clause-faultless : goal.returns-then-ends_in_uris-clause-faultless
 returns-then-ends_in_uris-clause-faultless c =
-    hash-whole c.args.node.now _ _ _ _ _ c.in_ok-alg.alg c.in-Some.ensures c.in-Some-split_first.ensures c.in_ok-alg.ensures.named c.in-Some-split_first-2.ensures
-    c.in_ok-digest.ensures.faultless c.if-ends_in_uris.ensures
+    hash-digest c.args.node.now _ _ _ _ _ c.in_ok-alg.alg _ _ c.in-Some.ensures c.in-Some-split_first.ensures c.in_ok-alg.ensures.named c.in-Some-split_first-2.ensures
+    c.in_ok-digest.ensures.faultless (uris-are _ c.if-ends_in_uris.ensures)
 
 pub returns-else-ends_in_uris-clause-named : goal.returns-else-ends_in_uris-clause-named
 returns-else-ends_in_uris-clause-named c =
-    hash-surplus c.args.node.now _ _ _ _ _ c.in_ok-alg.alg c.in-Some.ensures c.in-Some-split_first.ensures c.in_ok-alg.ensures.named c.in-Some-split_first-2.ensures
-    c.in_ok-digest.ensures.faultless c.if-ends_in_uris.ensures
+    hash-digest c.args.node.now _ _ _ _ _ c.in_ok-alg.alg _ _ c.in-Some.ensures c.in-Some-split_first.ensures c.in_ok-alg.ensures.named c.in-Some-split_first-2.ensures
+    c.in_ok-digest.ensures.faultless (others-are _ c.if-ends_in_uris.ensures)

@@ -1,35 +1,29 @@
-use Rattle.std.proofs.Common.{Some, ◌≡◌, rules, []}
-use Rattle.std.specs.Prelude.{codes}
-use Rattle.sexpr_core.specs.Value.{string, plain}
+use Rattle.std.proofs.Common.{sym, rules}
+use Rattle.std.specs.Str.{bytes_eq}
+use Rattle.std.proofs.lemmas.Bool.{not-true}
 use Rattle.spki_cert.specs.declared.fault.CertFaultKind.TheVariants.{Shape}
 use Rattle.spki_cert.specs.FieldFaults.{version_fault}
-use Rattle.spki_cert.proofs.Looking.{sole-found, sole-more, sole-one}
-use Rattle.spki_cert.proofs.FieldFaultLaws.{version-list, version-hinted, version-other, version-zero}
+use Rattle.spki_cert.proofs.Looking.{none-some}
+use Rattle.spki_cert.proofs.FieldFaultLaws.{version-faultless}
 use Rattle.spki_cert.proofs.version.check_version.Goals as goal
 
 pub returns-in-List-clause-named : goal.returns-in-List-clause-named
-returns-in-List-clause-named c =
-    sole-found Shape version_fault c.args.members c.in-Some.more c.in-Some.number _ c.in-Some.ensures (version-list c.in-Some.number c.in-List.field-0 (search rules))
+unfolding version_fault
+returns-in-List-clause-named c = search rules
 
 pub returns-in-String-Some-default-clause-named : goal.returns-in-String-Some-default-clause-named
-returns-in-String-Some-default-clause-named c =
-    let e : c.in-Some.number ≡ string (Some c.in-String-Some-default.hint-0.now) c.in-String-Some-default.body.now = search rules in
-    sole-found Shape version_fault c.args.members c.in-Some.more c.in-Some.number _ c.in-Some.ensures (version-hinted c.in-Some.number _ _ e)
+unfolding version_fault
+returns-in-String-Some-default-clause-named c = search rules
 
 pub returns-then-ne-clause-named : goal.returns-then-ne-clause-named
+unfolding version_fault
 returns-then-ne-clause-named c =
-    let e : c.in-Some.number ≡ plain c.in-String-None-default.body.now = search rules in
-    sole-found Shape version_fault c.args.members c.in-Some.more c.in-Some.number _ c.in-Some.ensures
-    (version-other c.in-Some.number _ _ e c.if-ne.ensures c.as_slice.ensures)
+    let other = not-true (bytes_eq c.in-String-None-default.body.now c.as_slice.result.now) (sym c.if-ne.ensures) in search rules
 
 pub returns-then-is_empty-clause-faultless : goal.returns-then-is_empty-clause-faultless
-returns-then-is_empty-clause-faultless c =
-    let e : c.in-Some.number ≡ plain (codes "0") = search rules in
-    let f : c.in-Some.more ≡ [] = search rules in
-    sole-one Shape version_fault c.args.members c.in-Some.more c.in-Some.number c.in-Some.ensures (version-zero c.in-Some.number e) f
+returns-then-is_empty-clause-faultless c = version-faultless c.args.members (search rules)
 
 pub returns-else-is_empty-clause-named : goal.returns-else-is_empty-clause-named
+unfolding version_fault
 returns-else-is_empty-clause-named c =
-    let e : c.in-Some.number ≡ plain (codes "0") = search rules in
-    sole-more Shape version_fault c.args.members c.in-Some.more c.in-Some.number c.in-Some.ensures (version-zero c.in-Some.number e)
-    (λ f. absurd (let g = c.if-is_empty.ensures.1 f in cc))
+    let some = none-some c.in-Some.more Shape (λ f. absurd (let g = c.if-is_empty.ensures.1 f in cc)) in search rules
