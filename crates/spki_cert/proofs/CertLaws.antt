@@ -1,17 +1,32 @@
--- Certificates, signatures and operations that were read, and those that are none.
-use Rattle.std.proofs.Common.{◌≡◌, ℕ, List, ◌∷◌, Some, None, sym, ◌∙◌, rules}
+-- The parts of certificates of either kind.
+use Rattle.std.proofs.Common.{Some, None, false, rules}
 use Rattle.sexpr_core.specs.Value.{Value}
-use Rattle.spki_cert.specs.declared.principal.Principal.{Principal}
-use Rattle.spki_cert.specs.Certificates.{IssuedBy}
-use Rattle.spki_cert.proofs.SubjectLaws.{name-is_no_principal}
+use Rattle.spki_cert.specs.declared.certificate.AuthCert.{AuthCert}
+use Rattle.spki_cert.specs.declared.certificate.NameCert.{NameCert}
+use Rattle.spki_cert.specs.declared.certificate_reader.CertParts.{CertParts}
+use Rattle.spki_cert.specs.Certificates.{AuthCertOf, NameCertOf}
+use Rattle.spki_cert.specs.Inner.Gathering.{PartsOf}
 
--- ---- what the fields of a certificate are
+abbrev pub auth_parts : AuthCert → CertParts
+auth_parts c = record {
+  issuer = record { principal = c.issuer; name = None };
+  subject = c.subject;
+  propagate = c.propagate;
+  tag = Some c.tag;
+  window = c.window;
+}
 
--- no issuer is a principal and a name
-pub one-issuer : (fields : List Value) (p q : Principal) (name : List ℕ) → IssuedBy fields p None → IssuedBy fields q (Some name) → ⊥
-one-issuer fields p q name (rest, e, (v, f, one)) (behind, g, (w, h, other)) = search (rules, name-is_no_principal)
+pub auth-parts : (v : Value) (c : AuthCert) (read : AuthCertOf v c) → PartsOf read.fields (auth_parts c)
+auth-parts v c read = search rules
 
--- ---- signatures
+abbrev pub name_parts : NameCert → CertParts
+name_parts c = record {
+  issuer = record { principal = c.issuer; name = Some c.name };
+  subject = c.subject;
+  propagate = false;
+  tag = None;
+  window = c.window;
+}
 
-pub first-is : (all : List Value) (v w : Value) (vs ws : List Value) → all ≡ v ∷ vs → all ≡ w ∷ ws → v ≡ w
-first-is all v w vs ws e f = (let g : v ∷ vs ≡ w ∷ ws = sym e ∙ f in cc)
+pub name-parts : (v : Value) (c : NameCert) (read : NameCertOf v c) → PartsOf read.fields (name_parts c)
+name-parts v c read = search rules

@@ -76,10 +76,12 @@ pub entry-parts : (v subject : Value) (rest fields : List Value) → IsEntered v
     → entry_fault v ≡ parts_looked (entry_subject_fault subject) (fields_fault entry_field_fault fields) (is_both_ways fields) (has (codes "tag") fields)
 entry-parts v subject rest fields e f = entry-form v rest e ∙ ap (entry_looked true) f
 
-pub entry-looked : (v subject : Value) (rest fields : List Value) (found others : Option CertFaultKind) (both tag : Bool) → IsEntered v rest → rest ≡ subject ∷ fields
-    → entry_subject_fault subject ≡ found → fields_fault entry_field_fault fields ≡ others → is_both_ways fields ≡ both → has (codes "tag") fields ≡ tag
+pub entry-looked : (v subject : Value) (rest fields : List Value) (found others : Option CertFaultKind) (both tag : Bool) → IsEntered v rest
+    → rest ≡ subject ∷ fields → entry_subject_fault subject ≡ found → fields_fault entry_field_fault fields ≡ others
+    → is_both_ways fields ≡ both → has (codes "tag") fields ≡ tag
     → entry_fault v ≡ parts_looked found others both tag
-entry-looked v subject rest fields found others both tag e f g h i j = entry-parts v subject rest fields e f ∙ (λ k. parts_looked (g k) (h k) (i k) (j k))
+entry-looked v subject rest fields found others both tag e f g h i j =
+    entry-parts v subject rest fields e f ∙ (λ k. parts_looked (g k) (h k) (i k) (j k))
 
 -- ---- the outer list
 

@@ -119,8 +119,10 @@ entry-read v e =
 
 entry-faultless : (v : Value) (e : Entry) → EntryOf v e → entry_fault v ≡ None
 entry-faultless v e read =
-    entry-looked v read.subject _ read.fields None None false true read.written refl ((entry_subject-none read.subject).1 (e.subject, read.subject_is))
-    ((entry_fields-none read.fields).1 read.are_fields) (window-one_way read.fields e.window read.window_is) (has-given (codes "tag") (Sole ReadsAs) read.fields (Some e.tag) read.tag_is)
+    entry-looked v read.subject _ read.fields None None false true read.written refl
+    ((entry_subject-none read.subject).1 (e.subject, read.subject_is))
+    ((entry_fields-none read.fields).1 read.are_fields) (window-one_way read.fields e.window read.window_is)
+    (has-given (codes "tag") (Sole ReadsAs) read.fields (Some e.tag) read.tag_is)
 
 pub entry-none : (v : Value) → (entry_fault v ≡ None) ↔ SomeEntry v
 entry-none v = (entry-read v, λ some. entry-faultless v some.0 some.1)

@@ -96,7 +96,8 @@ hash-read v e =
 
 hash-faultless : (v : Value) (alg : HashAlg) (digest : List ℕ) → HashOf v alg digest → hash_fault v ≡ None
 hash-faultless v alg digest read =
-    hash-digest v _ _ _ _ _ alg None true read.written refl refl refl (digest-sized alg read.octets digest read.digest_is.written read.digest_is.sized) (uris-are read.further read.uris)
+    hash-digest v _ _ _ _ _ alg None true read.written refl refl refl
+    (digest-sized alg read.octets digest read.digest_is.written read.digest_is.sized) (uris-are read.further read.uris)
 
 pub hash-none : (v : Value) → (hash_fault v ≡ None) ↔ SomeHash v
 hash-none v = (hash-read v, λ hash. hash-faultless v hash.0 hash.1 hash.2)

@@ -103,7 +103,8 @@ module _ (fault_of : Value → Option CertFaultKind) (IsOne : Value → Type 0) 
       let this = (none v).0 looks.0 in
       let head = headed v this in
       let fresh : contents head.0 before ≡ [] =
-      none-headed head.0 before (sym (again-headed head.0 before v head.1 head.2) ∙ not-true (is_again before v) (unless-none (not (is_again before v)) Shape again.0)) in
+      none-headed head.0 before
+      (sym (again-headed head.0 before v head.1 head.2) ∙ not-true (is_again before v) (unless-none (not (is_again before v)) Shape again.0)) in
       let more : AreFields IsOne (before ++ v ∷ []) =
       record {
         each = each-push IsOne before v read.each this;

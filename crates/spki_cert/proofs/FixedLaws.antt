@@ -115,12 +115,14 @@ abbrev digest_looked : Option HashAlg → Value → List (Option CertFaultKind)
 digest_looked found digest = unless (is_plain any_octets digest) Shape ∷ unless (is_plain (is_sized found) digest) DigestLength ∷ []
 
 -- what is found in a digest and in what stands behind it
-pub hash-digest : (v word digest : Value) (rest more others : List Value) (alg : HashAlg) (found : Option CertFaultKind) (uris : Bool) → IsHashed v rest → rest ≡ word ∷ more
-    → word ≡ plain (alg_name alg) → more ≡ digest ∷ others → digest_fault alg digest ≡ found → are_uris others ≡ uris → hash_fault v ≡ first_fault (found ∷ unless uris Shape ∷ [])
+pub hash-digest : (v word digest : Value) (rest more others : List Value) (alg : HashAlg) (found : Option CertFaultKind) (uris : Bool)
+    → IsHashed v rest → rest ≡ word ∷ more → word ≡ plain (alg_name alg) → more ≡ digest ∷ others
+    → digest_fault alg digest ≡ found → are_uris others ≡ uris → hash_fault v ≡ first_fault (found ∷ unless uris Shape ∷ [])
 unfolding hash_fault
 hash-digest v word digest rest more others alg found uris e f g h i j =
-    (let looked : hash_fault v ≡ first_fault (digest_looked (Some alg) digest ++ unless (are_uris others) Shape ∷ []) = search (rules, hash-form, alg-known, named-alg) in looked)
-    ∙ first-of (digest_looked (Some alg) digest) (unless (are_uris others) Shape ∷ []) ∙ (λ k. first_fault (i k ∷ unless (j k) Shape ∷ []))
+    let looked : hash_fault v ≡ first_fault (digest_looked (Some alg) digest ++ unless (are_uris others) Shape ∷ []) =
+    search (rules, hash-form, alg-known, named-alg) in
+    looked ∙ first-of (digest_looked (Some alg) digest) (unless (are_uris others) Shape ∷ []) ∙ (λ k. first_fault (i k ∷ unless (j k) Shape ∷ []))
 
 pub uris-are : (vs : List Value) → AreUris vs → are_uris vs ≡ true
 uris-are [] are = refl

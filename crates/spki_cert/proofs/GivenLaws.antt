@@ -34,7 +34,8 @@ contents-other word v vs e = ap (λ (b : Bool). cond b (behind_head v ∷ conten
 -- a field with another head adds nothing
 pub contents-kept : (word : List ℕ) (xs : List Value) (v : Value) → is_headed word v ≡ false → contents word (xs ++ v ∷ []) ≡ contents word xs
 contents-kept word xs v e =
-    contents-append word xs (v ∷ []) ∙ ap (λ (ys : List (List Value)). contents word xs ++ ys) (contents-other word v [] e) ∙ append-nil (contents word xs)
+    contents-append word xs (v ∷ []) ∙ ap (λ (ys : List (List Value)). contents word xs ++ ys) (contents-other word v [] e)
+    ∙ append-nil (contents word xs)
 
 -- the first field with a head
 pub contents-first : (word : List ℕ) (xs : List Value) (v : Value) → is_headed word v ≡ true → contents word xs ≡ [] → contents word (xs ++ v ∷ []) ≡ behind_head v ∷ []
@@ -65,8 +66,10 @@ once-push xs v once first word = by (is_headed word v) refl
     by false e = (let long : length (contents word (xs ++ v ∷ [])) ≡ length (contents word xs) = ap length (contents-kept word xs v e) in let most = once word in omega arith)
 
 -- one more field, with a head that none of them has
-pub once-new : (xs : List Value) (v : Value) (head : List ℕ) (rest : List Value) → v ≡ group (plain head ∷ rest) → AreOnce xs → contents head xs ≡ [] → AreOnce (xs ++ v ∷ [])
-once-new xs v head rest e once fresh = once-push xs v once (λ word f. subst (λ (w : List ℕ). contents w xs ≡ []) (head-same v head word rest e f) fresh)
+pub once-new : (xs : List Value) (v : Value) (head : List ℕ) (rest : List Value) → v ≡ group (plain head ∷ rest) → AreOnce xs → contents head xs ≡ []
+    → AreOnce (xs ++ v ∷ [])
+once-new xs v head rest e once fresh =
+    once-push xs v once (λ word f. subst (λ (w : List ℕ). contents w xs ≡ []) (head-same v head word rest e f) fresh)
 
 -- ---- what is given
 

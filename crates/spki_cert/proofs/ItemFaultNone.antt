@@ -30,6 +30,7 @@ use Rattle.spki_cert.proofs.FieldFaultLaws.{is-headed, has-given}
 use Rattle.spki_cert.proofs.Triples.{triple-read, triple-form}
 use Rattle.spki_cert.proofs.ItemFaultLaws.{signature-looks, do-form}
 use Rattle.spki_cert.proofs.SequenceFaultLaws.{parts-tested, cert-looked, tagged-right, right}
+use Rattle.spki_cert.proofs.CertLaws.{auth_parts, auth-parts, name_parts, name-parts}
 use Rattle.spki_cert.proofs.FaultNone.{hash-none, alg-none}
 use Rattle.spki_cert.proofs.SubjectFaultNone.{principal-none}
 use Rattle.spki_cert.proofs.FieldFaultNone.{given-read, cert_fields-none}
@@ -59,7 +60,9 @@ signature-read v e =
 
 pub signature-faultless : (v : Value) (s : Signature) → SignatureOf v s → signature_fault v ≡ None
 unfolding signature_fault
-signature-faultless v s read = let hash = (hash-none read.digest).1 (s.alg, s.digest, read.digest_is) in let who = (principal-none read.signer).1 (s.signer, read.signer_is) in search (rules, triple-form signature-looks)
+signature-faultless v s read =
+    let hash = (hash-none read.digest).1 (s.alg, s.digest, read.digest_is) in let who = (principal-none read.signer).1 (s.signer, read.signer_is) in
+    search (rules, triple-form signature-looks)
 
 pub signature-none : (v : Value) → (signature_fault v ≡ None) ↔ SomeSignature v
 signature-none v = (signature-read v, λ some. signature-faultless v some.0 some.1)
@@ -144,7 +147,8 @@ parts-read fields e =
     let issued = none-found (unless (has (codes "issuer") fields) Shape) _ one.1 in
     let meant = none-found (unless (has (codes "subject") fields) Shape) _ issued.1 in
     let read = (cert_fields-none fields).0 each.0 in
-    let window = window-read IsCertField cert-timed fields read (not-true (is_both_ways fields) (unless-none (not (is_both_ways fields)) Shape one.0)) in
+    let window = window-read IsCertField cert-timed fields read
+    (not-true (is_both_ways fields) (unless-none (not (is_both_ways fields)) Shape one.0)) in
     let by = given-read (codes "issuer") IssuerIn IsCertField cert-issuer fields read in
     let who = some-given (codes "issuer") IssuerIn fields by.0 by.1 (unless-none (has (codes "issuer") fields) Shape issued.0) in
     let for_one = given-read (codes "subject") WhoIn IsCertField cert-subject fields read in
@@ -231,37 +235,14 @@ cert-read v e =
 cert-parts : (v : Value) (fields : List Value) (p : CertParts) → v ≡ group (plain (codes "cert") ∷ fields) → PartsOf fields p
     → right (is_some p.issuer.name) (is_some p.tag) p.propagate ≡ true → cert_fault v ≡ None
 cert-parts v fields p e parts is =
-    cert-looked v fields None true e (parts-faultless fields p parts) (tagged-right fields p (is_some p.issuer.name) (is_some p.tag) p.propagate parts refl refl refl ∙ is)
+    cert-looked v fields None true e (parts-faultless fields p parts)
+    (tagged-right fields p (is_some p.issuer.name) (is_some p.tag) p.propagate parts refl refl refl ∙ is)
 
 pub auth-faultless : (v : Value) (c : AuthCert) → AuthCertOf v c → cert_fault v ≡ None
-auth-faultless v c read =
-    cert-parts v read.fields
-    (record { issuer = record { principal = c.issuer; name = None }; subject = c.subject; propagate = c.propagate; tag = Some c.tag; window = c.window })
-    read.written
-    (record {
-      are_fields = read.are_fields;
-      issuer_is = read.issuer_is;
-      subject_is = read.subject_is;
-      propagates_is = read.propagates_is;
-      tag_is = read.tag_is;
-      window_is = read.window_is;
-    })
-    refl
+auth-faultless v c read = cert-parts v read.fields (auth_parts c) read.written (auth-parts v c read) refl
 
 pub name-faultless : (v : Value) (c : NameCert) → NameCertOf v c → cert_fault v ≡ None
-name-faultless v c read =
-    cert-parts v read.fields
-    (record { issuer = record { principal = c.issuer; name = Some c.name }; subject = c.subject; propagate = false; tag = None; window = c.window })
-    read.written
-    (record {
-      are_fields = read.are_fields;
-      issuer_is = read.issuer_is;
-      subject_is = read.subject_is;
-      propagates_is = sym read.no_propagate;
-      tag_is = read.no_tag;
-      window_is = read.window_is;
-    })
-    refl
+name-faultless v c read = cert-parts v read.fields (name_parts c) read.written (name-parts v c read) refl
 
 cert-faultless : (v : Value) → SomeCert v → cert_fault v ≡ None
 cert-faultless v (inl (c, read)) = auth-faultless v c read

@@ -57,7 +57,8 @@ sole-found {A = A} other fault_of vs more v found e f = ap (sole_fault other fau
 
 pub sole-more : {A : Type 0} (other : A) (fault_of : Value → Option A) (vs more : List Value) (v : Value) → vs ≡ v ∷ more → fault_of v ≡ None → (more ≡ [] → ⊥)
     → sole_fault other fault_of vs ≡ Some other
-sole-more {A = A} other fault_of vs more v e f some = sole-found other fault_of vs more v None e f ∙ ap (λ (x : Option A). first_fault (x ∷ [])) (none-some more other some)
+sole-more {A = A} other fault_of vs more v e f some =
+    sole-found other fault_of vs more v None e f ∙ ap (λ (x : Option A). first_fault (x ∷ [])) (none-some more other some)
 
 pub sole-one : {A : Type 0} (other : A) (fault_of : Value → Option A) (vs more : List Value) (v : Value) → vs ≡ v ∷ more → fault_of v ≡ None → more ≡ []
     → sole_fault other fault_of vs ≡ None

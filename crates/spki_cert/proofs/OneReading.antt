@@ -2,7 +2,7 @@
 use Rattle.std.proofs.Common.{◌≡◌, ℕ, inl, inr, List, [], ◌∷◌, ◌++◌, Option, Some, None, refl, sym, ap, subst, ◌∙◌, rules}
 use Rattle.std.specs.Prelude.{codes}
 use Rattle.std.specs.List.{AllZip}
-use Rattle.sexpr_core.specs.Value.{Value, plain}
+use Rattle.sexpr_core.specs.Value.{Value, plain, group}
 use Rattle.spki_tag.specs.Tag as tags
 use Rattle.spki_tag.specs.Read.{ReadsAs}
 use Rattle.spki_tag.proofs.NormalOf.{reading-one}
@@ -22,7 +22,7 @@ use Rattle.spki_cert.specs.Subjects.{PrincipalOf, plains, NameOf, IsWho, Subject
 use Rattle.spki_cert.specs.Fields.{Sole, Given, LimitsAre, ValidOf, WindowOf, directly, in_valid, TagOf, propagates, IssuerIn}
 use Rattle.spki_cert.specs.Entries.{EntryOf, AclOf}
 use Rattle.spki_cert.specs.EntryFaults.{behind_version}
-use Rattle.spki_cert.specs.Certificates.{IssuedBy, IssuedFor, AuthCertOf, NameCertOf, SignatureOf, DoHashOf}
+use Rattle.spki_cert.specs.Certificates.{IssuedFor, AuthCertOf, NameCertOf, SignatureOf, DoHashOf}
 use Rattle.spki_cert.specs.Sequences.{ItemOf, SeqOf}
 use Rattle.spki_cert.proofs.Groups.{same_others, same_second, same_rest, apart}
 use Rattle.spki_cert.specs.FixedFaults.{alg_named}
@@ -30,7 +30,9 @@ use Rattle.spki_cert.proofs.FixedLaws.{named-alg}
 use Rattle.spki_cert.proofs.GivenLaws.{given-else}
 use Rattle.spki_cert.proofs.SubjectLaws.{name-is_no_principal}
 use Rattle.spki_cert.proofs.EntryLaws.{relative-is_no_subject, entries-behind}
-use Rattle.spki_cert.proofs.CertLaws.{one-issuer}
+use Rattle.spki_cert.specs.declared.certificate_reader.CertParts.{CertParts}
+use Rattle.spki_cert.specs.Inner.Gathering.{PartsOf}
+use Rattle.spki_cert.proofs.CertLaws.{auth_parts, auth-parts, name_parts, name-parts}
 
 -- ---- keys, hashes and dates
 
@@ -103,15 +105,19 @@ given-one : {A : Type 0} (word : List ℕ) (R : List Value → A → Type 0) →
     → (fields : List Value) (a b : A) → Given word R fields (Some a) → Given word R fields (Some b) → a ≡ b
 given-one word R one fields a b (rest, e, read) (behind, f, other) = search rules
 
-limit-one : (word : List ℕ) (fields : List Value) (o p : Option (List ℕ)) → Given word (Sole DateOf) fields o → Given word (Sole DateOf) fields p → o ≡ p
-limit-one word fields None None read other = refl
-limit-one word fields None (Some t) read other = absurd (given-else word (Sole DateOf) fields t other read)
-limit-one word fields (Some s) None read other = absurd (given-else word (Sole DateOf) fields s read other)
-limit-one word fields (Some s) (Some t) read other =
-    ap Some (given-one word (Sole DateOf) (sole-one DateOf date-one) fields s t read other)
+-- what may be given is given once
+maybe-one : {A : Type 0} (word : List ℕ) (R : List Value → A → Type 0) → ((vs : List Value) (a b : A) → R vs a → R vs b → a ≡ b)
+    → (fields : List Value) (o p : Option A) → Given word R fields o → Given word R fields p → o ≡ p
+maybe-one word R one fields None None read other = refl
+maybe-one word R one fields None (Some b) read other = absurd (given-else word R fields b other read)
+maybe-one word R one fields (Some a) None read other = absurd (given-else word R fields a read other)
+maybe-one word R one fields (Some a) (Some b) read other = ap Some (given-one word R one fields a b read other)
 
 limits-one : (fields : List Value) (v w : Window) → LimitsAre fields v → LimitsAre fields w → v ≡ w
-limits-one fields v w read other = search (rules, limit-one)
+limits-one fields v w read other =
+    let one = maybe-one (codes "not-before") (Sole DateOf) (sole-one DateOf date-one) fields v.not_before w.not_before read.0 other.0 in
+    let two = maybe-one (codes "not-after") (Sole DateOf) (sole-one DateOf date-one) fields v.not_after w.not_after read.1 other.1 in
+    λ i. record { not_before = one i; not_after = two i }
 
 window-one : (fields : List Value) (v w : Window) → WindowOf fields v → WindowOf fields w → v ≡ w
 window-one fields v w (directly none limits) (directly no_valid others) = limits-one fields v w limits others
@@ -170,40 +176,60 @@ issued_for-one : (fields : List Value) (p : Principal) (s t : Subject) → Issue
 issued_for-one fields p s t read other =
     given-one (codes "subject") (Sole (IssuedTo p)) (sole-one (IssuedTo p) (issued-one p)) fields s t read other
 
+parts-one : (fields : List Value) (p q : CertParts) → PartsOf fields p → PartsOf fields q → p ≡ q
+parts-one fields p q read other =
+    let issued = issued_by-one fields (p.issuer.principal, p.issuer.name) (q.issuer.principal, q.issuer.name) read.issuer_is other.issuer_is in
+    let principal : p.issuer.principal ≡ q.issuer.principal = ap (λ (k : Principal × Option (List ℕ)). k.0) issued in
+    let subject =
+    issued_for-one fields q.issuer.principal p.subject q.subject (subst (λ (k : Principal). IssuedFor fields k p.subject) principal read.subject_is)
+    other.subject_is in
+    let propagate : p.propagate ≡ q.propagate = read.propagates_is ∙ sym other.propagates_is in
+    let tag = maybe-one (codes "tag") (Sole ReadsAs) (sole-one ReadsAs reading-one) fields p.tag q.tag read.tag_is other.tag_is in
+    let window = window-one fields p.window q.window read.window_is other.window_is in
+    λ i. record {
+      issuer = record { principal = principal i; name = (issued i).1 };
+      subject = subject i;
+      propagate = propagate i;
+      tag = tag i;
+      window = window i;
+    }
+
+-- what two readings of one certificate have in common
+same-parts : (v : Value) (us vs : List Value) (p q : CertParts) → v ≡ group (plain (codes "cert") ∷ us) → v ≡ group (plain (codes "cert") ∷ vs)
+    → PartsOf us p → PartsOf vs q → p ≡ q
+same-parts v us vs p q e f read other =
+    parts-one vs p q (subst (λ (ws : List Value). PartsOf ws p) (same_others v (codes "cert") us vs e f) read) other
+
 auth-one : (v : Value) (b c : AuthCert) → AuthCertOf v b → AuthCertOf v c → b ≡ c
 auth-one v b c read other =
-    let fields : read.fields ≡ other.fields = same_others v (codes "cert") read.fields other.fields read.written other.written in
-    let issued = issued_by-one other.fields (b.issuer, None) (c.issuer, None) (subst (λ (vs : List Value). IssuedBy vs b.issuer None) fields read.issuer_is) other.issuer_is in
-    let issuer : b.issuer ≡ c.issuer = ap (λ (k : Principal × Option (List ℕ)). k.0) issued in
-    let subject =
-    issued_for-one other.fields c.issuer b.subject c.subject
-    (subst (λ (p : Principal). IssuedFor other.fields p b.subject) issuer (subst (λ (vs : List Value). IssuedFor vs b.issuer b.subject) fields read.subject_is))
-    other.subject_is in
-    let propagate : b.propagate ≡ c.propagate = read.propagates_is ∙ ap propagates fields ∙ sym other.propagates_is in
-    let tag = tag-one other.fields b.tag c.tag (subst (λ (vs : List Value). TagOf vs b.tag) fields read.tag_is) other.tag_is in
-    let window = window-one other.fields b.window c.window (subst (λ (vs : List Value). WindowOf vs b.window) fields read.window_is) other.window_is in
+    let same = same-parts v read.fields other.fields (auth_parts b) (auth_parts c) read.written other.written (auth-parts v b read)
+    (auth-parts v c other) in
+    let some : Some b.tag ≡ Some c.tag = ap (λ (p : CertParts). p.tag) same in
+    let tag : b.tag ≡ c.tag = cc in
     let octets : b.octets ≡ c.octets = read.octets_are ∙ sym other.octets_are in
-    λ i. record { issuer = issuer i; subject = subject i; propagate = propagate i; tag = tag i; window = window i; octets = octets i }
+    λ i. record {
+      issuer = (same i).issuer.principal;
+      subject = (same i).subject;
+      propagate = (same i).propagate;
+      tag = tag i;
+      window = (same i).window;
+      octets = octets i;
+    }
 
 name_cert-one : (v : Value) (b c : NameCert) → NameCertOf v b → NameCertOf v c → b ≡ c
 name_cert-one v b c read other =
-    let fields : read.fields ≡ other.fields = same_others v (codes "cert") read.fields other.fields read.written other.written in
-    let issued = issued_by-one other.fields (b.issuer, Some b.name) (c.issuer, Some c.name) (subst (λ (vs : List Value). IssuedBy vs b.issuer (Some b.name)) fields read.issuer_is) other.issuer_is in
-    let issuer : b.issuer ≡ c.issuer = ap (λ (k : Principal × Option (List ℕ)). k.0) issued in
-    let some : Some b.name ≡ Some c.name = ap (λ (k : Principal × Option (List ℕ)). k.1) issued in
+    let same = same-parts v read.fields other.fields (name_parts b) (name_parts c) read.written other.written (name-parts v b read)
+    (name-parts v c other) in
+    let some : Some b.name ≡ Some c.name = ap (λ (p : CertParts). p.issuer.name) same in
     let name : b.name ≡ c.name = cc in
-    let subject =
-    issued_for-one other.fields c.issuer b.subject c.subject
-    (subst (λ (p : Principal). IssuedFor other.fields p b.subject) issuer (subst (λ (vs : List Value). IssuedFor vs b.issuer b.subject) fields read.subject_is))
-    other.subject_is in
-    let window = window-one other.fields b.window c.window (subst (λ (vs : List Value). WindowOf vs b.window) fields read.window_is) other.window_is in
     let octets : b.octets ≡ c.octets = read.octets_are ∙ sym other.octets_are in
-    λ i. record { issuer = issuer i; name = name i; subject = subject i; window = window i; octets = octets i }
+    λ i. record { issuer = (same i).issuer.principal; name = name i; subject = (same i).subject; window = (same i).window; octets = octets i }
 
 no-auth_and_name : (v : Value) (b : AuthCert) (c : NameCert) → AuthCertOf v b → NameCertOf v c → ⊥
 no-auth_and_name v b c read other =
-    let fields : read.fields ≡ other.fields = same_others v (codes "cert") read.fields other.fields read.written other.written in
-    one-issuer other.fields b.issuer c.issuer c.name (subst (λ (vs : List Value). IssuedBy vs b.issuer None) fields read.issuer_is) other.issuer_is
+    let same = same-parts v read.fields other.fields (auth_parts b) (name_parts c) read.written other.written (auth-parts v b read)
+    (name-parts v c other) in
+    absurd (let none : None ≡ Some c.name = ap (λ (p : CertParts). p.issuer.name) same in cc)
 
 signature-one : (v : Value) (s t : Signature) → SignatureOf v s → SignatureOf v t → s ≡ t
 signature-one v s t read other = search (rules, same_others, hash-one, principal-one)

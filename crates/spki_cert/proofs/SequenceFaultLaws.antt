@@ -17,22 +17,34 @@ use Rattle.spki_cert.specs.FieldFaults.{has, fields_fault, cert_field_fault, is_
 use Rattle.spki_cert.specs.EntryFaults.{at_item}
 use Rattle.spki_cert.specs.ItemFaults.{signature_fault, do_fault, has_name_issuer, is_tagged_right, cert_fault, item_fault}
 use Rattle.spki_cert.specs.SequenceFaults.{unsigned_fault, place_fault, waiting, items_looked, items_fault, sequence_fault}
-use Rattle.spki_cert.specs.Inner.Gathering.{PartsOf, parts_looked, parts_fault}
+use Rattle.spki_cert.specs.Inner.Gathering.{KnownOf, PartsOf, parts_looked, parts_fault}
 use Rattle.spki_cert.proofs.Groups.{headed-by, not-headed}
 use Rattle.spki_cert.proofs.Looking.{of-form, of-no_form, first-of, one-look}
 use Rattle.spki_cert.proofs.SubjectFaultLaws.{headed-else, principal-else}
 use Rattle.std.proofs.Math.Bool.{or-false}
-use Rattle.spki_cert.proofs.FieldFaultLaws.{has-given}
+use Rattle.spki_cert.specs.declared.principal_reader.Issuer.{Issuer}
+use Rattle.spki_cert.specs.declared.principal_reader.Who.{Who}
+use Rattle.spki_cert.specs.declared.fields.Known.{Known}
+use Rattle.spki_cert.proofs.FieldFaultLaws.{has-given, has-issuer, has-subject}
 
 -- ---- the fields of certificates
 
 abbrev parts_found : Option CertFaultKind → Bool → Bool → Bool → Option CertFaultKind
 parts_found fields both issuer subject = first_fault (fields ∷ unless (not both) Shape ∷ unless issuer Shape ∷ unless subject Shape ∷ [])
 
-pub parts-tested : (fields : List Value) (found : Option CertFaultKind) (both issuer subject : Bool) → fields_fault cert_field_fault fields ≡ found → is_both_ways fields ≡ both
+pub parts-tested : (fields : List Value) (found : Option CertFaultKind) (both issuer subject : Bool) → fields_fault cert_field_fault fields ≡ found
+    → is_both_ways fields ≡ both
     → has (codes "issuer") fields ≡ issuer → has (codes "subject") fields ≡ subject → parts_fault fields ≡ parts_found found both issuer subject
 unfolding parts_fault
 parts-tested fields found both issuer subject e f g h = λ i. parts_found (e i) (f i) (g i) (h i)
+
+-- the same by what is known of the fields
+pub parts-known : (fields : List Value) (k : Known) (both : Bool) (issuer : Option Issuer) (subject : Option Who) → KnownOf fields k
+    → fields_fault cert_field_fault fields ≡ None → is_both_ways fields ≡ both → k.issuer ≡ issuer → k.subject ≡ subject
+    → parts_fault fields ≡ parts_found None both (is_some issuer) (is_some subject)
+parts-known fields k both issuer subject known e f g h =
+    parts-tested fields None both (is_some issuer) (is_some subject) e f (has-issuer fields k known ∙ ap (λ (o : Option Issuer). is_some o) g)
+    (has-subject fields k known ∙ ap (λ (o : Option Who). is_some o) h)
 
 -- ---- certificates
 
@@ -51,7 +63,8 @@ unfolding cert_fault
 cert-form v rest e = of-form cert_looked (codes "cert") v rest e
 
 -- what is found in the fields, and then whether tag and propagate are right
-pub cert-looked : (v : Value) (rest : List Value) (found : Option CertFaultKind) (b : Bool) → IsCert v rest → parts_fault rest ≡ found → is_tagged_right rest ≡ b
+pub cert-looked : (v : Value) (rest : List Value) (found : Option CertFaultKind) (b : Bool) → IsCert v rest → parts_fault rest ≡ found
+    → is_tagged_right rest ≡ b
     → cert_fault v ≡ first_fault (found ∷ unless b Shape ∷ [])
 unfolding parts_fault
 cert-looked v rest found b e f g =

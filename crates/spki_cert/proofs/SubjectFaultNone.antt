@@ -87,7 +87,8 @@ names-faultless : (vs : List Value) (p : Option Principal) (names : List (List â
 unfolding names_fault
 names-faultless vs None names read = let all = plains-all read.1 in search rules
 names-faultless vs (Some p) names read =
-    let all = plains-all read.2 in let fine = principal-faultless read.0 p read.3 in let no_name = no-plain any_octets read.0 (principal-no_string read.0 p read.3) in search rules
+    let all = plains-all read.2 in let fine = principal-faultless read.0 p read.3 in let no_name = no-plain any_octets read.0
+    (principal-no_string read.0 p read.3) in search rules
 
 -- ---- subjects
 

@@ -21,12 +21,14 @@ returns-in_default-split_first-clause-named c = λ _. search (rules, entry-form)
 pub returns-in_err-subject-clause-named : goal.returns-in_err-subject-clause-named
 returns-in_err-subject-clause-named c =
     carried c.from_residual.result _ (λ (kind : CertFaultKind). kind ≢ Memory → entry_fault c.args.node.now ≡ Some kind) c.from_residual.ensures.1
-    (λ known. entry-looked c.args.node.now _ _ c.in-Some-split_first.rest _ _ _ _ c.in-Some.ensures c.in-Some-split_first.ensures (c.in_err-subject.ensures.named known) refl refl refl)
+    (λ known. entry-looked c.args.node.now _ _ c.in-Some-split_first.rest _ _ _ _ c.in-Some.ensures c.in-Some-split_first.ensures
+    (c.in_err-subject.ensures.named known) refl refl refl)
 
 pub returns-in_err-propagate-clause-named : goal.returns-in_err-propagate-clause-named
 returns-in_err-propagate-clause-named c =
     carried c.from_residual-in_err-propagate.result _ (λ (kind : CertFaultKind). kind ≢ Memory → entry_fault c.args.node.now ≡ Some kind) c.from_residual-in_err-propagate.ensures.1
-    (λ known. entry-looked c.args.node.now _ _ c.in-Some-split_first.rest _ _ _ _ c.in-Some.ensures c.in-Some-split_first.ensures c.in_ok-subject.ensures.faultless (c.in_err-propagate.ensures.named known) refl refl)
+    (λ known. entry-looked c.args.node.now _ _ c.in-Some-split_first.rest _ _ _ _ c.in-Some.ensures c.in-Some-split_first.ensures
+    c.in_ok-subject.ensures.faultless (c.in_err-propagate.ensures.named known) refl refl)
 
 pub returns-in_default-one_way-clause-named : goal.returns-in_default-one_way-clause-named
 returns-in_default-one_way-clause-named c = λ _.

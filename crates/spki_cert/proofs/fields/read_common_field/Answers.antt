@@ -25,7 +25,8 @@ returns-then-is_empty-clause-faultless c =
 
 pub returns-else-is_empty-clause-named : goal.returns-else-is_empty-clause-named
 returns-else-is_empty-clause-named c = λ _.
-    entry-propagate c.args.field.now _ c.in-Some-headed.ensures ∙ none-some c.in-Some-headed.members Shape (λ e. absurd (let f = c.if-is_empty.ensures.1 e in cc))
+    entry-propagate c.args.field.now _ c.in-Some-headed.ensures ∙ none-some c.in-Some-headed.members Shape
+    (λ e. absurd (let f = c.if-is_empty.ensures.1 e in cc))
 
 pub returns-in-Some-headed-2-clause-faultless : goal.returns-in-Some-headed-2-clause-faultless
 returns-in-Some-headed-2-clause-faultless c = entry-comment c.args.field.now _ c.in-Some-headed-2.ensures

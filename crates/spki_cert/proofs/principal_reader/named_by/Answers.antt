@@ -42,7 +42,8 @@ pub returns-in_err-names-2-clause-named : goal.returns-in_err-names-2-clause-nam
 unfolding names_fault
 returns-in_err-names-2-clause-named c =
     carried c.from_residual-in_err-names-2.result _ (λ (kind : CertFaultKind). kind ≢ Memory → names_fault c.args.members ≡ Some kind) c.from_residual-in_err-names-2.ensures.1
-    (λ known. let named = c.in_err-names-2.ensures.named known in let some = some-names c.in-Some.others (λ e. absurd (let f = c.if-is_empty.ensures.1 e in cc)) in search (rules, no-plain))
+    (λ known. let named = c.in_err-names-2.ensures.named known in let some = some-names c.in-Some.others
+    (λ e. absurd (let f = c.if-is_empty.ensures.1 e in cc)) in search (rules, no-plain))
 
 pub returns-clause-faultless : goal.returns-clause-faultless
 unfolding names_fault

@@ -37,4 +37,5 @@ returns-in_default-split_first-3-clause-named c = search (rules, triple-form sig
 pub returns-then-not-is_empty-clause-named : goal.returns-then-not-is_empty-clause-named
 unfolding signature_fault
 returns-then-not-is_empty-clause-named c =
-    let some = none-some c.in-Some-split_first-3.more Shape (λ e. absurd (let f = c.if-not-is_empty.ensures.1 e in cc)) in search (rules, triple-form signature-looks)
+    let some = none-some c.in-Some-split_first-3.more Shape (λ e. absurd (let f = c.if-not-is_empty.ensures.1 e in cc)) in search
+    (rules, triple-form signature-looks)
