@@ -138,19 +138,14 @@ module _ (policy : Policy) where
 
   regrouped : (a b c m r : Tuple) → Joins policy b c m → Joins policy a m r → (x : Tuple) × Joins policy a b x × Joins policy x c r
   regrouped (five a) (five b) (five c) (five m) (five r) h k = let e = delegate-delegate a b c m r h k in (five (delegated a b), e.0, e.1)
-  regrouped (five a) (five b) (five c) (five m) (four r) h k = absurd k
-  regrouped (four a) (five b) (five c) (five m) r h k = absurd k
   regrouped a (five b) (five c) (four m) r h k = absurd h
   regrouped (five a) (five b) (four c) (five m) (five r) h k = let e = delegate-resolve a b c m r h k in (five (delegated a b), e.0, e.1)
-  regrouped (five a) (five b) (four c) (five m) (four r) h k = absurd k
-  regrouped (four a) (five b) (four c) (five m) r h k = absurd k
   regrouped a (five b) (four c) (four m) r h k = absurd h
   regrouped a (four b) (five c) m r h k = absurd h
   regrouped a (four b) (four c) (five m) r h k = absurd h
   regrouped (five a) (four b) (four c) (four m) (five r) h k = let e = resolve-link a b c m r h k in (five (resolved a b k.begins.rest), e.0, e.1)
-  regrouped (five a) (four b) (four c) (four m) (four r) h k = absurd k
   regrouped (four a) (four b) (four c) (four m) (four r) h k = let e = link-link a b c m r h k in (four (linked a b k.begins.rest), e.0, e.1)
-  regrouped (four a) (four b) (four c) (four m) (five r) h k = absurd k
+  regrouped a b c m r h k = absurd k
 
   -- ---- whole trees
 
@@ -198,13 +193,10 @@ module _ (policy : Policy) where
   same_join (five a) (five b) (five r) (five s) h k = ap five (h.result_is ∙ sym k.result_is)
   same_join (five a) (four b) (five r) (five s) h k = ap five (same_resolve a b r s h k)
   same_join (four a) (four b) (four r) (four s) h k = ap four (same_link a b r s h k)
-  same_join (five a) (five b) (four r) s h k = absurd h
-  same_join (five a) (four b) (four r) s h k = absurd h
-  same_join (four a) (five b) r s h k = absurd h
-  same_join (four a) (four b) (five r) s h k = absurd h
   same_join (five a) (five b) (five r) (four s) h k = absurd k
   same_join (five a) (four b) (five r) (four s) h k = absurd k
   same_join (four a) (four b) (four r) (five s) h k = absurd k
+  same_join a b r s h k = absurd h
 
   same_tree : (tree : Tree) (r s : Tuple) → Derives policy tree r → Derives policy tree s → r ≡ s
   same_tree (leaf t) r s d e = d ∙ sym e

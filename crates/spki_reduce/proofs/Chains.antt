@@ -16,8 +16,9 @@ use Rattle.spki_reduce.specs.declared.tuple.Five.{Five}
 use Rattle.spki_reduce.specs.declared.tuple.Step.{Step}
 use Rattle.spki_reduce.specs.Tuples.{FiveTuple, Tuple, five, four, tags_of, windows_of}
 use Rattle.spki_reduce.specs.Rules.{Joins}
-use Rattle.spki_reduce.specs.Derivation.{Tree, leaf, join, Derives, from_left}
-use Rattle.spki_reduce.specs.Restrictions.{in_each, within_each, NoMoment, NoRequest, met, nodes_product}
+use Rattle.std.specs.List.{list_all}
+use Rattle.spki_reduce.specs.Derivation.{Tree, leaf, join, leaves, Derives, from_left}
+use Rattle.spki_reduce.specs.Restrictions.{NoMoment, NoRequest, met, nodes_product}
 use Rattle.spki_reduce.specs.Stops.{Stops, TooLargeFor}
 use Rattle.spki_reduce.specs.Views.{five_tuple, step_tuple}
 use Rattle.spki_reduce.specs.Reduced.{BecomesFive}
@@ -54,15 +55,12 @@ unjoined : (policy : Policy) (root : FiveTuple) (tuple made : Tuple) (cause : Ca
 unjoined policy root (five right) (five made) NotIssuer m h k = h k.issues
 unjoined policy root (five right) (five made) NotTheName m h k = h
 unjoined policy root (five right) (five made) NoDelegation m h k = never root.delegation h.1 k.allowed
-unjoined policy root (five right) (five made) NoValidity m h k = m
-unjoined policy root (five right) (five made) NoTag m h k = m
 unjoined policy root (four right) (five made) NotIssuer m h k = h
 unjoined policy root (four right) (five made) NotTheName m h k = h k.begins
 unjoined policy root (four right) (five made) NoDelegation m h k = h
-unjoined policy root (four right) (five made) NoValidity m h k = m
-unjoined policy root (four right) (five made) NoTag m h k = m
 unjoined policy root (five right) (four made) cause m h k = k
 unjoined policy root (four right) (four made) cause m h k = k
+unjoined policy root tuple (five made) cause m h k = m
 
 no_moment : (policy : Policy) (root : FiveTuple) (tuple : Tuple) → Stops policy (five root) tuple NoValidity
     → NoMoment (root.windows ++ windows_of tuple)
@@ -75,18 +73,46 @@ no_request policy root (five right) h = h.1
 no_request policy root (four right) h = absurd h
 
 module _ (policy : Policy) (first : Tuple) where
-  -- ---- roots have what their leaves have
+  -- ---- a chain up to its stop
+
+  pub up_to : (others : List Tuple) (step : ℕ) (cause : Cause) (h : StopsAt policy first others step cause)
+      → take step others ≡ take h.place others ++ h.tuple ∷ []
+  up_to others step cause h = ap (λ n. take n others) h.numbered ∙ more_at others h.place h.tuple h.stands
+
+  -- ---- roots have what their leaves have: tags, or windows
+
+  module _ {A : Type 0} (parts_of : Tuple → List A)
+      (all : (tree : Tree) (root : Tuple) → Derives policy tree root → parts_of root ≡ flat_map parts_of (leaves tree)) where
+    so_far : (before : List Tuple) (root : Tuple) → Derives policy (from_left first before) root → parts_of root ≡ flat_map parts_of (first ∷ before)
+    so_far before root d = all (from_left first before) root d ∙ ap (flat_map parts_of) (from_left-leaves first before)
+
+    parts_up_to : (others : List Tuple) (step : ℕ) (cause : Cause) (h : StopsAt policy first others step cause)
+        → parts_of (five h.root) ++ parts_of h.tuple ≡ flat_map parts_of (first ∷ take step others)
+    parts_up_to others step cause h =
+        ap (λ ps. ps ++ parts_of h.tuple) (so_far (take h.place others) (five h.root) h.before.derived)
+        ∙ ap (λ ps. flat_map parts_of (first ∷ take h.place others) ++ ps) (sym (append-nil (parts_of h.tuple)))
+        ∙ sym (flat_map-append parts_of (first ∷ take h.place others) (h.tuple ∷ []))
+        ∙ ap (λ ts. flat_map parts_of (first ∷ ts)) (sym (up_to others step cause h))
+
+    -- what fails of the tuples up to a step fails of all
+    lacking : (test : A → Bool) (others : List Tuple) (step : ℕ) → list_all test (flat_map parts_of (first ∷ take step others)) ≡ false
+        → (tree : Tree) (root : Tuple) → Derives policy tree root → leaves tree ≡ first ∷ others → list_all test (parts_of root) ≡ true → ⊥
+    lacking test others step fails tree root d e holds =
+        let whole : parts_of root ≡ flat_map parts_of (first ∷ take step others) ++ flat_map parts_of (drop step others) =
+        all tree root d ∙ ap (flat_map parts_of) e ∙ ap (λ ts. flat_map parts_of (first ∷ ts)) (sym (take-append-drop step others))
+        ∙ flat_map-append parts_of (first ∷ take step others) (drop step others) in
+        never (list_all test (parts_of root))
+        (ap (list_all test) whole ∙ list_all-append test (flat_map parts_of (first ∷ take step others)) (flat_map parts_of (drop step others))
+        ∙ first_false (list_all test (flat_map parts_of (first ∷ take step others))) _ fails)
+        holds
 
   pub tags_so_far : (before : List Tuple) (root : FiveTuple) → Derives policy (from_left first before) (five root)
       → root.tags ≡ all_tags (first ∷ before)
-  tags_so_far before root d =
-      parts.all_tags policy (from_left first before) (five root) d ∙ ap (flat_map tags_of) (from_left-leaves first before)
+  tags_so_far before root d = so_far tags_of (parts.all_tags policy) before (five root) d
 
   pub windows_so_far : (before : List Tuple) (root : FiveTuple) → Derives policy (from_left first before) (five root)
       → root.windows ≡ all_windows (first ∷ before)
-  windows_so_far before root d =
-      parts.all_windows policy (from_left first before) (five root) d
-      ∙ ap (flat_map windows_of) (from_left-leaves first before)
+  windows_so_far before root d = so_far windows_of (parts.all_windows policy) before (five root) d
 
   last_joins : (left : Tree) (tuple root made : Tuple) → Derives policy left root → Derives policy (join left (leaf tuple)) made
       → Joins policy root tuple made
@@ -99,32 +125,12 @@ module _ (policy : Policy) (first : Tuple) where
   -- ---- a chain that stops
 
   module _ (others : List Tuple) (step : ℕ) where
-    pub up_to : (cause : Cause) (h : StopsAt policy first others step cause)
-        → take step others ≡ take h.place others ++ h.tuple ∷ []
-    up_to cause h = ap (λ n. take n others) h.numbered ∙ more_at others h.place h.tuple h.stands
-
-    windows_up_to : (h : StopsAt policy first others step NoValidity)
-        → h.root.windows ++ windows_of h.tuple ≡ all_windows (first ∷ take step others)
-    windows_up_to h =
-        ap (λ ws. ws ++ windows_of h.tuple) (windows_so_far (take h.place others) h.root h.before.derived)
-        ∙ ap (λ ws. all_windows (first ∷ take h.place others) ++ ws) (sym (append-nil (windows_of h.tuple)))
-        ∙ sym (flat_map-append windows_of (first ∷ take h.place others) (h.tuple ∷ []))
-        ∙ ap (λ ts. all_windows (first ∷ ts)) (sym (up_to NoValidity h))
-
-    tags_up_to : (h : StopsAt policy first others step NoTag)
-        → h.root.tags ++ tags_of h.tuple ≡ all_tags (first ∷ take step others)
-    tags_up_to h =
-        ap (λ ts. ts ++ tags_of h.tuple) (tags_so_far (take h.place others) h.root h.before.derived)
-        ∙ ap (λ ts. all_tags (first ∷ take h.place others) ++ ts) (sym (append-nil (tags_of h.tuple)))
-        ∙ sym (flat_map-append tags_of (first ∷ take h.place others) (h.tuple ∷ []))
-        ∙ ap (λ ts. all_tags (first ∷ ts)) (sym (up_to NoTag h))
-
     pub underivable : (cause : Cause) → IsMisfit cause → StopsAt policy first others step cause → (after : List Tuple)
         → NoDerivation policy (first ∷ (take step others ++ after))
     underivable cause m h after tree root e d =
         let before = take h.place others in
         let whole : take step others ++ after ≡ (before ++ h.tuple ∷ []) ++ after =
-        ap (λ ts. ts ++ after) (up_to cause h) in
+        ap (λ ts. ts ++ after) (up_to others step cause h) in
         let begun = front policy tree root first (before ++ h.tuple ∷ []) after d
         (e ∙ ap (λ ts. first ∷ ts) whole) in
         let P : Tree → Type 0 = λ t. Derives policy t begun.0 in
@@ -141,35 +147,19 @@ module _ (policy : Policy) (first : Tuple) where
     excluded NotIssuer h = misfits NotIssuer tt h
     excluded NotTheName h = misfits NotTheName tt h
     excluded NoDelegation h = misfits NoDelegation tt h
-    excluded NoValidity h = subst NoMoment (windows_up_to h) (no_moment policy h.root h.tuple h.stopped)
-    excluded NoTag h = subst NoRequest (tags_up_to h) (no_request policy h.root h.tuple h.stopped)
+    excluded NoValidity h = subst NoMoment (parts_up_to windows_of (parts.all_windows policy) others step NoValidity h) (no_moment policy h.root h.tuple h.stopped)
+    excluded NoTag h = subst NoRequest (parts_up_to tags_of (parts.all_tags policy) others step NoTag h) (no_request policy h.root h.tuple h.stopped)
 
     underived : NoDerivation policy (first ∷ others) → SupportsNothing policy (first ∷ others)
     underived h tree holder request moment e is s = h tree (five s.root) e s.derived
 
     untimely : NoMoment (all_windows (first ∷ take step others)) → SupportsNothing policy (first ∷ others)
     untimely h tree holder request moment e is s =
-        let all : s.root.windows ≡ all_windows (first ∷ take step others) ++ all_windows (drop step others) =
-        parts.all_windows policy tree (five s.root) s.derived ∙ ap (flat_map windows_of) e
-        ∙ ap (λ ts. all_windows (first ∷ ts)) (sym (take-append-drop step others))
-        ∙ flat_map-append windows_of (first ∷ take step others) (drop step others) in
-        never (within_each moment s.root.windows)
-        (ap (within_each moment) all ∙ list_all-append (λ w. within moment w) (all_windows (first ∷ take step others))
-        (all_windows (drop step others))
-        ∙ first_false (within_each moment (all_windows (first ∷ take step others))) _ (h moment))
-        s.grants.timely
+        lacking windows_of (parts.all_windows policy) (within moment) others step (h moment) tree (five s.root) s.derived e s.grants.timely
 
     unasked : NoRequest (all_tags (first ∷ take step others)) → SupportsNothing policy (first ∷ others)
     unasked h tree holder request moment e is s =
-        let all : s.root.tags ≡ all_tags (first ∷ take step others) ++ all_tags (drop step others) =
-        parts.all_tags policy tree (five s.root) s.derived ∙ ap (flat_map tags_of) e
-        ∙ ap (λ ts. all_tags (first ∷ ts)) (sym (take-append-drop step others))
-        ∙ flat_map-append tags_of (first ∷ take step others) (drop step others) in
-        never (in_each request s.root.tags)
-        (ap (in_each request) all ∙ list_all-append (λ t. contains t request) (all_tags (first ∷ take step others))
-        (all_tags (drop step others))
-        ∙ first_false (in_each request (all_tags (first ∷ take step others))) _ (h request is))
-        s.grants.asked
+        lacking tags_of (parts.all_tags policy) (λ t. contains t request) others step (h request is) tree (five s.root) s.derived e s.grants.asked
 
     pub unsupported : (cause : Cause) → StopsAt policy first others step cause → SupportsNothing policy (first ∷ others)
     unsupported NotIssuer h = underived (excluded NotIssuer h)

@@ -167,7 +167,6 @@ module _ (policy : Policy) (root : FiveTuple) (f : Five) (reduced : ReducesToFiv
 
   pub stops : (right : Tuple) (cause : Cause) → Stops policy (five (five_tuple f)) right cause → Stops policy (five root) right cause
   stops (five right) NotIssuer h = λ k. h (issues_back right k)
-  stops (five right) NotTheName h = h
   stops (five right) NoDelegation h = (issues right h.0, sym reduced.delegation ∙ h.1)
   stops (five right) NoValidity h = (
     issues right h.0,
@@ -182,14 +181,12 @@ module _ (policy : Policy) (root : FiveTuple) (f : Five) (reduced : ReducesToFiv
     },
     λ q is. sym (in_more f.tag root.tags right.tags q (reduced.requests q is)) ∙ h.1 q is,
   )
-  stops (four right) NotIssuer h = h
   stops (four right) NotTheName h = λ k. h (begins_back right k)
-  stops (four right) NoDelegation h = h
   stops (four right) NoValidity h = (
     begins right h.0,
     none_more f.window root.windows right.windows reduced.moments h.1,
   )
-  stops (four right) NoTag h = h
+  stops right cause h = h
 
   -- ---- steps that are reached
 

@@ -15,9 +15,8 @@ use Rattle.spki_reduce.specs.Written.{headed, IsWrittenPrincipal, IsWrittenSubje
 
 issuer_one : (i j : Issuer) → issuer_of i ≡ issuer_of j → i ≡ j
 issuer_one Own Own e = refl
-issuer_one Own (Key octets) e = absurd cc
-issuer_one (Key octets) Own e = absurd cc
 issuer_one (Key octets) (Key others) e = ap Key cc
+issuer_one i j e = absurd cc
 
 pub five_one : (f g : Five) → five_tuple f ≡ five_tuple g → f ≡ g
 five_one f g e = search (rules, issuer_one)

@@ -2,7 +2,7 @@
 use Rattle.std.proofs.Common.{◌≡◌, ◌≢◌, ℕ, Bool, true, false, ◌&&◌, List, [], ◌∷◌, ◌++◌, Option, Some, None, refl, sym, ◌∙◌, ap, subst, rules}
 use Rattle.std.specs.Cmp.Lexicographic.{slice_cmp}
 use Rattle.std.specs.declared.cmp.Ordering.{Ordering}
-use Rattle.std.specs.declared.cmp.Ordering.TheVariants.{Less, Equal, Greater}
+use Rattle.std.specs.declared.cmp.Ordering.TheVariants.{Equal}
 use Rattle.std.specs.Ordering.{nat_cmp, is_le, ordering_reverse}
 use Rattle.std.proofs.lemmas.Cmp.{nat_list_cmp_total}
 use Rattle.std.proofs.lemmas.Map.Lookups.{exact_bytes}
@@ -25,9 +25,8 @@ both true b e = (refl, e)
 both false b e = absurd cc
 
 tied : (o : Ordering) → is_le o ≡ true → is_le (ordering_reverse o) ≡ true → o ≡ Equal
-tied Less h k = absurd cc
 tied Equal h k = refl
-tied Greater h k = absurd cc
+tied o h k = absurd cc
 
 upto-both : (s t : List ℕ) → upto s t ≡ true → upto t s ≡ true → s ≡ t
 upto-both s t h k =
@@ -40,9 +39,8 @@ dated [] e = absurd cc
 dated (octet ∷ octets) e = refl
 
 until-empty : (q : Option (List ℕ)) → is_until q [] ≡ true
-until-empty None = refl
-until-empty (Some []) = refl
 until-empty (Some (octet ∷ octets)) = refl
+until-empty q = refl
 
 -- above a string stands another
 beyond : (s : List ℕ) → upto (s ++ 0 ∷ []) s ≡ false

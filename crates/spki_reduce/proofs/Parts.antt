@@ -11,19 +11,13 @@ module _ (policy : Policy) where
   joined_tags (five a) (five b) (five r) h = ap (λ (t : FiveTuple). t.tags) h.result_is
   joined_tags (five a) (four b) (five r) h = ap (λ (t : FiveTuple). t.tags) h.result_is ∙ sym (append-nil a.tags)
   joined_tags (four a) (four b) (four r) h = refl
-  joined_tags (five a) (five b) (four r) h = absurd h
-  joined_tags (five a) (four b) (four r) h = absurd h
-  joined_tags (four a) (five b) r h = absurd h
-  joined_tags (four a) (four b) (five r) h = absurd h
+  joined_tags a b r h = absurd h
 
   joined_windows : (a b r : Tuple) → Joins policy a b r → windows_of r ≡ windows_of a ++ windows_of b
   joined_windows (five a) (five b) (five r) h = ap (λ (t : FiveTuple). t.windows) h.result_is
   joined_windows (five a) (four b) (five r) h = ap (λ (t : FiveTuple). t.windows) h.result_is
   joined_windows (four a) (four b) (four r) h = ap (λ (t : FourTuple). t.windows) h.result_is
-  joined_windows (five a) (five b) (four r) h = absurd h
-  joined_windows (five a) (four b) (four r) h = absurd h
-  joined_windows (four a) (five b) r h = absurd h
-  joined_windows (four a) (four b) (five r) h = absurd h
+  joined_windows a b r h = absurd h
 
   pub all_tags : (tree : Tree) (root : Tuple) → Derives policy tree root → tags_of root ≡ flat_map tags_of (leaves tree)
   all_tags (leaf t) root d = ap tags_of d ∙ sym (append-nil (tags_of t))

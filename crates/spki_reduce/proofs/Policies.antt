@@ -1,9 +1,9 @@
 -- What the strict policy allows, the open one allows.
 use Rattle.std.proofs.Common.{◌≡◌, ℕ, List, false, true, IsTrue, rules}
-use Rattle.spki_cert.specs.declared.hash.HashAlg.TheVariants.{Sha1, Sha256, Sha512}
+use Rattle.spki_cert.specs.declared.hash.HashAlg.TheVariants.{Sha1}
 use Rattle.spki_cert.specs.declared.principal.Policy.TheVariants.{Open, Strict}
 use Rattle.spki_cert.specs.declared.principal.Principal.{Principal}
-use Rattle.spki_cert.specs.declared.principal.Principal.TheVariants.{Key, Hash}
+use Rattle.spki_cert.specs.declared.principal.Principal.TheVariants.{Hash}
 use Rattle.spki_cert.specs.Naming.{names}
 use Rattle.spki_tag.specs.Request.{Request}
 use Rattle.spki_reduce.specs.Tuples.{Tuple, five, four}
@@ -13,10 +13,8 @@ use Rattle.spki_reduce.specs.Supports.{Supports}
 
 pub named_openly : (principal : Principal) (holder : List ℕ) → IsTrue (names Strict principal holder)
     → IsTrue (names Open principal holder)
-named_openly (Key octets) holder h = h
 named_openly (Hash Sha1 digest) holder h = let e : false ≡ true = h in cc
-named_openly (Hash Sha256 digest) holder h = h
-named_openly (Hash Sha512 digest) holder h = h
+named_openly principal holder h = h
 
 joined_openly : (a b r : Tuple) → Joins Strict a b r → Joins Open a b r
 joined_openly (five a) (five b) (five r) h = search (rules, named_openly)
@@ -36,10 +34,7 @@ joined_openly (four a) (four b) (four r) h = record {
   };
   result_is = h.result_is;
 }
-joined_openly (five a) (five b) (four r) h = absurd h
-joined_openly (five a) (four b) (four r) h = absurd h
-joined_openly (four a) (five b) r h = absurd h
-joined_openly (four a) (four b) (five r) h = absurd h
+joined_openly a b r h = absurd h
 
 pub derived_openly : (tree : Tree) (root : Tuple) → Derives Strict tree root → Derives Open tree root
 derived_openly (leaf t) root d = d

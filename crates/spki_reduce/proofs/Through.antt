@@ -9,7 +9,7 @@ use Rattle.std.proofs.lemmas.Grind.{flat_map-append}
 use Rattle.spki_cert.specs.declared.principal.Policy.{Policy}
 use Rattle.spki_cert.specs.declared.window.Window.{Window}
 use Rattle.spki_cert.specs.Time.{within}
-use Rattle.spki_tag.specs.Tag.{Tag, star, string, prefix, range, list, set, none}
+use Rattle.spki_tag.specs.Tag.{Tag, star, range, set, none}
 use Rattle.spki_tag.specs.Meet.{meet}
 use Rattle.spki_reduce.specs.declared.fold.Cause.{Cause}
 use Rattle.spki_reduce.specs.declared.fold.Cause.TheVariants.{NotIssuer, NotTheName, NoDelegation, NoValidity, NoTag}
@@ -30,12 +30,8 @@ use Rattle.spki_reduce.proofs.Chains.{IsMisfit, never, first_false, up_to, windo
 
 -- nothing stays nothing, whatever it is met with
 still_nothing : (tag : Tag) → meet (set none) tag ≡ set none
-still_nothing star = refl
-still_nothing (string octets) = refl
-still_nothing (prefix octets) = refl
 still_nothing (range ordering low up) = refl
-still_nothing (list head further) = refl
-still_nothing (set members) = refl
+still_nothing tag = refl
 
 pub nothing_met : (tags : List Tag) → fold meet (set none) tags ≡ set none
 nothing_met [] = refl
@@ -225,23 +221,19 @@ some_or_none windows s n = never (within_each s.0 windows) (n s.0) s.2
 module _ (policy : Policy) (root : FiveTuple) where
   one_cause : (tuple : Tuple) (a b : Cause) → Stops policy (five root) tuple a → Stops policy (five root) tuple b → a ≡ b
   one_cause (five right) NotIssuer NotIssuer h k = refl
-  one_cause (five right) NotIssuer NotTheName h k = absurd k
   one_cause (five right) NotIssuer NoDelegation h k = absurd (h k.0)
   one_cause (five right) NotIssuer NoValidity h k = absurd (h k.0)
   one_cause (five right) NotIssuer NoTag h k = absurd (h k.0.issues)
   one_cause (five right) NotTheName b h k = absurd h
   one_cause (five right) NoDelegation NotIssuer h k = absurd (k h.0)
-  one_cause (five right) NoDelegation NotTheName h k = absurd k
   one_cause (five right) NoDelegation NoDelegation h k = refl
   one_cause (five right) NoDelegation NoValidity h k = absurd (never root.delegation h.1 k.1)
   one_cause (five right) NoDelegation NoTag h k = absurd (never root.delegation h.1 k.0.allowed)
   one_cause (five right) NoValidity NotIssuer h k = absurd (k h.0)
-  one_cause (five right) NoValidity NotTheName h k = absurd k
   one_cause (five right) NoValidity NoDelegation h k = absurd (never root.delegation k.1 h.1)
   one_cause (five right) NoValidity NoValidity h k = refl
   one_cause (five right) NoValidity NoTag h k = absurd (some_or_none (root.windows ++ right.windows) k.0.timely h.2)
   one_cause (five right) NoTag NotIssuer h k = absurd (k h.0.issues)
-  one_cause (five right) NoTag NotTheName h k = absurd k
   one_cause (five right) NoTag NoDelegation h k = absurd (never root.delegation k.1 h.0.allowed)
   one_cause (five right) NoTag NoValidity h k = absurd (some_or_none (root.windows ++ right.windows) h.0.timely k.2)
   one_cause (five right) NoTag NoTag h k = refl
@@ -249,15 +241,10 @@ module _ (policy : Policy) (root : FiveTuple) where
   one_cause (four right) NotTheName NoValidity h k = absurd (h k.0)
   one_cause (four right) NoValidity NotTheName h k = absurd (k h.0)
   one_cause (four right) NoValidity NoValidity h k = refl
-  one_cause (four right) NotTheName NotIssuer h k = absurd k
-  one_cause (four right) NotTheName NoDelegation h k = absurd k
-  one_cause (four right) NotTheName NoTag h k = absurd k
-  one_cause (four right) NoValidity NotIssuer h k = absurd k
-  one_cause (four right) NoValidity NoDelegation h k = absurd k
-  one_cause (four right) NoValidity NoTag h k = absurd k
   one_cause (four right) NotIssuer b h k = absurd h
   one_cause (four right) NoDelegation b h k = absurd h
   one_cause (four right) NoTag b h k = absurd h
+  one_cause tuple a b h k = absurd k
 
 module _ (policy : Policy) (first : Tuple) (others : List Tuple) (tagged : AreTagged others) where
   -- the later of two stops would be behind the earlier one

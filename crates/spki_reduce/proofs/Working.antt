@@ -58,18 +58,16 @@ module _
 -- what is taken twice is taken at once
 pub taken : (a b c : Option ℕ) (n m : ℕ) → Takes a b n → Takes b c m → Takes a c (n + m)
 taken None None None n m h k = tt
-taken None None (Some c) n m h k = absurd k
 taken None (Some b) c n m h k = absurd h
 taken (Some a) None c n m h k = absurd h
-taken (Some a) (Some b) None n m h k = absurd k
 taken (Some a) (Some b) (Some c) n m h k = omega (arith, h, k)
+taken a b c n m h k = absurd k
 
 -- what is over what is left is over what there was, with what was taken
 pub over : (a b : Option ℕ) (n m : ℕ) → Takes a b n → IsOver b m → IsOver a (n + m)
-over None None n m h k = absurd k
 over None (Some b) n m h k = absurd h
-over (Some a) None n m h k = absurd k
 over (Some a) (Some b) n m h k = omega (arith, h, k)
+over a None n m h k = absurd k
 
 -- ---- behind a stop
 
@@ -141,6 +139,5 @@ unbounded left policy first others none (inr h) = let over : IsOver None h.work 
 -- nothing was taken yet
 pub none_taken : (a b : Option ℕ) → b ≡ a → Takes a b 0
 none_taken None None e = tt
-none_taken None (Some b) e = absurd cc
-none_taken (Some a) None e = absurd cc
 none_taken (Some a) (Some b) e = let same : b ≡ a = cc in omega (arith, same)
+none_taken a b e = absurd cc
