@@ -34,14 +34,13 @@ row-one v r s read other =
 
 pub rows-one : (vs : List Value) (rs ss : List Row) → AllZip RowOf vs rs → AllZip RowOf vs ss → rs ≡ ss
 rows-one [] [] [] read other = refl
-rows-one [] [] (s ∷ ss) read other = absurd other
 rows-one [] (r ∷ rs) ss read other = absurd read
 rows-one (v ∷ vs) [] ss read other = absurd read
-rows-one (v ∷ vs) (r ∷ rs) [] read other = absurd other
 rows-one (v ∷ vs) (r ∷ rs) (s ∷ ss) read other =
     let first : r ≡ s = row-one v r s read.0 other.0 in
     let others : rs ≡ ss = rows-one vs rs ss read.1 other.1 in
     λ i. first i ∷ others i
+rows-one vs rs ss read other = absurd other
 
 -- ---- the parts of a case
 
@@ -49,10 +48,9 @@ only : (word : List ℕ) (v w : Value) → headed word (v ∷ []) ≡ headed wor
 only word v w e = let f : v ∷ [] ≡ w ∷ [] = behind_head word (v ∷ []) (w ∷ []) e in cc
 
 policy-one : (p q : Policy) → policy_values p ≡ policy_values q → p ≡ q
-policy-one Open Open e = refl
 policy-one Open Strict e = absurd (cc)
 policy-one Strict Open e = absurd (cc)
-policy-one Strict Strict e = refl
+policy-one p q e = refl
 
 -- parts that stand at the same places
 pub record SameParts (p q : Parts) : Type 0 where

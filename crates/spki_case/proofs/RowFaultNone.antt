@@ -1,5 +1,5 @@
 -- A value has no fault as a row, and the parts of a case have none, exactly where they are such.
-use Rattle.std.proofs.Common.{◌≡◌, ℕ, List, [], ◌∷◌, Some, None, refl, sym, ap, ◌∙◌}
+use Rattle.std.proofs.Common.{◌≡◌, ℕ, List, [], ◌∷◌, Some, None, refl, sym, ap, ◌∙◌, rules}
 use Rattle.std.specs.Prelude.{◌↔◌}
 use Rattle.std.specs.List.{AllZip}
 use Rattle.sexpr_core.specs.Value.{Value, canon}
@@ -17,7 +17,7 @@ use Rattle.spki_cert.specs.FixedFaults.{key_fault, hash_fault, date_fault}
 use Rattle.spki_cert.specs.EntryFaults.{acl_fault}
 use Rattle.spki_cert.specs.SequenceFaults.{sequence_fault}
 use Rattle.spki_cert.proofs.Looking.{none-found}
-use Rattle.spki_cert.proofs.Triples.{triple-read, triple-whole}
+use Rattle.spki_cert.proofs.Triples.{triple-read, triple-form}
 use Rattle.spki_cert.proofs.FaultNone.{key-none, hash-none, date-none}
 use Rattle.spki_cert.proofs.EntryFaultNone.{each-none, acl-none}
 use Rattle.spki_cert.proofs.SequenceFaultNone.{sequence-none}
@@ -73,9 +73,10 @@ row-read v e =
     )
 
 row-faultless : (v : Value) (row : Row) → RowOf v row → row_fault v ≡ None
+unfolding row_fault
 row-faultless v row read =
-    triple-whole row-looks v read.key read.hash read.value (read.key ∷ read.hash ∷ read.value ∷ []) (read.hash ∷ read.value ∷ []) (read.value ∷ []) [] read.written refl
-    ((key-none read.key).1 (row.key, read.key_is)) refl (sha256-faultless read.hash row.digest read.digest_is) refl refl
+    let key = (key-none read.key).1 (row.key, read.key_is) in let hash = sha256-faultless read.hash row.digest read.digest_is in
+    search (rules, triple-form row-looks)
 
 pub row-none : (v : Value) → (row_fault v ≡ None) ↔ SomeRow v
 row-none v = (row-read v, λ some. row-faultless v some.0 some.1)

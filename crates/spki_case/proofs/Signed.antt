@@ -1,7 +1,8 @@
 -- In a sequence each certificate is followed by its signature.
-use Rattle.std.proofs.Common.{◌≡◌, ℕ, suc, List, [], ◌∷◌, Bool, true, false, ◌&&◌, refl, sym, ◌∙◌, inl, inr}
+use Rattle.std.proofs.Common.{◌≡◌, ℕ, suc, List, [], ◌∷◌, Bool, true, false, refl, sym, ◌∙◌, inl, inr}
 use Rattle.std.specs.Prelude.{codes, IsSome, is_some}
 use Rattle.std.specs.List.{AllZip, list_all}
+use Rattle.std.proofs.lemmas.Bool.{and_from}
 use Rattle.sexpr_core.specs.Value.{Value}
 use Rattle.spki_cert.specs.declared.certificate.SeqItem.{SeqItem}
 use Rattle.spki_cert.specs.declared.certificate.SeqItem.TheVariants.{Key, DoHash, Auth, Name, Signature}
@@ -21,8 +22,6 @@ late v s h = let clash : true ≡ false = sym s ∙ h in cc
 pub signature_comes : (vs : List Value) (is : List SeqItem) → AllZip ItemOf vs is → AreInPlace true vs → waits_after true vs ≡ false
     → IsSome (signature_in is)
 signature_comes [] [] zip placed end = absurd cc
-signature_comes [] (i ∷ is) zip placed end = absurd zip
-signature_comes (v ∷ vs) [] zip placed end = absurd zip
 signature_comes (v ∷ vs) (Key octets ∷ is) zip placed end =
     let e = zip.0.written in
     absurd (stray v (rw e refl) (rw e refl) placed.0)
@@ -37,28 +36,25 @@ signature_comes (v ∷ vs) (Name c ∷ is) zip placed end =
     let e = zip.0.written in
     absurd (stray v (rw e refl) (rw e refl) placed.0)
 signature_comes (v ∷ vs) (Signature s ∷ is) zip placed end = refl
-
-both : (a b : Bool) → a ≡ true → b ≡ true → (a && b) ≡ true
-both a b h k = rw (h, k) refl
+signature_comes vs is zip placed end = absurd zip
 
 pub each_signed : (n : ℕ) (waits : Bool) (vs : List Value) (is : List SeqItem) → AllZip ItemOf vs is → AreInPlace waits vs
     → waits_after waits vs ≡ false → list_all (λ s. is_some s.signature) (certificates_from n is) ≡ true
 each_signed n waits [] [] zip placed end = refl
-each_signed n waits [] (i ∷ is) zip placed end = absurd zip
-each_signed n waits (v ∷ vs) [] zip placed end = absurd zip
 each_signed n waits (v ∷ vs) (Key octets ∷ is) zip placed end = each_signed (suc n) (waits_behind waits v) vs is zip.1 placed.1 end
 each_signed n waits (v ∷ vs) (DoHash alg ∷ is) zip placed end = each_signed (suc n) (waits_behind waits v) vs is zip.1 placed.1 end
 each_signed n waits (v ∷ vs) (Auth c ∷ is) zip placed end =
     let e = zip.0.written in
     let now : waits_behind waits v ≡ true = rw e refl in
-    both _ _ (signature_comes vs is zip.1 (rw now at placed.1) (rw now at end))
+    and_from _ _ (signature_comes vs is zip.1 (rw now at placed.1) (rw now at end))
     (each_signed (suc n) (waits_behind waits v) vs is zip.1 placed.1 end)
 each_signed n waits (v ∷ vs) (Name c ∷ is) zip placed end =
     let e = zip.0.written in
     let now : waits_behind waits v ≡ true = rw e refl in
-    both _ _ (signature_comes vs is zip.1 (rw now at placed.1) (rw now at end))
+    and_from _ _ (signature_comes vs is zip.1 (rw now at placed.1) (rw now at end))
     (each_signed (suc n) (waits_behind waits v) vs is zip.1 placed.1 end)
 each_signed n waits (v ∷ vs) (Signature s ∷ is) zip placed end = each_signed (suc n) (waits_behind waits v) vs is zip.1 placed.1 end
+each_signed n waits vs is zip placed end = absurd zip
 
 pub signed : (v : Value) (is : List SeqItem) → SeqOf v is → are_signed is ≡ true
 signed v is s = each_signed 1 false s.values is s.each s.in_place s.all_signed

@@ -3,7 +3,7 @@ use Rattle.std.proofs.Common.{◌≡◌, ◌≢◌, ℕ, List, [], ◌++◌, ref
 use Rattle.std.specs.Prelude.{codes}
 use Rattle.std.specs.List.{AllZip}
 use Rattle.sexpr_core.specs.declared.fault.FormFault.{FormFault}
-use Rattle.sexpr_core.specs.declared.fault.FormFault.TheVariants.{TooLong, TooDeep, Short, Bad, Trailing, Memory}
+use Rattle.sexpr_core.specs.declared.fault.FormFault.TheVariants.{TooLong, TooDeep, Short, Memory}
 use Rattle.sexpr_core.specs.Value.{Value, canon, IsWithinLimits}
 use Rattle.sexpr_core.specs.Refusal.{Refused}
 use Rattle.sexpr_core.proofs.Refusals.{no_refusal}
@@ -30,9 +30,8 @@ pub well_formed : (text : List ℕ) (v : Value) (form : FormFault) → IsWithinL
 well_formed text v TooLong within written found refused = too_long v within (subst (λ (octets : List ℕ). Refused octets TooLong) written refused)
 well_formed text v TooDeep within written found refused = no_refusal text TooDeep v tt refused within written
 well_formed text v Short within written found refused = no_refusal text Short v tt refused within written
-well_formed text v (Bad at) within written found refused = no_refusal text (Bad at) v tt refused within written
-well_formed text v (Trailing at) within written found refused = no_refusal text (Trailing at) v tt refused within written
 well_formed text v Memory within written found refused = found refl
+well_formed text v form within written found refused = no_refusal text form v tt refused within written
 
 -- a canonical text is that of one value
 pub one_text : (text : List ℕ) (v w : Value) → text ≡ canon v → text ≡ canon w → v ≡ w
@@ -53,9 +52,7 @@ no_part p c v (faults.Request fault) read same refused =
     refused.none c.request (subst (λ (w : Value). RequestOf w c.request) (sym same.request) read.request)
 no_part p c v (faults.At fault) read same refused =
     refused.none c.moment (subst (λ (w : Value). DateOf w c.moment) (sym same.at) read.moment)
-no_part p c v faults.Shape read same refused = refused
-no_part p c v faults.Memory read same refused = refused
-no_part p c v (faults.Form fault) read same refused = refused
+no_part p c v fault read same refused = refused
 
 no_fault : (v : Value) (c : Case) (fault : CaseFault) → CaseOf v c → ¬ ValueRefused v fault
 no_fault v c fault read (inl misbuilt) = misbuilt.none read.parts read.written
