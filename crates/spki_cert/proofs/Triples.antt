@@ -1,5 +1,5 @@
 -- The fault that is named of a list of a head and three members, of which the last is any value: a signature, or a row.
-use Rattle.std.proofs.Common.{◌≡◌, ℕ, List, [], ◌∷◌, drop, Bool, true, Option, Some, None, sym, ◌∙◌}
+use Rattle.std.proofs.Common.{◌≡◌, ℕ, List, [], ◌∷◌, drop, Bool, true, Option, Some, None, ◌∙◌, rules}
 use Rattle.sexpr_core.specs.Value.{Value, plain, group}
 use Rattle.sexpr_core.specs.Shapes.{IsNotHeaded}
 use Rattle.spki_tag.specs.FirstFault.{first_fault, unless}
@@ -60,7 +60,4 @@ module _ {word : List ℕ} {fault_of first_of second_of : LooksAt} (triple : IsT
       )
 
   pub triple-read : (v : Value) → fault_of v ≡ None → AreThree word first_of second_of v
-  triple-read v e =
-      let looks = none-found (unless (is_headed word v) Shape) _ (sym (triple.looked v) ∙ e) in
-      let form = is-headed word v (unless-none (is_headed word v) Shape looks.0) in
-      three-of v form.0 form.1 (sym (triple-form v form.0 form.1) ∙ e)
+  triple-read v e = search (rules, none-found, is-headed, unless-none, three-of, triple-form)

@@ -1,6 +1,5 @@
-use Rattle.std.proofs.Common.{◌∙◌, ◌≡◌, Some, rules}
+use Rattle.std.proofs.Common.{◌∙◌, rules}
 use Rattle.std.specs.Prelude.{codes}
-use Rattle.spki_cert.specs.declared.fault.CertFaultKind.{CertFaultKind}
 use Rattle.spki_cert.proofs.Looking.{carried}
 use Rattle.spki_cert.proofs.Groups.{same_others, headed-by, not-headed, behind-group}
 use Rattle.spki_cert.proofs.EntryLaws.{unversioned}
@@ -28,9 +27,7 @@ returns-in_default-headed-2-clause-faultless c = search (rules, outer-form, not-
 
 pub returns-in_err-check_version-clause-named : goal.returns-in_err-check_version-clause-named
 unfolding outer_fault
-returns-in_err-check_version-clause-named c =
-    carried c.from_residual.result _ (λ (kind : CertFaultKind). outer_fault c.args.node.now ≡ Some kind) c.from_residual.ensures.1
-    (search (rules, outer-form, headed-by, behind-group))
+returns-in_err-check_version-clause-named c = search (rules, carried, outer-form, headed-by, behind-group)
 
 pub returns-clause-faultless : goal.returns-clause-faultless
 unfolding outer_fault

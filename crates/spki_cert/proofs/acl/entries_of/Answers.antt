@@ -1,4 +1,4 @@
-use Rattle.std.proofs.Common.{◌∷◌, ◌++◌, [], List, sym, subst, arith, ◌≡◌, refl, rules}
+use Rattle.std.proofs.Common.{◌∷◌, ◌++◌, [], List, sym, subst, ◌≡◌, refl, rules}
 use Rattle.std.specs.List.{AllZip}
 use Rattle.std.proofs.lemmas.Slice.Zip.{AllZip-long}
 use Rattle.spki_cert.specs.declared.entry.Entry.{Entry}
@@ -26,12 +26,7 @@ loop-member-init c = ([], refl, subst (λ (es : List Entry). AllZip EntryOf [] e
 
 pub returns-in-Err-clause-named : goal.returns-in-Err-clause-named
 unfolding entries_fault
-returns-in-Err-clause-named c =
-    let i = c.loop-member.invariant in
-    let long = AllZip-long EntryOf i.0 c.loop-member.entries.items i.2 in
-    λ known.
-    items-fault entry_fault c.args.members i.0 c.loop-member.rest c.in-Some.others c.in-Some.member _ i.3 c.in-Some.ensures (c.in-Err.ensures.named known)
-    (let e = c.len-item.ensures in omega arith)
+returns-in-Err-clause-named c = search (rules, AllZip-long, items-fault)
 
 pub returns-clause-faultless : goal.returns-clause-faultless
 unfolding entries_fault

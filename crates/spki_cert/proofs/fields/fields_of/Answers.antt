@@ -1,13 +1,10 @@
-use Rattle.std.proofs.Common.{◌≡◌, ◌≢◌, ◌∷◌, ◌++◌, [], ℕ, List, sym, ap, subst, ◌∙◌, refl, Some, None, rules}
-use Rattle.spki_cert.specs.declared.fault.CertFaultKind.{CertFaultKind}
-use Rattle.spki_cert.specs.declared.fault.CertFaultKind.TheVariants.{Memory}
+use Rattle.std.proofs.Common.{◌≡◌, ◌∷◌, ◌++◌, [], ℕ, List, sym, ap, subst, ◌∙◌, rules}
 use Rattle.spki_cert.specs.declared.fields.Known.{Known}
 use Rattle.spki_cert.specs.Inner.Gathering.{AreRead, IsNew, gather, fault_in}
 use Rattle.spki_cert.proofs.Looking.{carried}
 use Rattle.spki_cert.proofs.Groups.{split, moved}
 use Rattle.spki_cert.proofs.KnownLaws.{read-none, read-more}
 use Rattle.spki_cert.specs.declared.fault.CertFaultKind.TheVariants.{Shape}
-use Rattle.spki_cert.specs.FieldFaults.{fields_fault}
 use Rattle.spki_cert.proofs.FieldFaultLaws.{left-all, left-fault, left-next, left-none, field-new, field-not_new, field-is_new}
 use Rattle.spki_cert.proofs.FieldFaultNone.{fields-read}
 use Rattle.spki_cert.proofs.fields.fields_of.Goals as goal
@@ -31,14 +28,7 @@ loop-field-preserved c =
     )
 
 pub loop-field-init : goal.loop-field-init
-loop-field-init c = (
-  [],
-  refl,
-  subst
-      (λ (hs : List (List ℕ)). AreRead [] hs (record { issuer = None; subject = None; tag = None; limits = record { not_before = None; not_after = None }; valid = None }))
-      (sym c.new-heads.ensures.items) read-none,
-  left-all (fault_in c.args.place) c.args.members,
-)
+loop-field-init c = search (rules, read-none, left-all)
 
 pub returns-in_default-new_head-clause-named : goal.returns-in_default-new_head-clause-named
 returns-in_default-new_head-clause-named c =
@@ -50,20 +40,10 @@ returns-in_default-new_head-clause-named c =
     (field-not_new c.args.place i.0 c.loop-field.heads.items c.loop-field.known c.in-Some.field i.2 none)
 
 pub returns-in_err-said-clause-named : goal.returns-in_err-said-clause-named
-returns-in_err-said-clause-named c =
-    let i = c.loop-field.invariant in
-    let new : IsNew c.in-Some.field c.loop-field.heads.items c.in-Some-new_head.head.now =
-    subst (λ (hs : List (List ℕ)). IsNew c.in-Some.field hs c.in-Some-new_head.head.now) c.deref.ensures.value c.in-Some-new_head.ensures in
-    carried c.from_residual.result _ (λ (kind : CertFaultKind). kind ≢ Memory → fields_fault (fault_in c.args.place) c.args.members ≡ Some kind) c.from_residual.ensures.1
-    (λ known.
-    left-fault (fault_in c.args.place) c.args.members i.0 c.loop-field.rest c.in-Some.others c.in-Some.field _ i.3 c.in-Some.ensures
-    (field-new (fault_in c.args.place) i.0 c.in-Some.field _
-    (field-is_new i.0 c.loop-field.heads.items c.loop-field.known c.in-Some.field c.in-Some-new_head.head.now i.2 new) (c.in_err-said.ensures.named known)))
+returns-in_err-said-clause-named c = search (rules, carried, left-fault, field-new, field-is_new)
 
 pub returns-clause-faultless : goal.returns-clause-faultless
-returns-clause-faultless c =
-    let i = c.loop-field.invariant in
-    let e : c.loop-field.rest ≡ [] = search rules in left-none (fault_in c.args.place) c.args.members i.0 c.loop-field.rest i.3 e
+returns-clause-faultless c = search (rules, left-none)
 
 pub returns-clause-are_fields : goal.returns-clause-are_fields
 returns-clause-are_fields c = fields-read c.args.place c.args.members (returns-clause-faultless c)

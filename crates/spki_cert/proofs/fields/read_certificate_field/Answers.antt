@@ -1,32 +1,23 @@
-use Rattle.std.proofs.Common.{◌≢◌, ◌≡◌, ◌∙◌, Some}
+use Rattle.std.proofs.Common.{◌∙◌, rules}
 use Rattle.std.proofs.lemmas.Result.{IfErr-weaker, IfOk-weaker}
-use Rattle.spki_cert.specs.declared.fault.CertFaultKind.{CertFaultKind}
-use Rattle.spki_cert.specs.declared.fault.CertFaultKind.TheVariants.{Memory}
 use Rattle.spki_cert.proofs.Looking.{carried}
-use Rattle.spki_cert.specs.FieldFaults.{cert_field_fault}
 use Rattle.spki_cert.proofs.FieldFaultLaws.{cert-issuer_field, cert-subject_field, cert-version_field, cert-unread, cert-common}
 use Rattle.spki_cert.proofs.fields.read_certificate_field.Goals as goal
 
 pub returns-in_err-issuer_in-clause-named : goal.returns-in_err-issuer_in-clause-named
-returns-in_err-issuer_in-clause-named c =
-    carried c.from_residual.result _ (λ (kind : CertFaultKind). kind ≢ Memory → cert_field_fault c.args.field.now ≡ Some kind) c.from_residual.ensures.1
-    (λ known. cert-issuer_field c.args.field.now _ c.in-Some.ensures ∙ c.in_err-issuer_in.ensures.named)
+returns-in_err-issuer_in-clause-named c = search (rules, carried, cert-issuer_field)
 
 pub returns-in-Some-clause-faultless : goal.returns-in-Some-clause-faultless
 returns-in-Some-clause-faultless c = cert-issuer_field c.args.field.now _ c.in-Some.ensures ∙ c.in_ok-issuer_in.ensures.faultless
 
 pub returns-in_err-subject_in-clause-named : goal.returns-in_err-subject_in-clause-named
-returns-in_err-subject_in-clause-named c =
-    carried c.from_residual-in_err-subject_in.result _ (λ (kind : CertFaultKind). kind ≢ Memory → cert_field_fault c.args.field.now ≡ Some kind) c.from_residual-in_err-subject_in.ensures.1
-    (λ known. cert-subject_field c.args.field.now _ c.in-Some-headed.ensures ∙ c.in_err-subject_in.ensures.named known)
+returns-in_err-subject_in-clause-named c = search (rules, carried, cert-subject_field)
 
 pub returns-in-Some-headed-clause-faultless : goal.returns-in-Some-headed-clause-faultless
 returns-in-Some-headed-clause-faultless c = cert-subject_field c.args.field.now _ c.in-Some-headed.ensures ∙ c.in_ok-subject_in.ensures.faultless
 
 pub returns-in_err-check_version-clause-named : goal.returns-in_err-check_version-clause-named
-returns-in_err-check_version-clause-named c =
-    carried c.from_residual-in_err-check_version.result _ (λ (kind : CertFaultKind). kind ≢ Memory → cert_field_fault c.args.field.now ≡ Some kind) c.from_residual-in_err-check_version.ensures.1
-    (λ known. cert-version_field c.args.field.now _ c.in-Some-headed-2.ensures ∙ c.in_err-check_version.ensures.named)
+returns-in_err-check_version-clause-named c = search (rules, carried, cert-version_field)
 
 pub returns-in-Some-headed-2-clause-faultless : goal.returns-in-Some-headed-2-clause-faultless
 returns-in-Some-headed-2-clause-faultless c = cert-version_field c.args.field.now _ c.in-Some-headed-2.ensures ∙ c.in_ok-check_version.ensures.faultless

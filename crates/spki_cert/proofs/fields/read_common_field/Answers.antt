@@ -1,19 +1,14 @@
-use Rattle.std.proofs.Common.{◌≢◌, ◌≡◌, ◌∙◌, Some, [], List, ap, rules}
+use Rattle.std.proofs.Common.{◌≡◌, ◌∙◌, [], List, ap, rules}
 use Rattle.std.proofs.lemmas.Result.{IfErr-weaker, IfOk-weaker}
-use Rattle.spki_cert.specs.declared.fault.CertFaultKind.{CertFaultKind}
-use Rattle.spki_cert.specs.declared.fault.CertFaultKind.TheVariants.{Memory}
 use Rattle.spki_cert.proofs.Looking.{carried, none-some}
 use Rattle.sexpr_core.specs.Value.{Value}
 use Rattle.spki_cert.specs.declared.fault.CertFaultKind.TheVariants.{Shape}
 use Rattle.spki_cert.specs.Places.{unless_none}
-use Rattle.spki_cert.specs.FieldFaults.{entry_field_fault}
 use Rattle.spki_cert.proofs.FieldFaultLaws.{entry-tag_field, entry-propagate, entry-comment, entry-time}
 use Rattle.spki_cert.proofs.fields.read_common_field.Goals as goal
 
 pub returns-in_err-tag_in-clause-named : goal.returns-in_err-tag_in-clause-named
-returns-in_err-tag_in-clause-named c =
-    carried c.from_residual.result _ (λ (kind : CertFaultKind). kind ≢ Memory → entry_field_fault c.args.field.now ≡ Some kind) c.from_residual.ensures.1
-    (λ known. entry-tag_field c.args.field.now _ c.in-Some.ensures ∙ c.in_err-tag_in.ensures.named known)
+returns-in_err-tag_in-clause-named c = search (rules, carried, entry-tag_field)
 
 pub returns-in-Some-clause-faultless : goal.returns-in-Some-clause-faultless
 returns-in-Some-clause-faultless c = entry-tag_field c.args.field.now _ c.in-Some.ensures ∙ c.in_ok-tag_in.ensures.faultless
@@ -32,11 +27,7 @@ pub returns-in-Some-headed-2-clause-faultless : goal.returns-in-Some-headed-2-cl
 returns-in-Some-headed-2-clause-faultless c = entry-comment c.args.field.now _ c.in-Some-headed-2.ensures
 
 pub returns-clause-faultless : goal.returns-clause-faultless
-returns-clause-faultless c =
-    IfOk-weaker c.read_validity_field.result _ _
-    (λ _ faultless. entry-time c.args.field.now _ c.in_default.ensures c.in_default-headed.ensures c.in_default-headed-2.ensures faultless) c.read_validity_field.ensures.faultless
+returns-clause-faultless c = search (rules, IfOk-weaker, entry-time)
 
 pub returns-clause-named : goal.returns-clause-named
-returns-clause-named c =
-    IfErr-weaker c.read_validity_field.result _ _
-    (λ kind named _. entry-time c.args.field.now _ c.in_default.ensures c.in_default-headed.ensures c.in_default-headed-2.ensures named) c.read_validity_field.ensures.named
+returns-clause-named c = search (rules, IfErr-weaker, entry-time)

@@ -1,15 +1,12 @@
-use Rattle.spki_cert.specs.declared.fault.CertFaultKind.{CertFaultKind}
 use Rattle.spki_cert.specs.declared.fault.CertFaultKind.TheVariants.{Shape}
 use Rattle.spki_cert.proofs.Looking.{carried, no-plain, none-some}
-use Rattle.std.proofs.Common.{◌≡◌, Some, rules}
+use Rattle.std.proofs.Common.{rules}
 use Rattle.spki_cert.specs.SubjectFaults.{issuer_fault}
 use Rattle.spki_cert.proofs.SubjectFaultLaws.{issuer-principal, issuer-form}
 use Rattle.spki_cert.proofs.principal_reader.issuer_of.Goals as goal
 
 pub returns-in_err-principal-clause-named : goal.returns-in_err-principal-clause-named
-returns-in_err-principal-clause-named c =
-    carried c.from_residual.result _ (λ (kind : CertFaultKind). issuer_fault c.args.node.now ≡ Some kind) c.from_residual.ensures.1
-    (issuer-principal c.args.node.now _ c.in_default.ensures c.in_err-principal.ensures.named)
+returns-in_err-principal-clause-named c = search (rules, carried, issuer-principal)
 
 pub returns-in_default-clause-faultless : goal.returns-in_default-clause-faultless
 returns-in_default-clause-faultless c = issuer-principal c.args.node.now _ c.in_default.ensures c.in_ok-principal.ensures.faultless
@@ -20,9 +17,7 @@ returns-in_default-split_first-clause-named c = search (rules, issuer-form)
 
 pub returns-in_err-principal-2-clause-named : goal.returns-in_err-principal-2-clause-named
 unfolding issuer_fault
-returns-in_err-principal-2-clause-named c =
-    carried c.from_residual-in_err-principal-2.result _ (λ (kind : CertFaultKind). issuer_fault c.args.node.now ≡ Some kind) c.from_residual-in_err-principal-2.ensures.1
-    (search (rules, issuer-form))
+returns-in_err-principal-2-clause-named c = search (rules, carried, issuer-form)
 
 pub returns-in_default-split_first-2-clause-named : goal.returns-in_default-split_first-2-clause-named
 unfolding issuer_fault

@@ -1,8 +1,6 @@
-use Rattle.spki_cert.specs.declared.fault.CertFaultKind.{CertFaultKind}
 use Rattle.spki_cert.proofs.Looking.{carried, no-plain}
 use Rattle.spki_cert.proofs.SubjectLaws.{principal-names}
-use Rattle.std.proofs.Common.{◌≡◌, ◌≢◌, Some, rules, ◌++◌, ◌∙◌, ap, List, ℕ}
-use Rattle.spki_cert.specs.declared.fault.CertFaultKind.TheVariants.{Memory}
+use Rattle.std.proofs.Common.{rules, ◌++◌, ◌∙◌, ap, List, ℕ}
 use Rattle.spki_cert.specs.SubjectFaults.{names_fault}
 use Rattle.spki_cert.proofs.SubjectFaultLaws.{some-names, are-plains}
 use Rattle.spki_cert.proofs.principal_reader.named_by.Goals as goal
@@ -19,9 +17,7 @@ returns-in_default-clause-named c = λ _. search rules
 
 pub returns-in_err-names-clause-named : goal.returns-in_err-names-clause-named
 unfolding names_fault
-returns-in_err-names-clause-named c =
-    carried c.from_residual-in_err-names.result _ (λ (kind : CertFaultKind). kind ≢ Memory → names_fault c.args.members ≡ Some kind) c.from_residual-in_err-names.ensures.1
-    (λ known. let named = c.in_err-names.ensures.named known in search rules)
+returns-in_err-names-clause-named c = search (rules, carried)
 
 pub returns-in-Some-plain_octets-clause-faultless : goal.returns-in-Some-plain_octets-clause-faultless
 unfolding names_fault
@@ -30,9 +26,7 @@ returns-in-Some-plain_octets-clause-faultless c =
 
 pub returns-in_err-principal-clause-named : goal.returns-in_err-principal-clause-named
 unfolding names_fault
-returns-in_err-principal-clause-named c =
-    carried c.from_residual-in_err-principal.result _ (λ (kind : CertFaultKind). kind ≢ Memory → names_fault c.args.members ≡ Some kind) c.from_residual-in_err-principal.ensures.1
-    (λ _. search (rules, no-plain))
+returns-in_err-principal-clause-named c = search (rules, carried, no-plain)
 
 pub returns-then-is_empty-clause-named : goal.returns-then-is_empty-clause-named
 unfolding names_fault
@@ -40,13 +34,8 @@ returns-then-is_empty-clause-named c = λ _. search (rules, no-plain)
 
 pub returns-in_err-names-2-clause-named : goal.returns-in_err-names-2-clause-named
 unfolding names_fault
-returns-in_err-names-2-clause-named c =
-    carried c.from_residual-in_err-names-2.result _ (λ (kind : CertFaultKind). kind ≢ Memory → names_fault c.args.members ≡ Some kind) c.from_residual-in_err-names-2.ensures.1
-    (λ known. let named = c.in_err-names-2.ensures.named known in let some = some-names c.in-Some.others
-    (λ e. absurd (let f = c.if-is_empty.ensures.1 e in cc)) in search (rules, no-plain))
+returns-in_err-names-2-clause-named c = search (rules, carried, some-names, no-plain)
 
 pub returns-clause-faultless : goal.returns-clause-faultless
 unfolding names_fault
-returns-clause-faultless c =
-    let found = c.in_ok-names-2.ensures.found in let all = are-plains _ found.0 found.2 in
-    let some = some-names c.in-Some.others (λ e. absurd (let f = c.if-is_empty.ensures.1 e in cc)) in search (rules, no-plain)
+returns-clause-faultless c = search (rules, are-plains, some-names, no-plain)

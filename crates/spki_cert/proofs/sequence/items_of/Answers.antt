@@ -1,16 +1,13 @@
-use Rattle.std.proofs.Common.{◌≡◌, ◌≢◌, ◌∷◌, ◌++◌, [], ℕ, List, length, Option, sym, subst, arith, ◌+◌, refl, Some, None, rules}
+use Rattle.std.proofs.Common.{◌≡◌, ◌∷◌, ◌++◌, [], ℕ, List, length, Option, sym, subst, arith, ◌+◌, rules}
 use Rattle.std.specs.List.{AllZip}
 use Rattle.std.proofs.lemmas.Slice.Zip.{AllZip-long}
 use Rattle.spki_cert.specs.declared.certificate.SeqItem.{SeqItem}
-use Rattle.spki_cert.specs.declared.fault.CertFault.{CertFault}
-use Rattle.spki_cert.specs.declared.fault.CertFaultKind.TheVariants.{Memory}
 use Rattle.spki_cert.specs.Sequences.{ItemOf}
 use Rattle.spki_cert.specs.Inner.Gathering.{Waits}
 use Rattle.spki_cert.proofs.Groups.{split, moved}
 use Rattle.spki_cert.proofs.Looking.{carried}
 use Rattle.spki_cert.proofs.EntryLaws.{items-push}
 use Rattle.spki_cert.proofs.SeqLaws.{place-more, waits-more}
-use Rattle.spki_cert.specs.SequenceFaults.{items_fault}
 use Rattle.spki_cert.proofs.SequenceFaultNone.{item-none}
 use Rattle.spki_cert.proofs.SequenceFaultLaws.{sequence-all, sequence-place, sequence-item, sequence-next, sequence-end}
 use Rattle.spki_cert.proofs.sequence.items_of.Goals as goal
@@ -34,36 +31,13 @@ loop-member-preserved c =
     )
 
 pub loop-member-init : goal.loop-member-init
-loop-member-init c = (
-  [],
-  refl,
-  subst (λ (is : List SeqItem). AllZip ItemOf [] is) (sym c.new-items.ensures.items) tt,
-  tt,
-  refl,
-  sequence-all c.args.members,
-)
+loop-member-init c = search (rules, sequence-all)
 
 pub returns-in_err-check_place-clause-named : goal.returns-in_err-check_place-clause-named
-returns-in_err-check_place-clause-named c =
-    let i = c.loop-member.invariant in
-    let long = AllZip-long ItemOf i.0 c.loop-member.items.items i.2 in
-    let number : c.len-item.result + 1 ≡ length i.0 + 1 = (let f = c.len-item.ensures in omega arith) in
-    carried c.from_residual.result _ (λ (fault : CertFault). fault.kind ≢ Memory → items_fault c.args.members ≡ Some fault) c.from_residual.ensures.1
-    (λ _.
-    sequence-place c.args.members i.0 c.loop-member.rest c.in-Some.others c.loop-member.waits c.in-Some.member (c.len-item.result + 1) _ i.5 c.in-Some.ensures number
-    c.in_err-check_place.ensures.named)
+returns-in_err-check_place-clause-named c = search (rules, AllZip-long, carried, sequence-place)
 
 pub returns-in-Err-clause-named : goal.returns-in-Err-clause-named
-returns-in-Err-clause-named c =
-    let i = c.loop-member.invariant in
-    let long = AllZip-long ItemOf i.0 c.loop-member.items.items i.2 in
-    let number : c.len-item.result + 1 ≡ length i.0 + 1 = (let f = c.len-item.ensures in omega arith) in
-    λ known.
-    sequence-item c.args.members i.0 c.loop-member.rest c.in-Some.others c.loop-member.waits c.in-Some.member (c.len-item.result + 1) _ i.5 c.in-Some.ensures number
-    c.in_ok-check_place.ensures.faultless (c.in-Err.ensures.named known)
+returns-in-Err-clause-named c = search (rules, AllZip-long, sequence-item)
 
 pub returns-in-None-clause-faultless : goal.returns-in-None-clause-faultless
-returns-in-None-clause-faultless c =
-    let i = c.loop-member.invariant in
-    let e : c.loop-member.rest ≡ [] = search rules in
-    sequence-end c.args.members i.0 c.loop-member.rest c.loop-member.waits None i.5 e c.in-None.is
+returns-in-None-clause-faultless c = search (rules, sequence-end)

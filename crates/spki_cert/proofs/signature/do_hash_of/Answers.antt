@@ -1,7 +1,6 @@
-use Rattle.std.proofs.Common.{◌≡◌, Some, rules, sym}
+use Rattle.std.proofs.Common.{rules, sym}
 use Rattle.std.specs.Str.{bytes_eq}
 use Rattle.std.proofs.lemmas.Bool.{not-true}
-use Rattle.spki_cert.specs.declared.fault.CertFaultKind.{CertFaultKind}
 use Rattle.spki_cert.specs.ItemFaults.{do_fault}
 use Rattle.spki_cert.specs.declared.fault.CertFaultKind.TheVariants.{Shape}
 use Rattle.spki_cert.proofs.Looking.{carried, no-plain, none-some}
@@ -30,9 +29,7 @@ returns-in_default-split_first-2-clause-named c = search (rules, do-form)
 
 pub returns-in_err-alg-clause-named : goal.returns-in_err-alg-clause-named
 unfolding do_fault
-returns-in_err-alg-clause-named c =
-    carried c.from_residual.result _ (λ (kind : CertFaultKind). do_fault c.args.node.now ≡ Some kind) c.from_residual.ensures.1
-    (search (rules, do-form))
+returns-in_err-alg-clause-named c = search (rules, carried, do-form)
 
 pub returns-else-is_empty-clause-named : goal.returns-else-is_empty-clause-named
 unfolding do_fault

@@ -1,5 +1,4 @@
-use Rattle.std.proofs.Common.{◌≡◌, Some, rules}
-use Rattle.spki_cert.specs.declared.fault.CertFaultKind.{CertFaultKind}
+use Rattle.std.proofs.Common.{rules}
 use Rattle.spki_cert.specs.declared.fault.CertFaultKind.TheVariants.{Shape}
 use Rattle.spki_cert.proofs.Looking.{carried, none-some}
 use Rattle.spki_cert.specs.ItemFaults.{signature_fault}
@@ -16,9 +15,7 @@ returns-in_default-split_first-clause-named c = search (rules, triple-form signa
 
 pub returns-in_err-alg-clause-named : goal.returns-in_err-alg-clause-named
 unfolding signature_fault
-returns-in_err-alg-clause-named c =
-    carried c.from_residual.result _ (λ (kind : CertFaultKind). signature_fault c.args.node.now ≡ Some kind) c.from_residual.ensures.1
-    (search (rules, triple-form signature-looks))
+returns-in_err-alg-clause-named c = search (rules, carried, triple-form, signature-looks)
 
 pub returns-in_default-split_first-2-clause-named : goal.returns-in_default-split_first-2-clause-named
 unfolding signature_fault
@@ -26,9 +23,7 @@ returns-in_default-split_first-2-clause-named c = search (rules, triple-form sig
 
 pub returns-in_err-signer-clause-named : goal.returns-in_err-signer-clause-named
 unfolding signature_fault
-returns-in_err-signer-clause-named c =
-    carried c.from_residual-in_err-signer.result _ (λ (kind : CertFaultKind). signature_fault c.args.node.now ≡ Some kind) c.from_residual-in_err-signer.ensures.1
-    (search (rules, triple-form signature-looks))
+returns-in_err-signer-clause-named c = search (rules, carried, triple-form, signature-looks)
 
 pub returns-in_default-split_first-3-clause-named : goal.returns-in_default-split_first-3-clause-named
 unfolding signature_fault

@@ -1,5 +1,5 @@
 use Rattle.spki_cert.specs.declared.fault.CertFaultKind.{CertFaultKind}
-use Rattle.std.proofs.Common.{◌≡◌, List, ℕ, sym, refl, Option, Some, None, false, ◌∙◌, true}
+use Rattle.std.proofs.Common.{◌≡◌, List, ℕ, sym, refl, Option, Some, None, false, ◌∙◌, rules}
 use Rattle.std.specs.Prelude.{codes, is_some}
 use Rattle.spki_cert.specs.Inner.Gathering.{first, last}
 use Rattle.spki_cert.proofs.Looking.{carried}
@@ -23,10 +23,7 @@ returns-in-Some-headed-clause-found c =
     last c.in_ok-date-2.date (c.in-Some-headed.members, c.in-Some-headed.ensures, c.in_ok-date-2.ensures.found) (no-limit c.args.window.not_after (sym c.is_some-in-Some-headed.ensures ∙ c.if-is_some-2.false)) refl
 
 pub returns-then-is_some-clause-named : goal.returns-then-is_some-clause-named
-returns-then-is_some-clause-named c = λ before read.
-    field-again limit_fault before c.args.field.now
-    (again-limit (codes "not-before") (Sole DateOf) before c.args.field.now c.in-Some.members c.args.window.not_before true c.in-Some.ensures read.limits_are.0
-    (sym c.is_some.ensures ∙ c.if-is_some.true))
+returns-then-is_some-clause-named c = search (rules, field-again, again-limit)
 
 pub returns-in_err-date-clause-named : goal.returns-in_err-date-clause-named
 returns-in_err-date-clause-named c =
@@ -38,17 +35,10 @@ returns-in_err-date-clause-named c =
     (looked-first c.args.field.now _ c.in-Some.ensures ∙ c.in_err-date.ensures.named))
 
 pub returns-in-Some-clause-faultless : goal.returns-in-Some-clause-faultless
-returns-in-Some-clause-faultless c = λ before read.
-    field-new limit_fault before c.args.field.now _
-    (again-limit (codes "not-before") (Sole DateOf) before c.args.field.now c.in-Some.members c.args.window.not_before false c.in-Some.ensures read.limits_are.0
-    (sym c.is_some.ensures ∙ c.if-is_some.false))
-    (looked-first c.args.field.now _ c.in-Some.ensures ∙ c.in_ok-date.ensures.faultless)
+returns-in-Some-clause-faultless c = search (rules, field-new, again-limit, looked-first)
 
 pub returns-then-is_some-2-clause-named : goal.returns-then-is_some-2-clause-named
-returns-then-is_some-2-clause-named c = λ before read.
-    field-again limit_fault before c.args.field.now
-    (again-limit (codes "not-after") (Sole DateOf) before c.args.field.now c.in-Some-headed.members c.args.window.not_after true c.in-Some-headed.ensures read.limits_are.1
-    (sym c.is_some-in-Some-headed.ensures ∙ c.if-is_some-2.true))
+returns-then-is_some-2-clause-named c = search (rules, field-again, again-limit)
 
 pub returns-in_err-date-2-clause-named : goal.returns-in_err-date-2-clause-named
 returns-in_err-date-2-clause-named c =
@@ -60,11 +50,7 @@ returns-in_err-date-2-clause-named c =
     (looked-last c.args.field.now _ c.in-Some-headed.ensures ∙ c.in_err-date-2.ensures.named))
 
 pub returns-in-Some-headed-clause-faultless : goal.returns-in-Some-headed-clause-faultless
-returns-in-Some-headed-clause-faultless c = λ before read.
-    field-new limit_fault before c.args.field.now _
-    (again-limit (codes "not-after") (Sole DateOf) before c.args.field.now c.in-Some-headed.members c.args.window.not_after false c.in-Some-headed.ensures read.limits_are.1
-    (sym c.is_some-in-Some-headed.ensures ∙ c.if-is_some-2.false))
-    (looked-last c.args.field.now _ c.in-Some-headed.ensures ∙ c.in_ok-date-2.ensures.faultless)
+returns-in-Some-headed-clause-faultless c = search (rules, field-new, again-limit, looked-last)
 
 pub returns-in-Some-headed-2-clause-named : goal.returns-in-Some-headed-2-clause-named
 returns-in-Some-headed-2-clause-named c = λ before read.

@@ -1,6 +1,5 @@
 use Rattle.std.proofs.Common.{◌≡◌, rules}
-use Rattle.sexpr_core.specs.Value.{plain, string}
-use Rattle.std.specs.Prelude.{Some}
+use Rattle.sexpr_core.specs.Value.{plain}
 use Rattle.spki_cert.proofs.FixedLaws.{alg-list, alg-hinted, alg-other, alg-known}
 use Rattle.spki_cert.proofs.value_readers.algorithm_of.Goals as goal
 
@@ -8,9 +7,7 @@ pub returns-in-List-clause-first : goal.returns-in-List-clause-first
 returns-in-List-clause-first c = alg-list c.args.node.now c.in-List.field-0 (search rules)
 
 pub returns-in-String-Some-default-clause-first : goal.returns-in-String-Some-default-clause-first
-returns-in-String-Some-default-clause-first c =
-    let e : c.args.node.now ≡ string (Some c.in-String-Some-default.hint-0.now) c.in-String-Some-default.body.now = search rules in
-    alg-hinted c.args.node.now _ _ e
+returns-in-String-Some-default-clause-first c = search (rules, alg-hinted)
 
 pub returns-in-Some-clause-faultless : goal.returns-in-Some-clause-faultless
 returns-in-Some-clause-faultless c = alg-known c.args.node.now c.in-Some.alg (search rules)

@@ -20,9 +20,7 @@ returns-in_default-split_first-clause-named c = search (rules, hash-form)
 
 pub returns-in_err-alg-clause-named : goal.returns-in_err-alg-clause-named
 unfolding hash_fault
-returns-in_err-alg-clause-named c =
-    carried c.from_residual.result _ (λ (kind : CertFaultKind). hash_fault c.args.node.now ≡ Some kind) c.from_residual.ensures.1
-    (search (rules, hash-form))
+returns-in_err-alg-clause-named c = search (rules, carried, hash-form)
 
 pub returns-in_default-split_first-2-clause-named : goal.returns-in_default-split_first-2-clause-named
 unfolding hash_fault
