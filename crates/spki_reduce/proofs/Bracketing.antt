@@ -1,5 +1,5 @@
 -- A derivation may be bracketed from the left, and its leaves determine its root.
-use Rattle.std.proofs.Common.{◌≡◌, ℕ, List, [], ◌∷◌, ◌++◌, refl, sym, ◌∙◌, ap, append_assoc, append-nil}
+use Rattle.std.proofs.Common.{◌≡◌, ℕ, List, [], ◌∷◌, ◌++◌, refl, sym, ◌∙◌, ap, append_assoc, append-nil, rules}
 use Rattle.spki_cert.specs.declared.principal.Policy.{Policy}
 use Rattle.spki_tag.specs.Request.{Request}
 use Rattle.spki_reduce.specs.Tuples.{FiveTuple, FourTuple, Tuple, five, four}
@@ -167,11 +167,7 @@ module _ (policy : Policy) where
 
   pub bracketed : (tree : Tree) (root first : Tuple) (rest : List Tuple) → Derives policy tree root → leaves tree ≡ first ∷ rest
       → Derives policy (from_left first rest) root
-  bracketed tree root first rest d e =
-      let both : first_of tree ∷ others tree ≡ first ∷ rest = sym (leaves-is tree) ∙ e in
-      let x = head _ _ _ _ both in
-      let xs = tail _ _ _ _ both in
-      rw (← x, ← xs) (leftmost tree root d)
+  bracketed tree root first rest d e = search (rules, leaves-is, head, tail, leftmost)
 
   pub supported : (tree : Tree) (holder : List ℕ) (request : Request) (moment : List ℕ) (first : Tuple) (rest : List Tuple)
       → Supports policy tree holder request moment → leaves tree ≡ first ∷ rest

@@ -1,5 +1,5 @@
 -- What a chain that stops says of its tuples in any bracketing.
-use Rattle.std.proofs.Common.{◌≡◌, ℕ, suc, ◌+◌, ◌*◌, ◌≤◌, ◌<◌, Bool, true, false, ◌&&◌, List, [], ◌∷◌, ◌++◌, Some, refl, sym, ◌∙◌, ap, subst, arith, flat_map, append-nil, take, drop, slice_get, length, get_or, add-one, option_map}
+use Rattle.std.proofs.Common.{◌≡◌, ℕ, suc, ◌+◌, ◌*◌, ◌≤◌, ◌<◌, Bool, true, false, ◌&&◌, List, [], ◌∷◌, ◌++◌, Some, sym, ◌∙◌, ap, subst, arith, flat_map, append-nil, take, drop, slice_get, length, get_or, add-one, option_map, rules}
 use Rattle.std.proofs.Math.Nat.{mul-le-mul_left, mul-le-mul_right}
 use Rattle.std.proofs.Math.Seq.{take-suc}
 use Rattle.std.proofs.lemmas.List.{take-append-drop}
@@ -116,11 +116,7 @@ module _ (policy : Policy) (first : Tuple) where
 
   last_joins : (left : Tree) (tuple root made : Tuple) → Derives policy left root → Derives policy (join left (leaf tuple)) made
       → Joins policy root tuple made
-  last_joins left tuple root made d e =
-      let same : e.0 ≡ root = one_root policy left left e.0 root refl e.2 d in
-      let P : Tuple → Type 0 = λ x. Joins policy x tuple made in
-      let Q : Tuple → Type 0 = λ x. Joins policy e.0 x made in
-      subst P same (subst Q e.3 e.4)
+  last_joins left tuple root made d e = search (rules, one_root)
 
   -- ---- a chain that stops
 
@@ -147,7 +143,8 @@ module _ (policy : Policy) (first : Tuple) where
     excluded NotIssuer h = misfits NotIssuer tt h
     excluded NotTheName h = misfits NotTheName tt h
     excluded NoDelegation h = misfits NoDelegation tt h
-    excluded NoValidity h = subst NoMoment (parts_up_to windows_of (parts.all_windows policy) others step NoValidity h) (no_moment policy h.root h.tuple h.stopped)
+    excluded NoValidity h =
+        subst NoMoment (parts_up_to windows_of (parts.all_windows policy) others step NoValidity h) (no_moment policy h.root h.tuple h.stopped)
     excluded NoTag h = subst NoRequest (parts_up_to tags_of (parts.all_tags policy) others step NoTag h) (no_request policy h.root h.tuple h.stopped)
 
     underived : NoDerivation policy (first ∷ others) → SupportsNothing policy (first ∷ others)

@@ -1,5 +1,5 @@
 -- One more tuple joins a chain as it joins what the chain became.
-use Rattle.std.proofs.Common.{◌≡◌, ℕ, ◌*◌, ◌<◌, ◌≤◌, max, ◌&&◌, List, [], ◌∷◌, ◌++◌, fold, refl, sym, ◌∙◌, ap, subst, arith, append-nil}
+use Rattle.std.proofs.Common.{◌≡◌, ℕ, ◌*◌, ◌<◌, ◌≤◌, max, ◌&&◌, List, [], ◌∷◌, ◌++◌, fold, refl, sym, ◌∙◌, ap, subst, arith, append-nil, rules}
 use Rattle.std.proofs.Math.Nat.{mul-le-mul_right}
 use Rattle.std.proofs.lemmas.List.Folds.{list_all-append}
 use Rattle.std.proofs.lemmas.List.Sums.{fold-append}
@@ -15,7 +15,7 @@ use Rattle.spki_reduce.specs.declared.fold.Cause.{Cause}
 use Rattle.spki_reduce.specs.declared.fold.Cause.TheVariants.{NotIssuer, NotTheName, NoDelegation, NoValidity, NoTag}
 use Rattle.spki_reduce.specs.declared.tuple.Five.{Five}
 use Rattle.spki_reduce.specs.Tuples.{FiveTuple, FourTuple, Tuple, five, four, tags_of}
-use Rattle.spki_reduce.specs.Rules.{IsFor, Issues, Begins, Joins, Delegate, Resolve, delegated, resolved}
+use Rattle.spki_reduce.specs.Rules.{IsFor, Issues, Begins, Joins, Delegate, Resolve, resolved}
 use Rattle.spki_reduce.specs.Restrictions.{in_each, within_each, SomeMoment, NoMoment, met, nodes_product, deepest}
 use Rattle.spki_reduce.specs.Views.{five_tuple, issuer_of}
 use Rattle.spki_reduce.specs.Work.{Reaches}
@@ -72,16 +72,10 @@ module _ (window : Window) (windows more : List Window) (same : (t : List ℕ) �
 
 module _ (policy : Policy) (root : FiveTuple) (f : Five) (reduced : ReducesToFive root f) where
   pub is_for : (holder : List ℕ) → IsFor policy (five_tuple f) holder → IsFor policy root holder
-  is_for holder h = record {
-    whole = sym reduced.names ∙ h.whole;
-    named = ap (λ p. names policy p holder) (sym reduced.principal) ∙ h.named;
-  }
+  is_for holder h = search rules
 
   pub is_for_back : (holder : List ℕ) → IsFor policy root holder → IsFor policy (five_tuple f) holder
-  is_for_back holder h = record {
-    whole = reduced.names ∙ h.whole;
-    named = ap (λ p. names policy p holder) reduced.principal ∙ h.named;
-  }
+  is_for_back holder h = search rules
 
   issues : (right : FiveTuple) → Issues policy (five_tuple f) right → Issues policy root right
   issues right h = record { holder = h.holder; issued = h.issued; is_for = is_for h.holder h.is_for }
@@ -99,37 +93,13 @@ module _ (policy : Policy) (root : FiveTuple) (f : Five) (reduced : ReducesToFiv
 
   begins_back : (right : FourTuple) → Begins policy root.principal root.names right
       → Begins policy f.subject.principal f.subject.names right
-  begins_back right h = record {
-    rest = h.rest;
-    named = ap (λ p. names policy p right.key) reduced.principal ∙ h.named;
-    name = reduced.names ∙ h.name;
-  }
+  begins_back right h = search rules
 
   -- ---- joins
 
   delegates : (right : FiveTuple) (made : FiveTuple) (g : Five) → Delegate policy (five_tuple f) right made
       → ReducesToFive made g → SomeMoment made.windows → BecomesFive policy (five root) (five right) g
-  delegates right made g h k m =
-      let is = h.result_is in
-      let tags = ap (λ (t : FiveTuple). t.tags) is in
-      let windows = ap (λ (t : FiveTuple). t.windows) is in
-      record {
-        root = delegated root right;
-        joined = record { issues = issues right h.issues; allowed = sym reduced.delegation ∙ h.allowed; result_is = refl };
-        reduced = record {
-          issuer = k.issuer ∙ ap (λ (t : FiveTuple). t.issuer) is ∙ reduced.issuer;
-          principal = k.principal ∙ ap (λ (t : FiveTuple). t.principal) is;
-          names = k.names ∙ ap (λ (t : FiveTuple). t.names) is;
-          delegation = k.delegation ∙ ap (λ (t : FiveTuple). t.delegation) is;
-          requests = λ q is_request. k.requests q is_request ∙ ap (λ ts. in_each q ts) tags
-              ∙ in_more f.tag root.tags right.tags q (reduced.requests q is_request);
-          moments = λ t. k.moments t ∙ ap (λ ws. within_each t ws) windows
-              ∙ within_more f.window root.windows right.windows reduced.moments t;
-          nodes = fewer f.tag root.tags right.tags (nodes g.tag) reduced.nodes (rw tags at k.nodes);
-          depth = shallower f.tag root.tags right.tags (ldepth g.tag) reduced.depth (rw tags at k.depth);
-        };
-        timely = some_more f.window root.windows right.windows reduced.moments (subst SomeMoment windows m);
-      }
+  delegates right made g h k m = search (rules, issues, in_more, within_more, fewer, shallower, some_more)
 
   resolves : (right : FourTuple) (made : FiveTuple) (g : Five) → Resolve policy (five_tuple f) right made
       → ReducesToFive made g → SomeMoment made.windows → BecomesFive policy (five root) (four right) g

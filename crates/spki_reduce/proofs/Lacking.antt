@@ -1,5 +1,5 @@
 -- What a reduced authorization lacks, its root lacks, and every derivation from the same tuples.
-use Rattle.std.proofs.Common.{◌≡◌, ◌↔◌, ℕ, Bool, true, false, List, Option, Some, None, refl, sym, ◌∙◌, subst, IsNone}
+use Rattle.std.proofs.Common.{◌≡◌, ◌↔◌, ℕ, Bool, true, false, List, Option, Some, None, refl, sym, ◌∙◌, IsNone, rules}
 use Rattle.spki_cert.specs.declared.principal.Policy.{Policy}
 use Rattle.spki_cert.specs.Time.{within}
 use Rattle.spki_tag.specs.Request.{Request, IsRequest}
@@ -7,10 +7,9 @@ use Rattle.spki_tag.specs.Tag.{contains}
 use Rattle.spki_reduce.specs.declared.last_tests.Denial.{Denial}
 use Rattle.spki_reduce.specs.declared.last_tests.Denial.TheVariants.{NotTheKey, TagLacks, WindowLacks}
 use Rattle.spki_reduce.specs.declared.tuple.Five.{Five}
-use Rattle.spki_reduce.specs.Tuples.{FiveTuple, Tuple, own, five}
+use Rattle.spki_reduce.specs.Tuples.{FiveTuple, Tuple, own}
 use Rattle.spki_reduce.specs.Views.{five_tuple, issuer_of}
 use Rattle.spki_reduce.specs.Rules.{IsFor}
-use Rattle.spki_reduce.specs.Derivation.{from_left}
 use Rattle.spki_reduce.specs.Supports.{Grants}
 use Rattle.spki_reduce.specs.Restrictions.{in_each, within_each}
 use Rattle.spki_reduce.specs.Reduced.{ReducesToFive}
@@ -61,24 +60,10 @@ module _ (policy : Policy) (holder : List ℕ) (request : Request) (moment : Lis
   module _ (f : Five) (first : Tuple) (others : List Tuple) (folds : FoldsTo policy first others f) where
     supporting : issuer_of f.issuer ≡ own → IsFirstDenial policy folds.root holder request moment None
         → IsSupported policy first others holder request moment
-    supporting is h = record {
-      tree = from_left first others;
-      leaves_are = from_left-leaves first others;
-      supports = record {
-        root = folds.root;
-        derived = folds.derived;
-        grants = granted folds.root (sym folds.reduced.issuer ∙ is) h;
-      };
-    }
+    supporting is h = search (rules, from_left-leaves, granted)
 
     root_is : IsSupported policy first others holder request moment → Grants policy folds.root holder request moment
-    root_is s =
-        let same : five s.supports.root ≡ five folds.root =
-        one_root policy s.tree (from_left first others) (five s.supports.root) (five folds.root)
-        (s.leaves_are ∙ sym (from_left-leaves first others)) s.supports.derived folds.derived in
-        let P : FiveTuple → Type 0 = λ root. Grants policy root holder request moment in
-        let roots : s.supports.root ≡ folds.root = cc in
-        subst P roots s.supports.grants
+    root_is s = search (rules, one_root, from_left-leaves)
 
     pub supported : (denial : Option Denial) → issuer_of f.issuer ≡ own → IsFirstDenial policy folds.root holder request moment denial
         → IsNone denial ↔ IsSupported policy first others holder request moment

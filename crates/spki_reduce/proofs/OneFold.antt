@@ -6,6 +6,7 @@ use Rattle.std.specs.declared.cmp.Ordering.TheVariants.{Equal}
 use Rattle.std.specs.Ordering.{nat_cmp, is_le, ordering_reverse}
 use Rattle.std.proofs.lemmas.Cmp.{nat_list_cmp_total}
 use Rattle.std.proofs.lemmas.Map.Lookups.{exact_bytes}
+use Rattle.std.proofs.lemmas.Bool.{and_parts}
 use Rattle.spki_tag.specs.Time.{is_date}
 use Rattle.spki_cert.specs.declared.principal.Policy.{Policy}
 use Rattle.spki_cert.specs.declared.window.Window.{Window}
@@ -19,10 +20,6 @@ use Rattle.spki_reduce.proofs.Bracketing.{one_root}
 use Rattle.spki_reduce.proofs.OneFive.{five_one}
 
 -- ---- moments
-
-both : (a b : Bool) → (a && b) ≡ true → (a ≡ true) × (b ≡ true)
-both true b e = (refl, e)
-both false b e = absurd cc
 
 tied : (o : Ordering) → is_le o ≡ true → is_le (ordering_reverse o) ≡ true → o ≡ Equal
 tied Equal h k = refl
@@ -62,21 +59,15 @@ until-then (Some c) s t h k = upto-then s t c h k
 
 module _ (p q r u : Option (List ℕ)) (same : (t : List ℕ) → inside p q t ≡ inside r u t) (t : List ℕ) (here : inside p q t ≡ true) where
   moved : (s : List ℕ) → is_from p s ≡ true → is_until q s ≡ true → (is_from r s ≡ true) × (is_until u s ≡ true)
-  moved s h k = both (is_from r s) (is_until u s) (sym (same s) ∙ (λ i. h i && k i))
+  moved s h k = and_parts (is_from r s) (is_until u s) (sym (same s) ∙ (λ i. h i && k i))
 
   -- the first moment is in the other window
   first_in : (a : List ℕ) → p ≡ Some a → is_from r a ≡ true
-  first_in a e =
-      let at = both (is_from p t) (is_until q t) here in
-      let low : upto a t ≡ true = subst (λ o. is_from o t ≡ true) e at.0 in
-      (moved a (subst (λ o. is_from o a ≡ true) (sym e) (upto-self a)) (until-then q a t low at.1)).0
+  first_in a e = search (rules, and_parts, moved, upto-self, until-then)
 
   -- and so is the last one
   last_in : (c : List ℕ) → q ≡ Some c → is_until u c ≡ true
-  last_in c e =
-      let at = both (is_from p t) (is_until q t) here in
-      let high : upto t c ≡ true = subst (λ o. is_until o t ≡ true) e at.1 in
-      (moved c (from-then p t c at.0 high) (subst (λ o. is_until o c ≡ true) (sym e) (upto-self c))).1
+  last_in c e = search (rules, and_parts, moved, from-then, upto-self)
 
   -- what begins nowhere has the empty string
   begins_nowhere : (b : List ℕ) → p ≡ None → r ≡ Some b → is_date b ≡ true → ⊥
@@ -88,7 +79,7 @@ module _ (p q r u : Option (List ℕ)) (same : (t : List ℕ) → inside p q t �
   -- what ends nowhere has a string above every other
   ends_nowhere : (d : List ℕ) → q ≡ None → u ≡ Some d → ⊥
   ends_nowhere d e f =
-      let at = both (is_from p t) (is_until q t) here in
+      let at = and_parts (is_from p t) (is_until q t) here in
       let there = moved t at.0 at.1 in
       let high : upto t d ≡ true = subst (λ o. is_until o t ≡ true) f there.1 in
       let low : is_from p (d ++ 0 ∷ []) ≡ true =

@@ -1,5 +1,5 @@
 -- What joins of the code are in the model.
-use Rattle.std.proofs.Common.{◌≡◌, ◌≢◌, ℕ, ◌*◌, ◌≤◌, max, Bool, true, ◌&&◌, List, [], ◌∷◌, ◌++◌, refl, sym, ◌∙◌, ap, arith, subst, IsTrue, IfOk, Result, Ok, Err}
+use Rattle.std.proofs.Common.{◌≡◌, ◌≢◌, ℕ, ◌*◌, ◌≤◌, max, Bool, true, ◌&&◌, List, [], ◌∷◌, ◌++◌, refl, sym, ◌∙◌, ap, arith, IsTrue, IfOk, Result, Ok, Err, rules}
 use Rattle.spki_cert.specs.declared.principal.Policy.{Policy}
 use Rattle.std.proofs.Math.Bool.{and-true}
 use Rattle.spki_cert.specs.declared.window.Window.{Window}
@@ -16,8 +16,8 @@ use Rattle.spki_reduce.specs.declared.tuple.Five.{Five}
 use Rattle.spki_reduce.specs.declared.tuple.Four.{Four}
 use Rattle.spki_reduce.specs.Tuples.{five, four}
 use Rattle.spki_reduce.specs.Restrictions.{SomeMoment}
-use Rattle.spki_reduce.specs.Rules.{Issues, delegated, resolved, linked}
-use Rattle.spki_reduce.specs.Views.{five_tuple, four_tuple, issuer_of}
+use Rattle.spki_reduce.specs.Rules.{Issues, resolved, linked}
+use Rattle.spki_reduce.specs.Views.{five_tuple, four_tuple}
 use Rattle.spki_reduce.specs.Stops.{JoinButForTags, Stops}
 use Rattle.spki_reduce.specs.Reduced.{IsHandedOn, BecomesFive, BecomesFour, MatchJoined}
 
@@ -52,42 +52,15 @@ module _
       → (nodes tag ≤ nodes left.tag * nodes right.tag) × (ldepth tag ≤ max (ldepth left.tag) (ldepth right.tag))
       → (f : Five) → IsHandedOn left.issuer tag right window f × (tag ≢ set none)
       → BecomesFive policy (five (five_tuple left)) (five (five_tuple right)) f × (f.tag ≢ set none)
-  narrowed_joins meets tag exact bounds f (h, some) = (
-    record {
-      root = delegated (five_tuple left) (five_tuple right);
-      joined = record { issues = issues; allowed = allowed; result_is = refl };
-      reduced = record {
-        issuer = ap issuer_of h.issuer_is;
-        principal = h.principal;
-        names = h.names;
-        delegation = h.delegation;
-        requests = λ g is. ap (λ t. contains t g) h.tag_is ∙ exact g is ∙ both (contains left.tag g) (contains right.tag g);
-        moments = λ t. ap (λ w. within t w) h.window_is ∙ meets t ∙ both (within t left.window) (within t right.window);
-        nodes = omega (arith, ap nodes h.tag_is, bounds.0);
-        depth = omega (arith, ap ldepth h.tag_is, bounds.1);
-      };
-      timely = overlapping left.window right.window overlap;
-    },
-    (λ e. some (sym h.tag_is ∙ e)),
-  )
+  narrowed_joins meets tag exact bounds f (h, some) = search (rules, both, overlapping)
 
   pub joins_but_for_tags : JoinButForTags policy (five_tuple left) (five_tuple right)
-  joins_but_for_tags = record {
-    issues = issues;
-    allowed = allowed;
-    timely = overlapping left.window right.window overlap;
-  }
+  joins_but_for_tags = search (rules, overlapping)
 
   pub stops_by_tags : (tag : Tag) → ((g : Request) → IsRequest g → contains tag g ≡ (contains left.tag g && contains right.tag g))
       → (cause : Cause) → (cause ≡ NoTag) × (tag ≡ set none)
       → Stops policy (five (five_tuple left)) (five (five_tuple right)) cause
-  stops_by_tags tag exact cause h =
-      let P : Cause → Type 0 = λ x. Stops policy (five (five_tuple left)) (five (five_tuple right)) x in
-      subst P (sym h.0) (
-        joins_but_for_tags,
-        λ g is. sym (both (contains left.tag g) (contains right.tag g)) ∙ sym (exact g is)
-            ∙ ap (λ t. contains t g) h.1,
-      )
+  stops_by_tags tag exact cause h = search (rules, joins_but_for_tags, both)
 
 -- ---- names
 

@@ -19,7 +19,7 @@ use Rattle.spki_reduce.specs.declared.tuple.Step.TheVariants.{Auth, Name}
 use Rattle.spki_reduce.specs.Views.{five_tuple, four_tuple, step_tuple}
 use Rattle.spki_reduce.specs.Tuples.{FiveTuple, Tuple, five, four, tags_of, windows_of}
 use Rattle.spki_reduce.specs.Derivation.{Derives, from_left}
-use Rattle.spki_reduce.specs.Restrictions.{within_each, SomeMoment, NoMoment, met, nodes_product}
+use Rattle.spki_reduce.specs.Restrictions.{within_each, SomeMoment, NoMoment, met}
 use Rattle.spki_reduce.specs.Stops.{Stops, TooLargeFor}
 use Rattle.spki_reduce.specs.Chain.{tuples_of, FoldsTo, HasMet, GoesThrough, StopsAt, TooLargeAt, all_tags, all_windows}
 use Rattle.spki_reduce.proofs.Bracketing.{from_left-leaves, one_root}
@@ -143,33 +143,13 @@ module _ (most : ℕ) (policy : Policy) (first : Tuple) where
   -- the same step of another chain that begins so
   moved : (ones others : List Tuple) (h : TooLargeAt most policy first ones) → slice_get others h.place ≡ Some h.tuple
       → take h.place ones ≡ take h.place others → TooLargeAt most policy first others
-  moved ones others h stands same = record {
-    place = h.place;
-    tuple = h.tuple;
-    stands = stands;
-    root = h.root;
-    before = subst (λ ts. GoesThrough policy first ts h.root) same h.before;
-    too_large = h.too_large;
-    met_too_large = subst (λ ts. most < nodes_product (met (all_tags (first ∷ ts)) ∷ tags_of h.tuple)) same h.met_too_large;
-  }
+  moved ones others h stands same = search rules
 
   module _ (before : List Tuple) (tuple : Tuple) (f : Five) (folds : FoldsTo policy first before f)
       (has_met : HasMet first before f) where
     large_last : (h : TooLargeAt most policy first (before ++ tuple ∷ [])) → h.tuple ≡ tuple
         → take h.place (before ++ tuple ∷ []) ≡ before → TooLargeFor most policy (five_tuple f) tuple
-    large_last h last front =
-        let through = subst (λ ts. GoesThrough policy first ts h.root) front h.before in
-        let roots : five h.root ≡ five folds.root =
-        one_root policy (from_left first before) (from_left first before) (five h.root) (five folds.root) refl through.derived
-        folds.derived in
-        let same : h.root ≡ folds.root = cc in
-        let large : TooLargeFor most policy folds.root tuple =
-        subst (λ r. TooLargeFor most policy r tuple) same (subst (λ t. TooLargeFor most policy h.root t) last h.too_large) in
-        let product : most < nodes_product (f.tag ∷ tags_of tuple) =
-        subst (λ t. most < nodes_product (t ∷ tags_of tuple)) (sym has_met)
-        (subst (λ t. most < nodes_product (met (all_tags (first ∷ before)) ∷ tags_of t)) last
-        (subst (λ ts. most < nodes_product (met (all_tags (first ∷ ts)) ∷ tags_of h.tuple)) front h.met_too_large)) in
-        too_large_back policy folds.root f folds.reduced most tuple large product
+    large_last h last front = search (rules, one_root, too_large_back)
 
     small_at : (h : TooLargeAt most policy first (before ++ tuple ∷ [])) → (TooLargeAt most policy first before → ⊥)
         → (TooLargeFor most policy (five_tuple f) tuple → ⊥)

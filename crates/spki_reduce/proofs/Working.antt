@@ -1,13 +1,12 @@
 -- The work of folding a chain: what a step adds to it, and that a chain has one.
-use Rattle.std.proofs.Common.{◌≡◌, ◌⊎◌, inl, inr, ℕ, zero, suc, ◌+◌, ◌≤◌, ◌<◌, List, ◌∷◌, Option, Some, None, refl, sym, ◌∙◌, ap, subst, arith, add-one, length, take, slice_get, get_or}
+use Rattle.std.proofs.Common.{◌≡◌, ◌⊎◌, inl, inr, ℕ, zero, suc, ◌+◌, ◌≤◌, ◌<◌, List, ◌∷◌, Option, Some, None, refl, sym, ◌∙◌, ap, subst, arith, add-one, length, take, slice_get, get_or, rules}
 use Rattle.std.proofs.lemmas.Bool.{cases_lt}
 use Rattle.spki_cert.specs.declared.principal.Policy.{Policy}
 use Rattle.spki_reduce.specs.declared.fold.Cause.{Cause}
 use Rattle.spki_reduce.specs.declared.tuple.Five.{Five}
 use Rattle.spki_reduce.specs.declared.tuple.Step.{Step}
-use Rattle.spki_reduce.specs.Tuples.{Tuple, five, tags_of}
+use Rattle.spki_reduce.specs.Tuples.{Tuple, tags_of}
 use Rattle.spki_reduce.specs.Views.{five_tuple, step_tuple}
-use Rattle.spki_reduce.specs.Derivation.{from_left}
 use Rattle.spki_reduce.specs.Restrictions.{met, nodes_product}
 use Rattle.spki_reduce.specs.Chain.{tuples_of, FoldsTo, HasMet, StopsAt, all_tags}
 use Rattle.spki_reduce.specs.Work.{Reaches, ReachedAt, IsCost, IsWorkOf, IsCostOf, Takes, IsOver, IsOverworked}
@@ -26,16 +25,7 @@ module _
   stands = step_stands policy first steps place step f within read folds has_met
 
   back : ReachedAt policy first (tuples_of steps) place → Reaches policy (five_tuple f) (step_tuple step)
-  back at =
-      let tree = from_left first (take place (tuples_of steps)) in
-      let fives : five at.root ≡ five folds.root =
-      one_root policy tree tree (five at.root) (five folds.root) refl at.before.derived folds.derived in
-      let roots : at.root ≡ folds.root = cc in
-      let both : Some at.tuple ≡ Some (step_tuple step) = sym at.stands ∙ stands in
-      let tuples : at.tuple ≡ step_tuple step = cc in
-      let here : Reaches policy folds.root (step_tuple step) =
-      subst (λ r. Reaches policy r (step_tuple step)) roots (subst (Reaches policy at.root) tuples at.joins) in
-      reaches_back policy folds.root f folds.reduced (step_tuple step) here
+  back at = search (rules, one_root, stands, reaches_back)
 
   cost_here : (n : ℕ) → IsCostOf policy (five_tuple f) f.tag (step_tuple step) n → IsCost policy first (tuples_of steps) place n
   cost_here n (inl h) =
