@@ -55,11 +55,6 @@ pub sole-found : {A : Type 0} (other : A) (fault_of : Value → Option A) (vs mo
     → sole_fault other fault_of vs ≡ first_fault (found ∷ unless_none more other ∷ [])
 sole-found {A = A} other fault_of vs more v found e f = ap (sole_fault other fault_of) e ∙ ap (λ (x : Option A). first_fault (x ∷ unless_none more other ∷ [])) f
 
-pub sole-more : {A : Type 0} (other : A) (fault_of : Value → Option A) (vs more : List Value) (v : Value) → vs ≡ v ∷ more → fault_of v ≡ None → (more ≡ [] → ⊥)
-    → sole_fault other fault_of vs ≡ Some other
-sole-more {A = A} other fault_of vs more v e f some =
-    sole-found other fault_of vs more v None e f ∙ ap (λ (x : Option A). first_fault (x ∷ [])) (none-some more other some)
-
 pub sole-one : {A : Type 0} (other : A) (fault_of : Value → Option A) (vs more : List Value) (v : Value) → vs ≡ v ∷ more → fault_of v ≡ None → more ≡ []
     → sole_fault other fault_of vs ≡ None
 sole-one other fault_of vs more v e f g = sole-found other fault_of vs more v None e f ∙ ap (λ (ws : List Value). first_fault (unless_none ws other ∷ [])) g

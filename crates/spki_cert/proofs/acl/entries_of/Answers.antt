@@ -1,4 +1,4 @@
-use Rattle.std.proofs.Common.{◌∷◌, ◌++◌, [], List, sym, subst, ◌≡◌, refl, rules}
+use Rattle.std.proofs.Common.{◌∷◌, ◌++◌, [], List, sym, subst, refl, rules}
 use Rattle.std.specs.List.{AllZip}
 use Rattle.std.proofs.lemmas.Slice.Zip.{AllZip-long}
 use Rattle.spki_cert.specs.declared.entry.Entry.{Entry}
@@ -30,5 +30,4 @@ returns-in-Err-clause-named c = search (rules, AllZip-long, items-fault)
 
 pub returns-clause-faultless : goal.returns-clause-faultless
 unfolding entries_fault
-returns-clause-faultless c =
-    let i = c.loop-member.invariant in let e : c.loop-member.rest ≡ [] = search rules in items-none entry_fault c.args.members i.0 c.loop-member.rest i.3 e
+returns-clause-faultless c = search (rules, items-none)

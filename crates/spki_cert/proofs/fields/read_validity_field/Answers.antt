@@ -1,5 +1,4 @@
-use Rattle.std.proofs.Common.{◌∙◌, refl, rules}
-use Rattle.std.specs.Prelude.{codes}
+use Rattle.std.proofs.Common.{◌∙◌, rules}
 use Rattle.spki_cert.proofs.Looking.{carried}
 use Rattle.spki_cert.proofs.Groups.{not-headed}
 use Rattle.spki_cert.proofs.SubjectFaultLaws.{headed-else}
@@ -10,15 +9,13 @@ pub returns-in_err-date_in-clause-named : goal.returns-in_err-date_in-clause-nam
 returns-in_err-date_in-clause-named c = search (rules, carried, time-limit, headed-else, limit-first)
 
 pub returns-in-Some-clause-faultless : goal.returns-in-Some-clause-faultless
-returns-in-Some-clause-faultless c =
-    time-limit c.args.field.now (headed-else (codes "not-before") (codes "valid") c.args.field.now c.in-Some.members c.in-Some.ensures refl) ∙ limit-first c.args.field.now _ c.in-Some.ensures ∙ c.in_ok-date_in.ensures.faultless
+returns-in-Some-clause-faultless c = search (rules, time-limit, headed-else, limit-first)
 
 pub returns-in_err-date_in-2-clause-named : goal.returns-in_err-date_in-2-clause-named
 returns-in_err-date_in-2-clause-named c = search (rules, carried, time-limit, headed-else, limit-last)
 
 pub returns-in-Some-headed-clause-faultless : goal.returns-in-Some-headed-clause-faultless
-returns-in-Some-headed-clause-faultless c =
-    time-limit c.args.field.now (headed-else (codes "not-after") (codes "valid") c.args.field.now c.in-Some-headed.members c.in-Some-headed.ensures refl) ∙ limit-last c.args.field.now _ c.in-Some-headed.ensures ∙ c.in_ok-date_in-2.ensures.faultless
+returns-in-Some-headed-clause-faultless c = search (rules, time-limit, headed-else, limit-last)
 
 pub returns-in_err-valid_in-clause-named : goal.returns-in_err-valid_in-clause-named
 returns-in_err-valid_in-clause-named c = search (rules, carried, time-valid_field)
@@ -30,5 +27,4 @@ pub returns-in-Some-headed-3-clause-named : goal.returns-in-Some-headed-3-clause
 returns-in-Some-headed-3-clause-named c = search (rules, time-limit, headed-else, limit-online)
 
 pub returns-in-None-clause-named : goal.returns-in-None-clause-named
-returns-in-None-clause-named c =
-    time-limit c.args.field.now (not-headed (codes "valid") c.args.field.now c.in_default-headed-2.ensures) ∙ limit-other c.args.field.now c.in_default.ensures c.in_default-headed.ensures c.in-None.ensures
+returns-in-None-clause-named c = search (rules, time-limit, not-headed, limit-other)

@@ -1,4 +1,3 @@
-use Rattle.spki_cert.specs.declared.fault.CertFaultKind.TheVariants.{Shape}
 use Rattle.spki_cert.proofs.Looking.{carried, no-plain, none-some}
 use Rattle.std.proofs.Common.{rules}
 use Rattle.spki_cert.specs.SubjectFaults.{issuer_fault}
@@ -29,8 +28,7 @@ returns-in_default-plain_octets-clause-named c = search (rules, issuer-form, no-
 
 pub returns-then-not-is_empty-clause-named : goal.returns-then-not-is_empty-clause-named
 unfolding issuer_fault
-returns-then-not-is_empty-clause-named c =
-    let some = none-some c.in-Some-split_first-2.more Shape (λ e. absurd (let f = c.if-not-is_empty.ensures.1 e in cc)) in search (rules, issuer-form)
+returns-then-not-is_empty-clause-named c = search (rules, none-some, issuer-form)
 
 pub returns-clause-faultless : goal.returns-clause-faultless
 unfolding issuer_fault

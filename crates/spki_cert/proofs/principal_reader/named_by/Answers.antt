@@ -21,8 +21,7 @@ returns-in_err-names-clause-named c = search (rules, carried)
 
 pub returns-in-Some-plain_octets-clause-faultless : goal.returns-in-Some-plain_octets-clause-faultless
 unfolding names_fault
-returns-in-Some-plain_octets-clause-faultless c =
-    let found = c.in_ok-names.ensures.found in let all = are-plains _ found.0 found.2 in search rules
+returns-in-Some-plain_octets-clause-faultless c = search (rules, are-plains)
 
 pub returns-in_err-principal-clause-named : goal.returns-in_err-principal-clause-named
 unfolding names_fault

@@ -15,12 +15,10 @@ pub returns-in_err-principal-clause-named : goal.returns-in_err-principal-clause
 returns-in_err-principal-clause-named c = search (rules, carried, subject-principal)
 
 pub returns-in_default-headed-2-clause-faultless : goal.returns-in_default-headed-2-clause-faultless
-returns-in_default-headed-2-clause-faultless c =
-    subject-principal c.args.node.now _ c.in_default.ensures c.in_default-headed.ensures c.in_default-headed-2.ensures c.in_ok-principal.ensures.faultless
+returns-in_default-headed-2-clause-faultless c = search (rules, subject-principal)
 
 pub returns-clause-faultless : goal.returns-clause-faultless
-returns-clause-faultless c =
-    IfOk-weaker c.named_by.result _ _ (λ who faultless. subject-names c.args.node.now _ _ c.in-Some-headed-2.ensures faultless) c.named_by.ensures.faultless
+returns-clause-faultless c = search (rules, IfOk-weaker, subject-names)
 
 pub returns-clause-named : goal.returns-clause-named
 returns-clause-named c =

@@ -1,8 +1,6 @@
-use Rattle.std.proofs.Common.{rules, sym}
-use Rattle.std.specs.Str.{bytes_eq}
+use Rattle.std.proofs.Common.{rules}
 use Rattle.std.proofs.lemmas.Bool.{not-true}
 use Rattle.spki_cert.specs.ItemFaults.{do_fault}
-use Rattle.spki_cert.specs.declared.fault.CertFaultKind.TheVariants.{Shape}
 use Rattle.spki_cert.proofs.Looking.{carried, no-plain, none-some}
 use Rattle.spki_cert.proofs.ItemFaultLaws.{do-unheaded, do-form}
 use Rattle.spki_cert.proofs.signature.do_hash_of.Goals as goal
@@ -20,8 +18,7 @@ returns-in_default-plain_octets-clause-named c = search (rules, do-form, no-plai
 
 pub returns-then-ne-clause-named : goal.returns-then-ne-clause-named
 unfolding do_fault
-returns-then-ne-clause-named c =
-    let other = not-true (bytes_eq c.in-Some-plain_octets.word.now c.as_slice.result.now) (sym c.if-ne.ensures) in search (rules, do-form)
+returns-then-ne-clause-named c = search (rules, not-true, do-form)
 
 pub returns-in_default-split_first-2-clause-named : goal.returns-in_default-split_first-2-clause-named
 unfolding do_fault
@@ -33,5 +30,4 @@ returns-in_err-alg-clause-named c = search (rules, carried, do-form)
 
 pub returns-else-is_empty-clause-named : goal.returns-else-is_empty-clause-named
 unfolding do_fault
-returns-else-is_empty-clause-named c =
-    let some = none-some c.in-Some-split_first-2.more Shape (λ f. absurd (let g = c.if-is_empty.ensures.1 f in cc)) in search (rules, do-form)
+returns-else-is_empty-clause-named c = search (rules, none-some, do-form)

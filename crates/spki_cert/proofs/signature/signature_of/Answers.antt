@@ -1,5 +1,4 @@
 use Rattle.std.proofs.Common.{rules}
-use Rattle.spki_cert.specs.declared.fault.CertFaultKind.TheVariants.{Shape}
 use Rattle.spki_cert.proofs.Looking.{carried, none-some}
 use Rattle.spki_cert.specs.ItemFaults.{signature_fault}
 use Rattle.spki_cert.proofs.ItemFaultLaws.{signature-looks}
@@ -31,6 +30,4 @@ returns-in_default-split_first-3-clause-named c = search (rules, triple-form sig
 
 pub returns-then-not-is_empty-clause-named : goal.returns-then-not-is_empty-clause-named
 unfolding signature_fault
-returns-then-not-is_empty-clause-named c =
-    let some = none-some c.in-Some-split_first-3.more Shape (λ e. absurd (let f = c.if-not-is_empty.ensures.1 e in cc)) in search
-    (rules, triple-form signature-looks)
+returns-then-not-is_empty-clause-named c = search (rules, none-some, triple-form, signature-looks)

@@ -29,5 +29,4 @@ returns-in_err-window-clause-named c =
     (c.in_err-window.ensures.named i.0 i.2))
 
 pub returns-clause-faultless : goal.returns-clause-faultless
-returns-clause-faultless c =
-    let i = c.loop-field.invariant in let e : c.loop-field.rest ≡ [] = search rules in left-none limit_fault c.args.members i.0 c.loop-field.rest i.3 e
+returns-clause-faultless c = search (rules, left-none)

@@ -58,5 +58,4 @@ returns-in-Some-headed-2-clause-named c = λ before read.
     (limit-online c.args.field.now _ c.in_default.ensures c.in_default-headed.ensures c.in-Some-headed-2.ensures)
 
 pub returns-in-None-clause-named : goal.returns-in-None-clause-named
-returns-in-None-clause-named c = λ before read.
-    field-misfit limit_fault before c.args.field.now (limit-other c.args.field.now c.in_default.ensures c.in_default-headed.ensures c.in-None.ensures)
+returns-in-None-clause-named c = search (rules, field-misfit, limit-other)

@@ -1,5 +1,4 @@
-use Rattle.std.proofs.Common.{◌≡◌, rules}
-use Rattle.sexpr_core.specs.Value.{plain}
+use Rattle.std.proofs.Common.{rules}
 use Rattle.spki_cert.proofs.FixedLaws.{alg-list, alg-hinted, alg-other, alg-known}
 use Rattle.spki_cert.proofs.value_readers.algorithm_of.Goals as goal
 
@@ -13,5 +12,4 @@ pub returns-in-Some-clause-faultless : goal.returns-in-Some-clause-faultless
 returns-in-Some-clause-faultless c = alg-known c.args.node.now c.in-Some.alg (search rules)
 
 pub returns-in-None-clause-first : goal.returns-in-None-clause-first
-returns-in-None-clause-first c =
-    let e : c.args.node.now ≡ plain c.in-String-None-default.body.now = search rules in alg-other c.args.node.now _ e c.in-None.ensures
+returns-in-None-clause-first c = search (rules, alg-other)

@@ -1,7 +1,5 @@
-use Rattle.std.proofs.Common.{sym, rules}
-use Rattle.std.specs.Str.{bytes_eq}
+use Rattle.std.proofs.Common.{rules}
 use Rattle.std.proofs.lemmas.Bool.{not-true}
-use Rattle.spki_cert.specs.declared.fault.CertFaultKind.TheVariants.{Shape}
 use Rattle.spki_cert.specs.FieldFaults.{version_fault}
 use Rattle.spki_cert.proofs.Looking.{none-some}
 use Rattle.spki_cert.proofs.FieldFaultLaws.{version-faultless}
@@ -17,13 +15,11 @@ returns-in-String-Some-default-clause-named c = search rules
 
 pub returns-then-ne-clause-named : goal.returns-then-ne-clause-named
 unfolding version_fault
-returns-then-ne-clause-named c =
-    let other = not-true (bytes_eq c.in-String-None-default.body.now c.as_slice.result.now) (sym c.if-ne.ensures) in search rules
+returns-then-ne-clause-named c = search (rules, not-true)
 
 pub returns-then-is_empty-clause-faultless : goal.returns-then-is_empty-clause-faultless
 returns-then-is_empty-clause-faultless c = version-faultless c.args.members (search rules)
 
 pub returns-else-is_empty-clause-named : goal.returns-else-is_empty-clause-named
 unfolding version_fault
-returns-else-is_empty-clause-named c =
-    let some = none-some c.in-Some.more Shape (λ f. absurd (let g = c.if-is_empty.ensures.1 f in cc)) in search rules
+returns-else-is_empty-clause-named c = search (rules, none-some)
