@@ -1,6 +1,6 @@
 use Rattle.spki_cert.proofs.Looking.{carried, no-plain}
 use Rattle.spki_cert.proofs.SubjectLaws.{principal-names}
-use Rattle.std.proofs.Common.{rules, ◌++◌, ◌∙◌, ap, List, ℕ}
+use Rattle.std.proofs.Common.{arith, ◌++◌, ◌∙◌, ap, List, ℕ}
 use Rattle.spki_cert.specs.SubjectFaults.{names_fault}
 use Rattle.spki_cert.proofs.SubjectFaultLaws.{some-names, are-plains}
 use Rattle.spki_cert.proofs.principal_reader.named_by.Goals as goal
@@ -13,28 +13,28 @@ returns-clause-found c =
 
 pub returns-in_default-clause-named : goal.returns-in_default-clause-named
 unfolding names_fault
-returns-in_default-clause-named c = λ _. search rules
+returns-in_default-clause-named c = λ _. grind arith
 
 pub returns-in_err-names-clause-named : goal.returns-in_err-names-clause-named
 unfolding names_fault
-returns-in_err-names-clause-named c = search (rules, carried)
+returns-in_err-names-clause-named c = grind (arith, carried)
 
 pub returns-in-Some-plain_octets-clause-faultless : goal.returns-in-Some-plain_octets-clause-faultless
 unfolding names_fault
-returns-in-Some-plain_octets-clause-faultless c = search (rules, are-plains)
+returns-in-Some-plain_octets-clause-faultless c = grind (arith, are-plains)
 
 pub returns-in_err-principal-clause-named : goal.returns-in_err-principal-clause-named
 unfolding names_fault
-returns-in_err-principal-clause-named c = search (rules, carried, no-plain)
+returns-in_err-principal-clause-named c = grind (arith, carried, no-plain)
 
 pub returns-then-is_empty-clause-named : goal.returns-then-is_empty-clause-named
 unfolding names_fault
-returns-then-is_empty-clause-named c = λ _. search (rules, no-plain)
+returns-then-is_empty-clause-named c = λ _. grind (arith, no-plain)
 
 pub returns-in_err-names-2-clause-named : goal.returns-in_err-names-2-clause-named
 unfolding names_fault
-returns-in_err-names-2-clause-named c = search (rules, carried, some-names, no-plain)
+returns-in_err-names-2-clause-named c = grind (arith, carried, some-names, no-plain)
 
 pub returns-clause-faultless : goal.returns-clause-faultless
 unfolding names_fault
-returns-clause-faultless c = search (rules, are-plains, some-names, no-plain)
+returns-clause-faultless c = grind (arith, are-plains, some-names, no-plain)

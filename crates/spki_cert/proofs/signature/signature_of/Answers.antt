@@ -1,4 +1,4 @@
-use Rattle.std.proofs.Common.{rules}
+use Rattle.std.proofs.Common.{arith}
 use Rattle.spki_cert.proofs.Looking.{carried, none-some}
 use Rattle.spki_cert.specs.ItemFaults.{signature_fault}
 use Rattle.spki_cert.proofs.ItemFaultLaws.{signature-looks}
@@ -10,24 +10,24 @@ returns-in_default-clause-named c = triple-unheaded signature-looks c.args.node.
 
 pub returns-in_default-split_first-clause-named : goal.returns-in_default-split_first-clause-named
 unfolding signature_fault
-returns-in_default-split_first-clause-named c = search (rules, triple-form signature-looks)
+returns-in_default-split_first-clause-named c = grind (arith, triple-form signature-looks)
 
 pub returns-in_err-alg-clause-named : goal.returns-in_err-alg-clause-named
 unfolding signature_fault
-returns-in_err-alg-clause-named c = search (rules, carried, triple-form, signature-looks)
+returns-in_err-alg-clause-named c = grind (arith, carried, triple-form, signature-looks)
 
 pub returns-in_default-split_first-2-clause-named : goal.returns-in_default-split_first-2-clause-named
 unfolding signature_fault
-returns-in_default-split_first-2-clause-named c = search (rules, triple-form signature-looks)
+returns-in_default-split_first-2-clause-named c = grind (arith, triple-form signature-looks)
 
 pub returns-in_err-signer-clause-named : goal.returns-in_err-signer-clause-named
 unfolding signature_fault
-returns-in_err-signer-clause-named c = search (rules, carried, triple-form, signature-looks)
+returns-in_err-signer-clause-named c = grind (arith, carried, triple-form, signature-looks)
 
 pub returns-in_default-split_first-3-clause-named : goal.returns-in_default-split_first-3-clause-named
 unfolding signature_fault
-returns-in_default-split_first-3-clause-named c = search (rules, triple-form signature-looks)
+returns-in_default-split_first-3-clause-named c = grind (arith, triple-form signature-looks)
 
 pub returns-then-not-is_empty-clause-named : goal.returns-then-not-is_empty-clause-named
 unfolding signature_fault
-returns-then-not-is_empty-clause-named c = search (rules, none-some, triple-form, signature-looks)
+returns-then-not-is_empty-clause-named c = grind (arith, none-some, triple-form, signature-looks)
