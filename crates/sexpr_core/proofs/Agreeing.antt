@@ -4,7 +4,7 @@ use Rattle.std.proofs.lemmas.List.{append_cancel_right, drop-append-le, take-app
 use Rattle.sexpr_core.specs.Reading.{StandsAt}
 use Rattle.sexpr_core.specs.Spaces.{StartsVisible, Skips}
 use Rattle.sexpr_core.specs.declared.fault.FormFault.{FormFault}
-use Rattle.sexpr_core.specs.declared.fault.FormFault.TheVariants.{TooLong, TooDeep, Short, Bad, Trailing, Memory}
+use Rattle.sexpr_core.specs.declared.fault.FormFault.TheVariants.{Bad}
 use Rattle.sexpr_core.specs.Prefix.{StopsAt}
 use Rattle.sexpr_core.specs.Bounds.{RefusesPart}
 
@@ -109,9 +109,5 @@ stops_later T U text at i k le on s = record {
 
 pub refused_later : (T U : List ℕ → Type 0) (text : List ℕ) (at i : ℕ) (fault : FormFault) → at ≤ i
     → ((other : List ℕ) (n : ℕ) → Agree text other n → i ≤ n → T other → U other) → RefusesPart U text i fault → RefusesPart T text at fault
-refused_later T U text at i TooLong le on h = h
-refused_later T U text at i TooDeep le on h = h
-refused_later T U text at i Short le on h = tt
 refused_later T U text at i (Bad k) le on h = stops_later T U text at i k le on h
-refused_later T U text at i (Trailing k) le on h = h
-refused_later T U text at i Memory le on h = tt
+refused_later T U text at i _ le on h = h

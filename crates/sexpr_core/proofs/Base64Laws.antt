@@ -1,6 +1,6 @@
 -- Base64 in the standard alphabet: how long it is, and which octets it has.
-use Rattle.std.proofs.Common.{◌≡◌, ℕ, zero, suc, ◌+◌, ◌-◌, ◌*◌, ◌/◌, ◌%◌, ◌<◌, true, false, List, [], ◌∷◌, ◌++◌, length, get_or, replicate, refl, sym, ap, subst, ◌∙◌, arith, length-append, append-nil, Bool, ◌&&◌, nat_le, Ok, rules}
-use Rattle.std.proofs.lemmas.Bool.{cases_Bool, agree_below_at, or_cases, and_parts, eqb-true, leb-true}
+use Rattle.std.proofs.Common.{◌≡◌, ℕ, zero, suc, ◌+◌, ◌-◌, ◌*◌, ◌/◌, ◌%◌, ◌<◌, true, List, [], ◌∷◌, ◌++◌, length, get_or, replicate, refl, sym, ap, subst, ◌∙◌, arith, length-append, append-nil, Bool, ◌&&◌, Ok, rules}
+use Rattle.std.proofs.lemmas.Bool.{cases_Bool, and_parts}
 use Rattle.std.proofs.lemmas.List.{length-replicate}
 use Rattle.std.specs.List.{AllByRecursion}
 use Rattle.base64.specs.Rfc4648.{encode_symbols}
@@ -11,10 +11,11 @@ use Rattle.base64.specs.declared.decode.DecodeError.{DecodeError}
 use Rattle.base64.specs.declared.decode.DecodeAllocError.{DecodeAllocError}
 use Rattle.base64.specs.declared.decode.DecodeAllocError.TheVariants.{DecodeError as Failed}
 use Rattle.base64.proofs.RoundTrip.{length-encode_symbols}
-use Rattle.sexpr_core.specs.Spaces.{is_whitespace, visible}
+use Rattle.sexpr_core.specs.Spaces.{visible}
 use Rattle.sexpr_core.specs.Gathering.{is_symbol, is_body_octet, AreBodyOctets}
 use Rattle.sexpr_core.specs.Braces.{IsBase64}
-use Rattle.sexpr_core.proofs.SpaceLaws.{all-append}
+use Rattle.sexpr_core.proofs.Gathered.{no_space}
+use Rattle.sexpr_core.proofs.Runs.{all-append, all_front}
 
 abbrev table : List ℕ
 table = engine_symbols standard
@@ -36,10 +37,6 @@ symbol_at [] i h lt = absurd (omega arith)
 symbol_at (x ∷ xs) zero h lt = h.0
 symbol_at (x ∷ xs) (suc i) h lt = symbol_at xs i h.1 (omega arith)
 
-both_true : (a b : Bool) → (a && b) ≡ true → (a ≡ true) × (b ≡ true)
-both_true true b h = (refl, h)
-both_true false b h = absurd cc
-
 are_symbols : List ℕ → Bool
 are_symbols [] = true
 are_symbols (c ∷ cs) = is_symbol c && are_symbols cs
@@ -47,17 +44,14 @@ are_symbols (c ∷ cs) = is_symbol c && are_symbols cs
 all_symbols : (xs : List ℕ) → are_symbols xs ≡ true → AreSymbols xs
 unfolding are_symbols
 all_symbols [] h = tt
-all_symbols (x ∷ xs) h = let p = both_true (is_symbol x) (are_symbols xs) h in (p.0, all_symbols xs p.1)
+all_symbols (x ∷ xs) h = let p = and_parts (is_symbol x) (are_symbols xs) h in (p.0, all_symbols xs p.1)
 
 table_symbols : AreSymbols table
 unfolding are_symbols
 table_symbols = all_symbols table refl
 
-length_table : length table ≡ 64
-length_table = refl
-
 table_at : (i : ℕ) → i < 64 → is_symbol (get_or table i 0) ≡ true
-table_at i lt = symbol_at table i table_symbols (omega (arith, length_table))
+table_at i lt = let e : length table ≡ 64 = refl in symbol_at table i table_symbols (omega arith)
 
 behind : (x : ℕ) (xs : List ℕ) → IsBytes (x ∷ xs) → IsBytes xs
 behind x xs h = λ i. h (suc i)
@@ -82,10 +76,6 @@ all_replicate : (n : ℕ) → AreSymbols (replicate n 61)
 all_replicate zero = tt
 all_replicate (suc n) = (refl, all_replicate n)
 
-front_symbols : (xs ys : List ℕ) → AreSymbols (xs ++ ys) → AreSymbols xs
-front_symbols [] ys h = tt
-front_symbols (x ∷ xs) ys h = (h.0, front_symbols xs ys h.1)
-
 encoded_symbols : (b : List ℕ) → IsBytes b → AreSymbols (encode_of standard b)
 encoded_symbols b h = all-append (λ c. is_symbol c ≡ true) (encode_symbols table b) (replicate ((3 - length b % 3) % 3) 61) (symbols_of b h) (all_replicate ((3 - length b % 3) % 3))
 
@@ -99,7 +89,9 @@ body_of (c ∷ cs) h = let p = visible_body c cs h in (p.0, body_of cs p.1)
 -- the body of a text in base64 has symbols and whitespace alone
 pub body_octets : (body octets : List ℕ) → IsBase64 (visible body) octets → AreBodyOctets body
 body_octets body octets b =
-    body_of body (front_symbols (visible body) (replicate b.missing 61) (subst AreSymbols (sym b.encoded) (encoded_symbols octets b.are_octets)))
+    body_of body
+    (all_front (λ c. is_symbol c ≡ true) (visible body) (replicate b.missing 61)
+    (subst AreSymbols (sym b.encoded) (encoded_symbols octets b.are_octets)))
 
 pub whole_is : (symbols octets padded : List ℕ) (missing : ℕ) (b : IsBase64 symbols octets) → missing ≡ (4 - length symbols % 4) % 4
     → padded ≡ symbols ++ replicate missing 61 → padded ≡ encode_of standard octets
@@ -111,15 +103,9 @@ no_failure input octets f d e h is = let k = subst (IsDecodeFailure standard inp
 
 -- ---- what is encoded has no whitespace
 
-space_low : (c : ℕ) → is_whitespace c ≡ true → c < 33
-space_low c h = search (rules, or_cases, nat_le, eqb-true, leb-true, and_parts)
-
-symbol_shown : (c : ℕ) → is_symbol c ≡ true → is_whitespace c ≡ false
-symbol_shown c h = search (rules, cases_Bool, agree_below_at, space_low)
-
 visible_symbols : (xs : List ℕ) → AreSymbols xs → visible xs ≡ xs
 visible_symbols [] h = refl
-visible_symbols (c ∷ cs) h = rw (symbol_shown c h.0) (ap (λ s. c ∷ s) (visible_symbols cs h.1))
+visible_symbols (c ∷ cs) h = rw (no_space c h.0) (ap (λ s. c ∷ s) (visible_symbols cs h.1))
 
 pub visible_encoded : (b : List ℕ) → IsBytes b → visible (encode_of standard b) ≡ encode_of standard b
 visible_encoded b h = visible_symbols (encode_of standard b) (encoded_symbols b h)

@@ -109,14 +109,12 @@ packed_stops text at mark to symbols g apart never = record {
 -- what is gathered is no base64
 pub packed_refused : (text : List ℕ) (at mark to : ℕ) (symbols : List ℕ) (fault : FormFault) → GathersTo text at mark symbols to → is_body_octet mark ≡ false
     → IsFaultAt (to - 1) fault → ((octets : List ℕ) → IsBase64 symbols octets → fault ≡ Memory) → RefusesPart (PackedAt at mark) text at fault
-packed_refused text at mark to symbols TooLong g apart is only = is
-packed_refused text at mark to symbols TooDeep g apart is only = is
 packed_refused text at mark to symbols Short g apart is only = tt
 packed_refused text at mark to symbols (Bad k) g apart is only =
     subst (λ n. StopsAt (PackedAt at mark) text at n) (sym is)
     (packed_stops text at mark to symbols g apart (λ octets b. let e : Bad k ≡ Memory = only octets b in cc))
-packed_refused text at mark to symbols (Trailing k) g apart is only = is
 packed_refused text at mark to symbols Memory g apart is only = tt
+packed_refused text at mark to symbols _ g apart is only = is
 
 -- what is gathered is no body
 pub body_not_packed : (text : List ℕ) (at mark : ℕ) (fault : FormFault) → RefusesPart (BodyAt at mark) text at fault → RefusesPart (PackedAt at mark) text at fault
@@ -128,10 +126,9 @@ body_not_packed text at mark fault h =
 abbrev pub BraceFault : List ℕ → FormFault → Type 0
 BraceFault text TooLong = octet_limit < length text
 BraceFault text TooDeep = BracesDeep text
-BraceFault text Short = Unit {0}
 BraceFault text (Bad at) = (at < length text) × (Begins IsBraced (take (at + 1) text) → ⊥)
 BraceFault text (Trailing at) = (at < length text) × ((v : Value) × IsBracedWithin (take at text) v)
-BraceFault text Memory = Unit {0}
+BraceFault text _ = Unit {0}
 
 -- another first octet than a brace
 pub not_opened : (text : List ℕ) (begin c : ℕ) → Skips text 0 begin → StandsAt text begin c → (c ≡ 123 → ⊥) → BraceFault text (Bad begin)
@@ -147,8 +144,6 @@ not_opened text begin c s stands apart = (
 -- a body that is no base64
 pub body_missed : (text : List ℕ) (begin c : ℕ) (fault : FormFault) → Skips text 0 begin → StandsAt text begin c
     → RefusesPart (PackedAt (begin + 1) 125) text (begin + 1) fault → BraceFault text fault
-body_missed text begin c TooLong s stands h = absurd h
-body_missed text begin c TooDeep s stands h = absurd h
 body_missed text begin c Short s stands h = tt
 body_missed text begin c (Bad k) s stands h = (
   h.within,
@@ -159,13 +154,12 @@ body_missed text begin c (Bad k) s stands h = (
       let e = body_is other begin c w.value (skips_too text other k 0 begin a (omega (arith, h.behind)) s) (stands_too text other k begin c a (omega (arith, h.behind)) stands) w.braced in
       h.none (record { rest = b.rest; whole = record { body = w.braced.body; rest = w.braced.after; octets = canon w.value; spelled = e; packed = w.braced.packed } }),
 )
-body_missed text begin c (Trailing k) s stands h = absurd h
 body_missed text begin c Memory s stands h = tt
+body_missed text begin c _ s stands h = absurd h
 
 -- a body of octets that are no canonical text
 pub body_unread : (text : List ℕ) (begin c to : ℕ) (octets : List ℕ) (fault : FormFault) → Skips text 0 begin → StandsAt text begin c → c ≡ 123
     → ReadsBase64 text (begin + 1) 125 octets to → RefusesBody octets (to - 1) fault → BraceFault text fault
-body_unread text begin c to octets TooLong s stands e r h = absurd h
 body_unread text begin c to octets TooDeep s stands e r h = search rules
 body_unread text begin c to octets Short s stands e r h = tt
 body_unread text begin c to octets (Bad k) s stands e r h =
@@ -181,41 +175,22 @@ body_unread text begin c to octets (Bad k) s stands e r h =
           (reads_too text other k (begin + 1) 125 to octets a (omega (arith, last, r.goes_on)) r) refl w.braced.packed f in
           h.1 w.value once.0,
     )
-body_unread text begin c to octets (Trailing k) s stands e r h = absurd h
 body_unread text begin c to octets Memory s stands e r h = tt
+body_unread text begin c to octets _ s stands e r h = absurd h
 
 -- an octet behind the closing brace and whitespace
 pub braced_before : (text : List ℕ) (begin c to : ℕ) (octets : List ℕ) (fault : FormFault) → length text ≤ 1048576 → Skips text 0 begin → StandsAt text begin c → c ≡ 123
     → ReadsBase64 text (begin + 1) 125 octets to → ((v : Value) × (octets ≡ canon v) × IsWithinLimits v) → IsTrailingBehind text to fault → BraceFault text fault
-braced_before text begin c to octets TooLong few s stands e r v h = absurd h
-braced_before text begin c to octets TooDeep few s stands e r v h = absurd h
 braced_before text begin c to octets Short few s stands e r v h = tt
-braced_before text begin c to octets (Bad k) few s stands e r v h = absurd h
 braced_before text begin c to octets (Trailing k) few s stands e r v h =
     let behind : Skips text to k = h.1 in
     let front = s.spaces ++ 123 ∷ (r.body ++ 125 ∷ behind.spaces) in
     let whole : text ≡ front ++ drop k text =
     s.spelled ∙ ap (λ t. s.spaces ++ t) (stands.spelled ∙ ap (λ n. n ∷ drop (begin + 1) text) e ∙ ap (λ t. 123 ∷ t) (r.spelled ∙ ap (λ t. r.body ++ 125 ∷ t) behind.spelled)) ∙ simp append_assoc in
-    let taken : take k text ≡ front = front_is text front k whole behind.within in (
-      h.0,
-      (
-        v.0,
-        record {
-          braced = record {
-            before = s.spaces;
-            body = r.body;
-            after = behind.spaces;
-            parts = taken;
-            spaces_before = s.are_spaces;
-            packed = subst (IsBase64 (visible r.body)) v.1 r.packed;
-            spaces_after = behind.are_spaces;
-          };
-          short = omega (arith, length-take-le k text behind.within, behind.within);
-          shallow = v.2.shallow;
-        },
-      ),
-    )
+    let taken : take k text ≡ front = front_is text front k whole behind.within in
+    search (rules, length-take-le)
 braced_before text begin c to octets Memory few s stands e r v h = tt
+braced_before text begin c to octets _ few s stands e r v h = absurd h
 
 -- whitespace begins a text in braces
 empty_octets : IsBytes (canon (plain []))
@@ -243,7 +218,4 @@ spaces_begin_shallow xs all = record {
 }
 
 pub spaces_begin : (xs : List ℕ) → AreSpaces xs → Begins IsBraced xs
-spaces_begin xs all =
-    let b = spaces_begin_shallow xs all in
-    let w : IsShallowBraced (xs ++ b.rest) = b.whole in
-    record { rest = b.rest; whole = record { value = w.value; braced = w.braced } }
+spaces_begin xs all = search (rules, spaces_begin_shallow)

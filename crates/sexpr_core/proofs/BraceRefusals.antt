@@ -1,72 +1,47 @@
--- Braces that are closed, and the places at which nothing goes on.
-use Rattle.std.proofs.Common.{◌≡◌, ℕ, zero, suc, ◌+◌, ◌-◌, ◌<◌, ◌≤◌, false, ◌⊎◌, inl, inr, List, [], ◌∷◌, ◌++◌, length, take, drop, refl, sym, ◌∙◌, ap, subst, arith, append-nil, append_assoc, length-append, rules}
-use Rattle.std.specs.List.{AllByRecursion}
-use Rattle.std.proofs.lemmas.List.{take-append-drop, take_at}
+-- A text in braces has at most one refusal that speaks of its form: braces that are closed, and where nothing goes on.
+use Rattle.std.proofs.Common.{◌≡◌, ℕ, zero, suc, ◌+◌, ◌-◌, ◌<◌, ◌≤◌, false, ◌⊎◌, inl, inr, List, [], ◌∷◌, ◌++◌, length, take, refl, sym, ◌∙◌, ap, subst, arith, append-nil, append_assoc, length-append, rules}
+use Rattle.std.proofs.lemmas.List.{take_at}
 use Rattle.std.proofs.lemmas.Bool.{cases_order}
+use Rattle.sexpr_core.specs.declared.fault.FormFault.{FormFault}
 use Rattle.sexpr_core.specs.declared.fault.FormFault.TheVariants.{Bad, Trailing}
 use Rattle.sexpr_core.specs.Braces.{IsBase64, Braced, IsBraced, IsBracedWithin}
 use Rattle.sexpr_core.specs.BraceRefusal.{BracesDeep, IsShallowBraced, OpensBraces, BracesGoOn, RefusesBraces}
 use Rattle.sexpr_core.specs.Gathering.{is_body_octet, AreBodyOctets}
-use Rattle.sexpr_core.specs.Prefix.{Begins}
+use Rattle.sexpr_core.specs.Refusal.{IsOfForm}
 use Rattle.sexpr_core.specs.Spaces.{AreSpaces, IsSpace, visible}
 use Rattle.sexpr_core.specs.Value.{Value, canon, IsShallow}
 use Rattle.sexpr_core.proofs.Base64Laws.{body_octets}
 use Rattle.sexpr_core.proofs.BraceLaws.{one_packed, spaces_begin_shallow}
-use Rattle.sexpr_core.proofs.Gathered.{one_body, no_mark}
-use Rattle.sexpr_core.proofs.Refusals.{shallow_text, take_less}
+use Rattle.sexpr_core.proofs.Gathered.{one_body}
+use Rattle.sexpr_core.proofs.OneFault.{HasFronts, begins_front, goes_less, StopsThere, AreApart, one_fault, no_fault}
+use Rattle.sexpr_core.proofs.Refusals.{shallow_text}
+use Rattle.sexpr_core.proofs.Runs.{head_is, tail_is, all_front, fails_among}
 use Rattle.sexpr_core.proofs.SpaceLaws.{one_end}
-
--- ---- octets in front of others
-
-all_before : (P : ℕ → Type 0) (xs ys : List ℕ) → AllByRecursion P (xs ++ ys) → AllByRecursion P xs
-all_before P [] ys h = tt
-all_before P (x ∷ xs) ys h = (h.0, all_before P xs ys h.1)
-
-begins_before : (T : List ℕ → Type 0) (x y : List ℕ) → Begins T (x ++ y) → Begins T x
-begins_before T x y b = record { rest = y ++ b.rest; whole = subst T (append_assoc x y b.rest) b.whole }
 
 -- whitespace begins a text in braces
 pub spaces_go : (xs : List ℕ) → AreSpaces xs → BracesGoOn xs
 spaces_go xs h = inl (spaces_begin_shallow xs h)
 
 -- two ways to cut a text
-two_cuts : (x y a b : List ℕ) → x ++ y ≡ a ++ b → ((m : List ℕ) × (x ≡ a ++ m) × (m ++ y ≡ b)) ⊎ ((m : List ℕ) × (a ≡ x ++ m))
+pub two_cuts : (x y a b : List ℕ) → x ++ y ≡ a ++ b → ((m : List ℕ) × (x ≡ a ++ m) × (m ++ y ≡ b)) ⊎ ((m : List ℕ) × (a ≡ x ++ m))
 two_cuts x y [] b e = inl (x, refl, e)
 two_cuts [] y (c ∷ cs) b e = inr (c ∷ cs, refl)
 two_cuts (d ∷ ds) y (c ∷ cs) b e =
     let same : d ≡ c = cc in
     let t : ds ++ y ≡ cs ++ b = cc in
-    elim (two_cuts ds y cs b t) [
-      | inl o ↦ inl (o.0, ap (λ n. n ∷ ds) same ∙ ap (λ s. c ∷ s) o.1, o.2)
-      | inr w ↦ inr (w.0, ap (λ s. c ∷ s) w.1 ∙ ap (λ n. n ∷ (ds ++ w.0)) (sym same))
-    ]
-
-pub first_is : (c d : ℕ) (x y : List ℕ) → c ∷ x ≡ d ∷ y → c ≡ d
-first_is c d x y e = cc
-
-pub rest_is : (c d : ℕ) (x y : List ℕ) → c ∷ x ≡ d ∷ y → x ≡ y
-rest_is c d x y e = cc
+    search (rules, two_cuts ds y cs b t)
 
 body_before : (before m y body : List ℕ) → AreSpaces before → AreBodyOctets body → m ++ y ≡ 123 ∷ body → BracesGoOn (before ++ m)
 body_before before [] y body s h e = subst BracesGoOn (sym (append-nil before)) (spaces_go before s)
-body_before before (c ∷ cs) y body s h e = search (rules, first_is, all_before, rest_is)
+body_before before (c ∷ cs) y body s h e = search (rules, head_is, all_front, tail_is)
 
 -- what goes on goes on at each octet before
-goes_before : (x y : List ℕ) → BracesGoOn (x ++ y) → BracesGoOn x
-goes_before x y (inl b) = inl (begins_before IsShallowBraced x y b)
+goes_before : HasFronts BracesGoOn
+goes_before x y (inl b) = inl (begins_front IsShallowBraced x y b)
 goes_before x y (inr o) = elim (two_cuts x y o.before (123 ∷ o.body) o.parts) [
   | inl m ↦ subst BracesGoOn (sym m.1) (body_before o.before m.0 y o.body o.spaces_before o.symbols m.2)
-  | inr m ↦ spaces_go x (all_before IsSpace x m.0 (subst AreSpaces m.1 o.spaces_before))
+  | inr m ↦ spaces_go x (all_front IsSpace x m.0 (subst AreSpaces m.1 o.spaces_before))
 ]
-
-front_less : (m n : ℕ) (xs : List ℕ) → m ≤ n → take n xs ≡ take m xs ++ drop m (take n xs)
-front_less m n xs h = sym (take-append-drop m (take n xs)) ∙ ap (λ t. t ++ drop m (take n xs)) (take_less m n xs h)
-
-goes_less : (m n : ℕ) (xs : List ℕ) → m ≤ n → BracesGoOn (take n xs) → BracesGoOn (take m xs)
-goes_less m n xs h g = goes_before (take m xs) (drop m (take n xs)) (subst BracesGoOn (front_less m n xs h) g)
-
-goes_part : (n : ℕ) (xs : List ℕ) → BracesGoOn xs → BracesGoOn (take n xs)
-goes_part n xs g = goes_before (take n xs) (drop n xs) (subst BracesGoOn (sym (take-append-drop n xs)) g)
 
 pub whole_goes : (text : List ℕ) (v : Value) → IsBracedWithin text v → BracesGoOn text
 whole_goes text v w = inl (record {
@@ -81,22 +56,19 @@ pub one_closed : (a b x y r s : List ℕ) (c d : ℕ) → AreSpaces a → AreSpa
     → a ++ 123 ∷ (x ++ c ∷ r) ≡ b ++ 123 ∷ (y ++ d ∷ s) → (x ≡ y) × (c ≡ d) × (r ≡ s)
 one_closed a b x y r s c d ha hb hx hy hc hd e =
     let p = one_end a b (123 ∷ (x ++ c ∷ r)) (123 ∷ (y ++ d ∷ s)) ha hb refl refl e in
-    one_body x y c d r s hx hy hc hd (rest_is 123 123 (x ++ c ∷ r) (y ++ d ∷ s) p.1)
+    one_body x y c d r s hx hy hc hd (tail_is 123 123 (x ++ c ∷ r) (y ++ d ∷ s) p.1)
 
 -- a body that has an octet which can't stand in it isn't open
 pub not_open : (a x r : List ℕ) (c : ℕ) (text : List ℕ) → AreSpaces a → is_body_octet c ≡ false → text ≡ a ++ 123 ∷ (x ++ c ∷ r) → OpensBraces text → ⊥
 not_open a x r c text ha hc e o =
     let p = one_end a o.before (123 ∷ (x ++ c ∷ r)) (123 ∷ o.body) ha o.spaces_before refl refl (sym e ∙ o.parts) in
-    no_mark o.body x c r o.symbols hc (sym (rest_is 123 123 (x ++ c ∷ r) o.body p.1))
+    fails_among is_body_octet x c r o.body hc o.symbols (tail_is 123 123 (x ++ c ∷ r) o.body p.1)
 
 -- a body that isn't closed braces nothing
 pub not_closed : (a x text : List ℕ) (v : Value) → AreSpaces a → AreBodyOctets x → text ≡ a ++ 123 ∷ x → Braced text v → ⊥
 not_closed a x text v ha hx e b =
     let p = one_end a b.before (123 ∷ x) (123 ∷ (b.body ++ 125 ∷ b.after)) ha b.spaces_before refl refl (sym e ∙ b.parts) in
-    no_mark x b.body 125 b.after hx refl (rest_is 123 123 x (b.body ++ 125 ∷ b.after) p.1)
-
-deep_unopen : (text : List ℕ) → BracesDeep text → OpensBraces text → ⊥
-deep_unopen text d o = not_open d.before d.body d.after 125 text d.spaces_before refl d.parts o
+    fails_among is_body_octet b.body 125 b.after x refl hx (sym (tail_is 123 123 x (b.body ++ 125 ∷ b.after) p.1))
 
 deep_unbraced : (text : List ℕ) (v : Value) → BracesDeep text → Braced text v → IsShallow v → ⊥
 deep_unbraced text v d b h =
@@ -111,7 +83,7 @@ deep_more text more d = search (rules, append_assoc)
 -- what is too deep doesn't go on
 pub deep_stops : (text : List ℕ) → BracesDeep text → BracesGoOn text → ⊥
 deep_stops text d (inl b) = search (rules, deep_unbraced, deep_more)
-deep_stops text d (inr o) = deep_unopen text d o
+deep_stops text d (inr o) = not_open d.before d.body d.after 125 text d.spaces_before refl d.parts o
 
 -- ---- where what is too deep is closed
 
@@ -156,36 +128,21 @@ closes text d =
 
 -- ---- the place at which nothing goes on
 
-pub record StopsThere (text : List ℕ) (at : ℕ) : Type 0 where
-  pub begun : BracesGoOn (take at text)
-  pub ended : BracesGoOn (take (at + 1) text) → ⊥
-
-stops_once : (text : List ℕ) (i j : ℕ) → StopsThere text i → StopsThere text j → i < j → ⊥
-stops_once text i j a b h = a.ended (goes_less (i + 1) j text (omega arith) b.begun)
-
-pub at_one : (text : List ℕ) (i j : ℕ) → StopsThere text i → StopsThere text j → i ≡ j
-at_one text i j a b =
-    elim (cases_order i j) [
-      | inl e ↦ e
-      | inr (inl h) ↦ absurd (stops_once text i j a b h)
-      | inr (inr h) ↦ absurd (stops_once text j i b a h)
-    ]
-
-pub no_short : (text : List ℕ) (at : ℕ) → StopsThere text at → BracesGoOn text → ⊥
-no_short text at s g = s.ended (goes_part (at + 1) text g)
+abbrev pub Stops : List ℕ → ℕ → Type 0
+Stops text at = StopsThere BracesGoOn BracesGoOn text at
 
 -- it is the closing brace of what is too deep
-at_close : (text : List ℕ) (at : ℕ) (c : Closes text) → StopsThere text at → at ≡ c.place
+at_close : (text : List ℕ) (at : ℕ) (c : Closes text) → Stops text at → at ≡ c.place
 at_close text at c s = elim (cases_order at c.place) [
   | inl e ↦ e
-  | inr (inl h) ↦ absurd (s.ended (goes_less (at + 1) c.place text (omega arith) (inr c.before_is)))
+  | inr (inl h) ↦ absurd (s.ended (goes_less BracesGoOn goes_before (at + 1) c.place text (omega arith) (inr c.before_is)))
   | inr (inr h) ↦ absurd (deep_stops (take at text) (c.behind_is at h) s.begun)
 ]
 
 any_depth : (x : List ℕ) → IsShallowBraced x → IsBraced x
 any_depth x s = record { value = s.value; braced = s.braced }
 
-pub stops_bad : (text : List ℕ) (at : ℕ) → RefusesBraces text (Bad at) → StopsThere text at
+pub stops_bad : (text : List ℕ) (at : ℕ) → RefusesBraces text (Bad at) → Stops text at
 stops_bad text at r = record {
   begun = r.1;
   ended = λ g. elim g [
@@ -194,23 +151,41 @@ stops_bad text at r = record {
   ];
 }
 
-pub stops_trailing : (text : List ℕ) (at : ℕ) → RefusesBraces text (Trailing at) → StopsThere text at
+pub stops_trailing : (text : List ℕ) (at : ℕ) → RefusesBraces text (Trailing at) → Stops text at
 stops_trailing text at r = record { begun = whole_goes (take at text) r.1.0 r.1.1; ended = r.2 }
 
-pub bad_trailing : (text : List ℕ) (i j : ℕ) → RefusesBraces text (Bad i) → RefusesBraces text (Trailing j) → ⊥
-bad_trailing text i j a b =
-    let e : i ≡ j = at_one text i j (stops_bad text i a) (stops_trailing text j b) in
-    a.2 b.1.0 (subst (λ n. IsBracedWithin (take n text) b.1.0) (sym e) b.1.1)
-
-pub deep_bad : (text : List ℕ) (at : ℕ) → BracesDeep text → RefusesBraces text (Bad at) → ⊥
-deep_bad text at d r =
+bad_deep : (text : List ℕ) (at : ℕ) → RefusesBraces text (Bad at) → BracesDeep text → ⊥
+bad_deep text at r d =
     let c = closes text d in
     let e : at ≡ c.place = at_close text at c (stops_bad text at r) in
     r.3 (c.behind_is (at + 1) (omega (arith, e)))
 
-pub deep_trailing : (text : List ℕ) (at : ℕ) → BracesDeep text → RefusesBraces text (Trailing at) → ⊥
-deep_trailing text at d r =
+trailing_deep : (text : List ℕ) (at : ℕ) → RefusesBraces text (Trailing at) → BracesDeep text → ⊥
+trailing_deep text at r d =
     let c = closes text d in
     let e : at ≡ c.place = at_close text at c (stops_trailing text at r) in
     let o : OpensBraces (take at text) = subst (λ n. OpensBraces (take n text)) (sym e) c.before_is in
     not_closed o.before o.body (take at text) r.1.0 o.spaces_before o.symbols o.parts r.1.1.braced
+
+-- ---- one refusal
+
+are_apart : (text : List ℕ) → AreApart BracesGoOn BracesGoOn text (RefusesBraces text)
+are_apart text = record {
+  short = λ r. r.0;
+  bad = stops_bad text;
+  trailing = stops_trailing text;
+  short_deep = λ r d. deep_stops text d r.0;
+  bad_deep = bad_deep text;
+  trailing_deep = trailing_deep text;
+  bad_trailing = λ at a b. a.2 b.1.0 b.1.1;
+}
+
+pub one_brace_refusal : (text : List ℕ) (e f : FormFault) → IsOfForm e → IsOfForm f → RefusesBraces text e → RefusesBraces text f → e ≡ f
+one_brace_refusal text = one_fault BracesGoOn BracesGoOn goes_before (λ x g. g) text (RefusesBraces text) (are_apart text)
+
+-- and none where the text is read
+pub no_brace_refusal : (text : List ℕ) (e : FormFault) (v : Value) → IsOfForm e → RefusesBraces text e → IsBracedWithin text v → ⊥
+no_brace_refusal text e v p r w =
+    let goes = whole_goes text v w in
+    no_fault BracesGoOn BracesGoOn goes_before (λ x g. g) text (RefusesBraces text) (are_apart text) goes (λ s. s.1 v w)
+    (λ d. deep_stops text d goes) e p r

@@ -2,7 +2,7 @@
 use Rattle.std.proofs.Common.{◌≡◌, ℕ, zero, suc, ◌+◌, ◌*◌, ◌/◌, ◌%◌, ◌<◌, ◌≤◌, List, [], ◌∷◌, ◌++◌, length, map, get_or, cond, false, ◌==◌, refl, sym, ◌∙◌, ap, subst, arith, rules}
 use Rattle.std.specs.List.{AllByRecursion}
 use Rattle.std.specs.Int.Digits.{digits_of, AllBelowBase}
-use Rattle.std.proofs.lemmas.List.{map-append}
+use Rattle.std.proofs.lemmas.List.{map-append, length-map}
 use Rattle.std.proofs.lemmas.Bool.Decides.{nat_tests}
 use Rattle.std.proofs.lemmas.Int.Digits.{digits_of_step, length-digits_of_step, all_below_base_digits_of, first_digits_of, same_from_digits_of}
 use Rattle.sexpr_core.specs.Value.{decimal}
@@ -50,15 +50,11 @@ starts_of : (cs : List ℕ) → AreDigits cs → 0 < length cs → StartsWithDig
 starts_of [] h p = absurd (omega arith)
 starts_of (c ∷ cs) h p = record { digit = c; rest = cs; is = refl; low = h.0 }
 
-length_map : (f : ℕ → ℕ) (ds : List ℕ) → length (map f ds) ≡ length ds
-length_map f [] = refl
-length_map f (d ∷ ds) = ap suc (length_map f ds)
-
 decimal_length : (n : ℕ) → 0 < length (decimal n)
 decimal_length zero = subst (λ s. 0 < length s) (sym decimal_zero) (omega arith)
 decimal_length (suc k) =
     let p : 0 < length (digits_of 10 (suc k)) = omega (arith, length-digits_of_step 10 (suc k) (omega arith) (omega arith)) in
-    let q : 0 < length (map digit_of (digits_of 10 (suc k))) = omega (arith, length_map digit_of (digits_of 10 (suc k))) in
+    let q : 0 < length (map digit_of (digits_of 10 (suc k))) = omega (arith, length-map (digits_of 10 (suc k)) digit_of) in
     subst (λ s. 0 < length s) (sym (decimal_suc k)) q
 
 pub decimal_starts : (n : ℕ) → StartsWithDigit (decimal n)

@@ -6,7 +6,7 @@ use Rattle.std.proofs.lemmas.Bool.Decides.{nat_tests}
 use Rattle.std.proofs.lemmas.List.Elements.{filter-append}
 use Rattle.std.proofs.lemmas.List.{drop-drop, drop_at}
 use Rattle.sexpr_core.specs.declared.fault.FormFault.{FormFault}
-use Rattle.sexpr_core.specs.declared.fault.FormFault.TheVariants.{TooLong, TooDeep, Short, Bad, Trailing, Memory}
+use Rattle.sexpr_core.specs.declared.fault.FormFault.TheVariants.{Short, Bad}
 use Rattle.sexpr_core.specs.Bounds.{IsFaultAt}
 use Rattle.sexpr_core.specs.Reading.{StandsAt}
 use Rattle.sexpr_core.specs.Spaces.{is_whitespace, visible, AreSpaces, Skips}
@@ -14,7 +14,7 @@ use Rattle.sexpr_core.specs.Gathering.{is_symbol, is_body_octet, AreBodyOctets, 
 use Rattle.sexpr_core.specs.Inner.Gathering.{StartsNoSymbol, SkipsSymbols, GathersTo, BodyAt}
 use Rattle.sexpr_core.specs.Prefix.{StopsAt}
 use Rattle.sexpr_core.proofs.Agreeing.{Agree, agree, spelled_too, stands_too, long_too}
-use Rattle.sexpr_core.proofs.SpaceLaws.{all-append}
+use Rattle.sexpr_core.proofs.Runs.{head_is, tail_is, all-append, fails_among, one_front}
 use Rattle.sexpr_core.proofs.Steps.{slice_read}
 
 -- ---- a run of symbols
@@ -65,7 +65,7 @@ visible-append xs ys = filter-append _ xs ys
 pub nothing_gathered : (text : List ℕ) (at : ℕ) → at ≤ length text → Gathers text at [] at
 nothing_gathered text at h = record { body = []; octets = tt; spelled = refl; kept = refl; ordered = omega arith; within = h }
 
-no_space : (c : ℕ) → is_symbol c ≡ true → is_whitespace c ≡ false
+pub no_space : (c : ℕ) → is_symbol c ≡ true → is_whitespace c ≡ false
 no_space c h = grind (arith, nat_tests)
 
 symbols_stay : (xs : List ℕ) → AllByRecursion (λ c. is_symbol c ≡ true) xs → AreBodyOctets xs × (visible xs ≡ xs)
@@ -106,14 +106,9 @@ no_body_octet text i end c run gap stands = search rules
 -- a body ends at the first octet that can't stand in it
 pub one_body : (xs ys : List ℕ) (c d : ℕ) (r s : List ℕ) → AreBodyOctets xs → AreBodyOctets ys → is_body_octet c ≡ false → is_body_octet d ≡ false
     → xs ++ c ∷ r ≡ ys ++ d ∷ s → (xs ≡ ys) × (c ≡ d) × (r ≡ s)
-one_body [] [] c d r s hx hy hc hd e = (refl, cc, cc)
-one_body [] (y ∷ ys) c d r s hx hy hc hd e = let q : c ≡ y = cc in let b : is_body_octet c ≡ true = ap is_body_octet q ∙ hy.0 in let f : false ≡ true = sym hc ∙ b in absurd cc
-one_body (x ∷ xs) [] c d r s hx hy hc hd e = let q : d ≡ x = cc in let b : is_body_octet d ≡ true = ap is_body_octet q ∙ hx.0 in let f : false ≡ true = sym hd ∙ b in absurd cc
-one_body (x ∷ xs) (y ∷ ys) c d r s hx hy hc hd e =
-    let q : x ≡ y = cc in
-    let t : xs ++ c ∷ r ≡ ys ++ d ∷ s = cc in
-    let p = one_body xs ys c d r s hx.1 hy.1 hc hd t in
-    (cc, p.1, p.2)
+one_body xs ys c d r s hx hy hc hd e =
+    let q = one_front is_body_octet xs ys (c ∷ r) (d ∷ s) hx hy hc hd e in
+    (q.0, head_is c d r s q.1, tail_is c d r s q.1)
 
 -- no body stands before the mark where the octet behind some of its octets is no other than one that can't stand in it
 pub gathered_mark : (text : List ℕ) (at i c mark : ℕ) (symbols body rest : List ℕ) → Gathers text at symbols i → StandsAt text i c
@@ -124,16 +119,10 @@ pub same_body : (text : List ℕ) (at mark to : ℕ) (symbols body rest : List �
     → AreBodyOctets body → drop at text ≡ body ++ mark ∷ rest → (symbols ≡ visible body) × (drop to text ≡ rest)
 same_body text at mark to symbols body rest g other all e = search (rules, one_body)
 
-pub no_mark : (xs ys : List ℕ) (mark : ℕ) (s : List ℕ) → AreBodyOctets xs → is_body_octet mark ≡ false → xs ≡ ys ++ mark ∷ s → ⊥
-no_mark [] [] mark s h k e = cc
-no_mark [] (y ∷ ys) mark s h k e = cc
-no_mark (x ∷ xs) [] mark s h k e = let q : mark ≡ x = cc in let f : false ≡ true = sym k ∙ ap is_body_octet q ∙ h.0 in cc
-no_mark (x ∷ xs) (y ∷ ys) mark s h k e = let t : xs ≡ ys ++ mark ∷ s = cc in no_mark xs ys mark s h.1 k t
-
 pub gathered_end : (text : List ℕ) (at i mark : ℕ) (symbols body rest : List ℕ) → Gathers text at symbols i → drop i text ≡ []
     → is_body_octet mark ≡ false → drop at text ≡ body ++ mark ∷ rest → ⊥
 gathered_end text at i mark symbols body rest g ended other e =
-    no_mark g.body body mark rest g.octets other (sym (append-nil g.body) ∙ ap (λ t. g.body ++ t) (sym ended) ∙ sym g.spelled ∙ e)
+    fails_among is_body_octet body mark rest g.body other g.octets (sym e ∙ g.spelled ∙ ap (λ t. g.body ++ t) ended ∙ append-nil g.body)
 
 -- ---- the same in each text that goes on so far in the same way
 
@@ -197,21 +186,9 @@ mark_stands text at mark to symbols g =
 -- a body that ends at its mark and is no base64
 pub unpacked_end : (text : List ℕ) (at mark to : ℕ) (symbols : List ℕ) (fault : FormFault) → GathersTo text at mark symbols to → is_body_octet mark ≡ false
     → IsFaultAt (to - 1) fault → IsBodyEnd is_body_octet text at fault
-unpacked_end text at mark to symbols TooLong g other h = h
-unpacked_end text at mark to symbols TooDeep g other h = h
 unpacked_end text at mark to symbols Short g other h = absurd h
 unpacked_end text at mark to symbols (Bad k) g other h =
     let m = mark_stands text at mark to symbols g in
     let n : to - 1 + 1 ≡ to = omega (arith, g.goes_on) in
-    subst (λ k. IsBodyEnd is_body_octet text at (Bad k)) (sym h) (
-      record {
-        body = g.body;
-        octets = g.octets;
-        spelled = g.spelled ∙ ap (λ t. g.body ++ t) (sym m);
-        ordered = omega (arith, g.goes_on);
-        within = omega (arith, g.within);
-      },
-      (mark, record { spelled = m ∙ ap (λ k. mark ∷ drop k text) (sym n); within = omega (arith, g.goes_on, g.within) }, other),
-    )
-unpacked_end text at mark to symbols (Trailing k) g other h = h
-unpacked_end text at mark to symbols Memory g other h = tt
+    search rules
+unpacked_end text at mark to symbols _ g other h = h

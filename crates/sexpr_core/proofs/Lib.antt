@@ -1,3 +1,5 @@
+pub mod Runs
+pub mod Errors
 pub mod TableLaws
 pub mod PlaceLaws
 pub mod SiblingLaws
@@ -11,6 +13,7 @@ pub mod Steps
 pub mod ValueSteps
 pub mod Whole
 pub mod Examples
+pub mod OneFault
 pub mod Refusals
 pub mod TreeLaws
 pub mod Written

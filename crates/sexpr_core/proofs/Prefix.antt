@@ -3,8 +3,8 @@ use Rattle.std.proofs.Common.{◌≡◌, ℕ, suc, ◌+◌, ◌<◌, List, [], �
 use Rattle.std.proofs.lemmas.List.{append_cancel_left}
 use Rattle.std.proofs.Math.Seq.{take-append-add}
 use Rattle.sexpr_core.specs.declared.fault.FormFault.{FormFault}
-use Rattle.sexpr_core.specs.declared.fault.FormFault.TheVariants.{TooLong, TooDeep, Short, Bad, Trailing, Memory}
-use Rattle.sexpr_core.specs.Prefix.{Begins, Front, StopsAt}
+use Rattle.sexpr_core.specs.declared.fault.FormFault.TheVariants.{TooDeep, Short, Bad}
+use Rattle.sexpr_core.specs.Prefix.{Begins, Front}
 use Rattle.sexpr_core.specs.Bounds.{RefusesPart}
 use Rattle.sexpr_core.specs.Inner.PartFaults.{Barred, FaultAt}
 
@@ -47,12 +47,10 @@ Barred-head T U xs o h = search (rules, append_assoc)
 pub FaultAt-head :
     (T U S V : List ℕ → Type 0) (at : ℕ) (xs : List ℕ) (e : FormFault) → Opens T U → Opens S V →
     FaultAt U V at xs e → FaultAt T S at xs e
-FaultAt-head T U S V at xs TooLong o p h = h
 FaultAt-head T U S V at xs TooDeep o p h = search (rules, Front-head, Barred-head)
 FaultAt-head T U S V at xs Short o p h = Front-head S V xs p h
 FaultAt-head T U S V at xs (Bad k) o p h = search (rules, Front-head, Barred-head)
-FaultAt-head T U S V at xs (Trailing k) o p h = h
-FaultAt-head T U S V at xs Memory o p h = h
+FaultAt-head T U S V at xs _ o p h = h
 
 -- ---- a fault behind a whole part
 
@@ -75,7 +73,6 @@ more_taken a ys j = ap (λ n. take n (a ++ ys)) (sym (add-suc (length a) j)) ∙
 pub FaultAt-tail :
     (T U S V : List ℕ → Type 0) (at : ℕ) (a ys : List ℕ) (e : FormFault) → Behind T U a → Behind S V a →
     FaultAt U V (at + length a) ys e → FaultAt T S at (a ++ ys) e
-FaultAt-tail T U S V at a ys TooLong o p h = h
 FaultAt-tail T U S V at a ys TooDeep o p h = record {
   place = length a + h.place;
   within = let w : h.place < length ys = h.within in omega (arith, length-append a ys);
@@ -90,8 +87,7 @@ FaultAt-tail T U S V at a ys (Bad k) o p h = record {
   before = subst (λ s. Front S s) (sym (take-append-add a ys h.place)) (Front-tail S V a (take h.place ys) p h.before);
   stops = subst (λ s. Barred T s) (sym (more_taken a ys h.place)) (Barred-tail T U a (take (suc h.place) ys) o h.stops);
 }
-FaultAt-tail T U S V at a ys (Trailing k) o p h = h
-FaultAt-tail T U S V at a ys Memory o p h = h
+FaultAt-tail T U S V at a ys _ o p h = h
 
 -- ---- a choice by the first octet
 
@@ -104,12 +100,10 @@ Barred-from T U c ys o h = record { bars = λ t rest after is e. h.bars t rest a
 pub FaultAt-from :
     (T U S V : List ℕ → Type 0) (at c : ℕ) (ys : List ℕ) (e : FormFault) → From c T U → From c S V →
     FaultAt U V at (c ∷ ys) e → FaultAt T S at (c ∷ ys) e
-FaultAt-from T U S V at c ys TooLong o p h = h
 FaultAt-from T U S V at c ys TooDeep o p h = search (rules, Front-from, Barred-from)
 FaultAt-from T U S V at c ys Short o p h = Front-from S V c (c ∷ ys) p h
 FaultAt-from T U S V at c ys (Bad k) o p h = search (rules, Front-from, Barred-from)
-FaultAt-from T U S V at c ys (Trailing k) o p h = h
-FaultAt-from T U S V at c ys Memory o p h = h
+FaultAt-from T U S V at c ys _ o p h = h
 
 -- ---- faults at the first octet
 
@@ -125,15 +119,8 @@ FaultAt-first T S at c ys front never = search rules
 
 -- ---- texts of a narrower sort
 
-pub StopsAt-less : (T U : List ℕ → Type 0) (text : List ℕ) (at k : ℕ) → ((t : List ℕ) → U t → T t) → StopsAt T text at k → StopsAt U text at k
-StopsAt-less T U text at k less s = search rules
-
 pub RefusesPart-less :
     (T U : List ℕ → Type 0) (text : List ℕ) (at : ℕ) (e : FormFault) → ((t : List ℕ) → U t → T t) →
     RefusesPart T text at e → RefusesPart U text at e
-RefusesPart-less T U text at TooLong less h = h
-RefusesPart-less T U text at TooDeep less h = h
-RefusesPart-less T U text at Short less h = h
-RefusesPart-less T U text at (Bad k) less h = StopsAt-less T U text at k less h
-RefusesPart-less T U text at (Trailing k) less h = h
-RefusesPart-less T U text at Memory less h = h
+RefusesPart-less T U text at (Bad k) less h = search rules
+RefusesPart-less T U text at _ less h = h

@@ -1,6 +1,6 @@
 -- The members of a list are the siblings behind its node.
-use Rattle.std.proofs.Common.{◌≡◌, ◌≢◌, ℕ, zero, suc, ◌+◌, ◌-◌, ◌<◌, ◌≤◌, List, [], ◌∷◌, ◌++◌, length, get_or, take, drop, refl, sym, ap, subst, ◌∙◌, append_assoc, add-one, length-append, arith, inl, inr, Some, rules}
-use Rattle.std.specs.Prelude.{slice_range, option_and_then}
+use Rattle.std.proofs.Common.{◌≡◌, ◌≢◌, ℕ, zero, suc, ◌+◌, ◌-◌, ◌<◌, ◌≤◌, List, [], ◌∷◌, ◌++◌, length, get_or, take, drop, refl, sym, ap, subst, ◌∙◌, append_assoc, add-one, length-append, arith, inl, inr, rules}
+use Rattle.std.specs.Prelude.{slice_range}
 use Rattle.std.proofs.lemmas.Bool.{cases_lt}
 use Rattle.std.proofs.lemmas.Option.{slice_get-get_or}
 use Rattle.std.proofs.lemmas.List.{take_at, drop_at, append-nil, get_or_append_left, get_or-append_right, get_or-append-add, length-take, length-take-le, drop-drop, drop-take, length-drop, get_or-drop, get_or-take}
@@ -64,9 +64,7 @@ siblings-nodes_all (more v vs) (suc most) le =
 
 -- siblings are what their nodes show
 siblings_are : (v : Value) (from to : ℕ) (vs : List Value) → AreSiblings v from to vs → siblings_between v from to ≡ vs
-siblings_are v from to vs a =
-    let long : length (nodes_all (values vs)) ≤ to - from = omega (arith, sym (ap length a.row_is), length-take-le (to - from) (drop from (nodes v)), length-take (to - from) (drop from (nodes v))) in
-    ap (siblings (to - from)) a.row_is ∙ siblings-nodes_all (values vs) (to - from) long ∙ members-values vs
+siblings_are v from to vs a = search (rules, length-take-le, length-take, siblings-nodes_all, members-values)
 
 pub are_siblings : (v : Value) (from to : ℕ) (vs : List Value) → AreSiblings v from to vs → AreSiblings v from to (siblings_between v from to)
 are_siblings v from to vs a = rw (siblings_are v from to vs a) a
@@ -97,12 +95,7 @@ by_form v n k (string hint octets) lt e is_list wide = absurd is_list
 by_form v n k (list vs) lt e is_list wide =
     let a = list_siblings v n vs lt e in
     let shown = siblings_are v (n + 1) (n + size (list vs)) (members vs) a in
-    rw wide (record {
-      siblings_of = rw shown a;
-      list_is = e ∙ ap list (sym (values-members vs)) ∙ ap group (sym shown);
-      fits = a.within;
-      behind = omega arith;
-    })
+    search (rules, values-members)
 
 pub list_of : (v : Value) (n k : ℕ) → n < size v → IsList (node_at v n) → k ≡ size (node_at v n) → IsListOf v n k
 list_of v n k lt is_list wide = by_form v n k (node_at v n) lt refl is_list wide
@@ -142,10 +135,6 @@ pub split : (v : Value) (from to k : ℕ) → AreSiblings v from to (siblings_be
 split v from to k a apart wide =
     let s = split_by v from to k (siblings_between v from to) a apart wide in
     record { first_is = s.0; others = s.1 }
-
--- none are left exactly at the end
-pub at_end : (v : Value) (from to : ℕ) → from ≡ to → siblings_between v from to ≡ []
-at_end v from to e = let none_left : to - from ≡ 0 = omega arith in rw none_left refl
 
 -- ---- a member by its number
 
@@ -196,7 +185,4 @@ member_of v n k lt below =
 pub member_is : (v : Value) (n k : ℕ) → n < size v → k < length (members_of (node_at v n)) → node v (member_number n k (node_at v n)) ≡ of_node (part_at k) v n
 member_is v n k lt below =
     let m = member_by v n k (node_at v n) lt refl below in
-    slice_get-get_or (nodes v) (member_number n k (node_at v n)) (plain []) m.0
-    ∙ ap Some (m.1)
-    ∙ sym (slice_get-get_or (members_of (node_at v n)) k (plain []) below)
-    ∙ ap (λ o. option_and_then (part_at k) o) (sym (slice_get-get_or (nodes v) n (plain []) lt))
+    search (rules, slice_get-get_or)

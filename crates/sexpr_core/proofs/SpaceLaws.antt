@@ -1,7 +1,7 @@
 -- Whitespace that stands between two offsets.
 use Rattle.std.proofs.Common.{◌≡◌, ℕ, zero, suc, ◌+◌, ◌<◌, ◌≤◌, true, false, List, [], ◌∷◌, ◌++◌, length, take, drop, refl, sym, ap, subst, ◌∙◌, append_assoc, arith, length-drop, rules}
-use Rattle.std.specs.List.{AllByRecursion}
 use Rattle.sexpr_core.specs.Reading.{StandsAt}
+use Rattle.sexpr_core.proofs.Runs.{all-append, one_front}
 use Rattle.sexpr_core.specs.Spaces.{is_whitespace, IsSpace, AreSpaces, StartsVisible, Skips}
 
 pub record SpacesTo (text : List ℕ) (at to : ℕ) : Type 0 where
@@ -10,10 +10,6 @@ pub record SpacesTo (text : List ℕ) (at to : ℕ) : Type 0 where
   pub spelled : drop at text ≡ spaces ++ drop to text
   pub ordered : at ≤ to
   pub within : to ≤ length text
-
-pub all-append : (P : ℕ → Type 0) (xs ys : List ℕ) → AllByRecursion P xs → AllByRecursion P ys → AllByRecursion P (xs ++ ys)
-all-append P [] ys h k = k
-all-append P (x ∷ xs) ys h k = (h.0, all-append P xs ys h.1 k)
 
 pub no_spaces : (text : List ℕ) (at : ℕ) → at ≤ length text → SpacesTo text at at
 no_spaces text at h = record { spaces = []; are_spaces = tt; spelled = refl; ordered = omega arith; within = h }
@@ -35,13 +31,7 @@ spaces_end text at i s e = search rules
 
 -- whitespace ends in one way
 pub one_end : (xs ys r s : List ℕ) → AreSpaces xs → AreSpaces ys → StartsVisible r → StartsVisible s → xs ++ r ≡ ys ++ s → (xs ≡ ys) × (r ≡ s)
-one_end [] [] r s hx hy hr hs e = (refl, e)
-one_end [] (y ∷ ys) r s hx hy hr hs e = let f : is_whitespace y ≡ false = subst StartsVisible e hr in let g : false ≡ true = sym f ∙ hy.0 in absurd cc
-one_end (x ∷ xs) [] r s hx hy hr hs e = let f : is_whitespace x ≡ false = subst StartsVisible (sym e) hs in let g : false ≡ true = sym f ∙ hx.0 in absurd cc
-one_end (x ∷ xs) (y ∷ ys) r s hx hy hr hs e =
-    let t : xs ++ r ≡ ys ++ s = cc in
-    let p = one_end xs ys r s hx.1 hy.1 hr hs t in
-    (cc, p.1)
+one_end = one_front is_whitespace
 
 pub spaces_front : (n : ℕ) (xs : List ℕ) → AreSpaces xs → AreSpaces (take n xs)
 spaces_front zero xs h = tt

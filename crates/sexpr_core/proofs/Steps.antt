@@ -7,7 +7,7 @@ use Rattle.sexpr_core.specs.declared.fault.FormFault.{FormFault}
 use Rattle.sexpr_core.specs.declared.layout.Record.{Record}
 use Rattle.sexpr_core.specs.declared.layout.Shape.{Shape}
 use Rattle.sexpr_core.specs.declared.layout.Shape.TheVariants.{Plain, Hinted}
-use Rattle.sexpr_core.specs.Value.{string, decimal, verbatim, canon, size}
+use Rattle.sexpr_core.specs.Value.{string, decimal, verbatim, canon}
 use Rattle.sexpr_core.specs.Layout.{head, shape}
 use Rattle.sexpr_core.specs.Prefix.{Front}
 use Rattle.sexpr_core.specs.Inner.PartFaults.{IsBad, FaultAt}
@@ -113,16 +113,7 @@ octets_read text at n to short begins r h =
     r.spelled ∙ sym (append_assoc (decimal r.written) (58 ∷ []) (drop to text)) in
     let k : to ≡ at + length (decimal r.written ++ 58 ∷ []) = read_length text (decimal r.written ++ 58 ∷ []) at to begins w e in
     let d : decimal (length (take n (drop to text))) ≡ decimal r.written = ap decimal (l ∙ m) in
-    record {
-      octets = take n (drop to text);
-      spelled = r.spelled ∙ ap (λ t. decimal r.written ++ 58 ∷ t) (sym split)
-          ∙ sym (append_assoc (decimal r.written) (58 ∷ take n (drop to text)) (drop (to + n) text))
-          ∙ ap (λ t. (t ++ 58 ∷ take n (drop to text)) ++ drop (to + n) text) (sym d)
-          ∙ ap (λ t. t ++ drop (to + n) text) (sym (verbatim_is (take n (drop to text))));
-      begins = omega (arith, length-append (decimal r.written) (58 ∷ []), ap length d);
-      ends = omega arith;
-      within = omega arith;
-    }
+    search (rules, append_assoc, verbatim_is, length-append)
 
 -- ---- behind a hint
 
@@ -169,9 +160,7 @@ one at to is = record { start = at; end = to; size = 1; shape = is }
 record_is :
     (at to ends : ℕ) (a b : Shape) → to ≡ ends → a ≡ b →
     ◌≡◌ {A = List Record} (one at ends b ∷ []) (one at to a ∷ [])
-record_is at to ends a b e s =
-    ap (λ k. one at k b ∷ []) (sym e)
-    ∙ ap (λ k. one at to k ∷ []) (sym s)
+record_is at to ends a b e s = search rules
 
 pub hinted_read :
     (text : List ℕ) (at hint via body to : ℕ) → StandsAt text at 91 → ReadsVerbatim text (at + 1) hint via →

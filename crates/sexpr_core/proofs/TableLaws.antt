@@ -119,14 +119,12 @@ as_many text (r ∷ rs) (v ∷ vs) p = ap suc (as_many text rs vs p.1)
 pub length-records : (v : Value) → length (records 0 v) ≡ size v
 length-records v = as_many (canon v) (records 0 v) (nodes v) (places_of v)
 
-pub node_place : (v : Value) (n : ℕ) (r : Record) (w : Value) → n < size v → IsPlace (canon v) (get_or (records 0 v) n r) (get_or (nodes v) n w)
-node_place v n r w lt = place_at (canon v) (records 0 v) (nodes v) n r w (places_of v) (omega (arith, length-records v))
-
 pub table_length : (text : List ℕ) (table : List Record) (v : Value) → IsTable text table v → length table ≡ size v
 table_length text table v t = ap length t.table_is ∙ length-records v
 
 pub table_place : (text : List ℕ) (table : List Record) (v : Value) (n : ℕ) (r : Record) → IsTable text table v → n < size v → IsPlace (canon v) (get_or table n r) (node_at v n)
-table_place text table v n r t lt = rw t.table_is (node_place v n r (plain []) lt)
+table_place text table v n r t lt =
+    rw t.table_is (place_at (canon v) (records 0 v) (nodes v) n r (plain []) (places_of v) (omega (arith, length-records v)))
 
 mutual
   starts_shown : (at : ℕ) (v : Value) → map (λ (r : Record). r.start) (records at v) ≡ starts at v

@@ -5,6 +5,7 @@ use Rattle.sexpr_core.specs.Value.{Value, Values, string, list, none, more, deci
 use Rattle.sexpr_core.specs.Texts.{IsCanon, IsCanonWithin, IsVerbatim, IsClosing, IsLength}
 use Rattle.sexpr_core.proofs.Prefix.{Tailed, Opens, Behind, From}
 use Rattle.sexpr_core.proofs.Decimal.{IsDigit, AreDigits-decimal, decimal_starts, parts_agree, decimal_same}
+use Rattle.sexpr_core.proofs.Runs.{same_length}
 
 -- ---- further sorts of texts
 
@@ -49,28 +50,14 @@ verbatim_differs octets x y c h e = h (verbatim_begins octets x y c e)
 
 -- ---- one value for a text
 
-octets_one : (a b x y : List ℕ) → length a ≡ length b → a ++ x ≡ b ++ y → (a ≡ b) × (x ≡ y)
-octets_one [] [] x y l e = (refl, e)
-octets_one [] (d ∷ b) x y l e = absurd (omega arith)
-octets_one (c ∷ a) [] x y l e = absurd (omega arith)
-octets_one (c ∷ a) (d ∷ b) x y l e =
-    let q : c ≡ d = cc in
-    let r : a ++ x ≡ b ++ y = cc in
-    let p : (a ≡ b) × (x ≡ y) = octets_one a b x y (omega arith) r in
-    let s : a ≡ b = p.0 in
-    (cc, p.1)
-
 pub verbatim_one : (a b x y : List ℕ) → verbatim a ++ x ≡ verbatim b ++ y → (a ≡ b) × (x ≡ y)
-verbatim_one a b x y e = search (rules, verbatim_is, append_assoc, parts_agree, AreDigits-decimal, colon_no_digit, octets_one, decimal_same)
+verbatim_one a b x y e = search (rules, verbatim_is, append_assoc, parts_agree, AreDigits-decimal, colon_no_digit, same_length, decimal_same)
 
 no_bracket : IsDigit 91 → ⊥
 no_bracket h = omega (arith, h.1)
 
 pub no_open : IsDigit 40 → ⊥
 no_open h = omega (arith, h.0)
-
-pub no_close : IsDigit 41 → ⊥
-no_close h = omega (arith, h.0)
 
 hinted_one :
     (g h a b x y : List ℕ) → (verbatim g ++ 93 ∷ verbatim a) ++ x ≡ (verbatim h ++ 93 ∷ verbatim b) ++ y →
@@ -79,7 +66,7 @@ hinted_one g h a b x y e = search (rules, append_assoc, verbatim_one)
 
 -- a value does not begin with a closing parenthesis
 pub canon_differs : (v : Value) (x y : List ℕ) → canon v ++ x ≡ 41 ∷ y → ⊥
-canon_differs (string None a) x y e = verbatim_differs a x y 41 no_close e
+canon_differs (string None a) x y e = verbatim_differs a x y 41 (λ h. omega (arith, h.0)) e
 canon_differs (string (Some h) a) x y e = let q : ◌≡◌ {A = ℕ} 91 41 = cc in omega arith
 canon_differs (list vs) x y e = let q : ◌≡◌ {A = ℕ} 40 41 = cc in omega arith
 
@@ -162,10 +149,7 @@ pub Behind-hint : (hint : List ℕ) → Behind IsHinted IsClosing (verbatim hint
 Behind-hint hint = search (rules, append_assoc, verbatim_one)
 
 pub Behind-closing : Behind IsClosing IsVerbatim (93 ∷ [])
-Behind-closing = record {
-  on = λ b is. record { octets = is.octets; is = ap (λ t. 93 ∷ t) is.is };
-  back = λ t x y is e. record { rest = verbatim is.octets; is = verbatim_text is.octets; whole = is.is };
-}
+Behind-closing = search (rules, verbatim_text)
 
 -- ---- values by their first octets
 
@@ -177,8 +161,7 @@ tailed_string octets t x y c U h is e =
 
 hinted_back : (v : Value) (t x y : List ℕ) → t ≡ canon v → 91 ∷ x ≡ t ++ y → Tailed IsHinted (91 ∷ []) t
 hinted_back (string None a) t x y is e = tailed_string a t x y 91 IsHinted no_bracket is e
-hinted_back (string (Some h) a) t x y is e = search rules
-hinted_back (list vs) t x y is e = search rules
+hinted_back _ t x y is e = search rules
 
 pub Behind-bracket : Behind IsCanon IsHinted (91 ∷ [])
 Behind-bracket = record {
@@ -194,8 +177,7 @@ Behind-bracket_within room = record {
 
 plain_back : (v : Value) (t x y : List ℕ) (c : ℕ) → IsDigit c → t ≡ canon v → c ∷ x ≡ t ++ y → IsVerbatim t
 plain_back (string None a) t x y c low is e = record { octets = a; is = is }
-plain_back (string (Some h) a) t x y c low is e = search rules
-plain_back (list vs) t x y c low is e = search rules
+plain_back _ t x y c low is e = search rules
 
 pub From-digit : (c : ℕ) → IsDigit c → From c IsCanon IsVerbatim
 From-digit c low = record {

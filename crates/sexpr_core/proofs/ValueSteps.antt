@@ -1,11 +1,11 @@
 -- Each step of the reader of values and members, over the text and its offsets.
-use Rattle.std.proofs.Common.{◌≡◌, ℕ, suc, ◌+◌, ◌-◌, ◌<◌, ◌≤◌, List, [], ◌∷◌, ◌++◌, length, drop, Some, None, refl, sym, ◌∙◌, ap, subst, arith, append_assoc, length-append, append-nil, set, rules}
+use Rattle.std.proofs.Common.{◌≡◌, ℕ, suc, ◌+◌, ◌-◌, ◌<◌, ◌≤◌, List, [], ◌∷◌, ◌++◌, length, drop, None, refl, sym, ◌∙◌, ap, subst, arith, append_assoc, length-append, append-nil, set, rules}
 use Rattle.std.proofs.Math.Seq.{set-append_seam}
 use Rattle.sexpr_core.specs.declared.fault.FormFault.{FormFault}
 use Rattle.sexpr_core.specs.declared.layout.Record.{Record}
 use Rattle.sexpr_core.specs.declared.layout.Shape.TheVariants.{List as Group}
 use Rattle.sexpr_core.specs.Value.{Value, Values, string, list, none, more, members, canon, canons, depth, depths, nodes, nodes_all, size}
-use Rattle.sexpr_core.specs.Layout.{shape, records, records_all}
+use Rattle.sexpr_core.specs.Layout.{records, records_all}
 use Rattle.sexpr_core.specs.Prefix.{Front}
 use Rattle.sexpr_core.specs.Inner.PartFaults.{IsDeep, FaultAt}
 use Rattle.sexpr_core.specs.Texts.{IsCanon, IsCanonWithin, IsMembers, IsMembersWithin}
@@ -21,8 +21,7 @@ value_none room text at e = subst (λ s. Front (IsCanonWithin room) s) (sym e) (
 
 canon_some : (v : Value) → 0 < length (canon v)
 canon_some (string None a) = verbatim_none a
-canon_some (string (Some h) a) = omega arith
-canon_some (list vs) = omega arith
+canon_some _ = omega arith
 
 pub string_value :
     (room : ℕ) (text : List ℕ) (at : ℕ) (read : Record) (old new : List Record) → at ≤ length text →
@@ -114,10 +113,8 @@ pub list_short :
     StandsAt text at 40 → index ≡ length old → pushed ≡ old ++ kept ∷ [] → ReadsMembers inner text (at + 1) parts to pushed grown →
     many ≡ length grown - index → (many ≤ length text) × (parts ≤ length text)
 list_short inner text at parts to index many kept old pushed grown s i d r m =
-    let l = list_is inner text at parts to index many kept old pushed grown s i d r m in (
-      omega (arith, size_short (list r.items), l.2, r.within, l.3),
-      omega (arith, r.counted, (many_short r.items).0, r.within, l.3, length-append (canons r.items) (41 ∷ [])),
-    )
+    let l = list_is inner text at parts to index many kept old pushed grown s i d r m in
+    grind (arith, size_short, many_short, length-append)
 
 -- a list's record takes the place that was kept for it
 pub list_read :
@@ -172,13 +169,7 @@ records_all-join :
     (at : ℕ) (vs ws : Values) →
     records_all at (join vs ws) ≡ records_all at vs ++ records_all (at + length (canons vs)) ws
 records_all-join at none ws = ap (λ n. records_all n ws) (omega arith)
-records_all-join at (more v vs) ws =
-    let n : at + length (canon v) + length (canons vs) ≡ at + length (canon v ++ canons vs) =
-    omega (arith, length-append (canon v) (canons vs)) in
-    ap (λ rs. records at v ++ rs)
-    (records_all-join (at + length (canon v)) vs ws
-    ∙ ap (λ k. records_all (at + length (canon v)) vs ++ records_all k ws) n)
-    ∙ sym (append_assoc (records at v) (records_all (at + length (canon v)) vs) (records_all (at + length (canon v ++ canons vs)) ws))
+records_all-join at (more v vs) ws = search (rules, length-append, append_assoc, records_all-join (at + length (canon v)) vs ws)
 
 members-join : (vs ws : Values) → length (members (join vs ws)) ≡ length (members vs) + length (members ws)
 members-join none ws = omega arith
@@ -227,9 +218,6 @@ in_member room text at parts to c old new e w h s nc f = search (rules, member_f
 
 -- ---- without records
 
-value_behind : (room : ℕ) (text : List ℕ) (at to : ℕ) (old : List Record) (p : PassesValue room text at to) → ReadsValue room text at to old (old ++ p.0)
-value_behind room text at to old p = search rules
-
 members_behind :
     (room : ℕ) (text : List ℕ) (at to : ℕ) (old : List Record) (p : PassesMembers room text at to) →
     ReadsMembers room text at p.0 to old (old ++ p.1)
@@ -247,7 +235,7 @@ pub member_passed :
     (parts : ℕ) × (nodes : List Record) × HasMembers room text at parts via [] nodes → PassesValue room text via to →
     (parts : ℕ) × (nodes : List Record) × HasMembers room text at parts to [] nodes
 member_passed room text at via to w h p =
-    (h.0 + 1, h.1 ++ p.0, more_members room text at h.0 via to [] h.1 (h.1 ++ p.0) w h.2 (value_behind room text via to h.1 p))
+    (h.0 + 1, h.1 ++ p.0, more_members room text at h.0 via to [] h.1 (h.1 ++ p.0) w h.2 (search rules))
 
 pub members_passed :
     (room : ℕ) (text : List ℕ) (at i c : ℕ) →

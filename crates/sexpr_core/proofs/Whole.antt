@@ -1,39 +1,33 @@
 -- From a value read at the beginning of a text to what is said of the whole text.
-use Rattle.std.proofs.Common.{◌≡◌, ℕ, suc, ◌+◌, ◌<◌, ◌≤◌, List, [], ◌++◌, length, take, drop, refl, sym, ◌∙◌, ap, subst, arith, append-nil, length-drop}
+use Rattle.std.proofs.Common.{◌≡◌, ℕ, suc, ◌+◌, ◌<◌, ◌≤◌, List, [], ◌++◌, length, take, drop, refl, sym, ◌∙◌, ap, arith, append-nil, length-drop, rules}
 use Rattle.std.proofs.lemmas.List.{take-append-drop, take_at}
 use Rattle.sexpr_core.specs.declared.fault.FormFault.{FormFault}
 use Rattle.sexpr_core.specs.declared.fault.FormFault.TheVariants.{TooLong, TooDeep, Short, Bad, Trailing, Memory}
 use Rattle.sexpr_core.specs.declared.layout.Record.{Record}
 use Rattle.sexpr_core.specs.Value.{Value, canon, IsWithinLimits}
-use Rattle.sexpr_core.specs.Prefix.{Begins, Front}
+use Rattle.sexpr_core.specs.Prefix.{Begins}
 use Rattle.sexpr_core.specs.Inner.PartFaults.{Barred, FaultAt}
 use Rattle.sexpr_core.specs.Texts.{IsCanon, IsCanonWithin}
 use Rattle.sexpr_core.specs.Reading.{ReadsValue}
 use Rattle.sexpr_core.specs.Refusal.{IsShallowText, Refused}
+use Rattle.sexpr_core.proofs.OneFault.{front_begins}
 use Rattle.sexpr_core.proofs.Texts.{canon_one}
 use Rattle.sexpr_core.proofs.Steps.{read_length}
-
-front_begins : (T : List ℕ → Type 0) (xs : List ℕ) → Front T xs → Begins T xs
-front_begins T xs f = record { rest = f.rest; whole = f.whole }
 
 barred_begins : (T : List ℕ → Type 0) (xs : List ℕ) → Barred T xs → Begins T xs → ⊥
 barred_begins T xs h b = h.bars (xs ++ b.rest) b.rest [] b.whole (sym (append-nil (xs ++ b.rest)))
 
 pub refused : (text : List ℕ) (e : FormFault) → FaultAt IsCanon (IsCanonWithin 64) 0 text e → Refused text e
-refused text TooLong h = absurd h
 refused text TooDeep h =
     (suc h.place, front_begins IsCanon (take (suc h.place) text) h.before, barred_begins IsShallowText (take (suc h.place) text) h.stops)
 refused text Short h = h
 refused text (Bad k) h =
     let e : h.place ≡ k = let o : k ≡ 0 + h.place = h.offset in omega arith in
     let f : suc h.place ≡ k + 1 = omega arith in
-    let w : h.place < length text = h.within in (
-      omega arith,
-      subst (λ n. Front IsShallowText (take n text)) e h.before,
-      subst (λ n. Begins IsCanon (take n text) → ⊥) f (barred_begins IsCanon (take (suc h.place) text) h.stops),
-    )
-refused text (Trailing k) h = absurd h
+    let w : h.place < length text = h.within in
+    search (rules, barred_begins)
 refused text Memory h = h
+refused text _ h = absurd h
 
 -- ---- a whole value
 
@@ -49,14 +43,8 @@ pub trailing :
     (text : List ℕ) (to : ℕ) (old new : List Record) → ReadsValue 64 text 0 to old new → to < length text →
     Refused text (Trailing to)
 trailing text to old new r h =
-    let l : to ≡ length (canon r.value) = whole_length text to old new r in (
-      h,
-      record {
-        value = r.value;
-        fits = r.fits;
-        is = ap (take to) r.spelled ∙ take_at (canon r.value) (drop to text) to (sym l);
-      },
-    )
+    let l : to ≡ length (canon r.value) = whole_length text to old new r in
+    search (rules, take_at)
 
 -- ---- a canonical text within the limits is refused only for want of memory
 

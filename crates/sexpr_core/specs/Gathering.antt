@@ -3,7 +3,7 @@ use Rattle.std.specs.Prelude.{◌≡◌, ℕ, ◌≤◌, ◌==◌, ◌||◌, ◌
 use Rattle.std.specs.List.{AllByRecursion}
 use Rattle.sexpr_core.specs.Characters.{char}
 use Rattle.sexpr_core.specs.declared.fault.FormFault.{FormFault}
-use Rattle.sexpr_core.specs.declared.fault.FormFault.TheVariants.{TooLong, TooDeep, Short, Bad, Trailing, Memory}
+use Rattle.sexpr_core.specs.declared.fault.FormFault.TheVariants.{Short, Bad, Memory}
 use Rattle.sexpr_core.specs.Reading.{StandsAt}
 use Rattle.sexpr_core.specs.Spaces.{is_whitespace}
 
@@ -28,9 +28,7 @@ pub record Passed (p : ℕ → Bool) (text : List ℕ) (at to : ℕ) : Type 0 wh
 -- Where a body is refused, if its octets have to pass a test. Short: all octets from the offset on pass. Bad: those before
 -- the octet at k pass, and this one does not.
 abbrev pub IsBodyEnd : (ℕ → Bool) → List ℕ → ℕ → FormFault → Type 0
-IsBodyEnd p text at TooLong = ⊥
-IsBodyEnd p text at TooDeep = ⊥
 IsBodyEnd p text at Short = Passed p text at (length text)
 IsBodyEnd p text at (Bad k) = Passed p text at k × ((c : ℕ) × StandsAt text k c × (p c ≡ false))
-IsBodyEnd p text at (Trailing k) = ⊥
 IsBodyEnd p text at Memory = Unit {0}
+IsBodyEnd p text at _ = ⊥

@@ -25,8 +25,5 @@ Refused text Memory = Unit {0}
 -- a refusal for the form of a text, and not for its length or for memory
 abbrev pub IsOfForm : FormFault → Type 0
 IsOfForm TooLong = ⊥
-IsOfForm TooDeep = Unit {0}
-IsOfForm Short = Unit {0}
-IsOfForm (Bad at) = Unit {0}
-IsOfForm (Trailing at) = Unit {0}
 IsOfForm Memory = ⊥
+IsOfForm _ = Unit {0}

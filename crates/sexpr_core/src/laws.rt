@@ -1,5 +1,5 @@
 //! Laws of values, canonical form and trees.
-//! Each function is a law: it does nothing, and its contract is the fact.
+//! Each function is a law: its contract is the fact. It does nothing, except that `octets_are_below_256` walks its tree.
 
 ghost use Rattle.std.specs.Prelude.{◌≡◌, ◌≢◌, ◌↔◌, ℕ, List, ◌++◌, IsTrue};
 ghost use Rattle.sexpr_core.specs.declared.fault.FormFault.{FormFault};

@@ -7,14 +7,10 @@ use Rattle.sexpr_core.specs.Value.{Value, Values, string, list, none, more, deci
 use Rattle.sexpr_core.proofs.Texts.{verbatim_is}
 use Rattle.sexpr_text.specs.Strings.{is_token_octet, IsCount, Simple, IsApart}
 use Rattle.sexpr_text.specs.Spelling.{SpellsAs, SpellsMembers}
-use Rattle.sexpr_text.specs.Unclosed.{IsUnclosedString, UnclosedMembers, depth_open}
+use Rattle.sexpr_text.specs.Unclosed.{IsUnclosedString, IsUnclosedHinted, UnclosedMembers, depth_open}
 use Rattle.sexpr_text.specs.Inner.Begun.{IsStringPart, GoesString, IsValuePart, IsUnclosedValue, GoesValue, IsMembersPart, AreUnclosedMembers, GoesMembers}
+use Rattle.sexpr_text.proofs.PrintedSpelled.{end_apart}
 use Rattle.sexpr_text.proofs.OneValue.{apart_front, spaces_members}
-
--- ---- prefixes
-
-pub begins_front : (T : List ℕ → Type 0) (x y : List ℕ) → Begins T (x ++ y) → Begins T x
-begins_front T x y b = record { rest = y ++ b.rest; whole = subst T (append_assoc x y b.rest) b.whole }
 
 -- digits of a length begin a string, as nothing does
 pub count_begins : (count : List ℕ) (n : ℕ) → IsCount count n → Begins IsStringPart count
@@ -39,30 +35,37 @@ string_part room x b =
     let w : IsStringPart (x ++ b.rest) = b.whole in
     record { rest = b.rest; whole = record { ends_token = w.ends_token; value = string None w.octets; meant = w.meant; fits = omega arith } }
 
+-- a string with a display hint
+pub hinted_value : (room : ℕ) (ends as_token : Bool) (hint octets inside hint_text behind_hint behind octets_text : List ℕ) → AreSpaces inside
+    → Simple as_token hint_text hint → AreSpaces behind_hint → AreSpaces behind → Simple ends octets_text octets
+    → IsValuePart room (91 ∷ (inside ++ (hint_text ++ (behind_hint ++ 93 ∷ (behind ++ octets_text)))))
+hinted_value room ends as_token hint octets inside hint_text behind_hint behind octets_text s m t u n = record {
+  ends_token = ends;
+  value = string (Some hint) octets;
+  meant = record {
+    as_token = as_token;
+    inside = inside;
+    hint_text = hint_text;
+    behind_hint = behind_hint;
+    behind = behind;
+    octets_text = octets_text;
+    spelled = refl;
+    spaces_inside = s;
+    hint_meant = m;
+    spaces_behind_hint = t;
+    spaces_behind = u;
+    octets_meant = n;
+  };
+  fits = omega arith;
+}
+
 pub hint_part : (room : ℕ) (inside x : List ℕ) → AreSpaces inside → Begins IsStringPart x → Begins (IsValuePart room) (91 ∷ (inside ++ x))
 hint_part room inside x s b =
     let w : IsStringPart (x ++ b.rest) = b.whole in
     record {
       rest = b.rest ++ 93 ∷ 97 ∷ [];
-      whole = record {
-        ends_token = true;
-        value = string (Some w.octets) (97 ∷ []);
-        meant = record {
-          as_token = w.ends_token;
-          inside = inside;
-          hint_text = x ++ b.rest;
-          behind_hint = [];
-          behind = [];
-          octets_text = 97 ∷ [];
-          spelled = simp append_assoc refl;
-          spaces_inside = s;
-          hint_meant = w.meant;
-          spaces_behind_hint = tt;
-          spaces_behind = tt;
-          octets_meant = (refl, (refl, (refl, tt)));
-        };
-        fits = omega arith;
-      };
+      whole = subst (IsValuePart room) (simp append_assoc refl)
+          (hinted_value room true w.ends_token w.octets (97 ∷ []) inside (x ++ b.rest) [] [] (97 ∷ []) s w.meant tt tt (refl, (refl, (refl, tt))));
     }
 
 pub body_part : (room : ℕ) (as_token : Bool) (hint inside hint_text behind_hint behind x : List ℕ) → AreSpaces inside → Simple as_token hint_text hint
@@ -72,25 +75,8 @@ body_part room as_token hint inside hint_text behind_hint behind x s m t u b =
     let w : IsStringPart (x ++ b.rest) = b.whole in
     record {
       rest = b.rest;
-      whole = record {
-        ends_token = w.ends_token;
-        value = string (Some hint) w.octets;
-        meant = record {
-          as_token = as_token;
-          inside = inside;
-          hint_text = hint_text;
-          behind_hint = behind_hint;
-          behind = behind;
-          octets_text = x ++ b.rest;
-          spelled = simp append_assoc refl;
-          spaces_inside = s;
-          hint_meant = m;
-          spaces_behind_hint = t;
-          spaces_behind = u;
-          octets_meant = w.meant;
-        };
-        fits = omega arith;
-      };
+      whole = subst (IsValuePart room) (simp append_assoc refl)
+          (hinted_value room w.ends_token as_token hint w.octets inside hint_text behind_hint behind (x ++ b.rest) s m t u w.meant);
     }
 
 pub list_part : (room less : ℕ) (x : List ℕ) → suc less ≤ room → Begins (IsMembersPart less) x → Begins (IsValuePart room) (40 ∷ x)
@@ -107,13 +93,9 @@ list_part room less x le b =
       };
     }
 
-apart_none : (ends : Bool) → IsApart ends []
-apart_none false = tt
-apart_none true = tt
-
 -- one member
 only_member : (ends : Bool) (x : List ℕ) (v : Value) → SpellsAs ends x v → SpellsMembers x (more v none)
-only_member ends x v m = ([], ends, x, [], sym (append-nil x), tt, m, apart_none ends, tt)
+only_member ends x v m = ([], ends, x, [], sym (append-nil x), tt, m, end_apart ends, tt)
 
 pub member_part : (room : ℕ) (x : List ℕ) → Begins (IsValuePart room) x → Begins (IsMembersPart room) x
 member_part room x b =
@@ -170,37 +152,23 @@ first_part room ends first v (c ∷ cs) y m deep apart b =
 
 -- ---- the same of what isn't closed
 
-string_unclosed : (room : ℕ) (x : List ℕ) → IsUnclosedString x → IsUnclosedValue room x
-string_unclosed room x u = record { lists = []; fits = omega arith; unclosed = inl u }
-
-hint_unclosed : (room : ℕ) (inside x : List ℕ) → AreSpaces inside → IsUnclosedString x → IsUnclosedValue room (91 ∷ (inside ++ x))
-hint_unclosed room inside x s u = record {
-  lists = [];
-  fits = omega arith;
-  unclosed = inr (inl (record { inside = inside; last = x; spelled = refl; spaces_inside = s; unclosed = u }));
-}
-
-body_unclosed : (room : ℕ) (as_token : Bool) (hint inside hint_text behind_hint behind x : List ℕ) → AreSpaces inside → Simple as_token hint_text hint
+pub hinted_unclosed : (as_token : Bool) (hint inside hint_text behind_hint behind x : List ℕ) → AreSpaces inside → Simple as_token hint_text hint
     → AreSpaces behind_hint → AreSpaces behind → IsUnclosedString x
-    → IsUnclosedValue room (91 ∷ (inside ++ (hint_text ++ (behind_hint ++ 93 ∷ (behind ++ x)))))
-body_unclosed room as_token hint inside hint_text behind_hint behind x s m t u k = record {
-  lists = [];
-  fits = omega arith;
-  unclosed = inr (inr (record {
-    as_token = as_token;
-    hint = hint;
-    inside = inside;
-    hint_text = hint_text;
-    behind_hint = behind_hint;
-    behind = behind;
-    last = x;
-    spelled = refl;
-    spaces_inside = s;
-    hint_meant = m;
-    spaces_behind_hint = t;
-    spaces_behind = u;
-    unclosed = k;
-  }));
+    → IsUnclosedHinted (91 ∷ (inside ++ (hint_text ++ (behind_hint ++ 93 ∷ (behind ++ x)))))
+hinted_unclosed as_token hint inside hint_text behind_hint behind x s m t u k = record {
+  as_token = as_token;
+  hint = hint;
+  inside = inside;
+  hint_text = hint_text;
+  behind_hint = behind_hint;
+  behind = behind;
+  last = x;
+  spelled = refl;
+  spaces_inside = s;
+  hint_meant = m;
+  spaces_behind_hint = t;
+  spaces_behind = u;
+  unclosed = k;
 }
 
 list_unclosed : (room less : ℕ) (x : List ℕ) → suc less ≤ room → AreUnclosedMembers less x → IsUnclosedValue room (40 ∷ x)
@@ -209,16 +177,10 @@ list_unclosed room less x le u =
     let b : depth_open u.lists ≤ less = u.fits in
     record { lists = u.items ∷ u.lists; fits = omega arith; unclosed = (x, refl, u.unclosed) }
 
-member_unclosed : (room : ℕ) (x : List ℕ) → IsUnclosedValue room x → AreUnclosedMembers room x
-member_unclosed room x u = record { items = none; lists = u.lists; few = omega arith; fits = u.fits; unclosed = ([], x, refl, tt, u.unclosed) }
-
 spaces_open : (U : List ℕ → Type 0) (vs : Values) (s x : List ℕ) → AreSpaces s → UnclosedMembers U vs x → UnclosedMembers U vs (s ++ x)
 spaces_open U none s x h u = (s ++ u.0, u.1, ap (λ t. s ++ t) u.2 ∙ sym (append_assoc s u.0 u.1), spaces_members s u.0 none h u.3, u.4)
 spaces_open U (more v vs) s x h u =
     (s ++ u.0, u.1, u.2, u.3, ap (λ t. s ++ t) u.4 ∙ sym (append_assoc s u.0 (u.2 ++ u.3)), spaces_members s u.0 none h u.5, u.6, u.7, u.8)
-
-spaces_unclosed : (room : ℕ) (s x : List ℕ) → AreSpaces s → AreUnclosedMembers room x → AreUnclosedMembers room (s ++ x)
-spaces_unclosed room s x h u = search (rules, spaces_open)
 
 first_unclosed : (room : ℕ) (ends : Bool) (first : List ℕ) (v : Value) (x y : List ℕ) → SpellsAs ends first v → depth v ≤ room → IsApart ends (x ++ y)
     → AreUnclosedMembers room x → AreUnclosedMembers room (first ++ x)
@@ -236,17 +198,23 @@ first_unclosed room ends first v x y m deep apart u =
 
 pub goes_string : (room : ℕ) (x : List ℕ) → GoesString x → GoesValue room x
 goes_string room x (inl b) = inl (string_part room x b)
-goes_string room x (inr u) = inr (string_unclosed room x u)
+goes_string room x (inr u) = inr (record { lists = []; fits = omega arith; unclosed = inl u })
 
 pub goes_hint : (room : ℕ) (inside x : List ℕ) → AreSpaces inside → GoesString x → GoesValue room (91 ∷ (inside ++ x))
 goes_hint room inside x s (inl b) = inl (hint_part room inside x s b)
-goes_hint room inside x s (inr u) = inr (hint_unclosed room inside x s u)
+goes_hint room inside x s (inr u) = inr (record {
+  lists = [];
+  fits = omega arith;
+  unclosed = inr (inl (record { inside = inside; last = x; spelled = refl; spaces_inside = s; unclosed = u }));
+})
 
 pub goes_body : (room : ℕ) (as_token : Bool) (hint inside hint_text behind_hint behind x : List ℕ) → AreSpaces inside → Simple as_token hint_text hint
     → AreSpaces behind_hint → AreSpaces behind → GoesString x
     → GoesValue room (91 ∷ (inside ++ (hint_text ++ (behind_hint ++ 93 ∷ (behind ++ x)))))
 goes_body room as_token hint inside hint_text behind_hint behind x s m t u (inl b) = inl (body_part room as_token hint inside hint_text behind_hint behind x s m t u b)
-goes_body room as_token hint inside hint_text behind_hint behind x s m t u (inr k) = inr (body_unclosed room as_token hint inside hint_text behind_hint behind x s m t u k)
+goes_body room as_token hint inside hint_text behind_hint behind x s m t u (inr k) =
+    let unclosed_here = hinted_unclosed as_token hint inside hint_text behind_hint behind x s m t u k in
+    inr (record { lists = []; fits = omega arith; unclosed = inr (inr unclosed_here) })
 
 pub goes_list : (room less : ℕ) (x : List ℕ) → suc less ≤ room → GoesMembers less x → GoesValue room (40 ∷ x)
 goes_list room less x le (inl b) = inl (list_part room less x le b)
@@ -254,11 +222,12 @@ goes_list room less x le (inr u) = inr (list_unclosed room less x le u)
 
 pub goes_member : (room : ℕ) (x : List ℕ) → GoesValue room x → GoesMembers room x
 goes_member room x (inl b) = inl (member_part room x b)
-goes_member room x (inr u) = inr (member_unclosed room x u)
+goes_member room x (inr u) =
+    inr (record { items = none; lists = u.lists; few = omega arith; fits = u.fits; unclosed = ([], x, refl, tt, u.unclosed) })
 
 pub goes_spaces : (room : ℕ) (s x : List ℕ) → AreSpaces s → GoesMembers room x → GoesMembers room (s ++ x)
 goes_spaces room s x h (inl b) = inl (spaces_part room s x h b)
-goes_spaces room s x h (inr u) = inr (spaces_unclosed room s x h u)
+goes_spaces room s x h (inr u) = inr (search (rules, spaces_open))
 
 pub goes_first : (room : ℕ) (ends : Bool) (first : List ℕ) (v : Value) (x y : List ℕ) → SpellsAs ends first v → depth v ≤ room → IsApart ends (x ++ y)
     → GoesMembers room x → GoesMembers room (first ++ x)

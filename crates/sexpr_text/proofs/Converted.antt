@@ -1,5 +1,5 @@
 -- What is written of a value as it is read.
-use Rattle.std.proofs.Common.{◌≡◌, ℕ, suc, ◌+◌, ◌≤◌, ◌==◌, false, cond, List, [], ◌∷◌, ◌++◌, length, map, Some, None, refl, sym, ap, subst, ◌∙◌, append_assoc, append-nil, arith, length-append}
+use Rattle.std.proofs.Common.{◌≡◌, ℕ, suc, ◌+◌, ◌≤◌, ◌==◌, false, cond, List, [], ◌∷◌, ◌++◌, length, map, None, refl, sym, ap, subst, ◌∙◌, append_assoc, append-nil, arith, length-append, rules}
 use Rattle.std.proofs.lemmas.Bool.Decides.{nat_tests}
 use Rattle.sexpr_core.specs.Value.{Value, Values, string, list, values, canon, canons, IsWithinLimits}
 use Rattle.sexpr_core.specs.Reading.{StandsAt}
@@ -7,11 +7,11 @@ use Rattle.sexpr_core.specs.Spaces.{Skips}
 use Rattle.sexpr_text.specs.declared.converter.Form.{Form}
 use Rattle.sexpr_text.specs.declared.converter.Form.TheVariants.{Canonical, Advanced}
 use Rattle.sexpr_text.specs.Written.{written, written_all, written_string, gap_of}
-use Rattle.sexpr_text.specs.Printed.{adv, adv_all, gap}
 use Rattle.sexpr_text.specs.Reads.{ReadsString, ReadsValue, ReadsMembers}
-use Rattle.sexpr_text.specs.Spelling.{Spells, IsSpelledWithin}
+use Rattle.sexpr_text.specs.Spelling.{IsSpelledWithin}
 use Rattle.sexpr_text.proofs.CanonicalSpelled.{canonical_spelled}
 use Rattle.sexpr_text.proofs.PrintLaws.{adv_all-append}
+use Rattle.sexpr_core.proofs.Written.{canons-append}
 use Rattle.sexpr_text.proofs.Trees.{HasMembers, no_members, more_members, members_end, list_read}
 
 -- a value was read, and is written behind what stood there
@@ -20,11 +20,7 @@ IsConverted room text at form old new to = (v : Value) × ReadsValue room text a
 
 -- the canonical text of a value within the limits spells it, and no other
 pub canonical_within : (octets : List ℕ) (v : Value) → IsWithinLimits v → octets ≡ canon v → IsSpelledWithin octets v
-canonical_within octets v h e = record {
-  spelling = subst (λ t. Spells t v) (sym e) (canonical_spelled v);
-  short = omega (arith, ap length e, h.short);
-  shallow = h.shallow;
-}
+canonical_within octets v h e = search (rules, canonical_spelled)
 
 -- ---- strings
 
@@ -53,22 +49,7 @@ string_converted room text at to form octets old new r e = (
 
 -- what fits without a list fits with any room
 pub roomier : (room : ℕ) (text : List ℕ) (at to : ℕ) (form : Form) (old new : List ℕ) → IsConverted 0 text at form old new to → IsConverted room text at form old new to
-roomier room text at to form old new p = let r = p.1 in (
-  p.0,
-  record {
-    stands = record {
-      ends_token = r.stands.ends_token;
-      spelling = r.stands.spelling;
-      spelled = r.stands.spelled;
-      meant = r.stands.meant;
-      apart = r.stands.apart;
-      fits = omega (arith, r.stands.fits);
-    };
-    forward = r.forward;
-    within = r.within;
-  },
-  p.2,
-)
+roomier room text at to form old new p = search rules
 
 -- ---- members
 
@@ -79,17 +60,10 @@ map-same : (vs : List Value) → map same vs ≡ vs
 map-same [] = refl
 map-same (v ∷ vs) = ap (λ ws. v ∷ ws) (map-same vs)
 
-canons-append : (vs ws : List Value) → canons (values (vs ++ ws)) ≡ canons (values vs) ++ canons (values ws)
-canons-append [] ws = refl
-canons-append (v ∷ vs) ws = ap (λ t. canon v ++ t) (canons-append vs ws) ∙ sym (append_assoc (canon v) (canons (values vs)) (canons (values ws)))
-
 written_more : (form : Form) (vs : List Value) (v : Value)
     → written_all form 0 (values (vs ++ v ∷ [])) ≡ written_all form 0 (values vs) ++ (gap_of form (length vs) ++ written form v)
 written_more Canonical vs v = canons-append vs (v ∷ []) ∙ ap (λ t. canons (values vs) ++ t) (append-nil (canon v))
-written_more Advanced vs v =
-    let count : 0 + length vs ≡ length vs = omega arith in
-    adv_all-append 0 vs (v ∷ []) ∙ ap (λ m. adv_all 0 (values vs) ++ (gap m ++ (adv v ++ []))) count
-    ∙ ap (λ t. adv_all 0 (values vs) ++ (gap (length vs) ++ t)) (append-nil (adv v))
+written_more Advanced vs v = search (rules, adv_all-append, append-nil)
 
 -- Members were read from one offset up to another and written, and this is what stands before the next.
 pub record HasConverted (room : ℕ) (text : List ℕ) (at i : ℕ) (form : Form) (old new next : List ℕ) : Type 0 where
@@ -147,11 +121,7 @@ more_converted room text at i c to then_at form old mid spaced new next later h 
 pub members_converted : (room : ℕ) (text : List ℕ) (at i c : ℕ) (form : Form) (old mid new next : List ℕ) → HasConverted room text at i form old mid next
     → StandsAt text i c → c ≡ 41 → new ≡ mid ++ 41 ∷ []
     → (vs : Values) × ReadsMembers room text at vs (i + 1) × (new ≡ old ++ (written_all form 0 vs ++ 41 ∷ []))
-members_converted room text at i c form old mid new next h stands e f = (
-  values h.items,
-  members_end room text at i c (values h.items) h.read stands e,
-  f ∙ ap (λ t. t ++ 41 ∷ []) h.is_written ∙ append_assoc old (written_all form 0 (values h.items)) (41 ∷ []),
-)
+members_converted room text at i c form old mid new next h stands e f = search (rules, members_end, append_assoc)
 
 pub list_converted : (room less : ℕ) (text : List ℕ) (at to : ℕ) (form : Form) (old opened new : List ℕ) → StandsAt text at 40 → suc less ≤ room
     → opened ≡ old ++ 40 ∷ []

@@ -7,7 +7,8 @@ use Rattle.sexpr_core.proofs.Decimal.{IsDigit, AreDigits, AreDigits-decimal, dec
 use Rattle.sexpr_core.proofs.Texts.{verbatim_is}
 use Rattle.sexpr_text.specs.Strings.{is_digit, is_token_octet, IsToken, IsQuoted, IsMarked, Simple}
 use Rattle.sexpr_text.specs.Reads.{Reads, ReadsCount, ReadsOctets, ReadsString, StringAt, Stops}
-use Rattle.sexpr_text.proofs.Marked.{Passes, one_front, is_mark, marked_first, one_marked, marked_few}
+use Rattle.sexpr_text.proofs.Marked.{is_mark, marked_first, one_marked, marked_few}
+use Rattle.sexpr_core.proofs.Runs.{Passes, one_front}
 use Rattle.sexpr_text.proofs.OneString.{Cut, cut, IsBehind, simple_first}
 
 -- ---- a length ends in one way

@@ -25,8 +25,7 @@ piece_sort (raw c) = 0
 piece_sort (escaped e c) = 1
 piece_sort (octal a b c) = 2
 piece_sort (hexadecimal h l m n) = 3
-piece_sort (line c) = 4
-piece_sort (line_pair c d) = 4
+piece_sort _ = 4
 
 octal_sorted : (a : ℕ) → a < 4 → escape_sort (48 + a) ≡ 2
 octal_sorted zero h = refl
@@ -68,9 +67,6 @@ sorted (line c) x (inr h) = ap escape_sort h.0
 sorted (line_pair c d) x (inl h) = ap escape_sort h.0
 sorted (line_pair c d) x (inr h) = ap escape_sort h.0
 
-same_sort : (p q : Piece) (x y : List ℕ) → IsPiece p x → IsPiece q y → piece_text p ++ x ≡ piece_text q ++ y → piece_sort p ≡ piece_sort q
-same_sort p q x y hp hq e = sym (sorted p x hp) ∙ ap text_sort e ∙ sorted q y hq
-
 octal_same : (a b c d m n : ℕ) (x y : List ℕ)
     → 92 ∷ (48 + a) ∷ (48 + b) ∷ (48 + c) ∷ x ≡ 92 ∷ (48 + d) ∷ (48 + m) ∷ (48 + n) ∷ y → (a ≡ d) × (b ≡ m) × (c ≡ n) × (x ≡ y)
 octal_same a b c d m n x y e = search rules
@@ -95,17 +91,13 @@ one_piece (line c) (line d) x y hp hq e = (refl, cc)
 one_piece (line c) (line_pair d f) x y hp hq e = search (rules, lone)
 one_piece (line_pair d f) (line c) x y hp hq e = search (rules, lone)
 one_piece (line_pair c d) (line_pair f g) x y hp hq e = (refl, cc)
-one_piece p q x y hp hq e = let s : piece_sort p ≡ piece_sort q = same_sort p q x y hp hq e in absurd (omega (arith, s))
+one_piece p q x y hp hq e = let s : piece_sort p ≡ piece_sort q = sym (sorted p x hp) ∙ ap text_sort e ∙ sorted q y hq in absurd (omega (arith, s))
 
 -- ---- pieces
 
 no_quote : (p : Piece) (x t : List ℕ) → IsPiece p x → piece_text p ++ x ≡ 34 ∷ t → ⊥
 no_quote (raw c) x t h e = let q : c ≡ 34 = cc in h.0 q
-no_quote (escaped a c) x t h e = let q : ◌≡◌ {A = ℕ} 92 34 = cc in omega arith
-no_quote (octal a b c) x t h e = let q : ◌≡◌ {A = ℕ} 92 34 = cc in omega arith
-no_quote (hexadecimal a b m n) x t h e = let q : ◌≡◌ {A = ℕ} 92 34 = cc in omega arith
-no_quote (line c) x t h e = let q : ◌≡◌ {A = ℕ} 92 34 = cc in omega arith
-no_quote (line_pair c d) x t h e = let q : ◌≡◌ {A = ℕ} 92 34 = cc in omega arith
+no_quote _ x t h e = let q : ◌≡◌ {A = ℕ} 92 34 = cc in omega arith
 
 -- what is left of pieces behind the first of them, up to the closing quote
 pub record Left (x rest before all : List ℕ) : Type 0 where
@@ -123,13 +115,7 @@ left_pieces (p ∷ ps) (q ∷ qs) x rest hp hq e =
     let o = one_piece p q (pieces_text ps ++ x) (pieces_text qs ++ 34 ∷ rest) hp.0 hq.0
     (sym (append_assoc (piece_text p) (pieces_text ps) x) ∙ e ∙ append_assoc (piece_text q) (pieces_text qs) (34 ∷ rest)) in
     let l = left_pieces ps qs x rest hp.1 hq.1 o.1 in
-    record {
-      pieces = l.pieces;
-      spelled = l.spelled;
-      right = l.right;
-      meant = ap (λ t. piece_octets q ++ t) l.meant ∙ ap (λ t. t ++ (pieces_octets ps ++ pieces_octets l.pieces)) (sym o.0)
-          ∙ sym (append_assoc (piece_octets p) (pieces_octets ps) (pieces_octets l.pieces));
-    }
+    search (rules, append_assoc)
 
 -- at a quote no piece stands
 pub none_left : (ps : List Piece) (r rest : List ℕ) → ArePieces ps (34 ∷ rest) → 34 ∷ r ≡ pieces_text ps ++ 34 ∷ rest → (pieces_octets ps ≡ []) × (r ≡ rest)
@@ -157,11 +143,7 @@ are_followed (p ∷ ps) rest h = (piece_followed p (pieces_text ps) rest h.0, ar
 
 piece_few : (p : Piece) → length (piece_octets p) ≤ length (piece_text p)
 piece_few (raw c) = omega arith
-piece_few (escaped e c) = omega arith
-piece_few (octal a b c) = omega arith
-piece_few (hexadecimal h l m n) = omega arith
-piece_few (line c) = omega arith
-piece_few (line_pair c d) = omega arith
+piece_few _ = omega arith
 
 -- pieces have no more octets than their text
 pub pieces_few : (ps : List Piece) → length (pieces_octets ps) ≤ length (pieces_text ps)

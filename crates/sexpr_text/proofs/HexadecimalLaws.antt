@@ -4,14 +4,14 @@ use Rattle.hex.specs.declared.error.FromHexError.{FromHexError}
 use Rattle.hex.specs.declared.error.FromHexError.TheVariants.{OutOfMemory}
 use Rattle.hex.specs.Hex.{decode_of}
 use Rattle.sexpr_core.specs.declared.fault.FormFault.{FormFault}
-use Rattle.sexpr_core.specs.declared.fault.FormFault.TheVariants.{TooLong, TooDeep, Short, Bad, Trailing, Memory}
+use Rattle.sexpr_core.specs.declared.fault.FormFault.TheVariants.{Bad, Memory}
 use Rattle.sexpr_core.specs.Reading.{StandsAt}
 use Rattle.sexpr_core.specs.Spaces.{visible}
-use Rattle.sexpr_core.proofs.SpaceLaws.{all-append}
 use Rattle.sexpr_core.proofs.Gathered.{visible-append}
 use Rattle.sexpr_text.specs.Strings.{IsHexadecimal}
 use Rattle.sexpr_text.specs.Reads.{Reads, Keeps, is_hexadecimal_octet, IsNoHexadecimalOctet, IsDigitsFault, Stops}
-use Rattle.sexpr_text.proofs.Marked.{Passes, one_front, behind_opening, hexadecimal_octets}
+use Rattle.sexpr_core.proofs.Runs.{Passes, one_front, all-append}
+use Rattle.sexpr_text.proofs.Marked.{behind_opening, hexadecimal_octets}
 
 pub nothing_kept : (text : List ℕ) (at : ℕ) → at ≤ length text → Keeps text at [] at
 nothing_kept text at h = record { body = []; octets = tt; spelled = refl; rest_is = refl; ordered = omega arith; within = h }
@@ -45,16 +45,13 @@ kept_stops text at i kept body rest k stops all e =
 
 pub kept_refused : (text : List ℕ) (at i c : ℕ) (kept body rest : List ℕ) (fault : FormFault) → Keeps text at kept i → StandsAt text i c
     → (c ≡ 35 → ⊥) → Passes is_hexadecimal_octet body → drop at text ≡ body ++ 35 ∷ rest → IsNoHexadecimalOctet c i fault → fault ≡ Memory
-kept_refused text at i c kept body rest TooLong k stands apart all e is = absurd is
-kept_refused text at i c kept body rest TooDeep k stands apart all e is = absurd is
-kept_refused text at i c kept body rest Short k stands apart all e is = absurd is
 kept_refused text at i c kept body rest (Bad n) k stands apart all e is =
     let s = kept_stops text at i kept body rest k (subst (Stops is_hexadecimal_octet) (sym stands.spelled) is.1) all e in
     let q : c ∷ drop (i + 1) text ≡ 35 ∷ rest = sym stands.spelled ∙ s.1 in
     let m : c ≡ 35 = cc in
     absurd (apart m)
-kept_refused text at i c kept body rest (Trailing n) k stands apart all e is = absurd is
 kept_refused text at i c kept body rest Memory k stands apart all e is = refl
+kept_refused text at i c kept body rest _ k stands apart all e is = absurd is
 
 pub kept_end : (text : List ℕ) (at i : ℕ) (kept body rest : List ℕ) → Keeps text at kept i → drop i text ≡ []
     → Passes is_hexadecimal_octet body → drop at text ≡ body ++ 35 ∷ rest → ⊥

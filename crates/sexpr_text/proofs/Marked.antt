@@ -1,6 +1,6 @@
 -- Strings between marks stand in one way.
-use Rattle.std.proofs.Common.{◌≡◌, ℕ, ◌+◌, ◌≤◌, ◌==◌, ◌||◌, Bool, true, false, Ok, List, [], ◌∷◌, ◌++◌, length, drop, refl, sym, ap, subst, ◌∙◌, append_assoc, append-nil, length-append, arith, inl, inr, ◌⊎◌, rules}
-use Rattle.std.specs.List.{AllByRecursion, AllPass}
+use Rattle.std.proofs.Common.{◌≡◌, ℕ, ◌+◌, ◌≤◌, ◌==◌, ◌||◌, Bool, true, Ok, List, [], ◌∷◌, ◌++◌, length, drop, refl, sym, ap, subst, ◌∙◌, append_assoc, append-nil, length-append, arith, inl, inr, ◌⊎◌, rules}
+use Rattle.std.specs.List.{AllPass}
 use Rattle.std.proofs.lemmas.Bool.{cases_Bool}
 use Rattle.std.proofs.lemmas.List.Elements.{All-head, All-tail}
 use Rattle.hex.specs.Hex.{is_hex_digit, decode_of}
@@ -12,28 +12,13 @@ use Rattle.sexpr_core.proofs.Base64Laws.{body_octets}
 use Rattle.sexpr_core.proofs.BraceLaws.{one_packed, visible_le, packed_short}
 use Rattle.sexpr_core.proofs.Gathered.{one_body}
 use Rattle.sexpr_text.specs.Strings.{pieces_text, pieces_octets, IsQuoted, IsHexadecimal, IsPacked, IsMarked}
-use Rattle.sexpr_text.specs.Reads.{is_hexadecimal_octet, Stops}
+use Rattle.sexpr_text.specs.Reads.{is_hexadecimal_octet}
+use Rattle.sexpr_core.proofs.Runs.{Passes, one_front, tail_is}
 use Rattle.sexpr_text.proofs.Escapes.{left_pieces, none_left, are_followed, pieces_few}
-
--- ---- where octets that pass a test end
-
-abbrev pub Passes : (ℕ → Bool) → List ℕ → Type 0
-Passes p xs = AllByRecursion (λ c. p c ≡ true) xs
-
-pub one_front : (p : ℕ → Bool) (xs ys r s : List ℕ) → Passes p xs → Passes p ys → Stops p r → Stops p s → xs ++ r ≡ ys ++ s → (xs ≡ ys) × (r ≡ s)
-one_front p [] [] r s hx hy hr hs e = (refl, e)
-one_front p [] (y ∷ ys) r s hx hy hr hs e = let f : p y ≡ false = subst (Stops p) e hr in let g : false ≡ true = sym f ∙ hy.0 in absurd cc
-one_front p (x ∷ xs) [] r s hx hy hr hs e = let f : p x ≡ false = subst (Stops p) (sym e) hs in let g : false ≡ true = sym f ∙ hx.0 in absurd cc
-one_front p (x ∷ xs) (y ∷ ys) r s hx hy hr hs e =
-    let h : x ≡ y = cc in
-    let t : xs ++ r ≡ ys ++ s = cc in
-    let q = one_front p xs ys r s hx.1 hy.1 hr hs t in
-    let k : xs ≡ ys = q.0 in
-    (cc, q.1)
 
 -- ---- marks
 
-closed : (m : ℕ) (s body r : List ℕ) → s ≡ m ∷ (body ++ m ∷ []) → s ++ r ≡ m ∷ (body ++ m ∷ r)
+pub closed : (m : ℕ) (s body r : List ℕ) → s ≡ m ∷ (body ++ m ∷ []) → s ++ r ≡ m ∷ (body ++ m ∷ r)
 closed m s body r e = ap (λ t. t ++ r) e ∙ ap (λ t. m ∷ t) (append_assoc body (m ∷ []) r)
 
 -- what stands behind the opening mark
@@ -81,8 +66,7 @@ one_hexadecimal s r a t q b h k e =
     let f = one_front is_hexadecimal_octet h.body k.body (35 ∷ r) (35 ∷ q) (hexadecimal_octets h.body a h.packed) (hexadecimal_octets k.body b k.packed) refl refl o.1 in
     let m : decode_of (visible k.body) ≡ Ok a = ap (λ t. decode_of (visible t)) (sym f.0) ∙ h.packed in
     let g : decode_of (visible k.body) ≡ Ok b = k.packed in
-    let w : 35 ∷ r ≡ 35 ∷ q = f.1 in
-    (cc, cc)
+    (cc, tail_is 35 35 r q f.1)
 
 -- ---- base64
 
@@ -99,18 +83,12 @@ pub one_marked : (s r a t q b : List ℕ) → IsMarked s a → IsMarked t b → 
 one_marked s r a t q b (inl h) (inl k) e = one_quoted s r a t q b h k e
 one_marked s r a t q b (inr (inl h)) (inr (inl k)) e = one_hexadecimal s r a t q b h k e
 one_marked s r a t q b (inr (inr h)) (inr (inr k)) e = one_base64 s r a t q b h k e
-one_marked s r a t q b (inl h) (inr (inl k)) e =
-    let o = opened 34 35 s (pieces_text h.pieces) r t k.body q h.spelled k.spelled e in let m : ◌≡◌ {A = ℕ} 34 35 = o.0 in absurd (omega arith)
-one_marked s r a t q b (inl h) (inr (inr k)) e =
-    let o = opened 34 124 s (pieces_text h.pieces) r t k.body q h.spelled k.spelled e in let m : ◌≡◌ {A = ℕ} 34 124 = o.0 in absurd (omega arith)
-one_marked s r a t q b (inr (inl h)) (inl k) e =
-    let o = opened 35 34 s h.body r t (pieces_text k.pieces) q h.spelled k.spelled e in let m : ◌≡◌ {A = ℕ} 35 34 = o.0 in absurd (omega arith)
-one_marked s r a t q b (inr (inl h)) (inr (inr k)) e =
-    let o = opened 35 124 s h.body r t k.body q h.spelled k.spelled e in let m : ◌≡◌ {A = ℕ} 35 124 = o.0 in absurd (omega arith)
-one_marked s r a t q b (inr (inr h)) (inl k) e =
-    let o = opened 124 34 s h.body r t (pieces_text k.pieces) q h.spelled k.spelled e in let m : ◌≡◌ {A = ℕ} 124 34 = o.0 in absurd (omega arith)
-one_marked s r a t q b (inr (inr h)) (inr (inl k)) e =
-    let o = opened 124 35 s h.body r t k.body q h.spelled k.spelled e in let m : ◌≡◌ {A = ℕ} 124 35 = o.0 in absurd (omega arith)
+one_marked s r a t q b (inl h) (inr (inl k)) e = absurd (omega (arith, (opened 34 35 s _ r t k.body q h.spelled k.spelled e).0))
+one_marked s r a t q b (inl h) (inr (inr k)) e = absurd (omega (arith, (opened 34 124 s _ r t k.body q h.spelled k.spelled e).0))
+one_marked s r a t q b (inr (inl h)) (inl k) e = absurd (omega (arith, (opened 35 34 s h.body r t _ q h.spelled k.spelled e).0))
+one_marked s r a t q b (inr (inl h)) (inr (inr k)) e = absurd (omega (arith, (opened 35 124 s h.body r t k.body q h.spelled k.spelled e).0))
+one_marked s r a t q b (inr (inr h)) (inl k) e = absurd (omega (arith, (opened 124 34 s h.body r t _ q h.spelled k.spelled e).0))
+one_marked s r a t q b (inr (inr h)) (inr (inl k)) e = absurd (omega (arith, (opened 124 35 s h.body r t k.body q h.spelled k.spelled e).0))
 
 abbrev pub is_mark : ℕ → Bool
 is_mark c = c == 34 || c == 35 || c == 124

@@ -1,10 +1,9 @@
 -- Where a string between marks, or one with a length in front, is refused, and what stands of it up to there.
 use Rattle.std.proofs.Common.{◌≡◌, ◌≢◌, ℕ, ◌+◌, ◌-◌, ◌<◌, ◌≤◌, Bool, true, false, ◌⊎◌, inl, inr, List, [], ◌∷◌, ◌++◌, length, take, drop, replicate, refl, sym, ap, subst, ◌∙◌, append_assoc, append-nil, length-append, length-drop, arith, rules}
-use Rattle.std.proofs.lemmas.Bool.Decides.{nat_tests}
-use Rattle.std.proofs.lemmas.List.{length-replicate, drop-append-le, drop-drop, drop_at}
+use Rattle.std.proofs.lemmas.List.{length-replicate, drop-append-le, drop-drop, drop_at, drop_all}
 use Rattle.std.specs.List.{AllByRecursion}
 use Rattle.sexpr_core.specs.declared.fault.FormFault.{FormFault}
-use Rattle.sexpr_core.specs.declared.fault.FormFault.TheVariants.{TooLong, TooDeep, Short, Bad, Trailing, Memory}
+use Rattle.sexpr_core.specs.declared.fault.FormFault.TheVariants.{Short, Bad}
 use Rattle.sexpr_core.specs.Gathering.{Passed, IsBodyEnd, is_body_octet}
 use Rattle.sexpr_core.specs.Prefix.{Begins}
 use Rattle.sexpr_core.specs.Bounds.{RefusesPart}
@@ -20,11 +19,13 @@ use Rattle.sexpr_text.specs.Reads.{Reads, ReadsCount, is_hexadecimal_octet, Stop
 use Rattle.sexpr_text.specs.Stands.{Stands}
 use Rattle.sexpr_text.specs.Unclosed.{OpensQuoted, IsUnclosed, IsUnclosedString}
 use Rattle.sexpr_text.specs.Inner.Begun.{Begun, From, IsPartEnd, IsFrontEnd, GoesMarked, IsStringPart, GoesString}
-use Rattle.sexpr_text.proofs.Beginnings.{begins_front, count_begins}
+use Rattle.sexpr_text.proofs.Beginnings.{count_begins}
 use Rattle.sexpr_text.proofs.CountedLaws.{count_once, ends_written}
 use Rattle.sexpr_text.proofs.Marked.{is_mark, hexadecimal_octets}
-use Rattle.sexpr_text.proofs.RefusedStrings.{marked_too, count_too, ends_too}
-use Rattle.sexpr_text.proofs.UnclosedLaws.{unclosed_marked, unclosed_first, cut_open, mark_no_digit}
+use Rattle.sexpr_text.proofs.RefusedStrings.{marked_too, count_too, ends_too, no_mark}
+use Rattle.sexpr_text.proofs.UnclosedLaws.{unclosed_marked, unclosed_first, cut_open}
+use Rattle.sexpr_text.proofs.OneString.{mark_no_digit}
+use Rattle.sexpr_core.proofs.OneFault.{begins_front}
 use Rattle.sexpr_text.proofs.StringEnds.{nothing_begun, part_later, body_fails, quoted_is, digits_are, symbols_are}
 
 -- ---- between marks
@@ -37,8 +38,6 @@ marked_end : (p : ℕ → Bool) (mark : ℕ) (text : List ℕ) (at : ℕ) (fault
     → ((body : List ℕ) → AllByRecursion (λ d. p d ≡ true) body → IsUnclosed (mark ∷ body))
     → ((body : List ℕ) → IsUnclosed (mark ∷ body) → AllByRecursion (λ d. p d ≡ true) body)
     → IsBodyEnd p text (at + 1) fault → IsPartEnd GoesMarked IsUnclosed text at fault
-marked_end p mark text at TooLong opens on back h = h
-marked_end p mark text at TooDeep opens on back h = h
 marked_end p mark text at Short opens on back h = body_begun p mark text at (length text) opens on h
 marked_end p mark text at (Bad k) opens on back h =
     let passed : Passed p text (at + 1) k = h.0 in
@@ -48,8 +47,7 @@ marked_end p mark text at (Bad k) opens on back h =
           let o = stands_too text other k at mark a (omega (arith, passed.ordered)) opens in
           body_fails p text other (at + 1) k h.1.0 a passed stands h.1.2 (back (drop (at + 1) other) (subst IsUnclosed o.spelled u))),
     )
-marked_end p mark text at (Trailing k) opens on back h = h
-marked_end p mark text at Memory opens on back h = tt
+marked_end p mark text at _ opens on back h = h
 
 pub hexadecimal_marked_end : (text : List ℕ) (at c : ℕ) (fault : FormFault) → StandsAt text at c → c ≡ 35 → IsBodyEnd is_hexadecimal_octet text (at + 1) fault
     → IsPartEnd GoesMarked IsUnclosed text at fault
@@ -70,8 +68,6 @@ quoted_on other at le s u = search (rules, quoted_is, drop-append-le, append-nil
 
 pub quoted_marked_end : (text : List ℕ) (at c : ℕ) (fault : FormFault) → StandsAt text at c → c ≡ 34 → IsFrontEnd OpensQuoted text at fault
     → RefusesPart (Stands IsQuoted at) text at fault → IsPartEnd GoesMarked IsUnclosed text at fault
-quoted_marked_end text at c TooLong s e h r = h
-quoted_marked_end text at c TooDeep s e h r = h
 quoted_marked_end text at c Short s e h r = quoted_goes text at (length text) h
 quoted_marked_end text at c (Bad k) s e h r = (
   quoted_goes text at k h,
@@ -85,11 +81,7 @@ quoted_marked_end text at c (Bad k) s e h r = (
         (quoted_on other at (omega (arith, long_too text other k a, r.behind)) (stands_too text other k at 34 a r.behind (subst (StandsAt text at) e s)) b.whole));
   },
 )
-quoted_marked_end text at c (Trailing k) s e h r = h
-quoted_marked_end text at c Memory s e h r = tt
-
-no_mark : (c : ℕ) → c ≢ 34 → c ≢ 35 → c ≢ 124 → is_mark c ≡ false
-no_mark c a b d = grind (arith, nat_tests)
+quoted_marked_end text at c _ s e h r = h
 
 pub no_mark_end : (text : List ℕ) (at c : ℕ) → StandsAt text at c → c ≢ 34 → c ≢ 35 → c ≢ 124 → IsPartEnd GoesMarked IsUnclosed text at (Bad at)
 no_mark_end text at c s p q r = (
@@ -104,10 +96,6 @@ no_mark_end text at c s p q r = (
 )
 
 -- ---- with a length in front, or without
-
-drop_all : (xs : List ℕ) → drop (length xs) xs ≡ []
-drop_all [] = refl
-drop_all (x ∷ xs) = drop_all xs
 
 pub none_string : GoesString []
 none_string = inl (count_begins [] 0 (inl refl))
@@ -130,20 +118,18 @@ few_octets n x h =
 
 pub verbatim_end : (text : List ℕ) (at number to c : ℕ) (fault : FormFault) → length text ≤ 1048576 → ReadsCount text at number to → StandsAt text to c → c ≡ 58
     → IsTooFew text (to + 1) number fault → IsPartEnd GoesString IsUnclosedString text at fault
-verbatim_end text at number to c TooLong short r s e h = h
-verbatim_end text at number to c TooDeep short r s e h = h
 verbatim_end text at number to c Short short r s e h = record {
   part = decimal r.written ++ 58 ∷ drop (to + 1) text;
   spelled =
       r.spelled ∙ ap (λ t. decimal r.written ++ t) (s.spelled ∙ ap (λ k. k ∷ drop (to + 1) text) e)
-      ∙ sym (append-nil (decimal r.written ++ 58 ∷ drop (to + 1) text)) ∙ ap (λ t. (decimal r.written ++ 58 ∷ drop (to + 1) text) ++ t) (sym (drop_all text));
+      ∙ sym (append-nil (decimal r.written ++ 58 ∷ drop (to + 1) text))
+      ∙ ap (λ t. (decimal r.written ++ 58 ∷ drop (to + 1) text) ++ t) (sym (drop_all (length text) text (omega arith)));
   goes = inl (few_octets r.written (drop (to + 1) text) (omega (arith, h, r.capped, length-drop (to + 1) text, s.within)));
   ordered = omega (arith, r.forward, r.within);
   within = omega arith;
 }
 verbatim_end text at number to c (Bad k) short r s e h = absurd h
-verbatim_end text at number to c (Trailing k) short r s e h = h
-verbatim_end text at number to c Memory short r s e h = tt
+verbatim_end text at number to c _ short r s e h = h
 
 counted_goes : (n : ℕ) (part : List ℕ) → GoesMarked part → GoesString (decimal n ++ part)
 counted_goes n part (inl e) = inl (count_begins (decimal n ++ part) n (inr (ap (λ t. decimal n ++ t) e ∙ append-nil (decimal n))))

@@ -1,48 +1,42 @@
 -- A string without display hint is spelled in one way only.
-use Rattle.std.proofs.Common.{◌≡◌, ℕ, ◌<◌, ◌==◌, ◌||◌, Bool, true, false, ◌⊎◌, inl, inr, List, [], ◌∷◌, ◌++◌, length, refl, sym, ap, subst, ◌∙◌, append_assoc, arith, rules}
+use Rattle.std.proofs.Common.{◌≡◌, ℕ, ◌==◌, ◌||◌, Bool, true, false, ◌⊎◌, inl, inr, List, [], ◌∷◌, ◌++◌, length, refl, sym, ap, subst, ◌∙◌, append_assoc, arith, rules}
 use Rattle.std.proofs.lemmas.Bool.Decides.{nat_tests}
 use Rattle.sexpr_core.specs.Value.{decimal}
 use Rattle.sexpr_core.proofs.Decimal.{IsDigit, AreDigits, AreDigits-decimal, decimal_starts, decimal_same, parts_agree}
 use Rattle.sexpr_core.proofs.Texts.{verbatim_is}
 use Rattle.sexpr_text.specs.Strings.{is_digit, is_token_octet, IsToken, IsApart, IsCount, IsMarked, Simple}
 use Rattle.sexpr_text.specs.Reads.{Stops}
-use Rattle.sexpr_text.proofs.Marked.{Passes, one_front, is_mark, marked_first, one_marked}
+use Rattle.sexpr_core.proofs.Runs.{same_length, one_front, Passes}
+use Rattle.sexpr_text.proofs.Marked.{is_mark, marked_first, one_marked}
 
 -- the first octet of a string's spelling: a token octet (digits are), or an opening mark
 abbrev pub is_string_start : ℕ → Bool
 is_string_start c = is_token_octet c || c == 34 || c == 35 || c == 124
 
-digit_starts : (c : ℕ) → IsDigit c → is_string_start c ≡ true
-digit_starts c h = grind (arith, nat_tests)
-
-token_starts : (c : ℕ) → is_token_octet c ≡ true → is_string_start c ≡ true
-token_starts c h = rw h refl
-
-mark_starts : (c : ℕ) → is_mark c ≡ true → is_string_start c ≡ true
-mark_starts c h = grind (arith, nat_tests)
-
 decimal_first : (n : ℕ) (cs : List ℕ) → (c : ℕ) × (ds : List ℕ) × (decimal n ++ cs ≡ c ∷ ds) × IsDigit c
 decimal_first n cs = let s = decimal_starts n in (s.digit, s.rest ++ cs, ap (λ t. t ++ cs) s.is, s.low)
 
-counted_first : (count marked s : List ℕ) (n : ℕ) (a : List ℕ) → IsCount count n → IsMarked marked a → s ≡ count ++ marked
+-- digits, if there are some, and an opening mark
+pub string_first : (count : List ℕ) (n mark : ℕ) (tail s : List ℕ) → IsCount count n → is_mark mark ≡ true → s ≡ count ++ mark ∷ tail
     → (c : ℕ) × (cs : List ℕ) × (s ≡ c ∷ cs) × (IsDigit c ⊎ (is_mark c ≡ true))
-counted_first count marked s n a (inl k) m e =
-    let f = marked_first marked a m in (f.0, f.1, e ∙ ap (λ t. t ++ marked) k ∙ f.2, inr f.3)
-counted_first count marked s n a (inr k) m e =
-    let f = decimal_first n marked in (f.0, f.1, e ∙ ap (λ t. t ++ marked) k ∙ f.2, inl f.3)
+string_first count n mark tail s (inl k) m e = (mark, tail, e ∙ ap (λ t. t ++ mark ∷ tail) k, inr m)
+string_first count n mark tail s (inr k) m e =
+    let f = decimal_first n (mark ∷ tail) in (f.0, f.1, e ∙ ap (λ t. t ++ mark ∷ tail) k ∙ f.2, inl f.3)
 
 -- a string that is no token begins with a digit or an opening mark
 pub cut_first : (s a : List ℕ) → Simple false s a → (c : ℕ) × (cs : List ℕ) × (s ≡ c ∷ cs) × (IsDigit c ⊎ (is_mark c ≡ true))
 cut_first s a (inl h) = let f = decimal_first (length a) (58 ∷ a) in (f.0, f.1, h ∙ verbatim_is a ∙ f.2, inl f.3)
-cut_first s a (inr h) = counted_first h.count h.marked s (length a) a h.counts h.meant h.spelled
+cut_first s a (inr h) =
+    let f = marked_first h.marked a h.meant in
+    string_first h.count (length a) f.0 f.1 s h.counts f.3 (h.spelled ∙ ap (λ t. h.count ++ t) f.2)
 
-either_starts : (c : ℕ) → IsDigit c ⊎ (is_mark c ≡ true) → is_string_start c ≡ true
-either_starts c (inl h) = digit_starts c h
-either_starts c (inr h) = mark_starts c h
+pub either_starts : (c : ℕ) → IsDigit c ⊎ (is_mark c ≡ true) → is_string_start c ≡ true
+either_starts c (inl h) = grind (arith, nat_tests)
+either_starts c (inr h) = grind (arith, nat_tests)
 
 token_first : (s a : List ℕ) → s ≡ a → IsToken a → (c : ℕ) × (cs : List ℕ) × (s ≡ c ∷ cs) × (is_string_start c ≡ true)
 token_first s [] e h = absurd h
-token_first s (c ∷ cs) e h = (c, cs, e, token_starts c h.1.0)
+token_first s (c ∷ cs) e h = (c, cs, e, rw h.1.0 refl)
 
 pub simple_first : (e : Bool) (s a : List ℕ) → Simple e s a → (c : ℕ) × (cs : List ℕ) × (s ≡ c ∷ cs) × (is_string_start c ≡ true)
 simple_first true s a h = token_first s a h.0 h.1
@@ -65,45 +59,16 @@ pub record Cut (text octets : List ℕ) : Type 0 where
   pub other : IsDigit mark → ⊥
   pub behind : IsBehind digits mark tail octets
 
-mark_other : (c : ℕ) → is_mark c ≡ true → IsDigit c → ⊥
-mark_other c h k = grind (arith, nat_tests)
+pub mark_no_digit : (c : ℕ) → is_mark c ≡ true → IsDigit c → ⊥
+mark_no_digit c h k = grind (arith, nat_tests)
 
-count_digits : (count : List ℕ) (n : ℕ) → IsCount count n → AreDigits count
+pub count_digits : (count : List ℕ) (n : ℕ) → IsCount count n → AreDigits count
 count_digits count n (inl e) = subst AreDigits (sym e) tt
 count_digits count n (inr e) = subst AreDigits (sym e) (AreDigits-decimal n)
 
 pub cut : (s a : List ℕ) → Simple false s a → Cut s a
-cut s a (inl e) = record {
-  digits = decimal (length a);
-  mark = 58;
-  tail = a;
-  spelled = e ∙ verbatim_is a;
-  are_digits = AreDigits-decimal (length a);
-  other = λ h. let k : ◌<◌ 58 58 = h.1 in omega arith;
-  behind = inl (refl, refl, refl);
-}
-cut s a (inr h) =
-    let f = marked_first h.marked a h.meant in
-    record {
-      digits = h.count;
-      mark = f.0;
-      tail = f.1;
-      spelled = h.spelled ∙ ap (λ t. h.count ++ t) f.2;
-      are_digits = count_digits h.count (length a) h.counts;
-      other = mark_other f.0 f.3;
-      behind = inr (f.3, h.counts, subst (λ t. IsMarked t a) f.2 h.meant);
-    }
-
-same_length : (xs ys r s : List ℕ) → length xs ≡ length ys → xs ++ r ≡ ys ++ s → (xs ≡ ys) × (r ≡ s)
-same_length [] [] r s l e = (refl, e)
-same_length [] (y ∷ ys) r s l e = absurd (omega arith)
-same_length (x ∷ xs) [] r s l e = absurd (omega arith)
-same_length (x ∷ xs) (y ∷ ys) r s l e =
-    let h : x ≡ y = cc in
-    let t : xs ++ r ≡ ys ++ s = cc in
-    let q = same_length xs ys r s (omega arith) t in
-    let k : xs ≡ ys = q.0 in
-    (cc, q.1)
+cut s a (inl e) = search (rules, verbatim_is, AreDigits-decimal)
+cut s a (inr h) = search (rules, marked_first, count_digits, mark_no_digit)
 
 one_behind : (c d : ℕ) (ds es x a r y b q : List ℕ) → IsBehind ds c x a → IsBehind es d y b → ds ≡ es → c ≡ d → x ++ r ≡ y ++ q → (a ≡ b) × (r ≡ q)
 one_behind c d ds es x a r y b q (inl h) (inl k) e f g = search (rules, decimal_same, same_length)
@@ -130,7 +95,7 @@ pub token_passes : (a : List ℕ) → IsToken a → Passes is_token_octet a
 token_passes [] h = absurd h
 token_passes (c ∷ cs) h = h.1
 
-token_other : (c : ℕ) → is_digit c ≡ false → is_token_octet c ≡ true → IsDigit c ⊎ (is_mark c ≡ true) → ⊥
+pub token_other : (c : ℕ) → is_digit c ≡ false → is_token_octet c ≡ true → IsDigit c ⊎ (is_mark c ≡ true) → ⊥
 token_other c h k (inl d) = grind (arith, nat_tests)
 token_other c h k (inr m) = grind (arith, nat_tests)
 

@@ -8,10 +8,11 @@ use Rattle.sexpr_core.specs.Spaces.{visible}
 use Rattle.sexpr_core.proofs.Base64Laws.{body_octets}
 use Rattle.sexpr_core.proofs.Gathered.{one_body}
 use Rattle.sexpr_core.proofs.BraceLaws.{one_packed}
-use Rattle.sexpr_core.proofs.SpaceLaws.{one_end, all-append}
+use Rattle.sexpr_core.proofs.SpaceLaws.{one_end}
 use Rattle.sexpr_core.proofs.Texts.{canon_one}
 use Rattle.sexpr_text.specs.Strings.{is_token_octet, Simple, IsApart}
 use Rattle.sexpr_text.specs.Spelling.{IsHinted, SpellsAs, SpellsMembers, Spells, IsText}
+use Rattle.sexpr_core.proofs.Runs.{all-append, tail_is}
 use Rattle.sexpr_text.proofs.OneString.{is_string_start, simple_first, one_simple}
 
 -- ---- first octets
@@ -31,7 +32,7 @@ start_visible c h = search (rules, cases_Bool, space_starts)
 pub simple_differs : (e : Bool) (s a r x : List ℕ) (d : ℕ) → Simple e s a → is_string_start d ≡ false → s ++ r ≡ d ∷ x → ⊥
 simple_differs e s a r x d m other eq = search (rules, simple_first, is_string_start)
 
-string_start : (c : ℕ) → is_string_start c ≡ true → is_value_start c ≡ true
+pub string_start : (c : ℕ) → is_string_start c ≡ true → is_value_start c ≡ true
 string_start c h = rw h refl
 
 pub value_first : (e : Bool) (s : List ℕ) (v : Value) → SpellsAs e s v → (c : ℕ) × (cs : List ℕ) × (s ≡ c ∷ cs) × (is_value_start c ≡ true)
@@ -79,16 +80,13 @@ hinted_one : (e f : Bool) (s r t q g a h b : List ℕ) → IsHinted e s g a → 
 hinted_one e f s r t q g a h b m k n l eq =
     let c = m.octets_text ++ r in
     let d = n.octets_text ++ q in
-    let w : 91 ∷ (m.inside ++ (m.hint_text ++ (m.behind_hint ++ 93 ∷ (m.behind ++ c)))) ≡ 91 ∷ (n.inside ++ (n.hint_text ++ (n.behind_hint ++ 93 ∷ (n.behind ++ d)))) =
-    sym (hinted_text e s g a r m) ∙ eq ∙ hinted_text f t h b q n in
-    let w1 : m.inside ++ (m.hint_text ++ (m.behind_hint ++ 93 ∷ (m.behind ++ c))) ≡ n.inside ++ (n.hint_text ++ (n.behind_hint ++ 93 ∷ (n.behind ++ d))) = cc in
+    let w1 = tail_is 91 91 _ _ (sym (hinted_text e s g a r m) ∙ eq ∙ hinted_text f t h b q n) in
     let p1 = one_end m.inside n.inside _ _ m.spaces_inside n.spaces_inside (simple_visible _ m.hint_text g _ m.hint_meant) (simple_visible _ n.hint_text h _ n.hint_meant) w1 in
     let p2 = one_simple m.as_token n.as_token m.hint_text _ g n.hint_text _ h m.hint_meant
     (apart_append m.as_token m.behind_hint (m.behind ++ c) 93 (spaces_apart m.as_token m.behind_hint m.spaces_behind_hint) refl) n.hint_meant
     (apart_append n.as_token n.behind_hint (n.behind ++ d) 93 (spaces_apart n.as_token n.behind_hint n.spaces_behind_hint) refl) p1.1 in
     let p3 = one_end m.behind_hint n.behind_hint (93 ∷ (m.behind ++ c)) (93 ∷ (n.behind ++ d)) m.spaces_behind_hint n.spaces_behind_hint refl refl p2.1 in
-    let w2 : 93 ∷ (m.behind ++ c) ≡ 93 ∷ (n.behind ++ d) = p3.1 in
-    let w3 : m.behind ++ c ≡ n.behind ++ d = cc in
+    let w3 = tail_is 93 93 _ _ p3.1 in
     let p4 = one_end m.behind n.behind c d m.spaces_behind n.spaces_behind (simple_visible e m.octets_text a r m.octets_meant) (simple_visible f n.octets_text b q n.octets_meant) w3 in
     let p5 = one_simple e f m.octets_text r a n.octets_text q b m.octets_meant k n.octets_meant l p4.1 in
     (p2.0, p5.0, p5.1)
@@ -134,8 +132,7 @@ mutual
   one_members : (s r t q : List ℕ) (vs ws : Values) → SpellsMembers s vs → SpellsMembers t ws → s ++ 41 ∷ r ≡ t ++ 41 ∷ q → (vs ≡ ws) × (r ≡ q)
   one_members s r t q none none m n eq =
       let p = one_end s t (41 ∷ r) (41 ∷ q) m n refl refl eq in
-      let x : 41 ∷ r ≡ 41 ∷ q = p.1 in
-      (refl, cc)
+      (refl, tail_is 41 41 r q p.1)
   one_members s r t q none (more w ws) m n eq =
       let p = one_end s n.0 (41 ∷ r) (n.2 ++ (n.3 ++ 41 ∷ q)) m n.5 refl (value_visible n.1 n.2 _ w n.6) (eq ∙ member_text t n.0 n.2 n.3 (41 ∷ q) n.4) in
       absurd (value_differs n.1 n.2 _ _ w 41 n.6 refl (sym p.1))
@@ -173,9 +170,8 @@ spelled_or_braced text v w m n =
 braced_once : (text : List ℕ) (v w : Value) → Braced text v → Braced text w → v ≡ w
 braced_once text v w m n =
     let p = one_end m.before n.before (123 ∷ (m.body ++ 125 ∷ m.after)) (123 ∷ (n.body ++ 125 ∷ n.after)) m.spaces_before n.spaces_before refl refl (sym m.parts ∙ n.parts) in
-    let x : 123 ∷ (m.body ++ 125 ∷ m.after) ≡ 123 ∷ (n.body ++ 125 ∷ n.after) = p.1 in
-    let y : m.body ++ 125 ∷ m.after ≡ n.body ++ 125 ∷ n.after = cc in
-    let b = one_body m.body n.body 125 125 m.after n.after (body_octets m.body (canon v) m.packed) (body_octets n.body (canon w) n.packed) refl refl y in
+    let b = one_body m.body n.body 125 125 m.after n.after (body_octets m.body (canon v) m.packed) (body_octets n.body (canon w) n.packed) refl refl
+    (tail_is 123 123 _ _ p.1) in
     let c : canon v ≡ canon w = one_packed (visible n.body) (canon v) (canon w) (subst (λ k. IsBase64 (visible k) (canon v)) b.0 m.packed) n.packed in
     (canon_one v w [] [] (ap (λ k. k ++ []) c)).0
 

@@ -16,7 +16,7 @@ use Rattle.sexpr_core.proofs.SpaceLaws.{SpacesTo, no_spaces, more_spaces, spaces
 use Rattle.sexpr_text.specs.Spelling.{Spells, IsText, IsTextWithin}
 use Rattle.sexpr_text.specs.Refusal.{IsSpelling, RefusesSpelling, OpensBrace, RefusesText, IsSomeText}
 use Rattle.sexpr_core.specs.Refusal.{IsOfForm}
-use Rattle.sexpr_core.proofs.BraceFaults.{one_brace_refusal, no_brace_refusal}
+use Rattle.sexpr_core.proofs.BraceRefusals.{one_brace_refusal, no_brace_refusal}
 use Rattle.sexpr_text.proofs.OneRefusal.{one_refusal, no_refusal}
 use Rattle.sexpr_text.proofs.WholeTrees.{brace_unspelled}
 
@@ -76,9 +76,6 @@ pub spelling_refused : (text : List ℕ) (begin : ℕ) (fault : FormFault) → S
 unfolding RefusesText
 spelling_refused text begin fault s unopened h = inr (λ o. unopened (o.rest, brace_found text begin s o), h)
 
-braces_stop : (text : List ℕ) (at : ℕ) → RefusesBraces text (Bad at) → Begins IsBraced (take (at + 1) text) → ⊥
-braces_stop text at h b = h.4 b
-
 -- where a text opens a brace, what begins as it does is no spelling
 no_spelling : (text rest : List ℕ) (begin at : ℕ) → Skips text 0 begin → drop begin text ≡ 123 ∷ rest → at < length text
     → (Begins IsBraced (take (at + 1) text) → ⊥) → Begins IsSomeText (take (at + 1) text) → ⊥
@@ -116,7 +113,7 @@ pub bad_is_bad : (text : List ℕ) (at : ℕ) → RefusesText text (Bad at) → 
 unfolding RefusesText
 bad_is_bad text at (inl h) =
     let s = past_spaces text 0 text refl (no_spaces text 0 (omega arith)) in
-    (h.1.0, no_spelling text h.0.rest s.0 at s.1 (brace_found text s.0 s.1 h.0) h.1.0 (λ b. braces_stop text at h.1 b))
+    (h.1.0, no_spelling text h.0.rest s.0 at s.1 (brace_found text s.0 s.1 h.0) h.1.0 h.1.4)
 bad_is_bad text at (inr h) =
     let s = past_spaces text 0 text refl (no_spaces text 0 (omega arith)) in
     (h.1.0, no_braces text s.0 at s.1 (λ brace. h.0 (opens_brace text brace.0 s.0 s.1 brace.1)) h.1.0 (λ b. h.1.3 (inl b)))

@@ -1,5 +1,5 @@
 -- What is printed for a value spells it.
-use Rattle.std.proofs.Common.{◌≡◌, ℕ, suc, ◌==◌, ◌||◌, not, Bool, true, false, List, [], ◌∷◌, ◌++◌, Some, None, refl, sym, ap, ◌∙◌, subst, append-nil, arith, inl, inr, if◌then◌else◌, rules}
+use Rattle.std.proofs.Common.{◌≡◌, ℕ, suc, ◌==◌, ◌||◌, not, Bool, true, false, List, [], ◌∷◌, ◌++◌, Some, None, refl, sym, ap, ◌∙◌, subst, append-nil, arith, if◌then◌else◌, rules}
 use Rattle.std.proofs.lemmas.Bool.{cases_Bool, and_parts, or_cases, or_parts, not-true, eqb-true, eqb-false, ne_eqb}
 use Rattle.std.specs.List.{AllByRecursion}
 use Rattle.base64.specs.Engines.{standard}
@@ -10,7 +10,7 @@ use Rattle.sexpr_core.specs.Spaces.{AreSpaces}
 use Rattle.sexpr_core.proofs.Base64Laws.{packed_encoded}
 use Rattle.sexpr_text.specs.Strings.{is_digit, is_token_octet, IsToken, IsApart, Piece, raw, escaped, IsPiece, pieces_text, pieces_octets, ArePieces, escape_value, IsQuoted, IsPacked, Simple}
 use Rattle.sexpr_text.specs.Spelling.{SpellsAs, SpellsMembers, Spells}
-use Rattle.sexpr_text.specs.Printed.{every, is_token, is_printable, quoted_body, printed_string, gap, adv, adv_all}
+use Rattle.sexpr_text.specs.Printed.{every, is_token, quoted_body, printed_string, gap, adv, adv_all}
 use Rattle.sexpr_text.proofs.PrintLaws.{printed_token, printed_quoted, printed_packed}
 
 -- ---- tokens
@@ -54,12 +54,7 @@ pieces_right [] rest = tt
 pieces_right (c ∷ cs) rest = (piece_right c (pieces_text (pieces_of cs) ++ rest), pieces_right cs rest)
 
 quoted : (octets : List ℕ) → IsQuoted (34 ∷ (quoted_body octets ++ 34 ∷ [])) octets
-quoted octets = record {
-  pieces = pieces_of octets;
-  spelled = ap (λ s. 34 ∷ (s ++ 34 ∷ [])) (text_of octets);
-  meant = octets_of octets;
-  right = pieces_right octets (34 ∷ []);
-}
+quoted octets = search (rules, text_of, octets_of, pieces_right)
 
 -- ---- strings
 
@@ -67,10 +62,7 @@ packed : (octets : List ℕ) → IsBytes octets → IsPacked (124 ∷ (encode_of
 packed octets h = record { body = encode_of standard octets; spelled = refl; packed = packed_encoded octets h }
 
 marked : (octets : List ℕ) → IsBytes octets → is_token octets ≡ false → Simple false (printed_string octets) octets
-marked octets h other = elim (cases_Bool (every is_printable octets)) [
-  | inl e ↦ inr (record { count = []; marked = printed_string octets; spelled = refl; counts = inl refl; meant = inl (rw (printed_quoted octets other e) (quoted octets)) })
-  | inr e ↦ inr (record { count = []; marked = printed_string octets; spelled = refl; counts = inl refl; meant = inr (inr (rw (printed_packed octets other e) (packed octets h))) })
-]
+marked octets h other = grind (arith, cases_Bool, printed_quoted, quoted, printed_packed, packed)
 
 string_spelled : (octets : List ℕ) → IsBytes octets → Simple (is_token octets) (printed_string octets) octets
 string_spelled octets h = search (rules, cases_Bool, printed_token, token_meant, marked)
@@ -92,7 +84,7 @@ space_apart : (b : Bool) (rest : List ℕ) → IsApart b (32 ∷ rest)
 space_apart true rest = refl
 space_apart false rest = tt
 
-end_apart : (b : Bool) → IsApart b []
+pub end_apart : (b : Bool) → IsApart b []
 end_apart true = tt
 end_apart false = tt
 

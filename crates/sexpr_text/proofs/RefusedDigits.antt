@@ -4,7 +4,7 @@ use Rattle.hex.specs.declared.error.FromHexError.{FromHexError}
 use Rattle.hex.specs.declared.error.FromHexError.TheVariants.{OutOfMemory}
 use Rattle.hex.specs.Hex.{decode_of}
 use Rattle.sexpr_core.specs.declared.fault.FormFault.{FormFault}
-use Rattle.sexpr_core.specs.declared.fault.FormFault.TheVariants.{TooLong, TooDeep, Short, Bad, Trailing, Memory}
+use Rattle.sexpr_core.specs.declared.fault.FormFault.TheVariants.{Short, Bad, Memory}
 use Rattle.sexpr_core.specs.Reading.{StandsAt}
 use Rattle.sexpr_core.specs.Bounds.{IsFaultAt, RefusesPart}
 use Rattle.sexpr_core.specs.Prefix.{StopsAt}
@@ -35,13 +35,11 @@ octet_stops text at i c kept k stands apart is = stops_here (DigitsStand at) tex
 -- an octet that can't stand in the body
 pub octet_refused : (text : List ℕ) (at i c : ℕ) (kept : List ℕ) (fault : FormFault) → Keeps text at kept i → StandsAt text i c → (c ≡ 35 → ⊥)
     → IsNoHexadecimalOctet c i fault → RefusesPart (DigitsStand at) text at fault
-octet_refused text at i c kept TooLong k stands apart is = is
-octet_refused text at i c kept TooDeep k stands apart is = is
 octet_refused text at i c kept Short k stands apart is = tt
 octet_refused text at i c kept (Bad n) k stands apart is =
     subst (λ m. StopsAt (DigitsStand at) text at m) (sym is.0) (octet_stops text at i c kept k stands apart (refl, is.1))
-octet_refused text at i c kept (Trailing n) k stands apart is = is
 octet_refused text at i c kept Memory k stands apart is = tt
+octet_refused text at i c kept _ k stands apart is = is
 
 -- the same of the whole string
 pub body_refused : (text : List ℕ) (at : ℕ) (fault : FormFault) → StandsAt text at 35 → RefusesPart (DigitsStand (at + 1)) text (at + 1) fault
@@ -66,11 +64,9 @@ mark_stops text at i kept error opens k closes failed is = stops_here (Stands Is
 pub mark_refused : (text : List ℕ) (at i : ℕ) (kept : List ℕ) (error : FromHexError) (fault : FormFault) → StandsAt text at 35 → Keeps text (at + 1) kept i
     → StandsAt text i 35 → (error ≡ OutOfMemory) ⊎ (decode_of kept ≡ Err error) → IsDigitsFault error i fault → IsFaultAt i fault
     → RefusesPart (Stands IsHexadecimal at) text at fault
-mark_refused text at i kept error TooLong opens k closes failed is there = there
-mark_refused text at i kept error TooDeep opens k closes failed is there = there
 mark_refused text at i kept error Short opens k closes failed is there = tt
 mark_refused text at i kept error (Bad n) opens k closes failed is there =
     subst (λ m. StopsAt (Stands IsHexadecimal at) text at m) (sym there)
     (mark_stops text at i kept error opens k closes failed (subst (λ m. IsDigitsFault error i (Bad m)) there is))
-mark_refused text at i kept error (Trailing n) opens k closes failed is there = there
 mark_refused text at i kept error Memory opens k closes failed is there = tt
+mark_refused text at i kept error _ opens k closes failed is there = there

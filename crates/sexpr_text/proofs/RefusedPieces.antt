@@ -2,7 +2,7 @@
 use Rattle.std.proofs.Common.{◌≡◌, ◌≢◌, ℕ, ◌+◌, ◌<◌, ◌≤◌, inl, inr, Some, None, List, [], ◌∷◌, ◌++◌, drop, sym, ap, subst, ◌∙◌, arith, rules}
 use Rattle.hex.specs.Hex.{hex_digit_value}
 use Rattle.sexpr_core.specs.declared.fault.FormFault.{FormFault}
-use Rattle.sexpr_core.specs.declared.fault.FormFault.TheVariants.{TooLong, TooDeep, Short, Bad, Trailing, Memory}
+use Rattle.sexpr_core.specs.declared.fault.FormFault.TheVariants.{Short, Bad}
 use Rattle.sexpr_core.specs.Reading.{StandsAt}
 use Rattle.sexpr_core.specs.Prefix.{StopsAt}
 use Rattle.sexpr_core.specs.Bounds.{RefusesPart}
@@ -72,13 +72,10 @@ letter_stops text at c stands r n x o none = stops_here (PieceStands (92 ∷ [])
 
 pub letter_refused : (text : List ℕ) (at c : ℕ) (fault : FormFault) → StandsAt text at c → c ≢ 13 → c ≢ 10 → c ≢ 120 → (48 ≤ c → c < 52 → ⊥) → IsNoLetter c at fault
     → RefusesPart (PieceStands (92 ∷ []) at) text at fault
-letter_refused text at c TooLong stands r n x o h = h
-letter_refused text at c TooDeep stands r n x o h = h
-letter_refused text at c Short stands r n x o h = tt
 letter_refused text at c (Bad k) stands r n x o h =
     subst (λ m. StopsAt (PieceStands (92 ∷ []) at) text at m) (sym h.0) (letter_stops text at c stands r n x o h.1)
-letter_refused text at c (Trailing k) stands r n x o h = h
-letter_refused text at c Memory stands r n x o h = tt
+letter_refused text at c Short stands r n x o h = tt
+letter_refused text at c _ stands r n x o h = h
 
 pub hexadecimal_refused : (text : List ℕ) (at c : ℕ) (fault : FormFault) → StandsAt text at c → c ≡ 120
     → RefusesPart (PieceStands (92 ∷ 120 ∷ []) (at + 1)) text (at + 1) fault → RefusesPart (PieceStands (92 ∷ []) at) text at fault

@@ -2,7 +2,7 @@
 use Rattle.std.proofs.Common.{◌≡◌, ◌≢◌, ℕ, ◌+◌, ◌-◌, ◌≤◌, true, false, ◌⊎◌, inl, inr, List, ◌∷◌, ◌++◌, length, drop, sym, ap, subst, ◌∙◌, arith}
 use Rattle.std.proofs.lemmas.Bool.Decides.{nat_tests}
 use Rattle.sexpr_core.specs.declared.fault.FormFault.{FormFault}
-use Rattle.sexpr_core.specs.declared.fault.FormFault.TheVariants.{TooLong, TooDeep, Short, Bad, Trailing, Memory}
+use Rattle.sexpr_core.specs.declared.fault.FormFault.TheVariants.{Bad}
 use Rattle.sexpr_core.specs.Value.{decimal}
 use Rattle.sexpr_core.specs.Reading.{StandsAt}
 use Rattle.sexpr_core.specs.Bounds.{IsShort, RefusesPart}
@@ -23,12 +23,8 @@ use Rattle.sexpr_text.proofs.WholeTrees.{hinted_at, behind_hint, hint_at, closin
 -- ---- faults without an octet
 
 pub short_refused : (T : List ℕ → Type 0) (text : List ℕ) (at : ℕ) (fault : FormFault) → IsShort fault → RefusesPart T text at fault
-short_refused T text at TooLong h = h
-short_refused T text at TooDeep h = h
-short_refused T text at Short h = tt
 short_refused T text at (Bad k) h = absurd h
-short_refused T text at (Trailing k) h = h
-short_refused T text at Memory h = tt
+short_refused T text at _ h = h
 
 -- ---- what was read of a text was read of the other
 
@@ -91,7 +87,7 @@ packed_missed text at c fault opens is h = refused_later (Stands IsMarked at) (P
       packed = m.packed;
     }) h
 
-no_mark : (c : ℕ) → c ≢ 34 → c ≢ 35 → c ≢ 124 → is_mark c ≡ false
+pub no_mark : (c : ℕ) → c ≢ 34 → c ≢ 35 → c ≢ 124 → is_mark c ≡ false
 no_mark c a b d = grind (arith, nat_tests)
 
 -- an octet that is no opening mark

@@ -1,7 +1,7 @@
 -- A value that is refused at an octet is refused so in each text that goes on up to it in the same way.
 use Rattle.std.proofs.Common.{◌≡◌, ℕ, ◌+◌, ◌≤◌, List, ◌∷◌, ◌++◌, arith}
 use Rattle.sexpr_core.specs.declared.fault.FormFault.{FormFault}
-use Rattle.sexpr_core.specs.declared.fault.FormFault.TheVariants.{TooLong, TooDeep, Short, Bad, Trailing, Memory}
+use Rattle.sexpr_core.specs.declared.fault.FormFault.TheVariants.{TooDeep, Bad}
 use Rattle.sexpr_core.specs.Value.{Values}
 use Rattle.sexpr_core.specs.Reading.{StandsAt}
 use Rattle.sexpr_core.specs.Bounds.{RefusesPart}
@@ -12,21 +12,13 @@ use Rattle.sexpr_text.proofs.Trees.{HasMembers, filled_at, visible_too, string_a
 
 later_value : (T U : List ℕ → Type 0) (text : List ℕ) (at i : ℕ) (fault : FormFault) → at ≤ i
     → ((other : List ℕ) (n : ℕ) → Agree text other n → i ≤ n → T other → U other) → IsValueFault U text i fault → IsValueFault T text at fault
-later_value T U text at i TooLong le on h = h
-later_value T U text at i TooDeep le on h = tt
-later_value T U text at i Short le on h = tt
 later_value T U text at i (Bad k) le on h = stops_later T U text at i k le on h
-later_value T U text at i (Trailing k) le on h = h
-later_value T U text at i Memory le on h = tt
+later_value T U text at i _ le on h = h
 
 -- a fault of a part in which no list opens
 pub part_fault : (T : List ℕ → Type 0) (text : List ℕ) (at : ℕ) (fault : FormFault) → RefusesPart T text at fault → IsValueFault T text at fault
-part_fault T text at TooLong h = h
 part_fault T text at TooDeep h = absurd h
-part_fault T text at Short h = h
-part_fault T text at (Bad k) h = h
-part_fault T text at (Trailing k) h = h
-part_fault T text at Memory h = h
+part_fault T text at _ h = h
 
 pub string_missed : (text : List ℕ) (at c : ℕ) (fault : FormFault) → StandsAt text at c → (c ≡ 40 → ⊥) → (c ≡ 91 → ⊥)
     → RefusesPart (StringStands at) text at fault → IsValueFault (ValueStands at) text at fault

@@ -2,7 +2,7 @@
 use Rattle.std.proofs.Common.{◌≡◌, Result, Ok, Err, IfErr, ℕ, ◌+◌, ◌<◌, ◌≤◌, Bool, true, false, inl, inr, List, [], ◌∷◌, ◌++◌, length, drop, refl, sym, ap, subst, ◌∙◌, append_assoc, append-nil, length-append, arith, rules}
 use Rattle.std.specs.List.{AllByRecursion}
 use Rattle.sexpr_core.specs.declared.fault.FormFault.{FormFault}
-use Rattle.sexpr_core.specs.declared.fault.FormFault.TheVariants.{TooLong, TooDeep, Short, Bad, Trailing, Memory}
+use Rattle.sexpr_core.specs.declared.fault.FormFault.TheVariants.{Short, Bad}
 use Rattle.sexpr_core.specs.Gathering.{Passed, is_body_octet}
 use Rattle.sexpr_core.specs.Reading.{StandsAt}
 use Rattle.sexpr_core.proofs.Agreeing.{Agree, spelled_too, stands_too, stops_later}
@@ -11,8 +11,9 @@ use Rattle.sexpr_text.specs.Strings.{Piece, octal, hexadecimal, escaped, piece_t
 use Rattle.sexpr_text.specs.Reads.{ReadsDigit, is_hexadecimal_octet}
 use Rattle.sexpr_text.specs.Unclosed.{OpensQuoted, IsUnclosed}
 use Rattle.sexpr_text.specs.Inner.Begun.{Begun, From, IsPartEnd, IsFrontEnd, GoesPiece, GoesDigit}
+use Rattle.sexpr_core.proofs.Runs.{fails_among, head_is, tail_is}
+use Rattle.sexpr_core.specs.Prefix.{StopsAt}
 use Rattle.sexpr_text.proofs.StringLaws.{ReadsPieces, last_text, are_more}
-use Rattle.sexpr_text.proofs.UnclosedLaws.{fails_among}
 
 -- what two clauses say of one fault
 pub IfErr-both : {A B : Type 0} (r : Result A B) (P Q R : B → Type 0) → ((e : B) → P e → Q e → R e) → IfErr r P → IfErr r Q → IfErr r R
@@ -33,29 +34,29 @@ pub begun_later : (G H : List ℕ → Type 0) (text front : List ℕ) (at i to :
 begun_later G H text front at i to le e on b = search (rules, append_assoc)
 
 front_later : (G H : List ℕ → Type 0) (text front : List ℕ) (at i : ℕ) (fault : FormFault) → at ≤ i → drop at text ≡ front ++ drop i text
-    → ((part : List ℕ) → G part → H (front ++ part)) → IsFrontEnd G text i fault → IsFrontEnd H text at fault
-front_later G H text front at i TooLong le e on h = h
-front_later G H text front at i TooDeep le e on h = h
-front_later G H text front at i Short le e on h = begun_later G H text front at i (length text) le e (λ part q g. on part g) h
-front_later G H text front at i (Bad k) le e on h = begun_later G H text front at i k le e (λ part q g. on part g) h
-front_later G H text front at i (Trailing k) le e on h = h
-front_later G H text front at i Memory le e on h = tt
+    → ((part y : List ℕ) → drop i text ≡ part ++ y → G part → H (front ++ part)) → IsFrontEnd G text i fault → IsFrontEnd H text at fault
+front_later G H text front at i Short le e on h =
+    begun_later G H text front at i (length text) le e (λ part q g. on part (drop (length text) text) q g) h
+front_later G H text front at i (Bad k) le e on h = begun_later G H text front at i k le e (λ part q g. on part (drop k text) q g) h
+front_later G H text front at i _ le e on h = h
+
+pub end_later : (G H U V : List ℕ → Type 0) (text front : List ℕ) (at i : ℕ) (fault : FormFault) → at ≤ i → drop at text ≡ front ++ drop i text
+    → ((part : List ℕ) → G part → H (front ++ part)) → ((k : ℕ) → fault ≡ Bad k → StopsAt (From U i) text i k → StopsAt (From V at) text at k)
+    → IsPartEnd G U text i fault → IsPartEnd H V text at fault
+end_later G H U V text front at i Short le e on stops h = begun_later G H text front at i (length text) le e (λ part q g. on part g) h
+end_later G H U V text front at i (Bad k) le e on stops h = (begun_later G H text front at i k le e (λ part q g. on part g) h.0, stops k refl h.1)
+end_later G H U V text front at i _ le e on stops h = h
 
 pub part_later : (G H U V : List ℕ → Type 0) (text front : List ℕ) (at i : ℕ) (fault : FormFault) → at ≤ i → drop at text ≡ front ++ drop i text
     → ((part : List ℕ) → G part → H (front ++ part)) → ((other : List ℕ) (n : ℕ) → Agree text other n → i ≤ n → V (drop at other) → U (drop i other))
     → IsPartEnd G U text i fault → IsPartEnd H V text at fault
-part_later G H U V text front at i TooLong le e on step h = h
-part_later G H U V text front at i TooDeep le e on step h = h
-part_later G H U V text front at i Short le e on step h = begun_later G H text front at i (length text) le e (λ part q g. on part g) h
-part_later G H U V text front at i (Bad k) le e on step h =
-    (begun_later G H text front at i k le e (λ part q g. on part g) h.0, stops_later (From V at) (From U i) text at i k le step h.1)
-part_later G H U V text front at i (Trailing k) le e on step h = h
-part_later G H U V text front at i Memory le e on step h = tt
+part_later G H U V text front at i fault le e on step h =
+    end_later G H U V text front at i fault le e on (λ k is s. stops_later (From V at) (From U i) text at i k le step s) h
 
 -- ---- escapes
 
 pub high_end : (text : List ℕ) (at : ℕ) (fault : FormFault) → IsFrontEnd GoesDigit text at fault → IsFrontEnd (GoesPiece (92 ∷ 120 ∷ [])) text at fault
-high_end text at fault h = front_later GoesDigit (GoesPiece (92 ∷ 120 ∷ [])) text [] at at fault (omega arith) refl (λ part e. record {
+high_end text at fault h = front_later GoesDigit (GoesPiece (92 ∷ 120 ∷ [])) text [] at at fault (omega arith) refl (λ part y q e. record {
   piece = hexadecimal 48 48 0 0;
   rest = 48 ∷ 48 ∷ [];
   right = λ behind. (refl, refl);
@@ -65,7 +66,7 @@ high_end text at fault h = front_later GoesDigit (GoesPiece (92 ∷ 120 ∷ []))
 pub low_end : (text : List ℕ) (at m : ℕ) (fault : FormFault) → ReadsDigit text at m → IsFrontEnd GoesDigit text (at + 1) fault
     → IsFrontEnd (GoesPiece (92 ∷ 120 ∷ [])) text at fault
 low_end text at m fault r h =
-    front_later GoesDigit (GoesPiece (92 ∷ 120 ∷ [])) text (r.octet ∷ []) at (at + 1) fault (omega arith) r.stands.spelled (λ part e. record {
+    front_later GoesDigit (GoesPiece (92 ∷ 120 ∷ [])) text (r.octet ∷ []) at (at + 1) fault (omega arith) r.stands.spelled (λ part y q e. record {
       piece = hexadecimal r.octet 48 m 0;
       rest = 48 ∷ [];
       right = λ behind. (r.valued, refl);
@@ -75,7 +76,7 @@ low_end text at m fault r h =
 pub second_end : (text : List ℕ) (at d : ℕ) (fault : FormFault) → d < 4 → StandsAt text at (48 + d) → IsFrontEnd GoesDigit text (at + 1) fault
     → IsFrontEnd (GoesPiece (92 ∷ [])) text at fault
 second_end text at d fault low s h =
-    front_later GoesDigit (GoesPiece (92 ∷ [])) text ((48 + d) ∷ []) at (at + 1) fault (omega arith) s.spelled (λ part e. record {
+    front_later GoesDigit (GoesPiece (92 ∷ [])) text ((48 + d) ∷ []) at (at + 1) fault (omega arith) s.spelled (λ part y q e. record {
       piece = octal d 0 0;
       rest = 48 ∷ 48 ∷ [];
       right = λ behind. (low, omega arith, omega arith);
@@ -87,7 +88,7 @@ pub third_end : (text : List ℕ) (at d b : ℕ) (fault : FormFault) → d < 4 �
 third_end text at d b fault low few s next h =
     let n : at + 1 + 1 ≡ at + 2 = omega arith in
     front_later GoesDigit (GoesPiece (92 ∷ [])) text ((48 + d) ∷ (48 + b) ∷ []) at (at + 2) fault (omega arith)
-    (s.spelled ∙ ap (λ t. (48 + d) ∷ t) next.spelled ∙ ap (λ k. (48 + d) ∷ (48 + b) ∷ drop k text) n) (λ part e. record {
+    (s.spelled ∙ ap (λ t. (48 + d) ∷ t) next.spelled ∙ ap (λ k. (48 + d) ∷ (48 + b) ∷ drop k text) n) (λ part y q e. record {
       piece = octal d b 0;
       rest = 48 ∷ [];
       right = λ behind. (low, few, omega arith);
@@ -101,13 +102,15 @@ pub hexadecimal_end : (text : List ℕ) (at c : ℕ) (fault : FormFault) → Sta
     → IsFrontEnd (GoesPiece (92 ∷ [])) text at fault
 hexadecimal_end text at c fault s is h =
     front_later (GoesPiece (92 ∷ 120 ∷ [])) (GoesPiece (92 ∷ [])) text (120 ∷ []) at (at + 1) fault (omega arith)
-    (s.spelled ∙ ap (λ k. k ∷ drop (at + 1) text) is) (λ part g. record { piece = g.piece; rest = g.rest; right = g.right; spelled = g.spelled }) h
+    (s.spelled ∙ ap (λ k. k ∷ drop (at + 1) text) is)
+    (λ part y q g. record { piece = g.piece; rest = g.rest; right = g.right; spelled = g.spelled }) h
 
 pub escape_end : (text : List ℕ) (at c : ℕ) (fault : FormFault) → StandsAt text at c → c ≡ 92 → IsFrontEnd (GoesPiece (92 ∷ [])) text (at + 1) fault
     → IsFrontEnd (GoesPiece []) text at fault
 escape_end text at c fault s is h =
     front_later (GoesPiece (92 ∷ [])) (GoesPiece []) text (92 ∷ []) at (at + 1) fault (omega arith)
-    (s.spelled ∙ ap (λ k. k ∷ drop (at + 1) text) is) (λ part g. record { piece = g.piece; rest = g.rest; right = g.right; spelled = g.spelled }) h
+    (s.spelled ∙ ap (λ k. k ∷ drop (at + 1) text) is)
+    (λ part y q g. record { piece = g.piece; rest = g.rest; right = g.right; spelled = g.spelled }) h
 
 -- ---- quoted strings
 
@@ -169,28 +172,14 @@ pub quoted_short : (text : List ℕ) (at i : ℕ) (octets : List ℕ) → Stands
     → Begun OpensQuoted text at (length text)
 quoted_short text at i octets opens r e =
     let n : i ≡ length text = end_is text i e r.within in
-    subst (Begun OpensQuoted text at) n (record {
-      part = 34 ∷ (pieces_text r.pieces ++ []);
-      spelled = opens.spelled ∙ ap (λ t. 34 ∷ t) (r.spelled ∙ ap (λ t. t ++ drop i text) (sym (append-nil (pieces_text r.pieces))));
-      goes = pieces_open r.pieces (drop i text) [] r.right;
-      ordered = omega (arith, r.ordered);
-      within = r.within;
-    })
-
-quoted_begun : (text : List ℕ) (at i to : ℕ) (octets : List ℕ) → StandsAt text at 34 → ReadsPieces text (at + 1) octets i → Begun (GoesPiece []) text i to
-    → Begun OpensQuoted text at to
-quoted_begun text at i to octets opens r b =
-    begun_later (GoesPiece []) OpensQuoted text (34 ∷ pieces_text r.pieces) at i to (omega (arith, r.ordered)) (opens.spelled ∙ ap (λ t. 34 ∷ t) r.spelled)
-    (λ part e g. piece_open r.pieces (drop i text) part (drop to text) r.right e g) b
+    search (rules, append-nil, pieces_open)
 
 pub quoted_end : (text : List ℕ) (at i : ℕ) (octets : List ℕ) (fault : FormFault) → StandsAt text at 34 → ReadsPieces text (at + 1) octets i
     → IsFrontEnd (GoesPiece []) text i fault → IsFrontEnd OpensQuoted text at fault
-quoted_end text at i octets TooLong opens r h = h
-quoted_end text at i octets TooDeep opens r h = h
-quoted_end text at i octets Short opens r h = quoted_begun text at i (length text) octets opens r h
-quoted_end text at i octets (Bad k) opens r h = quoted_begun text at i k octets opens r h
-quoted_end text at i octets (Trailing k) opens r h = h
-quoted_end text at i octets Memory opens r h = tt
+quoted_end text at i octets fault opens r h =
+    front_later (GoesPiece []) OpensQuoted text (34 ∷ pieces_text r.pieces) at i fault (omega (arith, r.ordered))
+    (opens.spelled ∙ ap (λ t. 34 ∷ t) r.spelled)
+    (λ part y e g. piece_open r.pieces (drop i text) part y r.right e g) h
 
 -- ---- bodies
 
@@ -202,14 +191,8 @@ body_fails p text other at k c a b s f all =
     let d = stands_too text other k k c a (omega arith) s in
     fails_among p b.body c (drop (k + 1) other) (drop at other) f all (sym (e ∙ ap (λ t. b.body ++ t) d.spelled))
 
-same_first : (c d : ℕ) (x y : List ℕ) → c ∷ x ≡ d ∷ y → c ≡ d
-same_first c d x y e = cc
-
-same_rest : (c d : ℕ) (x y : List ℕ) → c ∷ x ≡ d ∷ y → x ≡ y
-same_rest c d x y e = cc
-
 other_marks : (m n : ℕ) (x y : List ℕ) → m ∷ x ≡ n ∷ y → (m ≡ n → ⊥) → ⊥
-other_marks m n x y e f = f (same_first m n x y e)
+other_marks m n x y e f = f (head_is m n x y e)
 
 -- which of the three isn't closed is seen in its opening mark
 pub quoted_is : (x : List ℕ) → IsUnclosed (34 ∷ x) → OpensQuoted (34 ∷ x)
@@ -219,10 +202,10 @@ quoted_is x (inr (inr h)) = absurd (other_marks 34 124 x h.body h.spelled (λ e.
 
 pub digits_are : (x : List ℕ) → IsUnclosed (35 ∷ x) → AllByRecursion (λ d. is_hexadecimal_octet d ≡ true) x
 digits_are x (inl h) = absurd (other_marks 35 34 x h.body h.spelled (λ e. omega (arith, e)))
-digits_are x (inr (inl h)) = subst (AllByRecursion (λ d. is_hexadecimal_octet d ≡ true)) (sym (same_rest 35 35 x h.body h.spelled)) h.digits
+digits_are x (inr (inl h)) = subst (AllByRecursion (λ d. is_hexadecimal_octet d ≡ true)) (sym (tail_is 35 35 x h.body h.spelled)) h.digits
 digits_are x (inr (inr h)) = absurd (other_marks 35 124 x h.body h.spelled (λ e. omega (arith, e)))
 
 pub symbols_are : (x : List ℕ) → IsUnclosed (124 ∷ x) → AllByRecursion (λ d. is_body_octet d ≡ true) x
 symbols_are x (inl h) = absurd (other_marks 124 34 x h.body h.spelled (λ e. omega (arith, e)))
 symbols_are x (inr (inl h)) = absurd (other_marks 124 35 x h.body h.spelled (λ e. omega (arith, e)))
-symbols_are x (inr (inr h)) = subst (AllByRecursion (λ d. is_body_octet d ≡ true)) (sym (same_rest 124 124 x h.body h.spelled)) h.symbols
+symbols_are x (inr (inr h)) = subst (AllByRecursion (λ d. is_body_octet d ≡ true)) (sym (tail_is 124 124 x h.body h.spelled)) h.symbols

@@ -92,12 +92,7 @@ values-append [] ws = refl
 values-append (v ∷ vs) ws = ap (more v) (values-append vs ws)
 
 members_before : (room : ℕ) (text : List ℕ) (at to : ℕ) (vs : Values) (rest : List ℕ) → Skips text at to → MembersAt room text to vs rest → MembersAt room text at vs rest
-members_before room text at to vs rest s h = record {
-  inside = s.spaces ++ h.inside;
-  spelled = s.spelled ∙ ap (λ t. s.spaces ++ t) h.spelled ∙ sym (append_assoc s.spaces h.inside (41 ∷ rest));
-  meant = spaces_members s.spaces h.inside vs s.are_spaces h.meant;
-  fits = h.fits;
-}
+members_before room text at to vs rest s h = grind (arith, append_assoc, spaces_members)
 
 members_behind : (room : ℕ) (text : List ℕ) (at to : ℕ) (vs : Values) (rest : List ℕ) → Skips text at to → MembersAt room text at vs rest → MembersAt room text to vs rest
 members_behind room text at to none rest s h =
@@ -154,14 +149,7 @@ filled_at room text at c (more v vs) rest stands other visible h =
     let p = one_end [] m.0 (drop at text) (m.2 ++ (m.3 ++ 41 ∷ rest)) tt m.5 visible (value_visible m.1 m.2 _ v m.6)
     (h.spelled ∙ member_text h.inside m.0 m.2 m.3 (41 ∷ rest) m.4) in
     let deep : max (depth v) (depths vs) ≤ room = h.fits in
-    record {
-      first = v;
-      others = vs;
-      behind = m.3;
-      stands = record { ends_token = m.1; spelling = m.2; spelled = p.1; meant = m.6; apart = apart_append m.1 m.3 rest 41 m.7 refl; fits = omega arith };
-      meant = m.8;
-      fits = omega arith;
-    }
+    search (rules, apart_append)
 
 -- Members were read from an offset up to another: whatever members stand there stand behind them, and whatever
 -- members stand at the first offset go on there, also in each other text that goes on so far in the same way. The same
@@ -220,12 +208,7 @@ value_text room text at to next v r s =
 
 value_onward : (room most : ℕ) (text : List ℕ) (at to next : ℕ) (v : Value) (x y : List ℕ) → (r : ReadsValue room text at v to) → (s : Skips text to next) → room ≤ most
     → drop next text ≡ x ++ y → GoesMembers most x → GoesMembers most ((r.stands.spelling ++ s.spaces) ++ x)
-value_onward room most text at to next v x y r s le e g =
-    let deep : depth v ≤ room = r.stands.fits in
-    let apart : IsApart r.stands.ends_token ((s.spaces ++ x) ++ y) =
-    subst (IsApart r.stands.ends_token) (s.spelled ∙ ap (λ t. s.spaces ++ t) e ∙ sym (append_assoc s.spaces x y)) r.stands.apart in
-    subst (GoesMembers most) (sym (append_assoc r.stands.spelling s.spaces x))
-    (goes_first most r.stands.ends_token r.stands.spelling v (s.spaces ++ x) y r.stands.meant (omega arith) apart (goes_spaces most s.spaces x s.are_spaces g))
+value_onward room most text at to next v x y r s le e g = grind (arith, append_assoc, goes_first, goes_spaces)
 
 pub visible_too : (text other : List ℕ) (n i : ℕ) → Agree text other n → i ≤ n → StartsVisible (drop i text) → StartsVisible (drop i other)
 visible_too text other n i a le v =

@@ -1,40 +1,27 @@
 -- Where a string or a value stands whole, none stands that ends inside a string between marks.
 use Rattle.std.proofs.Common.{◌≡◌, ℕ, ◌<◌, Bool, true, false, ◌⊎◌, inl, inr, List, [], ◌∷◌, ◌++◌, length, Some, None, refl, sym, ap, subst, ◌∙◌, append_assoc, append-nil, length-append, arith, rules}
-use Rattle.std.proofs.lemmas.Bool.Decides.{nat_tests}
 use Rattle.sexpr_core.specs.Value.{Value, Values, string, list, none, more}
 use Rattle.sexpr_core.specs.Gathering.{is_body_octet}
 use Rattle.sexpr_core.specs.Spaces.{StartsVisible}
-use Rattle.sexpr_core.proofs.Decimal.{IsDigit, AreDigits, AreDigits-decimal, decimal_starts, parts_agree}
+use Rattle.sexpr_core.proofs.Decimal.{IsDigit, parts_agree}
 use Rattle.sexpr_core.proofs.SpaceLaws.{one_end}
 use Rattle.sexpr_text.specs.Reads.{is_hexadecimal_octet}
-use Rattle.sexpr_text.specs.Strings.{is_digit, is_token_octet, IsToken, IsCount, IsMarked, Simple}
+use Rattle.sexpr_text.specs.Strings.{IsToken, IsCount, IsMarked, Simple}
 use Rattle.sexpr_text.specs.Spelling.{IsHinted, SpellsAs, SpellsMembers}
 use Rattle.sexpr_text.specs.Unclosed.{IsUnclosed, IsUnclosedString, IsUnclosedAtom, UnclosedMembers, UnclosedValue}
-use Rattle.sexpr_text.proofs.Marked.{Passes, is_mark, one_quoted}
-use Rattle.sexpr_text.proofs.OneString.{is_string_start, IsBehind, Cut, cut, one_simple}
-use Rattle.sexpr_text.proofs.OneValue.{is_value_start, value_differs, value_visible, simple_visible, simple_differs, hinted_text, list_text, member_text, apart_append, spaces_apart, one_spelling, start_visible}
+use Rattle.sexpr_text.proofs.Marked.{is_mark, one_quoted, closed}
+use Rattle.sexpr_text.proofs.OneString.{is_string_start, IsBehind, Cut, cut, one_simple, count_digits, either_starts, token_other, string_first, mark_no_digit}
+use Rattle.sexpr_core.proofs.Runs.{head_is, fails_among, tail_is}
+use Rattle.sexpr_text.proofs.OneValue.{is_value_start, value_differs, value_visible, simple_visible, simple_differs, hinted_text, list_text, member_text, apart_append, spaces_apart, one_spelling, start_visible, string_start}
 
 -- ---- between marks
 
-mark_of : (c d : ℕ) (xs ys : List ℕ) → c ∷ xs ≡ d ∷ ys → c ≡ d
-mark_of c d xs ys e = cc
-
-pub fails_among : (p : ℕ → Bool) (xs : List ℕ) (c : ℕ) (ys zs : List ℕ) → p c ≡ false → Passes p zs → xs ++ c ∷ ys ≡ zs → ⊥
-fails_among p [] c ys [] f all e = cc
-fails_among p [] c ys (z ∷ zs) f all e =
-    let q : c ≡ z = cc in let g : false ≡ true = sym f ∙ ap p q ∙ all.0 in cc
-fails_among p (x ∷ xs) c ys [] f all e = cc
-fails_among p (x ∷ xs) c ys (z ∷ zs) f all e = let t : xs ++ c ∷ ys ≡ zs = cc in fails_among p xs c ys zs f all.1 t
-
-closed_text : (m : ℕ) (s body r : List ℕ) → s ≡ m ∷ (body ++ m ∷ []) → s ++ r ≡ m ∷ (body ++ m ∷ r)
-closed_text m s body r e = ap (λ t. t ++ r) e ∙ ap (λ t. m ∷ t) (append_assoc body (m ∷ []) r)
-
 inside_mark : (m : ℕ) (s body r t zs : List ℕ) → s ≡ m ∷ (body ++ m ∷ []) → t ≡ m ∷ zs → s ++ r ≡ t → body ++ m ∷ r ≡ zs
 inside_mark m s body r t zs e f h =
-    let q : m ∷ (body ++ m ∷ r) ≡ m ∷ zs = sym (closed_text m s body r e) ∙ h ∙ f in cc
+    let q : m ∷ (body ++ m ∷ r) ≡ m ∷ zs = sym (closed m s body r e) ∙ h ∙ f in cc
 
 differs : (m n : ℕ) (s body r t zs : List ℕ) → s ≡ m ∷ (body ++ m ∷ []) → t ≡ n ∷ zs → s ++ r ≡ t → m ≡ n
-differs m n s body r t zs e f h = mark_of m n (body ++ m ∷ r) zs (sym (closed_text m s body r e) ∙ h ∙ f)
+differs m n s body r t zs e f h = head_is m n (body ++ m ∷ r) zs (sym (closed m s body r e) ∙ h ∙ f)
 
 pub unclosed_marked : (s r a t : List ℕ) → IsMarked s a → IsUnclosed t → s ++ r ≡ t → ⊥
 unclosed_marked s r a t (inl h) (inl k) e =
@@ -73,43 +60,8 @@ pub record CutOpen (text : List ℕ) : Type 0 where
 pub cut_open : (t : List ℕ) → IsUnclosedString t → CutOpen t
 cut_open t h = search (rules, unclosed_first)
 
-count_are_digits : (count : List ℕ) (n : ℕ) → IsCount count n → AreDigits count
-count_are_digits count n (inl e) = subst AreDigits (sym e) tt
-count_are_digits count n (inr e) = subst AreDigits (sym e) (AreDigits-decimal n)
-
-pub mark_no_digit : (c : ℕ) → is_mark c ≡ true → IsDigit c → ⊥
-mark_no_digit c h k = grind (arith, nat_tests)
-
-mark_no_token : (c : ℕ) → is_mark c ≡ true → is_token_octet c ≡ true → ⊥
-mark_no_token c h k = grind (arith, nat_tests)
-
-digit_is : (c : ℕ) → IsDigit c → is_digit c ≡ true
-digit_is c h = grind (arith, nat_tests)
-
-mark_start : (c : ℕ) → is_mark c ≡ true → is_string_start c ≡ true
-mark_start c h = grind (arith, nat_tests)
-
-digit_start : (c : ℕ) → IsDigit c → is_string_start c ≡ true
-digit_start c h = grind (arith, nat_tests)
-
--- the first octet: a digit or an opening mark
-string_first : (count : List ℕ) (n mark : ℕ) (tail t : List ℕ) → IsCount count n → is_mark mark ≡ true → t ≡ count ++ mark ∷ tail
-    → (c : ℕ) × (cs : List ℕ) × (t ≡ c ∷ cs) × (IsDigit c ⊎ (is_mark c ≡ true))
-string_first count n mark tail t (inl k) m e = (mark, tail, e ∙ ap (λ x. x ++ mark ∷ tail) k, inr m)
-string_first count n mark tail t (inr k) m e =
-    let s = decimal_starts n in
-    (s.digit, s.rest ++ mark ∷ tail, e ∙ ap (λ x. x ++ mark ∷ tail) (k ∙ s.is), inl s.low)
-
 unclosed_string_first : (t : List ℕ) → IsUnclosedString t → (c : ℕ) × (cs : List ℕ) × (t ≡ c ∷ cs) × (IsDigit c ⊎ (is_mark c ≡ true))
 unclosed_string_first t h = let k = cut_open t h in string_first k.digits k.number k.mark k.tail t k.counts k.marks k.spelled
-
-either_start : (c : ℕ) → IsDigit c ⊎ (is_mark c ≡ true) → is_string_start c ≡ true
-either_start c (inl h) = digit_start c h
-either_start c (inr h) = mark_start c h
-
-token_neither : (c : ℕ) → is_digit c ≡ false → is_token_octet c ≡ true → IsDigit c ⊎ (is_mark c ≡ true) → ⊥
-token_neither c f h (inl k) = let g : false ≡ true = sym f ∙ digit_is c k in cc
-token_neither c f h (inr k) = mark_no_token c k h
 
 unclosed_token : (a r t : List ℕ) → IsToken a → IsUnclosedString t → a ++ r ≡ t → ⊥
 unclosed_token [] r t h k e = absurd h
@@ -117,7 +69,7 @@ unclosed_token (c ∷ cs) r t h k e =
     let f = unclosed_string_first t k in
     let q : c ∷ (cs ++ r) ≡ f.0 ∷ f.1 = e ∙ f.2 in
     let s : f.0 ≡ c = cc in
-    token_neither c h.0 h.1.0 (subst (λ d. IsDigit d ⊎ (is_mark d ≡ true)) s f.3)
+    token_other c h.0 h.1.0 (subst (λ d. IsDigit d ⊎ (is_mark d ≡ true)) s f.3)
 
 unclosed_behind : (c d : ℕ) (ds x r a y : List ℕ) → IsBehind ds c x a → is_mark d ≡ true → IsUnclosed (d ∷ y) → c ≡ d → x ++ r ≡ y → ⊥
 unclosed_behind c d ds x r a y (inl h) m k e f =
@@ -129,7 +81,8 @@ unclosed_cut : (s r a t : List ℕ) → Cut s a → CutOpen t → s ++ r ≡ t �
 unclosed_cut s r a t h k e =
     let l : h.digits ++ h.mark ∷ (h.tail ++ r) ≡ k.digits ++ k.mark ∷ k.tail =
     sym (append_assoc h.digits (h.mark ∷ h.tail) r) ∙ ap (λ u. u ++ r) (sym h.spelled) ∙ e ∙ k.spelled in
-    let p = parts_agree h.digits k.digits (h.tail ++ r) k.tail h.mark k.mark h.are_digits (count_are_digits k.digits k.number k.counts) h.other (mark_no_digit k.mark k.marks) l in
+    let p = parts_agree h.digits k.digits (h.tail ++ r) k.tail h.mark k.mark h.are_digits
+    (count_digits k.digits k.number k.counts) h.other (mark_no_digit k.mark k.marks) l in
     unclosed_behind h.mark k.mark h.digits h.tail r a k.tail h.behind k.marks k.unclosed p.marks p.tails
 
 pub unclosed_simple : (ends : Bool) (s r a t : List ℕ) → Simple ends s a → IsUnclosedString t → s ++ r ≡ t → ⊥
@@ -139,17 +92,14 @@ unclosed_simple false s r a t h k e = unclosed_cut s r a t (cut s a h) (cut_open
 -- ---- with a hint, and in lists
 
 unclosed_start : (t : List ℕ) → IsUnclosedString t → (c : ℕ) × (cs : List ℕ) × (t ≡ c ∷ cs) × (is_string_start c ≡ true)
-unclosed_start t h = let f = unclosed_string_first t h in (f.0, f.1, f.2, either_start f.0 f.3)
-
-value_start : (c : ℕ) → is_string_start c ≡ true → is_value_start c ≡ true
-value_start c h = rw h refl
+unclosed_start t h = let f = unclosed_string_first t h in (f.0, f.1, f.2, either_starts f.0 f.3)
 
 pub unclosed_visible : (t : List ℕ) → IsUnclosedString t → StartsVisible t
 unclosed_visible t h =
-    let f = unclosed_start t h in subst StartsVisible (sym f.2) (start_visible f.0 (value_start f.0 f.3))
+    let f = unclosed_start t h in subst StartsVisible (sym f.2) (start_visible f.0 (string_start f.0 f.3))
 
 atom_first : (t : List ℕ) → IsUnclosedAtom t → (c : ℕ) × (cs : List ℕ) × (t ≡ c ∷ cs) × (is_value_start c ≡ true)
-atom_first t (inl h) = let f = unclosed_start t h in (f.0, f.1, f.2, value_start f.0 f.3)
+atom_first t (inl h) = let f = unclosed_start t h in (f.0, f.1, f.2, string_start f.0 f.3)
 atom_first t (inr (inl h)) = (91, _, h.spelled, refl)
 atom_first t (inr (inr h)) = (91, _, h.spelled, refl)
 
@@ -176,23 +126,18 @@ unclosed_value_differs lists t x d h other e = search (rules, unclosed_value_fir
 unclosed_hinted : (ends : Bool) (s r g a t : List ℕ) → IsHinted ends s g a → IsUnclosedAtom t → s ++ r ≡ t → ⊥
 unclosed_hinted ends s r g a t m (inl k) e = unclosed_string_differs t _ 91 k refl (sym e ∙ hinted_text ends s g a r m)
 unclosed_hinted ends s r g a t m (inr (inl k)) e =
-    let w : 91 ∷ (m.inside ++ (m.hint_text ++ (m.behind_hint ++ 93 ∷ (m.behind ++ (m.octets_text ++ r))))) ≡ 91 ∷ (k.inside ++ k.last) =
-    sym (hinted_text ends s g a r m) ∙ e ∙ k.spelled in
-    let w1 : m.inside ++ (m.hint_text ++ (m.behind_hint ++ 93 ∷ (m.behind ++ (m.octets_text ++ r)))) ≡ k.inside ++ k.last = cc in
+    let w1 = tail_is 91 91 _ _ (sym (hinted_text ends s g a r m) ∙ e ∙ k.spelled) in
     let p = one_end m.inside k.inside _ k.last m.spaces_inside k.spaces_inside (simple_visible _ m.hint_text g _ m.hint_meant) (unclosed_visible k.last k.unclosed) w1 in
     unclosed_simple m.as_token m.hint_text _ g k.last m.hint_meant k.unclosed p.1
 unclosed_hinted ends s r g a t m (inr (inr k)) e =
     let c = m.octets_text ++ r in
-    let w : 91 ∷ (m.inside ++ (m.hint_text ++ (m.behind_hint ++ 93 ∷ (m.behind ++ c)))) ≡ 91 ∷ (k.inside ++ (k.hint_text ++ (k.behind_hint ++ 93 ∷ (k.behind ++ k.last)))) =
-    sym (hinted_text ends s g a r m) ∙ e ∙ k.spelled in
-    let w1 : m.inside ++ (m.hint_text ++ (m.behind_hint ++ 93 ∷ (m.behind ++ c))) ≡ k.inside ++ (k.hint_text ++ (k.behind_hint ++ 93 ∷ (k.behind ++ k.last))) = cc in
+    let w1 = tail_is 91 91 _ _ (sym (hinted_text ends s g a r m) ∙ e ∙ k.spelled) in
     let p1 = one_end m.inside k.inside _ _ m.spaces_inside k.spaces_inside (simple_visible _ m.hint_text g _ m.hint_meant) (simple_visible _ k.hint_text k.hint _ k.hint_meant) w1 in
     let p2 = one_simple m.as_token k.as_token m.hint_text _ g k.hint_text _ k.hint m.hint_meant
     (apart_append m.as_token m.behind_hint (m.behind ++ c) 93 (spaces_apart m.as_token m.behind_hint m.spaces_behind_hint) refl) k.hint_meant
     (apart_append k.as_token k.behind_hint (k.behind ++ k.last) 93 (spaces_apart k.as_token k.behind_hint k.spaces_behind_hint) refl) p1.1 in
     let p3 = one_end m.behind_hint k.behind_hint (93 ∷ (m.behind ++ c)) (93 ∷ (k.behind ++ k.last)) m.spaces_behind_hint k.spaces_behind_hint refl refl p2.1 in
-    let w2 : 93 ∷ (m.behind ++ c) ≡ 93 ∷ (k.behind ++ k.last) = p3.1 in
-    let w3 : m.behind ++ c ≡ k.behind ++ k.last = cc in
+    let w3 = tail_is 93 93 _ _ p3.1 in
     let p4 = one_end m.behind k.behind c k.last m.spaces_behind k.spaces_behind (simple_visible ends m.octets_text a r m.octets_meant) (unclosed_visible k.last k.unclosed) w3 in
     unclosed_simple ends m.octets_text r a k.last m.octets_meant k.unclosed p4.1
 

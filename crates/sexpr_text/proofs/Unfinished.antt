@@ -1,7 +1,6 @@
 -- What stands in front of a string that isn't closed, and that what goes on goes on at each octet before.
-use Rattle.std.proofs.Common.{◌≡◌, ℕ, ◌≤◌, max, Bool, true, false, ◌⊎◌, inl, inr, List, [], ◌∷◌, ◌++◌, refl, sym, ap, subst, ◌∙◌, append_assoc, append-nil, length-append, arith, rules}
+use Rattle.std.proofs.Common.{◌≡◌, ℕ, ◌≤◌, max, Bool, true, false, inl, inr, List, [], ◌∷◌, ◌++◌, refl, sym, ap, subst, ◌∙◌, append_assoc, append-nil, length-append, arith, rules}
 use Rattle.std.proofs.lemmas.Bool.Decides.{nat_tests}
-use Rattle.std.specs.List.{AllByRecursion}
 use Rattle.sexpr_core.specs.Prefix.{Begins}
 use Rattle.sexpr_core.specs.Spaces.{AreSpaces}
 use Rattle.sexpr_core.specs.Value.{Values, none, more, depths}
@@ -11,7 +10,10 @@ use Rattle.sexpr_text.specs.Inner.Begun.{IsStringPart, IsValuePart, IsMembersPar
 use Rattle.sexpr_text.specs.Refusal.{IsSpelling, IsSpellingWithin, GoesOn, GoesOnWithin}
 use Rattle.sexpr_text.proofs.Marked.{is_mark}
 use Rattle.sexpr_text.proofs.UnclosedLaws.{unclosed_first}
-use Rattle.sexpr_text.proofs.Beginnings.{begins_front, count_begins, string_part, hint_part, body_part, list_part, member_part, spaces_part, first_part}
+use Rattle.sexpr_core.proofs.Runs.{head_is, tail_is, all_front}
+use Rattle.sexpr_core.proofs.BraceRefusals.{two_cuts}
+use Rattle.sexpr_core.proofs.OneFault.{begins_front}
+use Rattle.sexpr_text.proofs.Beginnings.{count_begins, string_part, hint_part, body_part, list_part, member_part, spaces_part, first_part, hinted_unclosed}
 
 -- ---- what stands in front of the string that isn't closed
 
@@ -54,21 +56,8 @@ closing_atom room t (inr (inr h)) =
       marked = k.marked;
       spelled = h.spelled ∙ ap (λ x. 91 ∷ (h.inside ++ (h.hint_text ++ (h.behind_hint ++ 93 ∷ (h.behind ++ x))))) k.spelled ∙ simp append_assoc refl;
       meant = k.meant;
-      fill = λ m u. inr (inr (record {
-        as_token = h.as_token;
-        hint = h.hint;
-        inside = h.inside;
-        hint_text = h.hint_text;
-        behind_hint = h.behind_hint;
-        behind = h.behind;
-        last = k.front ++ m;
-        spelled = simp append_assoc refl;
-        spaces_inside = h.spaces_inside;
-        hint_meant = h.hint_meant;
-        spaces_behind_hint = h.spaces_behind_hint;
-        spaces_behind = h.spaces_behind;
-        unclosed = k.fill m u;
-      }));
+      fill = λ m u. subst IsUnclosedAtom (simp append_assoc refl) (inr (inr (hinted_unclosed h.as_token h.hint h.inside h.hint_text
+          h.behind_hint h.behind (k.front ++ m) h.spaces_inside h.hint_meant h.spaces_behind_hint h.spaces_behind (k.fill m u))));
       begins = body_part room h.as_token h.hint h.inside h.hint_text h.behind_hint h.behind k.front h.spaces_inside h.hint_meant h.spaces_behind_hint h.spaces_behind k.begins;
     }
 
@@ -146,41 +135,6 @@ closing_text room t h =
 
 -- ---- what goes on goes on at each octet before
 
-all_front : (P : ℕ → Type 0) (xs ys : List ℕ) → AllByRecursion P (xs ++ ys) → AllByRecursion P xs
-all_front P [] ys h = tt
-all_front P (x ∷ xs) ys h = (h.0, all_front P xs ys h.1)
-
--- two ways to cut a text
-record Over (x y a b : List ℕ) : Type 0 where
-  between : List ℕ
-  first_is : x ≡ a ++ between
-  second_is : between ++ y ≡ b
-
-record Within (x a : List ℕ) : Type 0 where
-  behind : List ℕ
-  whole_is : a ≡ x ++ behind
-
-two_cuts : (x y a b : List ℕ) → x ++ y ≡ a ++ b → Over x y a b ⊎ Within x a
-two_cuts x y [] b e = inl (record { between = x; first_is = refl; second_is = e })
-two_cuts [] y (c ∷ cs) b e = inr (record { behind = c ∷ cs; whole_is = refl })
-two_cuts (d ∷ ds) y (c ∷ cs) b e =
-    let same : d ≡ c = cc in
-    let t : ds ++ y ≡ cs ++ b = cc in
-    elim (two_cuts ds y cs b t) [
-      | inl o ↦
-          let first : ds ≡ cs ++ o.between = o.first_is in
-          inl (record { between = o.between; first_is = ap (λ n. n ∷ ds) same ∙ ap (λ s. c ∷ s) first; second_is = o.second_is })
-      | inr w ↦
-          let whole : cs ≡ ds ++ w.behind = w.whole_is in
-          inr (record { behind = w.behind; whole_is = ap (λ s. c ∷ s) whole ∙ ap (λ n. n ∷ (ds ++ w.behind)) (sym same) })
-    ]
-
-tail_is : (c d : ℕ) (x y : List ℕ) → c ∷ x ≡ d ∷ y → x ≡ y
-tail_is c d x y e = cc
-
-head_is : (c d : ℕ) (x y : List ℕ) → c ∷ x ≡ d ∷ y → c ≡ d
-head_is c d x y e = cc
-
 unclosed_front : (c : ℕ) (cs y : List ℕ) → IsUnclosed ((c ∷ cs) ++ y) → IsUnclosed (c ∷ cs)
 unclosed_front c cs y (inl h) = inl (record {
   body = cs;
@@ -204,8 +158,8 @@ goes_front room x y (inl b) = inl (begins_front (IsSpellingWithin room) x y b)
 goes_front room x y (inr u) =
     let k = closing_text room (x ++ y) u in
     elim (two_cuts x y k.front k.marked k.spelled) [
-      | inl o ↦ cut_in_string room x y k.front k.marked k.meant k.fill k.begins o.between o.first_is o.second_is
-      | inr w ↦ inl (begins_front (IsSpellingWithin room) x w.behind (subst (Begins (IsSpellingWithin room)) w.whole_is k.begins))
+      | inl o ↦ cut_in_string room x y k.front k.marked k.meant k.fill k.begins o.0 o.1 o.2
+      | inr w ↦ inl (begins_front (IsSpellingWithin room) x w.0 (subst (Begins (IsSpellingWithin room)) w.1 k.begins))
     ]
 
 any_room : (room : ℕ) (x : List ℕ) → IsSpellingWithin room x → IsSpelling x

@@ -1,13 +1,13 @@
 -- Where a value is refused, and what stands of it up to there.
-use Rattle.std.proofs.Common.{◌≡◌, ◌≢◌, ℕ, suc, ◌+◌, ◌-◌, ◌<◌, ◌≤◌, max, Bool, true, ◌⊎◌, inl, inr, List, [], ◌∷◌, ◌++◌, length, drop, refl, sym, ap, subst, ◌∙◌, append_assoc, append-nil, arith, Some, rules}
+use Rattle.std.proofs.Common.{◌≡◌, ◌≢◌, ℕ, suc, ◌+◌, ◌-◌, ◌<◌, ◌≤◌, max, Bool, true, ◌⊎◌, inl, inr, List, [], ◌∷◌, ◌++◌, length, drop, refl, sym, ap, subst, ◌∙◌, append_assoc, append-nil, arith, rules}
 use Rattle.std.proofs.lemmas.List.{take_at}
 use Rattle.sexpr_core.specs.declared.fault.FormFault.{FormFault}
-use Rattle.sexpr_core.specs.declared.fault.FormFault.TheVariants.{TooLong, TooDeep, Short, Bad, Trailing, Memory}
+use Rattle.sexpr_core.specs.declared.fault.FormFault.TheVariants.{TooDeep, Short, Bad, Memory}
 use Rattle.sexpr_core.specs.Prefix.{StopsAt}
 use Rattle.sexpr_core.specs.Bounds.{RefusesPart}
 use Rattle.sexpr_core.specs.Reading.{StandsAt}
 use Rattle.sexpr_core.specs.Spaces.{Skips, AreSpaces, StartsVisible}
-use Rattle.sexpr_core.specs.Value.{Values, string, none, more, depth, depths}
+use Rattle.sexpr_core.specs.Value.{Values, none, more, depth, depths}
 use Rattle.sexpr_core.proofs.Agreeing.{Agree, stands_too, skips_too, stops_here, stops_later}
 use Rattle.sexpr_core.proofs.Gathered.{end_is}
 use Rattle.sexpr_core.proofs.SpaceLaws.{one_end}
@@ -15,21 +15,16 @@ use Rattle.sexpr_text.specs.Strings.{Simple}
 use Rattle.sexpr_text.specs.Reads.{ReadsString, StringAt, IsValueFault}
 use Rattle.sexpr_text.specs.Stands.{StringStands, ValueStands}
 use Rattle.sexpr_text.specs.Unclosed.{IsUnclosedString, IsUnclosedHint, IsUnclosedHinted, UnclosedMembers, UnclosedValue, depth_open}
-use Rattle.sexpr_text.specs.Inner.Begun.{Begun, From, IsPartEnd, GoesString, GoesValue, GoesMembers, IsUnclosedValue, AreUnclosedMembers, ValueStandsIn, MembersStandIn, Anywhere, IsDeepAt, IsValueEnd}
-use Rattle.sexpr_text.proofs.Beginnings.{goes_string, goes_hint, goes_body, goes_list, goes_member, no_member}
+use Rattle.sexpr_text.specs.Inner.Begun.{Begun, From, IsPartEnd, GoesString, GoesValue, GoesMembers, IsUnclosedValue, AreUnclosedMembers, ValueStandsIn, MembersStandIn, Anywhere, IsDeepAt, IsValueEnd, IsValuePart}
+use Rattle.sexpr_text.proofs.Beginnings.{goes_string, goes_hint, goes_body, goes_list, goes_member, no_member, hinted_value}
 use Rattle.sexpr_text.proofs.Elsewhere.{string_too}
 use Rattle.sexpr_text.proofs.OneString.{one_simple}
 use Rattle.sexpr_text.proofs.OneValue.{simple_visible, apart_append, spaces_apart, value_visible}
-use Rattle.sexpr_text.proofs.StringEnds.{begun_later}
+use Rattle.sexpr_text.proofs.StringEnds.{begun_later, end_later}
 use Rattle.sexpr_text.proofs.MarkedEnds.{none_string}
 use Rattle.sexpr_text.proofs.Trees.{HasMembers, inside_list, filled_at, visible_too}
+use Rattle.sexpr_core.proofs.Runs.{head_is, tail_is}
 use Rattle.sexpr_text.proofs.UnclosedLaws.{unclosed_simple, unclosed_visible, unclosed_string_differs, unclosed_value_visible}
-
-first_of : (c d : ℕ) (x y : List ℕ) → c ∷ x ≡ d ∷ y → c ≡ d
-first_of c d x y e = cc
-
-rest_of : (c d : ℕ) (x y : List ℕ) → c ∷ x ≡ d ∷ y → x ≡ y
-rest_of c d x y e = cc
 
 -- a text that goes on so far in the same way has no such part
 stops_other : (T : List ℕ → Type 0) (text : List ℕ) (at k : ℕ) (other : List ℕ) → Agree text other k → StopsAt T text at k → T other → ⊥
@@ -43,22 +38,20 @@ ends_later : (room less : ℕ) (G H U V W X : ℕ → List ℕ → Type 0) (text
     → ((k : ℕ) → i ≤ k → StopsAt (X less) text i k → StopsAt (From (U less) i) text i k → StopsAt (W room) text at k × StopsAt (From (V room) at) text at k)
     → ((k : ℕ) → fault ≡ Bad k → i ≤ k → StopsAt (From (Anywhere U) i) text i k → StopsAt (From (Anywhere V) at) text at k)
     → IsValueEnd less G X U text i fault → IsValueEnd room H W V text at fault
-ends_later room less G H U V W X text front at i TooLong le e on deep stops any h = h
 ends_later room less G H U V W X text front at i TooDeep le e on deep stops any h = search (rules, begun_later)
 ends_later room less G H U V W X text front at i Short le e on deep stops any h =
     begun_later (G less) (H room) text front at i (length text) le e (λ part q g. on part (drop (length text) text) q g) h
 ends_later room less G H U V W X text front at i (Bad k) le e on deep stops any h = search (rules, begun_later)
-ends_later room less G H U V W X text front at i (Trailing k) le e on deep stops any h = h
-ends_later room less G H U V W X text front at i Memory le e on deep stops any h = tt
+ends_later room less G H U V W X text front at i _ le e on deep stops any h = h
 
 -- ---- strings
 
 -- what isn't closed and begins with neither parenthesis nor bracket is a string without hint
 string_open : (text : List ℕ) (at c : ℕ) → StandsAt text at c → (c ≡ 40 → ⊥) → (c ≡ 91 → ⊥) → (lists : List Values) → UnclosedValue lists (drop at text) → IsUnclosedString (drop at text)
 string_open text at c s group hinted [] (inl u) = u
-string_open text at c s group hinted [] (inr (inl u)) = absurd (hinted (first_of c 91 (drop (at + 1) text) _ (sym s.spelled ∙ u.spelled)))
-string_open text at c s group hinted [] (inr (inr u)) = absurd (hinted (first_of c 91 (drop (at + 1) text) _ (sym s.spelled ∙ u.spelled)))
-string_open text at c s group hinted (vs ∷ inner) u = absurd (group (first_of c 40 (drop (at + 1) text) u.0 (sym s.spelled ∙ u.1)))
+string_open text at c s group hinted [] (inr (inl u)) = absurd (hinted (head_is c 91 (drop (at + 1) text) _ (sym s.spelled ∙ u.spelled)))
+string_open text at c s group hinted [] (inr (inr u)) = absurd (hinted (head_is c 91 (drop (at + 1) text) _ (sym s.spelled ∙ u.spelled)))
+string_open text at c s group hinted (vs ∷ inner) u = absurd (group (head_is c 40 (drop (at + 1) text) u.0 (sym s.spelled ∙ u.1)))
 
 pub none_value : (room : ℕ) → GoesValue room []
 none_value room = goes_string room [] none_string
@@ -68,7 +61,6 @@ string_goes room text at to b = record { part = b.part; spelled = b.spelled; goe
 
 pub string_ends : (room : ℕ) (text : List ℕ) (at c : ℕ) (fault : FormFault) → StandsAt text at c → (c ≡ 40 → ⊥) → (c ≡ 91 → ⊥)
     → IsPartEnd GoesString IsUnclosedString text at fault → IsValueEnd room GoesValue (λ most. ValueStandsIn most at) IsUnclosedValue text at fault
-string_ends room text at c TooLong s group hinted h = h
 string_ends room text at c TooDeep s group hinted h = absurd h
 string_ends room text at c Short s group hinted h = string_goes room text at (length text) h
 string_ends room text at c (Bad k) s group hinted h = (
@@ -76,18 +68,14 @@ string_ends room text at c (Bad k) s group hinted h = (
   stops_later (From (Anywhere IsUnclosedValue) at) (From IsUnclosedString at) text at at k (omega arith) (λ other n a le u.
       string_open other at c (stands_too text other n at c a le s) group hinted u.1.lists u.1.unclosed) h.1,
 )
-string_ends room text at c (Trailing k) s group hinted h = h
-string_ends room text at c Memory s group hinted h = tt
+string_ends room text at c _ s group hinted h = h
 
 -- a value in which no list opens
 pub flat_ends : (room : ℕ) (text : List ℕ) (at : ℕ) (fault : FormFault) → ((most : ℕ) → IsPartEnd (GoesValue most) (Anywhere IsUnclosedValue) text at fault)
     → IsValueEnd room GoesValue (λ most. ValueStandsIn most at) IsUnclosedValue text at fault
-flat_ends room text at TooLong h = h room
 flat_ends room text at TooDeep h = absurd (h room)
-flat_ends room text at Short h = h room
-flat_ends room text at (Bad k) h = h room
-flat_ends room text at (Trailing k) h = h room
 flat_ends room text at Memory h = tt
+flat_ends room text at _ h = h room
 
 -- ---- lists
 
@@ -95,10 +83,10 @@ flat_ends room text at Memory h = tt
 list_open : (room : ℕ) (text : List ℕ) (at : ℕ) → StandsAt text at 40 → (lists : List Values) → depth_open lists ≤ room → UnclosedValue lists (drop at text)
     → (0 < room) × AreUnclosedMembers (room - 1) (drop (at + 1) text)
 list_open room text at s [] le (inl u) = absurd (unclosed_string_differs (drop at text) (drop (at + 1) text) 40 u refl s.spelled)
-list_open room text at s [] le (inr (inl u)) = let q = first_of 40 91 (drop (at + 1) text) _ (sym s.spelled ∙ u.spelled) in absurd (omega (arith, q))
-list_open room text at s [] le (inr (inr u)) = let q = first_of 40 91 (drop (at + 1) text) _ (sym s.spelled ∙ u.spelled) in absurd (omega (arith, q))
+list_open room text at s [] le (inr (inl u)) = let q = head_is 40 91 (drop (at + 1) text) _ (sym s.spelled ∙ u.spelled) in absurd (omega (arith, q))
+list_open room text at s [] le (inr (inr u)) = let q = head_is 40 91 (drop (at + 1) text) _ (sym s.spelled ∙ u.spelled) in absurd (omega (arith, q))
 list_open room text at s (vs ∷ inner) le u =
-    let e : drop (at + 1) text ≡ u.0 = rest_of 40 40 (drop (at + 1) text) u.0 (sym s.spelled ∙ u.1) in
+    let e : drop (at + 1) text ≡ u.0 = tail_is 40 40 (drop (at + 1) text) u.0 (sym s.spelled ∙ u.1) in
     let deep : suc (max (depths vs) (depth_open inner)) ≤ room = le in (
       omega arith,
       record {
@@ -181,9 +169,6 @@ neither : (A B : Type 0) → A ⊎ B → (A → ⊥) → (B → ⊥) → ⊥
 neither A B (inl a) f g = f a
 neither A B (inr b) f g = g b
 
-fault_is : (T : List ℕ → Type 0) (text : List ℕ) (at k : ℕ) (fault : FormFault) → fault ≡ Bad k → IsValueFault T text at fault → StopsAt T text at k
-fault_is T text at k fault e h = subst (IsValueFault T text at) e h
-
 pub member_ends : (room : ℕ) (text : List ℕ) (at i c : ℕ) (vs : Values) (fault : FormFault) → HasMembers room text at i vs → StandsAt text i c → (c ≡ 41 → ⊥)
     → IsValueFault (ValueStands i) text i fault → IsValueEnd room GoesValue (λ most. ValueStandsIn most i) IsUnclosedValue text i fault
     → IsValueEnd room GoesMembers (λ most. MembersStandIn most at) AreUnclosedMembers text at fault
@@ -204,7 +189,7 @@ member_ends room text at i c vs fault m s apart refused h =
           (λ w. stops_other (From (IsUnclosedValue room) i) text i k other a going w)),
     ))
     (λ k is le going.
-    let whole : StopsAt (ValueStands i) text i k = fault_is (ValueStands i) text i k fault is refused in
+    let whole : StopsAt (ValueStands i) text i k = subst (IsValueFault (ValueStands i) text i) is refused in
     stops_here (From (Anywhere AreUnclosedMembers) at) text at k (omega (arith, m.ordered)) whole.within (λ other a u.
     neither (ValueStandsIn u.0 i other) (IsUnclosedValue u.0 (drop i other))
     (member_open u.0 other i (visible_too text other k i a le m.visible) (m.unclosed other k a le u.0 u.1))
@@ -217,17 +202,17 @@ hinted_open : (text : List ℕ) (at : ℕ) → StandsAt text at 91 → (lists : 
     → IsUnclosedHint (drop at text) ⊎ IsUnclosedHinted (drop at text)
 hinted_open text at s [] (inl u) = absurd (unclosed_string_differs (drop at text) (drop (at + 1) text) 91 u refl s.spelled)
 hinted_open text at s [] (inr u) = u
-hinted_open text at s (vs ∷ inner) u = let q = first_of 91 40 (drop (at + 1) text) u.0 (sym s.spelled ∙ u.1) in absurd (omega (arith, q))
+hinted_open text at s (vs ∷ inner) u = let q = head_is 91 40 (drop (at + 1) text) u.0 (sym s.spelled ∙ u.1) in absurd (omega (arith, q))
 
 hint_found : (text : List ℕ) (at begin : ℕ) → StandsAt text at 91 → Skips text (at + 1) begin → IsUnclosedHint (drop at text) → IsUnclosedString (drop begin text)
 hint_found text at begin s t u =
-    let e : drop (at + 1) text ≡ u.inside ++ u.last = rest_of 91 91 (drop (at + 1) text) _ (sym s.spelled ∙ u.spelled) in
+    let e : drop (at + 1) text ≡ u.inside ++ u.last = tail_is 91 91 (drop (at + 1) text) _ (sym s.spelled ∙ u.spelled) in
     let p = one_end t.spaces u.inside (drop begin text) u.last t.are_spaces u.spaces_inside t.ends (unclosed_visible u.last u.unclosed) (sym t.spelled ∙ e) in
     subst IsUnclosedString (sym p.1) u.unclosed
 
 whole_hint : (text : List ℕ) (at begin : ℕ) → StandsAt text at 91 → Skips text (at + 1) begin → (u : IsUnclosedHinted (drop at text))
     → StringAt text begin u.hint (u.behind_hint ++ 93 ∷ (u.behind ++ u.last))
-whole_hint text at begin s t u = search (rules, rest_of, one_end, simple_visible, apart_append, spaces_apart)
+whole_hint text at begin s t u = search (rules, tail_is, one_end, simple_visible, apart_append, spaces_apart)
 
 closing_found : (text : List ℕ) (at begin to close : ℕ) (read : List ℕ) → StandsAt text at 91 → Skips text (at + 1) begin → ReadsString text begin read to → Skips text to close
     → (u : IsUnclosedHinted (drop at text)) → drop close text ≡ 93 ∷ (u.behind ++ u.last)
@@ -241,7 +226,7 @@ closing_found text at begin to close read s t r q u =
 last_found : (text : List ℕ) (close next : ℕ) (behind last : List ℕ) → drop close text ≡ 93 ∷ (behind ++ last) → StandsAt text close 93 → Skips text (close + 1) next
     → AreSpaces behind → IsUnclosedString last → IsUnclosedString (drop next text)
 last_found text close next behind last e s t spaces u =
-    let f : drop (close + 1) text ≡ behind ++ last = rest_of 93 93 (drop (close + 1) text) _ (sym s.spelled ∙ e) in
+    let f : drop (close + 1) text ≡ behind ++ last = tail_is 93 93 (drop (close + 1) text) _ (sym s.spelled ∙ e) in
     let p = one_end t.spaces behind (drop next text) last t.are_spaces spaces t.ends (unclosed_visible last u) (sym t.spelled ∙ f) in
     subst IsUnclosedString (sym p.1) u
 
@@ -252,28 +237,15 @@ hint_closed text at begin to read s t r u =
     let k = r.stands in
     unclosed_simple k.ends_token k.spelling (drop to text) read (drop begin text) k.meant (hint_found text at begin s t u) (sym k.spelled)
 
-part_is : (T : List ℕ → Type 0) (text : List ℕ) (at k : ℕ) (fault : FormFault) → fault ≡ Bad k → RefusesPart T text at fault → StopsAt T text at k
-part_is T text at k fault e h = subst (RefusesPart T text at) e h
-
-flat_later : (G : List ℕ → Type 0) (U : List ℕ → Type 0) (room : ℕ) (text front : List ℕ) (at i : ℕ) (fault : FormFault) → at ≤ i → drop at text ≡ front ++ drop i text
-    → ((part : List ℕ) → G part → GoesValue room (front ++ part))
-    → ((k : ℕ) → fault ≡ Bad k → StopsAt (From U i) text i k → StopsAt (From (Anywhere IsUnclosedValue) at) text at k)
-    → IsPartEnd G U text i fault → IsPartEnd (GoesValue room) (Anywhere IsUnclosedValue) text at fault
-flat_later G U room text front at i TooLong le e on stops h = h
-flat_later G U room text front at i TooDeep le e on stops h = h
-flat_later G U room text front at i Short le e on stops h = begun_later G (GoesValue room) text front at i (length text) le e (λ part q g. on part g) h
-flat_later G U room text front at i (Bad k) le e on stops h = (begun_later G (GoesValue room) text front at i k le e (λ part q g. on part g) h.0, stops k refl h.1)
-flat_later G U room text front at i (Trailing k) le e on stops h = h
-flat_later G U room text front at i Memory le e on stops h = tt
-
 pub hint_ends : (room : ℕ) (text : List ℕ) (at begin : ℕ) (fault : FormFault) → StandsAt text at 91 → Skips text (at + 1) begin
     → RefusesPart (StringStands begin) text begin fault → IsPartEnd GoesString IsUnclosedString text begin fault
     → IsPartEnd (GoesValue room) (Anywhere IsUnclosedValue) text at fault
 hint_ends room text at begin fault s t refused h =
-    flat_later GoesString IsUnclosedString room text (91 ∷ t.spaces) at begin fault (omega (arith, t.ordered)) (s.spelled ∙ ap (λ x. 91 ∷ x) t.spelled)
+    end_later GoesString (GoesValue room) IsUnclosedString (Anywhere IsUnclosedValue) text
+    (91 ∷ t.spaces) at begin fault (omega (arith, t.ordered)) (s.spelled ∙ ap (λ x. 91 ∷ x) t.spelled)
     (λ part g. goes_hint room t.spaces part t.are_spaces g)
     (λ k is going.
-    let whole : StopsAt (StringStands begin) text begin k = part_is (StringStands begin) text begin k fault is refused in
+    let whole : StopsAt (StringStands begin) text begin k = subst (RefusesPart (StringStands begin) text begin) is refused in
     stops_here (From (Anywhere IsUnclosedValue) at) text at k (omega (arith, t.ordered, going.behind)) going.within (λ other a u.
     let o = stands_too text other k at 91 a (omega (arith, t.ordered, going.behind)) s in
     let q = skips_too text other k (at + 1) begin a going.behind t in
@@ -285,25 +257,8 @@ closing_goes : (room : ℕ) (as_token : Bool) (hint inside hint_text behind_hint
     → GoesValue room (91 ∷ (inside ++ (hint_text ++ behind_hint)))
 closing_goes room as_token hint inside hint_text behind_hint s m t = inl (record {
   rest = 93 ∷ 97 ∷ [];
-  whole = record {
-    ends_token = true;
-    value = string (Some hint) (97 ∷ []);
-    meant = record {
-      as_token = as_token;
-      inside = inside;
-      hint_text = hint_text;
-      behind_hint = behind_hint;
-      behind = [];
-      octets_text = 97 ∷ [];
-      spelled = simp append_assoc refl;
-      spaces_inside = s;
-      hint_meant = m;
-      spaces_behind_hint = t;
-      spaces_behind = tt;
-      octets_meant = (refl, (refl, (refl, tt)));
-    };
-    fits = omega arith;
-  };
+  whole = subst (IsValuePart room) (simp append_assoc refl)
+      (hinted_value room true as_token hint (97 ∷ []) inside hint_text behind_hint [] (97 ∷ []) s m t tt (refl, (refl, (refl, tt))));
 })
 
 closing_begun : (room : ℕ) (text : List ℕ) (at begin to close : ℕ) (read : List ℕ) → StandsAt text at 91 → Skips text (at + 1) begin → ReadsString text begin read to
@@ -333,14 +288,16 @@ closing_ends room text at begin to close c read s t r q stands apart = (
       let d = stands_too text other close close c a (omega arith) stands in
       neither (IsUnclosedHint (drop at other)) (IsUnclosedHinted (drop at other)) (hinted_open other at o u.1.lists u.1.unclosed)
       (λ w. hint_closed other at begin to read o p l w)
-      (λ w. apart (first_of c 93 (drop (close + 1) other) _ (sym d.spelled ∙ closing_found other at begin to close read o p l (skips_too text other close to close a (omega arith) q) w)))),
+      (λ w. apart (head_is c 93 (drop (close + 1) other) _
+      (sym d.spelled ∙ closing_found other at begin to close read o p l (skips_too text other close to close a (omega arith) q) w)))),
 )
 
 pub body_ends : (room : ℕ) (text : List ℕ) (at begin to close next : ℕ) (read : List ℕ) (fault : FormFault) → StandsAt text at 91 → Skips text (at + 1) begin
     → ReadsString text begin read to → Skips text to close → StandsAt text close 93 → Skips text (close + 1) next → IsPartEnd GoesString IsUnclosedString text next fault
     → IsPartEnd (GoesValue room) (Anywhere IsUnclosedValue) text at fault
 body_ends room text at begin to close next read fault s t r q closes v h =
-    flat_later GoesString IsUnclosedString room text (91 ∷ (t.spaces ++ (r.stands.spelling ++ (q.spaces ++ 93 ∷ v.spaces)))) at next fault
+    end_later GoesString (GoesValue room) IsUnclosedString (Anywhere IsUnclosedValue) text
+    (91 ∷ (t.spaces ++ (r.stands.spelling ++ (q.spaces ++ 93 ∷ v.spaces)))) at next fault
     (omega (arith, t.ordered, r.forward, q.ordered, v.ordered))
     (s.spelled ∙ ap (λ x. 91 ∷ x) (t.spelled ∙ ap (λ x. t.spaces ++ x) (r.stands.spelled ∙ ap (λ x. r.stands.spelling ++ x) (q.spelled ∙ ap (λ x. q.spaces ++ x)
     (closes.spelled ∙ ap (λ x. 93 ∷ x) v.spelled)))) ∙ simp append_assoc refl)

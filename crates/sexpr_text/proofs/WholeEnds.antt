@@ -1,9 +1,9 @@
 -- From a value that is refused, or has octets behind it, to what is said of the whole text.
-use Rattle.std.proofs.Common.{◌≡◌, ℕ, ◌+◌, ◌<◌, ◌≤◌, Bool, true, false, inl, inr, List, [], ◌∷◌, ◌++◌, length, take, drop, Some, None, refl, sym, ap, subst, ◌∙◌, append_assoc, append-nil, length-drop, arith, rules}
+use Rattle.std.proofs.Common.{◌≡◌, ℕ, ◌+◌, ◌<◌, ◌≤◌, Bool, true, false, inl, inr, List, [], ◌∷◌, ◌++◌, length, take, drop, Some, None, refl, sym, ap, subst, ◌∙◌, append_assoc, append-nil, arith, rules}
 use Rattle.std.proofs.lemmas.Bool.{cases_Bool}
-use Rattle.std.proofs.lemmas.List.{take-append-drop, drop-drop}
+use Rattle.std.proofs.lemmas.List.{take-append-drop, take_all}
 use Rattle.sexpr_core.specs.declared.fault.FormFault.{FormFault}
-use Rattle.sexpr_core.specs.declared.fault.FormFault.TheVariants.{TooLong, TooDeep, Short, Bad, Trailing, Memory}
+use Rattle.sexpr_core.specs.declared.fault.FormFault.TheVariants.{TooDeep, Short, Bad, Trailing, Memory}
 use Rattle.sexpr_core.specs.Bounds.{IsTrailingBehind}
 use Rattle.sexpr_core.specs.Prefix.{Begins, StopsAt}
 use Rattle.sexpr_core.specs.Reading.{StandsAt}
@@ -24,7 +24,9 @@ use Rattle.sexpr_text.proofs.OneValue.{hinted_text, value_visible, spaces_apart}
 use Rattle.sexpr_text.proofs.StringLaws.{token_grows}
 use Rattle.sexpr_text.proofs.Trees.{same_value}
 use Rattle.sexpr_text.proofs.WholeTrees.{spelled_at, front_read}
-use Rattle.sexpr_text.proofs.UnclosedLaws.{fails_among, unclosed_value, unclosed_value_visible}
+use Rattle.sexpr_core.proofs.Runs.{fails_among}
+use Rattle.sexpr_core.proofs.BraceFaults.{stands_there}
+use Rattle.sexpr_text.proofs.UnclosedLaws.{unclosed_value, unclosed_value_visible}
 
 -- ---- what goes on
 
@@ -120,19 +122,6 @@ whole_before text begin k c v s stands never w =
 
 -- ---- a value that is refused
 
-take-all : (xs : List ℕ) → take (length xs) xs ≡ xs
-take-all [] = refl
-take-all (x ∷ xs) = ap (λ t. x ∷ t) (take-all xs)
-
-stands_there : (text : List ℕ) (k : ℕ) → k < length text → (c : ℕ) × StandsAt text k c
-stands_there text k lt = begins (drop k text) refl
-  where
-    begins : (xs : List ℕ) → drop k text ≡ xs → (c : ℕ) × StandsAt text k c
-    begins [] e = absurd (omega (arith, ap length e, length-drop k text))
-    begins (c ∷ cs) e =
-        let n : cs ≡ drop (k + 1) text = sym (ap (drop 1) e) ∙ drop-drop 1 k text in
-        (c, record { spelled = e ∙ ap (λ t. c ∷ t) n; within = lt })
-
 spelling_stops : (text : List ℕ) (begin k : ℕ) → Skips text 0 begin → StopsAt (ValueStands begin) text begin k → Begins IsSpelling (take (k + 1) text) → ⊥
 spelling_stops text begin k s h b =
     let other = take (k + 1) text ++ b.rest in
@@ -147,14 +136,7 @@ spelling_within_stops room text begin k s h b =
     let w : IsSpellingWithin room other = b.whole in
     let o = skips_too text other k 0 begin (agree text k b.rest h.within) h.behind s in
     let v = spelled_at other begin w.value o w.spelled in
-    h.none (record {
-      rest = b.rest;
-      whole = record {
-        value = w.value;
-        rest = w.spelled.after;
-        stands = record { ends_token = v.ends_token; spelling = v.spelling; spelled = v.spelled; meant = v.meant; apart = v.apart; fits = w.fits };
-      };
-    })
+    search rules
 
 unclosed_stops : (U : List ℕ → Type 0) (room : ℕ) (text : List ℕ) (begin k : ℕ) → Skips text 0 begin → ((x : List ℕ) → IsUnclosedValue room x → U x)
     → StopsAt (From U begin) text begin k → IsUnclosedText room (take (k + 1) text) → ⊥
@@ -166,7 +148,6 @@ unclosed_stops U room text begin k s on h u =
 pub value_refused : (text : List ℕ) (begin : ℕ) (fault : FormFault) → Skips text 0 begin → IsValueFault (ValueStands begin) text begin fault
     → IsValueEnd 64 GoesValue (λ most. ValueStandsIn most begin) IsUnclosedValue text begin fault
     → ((v : Value) (rest : List ℕ) → ValueAt 64 text begin v rest → fault ≡ Memory) → ((v : Value) → IsSpelledWithin text v → fault ≡ Memory) → RefusesSpelling text fault
-value_refused text begin TooLong s h b only whole = absurd h
 value_refused text begin TooDeep s h b only whole = (
   b.place + 1,
   goes_anyhow 65 (take (b.place + 1) text) (goes_whole 65 text begin (b.place + 1) s b.begun),
@@ -176,7 +157,7 @@ value_refused text begin TooDeep s h b only whole = (
   ],
 )
 value_refused text begin Short s h b only whole = (
-  subst (GoesOnWithin 64) (take-all text) (goes_whole 64 text begin (length text) s b),
+  subst (GoesOnWithin 64) (take_all (length text) text (omega arith)) (goes_whole 64 text begin (length text) s b),
   λ v w. let e : Short ≡ Memory = whole v w in cc,
 )
 value_refused text begin (Bad k) s h b only whole =
@@ -192,8 +173,8 @@ value_refused text begin (Bad k) s h b only whole =
         | inr u ↦ unclosed_stops (Anywhere IsUnclosedValue) u.0 text begin k s (λ x i. (u.0, i)) b.1 u.1
       ],
     )
-value_refused text begin (Trailing k) s h b only whole = absurd h
 value_refused text begin Memory s h b only whole = tt
+value_refused text begin _ s h b only whole = absurd h
 
 -- ---- an octet behind the value
 
@@ -220,9 +201,5 @@ trailing_stops text begin to k v s r t lt (inr u) =
 
 pub trailing_refused : (text : List ℕ) (begin to : ℕ) (v : Value) (fault : FormFault) → length text ≤ 1048576 → Skips text 0 begin → ReadsValue 64 text begin v to
     → IsTrailingBehind text to fault → RefusesSpelling text fault
-trailing_refused text begin to v TooLong short s r h = absurd h
-trailing_refused text begin to v TooDeep short s r h = absurd h
-trailing_refused text begin to v Short short s r h = absurd h
-trailing_refused text begin to v (Bad k) short s r h = absurd h
 trailing_refused text begin to v (Trailing k) short s r h = (h.0, (v, front_read text begin to k v short s r h.1), trailing_stops text begin to k v s r h.1 h.0)
-trailing_refused text begin to v Memory short s r h = absurd h
+trailing_refused text begin to v _ short s r h = absurd h

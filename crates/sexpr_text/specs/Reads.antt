@@ -2,12 +2,12 @@
 use Rattle.std.specs.Prelude.{◌≡◌, ◌≢◌, ℕ, ◌+◌, ◌<◌, ◌≤◌, min, Bool, true, false, ◌||◌, List, [], ◌∷◌, ◌++◌, length, drop, Option, Some, None, ◌⊎◌}
 use Rattle.std.specs.List.{AllByRecursion}
 use Rattle.hex.specs.declared.error.FromHexError.{FromHexError}
-use Rattle.hex.specs.declared.error.FromHexError.TheVariants.{InvalidHexCharacter, OddLength, InvalidStringLength, OutOfMemory}
+use Rattle.hex.specs.declared.error.FromHexError.TheVariants.{OutOfMemory}
 use Rattle.hex.specs.Hex.{hex_digit_value, is_hex_digit}
 use Rattle.sexpr_core.specs.Characters.{char}
 use Rattle.sexpr_core.specs.Reading.{StandsAt}
 use Rattle.sexpr_core.specs.declared.fault.FormFault.{FormFault}
-use Rattle.sexpr_core.specs.declared.fault.FormFault.TheVariants.{TooLong, TooDeep, Short, Bad, Trailing, Memory}
+use Rattle.sexpr_core.specs.declared.fault.FormFault.TheVariants.{TooLong, Short, Bad, Trailing, Memory}
 use Rattle.sexpr_core.specs.Limits.{octet_limit}
 use Rattle.sexpr_core.specs.Prefix.{StopsAt}
 use Rattle.sexpr_core.specs.Value.{Value, Values, decimal, depth, depths}
@@ -36,19 +36,14 @@ is_hexadecimal_octet c = is_whitespace c || is_hex_digit c
 
 -- why an octet of a hexadecimal body, at an offset, is refused
 abbrev pub IsNoHexadecimalOctet : ℕ → ℕ → FormFault → Type 0
-IsNoHexadecimalOctet c at TooLong = ⊥
-IsNoHexadecimalOctet c at TooDeep = ⊥
-IsNoHexadecimalOctet c at Short = ⊥
 IsNoHexadecimalOctet c at (Bad k) = (k ≡ at) × (is_hexadecimal_octet c ≡ false)
-IsNoHexadecimalOctet c at (Trailing k) = ⊥
 IsNoHexadecimalOctet c at Memory = Unit {0}
+IsNoHexadecimalOctet c at _ = ⊥
 
 -- why a hexadecimal body with its closing mark at an offset is refused, by the fault of its digits
 abbrev pub IsDigitsFault : FromHexError → ℕ → FormFault → Type 0
-IsDigitsFault (InvalidHexCharacter c index) at fault = fault ≡ Bad at
-IsDigitsFault OddLength at fault = fault ≡ Bad at
-IsDigitsFault InvalidStringLength at fault = fault ≡ Bad at
 IsDigitsFault OutOfMemory at fault = fault ≡ Memory
+IsDigitsFault _ at fault = fault ≡ Bad at
 
 -- octets of a hexadecimal body, and the digits among them
 pub record Keeps (text : List ℕ) (at : ℕ) (kept : List ℕ) (to : ℕ) : Type 0 where
@@ -91,12 +86,9 @@ pub record ReadsEscape (front text : List ℕ) (at : ℕ) (octet : Option ℕ) (
 
 -- why an octet after a backslash, at an offset, is refused
 abbrev pub IsNoLetter : ℕ → ℕ → FormFault → Type 0
-IsNoLetter c at TooLong = ⊥
-IsNoLetter c at TooDeep = ⊥
-IsNoLetter c at Short = ⊥
 IsNoLetter c at (Bad k) = (k ≡ at) × (escape_value c ≡ None)
-IsNoLetter c at (Trailing k) = ⊥
 IsNoLetter c at Memory = Unit {0}
+IsNoLetter c at _ = ⊥
 
 -- a CR that forms a pair with an LF, or an LF that forms a pair with a CR
 abbrev pub IsLineEnd : List ℕ → ℕ → ℕ → Type 0
@@ -132,12 +124,9 @@ pub record ReadsOctets (text : List ℕ) (at number : ℕ) (octets : List ℕ) (
 
 -- fewer octets than this number follow from an offset on
 abbrev pub IsTooFew : List ℕ → ℕ → ℕ → FormFault → Type 0
-IsTooFew text at number TooLong = ⊥
-IsTooFew text at number TooDeep = ⊥
 IsTooFew text at number Short = length text < at + number
-IsTooFew text at number (Bad k) = ⊥
-IsTooFew text at number (Trailing k) = ⊥
 IsTooFew text at number Memory = Unit {0}
+IsTooFew text at number _ = ⊥
 
 -- ---- strings and values, and the octets after them
 
@@ -187,8 +176,6 @@ pub record ReadsMembers (room : ℕ) (text : List ℕ) (at : ℕ) (vs : Values) 
 -- such a part there.
 abbrev pub IsValueFault : (T : List ℕ → Type 0) → List ℕ → ℕ → FormFault → Type 0
 IsValueFault T text at TooLong = ⊥
-IsValueFault T text at TooDeep = Unit {0}
-IsValueFault T text at Short = Unit {0}
 IsValueFault T text at (Bad k) = StopsAt T text at k
 IsValueFault T text at (Trailing k) = ⊥
-IsValueFault T text at Memory = Unit {0}
+IsValueFault T text at _ = Unit {0}

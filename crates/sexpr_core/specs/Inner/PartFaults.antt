@@ -1,7 +1,7 @@
 -- What a fault means while a part of a text is read.
 use Rattle.std.specs.Prelude.{◌≡◌, ℕ, suc, ◌+◌, ◌<◌, List, ◌++◌, length, take}
 use Rattle.sexpr_core.specs.declared.fault.FormFault.{FormFault}
-use Rattle.sexpr_core.specs.declared.fault.FormFault.TheVariants.{TooLong, TooDeep, Short, Bad, Trailing, Memory}
+use Rattle.sexpr_core.specs.declared.fault.FormFault.TheVariants.{TooDeep, Short, Bad, Memory}
 use Rattle.sexpr_core.specs.Prefix.{Front}
 
 -- no text of T agrees with the octets up to the end of the shorter of both
@@ -26,9 +26,8 @@ pub record IsDeep (T S : List ℕ → Type 0) (xs : List ℕ) : Type 0 where
 -- What a fault means for the octets xs at offset `at`, if a text of some set is read there. T is that set, and S the part of
 -- it within the limit on depth.
 abbrev pub FaultAt : (T S : List ℕ → Type 0) → ℕ → List ℕ → FormFault → Type 0
-FaultAt T S at xs TooLong = ⊥
 FaultAt T S at xs TooDeep = IsDeep T S xs
 FaultAt T S at xs Short = Front S xs
 FaultAt T S at xs (Bad k) = IsBad T S at xs k
-FaultAt T S at xs (Trailing k) = ⊥
 FaultAt T S at xs Memory = Unit {0}
+FaultAt T S at xs _ = ⊥

@@ -2,7 +2,7 @@
 use Rattle.std.specs.Prelude.{◌≡◌, ℕ, suc, ◌+◌, ◌≤◌, Bool, ◌⊎◌, List, [], ◌∷◌, ◌++◌, length, drop}
 use Rattle.sexpr_core.specs.Characters.{char}
 use Rattle.sexpr_core.specs.declared.fault.FormFault.{FormFault}
-use Rattle.sexpr_core.specs.declared.fault.FormFault.TheVariants.{TooLong, TooDeep, Short, Bad, Trailing, Memory}
+use Rattle.sexpr_core.specs.declared.fault.FormFault.TheVariants.{TooDeep, Short, Bad, Memory}
 use Rattle.sexpr_core.specs.Prefix.{Begins, StopsAt}
 use Rattle.sexpr_core.specs.Value.{Value, Values, depth, depths}
 use Rattle.sexpr_text.specs.Strings.{Simple, IsPiece, Piece, piece_text}
@@ -24,21 +24,17 @@ From U at text = U (drop at text)
 
 -- Where a part is refused that may continue as those in G. U contains the parts that are not closed.
 abbrev pub IsPartEnd : (G U : List ℕ → Type 0) → List ℕ → ℕ → FormFault → Type 0
-IsPartEnd G U text at TooLong = ⊥
-IsPartEnd G U text at TooDeep = ⊥
 IsPartEnd G U text at Short = Begun G text at (length text)
 IsPartEnd G U text at (Bad k) = Begun G text at k × StopsAt (From U at) text at k
-IsPartEnd G U text at (Trailing k) = ⊥
 IsPartEnd G U text at Memory = Unit {0}
+IsPartEnd G U text at _ = ⊥
 
 -- the same, with no claim about parts that are not closed
 abbrev pub IsFrontEnd : (G : List ℕ → Type 0) → List ℕ → ℕ → FormFault → Type 0
-IsFrontEnd G text at TooLong = ⊥
-IsFrontEnd G text at TooDeep = ⊥
 IsFrontEnd G text at Short = Begun G text at (length text)
 IsFrontEnd G text at (Bad k) = Begun G text at k
-IsFrontEnd G text at (Trailing k) = ⊥
 IsFrontEnd G text at Memory = Unit {0}
+IsFrontEnd G text at _ = ⊥
 
 -- ---- the parts
 
@@ -127,9 +123,8 @@ pub record IsDeepAt (room : ℕ) (G W U : ℕ → List ℕ → Type 0) (text : L
 -- Where a part is refused, if at most `room` lists may be open at once in it. G contains its beginnings, W the texts that
 -- have the whole part there, U the parts that are not closed.
 abbrev pub IsValueEnd : ℕ → (G W U : ℕ → List ℕ → Type 0) → List ℕ → ℕ → FormFault → Type 0
-IsValueEnd room G W U text at TooLong = ⊥
 IsValueEnd room G W U text at TooDeep = IsDeepAt room G W U text at
 IsValueEnd room G W U text at Short = Begun (G room) text at (length text)
 IsValueEnd room G W U text at (Bad k) = Begun (G room) text at k × StopsAt (From (Anywhere U) at) text at k
-IsValueEnd room G W U text at (Trailing k) = ⊥
 IsValueEnd room G W U text at Memory = Unit {0}
+IsValueEnd room G W U text at _ = ⊥

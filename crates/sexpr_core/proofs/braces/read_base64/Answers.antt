@@ -1,34 +1,29 @@
 use Rattle.std.proofs.Common.{sym, subst}
-use Rattle.std.proofs.lemmas.Result.{err_from_is_err_and}
 use Rattle.sexpr_core.specs.Braces.{IsBase64}
 use Rattle.sexpr_core.proofs.Base64Laws.{body_octets}
 use Rattle.sexpr_core.proofs.Gathered.{same_body, unpacked_end}
 use Rattle.sexpr_core.proofs.BraceLaws.{body_not_packed, packed_refused}
+use Rattle.sexpr_core.proofs.Errors.{err_kept}
 use Rattle.sexpr_core.proofs.braces.read_base64.Goals as goal
 
 pub returns-in_err-symbols-clause-only : goal.returns-in_err-symbols-clause-only
-returns-in_err-symbols-clause-only c =
-    let p = err_from_is_err_and c.from_residual.result c.from_residual.ensures.1 in
-    rw (p.1, p.2) (λ body rest octets b e. c.in_err-symbols.ensures.only body rest (body_octets body octets b) e)
+returns-in_err-symbols-clause-only c = λ body rest octets b e.
+    err_kept _ _ _ c.from_residual.ensures.1 (c.in_err-symbols.ensures.only body rest (body_octets body octets b) e)
 
 pub returns-in_err-octets-clause-only : goal.returns-in_err-octets-clause-only
-returns-in_err-octets-clause-only c =
-    let p = err_from_is_err_and c.from_residual-in_err-octets.result c.from_residual-in_err-octets.ensures.1 in
-    rw (p.1, p.2) (λ body rest octets b e.
+returns-in_err-octets-clause-only c = λ body rest octets b e.
     let same = same_body _ _ _ _ _ body rest c.in_ok-symbols.ensures.read c.requires.apart (body_octets body octets b) e in
-    c.in_err-octets.ensures.only octets (subst (λ s. IsBase64 s octets) (sym same.0) b))
+    err_kept _ _ _ c.from_residual-in_err-octets.ensures.1 (c.in_err-octets.ensures.only octets (subst (λ s. IsBase64 s octets) (sym same.0) b))
 
 pub returns-in_err-symbols-clause-refused : goal.returns-in_err-symbols-clause-refused
-returns-in_err-symbols-clause-refused c =
-    let p = err_from_is_err_and c.from_residual.result c.from_residual.ensures.1 in
-    rw (p.1, p.2) (body_not_packed _ _ _ _ c.in_err-symbols.ensures.refused)
+returns-in_err-symbols-clause-refused c = err_kept _ _ _ c.from_residual.ensures.1 (body_not_packed _ _ _ _ c.in_err-symbols.ensures.refused)
 
 pub returns-in_err-octets-clause-refused : goal.returns-in_err-octets-clause-refused
 returns-in_err-octets-clause-refused c =
-    let p = err_from_is_err_and c.from_residual-in_err-octets.result c.from_residual-in_err-octets.ensures.1 in
-    rw (p.1, p.2) (packed_refused _ _ _ _ _ _ c.in_ok-symbols.ensures.read c.requires.apart c.in_err-octets.ensures.refused c.in_err-octets.ensures.only)
+    err_kept _ _ _ c.from_residual-in_err-octets.ensures.1
+    (packed_refused _ _ _ _ _ _ c.in_ok-symbols.ensures.read c.requires.apart c.in_err-octets.ensures.refused c.in_err-octets.ensures.only)
 
 pub returns-in_err-octets-clause-begun : goal.returns-in_err-octets-clause-begun
 returns-in_err-octets-clause-begun c =
-    let p = err_from_is_err_and c.from_residual-in_err-octets.result c.from_residual-in_err-octets.ensures.1 in
-    rw (p.1, p.2) (unpacked_end _ _ _ _ _ _ c.in_ok-symbols.ensures.read c.requires.apart c.in_err-octets.ensures.refused)
+    err_kept _ _ _ c.from_residual-in_err-octets.ensures.1
+    (unpacked_end _ _ _ _ _ _ c.in_ok-symbols.ensures.read c.requires.apart c.in_err-octets.ensures.refused)

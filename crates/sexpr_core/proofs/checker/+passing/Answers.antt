@@ -1,6 +1,7 @@
 use Rattle.std.proofs.Common.{[], refl, arith}
 use Rattle.std.proofs.lemmas.Result.{err_from_is_err_and}
 use Rattle.sexpr_core.proofs.ValueSteps.{value_none, string_value, deep_list, in_list, list_passed, no_members, member_passed, members_passed, members_end, in_member}
+use Rattle.sexpr_core.proofs.Errors.{err_matched}
 use Rattle.sexpr_core.proofs.checker.+passing.Goals as goal
 
 pub pass_list-returns-then-room-eq0 : goal.pass_list-returns-then-room-eq0
@@ -8,8 +9,7 @@ pass_list-returns-then-room-eq0 t c = deep_list _ _ _ c.if-room-eq0.true c.requi
 
 pub pass_list-returns-in_err-end : goal.pass_list-returns-in_err-end
 pass_list-returns-in_err-end t c =
-    let p = err_from_is_err_and c.from_residual.result c.from_residual.ensures.1 in
-    rw (p.1, p.2) (in_list _ _ _ _ _ (omega arith) c.requires.begins c.in_err-end.ensures)
+    err_matched _ _ _ _ c.from_residual.ensures.1 (in_list _ _ _ _ _ (omega arith) c.requires.begins c.in_err-end.ensures)
 
 pub pass_list-returns : goal.pass_list-returns
 pass_list-returns t c = list_passed _ _ _ _ _ (omega arith) c.requires.begins c.in_ok-end.ensures
@@ -39,9 +39,7 @@ pub pass_value-returns-in_default : goal.pass_value-returns-in_default
 pass_value-returns-in_default t c = value_none _ c.args.text.now c.args.at c.in_default.ensures
 
 pub pass_value-returns-in_err-read : goal.pass_value-returns-in_err-read
-pass_value-returns-in_err-read t c =
-    let p = err_from_is_err_and c.from_residual.result c.from_residual.ensures.1 in
-    rw (p.1, p.2) (c.in_err-read.ensures c.args.room)
+pass_value-returns-in_err-read t c = err_matched _ _ _ _ c.from_residual.ensures.1 (c.in_err-read.ensures c.args.room)
 
 pub pass_value-returns : goal.pass_value-returns
 pass_value-returns t c = (_, string_value _ _ _ _ [] _ c.requires.begins c.in_ok-read.ensures refl)

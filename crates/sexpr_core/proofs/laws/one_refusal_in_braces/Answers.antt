@@ -1,4 +1,4 @@
-use Rattle.sexpr_core.proofs.BraceFaults.{one_brace_refusal, no_brace_refusal}
+use Rattle.sexpr_core.proofs.BraceRefusals.{one_brace_refusal, no_brace_refusal}
 use Rattle.sexpr_core.proofs.laws.one_refusal_in_braces.Goals as goal
 
 pub returns-clause-none : goal.returns-clause-none

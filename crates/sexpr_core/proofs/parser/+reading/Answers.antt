@@ -1,6 +1,6 @@
 use Rattle.std.proofs.Common.{◌-◌, arith}
-use Rattle.std.proofs.lemmas.Result.{err_from_is_err_and}
 use Rattle.sexpr_core.proofs.ValueSteps.{value_none, string_value, deep_list, in_list, list_read, list_short, no_members, more_members, members_end, in_member}
+use Rattle.sexpr_core.proofs.Errors.{err_matched}
 use Rattle.sexpr_core.proofs.parser.+reading.Goals as goal
 
 pub read_list-returns-then-room-eq0 : goal.read_list-returns-then-room-eq0
@@ -8,8 +8,7 @@ read_list-returns-then-room-eq0 t c = deep_list _ _ _ c.if-room-eq0.true c.requi
 
 pub read_list-returns-in_err-read : goal.read_list-returns-in_err-read
 read_list-returns-in_err-read t c =
-    let p = err_from_is_err_and c.from_residual-in_err-read.result c.from_residual-in_err-read.ensures.1 in
-    rw (p.1, p.2) (in_list _ _ _ _ _ (omega arith) c.requires.begins c.in_err-read.ensures)
+    err_matched _ _ _ _ c.from_residual-in_err-read.ensures.1 (in_list _ _ _ _ _ (omega arith) c.requires.begins c.in_err-read.ensures)
 
 pub read_list-overflow_cast-size : goal.read_list-overflow_cast-size
 read_list-overflow_cast-size t c =
@@ -36,8 +35,7 @@ read_members-loop-octet-init t c = no_members _ _ _ _ c.requires.begins
 
 pub read_members-returns-in_err-i : goal.read_members-returns-in_err-i
 read_members-returns-in_err-i t c =
-    let p = err_from_is_err_and c.from_residual.result c.from_residual.ensures.1 in
-    rw (p.1, p.2)
+    err_matched _ _ _ _ c.from_residual.ensures.1
     (in_member _ _ _ _ _ _ _ _ _ c.requires.begins c.loop-octet.invariant c.in-Some.ensures c.if-octet-eq41.false c.in_err-i.ensures)
 
 pub read_members-loop-octet-preserved : goal.read_members-loop-octet-preserved
@@ -52,9 +50,7 @@ pub read_value-returns-in_default : goal.read_value-returns-in_default
 read_value-returns-in_default t c = value_none _ c.args.text.now c.args.at c.in_default.ensures
 
 pub read_value-returns-in_err-read : goal.read_value-returns-in_err-read
-read_value-returns-in_err-read t c =
-    let p = err_from_is_err_and c.from_residual.result c.from_residual.ensures.1 in
-    rw (p.1, p.2) (c.in_err-read.ensures c.args.room)
+read_value-returns-in_err-read t c = err_matched _ _ _ _ c.from_residual.ensures.1 (c.in_err-read.ensures c.args.room)
 
 pub read_value-returns : goal.read_value-returns
 read_value-returns t c = string_value _ _ _ _ _ _ c.requires.begins c.in_ok-read.ensures c.in_ok-push.ensures.items

@@ -1,10 +1,11 @@
 use Rattle.std.proofs.Common.{◌-◌, refl, arith}
-use Rattle.std.proofs.lemmas.Result.{err_from_is_err_and, IfOk-weaker, IfErr-weaker}
+use Rattle.std.proofs.lemmas.Result.{IfOk-weaker, IfErr-weaker}
 use Rattle.sexpr_text.proofs.RefusedValues.{part_fault, string_missed, members_missed, member_missed}
 use Rattle.sexpr_text.proofs.Trees.{no_value, string_at, inside_list, member_at, no_members_end}
 use Rattle.sexpr_text.proofs.Converted.{string_converted, roomier, none_converted, more_converted, members_converted, list_converted}
 use Rattle.sexpr_text.proofs.StringEnds.{nothing_left}
 use Rattle.sexpr_text.proofs.ValueEnds.{none_value, string_ends, flat_ends, list_too_deep, list_ends, members_short, member_ends}
+use Rattle.sexpr_core.proofs.Errors.{err_kept}
 use Rattle.sexpr_text.proofs.converter.+converting.Goals as goal
 
 pub convert_list-returns-then-room-eq0-clause-only : goal.convert_list-returns-then-room-eq0-clause-only
@@ -31,16 +32,14 @@ convert_members-returns-then-octet-eq41-clause-read t c =
     members_converted _ _ _ _ _ c.args.form _ _ _ _ c.loop-octet.invariant c.in-Some.ensures c.if-octet-eq41.true c.in_ok-push.ensures.items
 
 pub convert_members-returns-in_err-end-clause-only : goal.convert_members-returns-in_err-end-clause-only
-convert_members-returns-in_err-end-clause-only t c =
-    let p = err_from_is_err_and c.from_residual-in_err-end.result c.from_residual-in_err-end.ensures.1 in
-    rw (p.1, p.2) (λ vs rest h.
+convert_members-returns-in_err-end-clause-only t c = λ vs rest h.
     let filled = member_at _ _ _ _ _ _ vs rest c.loop-octet.invariant.read c.in-Some.ensures c.if-octet-eq41.false h in
-    c.in_err-end.ensures.only filled.first _ filled.stands)
+    err_kept _ _ _ c.from_residual-in_err-end.ensures.1 (c.in_err-end.ensures.only filled.first _ filled.stands)
 
 pub convert_members-returns-in_err-end-clause-refused : goal.convert_members-returns-in_err-end-clause-refused
 convert_members-returns-in_err-end-clause-refused t c =
-    let p = err_from_is_err_and c.from_residual-in_err-end.result c.from_residual-in_err-end.ensures.1 in
-    rw (p.1, p.2) (member_missed _ _ _ _ _ _ _ c.loop-octet.invariant.read c.in-Some.ensures c.if-octet-eq41.false c.in_err-end.ensures.refused)
+    err_kept _ _ _ c.from_residual-in_err-end.ensures.1
+    (member_missed _ _ _ _ _ _ _ c.loop-octet.invariant.read c.in-Some.ensures c.if-octet-eq41.false c.in_err-end.ensures.refused)
 
 pub convert_members-loop-octet-preserved : goal.convert_members-loop-octet-preserved
 convert_members-loop-octet-preserved t c =
@@ -91,8 +90,9 @@ convert_list-returns-clause-begun t c =
 
 pub convert_members-returns-in_err-end-clause-begun : goal.convert_members-returns-in_err-end-clause-begun
 convert_members-returns-in_err-end-clause-begun t c =
-    let p = err_from_is_err_and c.from_residual-in_err-end.result c.from_residual-in_err-end.ensures.1 in
-    rw (p.1, p.2) (member_ends _ _ _ _ _ _ _ c.loop-octet.invariant.read c.in-Some.ensures c.if-octet-eq41.false c.in_err-end.ensures.refused c.in_err-end.ensures.begun)
+    err_kept _ _ _ c.from_residual-in_err-end.ensures.1
+    (member_ends _ _ _ _ _ _ _ c.loop-octet.invariant.read c.in-Some.ensures c.if-octet-eq41.false c.in_err-end.ensures.refused
+    c.in_err-end.ensures.begun)
 
 pub convert_members-returns-clause-begun : goal.convert_members-returns-clause-begun
 convert_members-returns-clause-begun t c = members_short _ _ _ _ _ c.loop-octet.invariant.read c.in_default.ensures

@@ -1,30 +1,27 @@
 use Rattle.std.proofs.Common.{sym, subst, arith}
-use Rattle.std.proofs.lemmas.Result.{err_from_is_err_and}
 use Rattle.sexpr_core.specs.Spaces.{AreSpaces}
 use Rattle.sexpr_text.proofs.WholeEnds.{trailing_refused, value_refused}
 use Rattle.sexpr_text.proofs.Trees.{same_value}
 use Rattle.sexpr_text.proofs.WholeTrees.{whole_at}
+use Rattle.sexpr_core.proofs.Errors.{err_kept}
 use Rattle.sexpr_text.proofs.converter.convert_advanced.Goals as goal
 
 pub returns-in_err-end-clause-only : goal.returns-in_err-end-clause-only
-returns-in_err-end-clause-only c =
-    let p = err_from_is_err_and c.from_residual.result c.from_residual.ensures.1 in
-    rw (p.1, p.2) (λ v w. c.in_err-end.ensures.only v w.spelling.after (whole_at _ _ v c.skip_spaces-begin.ensures w))
+returns-in_err-end-clause-only c = λ v w.
+    err_kept _ _ _ c.from_residual.ensures.1 (c.in_err-end.ensures.only v w.spelling.after (whole_at _ _ v c.skip_spaces-begin.ensures w))
 
 pub returns-in_err-end-clause-refused : goal.returns-in_err-end-clause-refused
 returns-in_err-end-clause-refused c =
-    let p = err_from_is_err_and c.from_residual.result c.from_residual.ensures.1 in
-    rw (p.1, p.2) (value_refused _ _ _ c.skip_spaces-begin.ensures c.in_err-end.ensures.refused c.in_err-end.ensures.begun c.in_err-end.ensures.only
+    err_kept _ _ _ c.from_residual.ensures.1
+    (value_refused _ _ _ c.skip_spaces-begin.ensures c.in_err-end.ensures.refused c.in_err-end.ensures.begun c.in_err-end.ensures.only
     (λ v w. c.in_err-end.ensures.only v w.spelling.after (whole_at _ _ v c.skip_spaces-begin.ensures w)))
 
 pub returns-in_err-ended-clause-only : goal.returns-in_err-ended-clause-only
-returns-in_err-ended-clause-only c =
-    let p = err_from_is_err_and c.from_residual-in_err-ended.result c.from_residual-in_err-ended.ensures.1 in
-    rw (p.1, p.2) (λ v w.
+returns-in_err-ended-clause-only c = λ v w.
     let same = same_value 64 64 _ _ _ _ v w.spelling.after c.in_ok-end.ensures.read.1 (whole_at _ _ v c.skip_spaces-begin.ensures w) in
-    c.in_err-ended.ensures.only (subst AreSpaces (sym same.1) w.spelling.spaces_after))
+    err_kept _ _ _ c.from_residual-in_err-ended.ensures.1 (c.in_err-ended.ensures.only (subst AreSpaces (sym same.1) w.spelling.spaces_after))
 
 pub returns-in_err-ended-clause-refused : goal.returns-in_err-ended-clause-refused
 returns-in_err-ended-clause-refused c =
-    let p = err_from_is_err_and c.from_residual-in_err-ended.result c.from_residual-in_err-ended.ensures.1 in
-    rw (p.1, p.2) (trailing_refused _ _ _ _ _ (omega arith) c.skip_spaces-begin.ensures c.in_ok-end.ensures.read.1 c.in_err-ended.ensures.refused)
+    err_kept _ _ _ c.from_residual-in_err-ended.ensures.1
+    (trailing_refused _ _ _ _ _ (omega arith) c.skip_spaces-begin.ensures c.in_ok-end.ensures.read.1 c.in_err-ended.ensures.refused)

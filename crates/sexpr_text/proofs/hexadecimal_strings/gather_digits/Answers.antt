@@ -1,7 +1,7 @@
-use Rattle.std.proofs.lemmas.Result.{err_from_is_err_and}
 use Rattle.sexpr_text.proofs.Marked.{hexadecimal_octets}
 use Rattle.sexpr_text.proofs.HexadecimalLaws.{nothing_kept, more_kept, kept_refused, kept_end}
 use Rattle.sexpr_text.proofs.RefusedDigits.{octet_refused}
+use Rattle.sexpr_core.proofs.Errors.{err_kept}
 use Rattle.sexpr_text.proofs.hexadecimal_strings.gather_digits.Goals as goal
 
 pub loop-octet-init : goal.loop-octet-init
@@ -11,10 +11,10 @@ pub loop-octet-preserved : goal.loop-octet-preserved
 loop-octet-preserved c = more_kept _ _ _ _ _ _ c.loop-octet.invariant c.in-Some.ensures c.in_ok-keep_digit.ensures.kept
 
 pub returns-in_err-keep_digit-clause-only : goal.returns-in_err-keep_digit-clause-only
-returns-in_err-keep_digit-clause-only c =
-    let p = err_from_is_err_and c.from_residual.result c.from_residual.ensures.1 in
-    rw (p.1, p.2) (λ body octets rest d e.
-    kept_refused _ _ _ _ _ body rest _ c.loop-octet.invariant c.in-Some.ensures c.if-octet-eq35.false (hexadecimal_octets body octets d) e c.in_err-keep_digit.ensures.refused)
+returns-in_err-keep_digit-clause-only c = λ body octets rest d e.
+    err_kept _ _ _ c.from_residual.ensures.1
+    (kept_refused _ _ _ _ _ body rest _ c.loop-octet.invariant c.in-Some.ensures c.if-octet-eq35.false (hexadecimal_octets body octets d) e
+    c.in_err-keep_digit.ensures.refused)
 
 pub returns-clause-only : goal.returns-clause-only
 returns-clause-only c = λ body octets rest d e.
@@ -22,5 +22,5 @@ returns-clause-only c = λ body octets rest d e.
 
 pub returns-in_err-keep_digit-clause-refused : goal.returns-in_err-keep_digit-clause-refused
 returns-in_err-keep_digit-clause-refused c =
-    let p = err_from_is_err_and c.from_residual.result c.from_residual.ensures.1 in
-    rw (p.1, p.2) (octet_refused _ _ _ _ _ _ c.loop-octet.invariant c.in-Some.ensures c.if-octet-eq35.false c.in_err-keep_digit.ensures.refused)
+    err_kept _ _ _ c.from_residual.ensures.1
+    (octet_refused _ _ _ _ _ _ c.loop-octet.invariant c.in-Some.ensures c.if-octet-eq35.false c.in_err-keep_digit.ensures.refused)

@@ -1,18 +1,16 @@
 use Rattle.std.proofs.Common.{subst}
-use Rattle.std.proofs.lemmas.Result.{err_from_is_err_and}
 use Rattle.sexpr_core.specs.Reading.{StandsAt}
 use Rattle.sexpr_text.proofs.Trees.{nothing_at, octet_is}
 use Rattle.sexpr_text.proofs.WholeTrees.{hinted_at, hint_at, closing_at, body_at, hinted_read}
 use Rattle.sexpr_text.proofs.RefusedStrings.{hint_missed, closing_missed, body_missed}
 use Rattle.sexpr_text.proofs.ValueEnds.{hint_ends, closing_short, closing_ends, body_ends}
+use Rattle.sexpr_core.proofs.Errors.{err_kept}
 use Rattle.sexpr_text.proofs.hinted_strings.read_hinted_string.Goals as goal
 
 pub returns-in_err-hint-clause-only : goal.returns-in_err-hint-clause-only
-returns-in_err-hint-clause-only c =
-    let p = err_from_is_err_and c.from_residual.result c.from_residual.ensures.1 in
-    rw (p.1, p.2) (λ room v rest h.
+returns-in_err-hint-clause-only c = λ room v rest h.
     let at = hinted_at room _ _ v rest c.requires.begins h in
-    c.in_err-hint.ensures.only _ _ (hint_at _ _ _ rest at c.requires.begins c.skip_spaces-begin.ensures))
+    err_kept _ _ _ c.from_residual.ensures.1 (c.in_err-hint.ensures.only _ _ (hint_at _ _ _ rest at c.requires.begins c.skip_spaces-begin.ensures))
 
 pub returns-in-None-clause-only : goal.returns-in-None-clause-only
 returns-in-None-clause-only c = λ room v rest h.
@@ -26,10 +24,9 @@ returns-in-Some-clause-only c = λ room v rest h.
     absurd (c.in-Some.field-0-test.1 (octet_is _ _ _ 93 _ c.in-Some.ensures e))
 
 pub returns-in_err-body-clause-only : goal.returns-in_err-body-clause-only
-returns-in_err-body-clause-only c =
-    let p = err_from_is_err_and c.from_residual-in_err-body.result c.from_residual-in_err-body.ensures.1 in
-    rw (p.1, p.2) (λ room v rest h.
-    let at = hinted_at room _ _ v rest c.requires.begins h in
+returns-in_err-body-clause-only c = λ room v rest h.
+    err_kept _ _ _ c.from_residual-in_err-body.ensures.1
+    (let at = hinted_at room _ _ v rest c.requires.begins h in
     let e = closing_at _ _ _ _ _ rest _ at c.requires.begins c.skip_spaces-begin.ensures c.in_ok-hint.ensures.read c.skip_spaces-close.ensures in
     c.in_err-body.ensures.only _ rest (body_at _ _ _ _ rest at e (subst (StandsAt _ _) c.in-Some-eq93.field-0-test c.in-Some-eq93.ensures) c.skip_spaces-begin-2.ensures))
 
@@ -40,8 +37,7 @@ returns-clause-read c =
 
 pub returns-in_err-hint-clause-refused : goal.returns-in_err-hint-clause-refused
 returns-in_err-hint-clause-refused c =
-    let p = err_from_is_err_and c.from_residual.result c.from_residual.ensures.1 in
-    rw (p.1, p.2) (hint_missed _ _ _ _ c.requires.begins c.skip_spaces-begin.ensures c.in_err-hint.ensures.refused)
+    err_kept _ _ _ c.from_residual.ensures.1 (hint_missed _ _ _ _ c.requires.begins c.skip_spaces-begin.ensures c.in_err-hint.ensures.refused)
 
 pub returns-in-Some-clause-refused : goal.returns-in-Some-clause-refused
 returns-in-Some-clause-refused c =
@@ -49,14 +45,14 @@ returns-in-Some-clause-refused c =
 
 pub returns-in_err-body-clause-refused : goal.returns-in_err-body-clause-refused
 returns-in_err-body-clause-refused c =
-    let p = err_from_is_err_and c.from_residual-in_err-body.result c.from_residual-in_err-body.ensures.1 in
-    rw (p.1, p.2) (body_missed _ _ _ _ _ _ _ _ c.requires.begins c.skip_spaces-begin.ensures c.in_ok-hint.ensures.read c.skip_spaces-close.ensures
+    err_kept _ _ _ c.from_residual-in_err-body.ensures.1
+    (body_missed _ _ _ _ _ _ _ _ c.requires.begins c.skip_spaces-begin.ensures c.in_ok-hint.ensures.read c.skip_spaces-close.ensures
     (subst (StandsAt _ _) c.in-Some-eq93.field-0-test c.in-Some-eq93.ensures) c.skip_spaces-begin-2.ensures c.in_err-body.ensures.refused)
 
 pub returns-in_err-hint-clause-begun : goal.returns-in_err-hint-clause-begun
 returns-in_err-hint-clause-begun c =
-    let p = err_from_is_err_and c.from_residual.result c.from_residual.ensures.1 in
-    rw (p.1, p.2) (λ room. hint_ends room _ _ _ _ c.requires.begins c.skip_spaces-begin.ensures c.in_err-hint.ensures.refused c.in_err-hint.ensures.begun)
+    err_kept _ _ _ c.from_residual.ensures.1
+    (λ room. hint_ends room _ _ _ _ c.requires.begins c.skip_spaces-begin.ensures c.in_err-hint.ensures.refused c.in_err-hint.ensures.begun)
 
 pub returns-in-None-clause-begun : goal.returns-in-None-clause-begun
 returns-in-None-clause-begun c = λ room.
@@ -68,6 +64,6 @@ returns-in-Some-clause-begun c = λ room.
 
 pub returns-in_err-body-clause-begun : goal.returns-in_err-body-clause-begun
 returns-in_err-body-clause-begun c =
-    let p = err_from_is_err_and c.from_residual-in_err-body.result c.from_residual-in_err-body.ensures.1 in
-    rw (p.1, p.2) (λ room. body_ends room _ _ _ _ _ _ _ _ c.requires.begins c.skip_spaces-begin.ensures c.in_ok-hint.ensures.read c.skip_spaces-close.ensures
+    err_kept _ _ _ c.from_residual-in_err-body.ensures.1
+    (λ room. body_ends room _ _ _ _ _ _ _ _ c.requires.begins c.skip_spaces-begin.ensures c.in_ok-hint.ensures.read c.skip_spaces-close.ensures
     (subst (StandsAt _ _) c.in-Some-eq93.field-0-test c.in-Some-eq93.ensures) c.skip_spaces-begin-2.ensures c.in_err-body.ensures.begun)

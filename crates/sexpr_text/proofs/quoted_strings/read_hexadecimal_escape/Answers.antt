@@ -1,41 +1,33 @@
-use Rattle.std.proofs.lemmas.Result.{err_from_is_err_and}
 use Rattle.sexpr_text.proofs.Escapes.{hexadecimal_piece}
 use Rattle.sexpr_text.proofs.QuotedLaws.{hexadecimal_escape, second_octet}
 use Rattle.sexpr_text.proofs.RefusedPieces.{high_refused, low_refused}
 use Rattle.sexpr_text.proofs.StringEnds.{high_end, low_end}
+use Rattle.sexpr_core.proofs.Errors.{err_kept}
 use Rattle.sexpr_text.proofs.quoted_strings.read_hexadecimal_escape.Goals as goal
 
 pub returns-in_err-high-clause-only : goal.returns-in_err-high-clause-only
-returns-in_err-high-clause-only c =
-    let p = err_from_is_err_and c.from_residual.result c.from_residual.ensures.1 in
-    rw (p.1, p.2) (λ piece rest h e. let k = hexadecimal_piece piece rest _ h e in c.in_err-high.ensures.only k.0 k.2 _ k.5 k.4)
+returns-in_err-high-clause-only c = λ piece rest h e.
+    err_kept _ _ _ c.from_residual.ensures.1 (let k = hexadecimal_piece piece rest _ h e in c.in_err-high.ensures.only k.0 k.2 _ k.5 k.4)
 
 pub returns-in_err-low-clause-only : goal.returns-in_err-low-clause-only
-returns-in_err-low-clause-only c =
-    let p = err_from_is_err_and c.from_residual-in_err-low.result c.from_residual-in_err-low.ensures.1 in
-    rw (p.1, p.2) (λ piece rest h e.
+returns-in_err-low-clause-only c = λ piece rest h e.
     let k = hexadecimal_piece piece rest _ h e in
-    c.in_err-low.ensures.only k.1 k.3 _ k.6 (second_octet _ _ _ _ _ c.in_ok-high.ensures.read.stands k.4))
+    err_kept _ _ _ c.from_residual-in_err-low.ensures.1
+    (c.in_err-low.ensures.only k.1 k.3 _ k.6 (second_octet _ _ _ _ _ c.in_ok-high.ensures.read.stands k.4))
 
 pub returns-clause-read : goal.returns-clause-read
 returns-clause-read c = hexadecimal_escape _ _ _ _ c.in_ok-high.ensures.read c.in_ok-low.ensures.read
 
 pub returns-in_err-low-clause-refused : goal.returns-in_err-low-clause-refused
 returns-in_err-low-clause-refused c =
-    let p = err_from_is_err_and c.from_residual-in_err-low.result c.from_residual-in_err-low.ensures.1 in
-    rw (p.1, p.2) (low_refused _ _ _ _ c.in_ok-high.ensures.read c.in_err-low.ensures.refused)
+    err_kept _ _ _ c.from_residual-in_err-low.ensures.1 (low_refused _ _ _ _ c.in_ok-high.ensures.read c.in_err-low.ensures.refused)
 
 pub returns-in_err-high-clause-refused : goal.returns-in_err-high-clause-refused
-returns-in_err-high-clause-refused c =
-    let p = err_from_is_err_and c.from_residual.result c.from_residual.ensures.1 in
-    rw (p.1, p.2) (high_refused _ _ _ c.in_err-high.ensures.refused)
+returns-in_err-high-clause-refused c = err_kept _ _ _ c.from_residual.ensures.1 (high_refused _ _ _ c.in_err-high.ensures.refused)
 
 pub returns-in_err-high-clause-begun : goal.returns-in_err-high-clause-begun
-returns-in_err-high-clause-begun c =
-    let p = err_from_is_err_and c.from_residual.result c.from_residual.ensures.1 in
-    rw (p.1, p.2) (high_end _ _ _ c.in_err-high.ensures.begun)
+returns-in_err-high-clause-begun c = err_kept _ _ _ c.from_residual.ensures.1 (high_end _ _ _ c.in_err-high.ensures.begun)
 
 pub returns-in_err-low-clause-begun : goal.returns-in_err-low-clause-begun
 returns-in_err-low-clause-begun c =
-    let p = err_from_is_err_and c.from_residual-in_err-low.result c.from_residual-in_err-low.ensures.1 in
-    rw (p.1, p.2) (low_end _ _ _ _ c.in_ok-high.ensures.read c.in_err-low.ensures.begun)
+    err_kept _ _ _ c.from_residual-in_err-low.ensures.1 (low_end _ _ _ _ c.in_ok-high.ensures.read c.in_err-low.ensures.begun)

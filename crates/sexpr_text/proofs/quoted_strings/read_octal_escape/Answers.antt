@@ -1,41 +1,38 @@
-use Rattle.std.proofs.lemmas.Result.{err_from_is_err_and}
 use Rattle.sexpr_text.proofs.Escapes.{octal_piece}
 use Rattle.sexpr_text.proofs.QuotedLaws.{octal_escape, third_octet, octal_behind}
 use Rattle.sexpr_text.proofs.RefusedPieces.{second_refused, third_refused}
 use Rattle.sexpr_text.proofs.StringEnds.{second_end, third_end}
+use Rattle.sexpr_core.proofs.Errors.{err_kept}
 use Rattle.sexpr_text.proofs.quoted_strings.read_octal_escape.Goals as goal
 
 pub returns-in_err-second-clause-only : goal.returns-in_err-second-clause-only
-returns-in_err-second-clause-only c =
-    let p = err_from_is_err_and c.from_residual.result c.from_residual.ensures.1 in
-    rw (p.1, p.2) (λ piece rest h e. let k = octal_piece piece rest _ _ c.requires.low h (octal_behind _ _ _ _ c.requires.begins e) in c.in_err-second.ensures.only k.0 _ k.3 k.2)
+returns-in_err-second-clause-only c = λ piece rest h e.
+    err_kept _ _ _ c.from_residual.ensures.1
+    (let k = octal_piece piece rest _ _ c.requires.low h (octal_behind _ _ _ _ c.requires.begins e) in c.in_err-second.ensures.only k.0 _ k.3 k.2)
 
 pub returns-in_err-third-clause-only : goal.returns-in_err-third-clause-only
-returns-in_err-third-clause-only c =
-    let p = err_from_is_err_and c.from_residual-in_err-third.result c.from_residual-in_err-third.ensures.1 in
-    rw (p.1, p.2) (λ piece rest h e.
+returns-in_err-third-clause-only c = λ piece rest h e.
     let k = octal_piece piece rest _ _ c.requires.low h (octal_behind _ _ _ _ c.requires.begins e) in
-    c.in_err-third.ensures.only k.1 _ k.4 (third_octet _ _ _ _ _ c.in_ok-second.ensures.read.1 k.2))
+    err_kept _ _ _ c.from_residual-in_err-third.ensures.1
+    (c.in_err-third.ensures.only k.1 _ k.4 (third_octet _ _ _ _ _ c.in_ok-second.ensures.read.1 k.2))
 
 pub returns-clause-read : goal.returns-clause-read
 returns-clause-read c = octal_escape _ _ _ _ _ c.requires.low c.requires.begins c.in_ok-second.ensures.read c.in_ok-third.ensures.read
 
 pub returns-in_err-second-clause-refused : goal.returns-in_err-second-clause-refused
 returns-in_err-second-clause-refused c =
-    let p = err_from_is_err_and c.from_residual.result c.from_residual.ensures.1 in
-    rw (p.1, p.2) (second_refused _ _ _ _ c.requires.low c.requires.begins c.in_err-second.ensures.refused)
+    err_kept _ _ _ c.from_residual.ensures.1 (second_refused _ _ _ _ c.requires.low c.requires.begins c.in_err-second.ensures.refused)
 
 pub returns-in_err-third-clause-refused : goal.returns-in_err-third-clause-refused
 returns-in_err-third-clause-refused c =
-    let p = err_from_is_err_and c.from_residual-in_err-third.result c.from_residual-in_err-third.ensures.1 in
-    rw (p.1, p.2) (third_refused _ _ _ _ _ c.requires.low c.requires.begins c.in_ok-second.ensures.read.1 c.in_err-third.ensures.refused)
+    err_kept _ _ _ c.from_residual-in_err-third.ensures.1
+    (third_refused _ _ _ _ _ c.requires.low c.requires.begins c.in_ok-second.ensures.read.1 c.in_err-third.ensures.refused)
 
 pub returns-in_err-second-clause-begun : goal.returns-in_err-second-clause-begun
 returns-in_err-second-clause-begun c =
-    let p = err_from_is_err_and c.from_residual.result c.from_residual.ensures.1 in
-    rw (p.1, p.2) (second_end _ _ _ _ c.requires.low c.requires.begins c.in_err-second.ensures.begun)
+    err_kept _ _ _ c.from_residual.ensures.1 (second_end _ _ _ _ c.requires.low c.requires.begins c.in_err-second.ensures.begun)
 
 pub returns-in_err-third-clause-begun : goal.returns-in_err-third-clause-begun
 returns-in_err-third-clause-begun c =
-    let p = err_from_is_err_and c.from_residual-in_err-third.result c.from_residual-in_err-third.ensures.1 in
-    rw (p.1, p.2) (third_end _ _ _ _ _ c.requires.low c.in_ok-second.ensures.read.0 c.requires.begins c.in_ok-second.ensures.read.1 c.in_err-third.ensures.begun)
+    err_kept _ _ _ c.from_residual-in_err-third.ensures.1
+    (third_end _ _ _ _ _ c.requires.low c.in_ok-second.ensures.read.0 c.requires.begins c.in_ok-second.ensures.read.1 c.in_err-third.ensures.begun)

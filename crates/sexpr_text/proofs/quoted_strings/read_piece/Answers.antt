@@ -1,7 +1,7 @@
-use Rattle.std.proofs.lemmas.Result.{err_from_is_err_and}
 use Rattle.sexpr_text.proofs.QuotedLaws.{raw_piece}
 use Rattle.sexpr_text.proofs.RefusedPieces.{escape_refused}
 use Rattle.sexpr_text.proofs.StringEnds.{escape_end}
+use Rattle.sexpr_core.proofs.Errors.{err_kept}
 use Rattle.sexpr_text.proofs.quoted_strings.read_piece.Goals as goal
 
 pub returns-then-octet-ne92-clause-read : goal.returns-then-octet-ne92-clause-read
@@ -9,10 +9,9 @@ returns-then-octet-ne92-clause-read c = raw_piece _ _ _ _ _ c.requires.begins c.
 
 pub returns-in_err-escape-clause-refused : goal.returns-in_err-escape-clause-refused
 returns-in_err-escape-clause-refused c =
-    let p = err_from_is_err_and c.from_residual-in_err-escape.result c.from_residual-in_err-escape.ensures.1 in
-    rw (p.1, p.2) (escape_refused _ _ _ _ c.requires.begins c.if-octet-ne92.false c.in_err-escape.ensures.refused)
+    err_kept _ _ _ c.from_residual-in_err-escape.ensures.1
+    (escape_refused _ _ _ _ c.requires.begins c.if-octet-ne92.false c.in_err-escape.ensures.refused)
 
 pub returns-in_err-escape-clause-begun : goal.returns-in_err-escape-clause-begun
 returns-in_err-escape-clause-begun c =
-    let p = err_from_is_err_and c.from_residual-in_err-escape.result c.from_residual-in_err-escape.ensures.1 in
-    rw (p.1, p.2) (escape_end _ _ _ _ c.requires.begins c.if-octet-ne92.false c.in_err-escape.ensures.begun)
+    err_kept _ _ _ c.from_residual-in_err-escape.ensures.1 (escape_end _ _ _ _ c.requires.begins c.if-octet-ne92.false c.in_err-escape.ensures.begun)

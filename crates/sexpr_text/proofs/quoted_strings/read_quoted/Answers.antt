@@ -1,10 +1,10 @@
 use Rattle.std.proofs.Common.{subst}
-use Rattle.std.proofs.lemmas.Result.{err_from_is_err_and}
 use Rattle.sexpr_core.specs.Reading.{StandsAt}
 use Rattle.sexpr_text.proofs.StringLaws.{more_quoted, quoted_read}
 use Rattle.sexpr_text.proofs.QuotedLaws.{quoted_left, left_ended, left_next}
 use Rattle.sexpr_text.proofs.RefusedPieces.{quoted_refused}
 use Rattle.sexpr_text.proofs.StringEnds.{quoted_end, quoted_short}
+use Rattle.sexpr_core.proofs.Errors.{err_kept}
 use Rattle.sexpr_text.proofs.quoted_strings.read_quoted.Goals as goal
 
 pub returns-then-octet-eq34-clause-read : goal.returns-then-octet-eq34-clause-read
@@ -12,10 +12,9 @@ returns-then-octet-eq34-clause-read c =
     quoted_read _ _ _ _ c.requires c.loop-octet.invariant (subst (StandsAt c.args.text.now c.loop-octet.i) c.if-octet-eq34.true c.in-Some.ensures)
 
 pub returns-in_err-i-clause-only : goal.returns-in_err-i-clause-only
-returns-in_err-i-clause-only c =
-    let p = err_from_is_err_and c.from_residual.result c.from_residual.ensures.1 in
-    rw (p.1, p.2) (λ s a rest q e.
-    let l = quoted_left _ _ _ _ s a rest c.requires c.loop-octet.invariant q e in
+returns-in_err-i-clause-only c = λ s a rest q e.
+    err_kept _ _ _ c.from_residual.ensures.1
+    (let l = quoted_left _ _ _ _ s a rest c.requires c.loop-octet.invariant q e in
     let k = left_next _ _ _ _ _ _ l c.in-Some.ensures c.if-octet-eq34.false in
     c.in_err-i.ensures.only k.0 k.1 k.2 k.3)
 
@@ -28,13 +27,12 @@ returns-clause-only c = λ s a rest q e.
 
 pub returns-in_err-i-clause-refused : goal.returns-in_err-i-clause-refused
 returns-in_err-i-clause-refused c =
-    let p = err_from_is_err_and c.from_residual.result c.from_residual.ensures.1 in
-    rw (p.1, p.2) (quoted_refused _ _ _ _ _ _ c.requires c.loop-octet.invariant c.in-Some.ensures c.if-octet-eq34.false c.in_err-i.ensures.refused)
+    err_kept _ _ _ c.from_residual.ensures.1
+    (quoted_refused _ _ _ _ _ _ c.requires c.loop-octet.invariant c.in-Some.ensures c.if-octet-eq34.false c.in_err-i.ensures.refused)
 
 pub returns-in_err-i-clause-begun : goal.returns-in_err-i-clause-begun
 returns-in_err-i-clause-begun c =
-    let p = err_from_is_err_and c.from_residual.result c.from_residual.ensures.1 in
-    rw (p.1, p.2) (quoted_end _ _ _ _ _ c.requires c.loop-octet.invariant c.in_err-i.ensures.begun)
+    err_kept _ _ _ c.from_residual.ensures.1 (quoted_end _ _ _ _ _ c.requires c.loop-octet.invariant c.in_err-i.ensures.begun)
 
 pub returns-clause-begun : goal.returns-clause-begun
 returns-clause-begun c = quoted_short _ _ _ _ c.requires c.loop-octet.invariant c.in_default.ensures

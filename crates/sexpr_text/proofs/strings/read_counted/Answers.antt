@@ -1,8 +1,9 @@
 use Rattle.std.proofs.Common.{sym, ◌∙◌}
-use Rattle.std.proofs.lemmas.Result.{err_from_is_err_and, IfOk-weaker, IfErr-weaker}
+use Rattle.std.proofs.lemmas.Result.{IfOk-weaker, IfErr-weaker}
 use Rattle.sexpr_text.proofs.CountedLaws.{counted_ended, marked_stands, verbatim_fits, verbatim_string, counted_string, counted_right}
 use Rattle.sexpr_text.proofs.RefusedStrings.{short_refused, marked_missed, count_missed}
 use Rattle.sexpr_text.proofs.MarkedEnds.{count_short, verbatim_end, counted_end, count_end}
+use Rattle.sexpr_core.proofs.Errors.{err_kept}
 use Rattle.sexpr_text.proofs.strings.read_counted.Goals as goal
 
 pub returns-in_default-clause-only : goal.returns-in_default-clause-only
@@ -18,11 +19,9 @@ returns-then-octet-eq58-clause-only c = λ a rest s.
     c.read_verbatim.ensures.only (verbatim_fits _ _ _ _ _ _ a rest c.requires.begins c.requires.digit c.read_count-count.ensures.read c.read_count-count.ensures.ends c.in-Some.ensures c.if-octet-eq58.true s)
 
 pub returns-in_err-read-clause-only : goal.returns-in_err-read-clause-only
-returns-in_err-read-clause-only c =
-    let p = err_from_is_err_and c.from_residual.result c.from_residual.ensures.1 in
-    rw (p.1, p.2) (λ a rest s.
+returns-in_err-read-clause-only c = λ a rest s.
     let k = marked_stands _ _ _ _ _ _ a rest c.requires.begins c.requires.digit c.read_count-count.ensures.read c.read_count-count.ensures.ends c.in-Some.ensures c.if-octet-eq58.false s in
-    c.in_err-read.ensures.only k.0 a rest k.1 k.2)
+    err_kept _ _ _ c.from_residual.ensures.1 (c.in_err-read.ensures.only k.0 a rest k.1 k.2)
 
 pub returns-then-len-count-clause-only : goal.returns-then-len-count-clause-only
 returns-then-len-count-clause-only c = λ a rest s.
@@ -39,8 +38,8 @@ returns-then-octet-eq58-clause-refused c = IfErr-weaker c.read_verbatim.result _
 
 pub returns-in_err-read-clause-refused : goal.returns-in_err-read-clause-refused
 returns-in_err-read-clause-refused c =
-    let p = err_from_is_err_and c.from_residual.result c.from_residual.ensures.1 in
-    rw (p.1, p.2) (marked_missed _ _ _ _ _ _ _ c.requires.begins c.requires.digit c.read_count-count.ensures.read c.read_count-count.ensures.ends
+    err_kept _ _ _ c.from_residual.ensures.1
+    (marked_missed _ _ _ _ _ _ _ c.requires.begins c.requires.digit c.read_count-count.ensures.read c.read_count-count.ensures.ends
     c.in-Some.ensures c.if-octet-eq58.false c.in_err-read.ensures.refused)
 
 pub returns-then-len-count-clause-refused : goal.returns-then-len-count-clause-refused
@@ -58,8 +57,9 @@ returns-then-octet-eq58-clause-begun c =
 
 pub returns-in_err-read-clause-begun : goal.returns-in_err-read-clause-begun
 returns-in_err-read-clause-begun c =
-    let p = err_from_is_err_and c.from_residual.result c.from_residual.ensures.1 in
-    rw (p.1, p.2) (counted_end _ _ _ _ _ _ c.requires.begins c.requires.digit c.read_count-count.ensures.read c.read_count-count.ensures.ends c.in_err-read.ensures.begun)
+    err_kept _ _ _ c.from_residual.ensures.1
+    (counted_end _ _ _ _ _ _ c.requires.begins c.requires.digit c.read_count-count.ensures.read c.read_count-count.ensures.ends
+    c.in_err-read.ensures.begun)
 
 pub returns-then-len-count-clause-begun : goal.returns-then-len-count-clause-begun
 returns-then-len-count-clause-begun c =

@@ -1,11 +1,12 @@
 use Rattle.std.proofs.Common.{subst}
-use Rattle.std.proofs.lemmas.Result.{err_from_is_err_and, IfErr-weaker}
+use Rattle.std.proofs.lemmas.Result.{IfErr-weaker}
 use Rattle.sexpr_core.specs.Reading.{StandsAt}
 use Rattle.sexpr_text.proofs.StringLaws.{packed_read, packed_marked}
 use Rattle.sexpr_text.proofs.Marked.{quoted_of, hexadecimal_of, packed_of, behind_opening}
 use Rattle.sexpr_text.proofs.RefusedStrings.{quoted_missed, hexadecimal_missed, packed_missed, mark_missed}
 use Rattle.sexpr_text.proofs.StringEnds.{IfErr-both}
 use Rattle.sexpr_text.proofs.MarkedEnds.{quoted_marked_end, hexadecimal_marked_end, packed_marked_end, no_mark_end}
+use Rattle.sexpr_core.proofs.Errors.{err_kept}
 use Rattle.sexpr_text.proofs.strings.read_marked.Goals as goal
 
 pub returns-in-Some-eq34-clause-only : goal.returns-in-Some-eq34-clause-only
@@ -17,11 +18,10 @@ returns-in-Some-eq35-clause-only c = λ s a rest m e.
     c.read_hexadecimal.ensures.only s a rest (hexadecimal_of _ _ _ s a rest c.in-Some-eq35.ensures c.in-Some-eq35.field-0-test m e) e
 
 pub returns-in_err-octets-in-Some-eq124-clause-only : goal.returns-in_err-octets-in-Some-eq124-clause-only
-returns-in_err-octets-in-Some-eq124-clause-only c =
-    let p = err_from_is_err_and c.from_residual.result c.from_residual.ensures.1 in
-    rw (p.1, p.2) (λ s a rest m e.
+returns-in_err-octets-in-Some-eq124-clause-only c = λ s a rest m e.
     let h = packed_of _ _ _ s a rest c.in-Some-eq124.ensures c.in-Some-eq124.field-0-test m e in
-    c.in_err-octets-in-Some-eq124.ensures.only h.body rest a h.packed (behind_opening 124 _ _ _ s h.body rest c.in-Some-eq124.ensures h.spelled e).1)
+    err_kept _ _ _ c.from_residual.ensures.1
+    (c.in_err-octets-in-Some-eq124.ensures.only h.body rest a h.packed (behind_opening 124 _ _ _ s h.body rest c.in-Some-eq124.ensures h.spelled e).1)
 
 pub returns-in_ok-octets-in-Some-eq124-clause-read : goal.returns-in_ok-octets-in-Some-eq124-clause-read
 returns-in_ok-octets-in-Some-eq124-clause-read c =
@@ -37,8 +37,8 @@ returns-in-Some-eq35-clause-refused c =
 
 pub returns-in_err-octets-in-Some-eq124-clause-refused : goal.returns-in_err-octets-in-Some-eq124-clause-refused
 returns-in_err-octets-in-Some-eq124-clause-refused c =
-    let p = err_from_is_err_and c.from_residual.result c.from_residual.ensures.1 in
-    rw (p.1, p.2) (packed_missed _ _ _ _ c.in-Some-eq124.ensures c.in-Some-eq124.field-0-test c.in_err-octets-in-Some-eq124.ensures.refused)
+    err_kept _ _ _ c.from_residual.ensures.1
+    (packed_missed _ _ _ _ c.in-Some-eq124.ensures c.in-Some-eq124.field-0-test c.in_err-octets-in-Some-eq124.ensures.refused)
 
 pub returns-in-Some-clause-refused : goal.returns-in-Some-clause-refused
 returns-in-Some-clause-refused c =
@@ -46,8 +46,8 @@ returns-in-Some-clause-refused c =
 
 pub returns-in_err-octets-in-Some-eq124-clause-begun : goal.returns-in_err-octets-in-Some-eq124-clause-begun
 returns-in_err-octets-in-Some-eq124-clause-begun c =
-    let p = err_from_is_err_and c.from_residual.result c.from_residual.ensures.1 in
-    rw (p.1, p.2) (packed_marked_end _ _ _ _ c.in-Some-eq124.ensures c.in-Some-eq124.field-0-test c.in_err-octets-in-Some-eq124.ensures.begun)
+    err_kept _ _ _ c.from_residual.ensures.1
+    (packed_marked_end _ _ _ _ c.in-Some-eq124.ensures c.in-Some-eq124.field-0-test c.in_err-octets-in-Some-eq124.ensures.begun)
 
 pub returns-in-Some-eq34-clause-begun : goal.returns-in-Some-eq34-clause-begun
 returns-in-Some-eq34-clause-begun c =

@@ -1,26 +1,23 @@
 use Rattle.std.proofs.Common.{sym, arith}
-use Rattle.std.proofs.lemmas.Result.{err_from_is_err_and}
 use Rattle.sexpr_text.proofs.CountedLaws.{marked_string, nothing_stands, uncounted_stands}
 use Rattle.sexpr_text.proofs.RefusedStrings.{uncounted_missed}
 use Rattle.sexpr_text.proofs.StringEnds.{nothing_left}
 use Rattle.sexpr_text.proofs.MarkedEnds.{none_string, uncounted_end}
 use Rattle.sexpr_text.proofs.CountedLaws.{quoted_string}
+use Rattle.sexpr_core.proofs.Errors.{err_kept}
 use Rattle.sexpr_text.proofs.strings.read_string.Goals as goal
 
 pub returns-in_default-clause-only : goal.returns-in_default-clause-only
 returns-in_default-clause-only c = λ a rest s. absurd (nothing_stands _ _ a rest s c.in_default.ensures)
 
 pub returns-in_err-read-clause-only : goal.returns-in_err-read-clause-only
-returns-in_err-read-clause-only c =
-    let p = err_from_is_err_and c.from_residual.result c.from_residual.ensures.1 in
-    rw (p.1, p.2) (λ a rest s.
+returns-in_err-read-clause-only c = λ a rest s.
     let k = uncounted_stands _ _ _ a rest c.in-Some.ensures (λ d. omega (arith, c.if-is_ascii_digit.ensures.cases)) (sym c.if-stands_in_token.ensures) s in
-    c.in_err-read.ensures.only k.0 a rest k.1 k.2)
+    err_kept _ _ _ c.from_residual.ensures.1 (c.in_err-read.ensures.only k.0 a rest k.1 k.2)
 
 pub returns-in_err-read-clause-refused : goal.returns-in_err-read-clause-refused
 returns-in_err-read-clause-refused c =
-    let p = err_from_is_err_and c.from_residual.result c.from_residual.ensures.1 in
-    rw (p.1, p.2)
+    err_kept _ _ _ c.from_residual.ensures.1
     (uncounted_missed _ _ _ _ c.in-Some.ensures (λ d. omega (arith, c.if-is_ascii_digit.ensures.cases)) (sym c.if-stands_in_token.ensures) c.in_err-read.ensures.refused)
 
 pub returns-clause-read : goal.returns-clause-read
@@ -31,8 +28,7 @@ returns-in_default-clause-begun c = nothing_left _ _ _ none_string c.requires.be
 
 pub returns-in_err-read-clause-begun : goal.returns-in_err-read-clause-begun
 returns-in_err-read-clause-begun c =
-    let p = err_from_is_err_and c.from_residual.result c.from_residual.ensures.1 in
-    rw (p.1, p.2)
+    err_kept _ _ _ c.from_residual.ensures.1
     (uncounted_end _ _ _ _ c.in-Some.ensures (λ d. omega (arith, c.if-is_ascii_digit.ensures.cases)) c.in_err-read.ensures.begun)
 
 pub returns-in-Some-lend_quoted-clause-read : goal.returns-in-Some-lend_quoted-clause-read
