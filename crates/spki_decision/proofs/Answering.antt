@@ -1,13 +1,12 @@
 -- What a verifier's answers make of the evidence of a sequence.
-use Rattle.std.proofs.Common.{◌≡◌, ℕ, ◌+◌, ◌<◌, List, [], ◌∷◌, ◌++◌, Option, Some, None, refl, sym, ◌∙◌, ap, subst, map, length, take, drop, get_or, arith}
-use Rattle.std.proofs.lemmas.List.{get_or-map, length-map, length-take-le, length-append}
+use Rattle.std.proofs.Common.{◌≡◌, ℕ, ◌+◌, ◌<◌, List, [], ◌∷◌, ◌++◌, Option, Some, None, refl, sym, ◌∙◌, ap, subst, map, length, take, drop, get_or, arith, drop-cons, add-one, rules}
+use Rattle.std.proofs.lemmas.List.{get_or-map, length-map, length-take-le, length-append, take_more, take-append-drop}
 use Rattle.std.proofs.Math.Seq.{get_or-append_seam}
 use Rattle.std.specs.List.{AllByRecursion}
 use Rattle.spki_cert.specs.declared.principal.Policy.{Policy}
 use Rattle.spki_cert.specs.declared.certificate.SeqItem.{SeqItem}
 use Rattle.spki_case.specs.Case.{Verified}
 use Rattle.spki_case.specs.Sequence.{Shown, keys_of, certificates}
-use Rattle.spki_reduce.specs.Views.{step_tuple}
 use Rattle.spki_decision.specs.declared.evidence.Evidence.{Evidence}
 use Rattle.spki_decision.specs.declared.evidence.Evidence.TheVariants as evidence
 use Rattle.spki_decision.specs.declared.evidence.Stop.TheVariants.{NotAccepted}
@@ -20,20 +19,18 @@ use Rattle.spki_decision.specs.Asked.{Signed, asked_of, asked_in, before_all, ev
 use Rattle.spki_decision.specs.Steps.{PassesAs}
 use Rattle.spki_decision.proofs.AskedOf.{asks, accepted_too}
 use Rattle.spki_decision.proofs.AskedWhole.{all_shown, still_failing}
-use Rattle.spki_decision.proofs.Chains.{below, taken, parted}
+use Rattle.spki_decision.proofs.Chains.{at_place, below}
 
 -- ---- each is accepted
 
-agrees : (verified : Verified) (signatures : List Signed) → AllByRecursion (IsAccepted verified) signatures → AgreeOn every verified signatures
+pub agrees : (verified : Verified) (signatures : List Signed) → AllByRecursion (IsAccepted verified) signatures → AgreeOn every verified signatures
 agrees verified [] accepted = tt
 agrees verified (s ∷ signatures) accepted = ((λ _. accepted.0, λ _. tt), agrees verified signatures accepted.1)
 
 module _ (policy : Policy) (verified : Verified) (items : List SeqItem) where
   pub all_accepted : (e : Evidence) → AllByRecursion (IsAccepted verified) (asked_in policy (keys_of items) (certificates items))
       → IsEvidence policy every items e → IsEvidence policy verified items e
-  all_accepted (evidence.Verified steps) accepted h =
-      all_shown policy (keys_of items) every verified (certificates items) (map step_tuple steps.items)
-      (agrees verified (asked_in policy (keys_of items) (certificates items)) accepted) h
+  all_accepted (evidence.Verified steps) accepted h = search (rules, all_shown, agrees)
   all_accepted (evidence.Fails item stop) accepted h =
       still_failing policy items every verified (agrees verified (asked_in policy (keys_of items) (certificates items)) accepted) item stop h
 
@@ -41,9 +38,7 @@ module _ (policy : Policy) (verified : Verified) (items : List SeqItem) where
 
 module _ (policy : Policy) (keys : List (List ℕ)) (verified : Verified) where
   refused : (s : Shown) (t : Signed) → PassesAs policy keys s t → ¬ IsAccepted verified t → FailsBy policy keys verified s NotAccepted
-  refused s t a not =
-      let p = a.stands in
-      (t.key, p.signature, p.issued, p.signed, p.digest, p.signer, subst (λ (u : Signed). ¬ IsAccepted verified u) a.signed_is not)
+  refused s t a not = search rules
 
   first_here : (s : Shown) (shown : List Shown) (t r : Signed) (after : List Signed) → PassesAs policy keys s t
       → t ∷ asked_in policy keys shown ≡ r ∷ after → ¬ IsAccepted verified r → FailsIn policy keys verified (s ∷ shown) r.item NotAccepted
@@ -103,34 +98,42 @@ not_accepted policy verified items signed place same r =
 
 -- ---- one after the other
 
-module _ (verified : Verified) (kept : List examined.Signed) (i : ℕ) (within : i < length kept) (one : examined.Signed)
-    (here : one ≡ get_or kept i one) (before : AllByRecursion (IsAccepted verified) (take i (map signed_of kept))) where
-  pub one_more : IsAccepted verified (signed_of one) → AllByRecursion (IsAccepted verified) (take (i + 1) (map signed_of kept))
-  one_more accepted =
-      all_pushed (IsAccepted verified) (take i (map signed_of kept)) (take (i + 1) (map signed_of kept)) (signed_of one) before accepted
-      (taken signed_of kept i within one here)
+module _ (verified : Verified) (signed : List Signed) (place : ℕ) (within : place < length signed) (one : Signed)
+    (here : one ≡ get_or signed place one) (before : AllByRecursion (IsAccepted verified) (take place signed)) where
+  rest : drop place signed ≡ one ∷ drop (place + 1) signed
+  rest = search (rules, drop-cons, add-one)
 
-  pub refused_here : ¬ IsAccepted verified (signed_of one) → RefusedAt verified (map signed_of kept) i
-  refused_here not = record {
-    before = take i (map signed_of kept);
-    refused = signed_of one;
-    after = drop (i + 1) (map signed_of kept);
-    parts = parted signed_of kept i within one here;
-    place_is = sym (length-take-le i (map signed_of kept) (let b = below signed_of kept i within one here in omega arith));
+  pub one_accepted : IsAccepted verified one → AllByRecursion (IsAccepted verified) (take (place + 1) signed)
+  one_accepted accepted =
+      all_pushed (IsAccepted verified) (take place signed) (take (place + 1) signed) one before accepted
+      (rw (← here) at (take_more signed place one within))
+
+  pub refused_at : ¬ IsAccepted verified one → RefusedAt verified signed place
+  refused_at not = record {
+    before = take place signed;
+    refused = one;
+    after = drop (place + 1) signed;
+    parts = sym (take-append-drop place signed) ∙ ap (λ xs. take place signed ++ xs) rest;
+    place_is = sym (length-take-le place signed (let b = within in omega arith));
     accepted = before;
     not_accepted = not;
   }
+
+module _ (verified : Verified) (kept : List examined.Signed) (i : ℕ) (within : i < length kept) (one : examined.Signed)
+    (here : one ≡ get_or kept i one) (before : AllByRecursion (IsAccepted verified) (take i (map signed_of kept))) where
+  pub one_more : IsAccepted verified (signed_of one) → AllByRecursion (IsAccepted verified) (take (i + 1) (map signed_of kept))
+  one_more = one_accepted verified (map signed_of kept) i (below signed_of kept i within one here) (signed_of one)
+      (sym (at_place signed_of kept i within one here)) before
+
+  pub refused_here : ¬ IsAccepted verified (signed_of one) → RefusedAt verified (map signed_of kept) i
+  refused_here = refused_at verified (map signed_of kept) i (below signed_of kept i within one here) (signed_of one)
+      (sym (at_place signed_of kept i within one here)) before
 
 -- ---- by places
 
 module _ (verified : Verified) (kept : List examined.Signed) (place : ℕ) (r : RefusedAt verified (map signed_of kept) place) where
   pub refused_within : place < length kept
-  refused_within =
-      let e = ap length r.parts in
-      let long = length-append r.before (r.refused ∷ r.after) in
-      let same = length-map kept signed_of in
-      let p = r.place_is in
-      omega arith
+  refused_within = search (rules, length-append, refused, length-map)
 
   pub refused_item : (d : examined.Signed) → (get_or kept place d).item ≡ r.refused.item
   refused_item d =

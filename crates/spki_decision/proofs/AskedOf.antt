@@ -1,5 +1,5 @@
 -- What a verifier is asked of one certificate.
-use Rattle.std.proofs.Common.{◌≡◌, ℕ, ◌+◌, List, [], ◌∷◌, ◌++◌, drop, Some, None, true, false, Bool, ◌&&◌, if◌then◌else◌, Option, option_and_then, refl, sym, ◌∙◌, ap, append_assoc, append-nil}
+use Rattle.std.proofs.Common.{◌≡◌, ℕ, ◌+◌, List, [], ◌∷◌, ◌++◌, drop, Some, None, true, false, Bool, ◌&&◌, if◌then◌else◌, Option, option_and_then, refl, append_assoc, append-nil, rules}
 use Rattle.spki_cert.specs.declared.principal.Policy.{Policy}
 use Rattle.spki_cert.specs.declared.certificate.Signature as signature
 use Rattle.spki_cert.specs.Naming.{names, is_digest}
@@ -57,14 +57,7 @@ module _ (policy : Policy) (keys : List (List ℕ)) where
   -- a certificate that stands stands by each verifier that accepts its signature
   pub accepted_too : (one other : Verified) (s : Shown) (holder : List ℕ) → (a : Stands policy keys one s holder)
       → other holder (octets_of s.certificate) a.signature.value → Stands policy keys other s holder
-  accepted_too one other s holder a accepted = record {
-    issued = a.issued;
-    signature = a.signature;
-    signed = a.signed;
-    digest = a.digest;
-    signer = a.signer;
-    accepted = accepted;
-  }
+  accepted_too one other s holder a accepted = search rules
 
 -- ---- one certificate more
 
@@ -72,11 +65,7 @@ module _ (policy : Policy) (keys : List (List ℕ)) (done : List Signed) (xs : L
     (rest : drop i xs ≡ x ∷ drop (i + 1) xs) (so_far : asked_in policy keys xs ≡ done ++ asked_in policy keys (drop i xs)) where
   pub asked_more : (t : Signed) → asked_of policy keys x ≡ Some t
       → asked_in policy keys xs ≡ done ++ t ∷ [] ++ asked_in policy keys (drop (i + 1) xs)
-  asked_more t o =
-      let here : asked_in policy keys (drop i xs) ≡ t ∷ asked_in policy keys (drop (i + 1) xs) = rw (rest, o) refl in
-      so_far ∙ ap (λ ys. done ++ ys) here ∙ sym (append_assoc done (t ∷ []) (asked_in policy keys (drop (i + 1) xs)))
+  asked_more t o = search (rules, append_assoc)
 
   pub asked_whole : asked_of policy keys x ≡ None → asked_in policy keys xs ≡ done
-  asked_whole o =
-      let here : asked_in policy keys (drop i xs) ≡ [] = rw (rest, o) refl in
-      so_far ∙ ap (λ ys. done ++ ys) here ∙ append-nil done
+  asked_whole o = search (rules, append-nil)

@@ -1,14 +1,14 @@
 -- Two verifiers that agree on what they are asked give the same answers.
-use Rattle.std.proofs.Common.{◌≡◌, ℕ, zero, suc, slice_get, List, [], ◌∷◌, ◌++◌, Some, refl, subst, Result, Ok, Err}
+use Rattle.std.proofs.Common.{◌≡◌, ℕ, zero, suc, slice_get, List, [], ◌∷◌, ◌++◌, Some, refl, subst, Result, Ok, Err, rules}
 use Rattle.std.specs.List.{AllZip, AllByRecursion}
 use Rattle.std.proofs.lemmas.Option.{none-some}
 use Rattle.spki_cert.specs.declared.principal.Policy.{Policy}
 use Rattle.spki_cert.specs.declared.certificate.SeqItem.{SeqItem}
 use Rattle.spki_reduce.specs.Tuples.{Tuple}
 use Rattle.spki_case.specs.Case.{Case, Verified}
-use Rattle.spki_case.specs.Sequence.{Shown, octets_of, keys_of, certificates}
+use Rattle.spki_case.specs.Sequence.{Shown, keys_of, certificates}
 use Rattle.spki_decision.specs.declared.evidence.Stop.{Stop}
-use Rattle.spki_decision.specs.declared.evidence.Stop.TheVariants.{KeyNotShown, DigestDiffers, SignerDiffers, NotAccepted}
+use Rattle.spki_decision.specs.declared.evidence.Stop.TheVariants.{NotAccepted}
 use Rattle.spki_decision.specs.declared.decision.Decision.{Decision}
 use Rattle.spki_decision.specs.declared.decision.Decision.TheVariants.{Yes, No}
 use Rattle.spki_decision.specs.declared.fault.GuardFault.{GuardFault}
@@ -40,9 +40,7 @@ module _ (policy : Policy) (keys : List (List ℕ)) (one other : Verified) where
 
   stands : (s : Shown) (holder : List ℕ) (others : List Signed) → AgreeOn one other (before_all (asked_of policy keys s) others)
       → Stands policy keys one s holder → Stands policy keys other s holder × AgreeOn one other others
-  stands s holder others agree a =
-      let both = agreed s _ others (stands_asked policy keys one s holder a) agree in
-      (accepted_too policy keys one other s holder a (both.0.0 a.accepted), both.1)
+  stands s holder others agree a = search (rules, agreed, stands_asked, accepted_too)
 
   pub all_shown : (shown : List Shown) (ts : List Tuple) → AgreeOn one other (asked_in policy keys shown)
       → AllZip (StandsAs policy keys one) shown ts → AllZip (StandsAs policy keys other) shown ts
@@ -55,13 +53,8 @@ module _ (policy : Policy) (keys : List (List ℕ)) (one other : Verified) where
 
   fails_by : (s : Shown) (others : List Signed) (stop : Stop) → AgreeOn one other (before_all (asked_of policy keys s) others)
       → FailsBy policy keys one s stop → FailsBy policy keys other s stop
-  fails_by s others KeyNotShown agree f = f
-  fails_by s others DigestDiffers agree f = f
-  fails_by s others SignerDiffers agree f = f
-  fails_by s others NotAccepted agree f =
-      let e : asked_of policy keys s ≡ Some (record { item = s.item; key = f.0; message = octets_of s.certificate; value = f.1.value }) =
-      rw (f.2, f.3, f.4, f.5) refl in
-      (f.0, f.1, f.2, f.3, f.4, f.5, λ accepted. f.6 ((agreed s _ others e agree).0.1 accepted))
+  fails_by s others NotAccepted agree f = search (rules, agreed)
+  fails_by s others _ agree f = f
 
   all_before : (before : List Shown) (s : Shown) (after : List Shown) (stop : Stop) → AgreeOn one other (asked_in policy keys (before ++ s ∷ after))
       → AllByRecursion (λ shown. (holder : List ℕ) × Stands policy keys one shown holder) before → FailsBy policy keys one s stop
@@ -76,9 +69,7 @@ module _ (policy : Policy) (keys : List (List ℕ)) (one other : Verified) where
 pub still_failing : (policy : Policy) (items : List SeqItem) (one other : Verified)
     → AgreeOn one other (asked_in policy (keys_of items) (certificates items)) → (item : ℕ) (stop : Stop)
     → FailsAt policy one items item stop → FailsAt policy other items item stop
-still_failing policy items one other agree item stop f =
-    let both = all_before policy (keys_of items) one other f.before f.failing f.after stop (rw f.parts at agree) f.standing f.fails in
-    record { before = f.before; failing = f.failing; after = f.after; parts = f.parts; standing = both.0; place = f.place; fails = both.1 }
+still_failing policy items one other agree item stop f = search (rules, all_before)
 
 module _ (policy : Policy) (keys : List (List ℕ)) (verified : Verified) where
   accepted_here : (t : Signed) (others : List Signed) (place : ℕ) (s : Signed) → IsAccepted verified t
@@ -113,15 +104,7 @@ shown_with : (c : Case) (one other : Verified) → AgreeOn one other (asked c) �
 shown_with c one other agree ts shown = all_shown c.policy (keys_of c.items) one other (certificates c.items) ts agree shown
 
 granted_with : (c : Case) (one other : Verified) → AgreeOn one other (asked c) → (n : ℕ) → Granted n c one → Granted n c other
-granted_with c one other agree n g = record {
-  place = g.place;
-  numbered = g.numbered;
-  entry = g.entry;
-  stands = g.stands;
-  tuples = g.tuples;
-  shown = shown_with c one other agree g.tuples g.shown;
-  supported = g.supported;
-}
+granted_with c one other agree n g = search (rules, shown_with)
 
 module _ (c : Case) (one other : Verified) (agree : AgreeOn one other (asked c)) where
   shown_by : (ts : List Tuple) → AreShown c.policy one c.items ts → AreShown c.policy other c.items ts
@@ -137,9 +120,7 @@ module _ (c : Case) (one other : Verified) (agree : AgreeOn one other (asked c))
   granted_back = granted_with c other one (swap one other (asked c) agree)
 
   failure_by : (item : ℕ) (stop : Stop) → IsFailure c one item stop → IsFailure c other item stop
-  failure_by item stop f =
-      let fails = still_failing c.policy c.items one other agree item stop f.fails in
-      record { fails = fails; none_shown = λ ts shown. f.none_shown ts (shown_back ts shown) }
+  failure_by item stop f = search (rules, still_failing, shown_back)
 
   large_by : IsTooLarge c one → IsTooLarge c other
   large_by l = record {
@@ -167,14 +148,7 @@ module _ (c : Case) (one other : Verified) (agree : AgreeOn one other (asked c))
 
   pub explained_by : (x : Result Explanation GuardFault) → IsExplained c one x → IsExplained c other x
   explained_by (Ok (explanation.Evidence item stop)) a = failure_by item stop a
-  explained_by (Ok (explanation.Entries reasons)) a = record {
-    tuples = a.tuples;
-    shown = shown_by a.tuples a.shown;
-    each = a.each;
-    within_limit = a.within_limit;
-    worked = a.worked;
-    grants = λ place. (λ e. granted_by _ ((a.grants place).0 e), λ g. (a.grants place).1 (granted_back _ g));
-  }
+  explained_by (Ok (explanation.Entries reasons)) a = search (rules, shown_by, granted_by, granted_back)
   explained_by (Err TooLarge) a = some_large_by a
   explained_by (Err Memory) a = absurd a
 

@@ -1,5 +1,5 @@
 -- Certificates that stand, one more at a time, up to one that doesn't.
-use Rattle.std.proofs.Common.{◌≡◌, ℕ, zero, suc, ◌+◌, ◌<◌, List, [], ◌∷◌, ◌++◌, Bool, true, false, ◌&&◌, Some, IsSome, is_some, map, length, take, drop, get_or, slice_get, refl, sym, ap, ◌∙◌, arith, add-one, drop-cons}
+use Rattle.std.proofs.Common.{◌≡◌, ℕ, zero, suc, ◌+◌, ◌<◌, List, [], ◌∷◌, ◌++◌, Bool, true, Some, IsSome, is_some, map, length, take, drop, get_or, slice_get, refl, sym, ap, ◌∙◌, arith, add-one, drop-cons, rules}
 use Rattle.std.proofs.lemmas.List.{take_more, take-append-drop, get_or-map, map-append, length-map}
 use Rattle.std.proofs.lemmas.Option.{slice_get-get_or}
 use Rattle.std.proofs.lemmas.Slice.Zip.{all_zipped_more}
@@ -14,23 +14,20 @@ use Rattle.spki_decision.specs.declared.evidence.Stop.{Stop}
 use Rattle.spki_case.specs.Case.{Verified}
 use Rattle.spki_case.specs.Sequence.{AreSigned, Shown, certificates, keys_of}
 use Rattle.spki_decision.specs.Standing.{tuple_of, Stands, StandsAs, FailsBy, FailsAt}
+use Rattle.std.proofs.lemmas.Bool.{and_parts}
 use Rattle.spki_decision.specs.Views.{shown_of}
 
 -- ---- lists
 
-pub both : (a b : Bool) → (a && b) ≡ true → (a ≡ true) × (b ≡ true)
-both true b h = (refl, h)
-both false b h = absurd cc
-
 pub each_at : {A : Type 0} (p : A → Bool) (xs : List A) (i : ℕ) (d : A) → list_all p xs ≡ true → i < length xs → p (get_or xs i d) ≡ true
 each_at p [] i d h k = absurd (omega arith)
-each_at p (x ∷ xs) zero d h k = (both (p x) (list_all p xs) h).0
-each_at p (x ∷ xs) (suc i) d h k = each_at p xs i d (both (p x) (list_all p xs) h).1 (omega arith)
+each_at p (x ∷ xs) zero d h k = (and_parts (p x) (list_all p xs) h).0
+each_at p (x ∷ xs) (suc i) d h k = each_at p xs i d (and_parts (p x) (list_all p xs) h).1 (omega arith)
 
 -- ---- one of those that are kept
 
 module _ {A B : Type 0} (f : A → B) (kept : List A) (i : ℕ) (within : i < length kept) (one : A) (here : one ≡ get_or kept i one) where
-  at_place : get_or (map f kept) i (f one) ≡ f one
+  pub at_place : get_or (map f kept) i (f one) ≡ f one
   at_place = get_or-map f kept i one (f one) within ∙ ap f (sym here)
 
   pub below : i < length (map f kept)
@@ -43,9 +40,7 @@ module _ {A B : Type 0} (f : A → B) (kept : List A) (i : ℕ) (within : i < le
   taken = rw at_place at (take_more (map f kept) i (f one) below)
 
   pub rest_of : drop i (map f kept) ≡ f one ∷ drop (i + 1) (map f kept)
-  rest_of =
-      let first = rw at_place at (drop-cons (map f kept) i (f one) below) in
-      rw (← add-one) at first
+  rest_of = search (rules, at_place, drop-cons, below, add-one)
 
   pub parted : map f kept ≡ take i (map f kept) ++ f one ∷ drop (i + 1) (map f kept)
   parted = sym (take-append-drop i (map f kept)) ∙ ap (λ rest. take i (map f kept) ++ rest) rest_of

@@ -1,12 +1,11 @@
 -- What entries support is what is granted, where the certificates that are shown are known.
-use Rattle.std.proofs.Common.{◌≡◌, ℕ, suc, ◌+◌, ◌<◌, List, Bool, true, false, Some, slice_get, refl, sym, ◌∙◌, subst, arith, below_more}
+use Rattle.std.proofs.Common.{◌≡◌, ℕ, suc, ◌+◌, ◌<◌, List, Bool, true, false, Some, slice_get, arith, below_more, rules}
 use Rattle.spki_cert.specs.declared.entry.Entry.{Entry}
 use Rattle.spki_reduce.specs.Tuples.{Tuple, five}
 use Rattle.spki_reduce.specs.Views.{entry_tuple}
 use Rattle.spki_reduce.specs.Chain.{TooLargeAt}
 use Rattle.spki_reduce.proofs.Chains.{never, too_large as large}
 use Rattle.spki_case.specs.Case.{Case, Verified}
-use Rattle.spki_case.specs.Sequence.{keys_of, certificates}
 use Rattle.spki_decision.specs.declared.decision.Decision.{Decision}
 use Rattle.spki_decision.specs.declared.decision.Decision.TheVariants.{Yes, No}
 use Rattle.spki_decision.specs.Standing.{AreShown}
@@ -22,10 +21,7 @@ module _ (c : Case) (tuples : List Tuple) (place : ℕ) (e : Entry) (stands : sl
   -- what is so of the entries before it, and of this one
   with_this : (P : Entry → Type 0) → P e → ((k : ℕ) (f : Entry) → k < place → slice_get c.entries k ≡ Some f → P f)
       → (k : ℕ) (f : Entry) → k < place + 1 → slice_get c.entries k ≡ Some f → P f
-  with_this P this before =
-      let all : (k : ℕ) → k < place + 1 → (f : Entry) → slice_get c.entries k ≡ Some f → P f =
-      below_more _ _ (λ k below f there. before k f below there) (λ f there. subst P (some_same e f (sym stands ∙ there)) this) in
-      λ k f below there. all k below f there
+  with_this P this before = search (rules, slice_get, below_more, some_same)
 
   pub not_yet : (grants : Bool) → grants ≡ false → (Supported c tuples e → grants ≡ true) → NoneBefore c tuples place
       → NoneBefore c tuples (place + 1)
@@ -43,20 +39,10 @@ module _ (c : Case) (tuples : List Tuple) (place : ℕ) (e : Entry) (stands : sl
 
 module _ (c : Case) (verified : Verified) (tuples : List Tuple) (shown : AreShown c.policy verified c.items tuples) where
   pub granted : (place : ℕ) (e : Entry) → slice_get c.entries place ≡ Some e → Supported c tuples e → Granted (suc place) c verified
-  granted place e stands s = record {
-    place = place;
-    numbered = refl;
-    entry = e;
-    stands = stands;
-    tuples = tuples;
-    shown = shown;
-    supported = s;
-  }
+  granted place e stands s = search rules
 
   pub supported : (n : ℕ) (g : Granted n c verified) → Supported c tuples g.entry
-  supported n g =
-      let same = one_list c.policy (keys_of c.items) verified (certificates c.items) g.tuples tuples g.shown shown in
-      subst (λ ts. Supported c ts g.entry) same g.supported
+  supported n g = search (rules, one_list)
 
   pub decided : (d : Decision) → Names c tuples d → IsDecision c verified d
   decided (Yes n) h = record {
@@ -66,9 +52,7 @@ module _ (c : Case) (verified : Verified) (tuples : List Tuple) (shown : AreShow
   decided No h = λ n g. h g.place g.entry g.stands (supported n g)
 
   pub unrefused : (d : Decision) → SmallUpTo c tuples d → IsUnrefused c verified d
-  unrefused d small others also =
-      let same = one_list c.policy (keys_of c.items) verified (certificates c.items) others tuples also shown in
-      subst (λ ts. SmallUpTo c ts d) (sym same) small
+  unrefused d small others also = search (rules, one_list)
 
   pub too_large : HasLarge c tuples → IsTooLarge c verified
   too_large h = record {

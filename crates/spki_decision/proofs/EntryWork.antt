@@ -1,5 +1,5 @@
 -- The work of the entries of a case, one after another.
-use Rattle.std.proofs.Common.{◌≡◌, ◌⊎◌, inl, inr, ℕ, zero, suc, ◌+◌, ◌≤◌, ◌<◌, List, Option, Some, None, refl, sym, ◌∙◌, subst, arith, add-one, length, slice_get}
+use Rattle.std.proofs.Common.{◌≡◌, ◌⊎◌, inl, inr, ℕ, zero, suc, ◌+◌, ◌≤◌, ◌<◌, List, Option, Some, None, sym, ◌∙◌, subst, arith, add-one, length, slice_get, rules}
 use Rattle.std.proofs.lemmas.Bool.{cases_lt}
 use Rattle.std.proofs.lemmas.Option.{slice_get_within}
 use Rattle.spki_cert.specs.declared.entry.Entry.{Entry}
@@ -15,38 +15,18 @@ module _ (c : Case) (tuples : List Tuple) where
 
   pub work_more : (place : ℕ) (e : Entry) (before n : ℕ) → slice_get c.entries place ≡ Some e → IsEntryWork c tuples place before
       → IsWork c.policy (five (entry_tuple e)) tuples n → IsEntryWork c tuples (place + 1) (before + n)
-  work_more place e before n stands h here =
-      let more : IsEntryWork c tuples (suc place) (before + n) = (before, n, e, h, stands, here, refl) in
-      subst (λ k. IsEntryWork c tuples k (before + n)) (sym (add-one place)) more
+  work_more place e before n stands h here = search (rules, add-one)
 
   pub too_much : (place : ℕ) (e : Entry) (before : ℕ) (left : Option ℕ) → slice_get c.entries place ≡ Some e
       → IsEntryWork c tuples place before → Takes c.most_work left before
       → IsOverworked left c.policy (five (entry_tuple e)) tuples → HasMuchWork c tuples
-  too_much place e before left stands h taken much = record {
-    place = place;
-    entry = e;
-    stands = stands;
-    before = before;
-    before_is = h;
-    steps = much.steps;
-    within = much.within;
-    here = much.work;
-    here_is = much.is;
-    over = over c.most_work left before much.work taken much.over;
-  }
+  too_much place e before left stands h taken much = search (rules, over)
 
   -- ---- one work
 
   one_here : (places n m : ℕ) → IsEntryWork c tuples places n → IsEntryWork c tuples places m → n ≡ m
   one_here zero n m h k = h ∙ sym k
-  one_here (suc places) n m h k =
-      let both : Some h.2 ≡ Some k.2 = sym h.4 ∙ k.4 in
-      let entries : h.2 ≡ k.2 = cc in
-      let before = one_here places h.0 k.0 h.3 k.3 in
-      let work : IsWork c.policy (five (entry_tuple k.2)) tuples h.1 =
-      subst (λ e. IsWork c.policy (five (entry_tuple e)) tuples h.1) entries h.5 in
-      let here = one_work c.policy (five (entry_tuple k.2)) tuples (length tuples) h.1 k.1 work k.5 in
-      omega (arith, before, here, h.6, k.6)
+  one_here (suc places) n m h k = search (rules, one_work, one_here places h.0 k.0 h.3 k.3)
 
   over_more : (limit : Option ℕ) (n m : ℕ) → n ≤ m → IsOver limit n → IsOver limit m
   over_more None n m less h = h
@@ -54,14 +34,7 @@ module _ (c : Case) (tuples : List Tuple) where
 
   -- the work of some entries and of some steps of the next is part of that of all
   part : (h : HasMuchWork c tuples) (more : ℕ) → IsEntryWork c tuples (suc h.place) more → h.before + h.here ≤ more
-  part h more next =
-      let both : Some next.2 ≡ Some h.entry = sym next.4 ∙ h.stands in
-      let entries : next.2 ≡ h.entry = cc in
-      let work : IsWork c.policy (five (entry_tuple h.entry)) tuples next.1 =
-      subst (λ e. IsWork c.policy (five (entry_tuple e)) tuples next.1) entries next.5 in
-      let here = grows c.policy (five (entry_tuple h.entry)) tuples h.steps (length tuples) h.here next.1 h.within h.here_is work in
-      let before = one_here h.place h.before next.0 h.before_is next.3 in
-      omega (arith, here, before, next.6)
+  part h more next = search (rules, grows, one_here)
 
   -- if all entries have a work, so many of them have, and it is at most that of all
   front : (few many m : ℕ) → few ≤ many → IsEntryWork c tuples many m → (n : ℕ) × IsEntryWork c tuples few n × (n ≤ m)

@@ -1,5 +1,5 @@
 -- The definitions at the values of worked examples.
-use Rattle.std.proofs.Common.{◌≡◌, ℕ, List, [], ◌∷◌, Bool, true, false, None, IsTrue, arith, Some, find, slice_get, refl, ap, codes}
+use Rattle.std.proofs.Common.{◌≡◌, ℕ, List, [], ◌∷◌, Bool, true, false, None, IsTrue, arith, Some, find, slice_get, refl, codes, rules}
 use Rattle.std.proofs.lemmas.Slice.Eq.{bytes_eq-Decides}
 use Rattle.spki_tag.specs.Request.{Request, string}
 use Rattle.spki_tag.specs.Tag.{star}
@@ -39,9 +39,7 @@ first_is e es i f is h = let k : Some e ≡ Some f = rw is at h in cc
 
 joined_subject : (a b : Tuple) (x y r : FiveTuple) → a ≡ five x → b ≡ five y → Joins Open a b (five r)
     → r.principal ≡ y.principal
-joined_subject a b x y r e f h =
-    let j : Joins Open (five x) (five y) (five r) = rw (e, f) at h in
-    ap (λ (t : FiveTuple). t.principal) j.result_is
+joined_subject a b x y r e f h = search rules
 
 -- ---- keys that hashes name
 
@@ -50,9 +48,7 @@ found test k ks e = rw e refl
 
 -- of two keys with one digest, here the same key twice, the first is the issuer's
 twice : issuer_key Open (ka ∷ ka ∷ []) (principal.Hash Sha256 (digest_of Sha256 ka)) ≡ Some ka
-twice =
-    found (λ octets. names Open (principal.Hash Sha256 (digest_of Sha256 ka)) octets) ka (ka ∷ [])
-    ((bytes_eq-Decides (digest_of Sha256 ka) (digest_of Sha256 ka)).1 refl)
+twice = search (rules, found, bytes_eq-Decides)
 
 -- under the strict policy no key shown is that of a SHA-1 hash
 unnamed : (digest : List ℕ) (keys : List (List ℕ)) → issuer_key Strict keys (principal.Hash Sha1 digest) ≡ None
@@ -135,21 +131,7 @@ module _ (verified : Verified) where
     certified = auth_tuple ka certificate
 
     shown : AreShown Open verified (Auth certificate ∷ Signature signed ∷ []) (five certified ∷ [])
-    shown = (
-      record {
-        holder = ka;
-        stands = record {
-          issued = refl;
-          signature = signed;
-          signed = refl;
-          digest = (bytes_eq-Decides (digest_of Sha256 octets) (digest_of Sha256 octets)).1 refl;
-          signer = refl;
-          accepted = accepted;
-        };
-        tuple_is = refl;
-      },
-      tt,
-    )
+    shown = search (rules, bytes_eq-Decides)
 
     delegation : Granted 1 (delegated kb) verified
     delegation =
@@ -187,7 +169,4 @@ module _ (verified : Verified) where
     undigested : (other : List ℕ) → (digest_of Sha256 octets ≡ other → ⊥) → (tuples : List Tuple)
         → AreShown Open verified (Auth certificate ∷ Signature (misdigested other) ∷ []) tuples → ⊥
     undigested other differs [] h = absurd h
-    undigested other differs (t ∷ ts) h =
-        let stands = h.0.stands in
-        let fits = same_digest octets (misdigested other) stands.signature stands.signed stands.digest in
-        differs ((bytes_eq-Decides (digest_of Sha256 octets) other).0 fits)
+    undigested other differs (t ∷ ts) h = search (rules, same_digest, bytes_eq-Decides)

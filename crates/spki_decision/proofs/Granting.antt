@@ -1,5 +1,5 @@
 -- What a grant is in the bracketing from the left, and without certificates.
-use Rattle.std.proofs.Common.{◌≡◌, ℕ, suc, List, [], Some, slice_get, refl}
+use Rattle.std.proofs.Common.{◌≡◌, ℕ, suc, List, [], Some, slice_get, refl, rules}
 use Rattle.spki_cert.specs.declared.entry.Entry.{Entry}
 use Rattle.spki_reduce.specs.Tuples.{Tuple, five}
 use Rattle.spki_reduce.specs.Views.{entry_tuple}
@@ -9,7 +9,6 @@ use Rattle.spki_reduce.proofs.Bracketing.{supported, from_left-leaves}
 use Rattle.spki_case.specs.Case.{Case, Verified}
 use Rattle.spki_decision.specs.Standing.{AreShown}
 use Rattle.spki_decision.specs.Granted.{Granted}
-use Rattle.spki_case.specs.Sequence.{keys_of, certificates}
 use Rattle.spki_decision.proofs.Evident.{one_list}
 use Rattle.spki_decision.proofs.Entries.{granted}
 use Rattle.spki_decision.proofs.Leading.{five_same}
@@ -18,20 +17,13 @@ module _ (c : Case) (verified : Verified) where
   -- the tree from the left supports what is asked
   pub granted_from_left : (n : ℕ) (tuples : List Tuple) → AreShown c.policy verified c.items tuples → (g : Granted n c verified)
       → Supports c.policy (from_left (five (entry_tuple g.entry)) tuples) c.key c.request c.moment
-  granted_from_left n tuples shown g =
-      let e : g.tuples ≡ tuples = one_list c.policy (keys_of c.items) verified (certificates c.items) g.tuples tuples g.shown shown in
-      let first = five (entry_tuple g.entry) in
-      let left = supported c.policy g.supported.tree c.key c.request c.moment first g.tuples g.supported.supports g.supported.leaves_are in
-      rw e at left
+  granted_from_left n tuples shown g = search (rules, one_list, supported)
 
   pub from_left_granted : (place : ℕ) (entry : Entry) (tuples : List Tuple)
       → slice_get c.entries place ≡ Some entry → AreShown c.policy verified c.items tuples
       → Supports c.policy (from_left (five (entry_tuple entry)) tuples) c.key c.request c.moment
       → Granted (suc place) c verified
-  from_left_granted place entry tuples stands shown s =
-      let first = five (entry_tuple entry) in
-      granted c verified tuples shown place entry stands
-      (record { tree = from_left first tuples; leaves_are = from_left-leaves first tuples; supports = s })
+  from_left_granted place entry tuples stands shown s = search (rules, granted, from_left-leaves)
 
   -- where nothing is shown, the entry's own tuple grants or doesn't
   pub granted_alone : (n : ℕ) → AreShown c.policy verified c.items [] → (g : Granted n c verified)

@@ -1,5 +1,5 @@
 -- The decision of a part of an access list is that of the list, if only entries are missing that are left out.
-use Rattle.std.proofs.Common.{◌≡◌, ℕ, zero, suc, ◌+◌, ◌<◌, ◌≤◌, List, [], ◌∷◌, Some, map, slice_get, refl, sym, ap, ◌∙◌, subst, arith, inl, inr}
+use Rattle.std.proofs.Common.{◌≡◌, ℕ, zero, suc, ◌+◌, ◌<◌, ◌≤◌, List, [], ◌∷◌, Some, map, slice_get, sym, ap, ◌∙◌, subst, arith, inl, inr, rules}
 use Rattle.std.proofs.lemmas.Option.{none-some}
 use Rattle.spki_cert.specs.declared.entry.Entry.{Entry}
 use Rattle.spki_reduce.specs.Tuples.{Tuple}
@@ -9,7 +9,6 @@ use Rattle.spki_decision.specs.declared.decision.Decision.TheVariants.{Yes, No}
 use Rattle.spki_decision.specs.Standing.{AreShown}
 use Rattle.spki_decision.specs.Granted.{Granted}
 use Rattle.spki_decision.specs.Decision.{IsDecision}
-use Rattle.spki_decision.specs.Supported.{Supported}
 use Rattle.spki_decision.specs.LeftOut.{IsLeftOut, IsKept, AreKept, second, kept_case, IsRenumbered}
 use Rattle.spki_decision.proofs.Finding.{some_same}
 use Rattle.spki_decision.proofs.LeftOut.{supported_named}
@@ -30,9 +29,7 @@ module _ (Out : Entry → Type 0) where
   listed n (f ∷ es) (k ∷ ks) p m e (inl out) stands =
       let later = listed (suc n) es (k ∷ ks) p m e out.1 stands in
       (suc later.0, omega (arith, later.1), later.2)
-  listed n (f ∷ es) (k ∷ ks) zero m e (inr here) stands =
-      let same : (m, e) ≡ (n, f) = sym (some_same k (m, e) stands) ∙ here.0 in
-      (0, omega (arith, ap (λ (j : ℕ × Entry). j.0) same), ap (λ (j : ℕ × Entry). Some j.1) (sym same))
+  listed n (f ∷ es) (k ∷ ks) zero m e (inr here) stands = search (rules, some_same)
   listed n (f ∷ es) (k ∷ ks) (suc p) m e (inr here) stands =
       let later = listed (suc n) es ks p m e here.1 stands in
       (suc later.0, omega (arith, later.1), later.2)
@@ -42,17 +39,10 @@ module _ (Out : Entry → Type 0) where
       → ¬ Out e → (p : ℕ) × (slice_get ks p ≡ Some (n + place, e))
   found n [] ks place e kept stands in_it = absurd (none-some e stands)
   found n (f ∷ es) [] zero e kept stands in_it = absurd (in_it (subst Out (some_same f e stands) kept.0))
-  found n (f ∷ es) [] (suc place) e kept stands in_it =
-      let later = found (suc n) es [] place e kept.1 stands in_it in
-      absurd (none-some (suc n + place, e) later.1)
+  found n (f ∷ es) [] (suc place) e kept stands in_it = search (rules, none-some, found (suc n) es [] place e kept.1 stands in_it)
   found n (f ∷ es) (k ∷ ks) zero e (inl out) stands in_it = absurd (in_it (subst Out (some_same f e stands) out.0))
-  found n (f ∷ es) (k ∷ ks) (suc place) e (inl out) stands in_it =
-      let later = found (suc n) es (k ∷ ks) place e out.1 stands in_it in
-      let moved : suc n + place ≡ n + suc place = omega arith in
-      (later.0, later.1 ∙ ap (λ (m : ℕ). Some (m, e)) moved)
-  found n (f ∷ es) (k ∷ ks) zero e (inr here) stands in_it =
-      let first : n ≡ n + 0 = omega arith in
-      (0, ap Some here.0 ∙ ap (λ (g : Entry). Some (n, g)) (some_same f e stands) ∙ ap (λ (m : ℕ). Some (m, e)) first)
+  found n (f ∷ es) (k ∷ ks) (suc place) e (inl out) stands in_it = search (rules, found (suc n) es (k ∷ ks) place e out.1 stands in_it)
+  found n (f ∷ es) (k ∷ ks) zero e (inr here) stands in_it = search (rules, some_same)
   found n (f ∷ es) (k ∷ ks) (suc place) e (inr here) stands in_it =
       let later = found (suc n) es ks place e here.1 stands in_it in
       let moved : suc n + place ≡ n + suc place = omega arith in
@@ -86,45 +76,17 @@ module _ (c : Case) (verified : Verified) (kept : List (ℕ × Entry)) (are_kept
       let p = found (IsLeftOut c g.tuples) 1 c.entries kept g.place g.entry (are_kept g.tuples g.shown) g.stands
       (λ out. out (supported_named c g.tuples g.entry g.supported)) in
       let number : 1 + g.place ≡ n = omega (arith, g.numbered) in
-      let stands = p.1 ∙ ap (λ (m : ℕ). Some (m, g.entry)) number in (
-        p.0,
-        stands,
-        record {
-          place = p.0;
-          numbered = refl;
-          entry = g.entry;
-          stands = second_at kept p.0 n g.entry stands;
-          tuples = g.tuples;
-          shown = g.shown;
-          supported = g.supported;
-        },
-      )
+      let stands = p.1 ∙ ap (λ (m : ℕ). Some (m, g.entry)) number in
+      search (rules, second_at)
 
   -- and the other way round
   kept_granted : (p n : ℕ) (e : Entry) → slice_get kept p ≡ Some (n, e) → Granted (suc p) (kept_case c kept) verified → Granted n c verified
-  kept_granted p n e stands g =
-      let place_is : g.place ≡ p = omega (arith, g.numbered) in
-      let here : slice_get (map second kept) p ≡ Some g.entry = subst (λ (q : ℕ). slice_get (map second kept) q ≡ Some g.entry) place_is g.stands in
-      let same : g.entry ≡ e = some_same g.entry e (sym here ∙ second_at kept p n e stands) in
-      let l = listed (IsLeftOut c g.tuples) 1 c.entries kept p n e (are_kept g.tuples g.shown) stands in
-      record {
-        place = l.0;
-        numbered = omega (arith, l.1);
-        entry = e;
-        stands = l.2;
-        tuples = g.tuples;
-        shown = g.shown;
-        supported = subst (Supported c g.tuples) same g.supported;
-      }
+  kept_granted p n e stands g = search (rules, slice_get, some_same, second_at, listed)
 
   -- an earlier number stands at an earlier place
   earlier : (tuples : List Tuple) → AreShown c.policy verified c.items tuples → (p q n m : ℕ) (e f : Entry)
       → slice_get kept p ≡ Some (n, e) → slice_get kept q ≡ Some (m, f) → m ≤ n → q ≤ p
-  earlier tuples shown p q n m e f at_p at_q less =
-      let not_more : ¬ (p < q) = λ more.
-      let grows = growing (IsLeftOut c tuples) 1 c.entries kept p q n m e f (are_kept tuples shown) more at_p at_q in
-      absurd (omega (arith, less, grows)) in
-      omega (arith, not_more)
+  earlier tuples shown p q n m e f at_p at_q less = search (rules, growing)
 
   pub renumbered : (x y : Decision) → IsDecision (kept_case c kept) verified x → IsRenumbered kept x y → IsDecision c verified y
   renumbered (Yes m) (Yes n) d r =

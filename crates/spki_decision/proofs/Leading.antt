@@ -1,5 +1,5 @@
 -- Tuples lead from an authorization to a key step by step.
-use Rattle.std.proofs.Common.{◌≡◌, ◌↔◌, ℕ, List, [], ◌∷◌, ◌++◌, refl, sym, ◌∙◌, ap, subst}
+use Rattle.std.proofs.Common.{◌≡◌, ◌↔◌, ℕ, List, [], ◌∷◌, ◌++◌, refl, sym, ◌∙◌, ap, subst, rules}
 use Rattle.spki_cert.specs.declared.principal.Policy.{Policy}
 use Rattle.spki_reduce.specs.Tuples.{FiveTuple, FourTuple, Tuple, five, four}
 use Rattle.spki_reduce.specs.Rules.{IsFor, Joins}
@@ -20,10 +20,7 @@ module _ (policy : Policy) where
         → (a : Tuple) × Derives policy tree a × Derives policy (extended (leaf a) ts) root
 
   by_root : (ts : List Tuple) (root : Tuple) → ByRoot ts root
-  by_root [] root = record {
-    grown = λ tree a d e. subst (Derives policy tree) (sym e) d;
-    begun = λ tree d. (root, d, refl);
-  }
+  by_root [] root = search rules
   by_root (t ∷ ts) root =
       let later = by_root ts root in
       record {
@@ -51,12 +48,8 @@ module _ (policy : Policy) where
 
   begins : (t : FiveTuple) (x : Tuple) (ts : List Tuple) (root b : Tuple) → Derives policy (join (leaf (five t)) (leaf x)) b
       → Derives policy (extended (leaf b) ts) root → Goes x t (λ m. Derives policy (from_left (five m) ts) root)
-  begins t x ts root (five m) d e =
-      let left = subst (λ (a : Tuple). Joins policy a d.1 (five m)) d.2 d.4 in
-      (m, subst (λ (y : Tuple). Joins policy (five t) y (five m)) d.3 left, e)
-  begins t x ts root (four m) d e =
-      let left = subst (λ (a : Tuple). Joins policy a d.1 (four m)) d.2 d.4 in
-      absurd (no_definition t x m (subst (λ (y : Tuple). Joins policy (five t) y (four m)) d.3 left))
+  begins t x ts root (five m) d e = search rules
+  begins t x ts root (four m) d e = search (rules, no_definition)
 
   pub first_step : (t : FiveTuple) (x : Tuple) (ts : List Tuple) (root : Tuple) → Derives policy (from_left (five t) (x ∷ ts)) root
       → Goes x t (λ m. Derives policy (from_left (five m) ts) root)
@@ -85,18 +78,10 @@ module _ (policy : Policy) where
 
   module _ (holder : List ℕ) where
     pub leads_alone : (t : FiveTuple) → Leads policy [] holder t ↔ IsFor policy t holder
-    leads_alone t = (
-      λ l. let same : l.root ≡ t = five_same l.root t l.derived in subst (λ (r : FiveTuple). IsFor policy r holder) same l.is_for,
-      λ f. record { root = t; derived = refl; is_for = f },
-    )
+    leads_alone t = search (rules, five_same)
 
     pub leads_first : (t : FiveTuple) (x : Tuple) (ts : List Tuple) → Leads policy (x ∷ ts) holder t ↔ Goes x t (Leads policy ts holder)
-    leads_first t x ts = (
-      λ l.
-          let f = first_step t x ts (five l.root) l.derived in
-          (f.0, f.1, record { root = l.root; derived = f.2; is_for = l.is_for }),
-      λ g. record { root = g.2.root; derived = step_first t g.0 x ts (five g.2.root) g.1 g.2.derived; is_for = g.2.is_for },
-    )
+    leads_first t x ts = search (rules, first_step, step_first)
 
     -- tuples that lead to the key lead to it from behind the first of them
     pub leads_behind : (before after : List Tuple) (t : FiveTuple) → Leads policy (before ++ after) holder t

@@ -1,17 +1,15 @@
 -- An entry is supported exactly if three tests pass that do not touch each other.
-use Rattle.std.proofs.Common.{◌≡◌, ℕ, Bool, true, ◌&&◌, List, [], ◌∷◌, ◌++◌, Option, None, refl, sym, ◌∙◌, ap, subst, append-nil, take, length, get_or, ◌<◌, ◌+◌, flat_map}
+use Rattle.std.proofs.Common.{◌≡◌, ℕ, Bool, true, ◌&&◌, List, [], ◌∷◌, ◌++◌, Option, None, refl, sym, ◌∙◌, ap, subst, append-nil, take, length, get_or, ◌<◌, ◌+◌, flat_map, rules}
 use Rattle.std.specs.List.{list_all}
 use Rattle.std.proofs.lemmas.List.{map-append, take_more}
 use Rattle.std.proofs.lemmas.List.Folds.{list_all-append, list_all_more}
 use Rattle.std.proofs.lemmas.Grind.{flat_map-append}
 use Rattle.spki_cert.specs.declared.entry.Entry.{Entry}
-use Rattle.spki_cert.specs.declared.window.Window.{Window}
 use Rattle.spki_cert.specs.Time.{within}
-use Rattle.spki_tag.specs.Tag.{Tag, contains}
+use Rattle.spki_tag.specs.Tag.{contains}
 use Rattle.spki_reduce.specs.declared.tuple.Step.{Step}
 use Rattle.spki_reduce.specs.Tuples.{Tuple, five, tags_of, windows_of}
 use Rattle.spki_reduce.specs.Views.{entry_tuple, step_tuple}
-use Rattle.spki_reduce.specs.Derivation.{from_left}
 use Rattle.spki_reduce.specs.Restrictions.{in_each, within_each}
 use Rattle.spki_reduce.specs.Chain.{tuples_of, all_tags, all_windows}
 use Rattle.spki_reduce.proofs.Bracketing.{supported, from_left-leaves}
@@ -21,7 +19,8 @@ use Rattle.spki_decision.specs.declared.membership.Membership.{Membership}
 use Rattle.spki_decision.specs.declared.required_subject.RequiredSubject.{RequiredSubject}
 use Rattle.spki_decision.specs.Supported.{Supported}
 use Rattle.spki_decision.specs.Membership.{Leads, IsMetBy, IsRequiredBy, IsMembership}
-use Rattle.spki_decision.proofs.Chains.{both, each_at}
+use Rattle.spki_decision.proofs.Chains.{each_at}
+use Rattle.std.proofs.lemmas.Bool.{and_parts}
 use Rattle.spki_decision.proofs.Leading.{issuer_kept}
 
 pub together : (a b : Bool) → a ≡ true → b ≡ true → (a && b) ≡ true
@@ -42,34 +41,10 @@ module _ (c : Case) (tuples : List Tuple) (e : Entry) where
       let from = supported c.policy s.tree c.key c.request c.moment first tuples s.supports s.leaves_are in
       let tags = tags_so_far c.policy first tuples from.root from.derived in
       let windows = windows_so_far c.policy first tuples from.root from.derived in
-      record {
-        leads = record { root = from.root; derived = from.derived; is_for = record { whole = from.grants.whole; named = from.grants.named } };
-        asked = both (contains e.tag c.request) (in_each c.request (all_tags tuples)) (sym (ap (in_each c.request) tags) ∙ from.grants.asked);
-        timely = both (within c.moment e.window) (within_each c.moment (all_windows tuples))
-            (sym (ap (within_each c.moment) windows) ∙ from.grants.timely);
-      }
+      search (rules, and_parts)
 
   pub supports : Passes → Supported c tuples e
-  supports p =
-      let root = p.leads.root in
-      let tags = tags_so_far c.policy first tuples root p.leads.derived in
-      let windows = windows_so_far c.policy first tuples root p.leads.derived in
-      record {
-        tree = from_left first tuples;
-        leaves_are = from_left-leaves first tuples;
-        supports = record {
-          root = root;
-          derived = p.leads.derived;
-          grants = record {
-            issuer = issuer_kept c.policy tuples (entry_tuple e) root p.leads.derived;
-            whole = p.leads.is_for.whole;
-            named = p.leads.is_for.named;
-            asked = ap (in_each c.request) tags ∙ together (contains e.tag c.request) (in_each c.request (all_tags tuples)) p.asked.0 p.asked.1;
-            timely = ap (within_each c.moment) windows
-                ∙ together (within c.moment e.window) (within_each c.moment (all_windows tuples)) p.timely.0 p.timely.1;
-          };
-        };
-      }
+  supports p = search (rules, tags_so_far, windows_so_far, from_left-leaves, issuer_kept, together)
 
 -- ---- memberships
 
@@ -120,18 +95,12 @@ module _ (steps : List Step) (i : ℕ) (step : Step) (below : i < length steps) 
     pub contain_more : AllContain c (tuples_of (take i steps))
         → (in_each c.request (tags_of (step_tuple step)) ≡ true) × (within_each c.moment (windows_of (step_tuple step)) ≡ true)
         → AllContain c (tuples_of (take (i + 1) steps))
-    contain_more so_far this = (
-      more_pass (λ (t : Tag). contains t c.request) tags_of so_far.0 this.0,
-      more_pass (λ (w : Window). within c.moment w) windows_of so_far.1 this.1,
-    )
+    contain_more so_far this = search (rules, more_pass)
 
     -- all steps contain it only if each does
     pub contain_each : AllContain c (tuples_of steps)
         → (in_each c.request (tags_of (step_tuple step)) ≡ true) × (within_each c.moment (windows_of (step_tuple step)) ≡ true)
-    contain_each all = (
-      each_passes (λ (t : Tag). contains t c.request) tags_of all.0,
-      each_passes (λ (w : Window). within c.moment w) windows_of all.1,
-    )
+    contain_each all = search (rules, each_passes)
 
   -- the steps up to one have its tags after those of the steps before it
   pub more_tuples : tuples_of (take (i + 1) steps) ≡ tuples_of (take i steps) ++ step_tuple step ∷ []

@@ -1,5 +1,5 @@
 -- A text has one decision, one explanation and one reduction, or is refused as too large.
-use Rattle.std.proofs.Common.{◌≡◌, ◌⊎◌, inl, inr, ℕ, ◌<◌, List, Result, Ok, Err, refl, sym, ap, subst, arith}
+use Rattle.std.proofs.Common.{◌≡◌, ◌⊎◌, inl, inr, ℕ, List, Result, Ok, Err, refl, sym, ap, subst, rules}
 use Rattle.std.proofs.lemmas.Option.{slice_get_within}
 use Rattle.spki_reduce.specs.Tuples.{Tuple}
 use Rattle.spki_case.specs.Case.{Case, Verified, accepted_by}
@@ -31,10 +31,7 @@ use Rattle.spki_decision.proofs.OneReduction.{one_reduction}
 
 module _ (c : Case) (verified : Verified) where
   least_one : (n m : ℕ) → IsFirstGranted n c verified → IsFirstGranted m c verified → n ≡ m
-  least_one n m a b =
-      let not_less : ¬ (n < m) = λ less. b.none_before n less a.granted in
-      let not_more : ¬ (m < n) = λ less. a.none_before m less b.granted in
-      omega (arith, not_less, not_more)
+  least_one n m a b = search rules
 
   pub decision_one : (x y : Decision) → IsDecision c verified x → IsDecision c verified y → x ≡ y
   decision_one (Yes n) (Yes m) a b = ap Yes (least_one n m a b)

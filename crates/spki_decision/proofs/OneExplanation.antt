@@ -1,5 +1,5 @@
 -- A case has one explanation.
-use Rattle.std.proofs.Common.{◌≡◌, inl, inr, ℕ, zero, suc, List, [], ◌∷◌, ◌++◌, Some, length, slice_get, refl, sym, ◌∙◌, ap, subst, arith}
+use Rattle.std.proofs.Common.{◌≡◌, inl, inr, ℕ, zero, suc, List, [], ◌∷◌, ◌++◌, Some, length, slice_get, refl, sym, ◌∙◌, ap, subst, arith, rules}
 use Rattle.std.specs.List.{AllZip, AllByRecursion}
 use Rattle.std.proofs.lemmas.List.{take_all}
 use Rattle.std.proofs.lemmas.Option.{slice_get_within}
@@ -11,7 +11,6 @@ use Rattle.spki_reduce.specs.declared.last_tests.Denial.{Denial}
 use Rattle.spki_reduce.specs.declared.last_tests.Denial.TheVariants as denial
 use Rattle.spki_reduce.specs.Tuples.{FiveTuple, Tuple, five}
 use Rattle.spki_reduce.specs.Views.{entry_tuple}
-use Rattle.spki_reduce.specs.Derivation.{from_left}
 use Rattle.spki_reduce.specs.Restrictions.{in_each}
 use Rattle.spki_reduce.specs.Chain.{GoesThrough}
 use Rattle.spki_reduce.specs.LastTests.{IsFirstDenial}
@@ -19,13 +18,13 @@ use Rattle.spki_reduce.proofs.Bracketing.{one_root}
 use Rattle.spki_reduce.proofs.Lacking.{never}
 use Rattle.spki_reduce.proofs.Through.{HasTag, AreTagged, unstopped, one_stop}
 use Rattle.spki_case.specs.Case.{Case, Verified}
-use Rattle.spki_case.specs.Sequence.{Certificate, auth, name, Shown, keys_of, certificates}
+use Rattle.spki_case.specs.Sequence.{Certificate, auth, name, Shown, certificates}
 use Rattle.spki_decision.specs.declared.explanation.Explanation.{Explanation}
 use Rattle.spki_decision.specs.declared.explanation.Explanation.TheVariants.{Evidence, Entries}
 use Rattle.spki_decision.specs.declared.explanation.Reason.{Reason}
 use Rattle.spki_decision.specs.declared.explanation.Reason.TheVariants.{Grants, Stopped}
 use Rattle.spki_decision.specs.declared.evidence.Stop.{Stop}
-use Rattle.spki_decision.specs.Standing.{tuple_of, Stands, StandsAs, FailsBy, FailsAt}
+use Rattle.spki_decision.specs.Standing.{tuple_of, StandsAs, FailsAt}
 use Rattle.spki_decision.specs.Reduced.{StopsAtItem}
 use Rattle.spki_decision.specs.Explained.{LacksFirst, IsReason, reason_of, AreReasons, IsExplanation, IsSameExplanation}
 use Rattle.spki_decision.proofs.Finding.{some_same}
@@ -46,16 +45,7 @@ module _ {A : Type 0} (P : A → Type 0) where
 
 pub one_failure : (policy : Policy) (verified : Verified) (items : List SeqItem) (item other : ℕ) (a b : Stop)
     → FailsAt policy verified items item a → FailsAt policy verified items other b → (item ≡ other) × (a ≡ b)
-one_failure policy verified items item other a b h k =
-    let keys = keys_of items in
-    let P : Shown → Type 0 = λ shown. (holder : List ℕ) × Stands policy keys verified shown holder in
-    let same : h.failing ≡ k.failing =
-    first_without P h.before h.after k.before k.after h.failing k.failing (sym h.parts ∙ k.parts) h.standing k.standing
-    (λ s. never_both policy keys verified h.failing s.0 a s.1 h.fails)
-    (λ s. never_both policy keys verified k.failing s.0 b s.1 k.fails) in (
-      h.place ∙ ap (λ s. s.item) same ∙ sym k.place,
-      one_test policy keys verified h.failing a b h.fails (subst (λ s. FailsBy policy keys verified s b) (sym same) k.fails),
-    )
+one_failure policy verified items item other a b h k = search (rules, first_without, never_both, one_test)
 
 -- ---- one entry
 
@@ -89,11 +79,7 @@ module _ (c : Case) (tuples : List Tuple) (tagged : AreTagged tuples) (e : Entry
   lacks root denial.WindowLacks denial.WindowLacks h k = refl
 
   one_denial : (a b : Denial) → LacksFirst c tuples e a → LacksFirst c tuples e b → a ≡ b
-  one_denial a b h k =
-      let tree = from_left first tuples in
-      let fives : five k.root ≡ five h.root = one_root c.policy tree tree (five k.root) (five h.root) refl k.derived h.derived in
-      let roots : k.root ≡ h.root = cc in
-      lacks h.root a b h.first (subst (λ root. IsFirstDenial c.policy root c.key c.request c.moment (Some b)) roots k.first)
+  one_denial a b h k = grind (arith, one_root, lacks)
 
   -- a chain that goes through doesn't stop
   not_stopped : (a : Denial) (item : ℕ) (cause : Cause) → LacksFirst c tuples e a → StopsAtItem c tuples e item cause → ⊥
@@ -146,13 +132,7 @@ module _ (c : Case) (tuples : List Tuple) (tagged : AreTagged tuples) where
       cc
 
 one_answer : (c : Case) (verified : Verified) (rs ss : List Reason) → AreReasons c verified rs → AreReasons c verified ss → rs ≡ ss
-one_answer c verified rs ss h k =
-    let keys = keys_of c.items in
-    let same : k.tuples ≡ h.tuples = one_list c.policy keys verified (certificates c.items) k.tuples h.tuples k.shown h.shown in
-    let each : AllZip (IsReason c h.tuples) c.entries ss = subst (λ ts. AllZip (IsReason c ts) c.entries ss) same k.each in
-    each_one c h.tuples (are_tagged c.policy keys verified (certificates c.items) h.tuples h.shown) c.entries rs ss h.each each
-    (λ place there. (k.grants place).1 ((h.grants place).0 there))
-    (λ place there. (h.grants place).1 ((k.grants place).0 there))
+one_answer c verified rs ss h k = search (rules, one_list, each_one, are_tagged)
 
 pub one_explanation : (c : Case) (verified : Verified) (x y : Explanation) → IsExplanation c verified x → IsExplanation c verified y
     → IsSameExplanation x y

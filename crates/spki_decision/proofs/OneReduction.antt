@@ -1,5 +1,5 @@
 -- A case has one reduction.
-use Rattle.std.proofs.Common.{◌≡◌, List, [], ◌∷◌, refl, sym, ap, ◌∙◌, subst}
+use Rattle.std.proofs.Common.{◌≡◌, List, [], ◌∷◌, refl, sym, ap, ◌∙◌, rules}
 use Rattle.std.specs.List.{AllZip, AllByRecursion}
 use Rattle.spki_cert.specs.declared.entry.Entry.{Entry}
 use Rattle.spki_cert.specs.Time.{IsLimit}
@@ -10,7 +10,6 @@ use Rattle.spki_reduce.proofs.OneFive.{five_one}
 use Rattle.spki_reduce.proofs.OneFold.{one_fold}
 use Rattle.spki_reduce.proofs.Through.{AreTagged, becomes_nothing}
 use Rattle.spki_case.specs.Case.{Case, Verified}
-use Rattle.spki_case.specs.Sequence.{keys_of, certificates}
 use Rattle.spki_decision.specs.declared.reduction.EntryFold.{EntryFold}
 use Rattle.spki_decision.specs.declared.reduction.EntryFold.TheVariants.{Done, Stopped}
 use Rattle.spki_decision.specs.declared.reduction.Reduction.{Reduction}
@@ -49,11 +48,7 @@ module _ (c : Case) (tuples : List Tuple) (tagged : AreTagged tuples) where
 
 one_answer : (c : Case) (verified : Verified) (xs ys : List EntryFold) → AllByRecursion IsDated xs → AllByRecursion IsDated ys
     → AreFolds c verified xs → AreFolds c verified ys → xs ≡ ys
-one_answer c verified xs ys d l h k =
-    let keys = keys_of c.items in
-    let same : k.tuples ≡ h.tuples = one_list c.policy keys verified (certificates c.items) k.tuples h.tuples k.shown h.shown in
-    let each : AllZip (IsEntryFold c h.tuples) c.entries ys = subst (λ ts. AllZip (IsEntryFold c ts) c.entries ys) same k.each in
-    each_one c h.tuples (are_tagged c.policy keys verified (certificates c.items) h.tuples h.shown) c.entries xs ys d l h.each each
+one_answer c verified xs ys d l h k = search (rules, one_list, each_one, are_tagged)
 
 pub one_reduction : (c : Case) (verified : Verified) (x y : Reduction) → AreDated x → AreDated y → IsReduction c verified x
     → IsReduction c verified y → IsSameReduction x y

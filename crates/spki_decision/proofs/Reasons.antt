@@ -1,5 +1,5 @@
 -- What the reasons of entries say of what is granted, and of decisions.
-use Rattle.std.proofs.Common.{◌≡◌, ◌↔◌, ◌⊎◌, inl, inr, ℕ, suc, ◌<◌, List, Option, Some, None, IsNone, slice_get, refl, sym, ap, ◌∙◌, subst, arith}
+use Rattle.std.proofs.Common.{◌≡◌, ◌↔◌, ◌⊎◌, inl, inr, ℕ, suc, ◌<◌, List, Option, Some, None, IsNone, slice_get, refl, ap, ◌∙◌, arith, rules}
 use Rattle.std.specs.List.{AllZip}
 use Rattle.std.specs.Option.{IsSomeAnd}
 use Rattle.std.proofs.lemmas.Slice.Zip.{AllZip-left, AllZip-right}
@@ -11,7 +11,6 @@ use Rattle.spki_reduce.specs.declared.last_tests.Denial.TheVariants as denial
 use Rattle.spki_reduce.specs.declared.tuple.Five.{Five}
 use Rattle.spki_reduce.specs.Tuples.{FiveTuple, Tuple, five}
 use Rattle.spki_reduce.specs.Views.{entry_tuple}
-use Rattle.spki_reduce.specs.Derivation.{from_left}
 use Rattle.spki_reduce.specs.Supports.{Grants as Allows}
 use Rattle.spki_reduce.specs.Restrictions.{in_each, within_each}
 use Rattle.spki_reduce.specs.Chain.{FoldsTo, HasMet}
@@ -40,13 +39,7 @@ use Rattle.spki_decision.proofs.Entries.{granted, supported}
 module _ (c : Case) (tuples : List Tuple) (e : Entry) where
   first_denial : (f : Five) (denial : Denial) (folds : FoldsTo c.policy (five (entry_tuple e)) tuples f)
       → HasMet (five (entry_tuple e)) tuples f → IsFirstDenial c.policy folds.root c.key c.request c.moment (Some denial) → LacksFirst c tuples e denial
-  first_denial f denial folds met h = record {
-    root = folds.root;
-    derived = folds.derived;
-    timely = folds.timely;
-    tagged = λ nothing. folds.tagged (met ∙ nothing);
-    first = h;
-  }
+  first_denial f denial folds met h = search rules
 
   -- how the last tests end is the reason
   pub reasoned : (f : Five) (denial : Option Denial) (folds : FoldsTo c.policy (five (entry_tuple e)) tuples f)
@@ -65,14 +58,7 @@ module _ (c : Case) (tuples : List Tuple) (e : Entry) where
 
   -- what lacks something isn't supported: every derivation has the root that lacks it
   unsupported_by : (denial : Denial) → LacksFirst c tuples e denial → Supported c tuples e → ⊥
-  unsupported_by denial h s =
-      let first = five (entry_tuple e) in
-      let same : five s.supports.root ≡ five h.root =
-      one_root c.policy s.tree (from_left first tuples) (five s.supports.root) (five h.root)
-      (s.leaves_are ∙ sym (from_left-leaves first tuples)) s.supports.derived h.derived in
-      let P : FiveTuple → Type 0 = λ root. Allows c.policy root c.key c.request c.moment in
-      let roots : s.supports.root ≡ h.root = cc in
-      lacking h.root denial h.first (subst P roots s.supports.grants)
+  unsupported_by denial h s = grind (arith, one_root, from_left-leaves, lacking)
 
   -- a reason is Grants, or a test that the root doesn't pass, or a stop
   abbrev pub IsParted : Reason → Type 0
@@ -117,50 +103,27 @@ module _ (c : Case) (verified : Verified) (tuples : List Tuple) (shown : AreShow
 pub are_reasons : (c : Case) (verified : Verified) (tuples : List Tuple) (reasons : List Reason) → IsRequest c.request
     → AreShown c.policy verified c.items tuples → AllZip (IsReason c tuples) c.entries reasons → AllSmall c tuples
     → IsWithinWork c tuples → AreReasons c verified reasons
-are_reasons c verified tuples reasons is shown each small worked = record {
-  tuples = tuples;
-  shown = shown;
-  each = each;
-  within_limit = small;
-  worked = worked;
-  grants = λ place.
-      (has_granted c verified tuples shown reasons each place, grants_it c verified tuples shown reasons each place is);
-}
+are_reasons c verified tuples reasons is shown each small worked = search (rules, has_granted, grants_it)
 
 -- ---- decisions
 
 module _ (c : Case) (verified : Verified) (reasons : List Reason) (h : AreReasons c verified reasons) (n : ℕ) where
   named_first : IsDecision c verified (Yes n) → IsFirstGrant reasons n
-  named_first d =
-      let place_is = d.granted.numbered in
-      record {
-        place = d.granted.place;
-        numbered = place_is;
-        here = (h.grants d.granted.place).1 (rw place_is at d.granted);
-        none_before = λ k below there. d.none_before (suc k) (omega arith) ((h.grants k).0 there);
-      }
+  named_first d = search (rules, granted)
 
   first_granted : (f : IsFirstGrant reasons n) → Granted n c verified
   first_granted f = let place_is = f.numbered in rw place_is ((h.grants f.place).0 f.here)
 
 one_first : (reasons : List Reason) (m n : ℕ) → IsFirstGrant reasons m → IsFirstGrant reasons n → m < n → ⊥
-one_first reasons m n f g below =
-    let m_is = f.numbered in
-    let n_is = g.numbered in
-    g.none_before f.place (omega arith) f.here
-
-same_number : (m n : ℕ) → (m < n → ⊥) → (n < m → ⊥) → m ≡ n
-same_number m n below above = omega arith
+one_first reasons m n f g below = search rules
 
 module _ (c : Case) (verified : Verified) where
   agree : (reasons : List Reason) (d : Decision) → AreReasons c verified reasons → IsDecision c verified d → (n : ℕ)
       → (d ≡ Yes n) ↔ IsFirstGrant reasons n
   agree reasons No h d n = (λ e. absurd cc, λ f. absurd (d n (first_granted c verified reasons h n f)))
   agree reasons (Yes m) h d n =
-      let first = named_first c verified reasons h m d in (
-        λ e. let same : m ≡ n = cc in rw same at first,
-        λ f. ap Yes (same_number m n (one_first reasons m n first f) (one_first reasons n m f first)),
-      )
+      let first = named_first c verified reasons h m d in
+      search (rules, one_first)
 
   failed : (d : Decision) (item : ℕ) (stop : Stop) → IsFailure c verified item stop → IsDecision c verified d → d ≡ No
   failed No item stop h d = refl

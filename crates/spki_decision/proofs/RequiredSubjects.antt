@@ -1,5 +1,5 @@
 -- What is required of a subject before a step, if this is required after it.
-use Rattle.std.proofs.Common.{◌≡◌, ◌≢◌, ℕ, zero, suc, ◌+◌, Bool, true, false, List, [], ◌∷◌, ◌++◌, Option, Some, None, refl, sym, ◌∙◌, ap, subst, append_assoc, take, drop, slice_get, add-one, drop-cons, append-nil, take_all, length, get_or, ◌-◌, ◌<◌, arith}
+use Rattle.std.proofs.Common.{◌≡◌, ◌≢◌, ℕ, zero, suc, ◌+◌, true, false, List, [], ◌∷◌, ◌++◌, Option, Some, None, refl, sym, ◌∙◌, ap, subst, append_assoc, take, drop, slice_get, add-one, drop-cons, append-nil, take_all, length, get_or, ◌-◌, ◌<◌, rules}
 use Rattle.std.proofs.lemmas.List.{map-append, append_cancel_left, take-append-drop, take_more}
 use Rattle.std.proofs.lemmas.Option.{slice_get_within, get_or_from_slice_get}
 use Rattle.std.proofs.Math.Seq.{take-suc}
@@ -12,10 +12,8 @@ use Rattle.spki_reduce.specs.Views.{step_tuple}
 use Rattle.spki_reduce.specs.Chain.{tuples_of}
 use Rattle.spki_decision.specs.declared.required_subject.RequiredSubject.{RequiredSubject}
 use Rattle.spki_decision.specs.Membership.{IsRequiredBy, IsRequiredBefore}
+use Rattle.spki_reduce.proofs.Chains.{never}
 use Rattle.spki_decision.proofs.Leading.{leads_alone, leads_first, leads_behind}
-
-never : (b : Bool) → b ≡ false → b ≡ true → ⊥
-never b e f = let g : false ≡ true = sym e ∙ f in cc
 
 module _ (policy : Policy) (required : RequiredSubject) where
   pub defined_before : (d : FourTuple) (earlier : RequiredSubject) (rest : List (List ℕ)) → names policy d.principal required.key ≡ true
@@ -51,19 +49,7 @@ module _ (policy : Policy) (holder : List ℕ) where
   -- without steps: the key itself
   pub required_alone : (required : RequiredSubject) → required.key ≡ holder → required.names ≡ [] → required.delegation ≡ false
       → IsRequiredBy policy [] holder (Some required)
-  required_alone required key_is names_are delegation t = (
-    λ l.
-        let f = (leads_alone policy holder t).0 l in
-        record {
-          named = subst (λ (k : List ℕ). names policy t.principal k ≡ true) (sym key_is) f.named;
-          names_are = f.whole ∙ sym names_are;
-          allowed = λ e. absurd (never required.delegation delegation e);
-        },
-    λ m. (leads_alone policy holder t).1 (record {
-      whole = m.names_are ∙ names_are;
-      named = subst (λ (k : List ℕ). names policy t.principal k ≡ true) key_is m.named;
-    }),
-  )
+  required_alone required key_is names_are delegation t = search (rules, leads_alone, never)
 
   pub required_more : (x : Tuple) (ts : List Tuple) (required : RequiredSubject) (earlier : Option RequiredSubject)
       → IsRequiredBy policy ts holder (Some required) → IsRequiredBefore policy x required earlier → IsRequiredBy policy (x ∷ ts) holder earlier
@@ -150,25 +136,14 @@ none_from policy steps rest holder from =
 
 pub whole_from : (policy : Policy) (steps rest : List Step) (holder : List ℕ) (required : Option RequiredSubject) → rest ≡ []
     → IsRequiredFrom policy steps rest holder required → IsRequiredBy policy (tuples_of steps) holder required
-whole_from policy steps rest holder required none from =
-    let whole : steps ≡ from.done = from.parted ∙ ap (λ (xs : List Step). xs ++ from.done) none in
-    subst (λ (xs : List Step). IsRequiredBy policy (tuples_of xs) holder required) (sym whole) from.is
+whole_from policy steps rest holder required none from = search rules
 
 -- before the first step that is done
 pub begin_from : (policy : Policy) (steps : List Step) (holder : List ℕ) (required : RequiredSubject) → required.key ≡ holder → required.names ≡ []
     → required.delegation ≡ false → IsRequiredFrom policy steps (take (length steps - 0) steps) holder (Some required)
-begin_from policy steps holder required key_is names_are delegation = record {
-  done = [];
-  parted = sym (append-nil (take (length steps - 0) steps) ∙ take_all (length steps - 0) steps (omega arith));
-  is = required_alone policy holder required key_is names_are delegation;
-}
+begin_from policy steps holder required key_is names_are delegation = search (rules, append-nil, take_all, required_alone)
 
 -- the last of the steps that are not done
 pub last_of : (steps : List Step) (n i : ℕ) (step : Step) → n < length steps → i ≡ length steps - 1 - n → step ≡ get_or steps i step
     → take (length steps - n) steps ≡ take (length steps - (n + 1)) steps ++ step ∷ []
-last_of steps n i step below place here =
-    let within : i < length steps = omega (arith, place, below) in
-    let more : length steps - n ≡ i + 1 = omega (arith, place, below) in
-    let less : i ≡ length steps - (n + 1) = omega (arith, place, below) in
-    ap (λ k. take k steps) more ∙ take_more steps i step within ∙ ap (λ s. take i steps ++ s ∷ []) (sym here)
-    ∙ ap (λ k. take k steps ++ step ∷ []) less
+last_of steps n i step below place here = search (rules, take_more)

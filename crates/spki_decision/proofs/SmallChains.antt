@@ -1,5 +1,5 @@
 -- If each step is small with what is left before it, no step of a chain is too large.
-use Rattle.std.proofs.Common.{◌≡◌, ℕ, ◌*◌, ◌<◌, ◌≤◌, List, ◌∷◌, Some, length, take, slice_get, subst, arith}
+use Rattle.std.proofs.Common.{◌≡◌, ℕ, ◌*◌, ◌<◌, ◌≤◌, List, ◌∷◌, Some, length, take, slice_get, subst, arith, rules}
 use Rattle.std.proofs.lemmas.Option.{slice_get_within}
 use Rattle.spki_cert.specs.declared.entry.Entry.{Entry}
 use Rattle.spki_cert.specs.declared.principal.Policy.{Policy}
@@ -40,14 +40,7 @@ module _ (most : ℕ) (tag : Tag) (tuples : List Tuple) where
   -- a step that is too large for an entry with the tag is not small
   not_small : (e : Entry) → e.tag ≡ tag → (policy : Policy) (l : TooLargeAt most policy (five (entry_tuple e)) tuples)
       → ¬ IsSmallWith most (met_so_far l.place) l.tuple
-  not_small e is policy l =
-      let over : most < nodes_product (met_so_far l.place ∷ tags_of l.tuple) =
-      subst (λ t. most < nodes_product (met (t ∷ all_tags (take l.place tuples)) ∷ tags_of l.tuple)) is l.met_too_large in
-      apart policy l.root (met_so_far l.place) l.tuple l.too_large over
+  not_small e is policy l = search (rules, apart)
 
   pub all_small : (count : ℕ) → length tuples ≤ count → AreSmallBefore count → IsSmallFor most tuples tag
-  all_small count whole h = record {
-    none_large = λ e is policy l.
-        let there = slice_get_within tuples l.place l.tuple l.stands in
-        not_small e is policy l (h l.place l.tuple (omega arith) l.stands);
-  }
+  all_small count whole h = search (rules, slice_get_within, not_small)

@@ -1,5 +1,5 @@
 -- Where chains stop, what fails, and the answers of one entry more.
-use Rattle.std.proofs.Common.{◌≡◌, ◌⊎◌, inl, inr, Option, ℕ, ◌-◌, ◌<◌, List, [], ◌∷◌, Some, map, length, get_or, take, ◌+◌, ◌++◌, slice_get, sym, ap, ◌∙◌, arith}
+use Rattle.std.proofs.Common.{◌≡◌, ◌⊎◌, inl, inr, Option, ℕ, ◌-◌, ◌<◌, List, [], ◌∷◌, Some, map, length, get_or, take, ◌+◌, ◌++◌, slice_get, sym, ap, ◌∙◌, arith, rules}
 use Rattle.std.specs.Prelude.{Vec}
 use Rattle.std.specs.declared.alloc.Global.{Global}
 use Rattle.std.specs.List.{AllZip, AllByRecursion}
@@ -12,19 +12,19 @@ use Rattle.spki_cert.specs.declared.certificate.SeqItem.{SeqItem}
 use Rattle.spki_reduce.specs.declared.fold.Cause.{Cause}
 use Rattle.spki_reduce.specs.declared.tuple.Step.{Step}
 use Rattle.spki_reduce.specs.Tuples.{Tuple, five}
-use Rattle.spki_reduce.specs.Views.{entry_tuple, step_tuple}
+use Rattle.spki_reduce.specs.Views.{entry_tuple}
 use Rattle.spki_reduce.specs.Chain.{tuples_of, StopsAt, TooLargeAt, Excludes}
 use Rattle.spki_reduce.specs.Work.{IsWork, Takes, IsOverworked}
 use Rattle.spki_reduce.proofs.Chains.{too_large}
 use Rattle.spki_reduce.proofs.Working.{taken as taken_both}
 use Rattle.spki_case.specs.Case.{Case, Verified}
-use Rattle.spki_case.specs.Sequence.{certificates, keys_of}
+use Rattle.spki_case.specs.Sequence.{certificates}
 use Rattle.spki_decision.specs.declared.certificates.ShownCert.{ShownCert}
 use Rattle.spki_decision.specs.declared.evidence.Evidence.{Evidence}
 use Rattle.spki_decision.specs.declared.evidence.Evidence.TheVariants as evidence
 use Rattle.spki_decision.specs.declared.evidence.Stop.{Stop}
 use Rattle.spki_decision.specs.Judged.{IsEvidence}
-use Rattle.spki_decision.specs.Standing.{AreShown, StandsAs, FailsAt}
+use Rattle.spki_decision.specs.Standing.{AreShown, FailsAt}
 use Rattle.spki_decision.specs.Reduced.{IsFailure, StopsAtItem, HasLargeTags, HasMuchWork, IsEntryWork}
 use Rattle.spki_decision.specs.Supported.{SmallBefore}
 use Rattle.spki_decision.specs.Views.{shown_of}
@@ -38,13 +38,7 @@ module _ (c : Case) (e : Entry) (steps : List Step) (kept : List ShownCert) (sam
     (as_many : length steps ≡ length (certificates c.items)) (step : ℕ) (cause : Cause)
     (stops : StopsAt c.policy (five (entry_tuple e)) (tuples_of steps) step cause) where
   pub stops_within : step - 1 < length kept
-  stops_within =
-      let below = slice_get_within (tuples_of steps) stops.place stops.tuple stops.stands in
-      let steps_long = length-map steps step_tuple in
-      let kept_long = length-map kept shown_of in
-      let long = ap length same in
-      let numbered = stops.numbered in
-      omega arith
+  stops_within = search (rules, slice_get_within, length-map)
 
   pub stops_at_item : (one : ShownCert) → one ≡ get_or kept (step - 1) one → Excludes c.policy (five (entry_tuple e)) (tuples_of steps) step cause
       → StopsAtItem c (tuples_of steps) e (get_or kept (step - 1) one).item cause
@@ -75,10 +69,7 @@ module _ (policy : Policy) (verified : Verified) (items read : List SeqItem) (e 
 -- where every certificate stands there are as many steps as certificates
 pub as_many : (policy : Policy) (verified : Verified) (items : List SeqItem) (steps : List Step)
     → AreShown policy verified items (tuples_of steps) → length steps ≡ length (certificates items)
-as_many policy verified items steps shown =
-    let long = AllZip-long (StandsAs policy (keys_of items) verified) (certificates items) (tuples_of steps) shown in
-    let steps_long = length-map steps step_tuple in
-    omega arith
+as_many policy verified items steps shown = search (rules, AllZip-long, length-map)
 
 -- where a certificate fails none are shown
 pub failure : (c : Case) (verified : Verified) (item : ℕ) (stop : Stop) → FailsAt c.policy verified c.items item stop
@@ -101,10 +92,7 @@ module _ (c : Case) (items : List Entry) (place : ℕ) (e : Entry) (same : items
   pub answered : {A : Type 0} (R : Entry → A → Type 0) (so_far more : List A) (answer : A)
       → AllZip R (take place c.entries) so_far → R e answer → more ≡ so_far ++ answer ∷ []
       → AllZip R (take (place + 1) c.entries) more
-  answered R so_far more answer h k grown =
-      let taken : take (place + 1) items ≡ take place items ++ e ∷ [] = rw (← read) at (take_more items place e below) in
-      let before = rw (← same) at h in
-      rw (grown, ← same, taken) (all_zipped_more R (take place items) so_far e answer before k)
+  answered R so_far more answer h k grown = search (rules, take_more, all_zipped_more)
 
   pub stands : slice_get c.entries place ≡ Some e
   stands = rw same at (slice_get-get_or items place e below ∙ ap Some (sym read))
@@ -114,13 +102,7 @@ module _ (c : Case) (items : List Entry) (place : ℕ) (e : Entry) (same : items
   small_here tuples small before = small_yet c tuples place e stands small before
 
   large_here : (tuples : List Tuple) → TooLargeAt c.most_nodes c.policy (five (entry_tuple e)) tuples → HasLargeTags c tuples
-  large_here tuples h = record {
-    place = place;
-    entry = e;
-    stands = stands;
-    at = h;
-    large = too_large c.most_nodes c.policy (five (entry_tuple e)) tuples h;
-  }
+  large_here tuples h = search (rules, stands, too_large)
 
   pub too_large_here : (tuples : List Tuple) (left : Option ℕ) (before : ℕ) → IsEntryWork c tuples place before
       → Takes c.most_work left before

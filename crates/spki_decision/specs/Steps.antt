@@ -2,7 +2,7 @@
 use Rattle.std.specs.Prelude.{◌≡◌, ℕ, List, [], ◌∷◌, Option, Some, None, Bool, true, false}
 use Rattle.spki_cert.specs.declared.principal.Policy.{Policy}
 use Rattle.spki_cert.specs.declared.certificate.SeqItem.{SeqItem}
-use Rattle.spki_cert.specs.declared.certificate.SeqItem.TheVariants.{Key, DoHash, Auth, Name, Signature}
+use Rattle.spki_cert.specs.declared.certificate.SeqItem.TheVariants.{DoHash, Auth, Name, Signature}
 use Rattle.spki_decision.specs.declared.examination.Tested.{Tested}
 use Rattle.spki_decision.specs.declared.examination.Tested.TheVariants.{Passes, Fails}
 use Rattle.spki_decision.specs.Views.{signed_of}
@@ -18,35 +18,25 @@ IsItem item (name cert) = item ≡ Name cert
 
 -- the item is no certificate
 abbrev pub IsOther : SeqItem → Type 0
-IsOther (Key octets) = Unit {0}
-IsOther (DoHash alg) = Unit {0}
 IsOther (Auth cert) = ⊥
 IsOther (Name cert) = ⊥
-IsOther (Signature s) = Unit {0}
+IsOther _ = Unit {0}
 
 -- (do ..)
 abbrev pub is_operation : SeqItem → Bool
-is_operation (Key octets) = false
 is_operation (DoHash alg) = true
-is_operation (Auth cert) = false
-is_operation (Name cert) = false
-is_operation (Signature s) = false
+is_operation _ = false
 
 -- the signature of an item
 abbrev pub signature_of : SeqItem → Option signature.Signature
-signature_of (Key octets) = None
-signature_of (DoHash alg) = None
-signature_of (Auth cert) = None
-signature_of (Name cert) = None
 signature_of (Signature s) = Some s
+signature_of _ = None
 
 -- the certificate of an item, if it is one
 abbrev pub certificate_at : ℕ → SeqItem → List SeqItem → List Shown
-certificate_at n (Key octets) behind = []
-certificate_at n (DoHash alg) behind = []
 certificate_at n (Auth cert) behind = record { item = n; certificate = auth cert; signature = signature_in behind } ∷ []
 certificate_at n (Name cert) behind = record { item = n; certificate = name cert; signature = signature_in behind } ∷ []
-certificate_at n (Signature s) behind = []
+certificate_at n _ behind = []
 
 -- The certificate passes the first three tests, and this is what a verifier is asked about it.
 pub record PassesAs (policy : Policy) (keys : List (List ℕ)) (shown : Shown) (signed : Signed) : Type 0 where
