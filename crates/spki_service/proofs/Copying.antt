@@ -1,5 +1,5 @@
 -- Texts and their copies are the texts of the same questions.
-use Rattle.std.proofs.Common.{◌≡◌, List, sym, subst, ◌∙◌}
+use Rattle.std.proofs.Common.{◌≡◌, List, sym, subst, rules}
 use Rattle.sexpr_core.specs.declared.fault.FormFault.{FormFault}
 use Rattle.sexpr_core.specs.Value.{Value, IsWithinLimits}
 use Rattle.spki_case.proofs.Unrefused.{one_text}
@@ -15,7 +15,6 @@ use Rattle.spki_decision.specs.declared.decision.Decision.{Decision}
 use Rattle.spki_decision.specs.Asked.{Signed}
 use Rattle.spki_service.specs.Held.{Held}
 use Rattle.spki_service.specs.KeptOf.{IsKeptOf}
-use Rattle.spki_service.specs.Questions.{IsWanted, RefusesWanted}
 use Rattle.spki_service.specs.Form.{RefusesForm}
 use Rattle.sexpr_text.specs.Spelling.{IsTextWithin}
 use Rattle.spki_service.specs.Copies.{IsCopyOf, IsMomentCopy, AreCopies}
@@ -58,38 +57,10 @@ of_moment_copy i of_moment.Dateless copy is r = subst (IsMomentText i) is r
 
 module _ (texts copies : Texts) (are : AreCopies texts copies) where
   pub texts_copied : (q : Question) → IsTextsOf q texts → IsTextsOf q copies
-  texts_copied q of = record {
-    sequence = copied (IsTextWithin q.sequence.now) (RefusesForm q.sequence.now) texts.sequence copies.sequence are.sequence of.sequence;
-    key = copied (IsTextWithin q.key.now) (RefusesForm q.key.now) texts.key copies.key are.key of.key;
-    request = copied (IsWanted q.request) (RefusesWanted q.request) texts.request copies.request are.request of.request;
-    moment = moment_copied q.moment texts.moment copies.moment are.moment of.moment;
-    octets = are.octets ∙ of.octets;
-  }
+  texts_copied q of = search (rules, copied, moment_copied)
 
   of_copies : (q : Question) → IsTextsOf q copies → IsTextsOf q texts
-  of_copies q of = record {
-    sequence = of_copy (IsTextWithin q.sequence.now) (RefusesForm q.sequence.now) texts.sequence copies.sequence are.sequence of.sequence;
-    key = of_copy (IsTextWithin q.key.now) (RefusesForm q.key.now) texts.key copies.key are.key of.key;
-    request = of_copy (IsWanted q.request) (RefusesWanted q.request) texts.request copies.request are.request of.request;
-    moment = of_moment_copy q.moment texts.moment copies.moment are.moment of.moment;
-    octets = sym are.octets ∙ of.octets;
-  }
+  of_copies q of = search (rules, of_copy, of_moment_copy)
 
   pub kept_of_copies : (held : Held) (signed : List Signed) (d : Decision) → IsKeptOf held texts signed d → IsKeptOf held copies signed d
-  kept_of_copies held signed d kept =
-      let from = kept.is in
-      record {
-        read = kept.read;
-        is = record {
-          entries = from.entries;
-          is = λ q of. from.is q (of_copies q of);
-          policy = from.policy;
-          nodes = from.nodes;
-          work = from.work;
-          answer = from.answer;
-          few = from.few;
-          short = λ q of. from.short q (of_copies q of);
-        };
-        signed_are = kept.signed_are;
-        decision_is = kept.decision_is;
-      }
+  kept_of_copies held signed d kept = search (rules, of_copies)

@@ -1,5 +1,5 @@
 -- How many strings a question has.
-use Rattle.std.proofs.Common.{◌≡◌, ◌≤◌, ◌<◌, ℕ, List, ◌∷◌, Bool, true, false, sym, ◌∙◌, arith}
+use Rattle.std.proofs.Common.{◌≡◌, ◌≤◌, ◌<◌, ℕ, List, ◌∷◌, Bool, true, false, rules}
 use Rattle.sexpr_core.specs.declared.fault.FormFault.{FormFault}
 use Rattle.sexpr_core.specs.Value.{Value, values}
 use Rattle.spki_tag.proofs.Weight.{weight, weights}
@@ -13,20 +13,16 @@ use Rattle.spki_service.specs.Form.{Reads, LacksForm}
 use Rattle.spki_service.specs.Questions.{IsWanted, RefusesWanted, IsAskedCase}
 use Rattle.spki_service.specs.Texts.{IsReadAs, IsTextsOf}
 use Rattle.spki_service.specs.Counted.{strings_in, TellsStrings, TellsStringsOf, HasFewStrings}
-use Rattle.spki_service.proofs.OneAsking.{form_unread, wanted_one, wanted_none}
+use Rattle.spki_service.proofs.OneAsking.{form_unread, of_wanted}
 
 -- of a list that begins with a member
 pub first_weight : (all left further : List Value) (first : Value) → weights (values left) ≤ weights (values all) → left ≡ first ∷ further
     → weight first ≤ weights (values all)
-first_weight all left further first within parts =
-    let w : weights (values (first ∷ further)) ≤ weights (values all) = rw parts at within in
-    omega (arith, w)
+first_weight all left further first within parts = search (rules, weights)
 
 pub rest_weight : (all left further : List Value) (first : Value) → weights (values left) ≤ weights (values all) → left ≡ first ∷ further
     → weights (values further) ≤ weights (values all)
-rest_weight all left further first within parts =
-    let w : weights (values (first ∷ further)) ≤ weights (values all) = rw parts at within in
-    omega (arith, w)
+rest_weight all left further first within parts = search (rules, weights)
 
 -- ---- of the text of a request
 
@@ -40,9 +36,7 @@ module _ (means : Value → Type 0) (refuses : FormFault → Type 0) (P : Value 
   many_read (Malformed fault) r a tells is = absurd (none fault r a)
 
   few : (v : Value) → TellsStrings most has_more v → has_more ≡ false → strings_in v ≤ most
-  few v tells is =
-      let not : ¬ (most < strings_in v) = λ many. let so = tells.1 many in let clash : false ≡ true = sym is ∙ so in absurd cc in
-      omega (arith, not)
+  few v tells is = search rules
 
   pub few_read : (text : PartText) → IsReadAs means refuses text → Reads means P → TellsStringsOf most has_more text → has_more ≡ false
       → Reads means (λ v. strings_in v ≤ most)
@@ -53,12 +47,12 @@ module _ (means : Value → Type 0) (refuses : FormFault → Type 0) (P : Value 
 
 module _ (q : Question) (texts : Texts) (t : IsTextsOf q texts) (c : Case) (a : IsAskedCase q c) (most : ℕ) (has_more : Bool)
     (tells : TellsStringsOf most has_more texts.request) where
-  lacks_none : (fault : FormFault) → LacksForm (IsWanted q.request) (RefusesWanted q.request) fault → ¬ Reads (IsWanted q.request) (λ v. RequestOf v c.request)
-  lacks_none fault lacks read =
-      form_unread (IsWanted q.request) (RefusesWanted q.request) (wanted_one q.request) (wanted_none q.request) (λ v. RequestOf v c.request) fault lacks read
-
   pub has_many : has_more ≡ true → Reads (IsWanted q.request) (λ v. most < strings_in v)
-  has_many = many_read (IsWanted q.request) (RefusesWanted q.request) (λ v. RequestOf v c.request) lacks_none most has_more texts.request t.request a.request tells
+  has_many =
+      many_read (IsWanted q.request) (RefusesWanted q.request) (λ v. RequestOf v c.request) (form_unread (of_wanted q.request)) most has_more
+      texts.request t.request a.request tells
 
   pub has_few : has_more ≡ false → HasFewStrings most q
-  has_few = few_read (IsWanted q.request) (RefusesWanted q.request) (λ v. RequestOf v c.request) lacks_none most has_more texts.request t.request a.request tells
+  has_few =
+      few_read (IsWanted q.request) (RefusesWanted q.request) (λ v. RequestOf v c.request) (form_unread (of_wanted q.request)) most has_more
+      texts.request t.request a.request tells

@@ -64,9 +64,7 @@ unfolding first_date
 first_year = refl
 
 pub none_beyond : (seconds : ℤ) → (IsCivilNanos (seconds *ℤ pos 1_000_000_000) → ⊥) → IsAtNoDate seconds
-none_beyond seconds h =
-    by_lt_z seconds (neg_ℤ (pos 62_167_219_200)) (λ early. inl early) (λ from. by_lt_z (pos 253_402_300_799) seconds (λ late. inr late)
-    (λ upto. absurd (h (omega (arith, signed_arith), omega (arith, signed_arith)))))
+none_beyond seconds h = search (rules, by_lt_z, neg_ℤ, signed_arith)
 
 pub none_before : (seconds : ℤ) (dt : DateTime) → civil_nanos dt ≡ seconds *ℤ pos 1_000_000_000 → dt.date.year <ℤ pos 0
     → IsAtNoDate seconds
@@ -128,27 +126,12 @@ le_true m n h = grind (arith, nat_tests)
 number_true : (n low high : ℕ) → n < 100 → low ≤ n → n ≤ high
     → (is_digit (48 + n / 10) && is_digit (48 + n % 10) && nat_le low (10 * ((48 + n / 10) - 48) + ((48 + n % 10) - 48))
     && nat_le (10 * ((48 + n / 10) - 48) + ((48 + n % 10) - 48)) high) ≡ true
-number_true n low high below h k =
-    let tens = digit_true (n / 10) (omega arith) in
-    let units = digit_true (n % 10) (omega arith) in
-    let above = le_true low (10 * ((48 + n / 10) - 48) + ((48 + n % 10) - 48)) (omega arith) in
-    let upto = le_true (10 * ((48 + n / 10) - 48) + ((48 + n % 10) - 48)) high (omega arith) in
-    and _ _ (and _ _ (and _ _ tens units) above) upto
+number_true n low high below h k = search (rules, digit_true, le_true, and)
 
 pub date_true : (year month day hour minute second : ℕ) → year < 10000 → 1 ≤ month → month ≤ 12 → 1 ≤ day → day ≤ 31
     → hour < 24 → minute < 60 → second < 60 → is_date (date_octets year month day hour minute second) ≡ true
 unfolding is_date is_time
-date_true year month day hour minute second low m n d e h i s =
-    let century = number_true (year / 100) 0 99 (omega arith) (omega arith) (omega arith) in
-    let of_century = number_true (year % 100) 0 99 (omega arith) (omega arith) (omega arith) in
-    let months = number_true month 1 12 (omega arith) m n in
-    let days = number_true day 1 31 (omega arith) d e in
-    let hours = number_true hour 0 23 (omega arith) (omega arith) (omega arith) in
-    let minutes = number_true minute 0 59 (omega arith) (omega arith) (omega arith) in
-    let seconds = number_true second 0 60 (omega arith) (omega arith) (omega arith) in
-    and _ _
-    (and _ _ (and _ _ (and _ _ (and _ _ (and _ _ (and _ _ (and _ _ refl century) of_century) refl) months) refl) days) refl)
-    (and _ _ (and _ _ (and _ _ (and _ _ (and _ _ refl hours) refl) minutes) refl) seconds)
+date_true year month day hour minute second low m n d e h i s = search (rules, number_true, and)
 
 pub is_some_date : (seconds : ℤ) (octets : List ℕ) → IsDateAt seconds octets → is_date octets ≡ true
 is_some_date seconds octets d =

@@ -1,5 +1,5 @@
 -- What the entries that are found decide.
-use Rattle.std.proofs.Common.{◌≡◌, ℕ, ◌-◌, ◌<◌, Bool, true, false, List, Option, Some, None, map, length, get_or, slice_get, sym, ap, ◌∙◌, subst, arith}
+use Rattle.std.proofs.Common.{◌≡◌, ℕ, ◌-◌, ◌<◌, Bool, true, false, List, Option, Some, None, map, length, get_or, slice_get, sym, ap, ◌∙◌, subst, arith, rules}
 use Rattle.std.proofs.lemmas.List.{length-map}
 use Rattle.std.proofs.lemmas.Option.{slice_get_within, slice_get-get_or}
 use Rattle.spki_cert.specs.declared.entry.Entry.{Entry}
@@ -43,9 +43,7 @@ module _ (c : Case) (es : List Entry) (tuples : List Tuple) where
     long = ap length picked_are ∙ length-map (kept_from 1 test es) second ∙ sym (length-map (kept_from 1 test es) first) ∙ sym (ap length numbers_are)
 
     pub place_within : (n : ℕ) → Names (with_entries c picked) tuples (Yes n) → n - 1 < length numbers
-    place_within n named =
-        let within = slice_get_within picked named.place named.entry named.stands in
-        omega (arith, within, named.numbered, long)
+    place_within n named = search (rules, slice_get_within, numbered, long)
 
     pub yes_partly : (n d : ℕ) → Names (with_entries c picked) tuples (Yes n)
         → DecidesPartly (with_entries c es) tuples (Yes (get_or numbers (n - 1) d))

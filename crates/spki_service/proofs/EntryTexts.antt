@@ -1,5 +1,5 @@
 -- Texts and the entries that they are, place by place.
-use Rattle.std.proofs.Common.{◌≡◌, ℕ, zero, suc, ◌+◌, ◌-◌, ◌<◌, ◌≤◌, List, [], ◌∷◌, ◌++◌, Vec, Some, map, length, take, drop, get_or, slice_get, refl, sym, ap, ◌∙◌, arith, subst}
+use Rattle.std.proofs.Common.{◌≡◌, ℕ, zero, suc, ◌+◌, ◌-◌, ◌<◌, ◌≤◌, List, [], ◌∷◌, ◌++◌, Vec, Some, map, length, take, drop, get_or, slice_get, refl, sym, ap, ◌∙◌, arith, subst, rules}
 use Rattle.std.specs.declared.alloc.Global.{Global}
 use Rattle.std.proofs.Math.Seq.{take-length}
 use Rattle.std.proofs.lemmas.List.{length-map}
@@ -25,12 +25,9 @@ as_many [] (e ∷ es) are = absurd are
 as_many (t ∷ texts) [] are = absurd are
 as_many (t ∷ texts) (e ∷ es) are = ap suc (as_many texts es are.1)
 
-some_entry : (a b : Entry) → Some a ≡ Some b → a ≡ b
-some_entry a b e = cc
-
 take_next : (es : List Entry) (i : ℕ) (e : Entry) → slice_get es i ≡ Some e → take (suc i) es ≡ take i es ++ e ∷ []
 take_next [] i e stands = absurd (none-some e stands)
-take_next (f ∷ es) zero e stands = ap (λ (g : Entry). g ∷ []) (some_entry f e stands)
+take_next (f ∷ es) zero e stands = let same : f ≡ e = cc in ap (λ (g : Entry). g ∷ []) same
 take_next (f ∷ es) (suc i) e stands = ap (λ (fs : List Entry). f ∷ fs) (take_next es i e stands)
 
 -- ---- all of them
@@ -95,14 +92,6 @@ drop-octets (t ∷ all) = refl
 pub behind : (version entries : List Value) (all last : List (Vec ℕ Global)) (count : ℕ) → IsVersion version → length entries ≡ count
     → octets_of_texts all ≡ map canon (version ++ entries) → (length all ≡ count → last ≡ all) → (length all ≡ 1 + count → last ≡ drop 1 all)
     → octets_of_texts last ≡ map canon entries
-behind [] entries all last count is long texts same fewer =
-    let e = ap length texts in
-    let a = length-map all (λ (t : Vec ℕ Global). t.items) in
-    let b = length-map entries canon in
-    ap octets_of_texts (same (omega (arith, e, a, b, long))) ∙ texts
-behind (v ∷ []) entries all last count is long texts same fewer =
-    let e = ap length texts in
-    let a = length-map all (λ (t : Vec ℕ Global). t.items) in
-    let b = length-map entries canon in
-    ap octets_of_texts (fewer (omega (arith, e, a, b, long))) ∙ drop-octets all ∙ ap (drop 1) texts
+behind [] entries all last count is long texts same fewer = search (rules, length-map)
+behind (v ∷ []) entries all last count is long texts same fewer = search (rules, length-map, drop-octets)
 behind (v ∷ w ∷ vs) entries all last count is long texts same fewer = absurd is

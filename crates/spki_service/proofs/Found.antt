@@ -1,5 +1,5 @@
 -- What a principal names, by what it is: a key, or a hash by one of the algorithms.
-use Rattle.std.proofs.Common.{◌≡◌, ℕ, Bool, true, false, cond, ◌&&◌, ◌||◌, List, [], refl, sym, ap, ◌∙◌}
+use Rattle.std.proofs.Common.{◌≡◌, ℕ, Bool, true, false, cond, ◌&&◌, ◌||◌, List, [], refl, sym, ap, ◌∙◌, rules}
 use Rattle.std.proofs.Math.Bool.{and-false, or-false}
 use Rattle.spki_cert.specs.declared.hash.HashAlg.{HashAlg}
 use Rattle.spki_cert.specs.declared.hash.HashAlg.TheVariants.{Sha1, Sha256, Sha512}
@@ -45,10 +45,8 @@ module _ (policy : Policy) (key : List ℕ) where
 
   -- and one that names the key is of one of them
   named : (p : Principal) → (two p || is_admitted policy Sha512 key p) ≡ names policy p key
-  named (Key own) = simp (and-false, or-false)
-  named (Hash Sha1 digest) = simp (and-false, or-false)
-  named (Hash Sha256 digest) = simp (and-false, or-false)
   named (Hash Sha512 digest) = simp and-false
+  named _ = simp (and-false, or-false)
 
   -- ---- their numbers
 
@@ -60,11 +58,7 @@ module _ (policy : Policy) (key : List ℕ) where
 
   merged_named : (es : List Entry) → merge (merge (merge (own_numbers es) (hash_numbers Sha1 es)) (hash_numbers Sha256 es)) (hash_numbers Sha512 es)
       ≡ numbers_from 1 (λ e. names policy e.subject.principal key) es
-  merged_named es =
-      ap (λ l. merge (merge l (hash_numbers Sha256 es)) (hash_numbers Sha512 es)) (numbers_merged 1 _ _ es (λ e. apart_1 e.subject.principal))
-      ∙ ap (λ l. merge l (hash_numbers Sha512 es)) (numbers_merged 1 _ _ es (λ e. apart_2 e.subject.principal))
-      ∙ numbers_merged 1 _ _ es (λ e. apart_3 e.subject.principal)
-      ∙ numbers_same 1 _ _ es (λ e. named e.subject.principal)
+  merged_named es = search (rules, numbers_merged, apart_1, apart_2, apart_3, numbers_same, named)
 
   -- ---- what is looked up
 

@@ -1,5 +1,5 @@
 -- An index, where one entry comes behind others.
-use Rattle.std.proofs.Common.{◌≡◌, ℕ, ◌+◌, Bool, true, false, cond, ◌⊎◌, inl, inr, List, [], ◌∷◌, ◌++◌, length, Vec, Option, Some, bytes_eq, reverse, refl, sym, ap, ◌∙◌}
+use Rattle.std.proofs.Common.{◌≡◌, ℕ, ◌+◌, Bool, true, false, cond, ◌⊎◌, inl, inr, List, [], ◌∷◌, ◌++◌, length, Vec, Option, Some, bytes_eq, reverse, refl, sym, ap, ◌∙◌, rules}
 use Rattle.std.specs.Option.{option_map_or}
 use Rattle.std.specs.declared.alloc.Global.{Global}
 use Rattle.std.proofs.lemmas.Bool.{cases_Bool, true≢false}
@@ -26,12 +26,7 @@ module _ (es : List Entry) (e : Entry) (number : ℕ) (counted : 1 + length es �
       ≡ cond (is_hash alg digest e.subject.principal) (numbers_at (by_algorithm old alg) digest ++ number ∷ [])
       (numbers_at (by_algorithm old alg) digest))
       → IsIndexOf (es ++ e ∷ []) new
-  index_more old new stood keys hashes = record {
-    keys = λ octets. more_at (λ f. is_key octets f.subject.principal) (numbers_of_key old octets) (numbers_of_key new octets)
-        (stood.keys octets) (keys octets);
-    hashes = λ alg digest. more_at (λ f. is_hash alg digest f.subject.principal) (numbers_at (by_algorithm old alg) digest)
-        (numbers_at (by_algorithm new alg) digest) (stood.hashes alg digest) (hashes alg digest);
-  }
+  index_more old new stood keys hashes = search (rules, more_at)
 
 -- ---- one number more at octets
 

@@ -8,7 +8,6 @@ pub mod PartLaws
 pub mod WordLaws
 pub mod Picking
 pub mod Marking
-pub mod OwnedMarking
 pub mod Deciding
 pub mod Outcomes
 pub mod Reading

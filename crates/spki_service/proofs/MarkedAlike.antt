@@ -1,9 +1,8 @@
 -- Marks that tell what a verifier accepts give its answers.
-use Rattle.std.proofs.Common.{◌≡◌, ◌↔◌, ℕ, suc, Bool, List, [], ◌∷◌, Some, slice_get, refl}
+use Rattle.std.proofs.Common.{◌≡◌, ◌↔◌, ℕ, suc, Bool, List, [], ◌∷◌, Some, slice_get, refl, rules}
 use Rattle.spki_case.specs.Case.{Verified}
 use Rattle.spki_decision.specs.declared.decision.Decision.{Decision}
 use Rattle.spki_decision.specs.Asked.{Signed, asked, IsAccepted, AgreeOn}
-use Rattle.spki_decision.specs.Views.{with_entries}
 use Rattle.spki_decision.proofs.AskedWhole.{decision_by}
 use Rattle.spki_service.specs.Asking.{AskedOf, Decides, MarksAccept, MarksTell}
 
@@ -23,11 +22,4 @@ module _ (verified : Verified) (marks : List Bool) (a : AskedOf) (tell : MarksTe
   from_marks s m = (tell m.0 (record { item = m.1; key = s.key; message = s.message; value = s.value }) m.3).0 m.2
 
   pub decided_alike : (d : Decision) → Decides (MarksAccept (asked a.case) marks) a d ↔ Decides verified a d
-  decided_alike d = (
-    λ h es are.
-        decision_by (with_entries a.case es) (MarksAccept (asked a.case) marks) verified
-        (agree_at (MarksAccept (asked a.case) marks) verified (asked a.case) (λ place s stands. (from_marks s, to_marks place s stands))) d (h es are),
-    λ h es are.
-        decision_by (with_entries a.case es) verified (MarksAccept (asked a.case) marks)
-        (agree_at verified (MarksAccept (asked a.case) marks) (asked a.case) (λ place s stands. (to_marks place s stands, from_marks s))) d (h es are),
-  )
+  decided_alike d = search (rules, decision_by, agree_at, from_marks, to_marks)

@@ -1,5 +1,5 @@
 -- The numbers of the entries that pass a test.
-use Rattle.std.proofs.Common.{◌≡◌, ℕ, suc, ◌+◌, ◌<◌, Bool, true, false, cond, ◌&&◌, ◌||◌, List, [], ◌∷◌, ◌++◌, map, length, refl, ap, ◌∙◌, arith, append-nil}
+use Rattle.std.proofs.Common.{◌≡◌, ℕ, suc, ◌+◌, ◌<◌, Bool, true, false, cond, ◌&&◌, ◌||◌, List, [], ◌∷◌, ◌++◌, map, length, refl, ap, ◌∙◌, arith, append-nil, rules}
 use Rattle.std.proofs.lemmas.List.{map-append}
 use Rattle.spki_cert.specs.declared.entry.Entry.{Entry}
 use Rattle.spki_service.specs.Kept.{kept_from, first, numbers_from}
@@ -9,9 +9,7 @@ use Rattle.spki_tag.proofs.Merging.{StartsAbove, merge-left, merge-right}
 -- tests that are the same keep the same
 pub kept_same : (n : ℕ) (p q : Entry → Bool) (es : List Entry) → ((e : Entry) → p e ≡ q e) → kept_from n p es ≡ kept_from n q es
 kept_same n p q [] same = refl
-kept_same n p q (e ∷ es) same =
-    ap (λ b. cond b ((n, e) ∷ kept_from (suc n) p es) (kept_from (suc n) p es)) (same e)
-    ∙ ap (λ ks. cond (q e) ((n, e) ∷ ks) ks) (kept_same (suc n) p q es same)
+kept_same n p q (e ∷ es) same = search (rules, kept_same (suc n) p q es same)
 
 pub numbers_same : (n : ℕ) (p q : Entry → Bool) (es : List Entry) → ((e : Entry) → p e ≡ q e)
     → numbers_from n p es ≡ numbers_from n q es
@@ -31,11 +29,7 @@ joined false k ks ls = refl
 pub kept-append : (n : ℕ) (p : Entry → Bool) (xs ys : List Entry)
     → kept_from n p (xs ++ ys) ≡ kept_from n p xs ++ kept_from (n + length xs) p ys
 kept-append n p [] ys = let same : n ≡ n + 0 = omega arith in ap (λ m. kept_from m p ys) same
-kept-append n p (x ∷ xs) ys =
-    let moved : suc n + length xs ≡ n + suc (length xs) = omega arith in
-    let later = kept-append (suc n) p xs ys ∙ ap (λ m. kept_from (suc n) p xs ++ kept_from m p ys) moved in
-    ap (λ ks. cond (p x) ((n, x) ∷ ks) ks) later
-    ∙ joined (p x) (n, x) (kept_from (suc n) p xs) (kept_from (n + suc (length xs)) p ys)
+kept-append n p (x ∷ xs) ys = search (rules, joined, kept-append (suc n) p xs ys)
 
 last : (b : Bool) (numbers : List ℕ) (n : ℕ) (e : Entry)
     → numbers ++ map first (cond b ((n, e) ∷ []) []) ≡ cond b (numbers ++ n ∷ []) numbers
@@ -45,10 +39,7 @@ last false numbers n e = append-nil numbers
 -- one entry behind others
 pub numbers_more : (p : Entry → Bool) (es : List Entry) (e : Entry) (number : ℕ) → 1 + length es ≡ number
     → numbers_from 1 p (es ++ e ∷ []) ≡ cond (p e) (numbers_from 1 p es ++ number ∷ []) (numbers_from 1 p es)
-numbers_more p es e number counted =
-    ap (map first) (kept-append 1 p es (e ∷ []) ∙ ap (λ n. kept_from 1 p es ++ kept_from n p (e ∷ [])) counted)
-    ∙ map-append first (kept_from 1 p es) (kept_from number p (e ∷ []))
-    ∙ last (p e) (numbers_from 1 p es) number e
+numbers_more p es e number counted = search (rules, kept-append, map-append, last)
 
 -- ---- two tests that never both hold
 

@@ -1,9 +1,9 @@
 -- A question asks one case or has one fault.
-use Rattle.std.proofs.Common.{◌≡◌, ◌≢◌, ◌⊎◌, ℕ, List, inl, inr, length, Option, Some, refl, sym, ap, subst, ◌∙◌, arith}
+use Rattle.std.proofs.Common.{◌≡◌, ◌≢◌, ◌⊎◌, ℕ, List, inl, inr, Option, Some, refl, sym, ap, subst, ◌∙◌, rules}
 use Rattle.sexpr_core.specs.declared.fault.FormFault.{FormFault}
-use Rattle.sexpr_core.specs.declared.fault.FormFault.TheVariants.{TooLong, TooDeep, Short, Bad, Trailing, Memory}
+use Rattle.sexpr_core.specs.declared.fault.FormFault.TheVariants.{TooLong, Memory}
 use Rattle.sexpr_core.specs.Refusal.{IsOfForm}
-use Rattle.sexpr_core.specs.Value.{Value, canon}
+use Rattle.sexpr_core.specs.Value.{Value}
 use Rattle.sexpr_text.specs.Spelling.{IsText, IsTextWithin}
 use Rattle.sexpr_text.proofs.OneValue.{one_value}
 use Rattle.sexpr_text.proofs.Openings.{one_of_any}
@@ -11,11 +11,8 @@ use Rattle.spki_tag.specs.declared.fault.TagFault.{TagFault}
 use Rattle.spki_tag.proofs.Requests.{request_only}
 use Rattle.spki_cert.specs.declared.fault.CertFault.{CertFault}
 use Rattle.spki_cert.specs.declared.fault.CertFaultKind.{CertFaultKind}
-use Rattle.spki_cert.specs.Readings.{KeyOf, DateOf}
-use Rattle.spki_cert.specs.Sequences.{SeqOf}
 use Rattle.spki_cert.proofs.OneReading.{key-one, date-one, sequence-one}
 use Rattle.spki_case.specs.Case.{Case}
-use Rattle.spki_case.specs.CaseForm.{RequestOf}
 use Rattle.spki_service.specs.declared.question.Question.{Question}
 use Rattle.spki_service.specs.declared.question.RequestInput as wanted
 use Rattle.spki_service.specs.declared.question.RequestInput.TheVariants as requests
@@ -26,7 +23,7 @@ use Rattle.spki_service.specs.declared.question.Part.TheVariants as parts
 use Rattle.spki_service.specs.declared.question.AskFault.{AskFault}
 use Rattle.spki_service.specs.declared.question.AskFault.TheVariants as faults
 use Rattle.spki_service.specs.Form.{RefusesForm, Reads, LacksForm}
-use Rattle.spki_service.specs.Questions.{IsWanted, RefusesWanted, IsAskedAt, IsAskedCase, IsNoSequenceFor, IsNoKeyFor, IsNoRequestFor, IsNoDateFor, ReadsSequence, ReadsKey, ReadsRequest, ReadsBefore, LacksFormOfMoment, LacksFormAt, IsAskedAtNone, IsNotAsked}
+use Rattle.spki_service.specs.Questions.{IsWanted, RefusesWanted, IsAskedAt, IsAskedCase, IsNoSequenceFor, IsNoKeyFor, IsNoRequestFor, ReadsSequence, ReadsKey, ReadsRequest, ReadsBefore, LacksFormOfMoment, LacksFormAt, IsAskedAtNone, IsNotAsked}
 use Rattle.spki_service.proofs.DateLaws.{no_date, one_date}
 
 -- ---- texts
@@ -38,17 +35,10 @@ text_is text v (inr m) = inr m.braced
 pub text_one : (text : List ℕ) (v w : Value) → IsTextWithin text v → IsTextWithin text w → v ≡ w
 text_one text v w m n = one_value text v w (text_is text v m) (text_is text w n)
 
-pub wanted_one : (m : wanted.RequestInput) (v w : Value) → IsWanted m v → IsWanted m w → v ≡ w
-wanted_one (requests.Text text) v w a b = text_one text.now v w a b
-wanted_one (requests.Words words) v w a b = a ∙ sym b
-
 too_long_or : (fault : FormFault) → fault ≢ Memory → (fault ≡ TooLong) ⊎ IsOfForm fault
 too_long_or TooLong found = inl refl
-too_long_or TooDeep found = inr tt
-too_long_or Short found = inr tt
-too_long_or (Bad at) found = inr tt
-too_long_or (Trailing at) found = inr tt
 too_long_or Memory found = absurd (found refl)
+too_long_or _ found = inr tt
 
 pub refuses_one : (text : List ℕ) (e f : FormFault) → RefusesForm text e → RefusesForm text f → e ≡ f
 refuses_one text e f a b = by (too_long_or e a.found) (too_long_or f b.found)
@@ -58,15 +48,20 @@ refuses_one text e f a b = by (too_long_or e a.found) (too_long_or f b.found)
     by (inr p) (inl q) = a.long.1 (b.long.0 q) ∙ sym q
     by (inr p) (inr q) = one_of_any text e f p q a.refused b.refused
 
-wanted_refuses_one : (m : wanted.RequestInput) (e f : FormFault) → RefusesWanted m e → RefusesWanted m f → e ≡ f
-wanted_refuses_one (requests.Text text) e f a b = refuses_one text.now e f a b
-wanted_refuses_one (requests.Words words) e f a b = absurd a
-
-pub wanted_none : (m : wanted.RequestInput) (fault : FormFault) (v : Value) → RefusesWanted m fault → ¬ IsWanted m v
-wanted_none (requests.Text text) fault v r = r.none v
-wanted_none (requests.Words words) fault v r = absurd r
-
 -- ---- parts of which each means one value
+
+-- A part means at most one value, and none if its form is refused, which it is in one way.
+pub record MeansOne (means : Value → Type 0) (refuses : FormFault → Type 0) : Type 0 where
+  pub single : (v w : Value) → means v → means w → v ≡ w
+  pub none : (fault : FormFault) (v : Value) → refuses fault → ¬ means v
+  pub one : (e f : FormFault) → refuses e → refuses f → e ≡ f
+
+pub of_text : (text : List ℕ) → MeansOne (IsTextWithin text) (RefusesForm text)
+of_text text = record { single = text_one text; none = λ fault v r. r.none v; one = refuses_one text }
+
+pub of_wanted : (m : wanted.RequestInput) → MeansOne (IsWanted m) (RefusesWanted m)
+of_wanted (requests.Text text) = of_text text.now
+of_wanted (requests.Words words) = record { single = λ v w a b. a ∙ sym b; none = λ fault v r. absurd r; one = λ e f a b. absurd a }
 
 -- two sayings of the value that a part means
 pub record Both (P Q : Value → Type 0) : Type 0 where
@@ -74,23 +69,19 @@ pub record Both (P Q : Value → Type 0) : Type 0 where
   pub one : P value
   pub other : Q value
 
-module _ (means : Value → Type 0) (single : (v w : Value) → means v → means w → v ≡ w) where
-  pub both : (P Q : Value → Type 0) → Reads means P → Reads means Q → Both P Q
-  both P Q a b = record { value = b.value; one = subst P (single a.value b.value a.meant b.meant) a.is; other = b.is }
+module _ {means : Value → Type 0} {refuses : FormFault → Type 0} (laws : MeansOne means refuses) where
+  pub both : {P Q : Value → Type 0} → Reads means P → Reads means Q → Both P Q
+  both {P} a b = record { value = b.value; one = subst P (laws.single a.value b.value a.meant b.meant) a.is; other = b.is }
 
-module _ (means : Value → Type 0) (refuses : FormFault → Type 0) (single : (v w : Value) → means v → means w → v ≡ w)
-    (none : (fault : FormFault) (v : Value) → refuses fault → ¬ means v) where
-  pub form_unread : (P : Value → Type 0) (fault : FormFault) → LacksForm means refuses fault → ¬ Reads means P
-  form_unread P fault (inl r) a = none fault a.value r a.meant
-  form_unread P fault (inr long) a =
-      let e = single long.value a.value long.meant a.meant in
-      omega (arith, ap (λ v. length (canon v)) e, long.long, a.short)
+  pub form_unread : {P : Value → Type 0} (fault : FormFault) → LacksForm means refuses fault → Reads means P → ⊥
+  form_unread fault (inl r) a = laws.none fault a.value r a.meant
+  form_unread fault (inr long) a = search rules
 
-  pub form_one : ((e f : FormFault) → refuses e → refuses f → e ≡ f) → (e f : FormFault) → LacksForm means refuses e → LacksForm means refuses f → e ≡ f
-  form_one one e f (inl r) (inl s) = one e f r s
-  form_one one e f (inl r) (inr long) = absurd (none e long.value r long.meant)
-  form_one one e f (inr long) (inl s) = absurd (none f long.value s long.meant)
-  form_one one e f (inr long) (inr other) = long.named ∙ sym other.named
+  pub form_one : (e f : FormFault) → LacksForm means refuses e → LacksForm means refuses f → e ≡ f
+  form_one e f (inl r) (inl s) = laws.one e f r s
+  form_one e f (inl r) (inr long) = absurd (laws.none e long.value r long.meant)
+  form_one e f (inr long) (inl s) = absurd (laws.none f long.value s long.meant)
+  form_one e f (inr long) (inr other) = long.named ∙ sym other.named
 
 pub some-one : {A : Type 0} {found : Option A} {a b : A} → found ≡ Some a → found ≡ Some b → a ≡ b
 some-one e f = cc
@@ -116,35 +107,23 @@ abbrev LacksPart : Question → Part → AskFault → Type 0
 LacksPart q part fault = ((form : FormFault) × (fault ≡ faults.Form part form) × LacksFormAt q part form) ⊎ LacksValue q part fault
 
 moment_form_unread : (m : of_question.Moment) (form : FormFault) (date : List ℕ) → LacksFormOfMoment m form → ¬ IsAskedAt m date
-moment_form_unread (moments.Text text) form date lacks a =
-    form_unread (IsTextWithin text.now) (RefusesForm text.now) (text_one text.now) (λ fault v r. r.none v) (λ v. DateOf v date) form lacks a
+moment_form_unread (moments.Text text) form date lacks a = form_unread (of_text text.now) form lacks a
 moment_form_unread (moments.Seconds seconds) form date lacks a = lacks
 
 moment_none : (m : of_question.Moment) (kind : CertFaultKind) (date : List ℕ) → IsAskedAtNone m kind → ¬ IsAskedAt m date
-moment_none (moments.Text text) kind date n a =
-    let b = both (IsTextWithin text.now) (text_one text.now) (IsNoDateFor kind) (λ v. DateOf v date) n a in
-    b.one.none date b.other
+moment_none (moments.Text text) kind date n a = let b = both (of_text text.now) n a in b.one.none date b.other
 moment_none (moments.Seconds seconds) kind date n a = no_date seconds date n.1 a
 
 form_unread_at : (q : Question) (part : Part) (form : FormFault) → LacksFormAt q part form → ¬ ReadsPart q part
-form_unread_at q parts.Sequence form lacks (items, a) =
-    form_unread (IsTextWithin q.sequence.now) (RefusesForm q.sequence.now) (text_one q.sequence.now) (λ fault v r. r.none v) (λ v. SeqOf v items) form lacks a
-form_unread_at q parts.Key form lacks (key, a) =
-    form_unread (IsTextWithin q.key.now) (RefusesForm q.key.now) (text_one q.key.now) (λ fault v r. r.none v) (λ v. KeyOf v key) form lacks a
-form_unread_at q parts.Request form lacks (g, a) =
-    form_unread (IsWanted q.request) (RefusesWanted q.request) (wanted_one q.request) (wanted_none q.request) (λ v. RequestOf v g) form lacks a
+form_unread_at q parts.Sequence form lacks (items, a) = form_unread (of_text q.sequence.now) form lacks a
+form_unread_at q parts.Key form lacks (key, a) = form_unread (of_text q.key.now) form lacks a
+form_unread_at q parts.Request form lacks (g, a) = form_unread (of_wanted q.request) form lacks a
 form_unread_at q parts.Moment form lacks (date, a) = moment_form_unread q.moment form date lacks a
 
 value_unread : (q : Question) (part : Part) (fault : AskFault) → LacksValue q part fault → ¬ ReadsPart q part
-value_unread q parts.Sequence fault (inner, is, n) (items, a) =
-    let b = both (IsTextWithin q.sequence.now) (text_one q.sequence.now) (IsNoSequenceFor inner) (λ v. SeqOf v items) n a in
-    b.one.none items b.other
-value_unread q parts.Key fault (kind, is, n) (key, a) =
-    let b = both (IsTextWithin q.key.now) (text_one q.key.now) (IsNoKeyFor kind) (λ v. KeyOf v key) n a in
-    b.one.none key b.other
-value_unread q parts.Request fault (inner, is, n) (g, a) =
-    let b = both (IsWanted q.request) (wanted_one q.request) (IsNoRequestFor inner) (λ v. RequestOf v g) n a in
-    b.one.none g b.other
+value_unread q parts.Sequence fault (inner, is, n) (items, a) = let b = both (of_text q.sequence.now) n a in b.one.none items b.other
+value_unread q parts.Key fault (kind, is, n) (key, a) = let b = both (of_text q.key.now) n a in b.one.none key b.other
+value_unread q parts.Request fault (inner, is, n) (g, a) = let b = both (of_wanted q.request) n a in b.one.none g b.other
 value_unread q parts.Moment fault (kind, is, n) (date, a) = moment_none q.moment kind date n a
 
 unread : (q : Question) (part : Part) (fault : AskFault) → LacksPart q part fault → ¬ ReadsPart q part
@@ -154,20 +133,13 @@ unread q part fault (inr n) a = value_unread q part fault n a
 -- ---- one fault of a part
 
 moment_form_one : (m : of_question.Moment) (e f : FormFault) → LacksFormOfMoment m e → LacksFormOfMoment m f → e ≡ f
-moment_form_one (moments.Text text) e f a b =
-    form_one (IsTextWithin text.now) (RefusesForm text.now) (text_one text.now) (λ fault v r. r.none v) (refuses_one text.now) e f a b
+moment_form_one (moments.Text text) e f a b = form_one (of_text text.now) e f a b
 moment_form_one (moments.Seconds seconds) e f a b = absurd a
 
 form_one_at : (q : Question) (part : Part) (e f : FormFault) → LacksFormAt q part e → LacksFormAt q part f → e ≡ f
-form_one_at q parts.Sequence e f a b =
-    form_one (IsTextWithin q.sequence.now) (RefusesForm q.sequence.now) (text_one q.sequence.now) (λ fault v r. r.none v)
-    (refuses_one q.sequence.now) e f a b
-form_one_at q parts.Key e f a b =
-    form_one (IsTextWithin q.key.now) (RefusesForm q.key.now) (text_one q.key.now) (λ fault v r. r.none v)
-    (refuses_one q.key.now) e f a b
-form_one_at q parts.Request e f a b =
-    form_one (IsWanted q.request) (RefusesWanted q.request) (wanted_one q.request) (wanted_none q.request)
-    (wanted_refuses_one q.request) e f a b
+form_one_at q parts.Sequence e f a b = form_one (of_text q.sequence.now) e f a b
+form_one_at q parts.Key e f a b = form_one (of_text q.key.now) e f a b
+form_one_at q parts.Request e f a b = form_one (of_wanted q.request) e f a b
 form_one_at q parts.Moment e f a b = moment_form_one q.moment e f a b
 
 kind_one : (m : of_question.Moment) (k l : CertFaultKind) → IsAskedAtNone m k → IsAskedAtNone m l → k ≡ l
@@ -176,29 +148,25 @@ kind_one (moments.Seconds seconds) k l a b = a.0 ∙ sym b.0
 
 value_one : (q : Question) (part : Part) (f g : AskFault) → LacksValue q part f → LacksValue q part g → f ≡ g
 value_one q parts.Sequence f g (x, is, m) (y, at, n) =
-    let b = both (IsTextWithin q.sequence.now) (text_one q.sequence.now) (IsNoSequenceFor x) (IsNoSequenceFor y) m n in
+    let b = both (of_text q.sequence.now) m n in
     is ∙ ap faults.Sequence (some-one b.one.named b.other.named) ∙ sym at
 value_one q parts.Key f g (x, is, m) (y, at, n) =
-    let b = both (IsTextWithin q.key.now) (text_one q.key.now) (IsNoKeyFor x) (IsNoKeyFor y) m n in
+    let b = both (of_text q.key.now) m n in
     is ∙ ap faults.Key (some-one b.one.named b.other.named) ∙ sym at
 value_one q parts.Request f g (x, is, m) (y, at, n) =
-    let b = both (IsWanted q.request) (wanted_one q.request) (IsNoRequestFor x) (IsNoRequestFor y) m n in
+    let b = both (of_wanted q.request) m n in
     is ∙ ap faults.Request (some-one b.one.named b.other.named) ∙ sym at
 value_one q parts.Moment f g (x, is, m) (y, at, n) = is ∙ ap faults.Moment (kind_one q.moment x y m n) ∙ sym at
 
 -- a part that lacks a form means no value, and so none that is refused
 form_no_value_of_moment : (m : of_question.Moment) (form : FormFault) (kind : CertFaultKind) → LacksFormOfMoment m form → ¬ IsAskedAtNone m kind
-form_no_value_of_moment (moments.Text text) form kind lacks n =
-    form_unread (IsTextWithin text.now) (RefusesForm text.now) (text_one text.now) (λ fault v r. r.none v) (IsNoDateFor kind) form lacks n
+form_no_value_of_moment (moments.Text text) form kind lacks n = form_unread (of_text text.now) form lacks n
 form_no_value_of_moment (moments.Seconds seconds) form kind lacks n = lacks
 
 form_no_value : (q : Question) (part : Part) (form : FormFault) (fault : AskFault) → LacksFormAt q part form → ¬ LacksValue q part fault
-form_no_value q parts.Sequence form fault lacks (x, is, n) =
-    form_unread (IsTextWithin q.sequence.now) (RefusesForm q.sequence.now) (text_one q.sequence.now) (λ fault v r. r.none v) (IsNoSequenceFor x) form lacks n
-form_no_value q parts.Key form fault lacks (x, is, n) =
-    form_unread (IsTextWithin q.key.now) (RefusesForm q.key.now) (text_one q.key.now) (λ fault v r. r.none v) (IsNoKeyFor x) form lacks n
-form_no_value q parts.Request form fault lacks (x, is, n) =
-    form_unread (IsWanted q.request) (RefusesWanted q.request) (wanted_one q.request) (wanted_none q.request) (IsNoRequestFor x) form lacks n
+form_no_value q parts.Sequence form fault lacks (x, is, n) = form_unread (of_text q.sequence.now) form lacks n
+form_no_value q parts.Key form fault lacks (x, is, n) = form_unread (of_text q.key.now) form lacks n
+form_no_value q parts.Request form fault lacks (x, is, n) = form_unread (of_wanted q.request) form lacks n
 form_no_value q parts.Moment form fault lacks (x, is, n) = form_no_value_of_moment q.moment form x lacks n
 
 part_one : (q : Question) (part : Part) (f g : AskFault) → LacksPart q part f → LacksPart q part g → f ≡ g
@@ -216,15 +184,12 @@ record LacksFirst (q : Question) (fault : AskFault) : Type 0 where
   lacks : LacksPart q part fault
 
 first_of : (q : Question) (fault : AskFault) → IsNotAsked q fault → LacksFirst q fault
-first_of q faults.TooLong n = absurd n
-first_of q faults.TooManyCertificates n = absurd n
-first_of q faults.TooManyWords n = absurd n
 first_of q (faults.Form part form) n = record { part = part; before = n.0; lacks = inl (form, refl, n.1) }
 first_of q (faults.Sequence inner) n = record { part = parts.Sequence; before = tt; lacks = inr (inner, refl, n) }
 first_of q (faults.Key kind) n = record { part = parts.Key; before = n.0; lacks = inr (kind, refl, n.1) }
 first_of q (faults.Request inner) n = record { part = parts.Request; before = n.0; lacks = inr (inner, refl, n.1) }
 first_of q (faults.Moment kind) n = record { part = parts.Moment; before = n.0; lacks = inr (kind, refl, n.1) }
-first_of q faults.Memory n = absurd n
+first_of q _ n = absurd n
 
 -- of two parts the earlier is read where the later is the first that isn't
 ordered : (q : Question) (f g : AskFault) (p r : Part) → ReadsBefore q p → ReadsBefore q r → LacksPart q p f → LacksPart q r g → f ≡ g
@@ -264,37 +229,25 @@ unrefused q c fault a n = let f = first_of q fault n in unread q f.part fault f.
 
 asked_at_one : (m : of_question.Moment) (s t : List ℕ) → IsAskedAt m s → IsAskedAt m t → s ≡ t
 asked_at_one (moments.Text text) s t a b =
-    let two = both (IsTextWithin text.now) (text_one text.now) (λ v. DateOf v s) (λ v. DateOf v t) a b in
+    let two = both (of_text text.now) a b in
     date-one two.value s t two.one two.other
 asked_at_one (moments.Seconds seconds) s t a b = one_date seconds s t a b
 
 -- the same items
 pub items_one : (q : Question) (c d : Case) → IsAskedCase q c → IsAskedCase q d → c.items ≡ d.items
 items_one q c d a b =
-    let sequences =
-    both (IsTextWithin q.sequence.now) (text_one q.sequence.now) (λ v. SeqOf v c.items) (λ v. SeqOf v d.items) a.sequence b.sequence in
+    let sequences = both (of_text q.sequence.now) a.sequence b.sequence in
     sequence-one sequences.value c.items d.items sequences.one sequences.other
 
 pub case-one : (q : Question) (c d : Case) → IsAskedCase q c → IsAskedCase q d → c.policy ≡ d.policy
     → c.most_nodes ≡ d.most_nodes → c.most_work ≡ d.most_work → c ≡ d
 case-one q c d a b policy most_nodes most_work =
     let items = items_one q c d a b in
-    let keys = both (IsTextWithin q.key.now) (text_one q.key.now) (λ v. KeyOf v c.key) (λ v. KeyOf v d.key) a.key b.key in
+    let keys = both (of_text q.key.now) a.key b.key in
     let key = key-one keys.value c.key d.key keys.one keys.other in
-    let wants =
-    both (IsWanted q.request) (wanted_one q.request) (λ v. RequestOf v c.request) (λ v. RequestOf v d.request) a.request b.request in
+    let wants = both (of_wanted q.request) a.request b.request in
     let request = request_only d.request c.request (wants.one.written ∙ sym wants.other.written) in
     let moment = asked_at_one q.moment c.moment d.moment a.moment b.moment in
     let entries = a.entries ∙ sym b.entries in
     let rows = a.rows ∙ sym b.rows in
-    λ i. record {
-      entries = entries i;
-      rows = rows i;
-      items = items i;
-      key = key i;
-      request = request i;
-      moment = moment i;
-      policy = policy i;
-      most_nodes = most_nodes i;
-      most_work = most_work i;
-    }
+    search rules

@@ -1,7 +1,6 @@
 -- A text is read as one access list or has one fault.
 use Rattle.std.proofs.Common.{◌≡◌, ℕ, List, ◌++◌, map, sym, ap, ◌∙◌, subst}
 use Rattle.std.specs.Prelude.{codes}
-use Rattle.sexpr_core.specs.declared.fault.FormFault.{FormFault}
 use Rattle.sexpr_core.specs.Value.{Value, canon}
 use Rattle.sexpr_text.specs.Spelling.{IsTextWithin}
 use Rattle.spki_cert.specs.declared.entry.Entry.{Entry}
@@ -11,10 +10,10 @@ use Rattle.spki_cert.proofs.Groups.{same_others}
 use Rattle.spki_cert.proofs.EntryLaws.{entries-behind}
 use Rattle.spki_service.specs.declared.list_fault.AclFault.{AclFault}
 use Rattle.spki_service.specs.declared.list_fault.AclFault.TheVariants as faults
-use Rattle.spki_service.specs.Form.{RefusesForm, Reads, LacksForm}
+use Rattle.spki_service.specs.Form.{Reads}
 use Rattle.spki_service.specs.Held.{HoldsList}
-use Rattle.spki_service.specs.Lists.{IsNoAcl, IsNoAccessList}
-use Rattle.spki_service.proofs.OneAsking.{text_one, refuses_one, both, form_unread, form_one, some-one}
+use Rattle.spki_service.specs.Lists.{IsNoAccessList}
+use Rattle.spki_service.proofs.OneAsking.{text_one, of_text, both, form_unread, form_one, some-one}
 
 -- ---- one list
 
@@ -34,19 +33,13 @@ list-one text a b m n =
 -- ---- one fault
 
 module _ (text : List ℕ) where
-  -- a text without a form has no value of which a statement is true
-  unread : (P : Value → Type 0) (fault : FormFault) → LacksForm (IsTextWithin text) (RefusesForm text) fault → ¬ Reads (IsTextWithin text) P
-  unread P fault lacks a = form_unread (IsTextWithin text) (RefusesForm text) (text_one text) (λ fault v r. r.none v) P fault lacks a
-
   pub list_fault-one : (f g : AclFault) → IsNoAccessList text f → IsNoAccessList text g → f ≡ g
-  list_fault-one (faults.Form e) (faults.Form f) m n =
-      ap faults.Form
-      (form_one (IsTextWithin text) (RefusesForm text) (text_one text) (λ fault v r. r.none v) (refuses_one text) e f m n)
-  list_fault-one (faults.Form e) (faults.Acl f) m n = absurd (unread (IsNoAcl f) e m n)
+  list_fault-one (faults.Form e) (faults.Form f) m n = ap faults.Form (form_one (of_text text) e f m n)
+  list_fault-one (faults.Form e) (faults.Acl f) m n = absurd (form_unread (of_text text) e m n)
   list_fault-one (faults.Form e) faults.Memory m n = absurd n
-  list_fault-one (faults.Acl e) (faults.Form f) m n = absurd (unread (IsNoAcl e) f n m)
+  list_fault-one (faults.Acl e) (faults.Form f) m n = absurd (form_unread (of_text text) f n m)
   list_fault-one (faults.Acl e) (faults.Acl f) m n =
-      let b = both (IsTextWithin text) (text_one text) (IsNoAcl e) (IsNoAcl f) m n in
+      let b = both (of_text text) m n in
       ap faults.Acl (some-one b.one.named b.other.named)
   list_fault-one (faults.Acl e) faults.Memory m n = absurd n
   list_fault-one faults.Memory g m n = absurd m
@@ -57,7 +50,7 @@ module _ (text : List ℕ) where
   list_unrefused texts (faults.Form fault) m lacks =
       let read : Reads (IsTextWithin text) (λ v. AclOf v m.holds.entries) =
       record { value = m.value; meant = m.spelled; short = m.short; is = m.holds.is } in
-      unread (λ v. AclOf v m.holds.entries) fault lacks read
+      form_unread (of_text text) fault lacks read
   list_unrefused texts (faults.Acl fault) m none =
       let same : m.value ≡ none.value = text_one text m.value none.value m.spelled none.meant in
       none.is.none m.holds.entries (subst (λ (v : Value). AclOf v m.holds.entries) same m.holds.is)

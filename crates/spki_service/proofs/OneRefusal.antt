@@ -1,12 +1,12 @@
 -- A question has one refusal, or none if it is read and within the limits.
-use Rattle.std.proofs.Common.{◌≡◌, ◌⊎◌, ℕ, ◌<◌, ◌≤◌, inl, inr, refl, sym, ap, ◌∙◌, arith}
+use Rattle.std.proofs.Common.{◌≡◌, ◌⊎◌, ℕ, ◌≤◌, inl, inr, refl, sym, ap, ◌∙◌, arith}
 use Rattle.spki_case.specs.Case.{Case}
 use Rattle.spki_service.specs.declared.question.Question.{Question}
 use Rattle.spki_service.specs.declared.question.AskFault.{AskFault}
 use Rattle.spki_service.specs.declared.question.AskFault.TheVariants as faults
-use Rattle.spki_service.specs.Questions.{IsWanted, IsAskedCase}
-use Rattle.spki_service.specs.Counted.{certificates_in, strings_in, HasFewStrings, HasManyCertificates, HasManyStrings, IsTooMany, IsRefused}
-use Rattle.spki_service.proofs.OneAsking.{items_one, wanted_one, both, unrefused, fault-one}
+use Rattle.spki_service.specs.Questions.{IsAskedCase}
+use Rattle.spki_service.specs.Counted.{certificates_in, HasFewStrings, HasManyCertificates, HasManyStrings, IsTooMany, IsRefused}
+use Rattle.spki_service.proofs.OneAsking.{items_one, of_wanted, both, unrefused, fault-one}
 
 module _ (certificates words : ℕ) (q : Question) where
   -- a refusal for too many certificates, or for too many strings
@@ -15,15 +15,9 @@ module _ (certificates words : ℕ) (q : Question) where
       ⊎ ((fault ≡ faults.TooManyWords) × HasManyStrings certificates words q)
 
   too_many : (fault : AskFault) → IsTooMany certificates words q fault → TooMany fault
-  too_many faults.TooLong m = absurd m
   too_many faults.TooManyCertificates m = inl (refl, m)
   too_many faults.TooManyWords m = inr (refl, m)
-  too_many (faults.Form part fault) m = absurd m
-  too_many (faults.Sequence fault) m = absurd m
-  too_many (faults.Key kind) m = absurd m
-  too_many (faults.Request fault) m = absurd m
-  too_many (faults.Moment kind) m = absurd m
-  too_many faults.Memory m = absurd m
+  too_many _ m = absurd m
 
   not_both : HasManyCertificates certificates q → ¬ HasManyStrings certificates words q
   not_both m n =
@@ -32,7 +26,7 @@ module _ (certificates words : ℕ) (q : Question) where
 
   strings_not : HasFewStrings words q → ¬ HasManyStrings certificates words q
   strings_not few m =
-      let b = both (IsWanted q.request) (wanted_one q.request) (λ v. strings_in v ≤ words) (λ v. words < strings_in v) few m.many in
+      let b = both (of_wanted q.request) few m.many in
       omega (arith, b.one, b.other)
 
   pub unrefused-one : (c : Case) (fault : AskFault) → IsAskedCase q c → certificates_in c.items ≤ certificates → HasFewStrings words q

@@ -1,11 +1,10 @@
 -- What a verifier's answers make of a question that was examined.
-use Rattle.std.proofs.Common.{◌≡◌, ℕ, List, [], ◌∷◌, refl, sym, ◌∙◌, subst, Result, Ok, Err, IfOk}
+use Rattle.std.proofs.Common.{◌≡◌, ℕ, List, refl, sym, ◌∙◌, subst, Result, Ok, Err, IfOk, get_or, map, ap, rules}
 use Rattle.std.specs.declared.alloc.AllocError.{AllocError}
 use Rattle.std.specs.List.{AllByRecursion}
 use Rattle.spki_cert.specs.declared.entry.Entry.{Entry}
 use Rattle.spki_reduce.specs.Tuples.{Tuple}
 use Rattle.spki_case.specs.Case.{Case, Verified}
-use Rattle.spki_case.specs.Sequence.{keys_of, certificates}
 use Rattle.spki_decision.specs.declared.evidence.Stop.{Stop}
 use Rattle.spki_decision.specs.declared.evidence.Stop.TheVariants.{NotAccepted}
 use Rattle.spki_decision.specs.declared.decision.Decision.{Decision}
@@ -21,8 +20,9 @@ use Rattle.spki_decision.specs.LeftOut.{AreKept, IsKept, IsLeftOut, kept_case}
 use Rattle.spki_decision.specs.Reduced.{IsFailure}
 use Rattle.spki_decision.specs.Answered.{IsExplained, IsReduced}
 use Rattle.spki_decision.specs.Asked.{Signed, asked, every, IsAccepted, AgreeOn, RefusedAt}
-use Rattle.spki_decision.specs.Views.{with_entries}
-use Rattle.spki_decision.proofs.Answering.{not_accepted}
+use Rattle.spki_decision.specs.declared.signed.Signed as examined
+use Rattle.spki_decision.specs.Views.{with_entries, signed_of}
+use Rattle.spki_decision.proofs.Answering.{not_accepted, agrees, refused_item}
 use Rattle.spki_decision.proofs.AskedWhole.{decision_by, explained_by, reduced_by}
 use Rattle.spki_decision.proofs.Entries.{decided}
 use Rattle.spki_decision.proofs.Evident.{none_shown, one_list}
@@ -31,10 +31,6 @@ use Rattle.spki_decision.proofs.Stopping.{failure}
 use Rattle.spki_service.specs.Asking.{AskedOf, Answers, Decides}
 use Rattle.spki_service.specs.Held.{AreEntries}
 use Rattle.spki_service.specs.Partly.{DecidesPartly}
-
-agrees : (verified : Verified) (signatures : List Signed) → AllByRecursion (IsAccepted verified) signatures → AgreeOn every verified signatures
-agrees verified [] accepted = tt
-agrees verified (s ∷ signatures) accepted = ((λ _. accepted.0, λ _. tt), agrees verified signatures accepted.1)
 
 module _ (a : AskedOf) (verified : Verified) where
   -- ---- each signature is accepted
@@ -81,18 +77,14 @@ module _ (a : AskedOf) (verified : Verified) where
 
 -- ---- the same question, as its fields are
 
--- a refusal of a list that is the same
-abbrev pub moved : (verified : Verified) (signed other : List Signed) (place : ℕ) → RefusedAt verified signed place → signed ≡ other
-    → RefusedAt verified other place
-moved verified signed other place r same = record {
-  before = r.before;
-  refused = r.refused;
-  after = r.after;
-  parts = sym same ∙ r.parts;
-  place_is = r.place_is;
-  accepted = r.accepted;
-  not_accepted = r.not_accepted;
-}
+-- a refusal among the signatures that a question asks for, and the item of the signature
+pub refused_there : (V : List Signed → Verified) (kept items : List examined.Signed) (all : List Signed) (place : ℕ) (one : examined.Signed)
+    → RefusedAt (V (map signed_of items)) (map signed_of items) place → items ≡ kept → map signed_of kept ≡ all → one ≡ get_or kept place one
+    → (r : RefusedAt (V all) all place) × (one.item ≡ r.refused.item)
+refused_there V kept items all place one r same are here =
+    let item_is : one.item ≡ r.refused.item =
+    ap (λ s. s.item) here ∙ ap (λ xs. (get_or xs place one).item) (sym same) ∙ refused_item (V (map signed_of items)) items place r one in
+    subst (λ (xs : List Signed). (r : RefusedAt (V xs) xs place) × (one.item ≡ r.refused.item)) (ap (map signed_of) same ∙ are) (r, item_is)
 
 -- ---- every signature is accepted
 
@@ -110,10 +102,7 @@ module _ (a : AskedOf) where
   module _ (tuples : List Tuple) (shown : AreShown a.case.policy every a.case.items tuples) where
     is_kept : (es : List Entry) (kept : List (ℕ × Entry)) → AreKept (IsLeftOut (with_entries a.case es) tuples) 1 es kept
         → IsKept (with_entries a.case es) every kept
-    is_kept es kept are others also =
-        let same : tuples ≡ others =
-        one_list a.case.policy (keys_of a.case.items) every (certificates a.case.items) tuples others shown also in
-        subst (λ (ts : List Tuple). AreKept (IsLeftOut (with_entries a.case es) ts) 1 es kept) same are
+    is_kept es kept are others also = search (rules, one_list)
 
     pub decided_partly : (r : Result Decision AllocError)
         → ((es : List Entry) → AreEntries a.texts es → IfOk r (DecidesPartly (with_entries a.case es) tuples)) → IfOk r (Decides every a)

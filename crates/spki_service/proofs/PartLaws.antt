@@ -1,11 +1,10 @@
 -- What is read from the text of a part.
-use Rattle.std.proofs.Common.{◌≡◌, ◌≢◌, ◌⊎◌, ℕ, ◌≤◌, List, [], length, inl, inr, refl, sym, subst, Result, Ok, Err, IfOk, IfErr, Vec}
+use Rattle.std.proofs.Common.{◌≡◌, ◌≢◌, ◌⊎◌, ℕ, List, [], inl, inr, refl, sym, subst, Result, Ok, Err, IfOk, IfErr, Vec, ◌∙◌, ap, rules}
 use Rattle.std.specs.Prelude.{IsErrAnd}
 use Rattle.std.specs.declared.alloc.Global.{Global}
-use Rattle.sexpr_core.specs.Limits.{octet_limit}
 use Rattle.sexpr_core.specs.declared.fault.FormFault.{FormFault}
 use Rattle.sexpr_core.specs.Value.{Value, canon, IsWithinLimits}
-use Rattle.sexpr_text.specs.Spelling.{Spells, IsTextWithin}
+use Rattle.sexpr_text.specs.Spelling.{IsTextWithin}
 use Rattle.sexpr_text.proofs.CanonicalSpelled.{canonical_spelled}
 use Rattle.spki_tag.specs.Request.{Request}
 use Rattle.spki_cert.specs.declared.certificate.SeqItem.{SeqItem}
@@ -30,18 +29,13 @@ use Rattle.spki_service.specs.declared.texts.MomentText.TheVariants as of_moment
 use Rattle.spki_service.specs.declared.texts.Texts.{Texts}
 use Rattle.spki_service.specs.Form.{RefusesForm, Reads, LacksForm}
 use Rattle.spki_service.specs.Questions.{RefusesWanted, IsAskedAt, IsAskedCase, ReadsSequence, ReadsKey, ReadsRequest, LacksFormOfMoment, IsAskedAtNone, IsNotAsked}
-use Rattle.spki_service.specs.Texts.{IsReadAs, IsMomentText, IsTextsOf, OfText, HasDate, NamesForm, NamesPart, NamesSequence, NamesKey, NamesRequest, NamesMoment, NamesDate}
+use Rattle.spki_service.specs.Texts.{IsReadAs, IsMomentText, IsTextsOf, OfText, HasDate, NamesForm, NamesPart, NamesSequence, NamesKey, NamesRequest, NamesDate}
 
 -- ---- texts that are canonical
 
 -- a canonical text spells its value
 pub canonical_text : (text : List ℕ) (v : Value) → IsWithinLimits v → text ≡ canon v → IsTextWithin text v
-canonical_text text v within e =
-    inl (record {
-      spelling = subst (λ s. Spells s v) (sym e) (canonical_spelled v);
-      short = subst (λ s. length s ≤ octet_limit) (sym e) within.short;
-      shallow = within.shallow;
-    })
+canonical_text text v within e = search (rules, canonical_spelled)
 
 -- a text that has the value, for whatever means it
 pub read_as : (means : Value → Type 0) (refuses : FormFault → Type 0) (v : Value) (text : PartText) → means v
@@ -54,9 +48,10 @@ read_as means refuses v (Malformed fault) m (inr h) =
 
 -- ---- a part whose canonical text was made
 
-module _ (octets : Vec ℕ Global) (d : Value) (e : octets.items ≡ canon d) where
+module _ (octets : Vec ℕ Global) (made : List ℕ) (document d : Value) (value : made ≡ octets.items)
+    (written : made ≡ canon document) (top : d ≡ document) where
   of_made : (said : Value → Type 0) → said d → (v : Value) → IsWithinLimits v → octets.items ≡ canon v → said v
-  of_made said h v within f = subst said (one_text octets.items d v e f) h
+  of_made said h v within f = subst said (one_text octets.items d v (sym value ∙ written ∙ ap canon (sym top)) f) h
 
   pub made_read : {X : Type 0} (said : X → Value → Type 0) (text : PartText) (r : Result X AskFault) → text ≡ Made octets
       → IfOk r (λ x. said x d) → IfOk r (λ x. OfText text (said x))
@@ -103,9 +98,7 @@ moment_named : (m : of_question.Moment) (text : MomentText) (fault : AskFault) �
     → MomentLacks m fault
 moment_named (moments.Text text) (of_moment.Text part) fault r (inl n) =
     inl (form_named _ (RefusesForm text.now) parts.Moment part fault r n)
-moment_named (moments.Text text) (of_moment.Text part) fault r (inr h) =
-    let said = said_read _ (RefusesForm text.now) (NamesMoment fault) part r h in
-    inr (said.is.inner, said.is.named, record { value = said.value; meant = said.meant; short = said.short; is = said.is.refused })
+moment_named (moments.Text text) (of_moment.Text part) fault r (inr h) = search (rules, said_read)
 moment_named (moments.Text text) (of_moment.At octets) fault r h = absurd r
 moment_named (moments.Text text) of_moment.Dateless fault r h = absurd r
 moment_named (moments.Seconds seconds) (of_moment.Text part) fault r h = absurd r
@@ -116,14 +109,7 @@ module _ (q : Question) (texts : Texts) (t : IsTextsOf q texts) where
   pub asked_case : (c : Case) → c.entries ≡ [] → c.rows ≡ [] → OfText texts.sequence (λ v. SeqOf v c.items)
       → OfText texts.key (λ v. KeyOf v c.key) → OfText texts.request (λ v. RequestOf v c.request) → HasDate texts.moment c.moment
       → IsAskedCase q c
-  asked_case c entries rows sequence key request moment = record {
-    entries = entries;
-    rows = rows;
-    sequence = said_read _ (RefusesForm q.sequence.now) (λ v. SeqOf v c.items) texts.sequence t.sequence sequence;
-    key = said_read _ (RefusesForm q.key.now) (λ v. KeyOf v c.key) texts.key t.key key;
-    request = said_read _ (RefusesWanted q.request) (λ v. RequestOf v c.request) texts.request t.request request;
-    moment = asked_at q.moment texts.moment c.moment t.moment moment;
-  }
+  asked_case c entries rows sequence key request moment = search (rules, said_read, asked_at)
 
   -- ---- refusals
 
@@ -137,29 +123,17 @@ module _ (q : Question) (texts : Texts) (t : IsTextsOf q texts) where
   request_read g h = (g, said_read _ (RefusesWanted q.request) (λ v. RequestOf v g) texts.request t.request h)
 
   pub sequence_lacks : (fault : AskFault) → NamesPart parts.Sequence NamesSequence texts.sequence fault → IsNotAsked q fault
-  sequence_lacks fault (inl n) =
-      let f = form_named _ (RefusesForm q.sequence.now) parts.Sequence texts.sequence fault t.sequence n in
-      subst (IsNotAsked q) (sym f.1) (tt, f.2)
-  sequence_lacks fault (inr h) =
-      let r = said_read _ (RefusesForm q.sequence.now) (NamesSequence fault) texts.sequence t.sequence h in
-      subst (IsNotAsked q) (sym r.is.named) (record { value = r.value; meant = r.meant; short = r.short; is = r.is.refused })
+  sequence_lacks fault (inl n) = search (rules, form_named)
+  sequence_lacks fault (inr h) = search (rules, said_read)
 
   pub key_lacks : (fault : AskFault) → ReadsSequence q → NamesPart parts.Key NamesKey texts.key fault → IsNotAsked q fault
-  key_lacks fault before (inl n) =
-      let f = form_named _ (RefusesForm q.key.now) parts.Key texts.key fault t.key n in
-      subst (IsNotAsked q) (sym f.1) (before, f.2)
-  key_lacks fault before (inr h) =
-      let r = said_read _ (RefusesForm q.key.now) (NamesKey fault) texts.key t.key h in
-      subst (IsNotAsked q) (sym r.is.named) (before, record { value = r.value; meant = r.meant; short = r.short; is = r.is.refused })
+  key_lacks fault before (inl n) = search (rules, form_named)
+  key_lacks fault before (inr h) = search (rules, said_read)
 
   pub request_lacks : (fault : AskFault) → ReadsSequence q × ReadsKey q → NamesPart parts.Request NamesRequest texts.request fault
       → IsNotAsked q fault
-  request_lacks fault before (inl n) =
-      let f = form_named _ (RefusesWanted q.request) parts.Request texts.request fault t.request n in
-      subst (IsNotAsked q) (sym f.1) (before, f.2)
-  request_lacks fault before (inr h) =
-      let r = said_read _ (RefusesWanted q.request) (NamesRequest fault) texts.request t.request h in
-      subst (IsNotAsked q) (sym r.is.named) (before, record { value = r.value; meant = r.meant; short = r.short; is = r.is.refused })
+  request_lacks fault before (inl n) = search (rules, form_named)
+  request_lacks fault before (inr h) = search (rules, said_read)
 
   pub moment_lacks : (fault : AskFault) → ReadsSequence q × (ReadsKey q × ReadsRequest q) → NamesDate texts.moment fault
       → IsNotAsked q fault

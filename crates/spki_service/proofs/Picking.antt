@@ -1,5 +1,5 @@
 -- Entries that pass a test, as they are found by their numbers and read from their texts.
-use Rattle.std.proofs.Common.{◌≡◌, ℕ, suc, ◌+◌, Bool, true, false, cond, List, [], ◌∷◌, ◌++◌, Some, map, length, slice_get, refl, sym, ap, ◌∙◌, arith, subst}
+use Rattle.std.proofs.Common.{◌≡◌, ℕ, suc, ◌+◌, Bool, true, false, cond, List, [], ◌∷◌, ◌++◌, Some, map, length, slice_get, refl, sym, ap, ◌∙◌, arith, subst, rules}
 use Rattle.std.specs.List.{AllZip, AllByRecursion}
 use Rattle.std.proofs.lemmas.Option.{slice_get_within}
 use Rattle.sexpr_core.specs.Value.{Value, canon}
@@ -10,6 +10,7 @@ use Rattle.spki_cert.proofs.OneReading.{entry-one}
 use Rattle.spki_service.specs.Held.{IsEntryText, AreEntries}
 use Rattle.spki_service.specs.Kept.{kept_from, first}
 use Rattle.spki_service.specs.Picked.{HasNumber, ArePicked, AreNumbers}
+use Rattle.spki_service.proofs.OneAsking.{some-one}
 use Rattle.spki_decision.specs.LeftOut.{second}
 
 -- ---- texts are of one list
@@ -26,10 +27,7 @@ entries_one [] [] (f ∷ fs) one other = absurd other
 entries_one [] (e ∷ es) fs one other = absurd one
 entries_one (t ∷ texts) [] fs one other = absurd one
 entries_one (t ∷ texts) (e ∷ es) [] one other = absurd other
-entries_one (t ∷ texts) (e ∷ es) (f ∷ fs) one other =
-    let here : e ≡ f = text_one t e f one.0 other.0 in
-    let others : es ≡ fs = entries_one texts es fs one.1 other.1 in
-    λ i. here i ∷ others i
+entries_one (t ∷ texts) (e ∷ es) (f ∷ fs) one other = search (rules, text_one, entries_one texts es fs one.1 other.1)
 
 pub held : (vs : List Value) (es : List Entry) → AllZip EntryOf vs es → AreEntries (map canon vs) es
 held [] [] each = tt
@@ -60,32 +58,22 @@ counted p n (e ∷ es) = counted_step p n e es (kept_from (suc n) p es) (p e) (c
 are_numbers : (es : List Entry) (long : ℕ) (ks : List (ℕ × Entry)) → length es ≡ long → AllByRecursion (Counted 1 es) ks
     → AreNumbers long (map first ks)
 are_numbers es long [] same all = tt
-are_numbers es long (k ∷ ks) same all =
-    let within = slice_get_within es all.0.0 k.1 all.0.2 in
-    ((omega (arith, all.0.1), omega (arith, all.0.1, within, same)), are_numbers es long ks same all.1)
+are_numbers es long (k ∷ ks) same all = search (rules, slice_get_within, are_numbers es long ks same all.1)
 
 pub numbers_within : (p : Entry → Bool) (es : List Entry) (long : ℕ) → length es ≡ long → AreNumbers long (map first (kept_from 1 p es))
 numbers_within p es long same = are_numbers es long (kept_from 1 p es) same (counted p 1 es)
 
 -- ---- what is picked
 
-some_entry : (a b : Entry) → Some a ≡ Some b → a ≡ b
-some_entry a b e = cc
-
 same_place : (es : List Entry) (n : ℕ) (e f : Entry) → HasNumber es n e → Counted 1 es (n, f) → e ≡ f
-same_place es n e f has is =
-    let place : has.0 ≡ is.0 = omega (arith, has.1, is.1) in
-    some_entry e f (sym has.2 ∙ ap (λ (k : ℕ). slice_get es k) place ∙ is.2)
+same_place es n e f has is = search (rules, some-one, slice_get)
 
 picked_are : (es : List Entry) (ks : List (ℕ × Entry)) (picked : List Entry) → AllByRecursion (Counted 1 es) ks
     → ArePicked es (map first ks) picked → picked ≡ map second ks
 picked_are es [] [] all are = refl
 picked_are es [] (p ∷ picked) all are = absurd are
 picked_are es (k ∷ ks) [] all are = absurd are
-picked_are es (k ∷ ks) (p ∷ picked) all are =
-    let here : p ≡ k.1 = same_place es k.0 p k.1 are.0 all.0 in
-    let others : picked ≡ map second ks = picked_are es ks picked all.1 are.1 in
-    λ i. here i ∷ others i
+picked_are es (k ∷ ks) (p ∷ picked) all are = search (rules, same_place, picked_are es ks picked all.1 are.1)
 
 pub picked_kept : (p : Entry → Bool) (es picked : List Entry) → ArePicked es (map first (kept_from 1 p es)) picked
     → picked ≡ map second (kept_from 1 p es)

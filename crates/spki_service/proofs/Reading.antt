@@ -1,5 +1,5 @@
 -- How an access list is made ready.
-use Rattle.std.proofs.Common.{◌≡◌, ◌≢◌, inl, inr, ℕ, ◌≤◌, List, Vec, map, length, sym, subst, Result, Ok, Err, IfOk, IfErr}
+use Rattle.std.proofs.Common.{◌≡◌, ◌≢◌, inl, inr, ℕ, ◌≤◌, List, Vec, map, length, sym, subst, Result, Ok, Err, IfOk, IfErr, rules}
 use Rattle.std.specs.declared.alloc.Global.{Global}
 use Rattle.std.proofs.lemmas.Slice.Zip.{AllZip-long}
 use Rattle.sexpr_core.specs.Value.{Value, canon}
@@ -39,10 +39,7 @@ pub list_refused : {A : Type 0} (v w : Value) (r : Result A AclFault) → w ≡ 
     → IfErr r (λ fault. fault ≢ faults.Memory → (inner : CertFault) × (fault ≡ faults.Acl inner) × IsNoAcl inner w)
     → IfErr r (λ fault. fault ≢ faults.Memory → ListRefused v fault)
 list_refused v w (Ok a) same short h = tt
-list_refused v w (Err fault) same short h =
-    λ found.
-    let x = h found in
-    subst (λ (f : AclFault). ListRefused v f) (sym x.1) (short, subst (λ (u : Value). IsNoAcl x.0 u) same x.2)
+list_refused v w (Err fault) same short h = search rules
 
 pub value_there : (v w : Value) (r : Result Held AclFault) → w ≡ v → length (canon v) ≤ 1048576 → IfOk r (λ g. HoldsValue w g.texts)
     → IfOk r (λ g. (length (canon v) ≤ 1048576) × HoldsValue v g.texts)
@@ -71,8 +68,4 @@ module _ (text : List ℕ) (v w : Value) (same : w ≡ v) (meant : IsTextWithin 
       → IfErr r (λ fault. fault ≢ faults.Memory → (inner : CertFault) × (fault ≡ faults.Acl inner) × IsNoAcl inner w)
       → IfErr r (λ fault. fault ≢ faults.Memory → IsNoAccessList text fault)
   list_refused_text (Ok g) short h = tt
-  list_refused_text (Err fault) short h =
-      λ found.
-      let x = h found in
-      subst (λ (f : AclFault). IsNoAccessList text f) (sym x.1)
-      (record { value = v; meant = meant; short = short; is = subst (λ (u : Value). IsNoAcl x.0 u) same x.2 })
+  list_refused_text (Err fault) short h = search rules

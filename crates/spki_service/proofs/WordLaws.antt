@@ -1,7 +1,7 @@
 -- The canonical text of strings, and its length.
-use Rattle.std.proofs.Common.{◌≡◌, Option, Some, None, MatchOption, ℕ, ◌+◌, ◌*◌, ◌/◌, ◌%◌, ◌<◌, ◌≤◌, List, [], ◌∷◌, ◌++◌, length, map, take, drop, get_or, refl, sym, ap, ◌∙◌, suc, arith, length-append}
+use Rattle.std.proofs.Common.{◌≡◌, Option, Some, None, MatchOption, ℕ, ◌+◌, ◌*◌, ◌/◌, ◌%◌, ◌<◌, ◌≤◌, List, [], ◌∷◌, ◌++◌, length, map, take, drop, get_or, refl, sym, ap, ◌∙◌, arith, length-append, rules}
 use Rattle.std.specs.Borrow.{Bor}
-use Rattle.std.proofs.lemmas.List.{map-append, take_all, take-append-drop}
+use Rattle.std.proofs.lemmas.List.{map-append, take_all, take-append-drop, length-map}
 use Rattle.sexpr_core.specs.Value.{Value, values, plain, group, decimal, verbatim, canon, canons, depths, IsShallow}
 use Rattle.sexpr_core.proofs.Decimal.{decimal_digit, decimal_more}
 use Rattle.sexpr_core.proofs.Texts.{verbatim_is}
@@ -22,10 +22,7 @@ digits_length n digits high e =
     omega arith
 
 pub verbatim_length : (octets : List ℕ) → length (verbatim octets) ≡ length octets + length (decimal (length octets)) + 1
-verbatim_length octets =
-    let e : length (verbatim octets) ≡ length (decimal (length octets)) + length (58 ∷ octets) =
-    ap length (verbatim_is octets) ∙ length-append (decimal (length octets)) (58 ∷ octets) in
-    omega arith
+verbatim_length octets = search (rules, verbatim_is, length-append)
 
 -- ---- more
 
@@ -38,20 +35,15 @@ abbrev pub words_now : List (Bor (List ℕ)) → List (List ℕ)
 words_now ws = map (λ w. w.now) ws
 
 many : (xs : List (List ℕ)) → (length xs ≡ 1 → ⊥) → words_value xs ≡ group (map plain xs)
-many [] other = refl
 many (w ∷ []) other = absurd (other refl)
-many (w ∷ x ∷ ws) other = refl
+many _ other = refl
 
 map-now : (ws : List (Bor (List ℕ))) → map plain (words_now ws) ≡ map word_value ws
 map-now [] = refl
 map-now (w ∷ ws) = ap (λ vs. plain w.now ∷ vs) (map-now ws)
 
-length-now : (ws : List (Bor (List ℕ))) → length (words_now ws) ≡ length ws
-length-now [] = refl
-length-now (w ∷ ws) = ap suc (length-now ws)
-
 pub many_words : (ws : List (Bor (List ℕ))) → (length ws ≡ 1 → ⊥) → words_value (words_now ws) ≡ group (map word_value ws)
-many_words ws other = many (words_now ws) (λ e. other (sym (length-now ws) ∙ e)) ∙ ap group (map-now ws)
+many_words ws other = many (words_now ws) (λ e. other (sym (length-map ws (λ w. w.now)) ∙ e)) ∙ ap group (map-now ws)
 
 -- the octets of the first strings
 abbrev pub octets_of : ℕ → List (Bor (List ℕ)) → List ℕ
@@ -59,9 +51,7 @@ octets_of k ws = canons (values (map word_value (take k ws)))
 
 pub words_written : (ws : List (Bor (List ℕ))) (k : ℕ) (all new : List ℕ) → (length ws ≡ 1 → ⊥) → length ws ≤ k
     → all ≡ (40 ∷ []) ++ octets_of k ws → new ≡ all ++ 41 ∷ [] → new ≡ canon (words_value (words_now ws))
-words_written ws k all new other le e f =
-    let taken : octets_of k ws ≡ canons (values (map word_value ws)) = ap (λ t. canons (values (map word_value t))) (take_all k ws le) in
-    f ∙ ap (λ t. t ++ 41 ∷ []) (e ∙ ap (λ t. 40 ∷ t) taken) ∙ sym (ap canon (many_words ws other))
+words_written ws k all new other le e f = search (rules, take_all, many_words)
 
 -- ---- lengths
 
@@ -84,11 +74,7 @@ length_most ws k =
 -- with both parentheses
 pub words_length : (ws : List (Bor (List ℕ))) → (length ws ≡ 1 → ⊥)
     → length (canon (words_value (words_now ws))) ≡ length (canons (values (map word_value ws))) + 2
-words_length ws other =
-    let body = canons (values (map word_value ws)) in
-    let e : length (canon (words_value (words_now ws))) ≡ length ((40 ∷ body) ++ 41 ∷ []) = ap (λ v. length (canon v)) (many_words ws other) in
-    let f : length ((40 ∷ body) ++ 41 ∷ []) ≡ length (40 ∷ body) + 1 = length-append (40 ∷ body) (41 ∷ []) in
-    omega arith
+words_length ws other = search (rules, many_words, length-append)
 
 -- ---- what is left of a room
 
@@ -110,10 +96,7 @@ module _ (ws : List (Bor (List ℕ))) (k left room : ℕ) (e : left + (length (o
   one_less d rest h f = omega (arith, e, length_more ws k d h)
 
   pub all_less : (length ws ≡ 1 → ⊥) → length ws ≤ k → left + length (canon (words_value (words_now ws))) ≡ room
-  all_less other le =
-      let taken : length (octets_of k ws) ≡ length (canons (values (map word_value ws))) =
-      ap (λ t. length (canons (values (map word_value t)))) (take_all k ws le) in
-      omega (arith, e, words_length ws other)
+  all_less other le = search (rules, take_all, words_length)
 
 -- ---- the depth of strings
 
@@ -122,6 +105,5 @@ flat [] = refl
 flat (x ∷ xs) = rw (flat xs) refl
 
 pub words_shallow : (xs : List (List ℕ)) → IsShallow (words_value xs)
-words_shallow [] = omega arith
-words_shallow (w ∷ []) = omega arith
 words_shallow (w ∷ x ∷ ws) = rw (flat ws) (omega arith)
+words_shallow _ = omega arith

@@ -2,7 +2,7 @@
 use Rattle.std.specs.Prelude.{◌≡◌, ◌↔◌, ◌⊎◌, ℕ, ◌+◌, ◌<◌, ◌≤◌, List, [], ◌∷◌, Bool, IsTrue}
 use Rattle.sexpr_core.specs.Value.{Value, Values, string, list, none, more, canon, IsWithinLimits}
 use Rattle.spki_cert.specs.declared.certificate.SeqItem.{SeqItem}
-use Rattle.spki_cert.specs.declared.certificate.SeqItem.TheVariants.{Key, DoHash, Auth, Name, Signature}
+use Rattle.spki_cert.specs.declared.certificate.SeqItem.TheVariants.{Auth, Name}
 use Rattle.spki_case.specs.Case.{Case}
 use Rattle.spki_service.specs.declared.question.Question.{Question}
 use Rattle.spki_service.specs.declared.question.AskFault.{AskFault}
@@ -16,11 +16,9 @@ use Rattle.spki_service.specs.Questions.{IsWanted, IsAskedCase, IsNotAsked}
 
 -- 1 for a certificate, of either kind, and 0 for another item
 abbrev pub certificate_in : SeqItem → ℕ
-certificate_in (Key octets) = 0
-certificate_in (DoHash alg) = 0
 certificate_in (Auth cert) = 1
 certificate_in (Name cert) = 1
-certificate_in (Signature s) = 0
+certificate_in _ = 0
 
 -- how many of the items are certificates
 abbrev pub certificates_in : List SeqItem → ℕ
@@ -69,15 +67,9 @@ pub record HasManyStrings (certificates most : ℕ) (q : Question) : Type 0 wher
   pub many : Reads (IsWanted q.request) (λ v. most < strings_in v)
 
 abbrev pub IsTooMany : (certificates words : ℕ) → Question → AskFault → Type 0
-IsTooMany certificates words q faults.TooLong = ⊥
 IsTooMany certificates words q faults.TooManyCertificates = HasManyCertificates certificates q
 IsTooMany certificates words q faults.TooManyWords = HasManyStrings certificates words q
-IsTooMany certificates words q (faults.Form part fault) = ⊥
-IsTooMany certificates words q (faults.Sequence fault) = ⊥
-IsTooMany certificates words q (faults.Key kind) = ⊥
-IsTooMany certificates words q (faults.Request fault) = ⊥
-IsTooMany certificates words q (faults.Moment kind) = ⊥
-IsTooMany certificates words q faults.Memory = ⊥
+IsTooMany certificates words q _ = ⊥
 
 -- What a fault means for a question and these limits, except for Memory and TooLong: a part cannot be read; or all are read, and there
 -- are too many certificates or strings.

@@ -129,15 +129,12 @@ IsAskedAtNone (moments.Seconds seconds) kind = (kind ≡ kinds.BadDate) × IsAtN
 
 -- What a fault of a part means for a question: the part cannot be read, and those before it can.
 abbrev pub IsNotAsked : Question → AskFault → Type 0
-IsNotAsked q faults.TooLong = ⊥
-IsNotAsked q faults.TooManyCertificates = ⊥
-IsNotAsked q faults.TooManyWords = ⊥
 IsNotAsked q (faults.Form part fault) = ReadsBefore q part × LacksFormAt q part fault
 IsNotAsked q (faults.Sequence fault) = Reads (IsTextWithin q.sequence.now) (IsNoSequenceFor fault)
 IsNotAsked q (faults.Key kind) = ReadsBefore q parts.Key × Reads (IsTextWithin q.key.now) (IsNoKeyFor kind)
 IsNotAsked q (faults.Request fault) = ReadsBefore q parts.Request × Reads (IsWanted q.request) (IsNoRequestFor fault)
 IsNotAsked q (faults.Moment kind) = ReadsBefore q parts.Moment × IsAskedAtNone q.moment kind
-IsNotAsked q faults.Memory = ⊥
+IsNotAsked q _ = ⊥
 
 -- ---- length
 

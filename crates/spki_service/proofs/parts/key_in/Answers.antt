@@ -1,5 +1,3 @@
-use Rattle.std.proofs.Common.{◌≡◌, ◌∙◌, sym, ap}
-use Rattle.sexpr_core.specs.Value.{canon}
 use Rattle.spki_cert.specs.Readings.{KeyOf}
 use Rattle.spki_service.specs.declared.question.Part.TheVariants as parts
 use Rattle.spki_service.specs.Texts.{NamesKey}
@@ -8,14 +6,10 @@ use Rattle.spki_service.proofs.parts.key_in.Goals as goal
 
 pub returns-in_ok-document-in-Made-clause-read : goal.returns-in_ok-document-in-Made-clause-read
 returns-in_ok-document-in-Made-clause-read c =
-    let e : c.in-Made.octets.items ≡ canon c.top-in-Made.result =
-    sym c.deref.ensures.value ∙ c.in_ok-document-in-Made.ensures.read ∙ ap canon (sym c.top-in-Made.ensures) in
-    made_read c.in-Made.octets c.top-in-Made.result e (λ key v. KeyOf v key) c.args.text.now c.key_at-in-Made.result c.in-Made.is
-    c.key_at-in-Made.ensures.read
+    made_read c.in-Made.octets _ _ _ c.deref.ensures.value c.in_ok-document-in-Made.ensures.read c.top-in-Made.ensures
+    (λ key v. KeyOf v key) c.args.text.now c.key_at-in-Made.result c.in-Made.is c.key_at-in-Made.ensures.read
 
 pub returns-in_ok-document-in-Made-clause-refused : goal.returns-in_ok-document-in-Made-clause-refused
 returns-in_ok-document-in-Made-clause-refused c =
-    let e : c.in-Made.octets.items ≡ canon c.top-in-Made.result =
-    sym c.deref.ensures.value ∙ c.in_ok-document-in-Made.ensures.read ∙ ap canon (sym c.top-in-Made.ensures) in
-    made_refused c.in-Made.octets c.top-in-Made.result e parts.Key NamesKey c.args.text.now c.key_at-in-Made.result c.in-Made.is
-    c.key_at-in-Made.ensures.refused
+    made_refused c.in-Made.octets _ _ _ c.deref.ensures.value c.in_ok-document-in-Made.ensures.read c.top-in-Made.ensures
+    parts.Key NamesKey c.args.text.now c.key_at-in-Made.result c.in-Made.is c.key_at-in-Made.ensures.refused

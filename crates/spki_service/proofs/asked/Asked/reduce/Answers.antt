@@ -1,8 +1,7 @@
-use Rattle.std.proofs.Common.{Some, map, ap, ◌∙◌, rules}
-use Rattle.spki_decision.specs.Views.{signed_of}
-use Rattle.spki_decision.specs.Asked.{asked, IsFirstRefused, RefusedAt}
-use Rattle.spki_decision.proofs.Answering.{refused_within, refused_item}
-use Rattle.spki_service.proofs.Outcomes.{reduced_all, reduced_none, moved}
+use Rattle.std.proofs.Common.{ap, ◌∙◌, rules}
+use Rattle.spki_decision.specs.Asked.{asked}
+use Rattle.spki_decision.proofs.Answering.{refused_within}
+use Rattle.spki_service.proofs.Outcomes.{reduced_all, reduced_none, refused_there}
 use Rattle.spki_service.proofs.asked.Asked.reduce.Goals as goal
 
 pub returns-in-None-clause-reduced : goal.returns-in-None-clause-reduced
@@ -11,13 +10,10 @@ returns-in-None-clause-reduced g c = search (rules, reduced_all)
 pub returns-in-Some-clause-reduced : goal.returns-in-Some-clause-reduced
 returns-in-Some-clause-reduced g c =
     let verified = g.V.Verifier.accepted c.args.verifier.now in
-    let kept = c.self.inside.examined.signed.items in
-    let first : IsFirstRefused verified (map signed_of c.deref.result.now) (Some c.in-Some.place) = rw c.in-Some.is at c.in_ok-first_refused.ensures in
-    let refused : RefusedAt verified (map signed_of kept) c.in-Some.place = rw c.deref.ensures.value at first in
-    let same = c.self.invariant.0 ∙ ap (λ a. asked a.case) c.self.view_is in
-    let there = moved verified (map signed_of kept) (asked c.args.self.now.case) c.in-Some.place refused same in
-    reduced_none c.args.self.now verified c.in-Some.place there c.index.result.now.item
-    (ap (λ s. s.item) c.index.ensures ∙ refused_item verified kept c.in-Some.place refused c.index.result.now)
+    let there = refused_there (λ _. verified) _ c.deref.result.now (asked c.args.self.now.case) c.in-Some.place
+    c.index.result.now (rw c.in-Some.is at c.in_ok-first_refused.ensures) c.deref.ensures.value
+    (c.self.invariant.0 ∙ ap (λ a. asked a.case) c.self.view_is) c.index.ensures in
+    reduced_none c.args.self.now verified c.in-Some.place there.0 _ there.1
 
 pub index-requires : goal.index-requires
 index-requires g c = search (rules, refused_within)
