@@ -48,7 +48,7 @@ module _ {W : Type 0} (contents : W → Option (List ℕ)) where
       (ok : has_failed s ≡ false) (unasked : asks_of old ≡ 0) (most_is : most_of s ≡ most) (limit : most ≡ length octets + 2097152)
       (taken : PageTakes contents s octets t) (asks : asks_of end ≤ max (asks_of (writer_of t)) (most_of t)) where
     bounded : asks_of end ≤ max (asks_of old) (length octets + 2097152)
-    bounded  = search (rules)
+    bounded = search (rules)
 
     pub all_written : (has_failed t ≡ false) × Takes contents (writer_of t) end (page_of t) × (faults_of end ≡ faults_of (writer_of t))
         × IsTrue (flushed_of end) → IsWritten contents old end octets × (faults_of end ≡ faults_of old)
