@@ -1,34 +1,42 @@
+use Rattle.spki_cert.specs.declared.fault.CertFaultKind.TheVariants.{Shape}
 use Rattle.spki_cert.proofs.Looking.{carried, no-plain, none-some}
-use Rattle.std.proofs.Common.{arith}
+use Rattle.std.proofs.Common.{◌∙◌, arith}
 use Rattle.spki_cert.specs.SubjectFaults.{issuer_fault}
 use Rattle.spki_cert.proofs.SubjectFaultLaws.{issuer-principal, issuer-form}
+use Rattle.spki_cert.specs.FixedFaults.{any_octets}
 use Rattle.spki_cert.proofs.principal_reader.issuer_of.Goals as goal
 
 pub returns-in_err-principal-clause-named : goal.returns-in_err-principal-clause-named
-returns-in_err-principal-clause-named c = grind (arith, carried, issuer-principal)
+returns-in_err-principal-clause-named c =
+    carried _ _ _ c.from_residual.ensures.1 (issuer-principal c.args.node.now _ c.in_default.ensures c.in_err-principal.ensures.named)
 
 pub returns-in_default-clause-faultless : goal.returns-in_default-clause-faultless
 returns-in_default-clause-faultless c = issuer-principal c.args.node.now _ c.in_default.ensures c.in_ok-principal.ensures.faultless
 
 pub returns-in_default-split_first-clause-named : goal.returns-in_default-split_first-clause-named
-unfolding issuer_fault
-returns-in_default-split_first-clause-named c = grind (arith, issuer-form)
+returns-in_default-split_first-clause-named c = issuer-form c.args.node.now _ c.in-Some.ensures ∙ rw c.in_default-split_first.ensures
 
 pub returns-in_err-principal-2-clause-named : goal.returns-in_err-principal-2-clause-named
-unfolding issuer_fault
-returns-in_err-principal-2-clause-named c = grind (arith, carried, issuer-form)
+returns-in_err-principal-2-clause-named c =
+    carried _ _ _ c.from_residual-in_err-principal-2.ensures.1
+    (issuer-form c.args.node.now _ c.in-Some.ensures ∙ rw (c.in-Some-split_first.ensures, c.in_err-principal-2.ensures.named))
 
 pub returns-in_default-split_first-2-clause-named : goal.returns-in_default-split_first-2-clause-named
-unfolding issuer_fault
-returns-in_default-split_first-2-clause-named c = grind (arith, issuer-form)
+returns-in_default-split_first-2-clause-named c =
+    issuer-form c.args.node.now _ c.in-Some.ensures
+    ∙ rw (c.in-Some-split_first.ensures, c.in_ok-principal-2.ensures.faultless, c.in_default-split_first-2.ensures)
 
 pub returns-in_default-plain_octets-clause-named : goal.returns-in_default-plain_octets-clause-named
-unfolding issuer_fault
-returns-in_default-plain_octets-clause-named c = grind (arith, issuer-form, no-plain)
+returns-in_default-plain_octets-clause-named c =
+    let other = no-plain any_octets _ c.in_default-plain_octets.ensures in
+    issuer-form c.args.node.now _ c.in-Some.ensures
+    ∙ rw (c.in-Some-split_first.ensures, c.in_ok-principal-2.ensures.faultless, c.in-Some-split_first-2.ensures, other)
 
 pub returns-then-not-is_empty-clause-named : goal.returns-then-not-is_empty-clause-named
-unfolding issuer_fault
-returns-then-not-is_empty-clause-named c = grind (arith, none-some, issuer-form)
+returns-then-not-is_empty-clause-named c =
+    let some = none-some c.in-Some-split_first-2.more Shape (λ e. absurd (let f = c.if-not-is_empty.ensures.1 e in cc)) in
+    issuer-form c.args.node.now _ c.in-Some.ensures
+    ∙ rw (c.in-Some-split_first.ensures, c.in_ok-principal-2.ensures.faultless, c.in-Some-split_first-2.ensures, c.in-Some-plain_octets.ensures, some)
 
 pub returns-clause-faultless : goal.returns-clause-faultless
 unfolding issuer_fault

@@ -1,6 +1,6 @@
-use Rattle.std.proofs.Common.{arith}
+use Rattle.spki_cert.specs.declared.fault.CertFaultKind.TheVariants.{Shape}
+use Rattle.std.proofs.Common.{◌∙◌}
 use Rattle.spki_cert.proofs.Looking.{carried, none-some}
-use Rattle.spki_cert.specs.ItemFaults.{signature_fault}
 use Rattle.spki_cert.proofs.ItemFaultLaws.{signature-looks}
 use Rattle.spki_cert.proofs.Triples.{triple-unheaded, triple-form}
 use Rattle.spki_cert.proofs.signature.signature_of.Goals as goal
@@ -9,25 +9,44 @@ pub returns-in_default-clause-named : goal.returns-in_default-clause-named
 returns-in_default-clause-named c = triple-unheaded signature-looks c.args.node.now c.in_default.ensures
 
 pub returns-in_default-split_first-clause-named : goal.returns-in_default-split_first-clause-named
-unfolding signature_fault
-returns-in_default-split_first-clause-named c = grind (arith, triple-form signature-looks)
+returns-in_default-split_first-clause-named c = triple-form signature-looks c.args.node.now _ c.in-Some.ensures ∙ rw c.in_default-split_first.ensures
 
 pub returns-in_err-alg-clause-named : goal.returns-in_err-alg-clause-named
-unfolding signature_fault
-returns-in_err-alg-clause-named c = grind (arith, carried, triple-form, signature-looks)
+returns-in_err-alg-clause-named c =
+    carried _ _ _ c.from_residual.ensures.1
+    (triple-form signature-looks c.args.node.now _ c.in-Some.ensures ∙ rw (c.in-Some-split_first.ensures, c.in_err-alg.ensures.named))
 
 pub returns-in_default-split_first-2-clause-named : goal.returns-in_default-split_first-2-clause-named
-unfolding signature_fault
-returns-in_default-split_first-2-clause-named c = grind (arith, triple-form signature-looks)
+returns-in_default-split_first-2-clause-named c =
+    triple-form signature-looks c.args.node.now _ c.in-Some.ensures
+    ∙ rw (c.in-Some-split_first.ensures, c.in_ok-alg.ensures.faultless, c.in_default-split_first-2.ensures)
 
 pub returns-in_err-signer-clause-named : goal.returns-in_err-signer-clause-named
-unfolding signature_fault
-returns-in_err-signer-clause-named c = grind (arith, carried, triple-form, signature-looks)
+returns-in_err-signer-clause-named c =
+    carried _ _ _ c.from_residual-in_err-signer.ensures.1
+    (triple-form signature-looks c.args.node.now _ c.in-Some.ensures
+    ∙ rw (c.in-Some-split_first.ensures, c.in_ok-alg.ensures.faultless, c.in-Some-split_first-2.ensures, c.in_err-signer.ensures.named))
 
 pub returns-in_default-split_first-3-clause-named : goal.returns-in_default-split_first-3-clause-named
-unfolding signature_fault
-returns-in_default-split_first-3-clause-named c = grind (arith, triple-form signature-looks)
+returns-in_default-split_first-3-clause-named c =
+    triple-form signature-looks c.args.node.now _ c.in-Some.ensures
+    ∙ rw (
+      c.in-Some-split_first.ensures,
+      c.in_ok-alg.ensures.faultless,
+      c.in-Some-split_first-2.ensures,
+      c.in_ok-signer.ensures.faultless,
+      c.in_default-split_first-3.ensures,
+    )
 
 pub returns-then-not-is_empty-clause-named : goal.returns-then-not-is_empty-clause-named
-unfolding signature_fault
-returns-then-not-is_empty-clause-named c = grind (arith, none-some, triple-form, signature-looks)
+returns-then-not-is_empty-clause-named c =
+    let some = none-some c.in-Some-split_first-3.more Shape (λ e. absurd (let f = c.if-not-is_empty.ensures.1 e in cc)) in
+    triple-form signature-looks c.args.node.now _ c.in-Some.ensures
+    ∙ rw (
+      c.in-Some-split_first.ensures,
+      c.in_ok-alg.ensures.faultless,
+      c.in-Some-split_first-2.ensures,
+      c.in_ok-signer.ensures.faultless,
+      c.in-Some-split_first-3.ensures,
+      some,
+    )
