@@ -10,11 +10,7 @@ use Rattle.spki_decision.proofs.Stopping.{all_stand, one_fails}
 use Rattle.spki_decision.proofs.decision.decide.Goals as goal
 
 pub returns-in-Fails-clause-within_limit : goal.returns-in-Fails-clause-within_limit
-returns-in-Fails-clause-within_limit g c tuples shown =
-    let policy = c.args.case.now.policy in
-    let verified = g.V.Verifier.accepted c.args.verifier.now in
-    let fails = one_fails policy verified _ _ _ c.deref.ensures.value c.in_ok-judge.ensures c.in-Fails.item c.in-Fails.stop c.in-Fails.is in
-    absurd (none_shown policy verified c.args.case.now.sequence.items c.in-Fails.item c.in-Fails.stop tuples fails shown)
+returns-in-Fails-clause-within_limit g c tuples shown = search (rules, one_fails, none_shown)
 
 pub returns-in-Verified-clause-within_limit : goal.returns-in-Verified-clause-within_limit
 returns-in-Verified-clause-within_limit g c =

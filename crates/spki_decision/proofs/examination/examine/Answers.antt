@@ -47,8 +47,4 @@ loop-shown-preserved c =
     stands_asked policy (keys_of items) every (shown_of one) signed.key passes.stands ∙ ap Some (sym passes.signed_is) in
     let added = asked_more policy (keys_of items) (map signed_of c.loop-shown.signed.items) (map shown_of kept) i (shown_of one) rest
     c.loop-shown.invariant.asked (signed_of signed) asked in
-    record {
-      standing = rw c.in_ok-push-in-Passes.ensures.items grown;
-      keys = c.in_ok-one.ensures.kept ∙ keys;
-      asked = rw (c.in_ok-push-in-Passes-2.ensures.items, map-append) added;
-    }
+    search (rules, map-append)

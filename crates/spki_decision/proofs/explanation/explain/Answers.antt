@@ -1,4 +1,4 @@
-use Rattle.std.proofs.Common.{◌∙◌, ap, length}
+use Rattle.std.proofs.Common.{rules}
 use Rattle.spki_reduce.specs.Chain.{tuples_of}
 use Rattle.spki_case.specs.View.{model}
 use Rattle.spki_decision.proofs.Reasons.{are_reasons}
@@ -6,11 +6,7 @@ use Rattle.spki_decision.proofs.Stopping.{all_stand, one_fails, as_many, failure
 use Rattle.spki_decision.proofs.explanation.explain.Goals as goal
 
 pub entry_reasons-requires : goal.entry_reasons-requires
-entry_reasons-requires g c =
-    let policy = c.args.case.now.policy in
-    let verified = g.V.Verifier.accepted c.args.verifier.now in
-    ap length c.deref-in-Verified-2.ensures.value ∙ as_many policy verified c.args.case.now.sequence.items c.in-Verified.steps.items
-    (all_stand policy verified _ _ _ c.deref.ensures.value c.in_ok-item.ensures c.in-Verified.steps c.in-Verified.is)
+entry_reasons-requires g c = search (rules, as_many, all_stand)
 
 pub returns-in-Fails-clause-exact : goal.returns-in-Fails-clause-exact
 returns-in-Fails-clause-exact g c =

@@ -7,11 +7,7 @@ use Rattle.spki_decision.proofs.Stopping.{stops_within, stops_at_item}
 use Rattle.spki_decision.proofs.reduction.entry_fold.Goals as goal
 
 pub returns-in-Done-clause-exact : goal.returns-in-Done-clause-exact
-returns-in-Done-clause-exact c es = (
-  rw c.in-Done.is at c.in_ok-five.ensures.fold,
-  rw c.in-Done.is at c.in_ok-five.ensures.value,
-  λ none. rw c.in-Done.is at (c.in_ok-five.ensures.alone none),
-)
+returns-in-Done-clause-exact c es = search rules
 
 pub bounds-shown-step : goal.bounds-shown-step
 bounds-shown-step c =

@@ -35,10 +35,4 @@ returns-clause-within_limit c k e below there =
     c.loop-entry.invariant.within_limit k e (omega arith) there
 
 pub loop-entry-init : goal.loop-entry-init
-loop-entry-init c = record {
-  each = rw c.new-folds.ensures.items tt;
-  dated = rw c.new-folds.ensures.items tt;
-  end = rw c.new-folds.ensures.items tt;
-  within_limit = λ k e below there. absurd (omega (arith, below));
-  worked = (0, refl, none_taken c.args.case.now.most_work (left_of c.new-work.result) c.new-work.ensures);
-}
+loop-entry-init c = search (rules, none_taken)

@@ -1,14 +1,10 @@
-use Rattle.std.proofs.Common.{◌∙◌, ap, length}
+use Rattle.std.proofs.Common.{rules}
 use Rattle.spki_case.specs.View.{model}
 use Rattle.spki_decision.proofs.Stopping.{all_stand, one_fails, as_many, failure}
 use Rattle.spki_decision.proofs.reduction.reduce_case.Goals as goal
 
 pub entry_folds-requires : goal.entry_folds-requires
-entry_folds-requires g c =
-    let policy = c.args.case.now.policy in
-    let verified = g.V.Verifier.accepted c.args.verifier.now in
-    ap length c.deref-in-Verified-2.ensures.value ∙ as_many policy verified c.args.case.now.sequence.items c.in-Verified.steps.items
-    (all_stand policy verified _ _ _ c.deref.ensures.value c.in_ok-item.ensures c.in-Verified.steps c.in-Verified.is)
+entry_folds-requires g c = search (rules, as_many, all_stand)
 
 pub returns-in-Fails-clause-exact : goal.returns-in-Fails-clause-exact
 returns-in-Fails-clause-exact g c =

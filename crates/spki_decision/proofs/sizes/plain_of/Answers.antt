@@ -1,4 +1,4 @@
-use Rattle.std.proofs.Common.{◌≡◌, ◌+◌, ◌≤◌, ◌∷◌, [], ◌++◌, All, take, false, sym, ap, ◌∙◌, subst, arith}
+use Rattle.std.proofs.Common.{◌≡◌, ◌+◌, ◌≤◌, ◌∷◌, [], ◌++◌, All, take, false, ap, ◌∙◌, arith, rules}
 use Rattle.std.proofs.lemmas.List.Elements.{All-push, All-weaker}
 use Rattle.spki_tag.specs.Tag.{tags, nodes_all, some_nests_set}
 use Rattle.spki_tag.proofs.Bounds.{append-nodes}
@@ -32,9 +32,4 @@ loop-step-preserved c =
     (All-weaker (λ tuple. nodes_product (tags_of tuple) ≤ c.loop-step.plain.most) P (λ tuple h. omega (arith, h)) before
     c.loop-step.invariant.each_nodes)
     (omega (arith, c.nodes_in-nodes.ensures.counted)) in
-    record {
-      no_set = no_set;
-      all_nodes = omega (arith, sum, c.loop-step.invariant.all_nodes, c.nodes_in-nodes.ensures.together);
-      each_nodes = subst (All P) (sym more) each;
-      few = (omega arith, omega (arith, c.loop-step.invariant.few.1, c.nodes_in-nodes.ensures.few));
-    }
+    search rules
