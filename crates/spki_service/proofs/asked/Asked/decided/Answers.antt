@@ -1,5 +1,4 @@
-use Rattle.std.proofs.Common.{subst}
-use Rattle.spki_reduce.specs.Chain.{tuples_of}
+use Rattle.std.proofs.Common.{subst, rules}
 use Rattle.spki_decision.specs.Judged.{IsEvidence}
 use Rattle.spki_decision.specs.Asked.{every}
 use Rattle.spki_service.specs.Asking.{AskedOf}
@@ -13,8 +12,4 @@ returns-in-Fails c =
     decided_failed c.args.self.now _ _ fails
 
 pub returns-in-Verified : goal.returns-in-Verified
-returns-in-Verified c =
-    let evident = subst (λ (a : AskedOf). IsEvidence a.case.policy every a.case.items c.self.inside.examined.evidence) c.self.view_is c.self.invariant.1 in
-    let stands = rw c.in-Verified.is at evident in
-    decided_partly c.args.self.now (tuples_of c.in-Verified.steps.items) stands c.granted.result
-    (λ es are. rw c.deref.ensures.value at (c.granted.ensures es are))
+returns-in-Verified c = search (rules, decided_partly)

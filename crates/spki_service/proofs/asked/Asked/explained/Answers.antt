@@ -1,4 +1,4 @@
-use Rattle.std.proofs.Common.{ℕ, sym, ◌∙◌, ap, subst, List, length, rules}
+use Rattle.std.proofs.Common.{ℕ, sym, ◌∙◌, ap, subst, List, rules}
 use Rattle.spki_cert.specs.declared.entry.Entry.{Entry}
 use Rattle.spki_reduce.specs.Chain.{tuples_of}
 use Rattle.spki_decision.specs.Judged.{IsEvidence}
@@ -14,11 +14,7 @@ use Rattle.spki_service.proofs.Outcomes.{explained_failed}
 use Rattle.spki_service.proofs.asked.Asked.explained.Goals as goal
 
 pub entry_reasons-requires : goal.entry_reasons-requires
-entry_reasons-requires c =
-    let m = model c.self.inside.case in
-    let evident : IsEvidence m.policy every m.items c.self.inside.examined.evidence = c.self.invariant.1 in
-    let stands = rw c.in-Verified.is at evident in
-    ap length c.deref-in-Verified-2.ensures.value ∙ as_many m.policy every m.items c.in-Verified.steps.items stands
+entry_reasons-requires c = search (rules, as_many)
 
 pub returns-in-Fails : goal.returns-in-Fails
 returns-in-Fails c = search (rules, explained_failed)
