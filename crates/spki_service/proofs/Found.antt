@@ -12,7 +12,7 @@ use Rattle.spki_service.specs.declared.index.EntryIndex.{EntryIndex}
 use Rattle.spki_service.specs.Kept.{numbers_from}
 use Rattle.spki_tag.specs.Merged.{merge}
 use Rattle.spki_service.specs.Indexed.{is_key, is_hash, numbers_at, numbers_of_key, by_algorithm, IsIndexOf}
-use Rattle.spki_service.proofs.Numbering.{numbers_same, numbers_none, numbers_merged}
+use Rattle.spki_service.proofs.Numbering.{numbers_none, numbers_merged}
 
 -- whether a principal is the key's hash by an algorithm, and the policy admits it
 abbrev is_admitted : Policy → HashAlg → List ℕ → Principal → Bool
@@ -58,7 +58,7 @@ module _ (policy : Policy) (key : List ℕ) where
 
   merged_named : (es : List Entry) → merge (merge (merge (own_numbers es) (hash_numbers Sha1 es)) (hash_numbers Sha256 es)) (hash_numbers Sha512 es)
       ≡ numbers_from 1 (λ e. names policy e.subject.principal key) es
-  merged_named es = search (rules, numbers_merged, apart_1, apart_2, apart_3, numbers_same, named)
+  merged_named es = search (rules, numbers_merged, apart_1, apart_2, apart_3, named)
 
   -- ---- what is looked up
 

@@ -6,15 +6,6 @@ use Rattle.spki_service.specs.Kept.{kept_from, first, numbers_from}
 use Rattle.spki_tag.specs.Merged.{merge}
 use Rattle.spki_tag.proofs.Merging.{StartsAbove, merge-left, merge-right}
 
--- tests that are the same keep the same
-pub kept_same : (n : ℕ) (p q : Entry → Bool) (es : List Entry) → ((e : Entry) → p e ≡ q e) → kept_from n p es ≡ kept_from n q es
-kept_same n p q [] same = refl
-kept_same n p q (e ∷ es) same = search (rules, kept_same (suc n) p q es same)
-
-pub numbers_same : (n : ℕ) (p q : Entry → Bool) (es : List Entry) → ((e : Entry) → p e ≡ q e)
-    → numbers_from n p es ≡ numbers_from n q es
-numbers_same n p q es same = ap (map first) (kept_same n p q es same)
-
 -- none passes
 pub numbers_none : (n : ℕ) (es : List Entry) → numbers_from n (λ e. false) es ≡ []
 numbers_none n [] = refl
