@@ -1,6 +1,7 @@
 """Tests before anything is proved what else would fail late: that each source file is laid out as `rt fmt` lays it out, that each wrong
-body can be applied, that CONTRIBUTING.md lists those of must-fail/, that no file is a link, and that CONTRIBUTING.md's line on the last run
-of `.ci/deep` names a commit of the history, no failure, and the seed of 1,000,000 texts or that only wrong bodies were tried."""
+body can be applied, that CONTRIBUTING.md lists those of must-fail/ and those of wrong/ that `.ci/run` tries, that no file is a link, and that
+CONTRIBUTING.md's line on the last run of `.ci/deep` names a commit of the history, no failure, and the seed of 1,000,000 texts or that only
+wrong bodies were tried."""
 import glob
 import os
 import re
@@ -15,6 +16,8 @@ WRONG_BODIES = ("crates/*/wrong/*.edit", "crates/*/must-fail/*.edit")
 # A line of an edit that the toolchain reads.
 READ = re.compile(r"(file: |old: |new:|$)")
 LISTED = re.compile(r"^\| `(\w+)` \| (`[\w-]+`(?:, `[\w-]+`)*) \|$", re.MULTILINE)
+# A wrong body that `.ci/run` tries by its functions alone.
+ALONE = re.compile(r" ((?:spki|sexpr)_\w+)/([\w-]+)")
 # The line that a run without names prints, or one on runs with names.
 LINE = re.compile(r"Last run of `\.ci/deep`: commit ([0-9a-f]{12,40}), \d+ passed, 0 failed, "
                   r"(?:wrong bodies only, |(?:.|\n(?!\n))*\b1,000,000 (?:.|\n(?!\n))*\bseed [0-9a-f]{8}\b)")
@@ -33,8 +36,8 @@ def misplaced(rattle):
 
 
 def unfit(rt):
-    """The wrong bodies that cannot be applied, and those of must-fail/ that CONTRIBUTING.md does not list."""
-    deep, tried = loaded(os.path.join(ROOT, ".ci", "deep")), set()
+    """The wrong bodies that cannot be applied, and those that `.ci/run` tries and CONTRIBUTING.md does not list, or the other way round."""
+    deep, tried = loaded(os.path.join(ROOT, ".ci", "deep")), set(ALONE.findall(text_of(os.path.join(".ci", "run"))))
     for crate in sorted(os.listdir(os.path.join(ROOT, "crates"))):
         folder = os.path.join(ROOT, "crates", crate)
         for path in deep.edits_in(folder):
@@ -46,7 +49,7 @@ def unfit(rt):
                 tried.add((crate, os.path.basename(path).removesuffix(".edit")))
     listed = {(crate, name) for crate, names in LISTED.findall(text_of("CONTRIBUTING.md")) for name in re.findall(r"[\w-]+", names)}
     for crate, name in sorted(tried ^ listed):
-        yield f"{crate}/must-fail/{name}.edit: " + ("CONTRIBUTING.md does not list it" if (crate, name) in tried else "CONTRIBUTING.md lists it")
+        yield f"{crate}/{name}.edit: " + ("CONTRIBUTING.md does not list it" if (crate, name) in tried else "CONTRIBUTING.md lists it")
 
 
 def git(*words):
