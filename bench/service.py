@@ -56,7 +56,7 @@ MOST = {"10,000 keys, no certificate": 1.5, "10,000 keys, three certificates": 1
         "three caveats, opened before": 0.05, "by the digests": 5.0, "Rust": 1.02, "Python, µs more": 12.0,
         "memory of an opened question by its octets": 70.0,
         "opening a question of 1 MiB, ms": 500.0, "a decision, ms": 100.0, "a decision, MiB": 16.0, "a decision by default, ms": 100.0,
-        "an explanation or a reduction, ms": 200.0, "an explanation or a reduction, MiB": 16.0,
+        "an explanation or a reduction, ms": 200.0, "an explanation or a reduction, MiB": 16.0, "a reduction for a key of lists, ms": 30_000.0,
         "waits of 1,000 decisions": 1.0}
 LEAST = {"threads": 3.5}
 # What the library's statuses say.
@@ -300,6 +300,16 @@ def one_question(driver, what, text):
     return met
 
 
+def key_of_lists(driver):
+    """The milliseconds of the reduction that takes longest of all known, which is refused for its length: a tree of the last subject's key is
+    made for each entry."""
+    issuer = keys_of(0)[0]
+    subject = group(string("public-key"), group(string("test"), *[group(string("a"))] * 4_000))
+    path = driver.question("lists", case([entry(issuer)] * 12_300, [(certificate(issuer, subject), issuer)], asks=subject))
+    _, took, *_ = driver.run("widest", "reduce", path)
+    yield "a reduction for a key of lists, ms", took
+
+
 def lists_in_lists(entries, depth):
     """Entries for the first issuer, and a certificate for a list of one list, and so on: nothing takes more memory for each node."""
     tag = string("x")
@@ -441,7 +451,7 @@ def main():
     library = os.path.abspath(sys.argv[1] if len(sys.argv) > 1 else LIBRARY)
     with tempfile.TemporaryDirectory() as room:
         driver = Driver(room, library)
-        parts = (by_instructions, through_python, opening_of_widest, by_default, widest, threads)
+        parts = (by_instructions, through_python, opening_of_widest, by_default, widest, key_of_lists, threads)
         met = [each for part in parts for each in part(driver)]
     if not all([is_kept(*each) for each in met]):
         sys.exit(1)
