@@ -56,8 +56,7 @@ MOST = {"10,000 keys, no certificate": 1.5, "10,000 keys, three certificates": 1
         "three caveats, opened before": 0.05, "by the digests": 5.0, "Rust": 1.02, "Python, µs more": 12.0,
         "memory of an opened question by its octets": 70.0,
         "opening a question of 1 MiB, ms": 500.0, "a decision, ms": 100.0, "a decision, MiB": 16.0, "a decision by default, ms": 100.0,
-        "an explanation or a reduction, ms": 200.0, "an explanation or a reduction, MiB": 16.0, "a reduction for a key of lists, ms": 30_000.0,
-        "waits of 1,000 decisions": 1.0}
+        "an explanation or a reduction, ms": 200.0, "an explanation or a reduction, MiB": 16.0, "waits of 1,000 decisions": 1.0}
 LEAST = {"threads": 3.5}
 # What the library's statuses say.
 ANSWERS = {1: "no", 2: "refused", 6: "done", 9: "yes"}
@@ -300,14 +299,11 @@ def one_question(driver, what, text):
     return met
 
 
-def key_of_lists(driver):
-    """The milliseconds of the reduction that takes longest of all known, which is refused for its length: a tree of the last subject's key is
-    made for each entry."""
+def key_of_lists(entries, lists):
+    """Entries for the first issuer, and a certificate for a key with so many lists: no line of a reduction is longer."""
     issuer = keys_of(0)[0]
-    subject = group(string("public-key"), group(string("test"), *[group(string("a"))] * 4_000))
-    path = driver.question("lists", case([entry(issuer)] * 12_300, [(certificate(issuer, subject), issuer)], asks=subject))
-    _, took, *_ = driver.run("widest", "reduce", path)
-    yield "a reduction for a key of lists, ms", took
+    subject = group(string("public-key"), group(string("test"), *[group(string("a"))] * lists))
+    return case([entry(issuer)] * entries, [(certificate(issuer, subject), issuer)], asks=subject)
 
 
 def lists_in_lists(entries, depth):
@@ -350,7 +346,8 @@ def widest(driver):
     texts = [widest_of(shape) for shape in wide_shapes()]
     texts += [(f"large tags: {what}", text) for what, text in large_tags()]
     texts += [("a string 1,000 times, 60 entries", equal_strings(60, 1_000)), ("a string 9,801 times", equal_strings(1, 99, 99)),
-              ("10 lists in one another, 9,500 entries", lists_in_lists(9_500, 10))]
+              ("10 lists in one another, 9,500 entries", lists_in_lists(9_500, 10)),
+              ("a key of 4,000 lists, 12,300 entries", key_of_lists(12_300, 4_000))]
     met = [one_question(driver, what, text) for what, text in texts]
     yield "a decision, ms", max(each["decide"][0] for each in met)
     yield "a decision, MiB", max(each["decide"][1] for each in met)
@@ -451,7 +448,7 @@ def main():
     library = os.path.abspath(sys.argv[1] if len(sys.argv) > 1 else LIBRARY)
     with tempfile.TemporaryDirectory() as room:
         driver = Driver(room, library)
-        parts = (by_instructions, through_python, opening_of_widest, by_default, widest, key_of_lists, threads)
+        parts = (by_instructions, through_python, opening_of_widest, by_default, widest, threads)
         met = [each for part in parts for each in part(driver)]
     if not all([is_kept(*each) for each in met]):
         sys.exit(1)

@@ -1,5 +1,5 @@
 -- What sinks have taken.
-use Rattle.std.specs.Prelude.{◌≡◌, ℕ, ◌+◌, ◌-◌, ◌^◌, ◌<◌, ◌≤◌, List, ◌++◌, length, Bool, false}
+use Rattle.std.specs.Prelude.{◌≡◌, ℕ, ◌+◌, ◌-◌, ◌^◌, ◌==◌, ◌<◌, ◌≤◌, List, ◌++◌, length, Bool, false}
 use Rattle.std.specs.Borrow.{GName}
 use Rattle.sexpr_text.specs.declared.sinks.VectorSink.{VectorSink}
 use Rattle.sexpr_text.specs.declared.sinks.Counter.{Counter}
@@ -26,6 +26,10 @@ pub record VectorTakes (old : VectorSink) (octets : List ℕ) (new : VectorSink)
 
 abbrev pub count_of : Counter → ℕ
 count_of c = c.count
+
+-- the count is the greatest `u64`, and grows no more
+abbrev pub is_at_end : Counter → Bool
+is_at_end c = count_of c == 2 ^ 64 - 1
 
 -- the count grows, at most by the number of these octets, and below the greatest `u64` by this number
 pub record IsCounted (old : Counter) (octets : List ℕ) (new : Counter) : Type 0 where

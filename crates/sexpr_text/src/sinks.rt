@@ -1,8 +1,8 @@
 //! Where printed octets go: a vector, a count, or what a crate above writes to.
 
-ghost use Rattle.std.specs.Prelude.{◌≡◌, ℕ, List, [], ◌∷◌, ◌++◌, false, IsTrue, OnOk};
-ghost use Rattle.sexpr_text.specs.Sinks.{VectorTakes, IsCounted, lender_of, text_of, has_failed, count_of};
-ghost use Rattle.sexpr_text.specs.SinkLaws.{vector_takes_nothing, vector_takes_both, nothing_counted, both_counted};
+ghost use Rattle.std.specs.Prelude.{◌≡◌, ℕ, List, [], ◌∷◌, ◌++◌, Bool, true, false, OnOk};
+ghost use Rattle.sexpr_text.specs.Sinks.{VectorTakes, IsCounted, lender_of, text_of, has_failed, count_of, is_at_end};
+ghost use Rattle.sexpr_text.specs.SinkLaws.{vector_takes_nothing, vector_takes_both, vector_stays, nothing_counted, both_counted, counter_stays};
 
 use std::alloc::AllocError;
 
@@ -12,6 +12,9 @@ pub trait Sink {
     // From the sink before it took these octets to the sink after it.
     ghost takes: { Self → List ℕ → Self → Type 0 };
 
+    // The sink stays as it is from now on.
+    ghost full: { Self → Bool };
+
     /// Takes octets.
     fn put(&mut self, octets: &[u8])
         ensures { takes self.old octets.now self.new };
@@ -20,14 +23,16 @@ pub trait Sink {
     fn put_octet(&mut self, octet: u8)
         ensures { takes self.old (octet ∷ []) self.new };
 
-    /// Whether the sink stays as it is, whatever is put from now on. Then a printer need not find out how to print.
+    /// Whether the sink stays as it is, whatever is put from now on. Then a printer need not find out what to print.
     fn is_full(&self) -> bool
-        ensures { IsTrue result → (octets : List ℕ) → takes self.now octets self.now };
+        ensures { result ≡ full self.now };
 
-    // Nothing is taken between two calls, and what two calls take is one behind the other.
+    // Nothing is taken between two calls, what two calls take is one behind the other, and whatever is put into a full sink is taken.
     ghost nothing: { (s : Self) → takes s [] s };
 
     ghost both: { (a b c : Self) (x y : List ℕ) → takes a x b → takes b y c → takes a (x ++ y) c };
+
+    ghost stays: { (s : Self) → full s ≡ true → (octets : List ℕ) → takes s octets s };
 }
 
 /// Appends octets to a vector. The vector is exactly what was put if no allocation failed.
@@ -69,6 +74,8 @@ impl<'v> VectorSink<'v> {
 impl<'v> Sink for VectorSink<'v> {
     ghost takes = { VectorTakes };
 
+    ghost full = { has_failed };
+
     fn put(&mut self, octets: &[u8]) {
         if self.octets.extend_from_slice(octets).is_err() {
             self.failed = true;
@@ -88,6 +95,8 @@ impl<'v> Sink for VectorSink<'v> {
     ghost nothing = { vector_takes_nothing };
 
     ghost both = { vector_takes_both };
+
+    ghost stays = { vector_stays };
 }
 
 /// Counts octets.
@@ -115,6 +124,8 @@ impl Counter {
 impl Sink for Counter {
     ghost takes = { IsCounted };
 
+    ghost full = { is_at_end };
+
     fn put(&mut self, octets: &[u8]) {
         self.count = self.count.saturating_add(octets.len() as u64);
     }
@@ -130,4 +141,6 @@ impl Sink for Counter {
     ghost nothing = { nothing_counted };
 
     ghost both = { both_counted };
+
+    ghost stays = { counter_stays };
 }

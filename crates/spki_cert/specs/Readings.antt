@@ -16,6 +16,10 @@ pub record KeyOf (v : Value) (octets : List ℕ) : Type 0 where
   pub written : v ≡ group (plain (codes "public-key") ∷ body ∷ [])
   pub canonical : octets ≡ canon v
 
+-- the octets of some key
+abbrev pub IsKey : List ℕ → Type 0
+IsKey octets = (v : Value) × KeyOf v octets
+
 abbrev pub alg_name : HashAlg → List ℕ
 alg_name Sha1 = codes "sha1"
 alg_name Sha256 = codes "sha256"

@@ -30,25 +30,29 @@ impl<'a> Model for Key<'a> {
     ghost use Rattle.sha1.specs.Sha1.{sha1};
     ghost use Rattle.sha2.specs.Sha256.{sha256};
     ghost use Rattle.sha2.specs.Sha512.{sha512};
+    ghost use Rattle.spki_cert.specs.Readings.{IsKey};
 
     ghost Value = { List ℕ };
 
     ghost view = { λ k. k.canonical };
 
     ghost invariant = { λ k.
-        IfSome k.digests.sha1 (λ digest. digest ≡ sha1 k.canonical)
+        IsKey k.canonical
+        × IfSome k.digests.sha1 (λ digest. digest ≡ sha1 k.canonical)
         × IfSome k.digests.sha256 (λ digest. digest ≡ sha256 k.canonical)
         × IfSome k.digests.sha512 (λ digest. digest ≡ sha512 k.canonical) };
 }
 
 impl<'a> Key<'a> {
     ghost use Rattle.spki_cert.specs.Naming.{is_digest};
+    ghost use Rattle.spki_cert.specs.Readings.{IsKey};
     ghost use Rattle.sha1.specs.Sha1.{sha1};
     ghost use Rattle.sha2.specs.Sha256.{sha256};
     ghost use Rattle.sha2.specs.Sha512.{sha512};
 
     /// The key with these canonical octets.
     pub(crate) fn new(octets: &'a [u8]) -> Key<'a>
+        requires { IsKey octets.now }
         ensures { result ≡ octets.now }
     {
         Key {
@@ -59,6 +63,13 @@ impl<'a> Key<'a> {
                 sha512: None,
             },
         }
+    }
+
+    /// A fact for the prover: a key is the canonical form of a value that reads as a key, however it was made. Does nothing.
+    pub fn prove_well_formed(&self)
+        ensures { IsKey self.now }
+    {
+        let _ = &self.canonical;
     }
 
     /// Its canonical octets.

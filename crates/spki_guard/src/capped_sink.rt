@@ -1,8 +1,8 @@
 //! A sink that keeps at most so many octets.
 ghost use Rattle.std.specs.Prelude.{◌≡◌, ◌-◌, ◌^◌, ◌<◌, ◌≤◌, false, OnOk, IsErrOf};
 ghost use Rattle.sexpr_text.specs.Sinks.{count_of};
-ghost use Rattle.spki_guard.specs.Inner.Capped.{lender_of, kept_by, most_of, counter_of, has_failed, CappedTakes};
-ghost use Rattle.spki_guard.specs.Inner.CappedLaws.{capped_takes_nothing, capped_takes_both};
+ghost use Rattle.spki_guard.specs.Inner.Capped.{lender_of, kept_by, most_of, counter_of, has_failed, is_over, CappedTakes};
+ghost use Rattle.spki_guard.specs.Inner.CappedLaws.{capped_takes_nothing, capped_takes_both, capped_stays};
 
 use sexpr_text::{Counter, Sink};
 use spki_decision::GuardFault;
@@ -65,6 +65,8 @@ impl<'v> CappedSink<'v> {
 impl<'v> Sink for CappedSink<'v> {
     ghost takes = { CappedTakes };
 
+    ghost full = { is_over };
+
     fn put(&mut self, octets: &[u8]) {
         self.counter.put(octets);
         if self.counter.count() <= self.most as u64
@@ -85,4 +87,6 @@ impl<'v> Sink for CappedSink<'v> {
     ghost nothing = { capped_takes_nothing };
 
     ghost both = { capped_takes_both };
+
+    ghost stays = { capped_stays };
 }

@@ -2,7 +2,7 @@
 ghost use Rattle.std.specs.Prelude.{◌≡◌, ℕ, ◌≤◌, ◌⊎◌, List, [], ◌∷◌, ◌++◌, false, IsTrue, max, OnOk, OnErr};
 ghost use Rattle.metered_io.specs.Metered.{asks_of, faults_of, flushed_of, Takes};
 ghost use Rattle.spki_guard.specs.Inner.Pages.{lender_of, writer_of, page_of, most_of, has_failed, IsPassedOn, IsCutAfter, PageTakes};
-ghost use Rattle.spki_guard.specs.Inner.PageLaws.{page_takes_nothing, page_takes_both};
+ghost use Rattle.spki_guard.specs.Inner.PageLaws.{page_takes_nothing, page_takes_both, page_stays};
 
 use arrayvec::ArrayVec;
 use metered_io::{Metered, WriteFault, flush_writer, write_octets};
@@ -110,6 +110,8 @@ impl<'w, W: Write> PageSink<'w, W> {
 impl<'w, W: Write> Sink for PageSink<'w, W> {
     ghost takes = { PageTakes W.contents };
 
+    ghost full = { has_failed };
+
     fn put(&mut self, octets: &[u8]) {
         if hold(&mut self.page, octets) {
             return;
@@ -133,4 +135,6 @@ impl<'w, W: Write> Sink for PageSink<'w, W> {
     ghost nothing = { page_takes_nothing W.contents };
 
     ghost both = { page_takes_both W.contents };
+
+    ghost stays = { page_stays W.contents };
 }

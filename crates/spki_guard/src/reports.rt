@@ -117,7 +117,7 @@ pub(crate) fn print_folds<S: Sink>(lines: &[FoldLine], sink: &mut S)
     }
 }
 
-/// Prints the line of a chain, of which nothing is made before; `entry` is counted from 1.
+/// Prints the line of a chain, of which nothing is made before; `entry` is counted from 1. Where the sink is full nothing is made.
 fn print_made<S: Sink>(
     alloc: Global,
     entry: usize,
@@ -128,6 +128,10 @@ fn print_made<S: Sink>(
 {
     match fold {
         EntryFold::Done(five) => {
+            if sink.is_full() {
+                five.prove_writable();
+                return Ok(());
+            }
             let parts = five.write_parts(alloc)?;
             print_done(entry, five, &parts, sink);
         }

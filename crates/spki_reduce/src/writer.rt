@@ -26,6 +26,14 @@ pub struct WrittenParts {
 }
 
 impl<'a> Five<'a> {
+    /// A fact for the prover: an authorization can be written, however it was made. Does nothing.
+    pub fn prove_writable(&self)
+        ensures { (v : Value) × IsWrittenFive self.now v }
+    {
+        prove_issuer(&self.issuer);
+        prove_principal(&self.subject.principal);
+    }
+
     /// Writes the authorization: `(five (issuer K) (subject S) (propagate) (tag T) (valid ..))`. The issuer is omitted if it
     /// is the owner of the access list. `(propagate)` is omitted if the authorization may not be delegated, and `(valid ..)`
     /// if the window has no limits. A hash is written without `uri`.
@@ -76,6 +84,24 @@ impl<'a> Five<'a> {
             before_tag,
             behind_tag,
         })
+    }
+}
+
+/// A fact for the prover: an issuer can be written. Does nothing.
+fn prove_issuer(issuer: &Issuer)
+    ensures { (written : List Value) × IsWrittenIssuer issuer.now written }
+{
+    if let Issuer::Key(key) = issuer {
+        key.prove_well_formed();
+    }
+}
+
+/// A fact for the prover: a principal can be written. Does nothing.
+fn prove_principal(principal: &Principal)
+    ensures { (owner : Value) × IsWrittenPrincipal principal.now owner }
+{
+    if let Principal::Key(key) = principal {
+        key.prove_well_formed();
     }
 }
 

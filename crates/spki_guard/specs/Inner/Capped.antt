@@ -1,5 +1,5 @@
 -- What a sink has taken that keeps at most so many octets.
-use Rattle.std.specs.Prelude.{◌≡◌, ℕ, ◌+◌, ◌-◌, ◌^◌, ◌<◌, ◌≤◌, List, ◌++◌, length, Bool, false}
+use Rattle.std.specs.Prelude.{◌≡◌, ℕ, ◌+◌, ◌-◌, ◌^◌, ◌<◌, ◌≤◌, nat_lt, List, ◌++◌, length, Bool, false}
 use Rattle.std.specs.Borrow.{GName}
 use Rattle.sexpr_text.specs.declared.sinks.Counter.{Counter}
 use Rattle.sexpr_text.specs.Sinks.{count_of}
@@ -24,6 +24,10 @@ most_of s = s.most
 -- memory ran out for some octets
 abbrev pub has_failed : CappedSink → Bool
 has_failed s = s.failed
+
+-- more octets were put than are kept
+abbrev pub is_over : CappedSink → Bool
+is_over s = nat_lt (most_of s) (count_of (counter_of s))
 
 -- Octets are counted, and kept unless memory ran out, as long as they are so many. Of more octets, so many and one are counted at least.
 pub record CappedTakes (old : CappedSink) (octets : List ℕ) (new : CappedSink) : Type 0 where

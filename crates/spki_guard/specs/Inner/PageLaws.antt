@@ -1,5 +1,5 @@
 -- What is written page by page in several calls.
-use Rattle.std.proofs.Common.{◌≡◌, ℕ, List, [], ◌++◌, Option, None, Some, Bool, true, inl, inr, refl, sym, ap, ◌∙◌, append_assoc, append-nil, arith}
+use Rattle.std.proofs.Common.{◌≡◌, ℕ, List, [], ◌++◌, Option, None, Some, Bool, true, true≢false, inl, inr, refl, sym, ap, ◌∙◌, append_assoc, append-nil, arith}
 use Rattle.std.proofs.KnownBytes.{Appends-trans}
 use Rattle.std.specs.Io.KnownBytes.{Appends}
 use Rattle.metered_io.specs.declared.meters.Metered.{Metered}
@@ -20,6 +20,15 @@ module _ {W : Type 0} (contents : W → Option (List ℕ)) where
     asks = omega arith;
     whole = λ ok. (ok, refl, [], none_appended (contents (inner_of (writer_of s))), sym (append-nil (page_of s)));
     cut = λ failed. inl (failed, refl);
+  }
+
+  pub page_stays : (s : PageSink W) → has_failed s ≡ true → (octets : List ℕ) → PageTakes contents s octets s
+  page_stays s failed octets = record {
+    same_lender = refl;
+    same_most = refl;
+    asks = omega arith;
+    whole = λ ok. absurd (true≢false (sym failed ∙ ok));
+    cut = λ _. inl (failed, refl);
   }
 
   -- what is sent of the second octets behind the first
