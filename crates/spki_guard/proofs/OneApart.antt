@@ -21,18 +21,19 @@ use Rattle.spki_guard.specs.declared.answers.Refusal.{Refusal}
 use Rattle.spki_guard.specs.declared.answers.Refusal.TheVariants as refusals
 use Rattle.spki_guard.specs.declared.answers.Verdict.{Verdict}
 use Rattle.spki_guard.specs.Answer.{IsLineOf}
-use Rattle.spki_guard.proofs.OneLine.{read_value, decision_line}
-use Rattle.spki_guard.proofs.OneRefusal.{form_one, long_only, shallow, text_case_one}
+use Rattle.spki_service.proofs.OneAsking.{text_one, refuses_one}
+use Rattle.spki_guard.proofs.OneLine.{decision_line}
+use Rattle.spki_guard.proofs.OneRefusal.{long_only, shallow, text_case_one}
 use Rattle.spki_guard.specs.Apart.{ReadsCase, ReadsRows, LacksCase, RefusesRows, DecidesApart, DecidesBy, IsUndecidedBy, RefusesApart}
 
 -- ---- what is read
 
 -- the texts of one case, at one value
 case_there : (text : List ℕ) (c : Case) (w : Value) → ReadsCase text c → IsTextWithin text w → IsCaseText (canon w) c
-case_there text c w read other = subst (λ (v : Value). IsCaseText (canon v) c) (read_value text read.value w read.read other) read.is_case
+case_there text c w read other = subst (λ (v : Value). IsCaseText (canon v) c) (text_one text read.value w read.read other) read.is_case
 
 rows_there : (text : List ℕ) (rows : List Row) (w : Value) → ReadsRows text rows → IsTextWithin text w → IsRowsText (canon w) rows
-rows_there text rows w read other = subst (λ (v : Value). IsRowsText (canon v) rows) (read_value text read.value w read.read other) read.are_rows
+rows_there text rows w read other = subst (λ (v : Value). IsRowsText (canon v) rows) (text_one text read.value w read.read other) read.are_rows
 
 same_rows : (text : List ℕ) (rows others : List Row) → ReadsRows text rows → ReadsRows text others → rows ≡ others
 same_rows text rows others read other =
@@ -85,7 +86,7 @@ only_memory text rows verdict output refusals.Memory a b = refl
 -- what no case is refused for
 cases_one : (text : List ℕ) (f g : CaseFault) → LacksCase text f → LacksCase text g → f ≡ g
 cases_one text f g a b =
-    let there = subst (λ (v : Value). TextRefused (canon v) f) (read_value text a.value b.value a.read b.read) a.refused in
+    let there = subst (λ (v : Value). TextRefused (canon v) f) (text_one text a.value b.value a.read b.read) a.refused in
     text_case_one b.value f g (shallow text b.value b.read) there b.refused
 
 -- what no accepted list is refused for
@@ -99,11 +100,11 @@ text_rows_one v f g h (inr m) (inr n) =
     (subst (λ (w : Value). NoRows w f) (one_text (canon v) m.value n.value m.written n.written) m.is) n.is
 
 rows_one : (text : List ℕ) (f g : RowsFault) → RefusesRows text f → RefusesRows text g → f ≡ g
-rows_one text f g (inl a) (inl b) = a.named ∙ ap rows_faults.Form (form_one text a.form b.form a.refused b.refused) ∙ sym b.named
+rows_one text f g (inl a) (inl b) = a.named ∙ ap rows_faults.Form (refuses_one text a.form b.form a.refused b.refused) ∙ sym b.named
 rows_one text f g (inl a) (inr b) = absurd (a.refused.none b.value b.read)
 rows_one text f g (inr a) (inl b) = absurd (b.refused.none a.value a.read)
 rows_one text f g (inr a) (inr b) =
-    let there = subst (λ (v : Value). RowsTextRefused (canon v) f) (read_value text a.value b.value a.read b.read) a.refused in
+    let there = subst (λ (v : Value). RowsTextRefused (canon v) f) (text_one text a.value b.value a.read b.read) a.refused in
     text_rows_one b.value f g (shallow text b.value b.read) there b.refused
 
 -- two refusals are one
@@ -112,7 +113,7 @@ pub one_refused : (text rows : List ℕ) (refusal other : Refusal) → RefusesAp
 one_refused text rows refusals.Memory other a b k l = absurd (k refl)
 one_refused text rows (refusals.Intersect f) other a b k l = absurd a
 one_refused text rows (refusals.Form f) (refusals.Intersect g) a b k l = absurd b
-one_refused text rows (refusals.Form f) (refusals.Form g) a b k l = ap refusals.Form (form_one text f g a b)
+one_refused text rows (refusals.Form f) (refusals.Form g) a b k l = ap refusals.Form (refuses_one text f g a b)
 one_refused text rows (refusals.Form f) (refusals.Case g) a b k l = absurd (a.none b.value b.read)
 one_refused text rows (refusals.Form f) (refusals.Rows g) a b k l = absurd (a.none b.text_is.value b.text_is.read)
 one_refused text rows (refusals.Form f) (refusals.Decision g) a b k l = absurd (a.none b.text_is.value b.text_is.read)

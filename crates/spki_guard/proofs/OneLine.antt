@@ -3,8 +3,7 @@ use Rattle.std.proofs.Common.{◌≡◌, ◌≢◌, ℕ, suc, ◌*◌, ◌<◌, 
 use Rattle.std.specs.Prelude.{codes}
 use Rattle.sexpr_core.specs.Value.{Value, canon}
 use Rattle.sexpr_text.specs.Printed.{adv}
-use Rattle.sexpr_text.specs.Spelling.{IsText, IsTextWithin}
-use Rattle.sexpr_text.proofs.OneValue.{one_value}
+use Rattle.sexpr_text.specs.Spelling.{IsTextWithin}
 use Rattle.spki_tag.specs.Tag.{Tag, tag_value, nodes}
 use Rattle.spki_tag.specs.Meet.{meet}
 use Rattle.spki_tag.specs.Read.{ReadsAs}
@@ -31,6 +30,7 @@ use Rattle.spki_decision.specs.Reduced.{IsSameReduction}
 use Rattle.spki_decision.specs.Answered.{IsDecided, IsExplained, IsReduced, AreSame}
 use Rattle.spki_decision.proofs.OneDecision.{decided_one, explained_one, explained_small, reduced_one, reduced_small, own_of_text}
 use Rattle.spki_decision.proofs.Unrefused.{not_both}
+use Rattle.spki_service.proofs.OneAsking.{text_one}
 use Rattle.spki_words.specs.declared.commands.Command.{Command}
 use Rattle.spki_words.specs.declared.commands.Command.TheVariants.{Intersect, Reduce, Check, Explain}
 use Rattle.spki_guard.specs.declared.answers.Refusal.{Refusal}
@@ -46,16 +46,6 @@ use Rattle.spki_guard.specs.Answer.{IsLineOf, Decides, Reduces, Explains, Writes
 -- the same verdict and output
 abbrev Same : Verdict → Verdict → List ℕ → List ℕ → Type 0
 Same x y output line = (x ≡ y) × (output ≡ line)
-
--- ---- values
-
-text_is : (text : List ℕ) (v : Value) → IsTextWithin text v → IsText text v
-text_is text v (inl m) = inl m.spelling
-text_is text v (inr m) = inr m.braced
-
--- a text within the limits is one value
-pub read_value : (text : List ℕ) (v w : Value) → IsTextWithin text v → IsTextWithin text w → v ≡ w
-read_value text v w m n = one_value text v w (text_is text v m) (text_is text w n)
 
 -- ---- intersections
 
@@ -199,7 +189,7 @@ pub read_one : (command : Command) (text : List ℕ) (x y : Verdict) (output lin
     → AnswersRead command text y line → (x ≡ y) × (output ≡ line)
 read_one command text x y output line m n =
     value_lines command n.value x y output line
-    (subst (λ (v : Value). AnswersValue command v x output) (read_value text m.value n.value m.read n.read) m.answer) n.answer
+    (subst (λ (v : Value). AnswersValue command v x output) (text_one text m.value n.value m.read n.read) m.answer) n.answer
 
 -- ---- refusals
 
@@ -239,7 +229,7 @@ by_value : (command : Command) (text : List ℕ) (x : Verdict) (output : List �
     → (v : Value) → IsTextWithin text v → RefusesValue command v refusal → refusal ≡ refusals.Memory
 by_value command text x output refusal a v read r =
     value_answered command v x output refusal
-    (subst (λ (w : Value). AnswersValue command w x output) (read_value text a.value v a.read read) a.answer) r
+    (subst (λ (w : Value). AnswersValue command w x output) (text_one text a.value v a.read read) a.answer) r
 
 pub answered : (command : Command) (text : List ℕ) (x : Verdict) (output : List ℕ) (refusal : Refusal) → AnswersRead command text x output
     → RefusesAnswer command text refusal → refusal ≡ refusals.Memory
@@ -281,7 +271,7 @@ module _ (command : Command) (text : List ℕ) (Said : Value → Refusal → Typ
   only v read a (refusals.Form fault) r found = absurd (r.none v read)
   only v read a (refusals.Rows fault) r found = absurd r
   only v read a refusals.Memory r found = absurd (found refl)
-  only v read a refusal r found = large r.value refusal (subst (λ (w : Value). Said w one) (read_value text v r.value read r.read) a) r.refused found
+  only v read a refusal r found = large r.value refusal (subst (λ (w : Value). Said w one) (text_one text v r.value read r.read) a) r.refused found
 
 pub large_only : (command : Command) (text : List ℕ) (refusal : Refusal) → RefusesAnswer command text (refusals.Decision TooLarge)
     → RefusesAnswer command text refusal → refusal ≢ refusals.Memory → refusal ≡ refusals.Decision TooLarge

@@ -1,16 +1,15 @@
 -- A text has one refusal of a command, unless memory ran out.
-use Rattle.std.proofs.Common.{◌≡◌, ◌≢◌, ℕ, ◌+◌, ◌<◌, ◌⊎◌, inl, inr, List, [], ◌++◌, length, take, drop, Some, refl, sym, ap, subst, ◌∙◌, arith, append-nil, length-drop, rules}
+use Rattle.std.proofs.Common.{◌≡◌, ◌≢◌, ℕ, ◌+◌, ◌<◌, inl, inr, List, [], ◌++◌, length, take, drop, Some, refl, sym, ap, subst, ◌∙◌, arith, append-nil, length-drop, rules}
 use Rattle.std.proofs.lemmas.List.{take-append-drop}
 use Rattle.sexpr_core.specs.declared.fault.FormFault.{FormFault}
 use Rattle.sexpr_core.specs.declared.fault.FormFault.TheVariants.{TooLong, TooDeep, Short, Bad, Trailing, Memory}
 use Rattle.sexpr_core.specs.Prefix.{Begins, Front}
 use Rattle.sexpr_core.specs.Texts.{IsCanon}
-use Rattle.sexpr_core.specs.Refusal.{IsShallowText, IsOfForm, Refused}
+use Rattle.sexpr_core.specs.Refusal.{IsShallowText, Refused}
 use Rattle.sexpr_core.specs.Value.{Value, canon, IsShallow}
 use Rattle.sexpr_core.proofs.Refusals.{shallow_text}
 use Rattle.sexpr_core.proofs.Texts.{canon_one}
 use Rattle.sexpr_text.specs.Spelling.{IsTextWithin}
-use Rattle.sexpr_text.proofs.Openings.{one_of_any}
 use Rattle.spki_tag.specs.declared.fault.TagFault.{TagFault}
 use Rattle.spki_tag.specs.FaultOf.{tag_fault}
 use Rattle.spki_case.specs.Case.{Case, accepted_by}
@@ -24,26 +23,12 @@ use Rattle.spki_words.specs.declared.commands.Command.TheVariants.{Intersect, Re
 use Rattle.spki_guard.specs.declared.answers.Refusal.{Refusal}
 use Rattle.spki_guard.specs.declared.answers.Refusal.TheVariants as refusals
 use Rattle.spki_service.specs.Form.{RefusesForm}
+use Rattle.spki_service.proofs.OneAsking.{text_one, refuses_one}
 use Rattle.spki_guard.specs.declared.intersection.IntersectFault.{IntersectFault}
 use Rattle.spki_guard.specs.declared.intersection.IntersectFault.TheVariants as intersect
 use Rattle.spki_guard.specs.Intersect.{ValueNotMet, TextNotMet}
 use Rattle.spki_guard.specs.Answer.{IsOnCase, HasTooLarge, RefusesValue, RefusesRead, RefusesAnswer}
-use Rattle.spki_guard.proofs.OneLine.{large_one, operands, read_value}
-
--- ---- the form of a text
-
-too_long_or : (fault : FormFault) → fault ≢ Memory → (fault ≡ TooLong) ⊎ IsOfForm fault
-too_long_or TooLong found = inl refl
-too_long_or Memory found = absurd (found refl)
-too_long_or fault found = inr tt
-
-pub form_one : (text : List ℕ) (e f : FormFault) → RefusesForm text e → RefusesForm text f → e ≡ f
-form_one text e f a b = by (too_long_or e a.found) (too_long_or f b.found)
-  where
-    by : (e ≡ TooLong) ⊎ IsOfForm e → (f ≡ TooLong) ⊎ IsOfForm f → e ≡ f
-    by (inl p) q = p ∙ sym (b.long.1 (a.long.0 p))
-    by (inr p) (inl q) = a.long.1 (b.long.0 q) ∙ sym q
-    by (inr p) (inr q) = one_of_any text e f p q a.refused b.refused
+use Rattle.spki_guard.proofs.OneLine.{large_one, operands}
 
 -- ---- the canonical form of a value that was read
 
@@ -180,10 +165,10 @@ refusal_one command text refusal other r s found known =
     by (said command text refusal r found) (said command text other s known)
   where
     by : IsSaid command text refusal → IsSaid command text other → refusal ≡ other
-    by (of_form e p a) (of_form f q b) = p ∙ ap refusals.Form (form_one text e f a b) ∙ sym q
+    by (of_form e p a) (of_form f q b) = p ∙ ap refusals.Form (refuses_one text e f a b) ∙ sym q
     by (of_form e p a) (of_value b) = absurd (a.none b.value b.read)
     by (of_value a) (of_form f q b) = absurd (b.none a.value a.read)
     by (of_value a) (of_value b) =
         value_one command b.value (shallow text b.value b.read) refusal other
-        (subst (λ (v : Value). RefusesValue command v refusal) (read_value text a.value b.value a.read b.read) a.refused)
+        (subst (λ (v : Value). RefusesValue command v refusal) (text_one text a.value b.value a.read b.read) a.refused)
         b.refused found known
